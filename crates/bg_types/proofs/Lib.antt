@@ -1,0 +1,6 @@
+pub mod Bools
+pub mod Entries
+pub mod IdentifierOrder
+pub mod NextCounter
+pub mod OperationSets
+pub mod PutAll

@@ -1,0 +1,5 @@
+use Rattle.bg_types.proofs.OperationSets.{Holds-union}
+use Rattle.bg_types.proofs.laws.united_operations.Goals as goal
+
+pub returns : goal.returns
+returns c = Holds-union

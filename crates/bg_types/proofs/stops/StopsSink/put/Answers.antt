@@ -1,0 +1,18 @@
+use Rattle.std.proofs.Common.{◌≡◌, false, arith, ap, ◌∙◌}
+use Rattle.std.specs.Prelude.{◌||◌}
+use Rattle.std.proofs.lemmas.List.{length-take}
+use Rattle.bg_types.proofs.Bools.{neither}
+use Rattle.bg_types.proofs.stops.StopsSink.put.Goals as goal
+
+pub put-requires-clause-some : goal.put-requires-clause-some
+put-requires-clause-some g c =
+    let some = c.args.self.now.takes_some in
+    omega (arith, length-take c.min-most.result c.args.bytes.now, c.min.ensures, c.min-most.ensures)
+
+pub put-requires-clause-working : goal.put-requires-clause-working
+put-requires-clause-working g c = (neither c.args.self.now.stopped _ c.requires.working).1
+
+pub returns-clause-failed : goal.returns-clause-failed
+returns-clause-failed g c =
+    let running = (neither c.args.self.now.stopped _ c.requires.working).0 in
+    ap (λ b. b || g.S.Sink.has_failed c.put.new.self) running ∙ c.in_ok-taken.ensures.failed

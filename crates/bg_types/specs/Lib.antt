@@ -1,0 +1,4 @@
+pub mod Identifier
+pub mod WellFormed
+pub mod OperationSet
+pub mod Sink

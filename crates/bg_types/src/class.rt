@@ -1,0 +1,99 @@
+//! Character classes of Unicode 15.0, and the choice of a base direction.
+
+/// Bidi_Class (UAX #9, table 4).
+#[derive(Clone, Copy, Debug, Default, PartialEq, Eq, Hash)]
+pub enum Bidi {
+    #[default]
+    L,
+    R,
+    Al,
+    En,
+    Es,
+    Et,
+    An,
+    Cs,
+    Nsm,
+    Bn,
+    B,
+    S,
+    Ws,
+    On,
+    Lre,
+    Lro,
+    Rle,
+    Rlo,
+    Pdf,
+    Lri,
+    Rli,
+    Fsi,
+    Pdi,
+}
+
+/// Line_Break (UAX #14, table 1).
+#[derive(Clone, Copy, Debug, Default, PartialEq, Eq, Hash)]
+pub enum Lb {
+    Ai,
+    Al,
+    B2,
+    Ba,
+    Bb,
+    Bk,
+    Cb,
+    Cj,
+    Cl,
+    Cm,
+    Cp,
+    Cr,
+    Eb,
+    Em,
+    Ex,
+    Gl,
+    H2,
+    H3,
+    Hl,
+    Hy,
+    Id,
+    In,
+    Is,
+    Jl,
+    Jt,
+    Jv,
+    Lf,
+    Nl,
+    Ns,
+    Nu,
+    Op,
+    Po,
+    Pr,
+    Qu,
+    Ri,
+    Sa,
+    Sg,
+    Sp,
+    Sy,
+    Wj,
+    #[default]
+    Xx,
+    Zw,
+    Zwj,
+}
+
+/// East_Asian_Width (UAX #11).
+#[derive(Clone, Copy, Debug, Default, PartialEq, Eq, Hash)]
+pub enum Ea {
+    A,
+    F,
+    H,
+    #[default]
+    N,
+    Na,
+    W,
+}
+
+/// How a paragraph's level is chosen.
+#[derive(Clone, Copy, Debug, Default, PartialEq, Eq, Hash)]
+pub enum Base {
+    /// By the first strong character (UAX #9, P2 and P3).
+    #[default]
+    Auto,
+}
