@@ -1,0 +1,66 @@
+-- Fields and frames that were read are spelled by their bytes.
+use Rattle.std.proofs.Common.{◌≡◌, ℕ, ◌+◌, ◌≤◌, List, [], ◌∷◌, ◌++◌, length, slice_index, take, drop, drop-cons, Option, Some, None, Result, sym, ap, ◌∙◌, append_assoc, arith}
+use Rattle.std.specs.Prelude.{IfSome, IfOk}
+use Rattle.std.specs.Option.{ok_or}
+use Rattle.std.proofs.lemmas.List.{take-append-drop, length-drop, drop-drop, drop_all, append-nil}
+use Rattle.byteorder.specs.Endian.{big_bytes, big_number}
+use Rattle.bg_types.specs.Identifier.{Identifier}
+use Rattle.bg_types.specs.declared.op.Place.{Place}
+use Rattle.bg_types.specs.declared.op.OpView.{OpView}
+use Rattle.bg_types.specs.declared.op.OpView.TheVariants.{Insert, Erase}
+use Rattle.op_codec.specs.declared.fault.Cause.{Cause}
+use Rattle.op_codec.specs.Spelling.{identifier_bytes, parent_identifier, frame, frame_kind, frame_fields}
+use Rattle.op_codec.specs.Fault.{identifier_at}
+use Rattle.op_codec.proofs.Bytes.{IsBytes, IsBytes-drop, two_bytes, four_bytes, identifier_takes}
+
+-- the fields of a deletion spell it
+pub erasure_fields : (f : List ℕ) (target : Identifier) → IsBytes f → length f ≡ 6 → target ≡ identifier_at f → frame_fields (Erase target) ≡ f
+erasure_fields f target fits six at =
+    ap identifier_bytes at ∙ sym (append-nil (identifier_bytes (identifier_at f)))
+    ∙ ap (λ (r : List ℕ). identifier_bytes (identifier_at f) ++ r) (sym (drop_all 6 f (omega arith))) ∙ sym (identifier_takes f fits (omega arith))
+
+insertion_takes : (f : List ℕ) → IsBytes f → length f ≡ 16
+    → f ≡ identifier_bytes (identifier_at f) ++ (identifier_bytes (identifier_at (drop 6 f)) ++ big_bytes 4 (big_number 4 (drop 12 f)))
+insertion_takes f fits sixteen =
+    let id = identifier_bytes (identifier_at f) in
+    let parent = identifier_bytes (identifier_at (drop 6 f)) in
+    let ch = big_bytes 4 (big_number 4 (drop 12 f)) in
+    let none : drop 4 (drop 12 f) ≡ [] = drop-drop 4 12 f ∙ drop_all 16 f (omega arith) in
+    let last : drop 12 f ≡ ch =
+    four_bytes (drop 12 f) (IsBytes-drop 12 f fits) (omega (arith, length-drop 12 f)) ∙ ap (λ (r : List ℕ). ch ++ r) none ∙ append-nil ch in
+    let middle : drop 6 f ≡ parent ++ ch =
+    identifier_takes (drop 6 f) (IsBytes-drop 6 f fits) (omega (arith, length-drop 6 f)) ∙ ap (λ (r : List ℕ). parent ++ r) (drop-drop 6 6 f ∙ last) in
+    identifier_takes f fits (omega arith) ∙ ap (λ (r : List ℕ). id ++ r) middle
+
+-- the fields of an insertion spell it
+pub insertion_fields : (f : List ℕ) (id : Identifier) (parent : Place) (ch : ℕ) → IsBytes f → length f ≡ 16
+    → id ≡ identifier_at f → parent_identifier parent ≡ identifier_at (drop 6 f) → ch ≡ big_number 4 (drop 12 f) → frame_fields (Insert id parent ch) ≡ f
+insertion_fields f id parent ch fits sixteen id_is parent_is ch_is =
+    (λ i. identifier_bytes (id_is i) ++ (identifier_bytes (parent_is i) ++ big_bytes 4 (ch_is i))) ∙ sym (insertion_takes f fits sixteen)
+
+-- bytes begin with a frame: its length, its kind, and so many bytes as fields
+frame_takes : (bytes fields : List ℕ) (size kind m : ℕ) → IsBytes bytes → 3 ≤ length bytes → slice_index bytes 2 ≡ kind → big_number 2 bytes ≡ size
+    → fields ≡ take m (drop 3 bytes) → bytes ≡ (big_bytes 2 size ++ kind ∷ fields) ++ drop (3 + m) bytes
+frame_takes bytes fields size kind m fits long kind_is size_is fields_are =
+    let rest : drop m (drop 3 bytes) ≡ drop (3 + m) bytes = drop-drop m 3 bytes in
+    let text : drop 3 bytes ≡ fields ++ drop (3 + m) bytes = sym (take-append-drop m (drop 3 bytes)) ∙ (λ i. sym fields_are i ++ rest i) in
+    let third : drop 2 bytes ≡ kind ∷ (fields ++ drop (3 + m) bytes) = drop-cons bytes 2 0 (omega arith) ∙ (λ i. kind_is i ∷ text i) in
+    two_bytes bytes fits (omega arith) ∙ (λ i. big_bytes 2 (size_is i) ++ third i) ∙ sym (append_assoc (big_bytes 2 size) (kind ∷ fields) (drop (3 + m) bytes))
+
+pub insertion_spelled : (bytes fields rest : List ℕ) (op : OpView) → IsBytes bytes → 3 ≤ length bytes → slice_index bytes 2 ≡ 1 → big_number 2 bytes ≡ 17
+    → fields ≡ take 16 (drop 3 bytes) → rest ≡ drop 19 bytes → frame_kind op ≡ 1 → frame_fields op ≡ fields → bytes ≡ frame op ++ rest
+insertion_spelled bytes fields rest (Insert id parent ch) fits long kind size fields_are rest_is is spelled =
+    frame_takes bytes (frame_fields (Insert id parent ch)) 17 1 16 fits long kind size (spelled ∙ fields_are) ∙ ap (λ (r : List ℕ). frame (Insert id parent ch) ++ r) (sym rest_is)
+insertion_spelled bytes fields rest (Erase target) fits long kind size fields_are rest_is is spelled = absurd (omega (arith, is))
+
+pub erasure_spelled : (bytes fields rest : List ℕ) (op : OpView) → IsBytes bytes → 3 ≤ length bytes → slice_index bytes 2 ≡ 2 → big_number 2 bytes ≡ 7
+    → fields ≡ take 6 (drop 3 bytes) → rest ≡ drop 9 bytes → frame_kind op ≡ 2 → frame_fields op ≡ fields → bytes ≡ frame op ++ rest
+erasure_spelled bytes fields rest (Erase target) fits long kind size fields_are rest_is is spelled =
+    frame_takes bytes (frame_fields (Erase target)) 7 2 6 fits long kind size (spelled ∙ fields_are) ∙ ap (λ (r : List ℕ). frame (Erase target) ++ r) (sym rest_is)
+erasure_spelled bytes fields rest (Insert id parent ch) fits long kind size fields_are rest_is is spelled = absurd (omega (arith, is))
+
+-- the operation that these fields make, where it can be made
+pub insertion_made : (f : List ℕ) (id : Identifier) (parent : Place) (ch : ℕ) (made : Option OpView) (r : Result OpView Cause) (fault : Cause) → frame_fields (Insert id parent ch) ≡ f
+    → r ≡ ok_or made fault → IfSome made (λ op. op ≡ Insert id parent ch) → IfOk r (λ op. frame_fields op ≡ f)
+insertion_made f id parent ch (Some op) r fault fields is value = rw is (ap frame_fields value ∙ fields)
+insertion_made f id parent ch None r fault fields is value = rw is tt

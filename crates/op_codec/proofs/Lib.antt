@@ -1,0 +1,10 @@
+pub mod Bytes
+pub mod Frames
+pub mod ReadBack
+pub mod Faultless
+pub mod Unique
+pub mod Shown
+pub mod Complete
+pub mod Whole
+pub mod Sizes
+pub mod Rows

@@ -1,0 +1,45 @@
+-- A frame's bytes give back its operation, so no frame begins another.
+use Rattle.std.proofs.Common.{◌≡◌, ℕ, ◌^◌, ◌<◌, List, ◌++◌, slice_index, drop, refl, sym, ap, ◌∙◌, arith}
+use Rattle.std.proofs.Math.Utf8.{scalar_fits}
+use Rattle.byteorder.specs.Endian.{big_bytes, big_number}
+use Rattle.byteorder.specs.Numbers.{big_number-reads_back}
+use Rattle.bg_types.specs.Identifier.{Identifier}
+use Rattle.bg_types.specs.WellFormed.{IsWellFormed, MayFollow}
+use Rattle.bg_types.specs.declared.op.Place.{Place}
+use Rattle.bg_types.specs.declared.op.Place.TheVariants.{Root, After}
+use Rattle.bg_types.specs.declared.op.OpView.{OpView}
+use Rattle.bg_types.specs.declared.op.OpView.TheVariants.{Insert, Erase}
+use Rattle.op_codec.specs.Spelling.{identifier_bytes, parent_identifier, frame}
+use Rattle.op_codec.specs.Fault.{identifier_at}
+
+pub identifier_again : (id : Identifier) (rest : List ℕ) → id.counter < 2 ^ 32 → id.site < 2 ^ 16 → identifier_at (identifier_bytes id ++ rest) ≡ id
+identifier_again id rest counter site =
+    let c : big_number 4 (identifier_bytes id ++ rest) ≡ id.counter = big_number-reads_back 4 id.counter (big_bytes 2 id.site ++ rest) counter in
+    let s : big_number 2 (drop 4 (identifier_bytes id ++ rest)) ≡ id.site = big_number-reads_back 2 id.site rest site in
+    λ i. record { counter = c i; site = s i }
+
+pub parent_fits : (place : Place) (id : Identifier) → MayFollow place id → ((parent_identifier place).counter < 2 ^ 32) × ((parent_identifier place).site < 2 ^ 16)
+parent_fits Root id ok = (omega arith, omega arith)
+parent_fits (After parent) id ok = (ok.0.counter_fits, ok.0.site_fits)
+
+same_parent : (a b : Place) (i j : Identifier) → MayFollow a i → MayFollow b j → parent_identifier a ≡ parent_identifier b → a ≡ b
+same_parent Root Root i j p q e = refl
+same_parent Root (After b) i j p q e = absurd (omega (arith, ap (λ (x : Identifier). x.counter) e, q.0.counter_positive))
+same_parent (After a) Root i j p q e = absurd (omega (arith, ap (λ (x : Identifier). x.counter) e, p.0.counter_positive))
+same_parent (After a) (After b) i j p q e = ap After e
+
+-- two frames at the front of the same bytes are one
+pub frame_unique : (a b : OpView) (x y : List ℕ) → IsWellFormed a → IsWellFormed b → frame a ++ x ≡ frame b ++ y → (a ≡ b) × (x ≡ y)
+frame_unique (Insert i p c) (Erase t) x y ok ok' e = absurd (omega (arith, ap (λ (s : List ℕ). slice_index s 2) e))
+frame_unique (Erase t) (Insert i p c) x y ok ok' e = absurd (omega (arith, ap (λ (s : List ℕ). slice_index s 2) e))
+frame_unique (Erase s) (Erase t) x y ok ok' e =
+    let same : s ≡ t = sym (identifier_again s x ok.counter_fits ok.site_fits) ∙ ap (λ (b : List ℕ). identifier_at (drop 3 b)) e ∙ identifier_again t y ok'.counter_fits ok'.site_fits in
+    (ap Erase same, ap (drop 9) e)
+frame_unique (Insert i p c) (Insert j q d) x y ok ok' e =
+    let f = parent_fits p i ok.1 in
+    let f' = parent_fits q j ok'.1 in
+    let id : i ≡ j = sym (identifier_again i (identifier_bytes (parent_identifier p) ++ (big_bytes 4 c ++ x)) ok.0.counter_fits ok.0.site_fits) ∙ ap (λ (b : List ℕ). identifier_at (drop 3 b)) e ∙ identifier_again j (identifier_bytes (parent_identifier q) ++ (big_bytes 4 d ++ y)) ok'.0.counter_fits ok'.0.site_fits in
+    let parent : parent_identifier p ≡ parent_identifier q = sym (identifier_again (parent_identifier p) (big_bytes 4 c ++ x) f.0 f.1) ∙ ap (λ (b : List ℕ). identifier_at (drop 9 b)) e ∙ identifier_again (parent_identifier q) (big_bytes 4 d ++ y) f'.0 f'.1 in
+    let ch : c ≡ d = sym (big_number-reads_back 4 c x (scalar_fits c ok.2)) ∙ ap (λ (b : List ℕ). big_number 4 (drop 15 b)) e ∙ big_number-reads_back 4 d y (scalar_fits d ok'.2) in
+    let place = same_parent p q i j ok.1 ok'.1 parent in
+    ((λ k. Insert (id k) (place k) (ch k)), ap (drop 19) e)

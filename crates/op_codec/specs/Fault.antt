@@ -1,0 +1,94 @@
+-- What is wrong with a file first: the definition Files, fault.
+use Rattle.std.specs.Prelude.{◌≡◌, ◌<◌, ◌+◌, ◌⊎◌, ◌==◌, ◌||◌, ◌&&◌, not, Bool, List, [], ◌∷◌, ◌++◌, ℕ, length, take, drop, slice_index, Option, Some, None, nat_eq, nat_lt, nat_le, if◌then◌else◌}
+use Rattle.std.specs.List.{AllByRecursion, starts_with}
+use Rattle.std.proofs.Math.Utf8.{scalar}
+use Rattle.byteorder.specs.Endian.{big_number}
+use Rattle.bg_types.specs.Identifier.{Identifier}
+use Rattle.bg_types.specs.WellFormed.{IsWellFormed}
+use Rattle.bg_types.specs.declared.op.OpView.{OpView}
+use Rattle.op_codec.specs.declared.fault.Cause.{Cause}
+use Rattle.op_codec.specs.declared.fault.Cause.TheVariants.{BadMagic, BadVersion, Truncated, UnknownKind, BadLength, ZeroField, ParentNotBefore, NotAScalar}
+use Rattle.op_codec.specs.declared.fault.CodecFault.{CodecFault}
+use Rattle.op_codec.specs.declared.fault.CodecFault.TheVariants as faults
+use Rattle.op_codec.specs.Spelling.{magic, spelling}
+
+-- the cause of the first test that holds
+abbrev pub first_cause : List (Bool × Cause) → Option Cause
+first_cause [] = None
+first_cause (test ∷ later) = if test.0 then Some test.1 else first_cause later
+
+-- the first cause, or else the second
+abbrev pub or_else : Option Cause → Option Cause → Option Cause
+or_else (Some first) second = Some first
+or_else None second = second
+
+-- what the header shows: a magic byte that differs, as far as there are any; a missing byte; a fifth byte other than 1
+abbrev pub header_cause : List ℕ → Option Cause
+header_cause bytes = first_cause (
+    (not (starts_with nat_eq magic (take 4 bytes)), BadMagic)
+    ∷ (nat_lt (length bytes) 5, Truncated)
+    ∷ (not (slice_index bytes 4 == 1), BadVersion)
+    ∷ [])
+
+-- the identifier in the six bytes at the front
+abbrev pub identifier_at : List ℕ → Identifier
+identifier_at bytes = record { counter = big_number 4 bytes; site = big_number 2 (drop 4 bytes) }
+
+-- one of the two numbers is 0
+abbrev pub has_zero : Identifier → Bool
+has_zero id = id.counter == 0 || id.site == 0
+
+-- exactly one of the two numbers is 0
+abbrev pub is_half_zero : Identifier → Bool
+is_half_zero id = has_zero id && not (id.counter == 0 && id.site == 0)
+
+-- what the fields of a deletion show
+abbrev pub erasure_cause : List ℕ → Option Cause
+erasure_cause fields = first_cause ((has_zero (identifier_at fields), ZeroField) ∷ [])
+
+-- what the fields of an insertion show
+abbrev pub insertion_cause : List ℕ → Option Cause
+insertion_cause fields =
+    let id = identifier_at fields in
+    let parent = identifier_at (drop 6 fields) in
+    first_cause (
+    (has_zero id || is_half_zero parent, ZeroField)
+    ∷ (nat_le id.counter parent.counter, ParentNotBefore)
+    ∷ (not (scalar (big_number 4 (drop 12 fields))), NotAScalar)
+    ∷ [])
+
+-- what the length of a frame shows, where its kind asks for this one: another length, or fewer bytes than it
+abbrev pub length_cause : ℕ → List ℕ → Option Cause
+length_cause wanted bytes = first_cause (
+    (not (big_number 2 bytes == wanted), BadLength)
+    ∷ (nat_lt (length bytes) (2 + wanted), Truncated)
+    ∷ [])
+
+-- what a frame of this kind shows: its length first, then its fields
+abbrev pub kind_cause : ℕ → List ℕ → Option Cause
+kind_cause kind bytes =
+    if kind == 1 then or_else (length_cause 17 bytes) (insertion_cause (take 16 (drop 3 bytes)))
+    else (if kind == 2 then or_else (length_cause 7 bytes) (erasure_cause (take 6 (drop 3 bytes))) else Some UnknownKind)
+
+-- what the frame at the front shows: a missing length or kind, else by its kind
+abbrev pub frame_cause : List ℕ → Option Cause
+frame_cause bytes = if nat_lt (length bytes) 3 then Some Truncated else kind_cause (slice_index bytes 2) bytes
+
+-- frame n shows the cause: the header and n - 1 whole frames stand before it, and what follows them, at least one byte, shows it first
+pub record IsFrameFault (bytes : List ℕ) (n : ℕ) (cause : Cause) : Type 0 where
+  pub ops : List OpView
+  pub rest : List ℕ
+  pub number : n ≡ length ops + 1
+  pub before : bytes ≡ spelling ops ++ rest
+  pub well_formed : AllByRecursion IsWellFormed ops
+  pub goes_on : 0 < length rest
+  pub shown : frame_cause rest ≡ Some cause
+
+-- the first fault of the bytes: in the header, which is frame 0, or in frame n
+abbrev pub IsFault : List ℕ → ℕ → Cause → Type 0
+IsFault bytes n cause = ((n ≡ 0) × (header_cause bytes ≡ Some cause)) ⊎ IsFrameFault bytes n cause
+
+-- the fault tells the first of the bytes; want of memory says nothing of them
+abbrev pub TellsFault : List ℕ → CodecFault → Type 0
+TellsFault bytes (faults.Malformed frame cause) = IsFault bytes frame cause
+TellsFault bytes faults.Memory = Unit {0}

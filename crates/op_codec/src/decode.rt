@@ -1,0 +1,55 @@
+//! The loop over the frames of an operation file.
+
+ghost use Rattle.std.specs.Prelude.{◌≡◌, ◌⊎◌, ℕ, List, None, IfOk, IfErr, IsErrOf, MatchResult};
+ghost use Rattle.bg_types.specs.declared.op.OpView.{OpView as Operation};
+ghost use Rattle.op_codec.specs.declared.fault.Cause.{Cause as CauseOf};
+ghost use Rattle.op_codec.specs.Spelling.{Spells};
+ghost use Rattle.op_codec.specs.Fault.{header_cause, IsFault, TellsFault};
+
+use crate::fault::CodecFault;
+use crate::format::INSERTION_SIZE;
+use crate::frame::read_frame;
+use crate::header::read_header;
+use bg_types::Op;
+use std::alloc::Global;
+
+/// The operations that the bytes spell, or their first fault with its frame (docs/FORMATS.md).
+pub fn decode_file(alloc: Global, bytes: &[u8]) -> Result<Vec<Op>, CodecFault>
+    // What is read is spelled so, and a fault is the first one.
+    ensures ok { IfOk result (λ ops. Spells bytes.now ops.items) }
+    ensures fault { IfErr result (TellsFault bytes.now) }
+    // Memory is asked for only behind a right header.
+    ensures memory { IsErrOf result CodecFault.Memory → header_cause bytes.now ≡ None }
+
+    // What is spelled is read, and a fault is told, unless memory runs out.
+    ensures spelled { (ops : List Operation) → Spells bytes.now ops
+        → MatchResult result (λ read. read.items ≡ ops) (λ fault. fault ≡ CodecFault.Memory) }
+    ensures faulty { (frame : ℕ) (cause : CauseOf) → IsFault bytes.now frame cause
+        → MatchResult result (λ _. ⊥)
+        (λ fault. (fault ≡ CodecFault.Malformed frame cause) ⊎ (fault ≡ CodecFault.Memory)) }
+{
+    decode(alloc, bytes)
+}
+
+fn decode(alloc: Global, bytes: &[u8]) -> Result<Vec<Op>, CodecFault>
+    ensures ok { IfOk result (λ ops. Spells bytes.now ops.items) }
+    ensures fault { IfErr result (TellsFault bytes.now) }
+    ensures memory { IsErrOf result CodecFault.Memory → header_cause bytes.now ≡ None }
+{
+    let mut rest = match read_header(bytes) {
+        Ok(rest) => rest,
+        Err(cause) => return Err(CodecFault::Malformed { frame: 0, cause }),
+    };
+    // One growth where all are insertions, and at most two more where many are deletions.
+    let mut ops = Vec::with_capacity(alloc, rest.len() / INSERTION_SIZE)?;
+    while !rest.is_empty() {
+        let frame = ops.len() + 1;
+        let (op, after) = match read_frame(rest) {
+            Ok(read) => read,
+            Err(cause) => return Err(CodecFault::Malformed { frame, cause }),
+        };
+        ops.push(op)?;
+        rest = after;
+    }
+    Ok(ops)
+}

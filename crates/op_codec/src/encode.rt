@@ -1,0 +1,111 @@
+//! Writing one frame, and a whole operation file.
+
+ghost use Rattle.std.specs.Prelude.{◌≡◌, ◌≤◌, ◌+◌, ◌-◌, ◌^◌, ◌++◌, min, length, drop, OnOk, OnErr, IsOk, IfOk, vec_len};
+ghost use Rattle.std.specs.Vec.{vec_capacity};
+ghost use Rattle.bg_types.specs.WellFormed.{IsWellFormed};
+ghost use Rattle.op_codec.specs.Spelling.{frame, spelling, Spells, parent_identifier, identifier_bytes};
+
+use crate::format::{
+    ERASURE, ERASURE_LENGTH, ERASURE_SIZE, HEADER_SIZE, INSERTION, INSERTION_LENGTH,
+    INSERTION_SIZE, MAGIC, VERSION,
+};
+use bg_types::{Id, Memory, Op, OpView, Place};
+use byteorder::{BigEndian, ByteOrder};
+use std::alloc::Global;
+
+/// Writes an operation's frame at the end (docs/FORMATS.md): 19 bytes for an insertion, 9 for a
+/// deletion. `Memory` leaves `out` as it was.
+pub fn encode_op(op: &Op, out: &mut Vec<u8>) -> Result<(), Memory>
+    ensures ok { OnOk result (out.new.items ≡ out.old.items ++ frame op.now) }
+    ensures err { OnErr result (out.new.items ≡ out.old.items) }
+    // It fails only where room was missing, and never gives room back.
+    ensures room { vec_len out.old + length (frame op.now) ≤ vec_capacity out.old → IsOk result }
+    ensures capacity { vec_capacity out.old ≤ vec_capacity out.new }
+    // What every operation is, for the caller's proof.
+    ensures well_formed { IsWellFormed op.now }
+{
+    match op.view() {
+        OpView::Insert { id, parent, ch } => {
+            out.extend_from_slice(&insertion_frame(id, &parent, ch))?;
+        }
+        OpView::Erase { target } => out.extend_from_slice(&erasure_frame(target))?,
+    }
+    Ok(())
+}
+
+/// The file of the operations (docs/FORMATS.md). Memory is asked for once.
+pub fn encode_file(alloc: Global, ops: &[Op]) -> Result<Vec<u8>, Memory>
+    ensures { IfOk result (λ file. Spells file.items ops.now) }
+{
+    let mut file = Vec::with_capacity(alloc, file_size(ops))?;
+    // The whole file has room, so nothing below grows it.
+    file.extend_from_slice(&MAGIC).unwrap();
+    file.push(VERSION).unwrap();
+    for op in ops {
+        encode_op(op, &mut file).unwrap();
+    }
+    Ok(file)
+}
+
+/// How many bytes the file of the operations has, or `usize::MAX` where it has more.
+fn file_size(ops: &[Op]) -> usize
+    ensures { result ≡ min (length (spelling ops.now)) (2 ^ 64 - 1) }
+{
+    let mut size = HEADER_SIZE;
+    for op in ops {
+        size = size.saturating_add(frame_size(op));
+    }
+    size
+}
+
+fn frame_size(op: &Op) -> usize
+    ensures { result ≡ length (frame op.now) }
+{
+    match op.view() {
+        OpView::Insert { .. } => INSERTION_SIZE,
+        OpView::Erase { .. } => ERASURE_SIZE,
+    }
+}
+
+fn insertion_frame(id: Id, parent: &Place, ch: char) -> [u8; INSERTION_SIZE]
+    ensures { result ≡ frame (OpView.Insert id parent.now ch) }
+{
+    let mut frame = [0; INSERTION_SIZE];
+    let (counter, site) = parent_numbers(parent);
+    BigEndian::write_u16(&mut frame, INSERTION_LENGTH);
+    frame[2] = INSERTION;
+    write_numbers(&mut frame[3..], id.counter(), id.site());
+    write_numbers(&mut frame[9..], counter, site);
+    BigEndian::write_u32(&mut frame[15..], u32::from(ch));
+    frame
+}
+
+fn erasure_frame(target: Id) -> [u8; ERASURE_SIZE]
+    ensures { result ≡ frame (OpView.Erase target) }
+{
+    let mut frame = [0; ERASURE_SIZE];
+    BigEndian::write_u16(&mut frame, ERASURE_LENGTH);
+    frame[2] = ERASURE;
+    write_numbers(&mut frame[3..], target.counter(), target.site());
+    frame
+}
+
+/// Writes an identifier, or the root's two zeros, at the front.
+fn write_numbers(out: &mut [u8], counter: u32, site: u16)
+    requires { 6 ≤ length out.old }
+    ensures { out.new ≡ identifier_bytes (record { counter = counter; site = site }) ++ drop 6 out.old }
+{
+    BigEndian::write_u32(out, counter);
+    BigEndian::write_u16(&mut out[4..], site);
+}
+
+/// A parent's counter and site, both 0 for the root.
+fn parent_numbers(parent: &Place) -> (u32, u16)
+    ensures counter { result.0 ≡ (parent_identifier parent.now).counter }
+    ensures site { result.1 ≡ (parent_identifier parent.now).site }
+{
+    match parent {
+        Place::Root => (0, 0),
+        Place::After(id) => (id.counter(), id.site()),
+    }
+}

@@ -1,0 +1,105 @@
+//! What can be wrong with an operation file.
+
+ghost use Rattle.std.specs.Prelude.{◌≡◌};
+ghost use Rattle.op_codec.specs.declared.fault.CodecFault.TheVariants.{Memory as memory};
+ghost use Rattle.op_codec.specs.Code.{cause_code, fault_code, frame_number};
+
+use std::alloc::{AllocError, AllocFailed};
+use thiserror::Error;
+
+/// What is wrong with the header or with a frame. Each prints its bare name.
+#[derive(Clone, Copy, Debug, PartialEq, Eq, Hash, Error)]
+pub enum Cause {
+    /// One of the four magic bytes differs.
+    #[error("BadMagic")]
+    BadMagic,
+    /// The byte after the magic is another than 1.
+    #[error("BadVersion")]
+    BadVersion,
+    /// A byte is missing.
+    #[error("Truncated")]
+    Truncated,
+    /// The kind is neither 1 nor 2.
+    #[error("UnknownKind")]
+    UnknownKind,
+    /// The length isn't that of the kind.
+    #[error("BadLength")]
+    BadLength,
+    /// A counter or a site is 0, or exactly one of a parent's two.
+    #[error("ZeroField")]
+    ZeroField,
+    /// The parent's counter isn't below the insertion's.
+    #[error("ParentNotBefore")]
+    ParentNotBefore,
+    /// The character is above 10FFFF or a surrogate.
+    #[error("NotAScalar")]
+    NotAScalar,
+}
+
+impl Cause {
+    /// The number of this cause, 1 to 8.
+    pub fn code(self) -> u8
+        ensures { result ≡ cause_code self }
+    {
+        match self {
+            Cause::BadMagic => 1,
+            Cause::BadVersion => 2,
+            Cause::Truncated => 3,
+            Cause::UnknownKind => 4,
+            Cause::BadLength => 5,
+            Cause::ZeroField => 6,
+            Cause::ParentNotBefore => 7,
+            Cause::NotAScalar => 8,
+        }
+    }
+}
+
+/// Why a file was not read. It prints the bare name of its cause, or `Memory`.
+#[derive(Clone, Copy, Debug, PartialEq, Eq, Hash, Error)]
+pub enum CodecFault {
+    /// The bytes are faulty: this is the first cause that they show. Frame 0 is the header, frames
+    /// count from 1.
+    #[error("{cause}")]
+    Malformed { frame: usize, cause: Cause },
+    /// A growth was refused. This says nothing of the bytes.
+    #[error("Memory")]
+    Memory,
+}
+
+impl CodecFault {
+    /// The number of this fault: its cause's, or 9 for `Memory`.
+    pub fn code(self) -> u8
+        ensures { result ≡ fault_code self }
+    {
+        match self {
+            CodecFault::Malformed { cause, .. } => cause.code(),
+            CodecFault::Memory => 9,
+        }
+    }
+
+    /// The frame that is faulty, from 1; 0 for the header; `None` for `Memory`.
+    pub fn frame(self) -> Option<usize>
+        ensures { result ≡ frame_number self }
+    {
+        match self {
+            CodecFault::Malformed { frame, .. } => Some(frame),
+            CodecFault::Memory => None,
+        }
+    }
+}
+
+impl From<AllocError> for CodecFault {
+    ghost from_gives = { λ _ e. e ≡ memory };
+
+    fn from(_error: AllocError) -> CodecFault {
+        CodecFault::Memory
+    }
+}
+
+impl<T: Drop> From<AllocFailed<T>> for CodecFault {
+    ghost from_gives = { λ _ e. e ≡ memory };
+
+    fn from(_error: AllocFailed<T>) -> CodecFault {
+        CodecFault::Memory
+    }
+}
