@@ -1,0 +1,5 @@
+use Rattle.rga_tree.proofs.ParentsFirst.{StandsAmong-before}
+use Rattle.rga_tree.proofs.laws.parents_first.Goals as goal
+
+pub returns : goal.returns
+returns c s well = StandsAmong-before s

@@ -1,0 +1,5 @@
+use Rattle.rga_tree.proofs.PreorderLaw.{walk-preorder}
+use Rattle.rga_tree.proofs.laws.preorder.Goals as goal
+
+pub returns : goal.returns
+returns c = walk-preorder

@@ -1,0 +1,80 @@
+//! Laws of the definitions: each function's contract is the law, and its body is empty.
+
+ghost use Rattle.std.specs.Prelude.{◌≡◌, ◌↔◌, ◌∷◌, ◌++◌, List, Some, true, Contains, insert, false, codes};
+ghost use Rattle.std.specs.List.{flat_map, IsDistinct};
+ghost use Rattle.std.specs.FinMap as map;
+ghost use Rattle.std.specs.FinSet as set;
+ghost use Rattle.bg_types.specs.Identifier.{Identifier, same_id};
+ghost use Rattle.bg_types.specs.OperationSet.{Node, OperationSet, AllWellFormed, with_operation};
+ghost use Rattle.bg_types.specs.WellFormed.{IsWellFormed};
+ghost use Rattle.bg_types.specs.declared.op.OpView.{OpView};
+ghost use Rattle.bg_types.specs.declared.op.OpView.TheVariants.{Insert};
+ghost use Rattle.bg_types.specs.declared.op.Place.{Place};
+ghost use Rattle.bg_types.specs.declared.op.Place.TheVariants.{Root, After};
+ghost use Rattle.rga_tree.specs.Walk.{walk, children, walked_ids, StandsAmong};
+ghost use Rattle.rga_tree.specs.Attached.{IsAttached, IsAttachedPart};
+ghost use Rattle.rga_tree.specs.TextOf.{text};
+ghost use Rattle.rga_tree.specs.Tree.{stands_in, IsTree};
+ghost use Rattle.rga_tree.specs.Elements.{elements};
+ghost use Rattle.rga_tree.specs.Row.{place_of};
+ghost use Rattle.rga_tree.specs.Examples.{set_of, HaveSameOperations, two_in_line, two_at_root, four_in_tree, one_erased};
+
+/// The walk from a place is, for each child in falling order, the child and then the walk from it.
+pub fn preorder()
+    ensures { (s : OperationSet) → AllWellFormed s → (p : Place)
+        → walk s p ≡ flat_map (λ e. e ∷ walk s (After e.0)) (children s.ins p) }
+{}
+
+/// The walk from the root lists each attached identifier once and nothing else, with what its
+/// insertion says.
+pub fn attached_once()
+    ensures once { (s : OperationSet) → AllWellFormed s → IsDistinct same_id (walked_ids s) }
+    ensures attached { (s : OperationSet) → AllWellFormed s → (id : Identifier)
+        → IsAttached s.ins id ↔ Contains (walked_ids s) id }
+    ensures insertions { (s : OperationSet) → AllWellFormed s → (e : Identifier × Node)
+        → Contains (walk s Root) e → map.get s.ins e.0 ≡ Some e.1 }
+{}
+
+/// Where each parent stands in the set, every insertion is attached.
+pub fn tree_attached()
+    ensures { (s : OperationSet) → AllWellFormed s → IsTree s → (id : Identifier)
+        → map.contains_key s.ins id ≡ true → IsAttached s.ins id }
+{}
+
+/// A parent stands before its children.
+pub fn parents_first()
+    ensures { (s : OperationSet) → AllWellFormed s
+        → (before after : List (Identifier × Node)) (e : Identifier × Node)
+        → walk s Root ≡ before ++ e ∷ after → StandsAmong e.1.parent before }
+{}
+
+/// The walk from the root and the text depend only on what is attached.
+pub fn attached_alone()
+    ensures walk { (s t : OperationSet) → AllWellFormed s → IsAttachedPart s t
+        → walk t Root ≡ walk s Root }
+    ensures text { (s t : OperationSet) → AllWellFormed s → IsAttachedPart s t
+        → ((id : Identifier) → IsAttached s.ins id → set.contains t.del id ≡ set.contains s.del id)
+        → text t ≡ text s }
+{}
+
+/// The walk of a tree with one more insertion is the old walk with it put in: behind its parent,
+/// and behind all greater identifiers that follow there directly.
+pub fn one_more_leaf()
+    ensures { (s : OperationSet) → AllWellFormed s → IsTree s → (id : Identifier) (node : Node)
+        → IsWellFormed (Insert id node.parent node.ch) → stands_in s node.parent ≡ true
+        → map.contains_key s.ins id ≡ false
+        → walk (with_operation s (Insert id node.parent node.ch)) Root
+        ≡ insert (walk s Root) (place_of node.parent id (elements s)) (id, node) }
+{}
+
+/// What small sets of operations read as, in whatever order they are taken.
+pub fn examples()
+    ensures in_line { (ops : List OpView) → HaveSameOperations ops two_in_line
+        → text (set_of ops) ≡ codes "ab" }
+    ensures at_root { (ops : List OpView) → HaveSameOperations ops two_at_root
+        → text (set_of ops) ≡ codes "ba" }
+    ensures in_tree { (ops : List OpView) → HaveSameOperations ops four_in_tree
+        → text (set_of ops) ≡ codes "axyb" }
+    ensures erased { (ops : List OpView) → HaveSameOperations ops one_erased
+        → text (set_of ops) ≡ codes "ayb" }
+{}

@@ -1,0 +1,14 @@
+//! The order in which the insertions of a replicated text are read, and rows that keep it.
+#![tactic(auto)]
+
+mod element;
+pub mod laws;
+mod plain;
+mod sequence;
+
+pub use element::Element;
+pub use plain::Plain;
+pub use sequence::{Sequence, text_of};
+
+#[cfg(test)]
+mod tests;

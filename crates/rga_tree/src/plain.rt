@@ -1,0 +1,171 @@
+//! The plain sequence: one row, searched from the front.
+
+ghost use Rattle.std.specs.Prelude.{◌≡◌, ◌-◌, ◌+◌, ◌≤◌, ◌<◌, true, not, length, filter, slice_get, vec_len, vec_capacity};
+ghost use Rattle.std.specs.Ordering.{is_lt};
+ghost use Rattle.std.specs.List.{find as find_in, prefix_len, list_any};
+ghost use Rattle.bg_types.specs.Identifier.{id_cmp, same_id};
+ghost use Rattle.bg_types.specs.OperationSet.{no_operations, AllWellFormed};
+ghost use Rattle.rga_tree.specs.Tree.{IsTree, OnlyErasesPlaced};
+ghost use Rattle.rga_tree.specs.AllWellFormed.{AllWellFormed-prop};
+ghost use Rattle.rga_tree.specs.Elements.{elements};
+ghost use Rattle.rga_tree.specs.Row.{operations_of, ids_of, is_distinct, start_of, place_of};
+
+use crate::element::Element;
+use crate::sequence::Sequence;
+use bg_types::{Id, Memory, Place};
+use std::alloc::Global;
+
+/// A sequence as one row, in the order of the walk. `room`, `placed` and `nth` read one number or
+/// element; each other call goes over the row, and `place` shifts what stands behind the new one.
+#[derive(Drop)]
+pub struct Plain {
+    row: Vec<Element>,
+    ghost in_order: { row.items ≡ elements (operations_of row.items) },
+    ghost distinct: { is_distinct (ids_of row.items) ≡ true },
+    ghost tree: { IsTree (operations_of row.items) },
+    ghost only_placed: { OnlyErasesPlaced (operations_of row.items) },
+    ghost well_formed: { AllWellFormed (operations_of row.items) } by { AllWellFormed-prop (operations_of row.items) },
+}
+
+impl Plain {
+    /// An empty sequence, which takes no memory.
+    pub fn new(alloc: Global) -> Plain
+        ensures content { ⟦<Plain as Sequence>⟧.content result ≡ no_operations }
+        ensures room { ⟦<Plain as Sequence>⟧.free result ≡ 0 }
+    {
+        Plain {
+            row: Vec::new(alloc),
+        }
+    }
+}
+
+impl Sequence for Plain {
+    ghost content = { λ p. operations_of p.row.items };
+
+    ghost free = { λ p. vec_capacity p.row - vec_len p.row };
+
+    fn reserve(&mut self, n: usize) -> Result<(), Memory> {
+        self.row.reserve(n)?;
+        Ok(())
+    }
+
+    fn room(&self) -> usize {
+        self.row.capacity() - self.row.len()
+    }
+
+    fn place(&mut self, id: Id, parent: Place, ch: char, hidden: bool) {
+        let _known = id.counter();
+        let at = place_for(&self.row, id, &parent);
+        self.row
+            .insert(
+                at,
+                Element {
+                    id,
+                    parent,
+                    ch,
+                    hidden,
+                },
+            )
+            .unwrap();
+    }
+
+    fn hide(&mut self, id: Id) {
+        let at = before(&self.row, id);
+        self.row[at].hidden = true;
+    }
+
+    fn len(&self) -> usize {
+        count_visible(&self.row)
+    }
+
+    fn id_at(&mut self, k: usize) -> Id {
+        visible_at(&self.row, k).unwrap().id
+    }
+
+    fn char_at(&mut self, k: usize) -> char {
+        visible_at(&self.row, k).unwrap().ch
+    }
+
+    fn placed(&self) -> usize {
+        self.row.len()
+    }
+
+    fn nth(&self, j: usize) -> Element {
+        self.row[j]
+    }
+
+    fn has(&self, id: Id) -> bool {
+        contains(&self.row, id)
+    }
+
+    fn element(&self, id: Id) -> Option<Element> {
+        find(&self.row, id)
+    }
+
+    ghost is_tree = { λ p. p.tree };
+
+    ghost only_placed = { λ p. p.only_placed };
+
+    ghost well_formed = { λ p. p.well_formed };
+}
+
+/// Where a new element goes: behind its parent, and behind all greater elements that follow there.
+fn place_for(row: &[Element], id: Id, parent: &Place) -> usize
+    requires { start_of parent.now row.now ≤ length row.now }
+    ensures place { result ≡ place_of parent.now id row.now }
+    ensures within { result ≤ length row.now }
+{
+    let start = match parent {
+        Place::Root => 0,
+        Place::After(above) => before(row, *above) + 1,
+    };
+    start + greater_in_front(&row[start..], id)
+}
+
+/// How many elements at the front are greater than the identifier.
+fn greater_in_front(row: &[Element], id: Id) -> usize
+    ensures count { result ≡ prefix_len (λ e. is_lt (id_cmp id e.id)) row.now }
+    ensures within { result ≤ length row.now }
+{
+    row.iter().take_while(|e| id < e.id).count()
+}
+
+/// How many elements stand before the one with this identifier.
+fn before(row: &[Element], id: Id) -> usize
+    ensures { result ≡ prefix_len (λ e. not (same_id id e.id)) row.now }
+{
+    row.iter().take_while(|e| id != e.id).count()
+}
+
+fn count_visible(row: &[Element]) -> usize
+    ensures { result ≡ length (filter (λ e. not e.hidden) row.now) }
+{
+    row.iter().filter(|e| !e.hidden).count()
+}
+
+fn visible_at(row: &[Element], k: usize) -> Option<Element>
+    ensures { result ≡ slice_get (filter (λ e. not e.hidden) row.now) k }
+{
+    let mut left = k;
+    for e in row {
+        if !e.hidden {
+            if left == 0 {
+                return Some(*e);
+            }
+            left -= 1;
+        }
+    }
+    None
+}
+
+fn contains(row: &[Element], id: Id) -> bool
+    ensures { result ≡ list_any (λ e. same_id id e.id) row.now }
+{
+    row.iter().any(|e| id == e.id)
+}
+
+fn find(row: &[Element], id: Id) -> Option<Element>
+    ensures { result ≡ find_in (λ e. same_id id e.id) row.now }
+{
+    row.iter().copied().find(|e| id == e.id)
+}

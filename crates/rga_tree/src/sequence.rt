@@ -1,0 +1,116 @@
+//! Sequences: the elements of a tree in the order of its walk.
+
+ghost use Rattle.std.specs.Prelude.{◌≡◌, ◌<◌, ◌≤◌, ◌+◌, ℕ, length, slice_get, true, false, Some, IsTrue, IsOk, OnOk, OnErr, IfOk, string_bytes, encode_utf8_all};
+ghost use Rattle.std.specs.Option.{option_map};
+ghost use Rattle.std.specs.FinMap as map;
+ghost use Rattle.bg_types.specs.OperationSet.{OperationSet, with_operation, AllWellFormed};
+ghost use Rattle.bg_types.specs.WellFormed.{MayFollow};
+ghost use Rattle.bg_types.specs.declared.op.OpView.{OpView};
+ghost use Rattle.bg_types.specs.declared.op.OpView.TheVariants.{Erase};
+ghost use Rattle.rga_tree.specs.TextOf.{visible, visible_ids, text};
+ghost use Rattle.rga_tree.specs.Tree.{stands_in, IsTree, OnlyErasesPlaced};
+ghost use Rattle.rga_tree.specs.Elements.{elements, element_of, with_element};
+
+use crate::element::Element;
+use bg_types::{Id, Memory, Place};
+use std::alloc::Global;
+
+/// The elements of a tree in the order of its walk: a parent before its children, the children of
+/// one parent in falling order of identifier. Places count elements, from 0.
+pub trait Sequence {
+    /// The insertions that are placed, and the deletions of those that are hidden.
+    ghost content: { Self → OperationSet };
+
+    /// How many placings take no memory.
+    ghost free: { Self → ℕ };
+
+    /// Makes room for n placings (at most 4,000,000). Where memory is refused, content and room
+    /// stay as they were.
+    fn reserve(&mut self, n: usize) -> Result<(), Memory>
+        requires { n ≤ 4_000_000 }
+        ensures content { content self.new ≡ content self.old }
+        ensures ok { OnOk result (n ≤ free self.new) }
+        ensures kept { free self.old ≤ free self.new }
+        ensures err { OnErr result (free self.new ≡ free self.old) }
+        ensures enough { n ≤ free self.old → IsOk result };
+
+    /// How many placings take no memory.
+    fn room(&self) -> usize
+        ensures { result ≡ free self.now };
+
+    /// Places a new element below its parent, which is the root or placed already. Takes no
+    /// memory, and one from the room.
+    fn place(&mut self, id: Id, parent: Place, ch: char, hidden: bool)
+        requires parent { stands_in (content self.old) parent ≡ true }
+        requires before { MayFollow parent id }
+        requires new { map.contains_key (content self.old).ins id ≡ false }
+        requires room { 1 ≤ free self.old }
+        ensures content { content self.new ≡ with_element (content self.old)
+            (record { id = id; parent = parent; ch = ch; hidden = hidden }) }
+        ensures room { free self.new + 1 ≡ free self.old };
+
+    /// Hides a placed element, which may be hidden already. It stays where it stands.
+    fn hide(&mut self, id: Id)
+        requires { map.contains_key (content self.old).ins id ≡ true }
+        ensures content { content self.new ≡ with_operation (content self.old) (OpView.Erase id) }
+        ensures room { free self.new ≡ free self.old };
+
+    /// How many elements are visible.
+    fn len(&self) -> usize
+        ensures { result ≡ length (visible (content self.now)) };
+
+    /// The identifier of visible element k.
+    fn id_at(&mut self, k: usize) -> Id
+        requires { k < length (visible (content self.old)) }
+        ensures value { slice_get (visible_ids (content self.old)) k ≡ Some result }
+        ensures content { content self.new ≡ content self.old }
+        ensures room { free self.new ≡ free self.old };
+
+    /// The character of visible element k.
+    fn char_at(&mut self, k: usize) -> char
+        requires { k < length (visible (content self.old)) }
+        ensures value { slice_get (text (content self.old)) k ≡ Some result }
+        ensures content { content self.new ≡ content self.old }
+        ensures room { free self.new ≡ free self.old };
+
+    /// How many elements are placed, hidden ones with them.
+    fn placed(&self) -> usize
+        ensures { result ≡ length (elements (content self.now)) };
+
+    /// Element j, hidden ones counted.
+    fn nth(&self, j: usize) -> Element
+        requires { j < length (elements (content self.now)) }
+        ensures { slice_get (elements (content self.now)) j ≡ Some result };
+
+    /// Whether the identifier's insertion is placed.
+    fn has(&self, id: Id) -> bool
+        ensures { result ≡ map.contains_key (content self.now).ins id };
+
+    /// The placed element with this identifier.
+    fn element(&self, id: Id) -> Option<Element>
+        ensures { result ≡ option_map (λ node. element_of (content self.now) (id, node))
+            (map.get (content self.now).ins id) };
+
+    /// The parent of each element is the root or an element.
+    ghost is_tree: { (s : Self) → IsTree (content s) };
+
+    /// Only elements are hidden.
+    ghost only_placed: { (s : Self) → OnlyErasesPlaced (content s) };
+
+    /// Identifiers, parents and characters are those of well-formed operations.
+    ghost well_formed: { (s : Self) → AllWellFormed (content s) };
+}
+
+/// The visible characters in order.
+pub fn text_of<S: Sequence>(alloc: Global, seq: &S) -> Result<String, Memory>
+    ensures { IfOk result (λ t. string_bytes t ≡ encode_utf8_all (text (S.content seq.now))) }
+{
+    let mut read = String::with_capacity(alloc, seq.placed())?;
+    for j in 0..seq.placed() {
+        let element = seq.nth(j);
+        if !element.hidden {
+            read.push(element.ch)?;
+        }
+    }
+    Ok(read)
+}
