@@ -1,0 +1,9 @@
+pub mod Tables
+pub mod Views
+pub mod Walks
+pub mod Holding
+pub mod Freeing
+pub mod HandingOut
+pub mod Listing
+pub mod Counting
+pub mod Loop

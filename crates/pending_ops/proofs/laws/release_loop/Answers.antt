@@ -1,0 +1,5 @@
+use Rattle.pending_ops.proofs.Loop.{places_below}
+use Rattle.pending_ops.proofs.laws.release_loop.Goals as goal
+
+pub returns : goal.returns
+returns c = places_below

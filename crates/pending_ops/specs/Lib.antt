@@ -1,0 +1,5 @@
+pub mod Waiting
+pub mod Below
+pub mod Releasing
+pub mod Code
+pub mod Chains

@@ -1,0 +1,127 @@
+//! The tables of a store: the held insertions, and for each parent the chain of those that name it.
+
+ghost use Rattle.std.specs.Prelude.{◌≡◌, ◌&&◌, not, ◌≤◌, ◌<◌, ◌+◌, ◌++◌, ◌∷◌, [], true, ℕ, List, length, Some, None, OnOk, OnErr, IfSome, IfNone, IsSome, if◌then◌else◌, vec_len, vec_capacity};
+ghost use Rattle.std.specs.Option.{option_map};
+ghost use Rattle.indexmap.specs.IndexMap.{spare};
+ghost use Rattle.indexmap.specs.IndexSet as set;
+ghost use Rattle.bg_types.specs.Identifier.{Identifier, same_id};
+ghost use Rattle.bg_types.specs.WellFormed.{MayFollow};
+ghost use Rattle.bg_types.specs.declared.op.OpView.TheVariants.{Insert};
+ghost use Rattle.pending_ops.specs.declared.chains.Slot.{Slot};
+ghost use Rattle.pending_ops.specs.Waiting.{is_after};
+ghost use Rattle.pending_ops.specs.Chains.{AreLinked, Links, first_in, is_in, slot_in};
+
+use crate::keyed::Keyed;
+use bg_types::{Id, Memory, Op, Place};
+use indexmap::{IndexMap, IndexSet};
+
+/// A table by identifier. Its memory can be paid in advance, and a removal gives none back.
+pub type Table<V> = IndexMap<Id, V, Keyed>;
+
+/// A set of identifiers.
+pub type Names = IndexSet<Id, Keyed>;
+
+/// A held insertion, with the next one that names its parent.
+#[derive(Clone, Copy, Debug)]
+pub struct Slot {
+    pub parent: Place,
+    pub ch: char,
+    pub next: Option<Id>,
+}
+
+/// The insertion that a slot tells.
+pub fn insertion_in(slots: &Table<Slot>, id: Id) -> Option<Op>
+    requires { (s : Slot) → slot_in slots.now.entries id ≡ Some s → MayFollow s.parent id }
+    ensures { result ≡ option_map (λ s. Insert id s.parent s.ch) (slot_in slots.now.entries id) }
+{
+    match slots.get(&id) {
+        Some(slot) => Op::insert(id, slot.parent, slot.ch),
+        None => None,
+    }
+}
+
+/// Puts an insertion in front of those that name its parent, and answers which was the first of
+/// them.
+pub fn link(firsts: &mut Table<Id>, parent: &Place, id: Id) -> Option<Id>
+    requires { 0 < spare firsts.old }
+    ensures first { (p : Identifier) → first_in firsts.new.entries p
+        ≡ (if is_after parent.now p then Some id else first_in firsts.old.entries p) }
+    ensures next { (p : Identifier)
+        → is_after parent.now p ≡ true → result ≡ first_in firsts.old.entries p }
+    ensures len { length firsts.new.entries ≤ length firsts.old.entries + 1 }
+{
+    match parent {
+        Place::Root => None,
+        Place::After(above) => firsts.insert(*above, id).unwrap(),
+    }
+}
+
+/// Appends the insertions that name this parent.
+pub fn append_chain(slots: &Table<Slot>, firsts: &Table<Id>, parent: Id, queue: &mut Vec<Id>)
+    requires { (xs : List Identifier)
+        × (Links (slot_in slots.now.entries) (first_in firsts.now.entries parent) xs
+        × (vec_len queue.old + length xs ≤ vec_capacity queue.old)) }
+    ensures items { (xs : List Identifier)
+        × (Links (slot_in slots.now.entries) (first_in firsts.now.entries parent) xs
+        × (queue.new.items ≡ queue.old.items ++ xs)) }
+    ensures capacity { vec_capacity queue.new ≡ vec_capacity queue.old }
+{
+    let mut cursor = firsts.get(&parent).copied();
+    while let Some(id) = cursor {
+        queue.push_reserved(id);
+        cursor = match slots.get(&id) {
+            Some(slot) => slot.next,
+            None => None,
+        };
+    }
+}
+
+/// The first of those that the last released parent's chain leads to.
+#[derive(Clone, Copy, Debug)]
+pub struct Front {
+    pub parent: Id,
+    pub id: Id,
+    pub slot: Slot,
+}
+
+/// The next insertion to hand out.
+pub fn first_ready(slots: &Table<Slot>, firsts: &Table<Id>, released: &Names) -> Option<Front>
+    requires { AreLinked slots.now.entries firsts.now.entries released.now.keys }
+    ensures none { IfNone result (released.now.keys ≡ []) }
+    ensures parent { IfSome result
+        (λ f. (before : List Identifier) × (released.now.keys ≡ before ++ f.parent ∷ [])) }
+    ensures first { IfSome result (λ f. first_in firsts.now.entries f.parent ≡ Some f.id) }
+    ensures slot { IfSome result (λ f. slot_in slots.now.entries f.id ≡ Some f.slot) }
+{
+    let parent = *released.last()?;
+    let id = *firsts.get(&parent)?;
+    let slot = *slots.get(&id)?;
+    Some(Front { parent, id, slot })
+}
+
+/// Takes the front of a released parent's chain off the chain. The parent of an empty chain is no
+/// longer released.
+pub fn unlink(firsts: &mut Table<Id>, released: &mut Names, front: &Front)
+    requires first { IsSome (first_in firsts.old.entries front.now.parent) }
+    requires last { (before : List Identifier)
+        × (released.old.keys ≡ before ++ front.now.parent ∷ []) }
+    ensures first { (p : Identifier) → first_in firsts.new.entries p
+        ≡ (if same_id front.now.parent p then front.now.slot.next
+        else first_in firsts.old.entries p) }
+    ensures kept { IsSome front.now.slot.next → released.new.keys ≡ released.old.keys }
+    ensures emptied { front.now.slot.next ≡ None → (p : Identifier)
+        → is_in released.new.keys p
+        ≡ (not (same_id front.now.parent p) && is_in released.old.keys p) }
+    ensures room { length firsts.old.entries ≤ length released.old.keys + set.spare released.old
+        → length firsts.new.entries ≤ length released.new.keys + set.spare released.new }
+{
+    match front.slot.next {
+        Some(next) => {
+            firsts.insert(front.parent, next).unwrap();
+        }
+        None => {
+            firsts.swap_remove(&front.parent);
+            released.pop();
+        }
+    }
+}

@@ -1,0 +1,278 @@
+//! The store of early operations.
+
+ghost use Rattle.std.specs.Prelude.{◌≡◌, [], ◌≤◌, ◌<◌, ◌+◌, ◌↔◌, true, false, ℕ, List, length, slice_get, Some, None, OnOk, OnErr, IfSome, IfNone, IsNone, vec_len, vec_capacity};
+ghost use Rattle.std.specs.Bool.{OnFalse};
+ghost use Rattle.std.specs.Option.{option_map};
+ghost use Rattle.std.specs.FinMap as map;
+ghost use Rattle.std.specs.FinSet as set;
+ghost use Rattle.indexmap.specs.IndexMap.{spare};
+ghost use Rattle.indexmap.specs.IndexSet as index_set;
+ghost use Rattle.bg_types.specs.Identifier.{Identifier};
+ghost use Rattle.bg_types.specs.OperationSet.{OperationSet, Node, with_operation, size};
+ghost use Rattle.bg_types.specs.WellFormed.{MayFollow, IsWellFormed};
+ghost use Rattle.bg_types.specs.declared.op.OpView.TheVariants.{Insert, Erase};
+ghost use Rattle.pending_ops.specs.Waiting.{Waiting, IsNew, ListsOnce, NoneReady, Releases, TakesOut, nothing_waits, without_erasure, is_ready};
+ghost use Rattle.pending_ops.specs.Below.{CountsBelow};
+ghost use Rattle.pending_ops.specs.Chains.{IsChainOf, first_in, insertions_of, slot_in};
+ghost use Rattle.pending_ops.specs.declared.chains.Slot.{Slot};
+
+use crate::chains::{Names, Slot, Table, append_chain, first_ready, insertion_in, link, unlink};
+use crate::keyed::Keyed;
+use bg_types::{Id, Memory, Op, OpView, Place};
+use indexmap::{IndexMap, IndexSet};
+use std::alloc::Global;
+use std::marker::Model;
+
+/// Operations that wait: insertions whose parent is not placed yet, and deletions whose target is
+/// not placed yet.
+///
+/// Once an identifier is placed, `release_of` makes the insertions right after it ready, and
+/// `next_ready` hands them out one by one. Until then a ready one counts as held.
+#[derive(Drop)]
+pub struct Held {
+    slots: Table<Slot>,
+    /// For each parent of a held insertion, the first of the chain of those that name it.
+    firsts: Table<Id>,
+    /// The parents whose chains are handed out, the next one last.
+    released: Names,
+    erased: Names,
+    /// Where `count_below` lists what it counts. Empty between calls.
+    queue: Vec<Id>,
+}
+
+impl Model for Held {
+    ghost use Rattle.std.specs.Prelude.{◌≡◌, ◌≤◌, ◌+◌, [], length, vec_capacity};
+    ghost use Rattle.indexmap.specs.IndexSet.{spare};
+    ghost use Rattle.pending_ops.specs.Waiting.{Waiting};
+
+    ghost Value = { Waiting };
+
+    ghost use Rattle.pending_ops.specs.Code.{coded_waiting};
+
+    ghost coded = { coded_waiting };
+
+    ghost use Rattle.pending_ops.specs.Chains.{AreLinked, waiting_of};
+
+    ghost view = { λ a. waiting_of a.slots.entries a.released.keys a.erased.keys };
+
+    ghost invariant = { λ a. AreLinked a.slots.entries a.firsts.entries a.released.keys
+        × ((length a.firsts.entries ≤ length a.released.keys + spare a.released)
+        × ((length a.slots.entries ≤ vec_capacity a.queue) × (a.queue.items ≡ []))) };
+}
+
+/// Makes room for one more operation, wherever holding, releasing and counting it will need some:
+/// the growths of `hold`.
+fn make_room(
+    slots: &mut Table<Slot>,
+    firsts: &mut Table<Id>,
+    released: &mut Names,
+    erased: &mut Names,
+    queue: &mut Vec<Id>,
+) -> Result<(), Memory>
+    ensures slots { slots.new.entries ≡ slots.old.entries }
+    ensures firsts { firsts.new.entries ≡ firsts.old.entries }
+    ensures released { released.new.keys ≡ released.old.keys }
+    ensures erased { erased.new.keys ≡ erased.old.keys }
+    ensures queue { queue.new.items ≡ queue.old.items }
+    ensures slot { OnOk result (0 < spare slots.new) }
+    ensures first { OnOk result (0 < spare firsts.new) }
+    ensures release { OnOk result (length firsts.old.entries + 1 ≤ index_set.spare released.new) }
+    ensures erasure { OnOk result (0 < index_set.spare erased.new) }
+    ensures count { OnOk result (length slots.old.entries + 1 ≤ vec_capacity queue.new) }
+    ensures kept_release { index_set.spare released.old ≤ index_set.spare released.new }
+    ensures kept_count { vec_capacity queue.old ≤ vec_capacity queue.new }
+{
+    slots.reserve(1)?;
+    firsts.reserve(1)?;
+    released.reserve(firsts.len() + 1)?;
+    erased.reserve(1)?;
+    queue.reserve(slots.len() + 1)?;
+    Ok(())
+}
+
+impl Held {
+    /// An empty store. Its tables are hashed with the key 0: a store that holds what strangers
+    /// sent is made by `keyed`.
+    pub fn new(alloc: Global) -> Held
+        ensures { result ≡ nothing_waits }
+    {
+        Held::keyed(alloc, 0)
+    }
+
+    /// An empty store whose tables are hashed with this key. Who does not know the key cannot
+    /// choose identifiers that make the calls slow.
+    pub fn keyed(alloc: Global, key: u128) -> Held
+        ensures { result ≡ nothing_waits }
+    {
+        let hasher = Keyed::new(key);
+        Held {
+            slots: IndexMap::with_hasher(alloc, hasher),
+            firsts: IndexMap::with_hasher(alloc, hasher),
+            released: IndexSet::with_hasher(alloc, hasher),
+            erased: IndexSet::with_hasher(alloc, hasher),
+            queue: Vec::new(alloc),
+        }
+    }
+
+    /// Holds an operation. After `Memory` the store is as it was.
+    pub fn hold(&mut self, op: Op) -> Result<(), Memory>
+        requires { IsNew self.old.held op }
+        ensures ok { OnOk result (self.new.held ≡ with_operation self.old.held op) }
+        ensures released { self.new.released ≡ self.old.released }
+        ensures err { OnErr result (self.new ≡ self.old) }
+    {
+        match op.view() {
+            OpView::Insert { id, parent, ch } => self.hold_insertion(id, &parent, ch),
+            OpView::Erase { target } => self.hold_erasure(target),
+        }
+    }
+
+    fn hold_insertion(&mut self, id: Id, parent: &Place, ch: char) -> Result<(), Memory>
+        requires new { map.get self.old.held.ins id ≡ None }
+        requires may { MayFollow parent.now id }
+        ensures ok { OnOk result
+            (self.new.held ≡ with_operation self.old.held (Insert id parent.now ch)) }
+        ensures released { self.new.released ≡ self.old.released }
+        ensures err { OnErr result (self.new ≡ self.old) }
+    {
+        make_room(
+            &mut self.slots,
+            &mut self.firsts,
+            &mut self.released,
+            &mut self.erased,
+            &mut self.queue,
+        )?;
+        let next = link(&mut self.firsts, parent, id);
+        let slot = Slot {
+            parent: *parent,
+            ch,
+            next,
+        };
+        self.slots.insert(id, slot).unwrap();
+        Ok(())
+    }
+
+    fn hold_erasure(&mut self, target: Id) -> Result<(), Memory>
+        ensures ok { OnOk result (self.new.held ≡ with_operation self.old.held (Erase target)) }
+        ensures released { self.new.released ≡ self.old.released }
+        ensures err { OnErr result (self.new ≡ self.old) }
+    {
+        make_room(
+            &mut self.slots,
+            &mut self.firsts,
+            &mut self.released,
+            &mut self.erased,
+            &mut self.queue,
+        )?;
+        self.erased.insert(target).unwrap();
+        Ok(())
+    }
+
+    /// The held insertion with this identifier.
+    pub fn insertion(&self, id: Id) -> Option<Op>
+        ensures { result
+            ≡ option_map (λ node. Insert id node.parent node.ch) (map.get self.now.held.ins id) }
+    {
+        insertion_in(&self.slots, id)
+    }
+
+    /// Whether a deletion of this target is held.
+    pub fn erased(&self, id: Id) -> bool
+        ensures { result ≡ set.contains self.now.held.del id }
+    {
+        self.erased.contains(&id)
+    }
+
+    /// How many operations are held.
+    pub fn count(&self) -> usize
+        ensures { result ≡ size self.now.held }
+    {
+        self.slots.len() + self.erased.len()
+    }
+
+    /// The held operation at place `j` of a list of them all. While the store does not change the
+    /// list does not either; its order is open.
+    pub fn nth(&self, j: usize) -> Op
+        requires { j < size self.now.held }
+        ensures listed { slice_get self.now.listed j ≡ Some result }
+        ensures each_once { ListsOnce self.now.held self.now.listed }
+    {
+        let insertions = self.slots.len();
+        let erasures = self.erased.len();
+        prove!(j < insertions + erasures);
+        match self.slots.get_index(j) {
+            Some((id, slot)) => Op::insert(*id, slot.parent, slot.ch).unwrap(),
+            None => Op::erase(self.erased[j - insertions]),
+        }
+    }
+
+    /// How many held insertions have a chain of parents, through held ones, to this identifier.
+    pub fn count_below(&mut self, id: Id) -> usize
+        ensures count { CountsBelow self.old.held id result }
+        ensures unchanged { self.new ≡ self.old }
+    {
+        list_below(&self.slots, &self.firsts, id, &mut self.queue);
+        let count = self.queue.len();
+        self.queue.clear();
+        count
+    }
+
+    /// Makes the held insertions right after this identifier ready. As long as one of them is, so
+    /// is an insertion that is held right after it later.
+    pub fn release_of(&mut self, id: Id)
+        ensures { Releases self.old id self.new }
+    {
+        if !self.firsts.contains_key(&id) {
+            return;
+        }
+        if self.released.contains(&id) {
+            return;
+        }
+        self.released.insert(id).unwrap();
+    }
+
+    /// Takes a ready insertion out. Those after it stay held, and are not ready before they are
+    /// released.
+    pub fn next_ready(&mut self) -> Option<Op>
+        ensures some { IfSome result (λ op. TakesOut self.old op self.new) }
+        ensures none { IsNone result ↔ NoneReady self.old }
+        ensures unchanged { IfNone result (self.new ≡ self.old) }
+        ensures released { IfNone result (self.old.released ≡ set.empty) }
+    {
+        let front = first_ready(&self.slots, &self.firsts, &self.released)?;
+        unlink(&mut self.firsts, &mut self.released, &front);
+        self.slots.swap_remove(&front.id);
+        Op::insert(front.id, front.slot.parent, front.slot.ch)
+    }
+
+    /// Whether a deletion of this target was held. It no longer is.
+    pub fn drop_erasure(&mut self, id: Id) -> bool
+        ensures found { result ≡ set.contains self.old.held.del id }
+        ensures dropped { self.new.held ≡ without_erasure self.old.held id }
+        ensures released { self.new.released ≡ self.old.released }
+        ensures absent { OnFalse result (self.new ≡ self.old) }
+    {
+        self.erased.swap_remove(&id)
+    }
+}
+
+/// Lists the insertions below an identifier: those right after it, then those right after each
+/// listed one.
+fn list_below(slots: &Table<Slot>, firsts: &Table<Id>, id: Id, queue: &mut Vec<Id>)
+    requires chains { (p : Identifier)
+        → IsChainOf (slot_in slots.now.entries) p (first_in firsts.now.entries p) }
+    requires formed { (q : Identifier) (s : Slot)
+        → slot_in slots.now.entries q ≡ Some s → MayFollow s.parent q }
+    requires empty { queue.old.items ≡ [] }
+    requires room { length slots.now.entries ≤ vec_capacity queue.old }
+    ensures count { (s : OperationSet) → s.ins ≡ insertions_of slots.now.entries
+        → CountsBelow s id (vec_len queue.new) }
+    ensures capacity { vec_capacity queue.new ≡ vec_capacity queue.old }
+{
+    append_chain(slots, firsts, id, queue);
+    let mut done = 0;
+    while done < queue.len() {
+        append_chain(slots, firsts, queue[done], queue);
+        done += 1;
+    }
+}

@@ -1,0 +1,12 @@
+//! Operations that came early: those that wait for an insertion that is not there yet.
+#![tactic(auto)]
+
+mod chains;
+mod held;
+mod keyed;
+pub mod laws;
+
+pub use held::Held;
+
+#[cfg(test)]
+mod tests;
