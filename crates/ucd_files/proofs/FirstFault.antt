@@ -1,0 +1,31 @@
+-- The first fault of a file.
+use Rattle.std.proofs.Common.{◌≡◌, ℕ, Bool, true, false, cond, ltb, List, length, Option, Some, None, refl}
+use Rattle.std.specs.Str.Lossy.{utf8_valid_len}
+use Rattle.ucd_files.specs.declared.fault.Cause.{Cause}
+use Rattle.ucd_files.specs.declared.fault.Cause.TheVariants.{BadUtf8}
+use Rattle.ucd_files.specs.Line.{lines_of}
+use Rattle.ucd_files.specs.Reading.{Reading, line_at, first_faulty, first_fault}
+
+at_bad : (bad : Bool) (place line : ℕ) (later : Option (ℕ × Cause)) → Some line ≡ cond bad (Some place) None
+    → cond bad (Some (place, BadUtf8)) later ≡ Some (line, BadUtf8)
+at_bad true place line later h = cc
+at_bad false place line later h = absurd cc
+
+at_text : (bad : Bool) (place : ℕ) (later : Option (ℕ × Cause)) → ◌≡◌ {A = Option ℕ} None (cond bad (Some place) None)
+    → cond bad (Some (place, BadUtf8)) later ≡ later
+at_text true place later h = absurd cc
+at_text false place later h = refl
+
+-- the line of the first byte that isn't UTF-8, or nothing
+abbrev pub bad_line : List ℕ → Option ℕ
+bad_line bytes = cond (ltb (utf8_valid_len bytes) (length bytes)) (Some (line_at bytes (utf8_valid_len bytes))) None
+
+pub first_fault-bad : {V : Type 0} (reading : Reading V) (bytes : List ℕ) (line : ℕ) → Some line ≡ bad_line bytes → first_fault reading bytes ≡ Some (line, BadUtf8)
+unfolding first_fault
+first_fault-bad reading bytes line h =
+    at_bad (ltb (utf8_valid_len bytes) (length bytes)) (line_at bytes (utf8_valid_len bytes)) line (first_faulty reading.line (lines_of bytes) 1) h
+
+pub first_fault-text : {V : Type 0} (reading : Reading V) (bytes : List ℕ) → None ≡ bad_line bytes → first_fault reading bytes ≡ first_faulty reading.line (lines_of bytes) 1
+unfolding first_fault
+first_fault-text reading bytes h =
+    at_text (ltb (utf8_valid_len bytes) (length bytes)) (line_at bytes (utf8_valid_len bytes)) (first_faulty reading.line (lines_of bytes) 1) h

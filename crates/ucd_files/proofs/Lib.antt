@@ -1,0 +1,7 @@
+pub mod CodePoints
+pub mod Codes
+pub mod FirstFault
+pub mod LineFields
+pub mod LinesOf
+pub mod Named
+pub mod Writes

@@ -1,0 +1,6 @@
+use Rattle.std.proofs.Common.{◌≡◌, drop}
+use Rattle.ucd_files.specs.Names.{named, rows}
+use Rattle.ucd_files.proofs.names.value_named.Given as goal
+
+abbrev pub invariant-loop-spelled : goal.invariant-loop-spelled
+invariant-loop-spelled g l = named (rows (drop l.spelled-index l.table)) l.name ≡ named (rows l.table) l.name

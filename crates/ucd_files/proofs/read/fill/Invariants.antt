@@ -1,0 +1,13 @@
+use Rattle.std.proofs.Common.{◌≡◌, ℕ, ◌≤◌, length, get_or}
+use Rattle.ucd_files.specs.Line.{lines_of, lines_left}
+use Rattle.ucd_files.specs.Passes.{reach, overlaid}
+use Rattle.ucd_files.proofs.read.fill.Given as goal
+
+abbrev pub invariant-loop-line : goal.invariant-loop-line
+invariant-loop-line g l =
+    let reading = g.V.FileValue.reading in
+    let left = lines_left l.line-iterator.rest in
+    (goal.iterator-loop-line g).can_next l.line-iterator
+    × (goal.iterator-loop-line g).is_finite l.line-iterator
+    × (reach reading left ≤ length l.table)
+    × ((c : ℕ) (d : g.row.V.Denot) → overlaid l.pass reading left c (get_or l.table c d) ≡ overlaid l.pass reading (lines_of l.bytes) c (get_or l.fn.table c d))

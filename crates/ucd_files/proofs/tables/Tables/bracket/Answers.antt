@@ -1,0 +1,10 @@
+use Rattle.std.proofs.Common.{ap, ◌∙◌, arith}
+use Rattle.ucd_files.specs.declared.value.Bracket.TheVariants.{None}
+use Rattle.ucd_files.specs.Tables.{bracket_of}
+use Rattle.ucd_files.proofs.CodePoints.{looked_up}
+use Rattle.ucd_files.proofs.tables.Tables.bracket.Goals as goal
+
+pub returns : goal.returns
+returns c =
+    looked_up c.self.inside.bracket.items c.deref.result.now c.args.c None c.at.result c.at.ensures c.deref.ensures.value (omega (arith, c.ranges.c))
+    ∙ ap (λ tables. bracket_of tables c.args.c) c.self.view_is

@@ -1,0 +1,9 @@
+use Rattle.std.proofs.Common.{ap, ◌∙◌, arith, None}
+use Rattle.ucd_files.specs.Tables.{mirror_of}
+use Rattle.ucd_files.proofs.CodePoints.{looked_up}
+use Rattle.ucd_files.proofs.tables.Tables.mirror.Goals as goal
+
+pub returns : goal.returns
+returns c =
+    looked_up c.self.inside.mirror.items c.deref.result.now c.args.c None c.at.result c.at.ensures c.deref.ensures.value (omega (arith, c.ranges.c))
+    ∙ ap (λ tables. mirror_of tables c.args.c) c.self.view_is

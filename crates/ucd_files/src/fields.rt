@@ -1,0 +1,150 @@
+//! What a line says, by the fields that its file names.
+
+ghost use Rattle.std.specs.Prelude.{◌≡◌, ◌++◌};
+ghost use Rattle.ucd_files.specs.Names.{named, rows};
+ghost use Rattle.ucd_files.specs.BracketKind.{bracket_kind};
+ghost use Rattle.ucd_files.specs.Fields.{line_by, property_fields, bracket_fields, mirror_fields, missing_fields, property_missing};
+
+use crate::code::{code, has_dots, range, scalar};
+use crate::entry::Entry;
+use crate::fault::Cause;
+use crate::line::{has_two_fields, next_field, text_and_comment};
+use crate::names::{value_named, value_of};
+use crate::value::Bracket;
+
+/// The fields of bidi, lb and ea.
+#[tactic(auto, unfolding(crate::specs::Fields::property_fields))]
+fn property_fields<V: Copy>(names: &[(&[u8], V)], text: &[u8]) -> Result<Entry<V>, Cause>
+    ensures { result ≡ property_fields (named (rows names.now)) text.now }
+{
+    let (codes, rest) = next_field(text);
+    let (name, _) = next_field(rest);
+    if codes.is_empty() || name.is_empty() {
+        return Err(Cause::MissingField);
+    }
+    let (first, last) = range(codes)?;
+    let value = value_named(names, name).ok_or(Cause::UnknownValue)?;
+    Ok(Entry { first, last, value })
+}
+
+/// A line of bidi, lb or ea.
+pub(crate) fn property_line<V: Copy>(
+    names: &[(&[u8], V)],
+    line: &[u8],
+) -> Result<Option<Entry<V>>, Cause>
+    ensures { result ≡ line_by (property_fields (named (rows names.now))) line.now }
+{
+    let (text, _) = text_and_comment(line);
+    if text.is_empty() {
+        return Ok(None);
+    }
+    Ok(Some(property_fields(names, text)?))
+}
+
+/// The fields of an `@missing` line.
+#[tactic(auto, unfolding(crate::specs::Fields::missing_fields))]
+fn missing_fields<V: Copy>(
+    names: &[(&[u8], V)],
+    long_names: &[(&[u8], V)],
+    text: &[u8],
+) -> Option<Entry<V>>
+    ensures { result ≡ missing_fields (named (rows names.now ++ rows long_names.now)) text.now }
+{
+    let (codes, rest) = next_field(text);
+    let (name, _) = next_field(rest);
+    if !has_two_fields(text) || !has_dots(codes) {
+        return None;
+    }
+    let (first, last) = range(codes).ok()?;
+    let value = value_of(names, long_names, name)?;
+    Some(Entry { first, last, value })
+}
+
+/// The default that the comment of a line of bidi, lb or ea gives.
+#[tactic(auto, unfolding(crate::specs::Fields::property_missing))]
+pub(crate) fn property_missing<V: Copy>(
+    names: &[(&[u8], V)],
+    long_names: &[(&[u8], V)],
+    line: &[u8],
+) -> Option<Entry<V>>
+    ensures { result ≡ property_missing (named (rows names.now ++ rows long_names.now)) line.now }
+{
+    let (_, comment) = text_and_comment(line);
+    missing_fields(names, long_names, comment.strip_prefix(b"@missing:")?)
+}
+
+/// The third field of brackets, with the paired character.
+#[tactic(auto, unfolding(crate::specs::BracketKind::bracket_kind))]
+fn bracket_kind(kind: &[u8], paired: char) -> Option<Bracket>
+    ensures { result ≡ bracket_kind kind.now paired }
+{
+    if kind == b"o".as_slice() {
+        return Some(Bracket::Open(paired));
+    }
+    if kind == b"c".as_slice() {
+        return Some(Bracket::Close(paired));
+    }
+    None
+}
+
+/// The fields of brackets.
+#[tactic(auto, unfolding(crate::specs::Fields::bracket_fields))]
+fn bracket_fields(text: &[u8]) -> Result<Entry<Bracket>, Cause>
+    ensures { result ≡ bracket_fields bracket_kind text.now }
+{
+    let (own, rest) = next_field(text);
+    let (paired, rest) = next_field(rest);
+    let (kind, _) = next_field(rest);
+    if own.is_empty() || paired.is_empty() || kind.is_empty() {
+        return Err(Cause::MissingField);
+    }
+    let own = code(own).ok_or(Cause::BadCode)?;
+    let paired = scalar(paired).ok_or(Cause::BadCode)?;
+    let value = bracket_kind(kind, paired).ok_or(Cause::UnknownValue)?;
+    Ok(Entry {
+        first: own,
+        last: own,
+        value,
+    })
+}
+
+/// A line of brackets.
+pub(crate) fn bracket_line(line: &[u8]) -> Result<Option<Entry<Bracket>>, Cause>
+    ensures { result ≡ line_by (bracket_fields bracket_kind) line.now }
+{
+    let (text, _) = text_and_comment(line);
+    if text.is_empty() {
+        return Ok(None);
+    }
+    Ok(Some(bracket_fields(text)?))
+}
+
+/// The fields of mirror.
+#[tactic(auto, unfolding(crate::specs::Fields::mirror_fields))]
+fn mirror_fields(text: &[u8]) -> Result<Entry<Option<char>>, Cause>
+    ensures { result ≡ mirror_fields text.now }
+{
+    let (own, rest) = next_field(text);
+    let (mirrored, _) = next_field(rest);
+    if own.is_empty() || mirrored.is_empty() {
+        return Err(Cause::MissingField);
+    }
+    let own = code(own).ok_or(Cause::BadCode)?;
+    let mirrored = scalar(mirrored).ok_or(Cause::BadCode)?;
+    Ok(Entry {
+        first: own,
+        last: own,
+        value: Some(mirrored),
+    })
+}
+
+/// A line of mirror.
+pub(crate) fn mirror_line(line: &[u8]) -> Result<Option<Entry<Option<char>>>, Cause>
+    ensures { result ≡ line_by mirror_fields line.now }
+{
+    let (text, _) = text_and_comment(line);
+    if text.is_empty() {
+        return Ok(None);
+    }
+    Ok(Some(mirror_fields(text)?))
+}

@@ -1,0 +1,236 @@
+use super::*;
+use bg_types::{Bidi, Ea, Lb};
+use std::alloc::Global;
+use std::test::Fail;
+
+/// Loads one file beside four empty ones.
+fn load(alloc: Global, file: UcdFile, bytes: &[u8]) -> Result<Tables, UcdFault> {
+    match file {
+        UcdFile::Bidi => Tables::load(alloc, bytes, b"", b"", b"", b""),
+        UcdFile::Brackets => Tables::load(alloc, b"", bytes, b"", b"", b""),
+        UcdFile::Mirror => Tables::load(alloc, b"", b"", bytes, b"", b""),
+        UcdFile::Lb => Tables::load(alloc, b"", b"", b"", bytes, b""),
+        UcdFile::Ea => Tables::load(alloc, b"", b"", b"", b"", bytes),
+    }
+}
+
+#[test]
+fn a_faulty_line_is_named(rt: HostRuntime) {
+    let rows: [(UcdFile, &[u8], usize, Cause); 37] = [
+        (UcdFile::Bidi, b"41;L", 1, Cause::BadCode),
+        (UcdFile::Bidi, b"110000;L", 1, Cause::BadCode),
+        (UcdFile::Bidi, b"0042..0041;L", 1, Cause::BadRange),
+        (UcdFile::Bidi, b"0041", 1, Cause::MissingField),
+        (UcdFile::Bidi, b"0041;Q", 1, Cause::UnknownValue),
+        (UcdFile::Bidi, b"41;L\n\xFF", 2, Cause::BadUtf8),
+        (UcdFile::Brackets, b"0028; 0029; x", 1, Cause::UnknownValue),
+        (UcdFile::Brackets, b"0028; 0029", 1, Cause::MissingField),
+        (UcdFile::Mirror, b"0028; D800", 1, Cause::BadCode),
+        (UcdFile::Mirror, b"0028..0029; 0029", 1, Cause::BadCode),
+        (UcdFile::Brackets, b"0028..0029; 0029; o", 1, Cause::BadCode),
+        (UcdFile::Brackets, b"0028; DFFF; o", 1, Cause::BadCode),
+        (UcdFile::Brackets, b"0028; 29; x", 1, Cause::BadCode),
+        (UcdFile::Brackets, b"0028; ; o", 1, Cause::MissingField),
+        (UcdFile::Brackets, b"0028; 0029; O", 1, Cause::UnknownValue),
+        (UcdFile::Mirror, b"0028;", 1, Cause::MissingField),
+        (UcdFile::Mirror, b"0028; 110000", 1, Cause::BadCode),
+        (UcdFile::Bidi, b"0000041;L", 1, Cause::BadCode),
+        (UcdFile::Bidi, b"00G1;L", 1, Cause::BadCode),
+        (UcdFile::Bidi, b"0041...0042;L", 1, Cause::BadCode),
+        (UcdFile::Bidi, b"0041.0042;L", 1, Cause::BadCode),
+        (UcdFile::Bidi, b"0041 ..0042;L", 1, Cause::BadCode),
+        (UcdFile::Bidi, b"0041..;L", 1, Cause::BadCode),
+        (UcdFile::Bidi, b"0041\r;L", 1, Cause::BadCode),
+        (UcdFile::Bidi, b";L", 1, Cause::MissingField),
+        (UcdFile::Bidi, b"0041; \t", 1, Cause::MissingField),
+        (UcdFile::Bidi, b"41..40;", 1, Cause::MissingField),
+        (UcdFile::Bidi, b"0042..41;Q", 1, Cause::BadCode),
+        (UcdFile::Bidi, b"0042..0041;Q", 1, Cause::BadRange),
+        (UcdFile::Bidi, b"0041;l", 1, Cause::UnknownValue),
+        (UcdFile::Bidi, b"0041;Left_To_Right", 1, Cause::UnknownValue),
+        (
+            UcdFile::Lb,
+            b"0041;AL\n\n# x\n0042;AK\n0043",
+            4,
+            Cause::UnknownValue,
+        ),
+        (UcdFile::Ea, b"0041;Na\r\n0042\r\n", 2, Cause::MissingField),
+        (UcdFile::Ea, b"\n\n\n0041;NA", 4, Cause::UnknownValue),
+        (UcdFile::Lb, b"0041;AL # \xE2\x28\n41;AL", 1, Cause::BadUtf8),
+        (UcdFile::Lb, b"41;AL\n\n\xE2", 3, Cause::BadUtf8),
+        (UcdFile::Mirror, b"41;29\n\xC0\x80", 2, Cause::BadUtf8),
+    ];
+    for (file, bytes, line, cause) in rows {
+        let want = UcdFault::At { file, line, cause };
+        assert_eq!(rt;
+            load(rt.alloc(), file, bytes).err(),
+            Some(want),
+            "at {bytes:?}"
+        );
+    }
+}
+
+#[test]
+fn bidi_classes(rt: HostRuntime) -> Result<(), Fail> {
+    let rows: [(&[u8], char, Bidi); 31] = [
+        (b"0041..005A;L\n0041 ; R", 'A', Bidi::R),
+        (b"0041..005A;L\n0041 ; R", 'B', Bidi::L),
+        (b"# @missing: 0590..05FF; Right_To_Left", '\u{5D0}', Bidi::R),
+        (b"# @missing: 0590..05FF; Right_To_Left", 'A', Bidi::L),
+        (b"# @missing: 0590..05FF; Nothing", '\u{5D0}', Bidi::L),
+        (b"", 'A', Bidi::L),
+        (b"0041..0043;R", '@', Bidi::L),
+        (b"0041..0043;R", 'A', Bidi::R),
+        (b"0041..0043;R", 'C', Bidi::R),
+        (b"0041..0043;R", 'D', Bidi::L),
+        (b"10FFFE..10FFFF;BN", '\u{10FFFF}', Bidi::Bn),
+        (b"\t0041\t;\tEN ; and more; of it\t# x\r\n", 'A', Bidi::En),
+        (b"00e9;R", '\u{E9}', Bidi::R),
+        (b"1f600..1F64f;ON", '\u{1F600}', Bidi::On),
+        (b"01f600..01F64F;ON", '\u{1F64F}', Bidi::On),
+        (b"# @missing: 0590..05FF; R", '\u{590}', Bidi::R),
+        (b"# @missing: 0590..05FF; R", '\u{5FF}', Bidi::R),
+        (b"#@missing:0590..05FF;R", '\u{5D0}', Bidi::R),
+        (b"0041;L # @missing: 0590..05FF; R", '\u{5D0}', Bidi::R),
+        (b"# @missing: 0590..05FF; R; x", '\u{5D0}', Bidi::L),
+        (b"# @missing: 05D0; R", '\u{5D0}', Bidi::L),
+        (b"# @missing: 05FF..0590; R", '\u{5D0}', Bidi::L),
+        (b"# @missing: 590..05FF; R", '\u{5D0}', Bidi::L),
+        (b"# @missing : 0590..05FF; R", '\u{5D0}', Bidi::L),
+        (b"# x @missing: 0590..05FF; R", '\u{5D0}', Bidi::L),
+        (b"# @missing: 0590..05FF; R # x", '\u{5D0}', Bidi::L),
+        (b"05D0;EN\n# @missing: 0590..05FF; R", '\u{5D0}', Bidi::En),
+        (b"05D0;EN\n# @missing: 0590..05FF; R", '\u{5D1}', Bidi::R),
+        (
+            b"# @missing: 0590..05FF; R\n# @missing: 05D0..05D0; Arabic_Letter",
+            '\u{5D0}',
+            Bidi::Al,
+        ),
+        (
+            b"# @missing: 05D0..05D0; AL\n# @missing: 0590..05FF; R",
+            '\u{5D0}',
+            Bidi::R,
+        ),
+        (b"D800..DFFF;R", '\u{D7FF}', Bidi::L),
+    ];
+    for (bytes, c, want) in rows {
+        let tables = load(rt.alloc(), UcdFile::Bidi, bytes)?;
+        assert_eq!(rt; tables.bidi(c), want, "at {c:?} in {bytes:?}");
+    }
+    Ok(())
+}
+
+#[test]
+fn break_classes_and_widths(rt: HostRuntime) -> Result<(), Fail> {
+    let lines = load(
+        rt.alloc(),
+        UcdFile::Lb,
+        b"# @missing: 4E00..9FFF; Ideographic",
+    )?;
+    assert_eq!(rt; lines.lb('\u{4E16}'), Lb::Id);
+    assert_eq!(rt; lines.lb('a'), Lb::Xx);
+    let long: &[u8] = b"0000..10FFFF;AL\n# @missing: 20A0..20CF; Prefix_Numeric\n20AC;ZWJ";
+    let lines = load(rt.alloc(), UcdFile::Lb, long)?;
+    assert_eq!(rt; lines.lb('\u{20A0}'), Lb::Al);
+    assert_eq!(rt; lines.lb('\u{20AC}'), Lb::Zwj);
+    let other: &[u8] =
+        b"# @missing: 20A0..20CF; Prefix_Numeric\n# @missing: 0041..0041; Alphabetic";
+    let lines = load(rt.alloc(), UcdFile::Lb, other)?;
+    assert_eq!(rt; lines.lb('\u{20CF}'), Lb::Pr);
+    assert_eq!(rt; lines.lb('A'), Lb::Xx);
+    let widths = load(rt.alloc(), UcdFile::Ea, b"# x\r\n\r\n0041 ; Na # y\r\n")?;
+    assert_eq!(rt; widths.ea('A'), Ea::Na);
+    assert_eq!(rt; widths.ea('B'), Ea::N);
+    let wide: &[u8] = b"# @missing: 3400..4DBF; Wide\n3400;A";
+    let widths = load(rt.alloc(), UcdFile::Ea, wide)?;
+    assert_eq!(rt; widths.ea('\u{4DBF}'), Ea::W);
+    assert_eq!(rt; widths.ea('\u{3400}'), Ea::A);
+    Ok(())
+}
+
+#[test]
+fn brackets_and_mirrors(rt: HostRuntime) -> Result<(), Fail> {
+    let small: &[u8] = b"0028; 0029; o # LEFT\n0029;0028;c;x\n# @missing: 0041..0042; o";
+    let tables = load(rt.alloc(), UcdFile::Brackets, small)?;
+    assert_eq!(rt; tables.bracket('('), Bracket::Open(')'));
+    assert_eq!(rt; tables.bracket(')'), Bracket::Close('('));
+    assert_eq!(rt; tables.bracket('A'), Bracket::None);
+    let small: &[u8] = b"0028; 0029\r\nd800; 0041\n003C; 10FFFF # x";
+    let tables = load(rt.alloc(), UcdFile::Mirror, small)?;
+    assert_eq!(rt; tables.mirror('('), Some(')'));
+    assert_eq!(rt; tables.mirror('<'), Some('\u{10FFFF}'));
+    assert_eq!(rt; tables.mirror(')'), None);
+    Ok(())
+}
+
+#[test]
+fn the_first_faulty_file_decides(rt: HostRuntime) {
+    let both = Tables::load(rt.alloc(), b"", b"", b"0028", b"\xFF", b"");
+    let want = UcdFault::At {
+        file: UcdFile::Mirror,
+        line: 1,
+        cause: Cause::MissingField,
+    };
+    assert_eq!(rt; both.err(), Some(want));
+    let both = Tables::load(rt.alloc(), b"\n41;L", b"\xFF", b"", b"", b"");
+    let want = UcdFault::At {
+        file: UcdFile::Bidi,
+        line: 2,
+        cause: Cause::BadCode,
+    };
+    assert_eq!(rt; both.err(), Some(want));
+}
+
+#[test]
+fn the_small_files_load(rt: HostRuntime) -> Result<(), Fail> {
+    let tables = Tables::load(
+        rt.alloc(),
+        vectors::BIDI,
+        vectors::BRACKETS,
+        vectors::MIRROR,
+        vectors::LB,
+        vectors::EA,
+    )?;
+    assert_eq!(rt; tables.bidi('\u{5D0}'), Bidi::R);
+    assert_eq!(rt; tables.bidi('\u{627}'), Bidi::Al);
+    assert_eq!(rt; tables.bidi('\u{202E}'), Bidi::Rlo);
+    assert_eq!(rt; tables.bidi('\u{10FFFF}'), Bidi::L);
+    assert_eq!(rt; tables.bracket('\u{2329}'), Bracket::Open('\u{232A}'));
+    assert_eq!(rt; tables.bracket('}'), Bracket::Close('{'));
+    assert_eq!(rt; tables.mirror('<'), Some('>'));
+    assert_eq!(rt; tables.lb('\u{5D0}'), Lb::Hl);
+    assert_eq!(rt; tables.lb('\u{4E16}'), Lb::Id);
+    assert_eq!(rt; tables.lb('\u{5FF}'), Lb::Xx);
+    assert_eq!(rt; tables.ea('\u{3B1}'), Ea::A);
+    assert_eq!(rt; tables.ea('\u{4E16}'), Ea::W);
+    assert_eq!(rt; tables.ea('\u{5D0}'), Ea::N);
+    Ok(())
+}
+
+#[test]
+fn faults_print_their_names(rt: HostRuntime) -> Result<(), Fail> {
+    let rows = [
+        (Cause::BadUtf8, 1, "BadUtf8", UcdFile::Bidi, "bidi"),
+        (Cause::BadCode, 2, "BadCode", UcdFile::Brackets, "brackets"),
+        (Cause::BadRange, 3, "BadRange", UcdFile::Mirror, "mirror"),
+        (Cause::MissingField, 4, "MissingField", UcdFile::Lb, "lb"),
+        (Cause::UnknownValue, 5, "UnknownValue", UcdFile::Ea, "ea"),
+    ];
+    for (cause, code, name, file, spelled) in rows {
+        let fault = UcdFault::At {
+            file,
+            line: 12,
+            cause,
+        };
+        let text = format!(in rt.alloc(); "{cause} {file}, {fault}")?;
+        let want = format!(in rt.alloc(); "{name} {spelled}, {spelled} line 12: {name}")?;
+        assert_eq!(rt; text.as_str(), want.as_str());
+        assert_eq!(rt; fault.code(), code);
+    }
+    assert_eq!(rt;
+        format!(in rt.alloc(); "{}", UcdFault::Memory)?.as_str(),
+        "Memory"
+    );
+    assert_eq!(rt; UcdFault::Memory.code(), 9);
+    Ok(())
+}
