@@ -1,0 +1,9 @@
+pub mod KeptSets
+pub mod Placing
+pub mod Spelled
+pub mod Taking
+pub mod Answered
+pub mod Sizes
+pub mod Refusals
+pub mod OneCause
+pub mod OneAnswer

@@ -1,0 +1,26 @@
+-- The numbers of faults, and the statuses that they end the program with.
+use Rattle.std.specs.Prelude.{ℕ}
+use Rattle.replay_cli.specs.declared.fault.TakeFault.{TakeFault}
+use Rattle.replay_cli.specs.declared.fault.TakeFault.TheVariants as take
+use Rattle.replay_cli.specs.declared.fault.RunFault.{RunFault}
+use Rattle.replay_cli.specs.declared.fault.RunFault.TheVariants as run
+
+abbrev pub take_code : TakeFault → ℕ
+take_code take.IdentifierReused = 1
+take_code take.Full = 2
+take_code take.Memory = 9
+
+abbrev pub run_code : RunFault → ℕ
+run_code (run.File file fault) = 2
+run_code (run.Step line desk fault) = 4
+run_code run.Device = 7
+run_code (run.ReadFailed file) = 8
+run_code run.Memory = 9
+
+-- 1 for faulty data or a refused step, 3 for a device, a file that can't be read, or want of memory
+abbrev pub status_of : RunFault → ℕ
+status_of (run.File file fault) = 1
+status_of (run.Step line desk fault) = 1
+status_of run.Device = 3
+status_of (run.ReadFailed file) = 3
+status_of run.Memory = 3

@@ -1,0 +1,130 @@
+//! Why a run ended early.
+
+ghost use Rattle.std.specs.Prelude.{◌≡◌};
+ghost use Rattle.replay_cli.specs.Fault.{take_code, run_code, status_of};
+ghost use Rattle.replay_cli.specs.declared.fault.RunFault.TheVariants.{Memory as run_memory, Device as run_device};
+
+use bg_types::{Device, Memory};
+use op_codec::CodecFault;
+use std::alloc::{AllocError, AllocFailed};
+use std::error::Error;
+use std::fmt;
+
+/// Why a desk refused an operation. Each prints its bare name.
+#[derive(Clone, Copy, Debug, PartialEq, Eq, Hash, thiserror::Error)]
+pub enum TakeFault {
+    /// An insertion whose identifier is kept with another parent or character.
+    #[error("IdentifierReused")]
+    IdentifierReused,
+    /// A new operation while 1,000,000 are kept.
+    #[error("Full")]
+    Full,
+    /// A growth was refused.
+    #[error("Memory")]
+    Memory,
+}
+
+impl TakeFault {
+    /// The number of this fault: 1, 2 or 9.
+    pub fn code(self) -> u8
+        ensures { result ≡ take_code self }
+    {
+        match self {
+            TakeFault::IdentifierReused => 1,
+            TakeFault::Full => 2,
+            TakeFault::Memory => 9,
+        }
+    }
+}
+
+/// Why a run ended early. Files, frames and desks are counted from 1; frame 0 is a file's header,
+/// and line 0 stands for no schedule. Each prints as the line on standard error says it, without
+/// the program's name.
+#[derive(Clone, Copy, Debug, PartialEq, Eq, Hash)]
+pub enum RunFault {
+    /// An operation file is faulty: its number and its first fault.
+    File(usize, CodecFault),
+    /// A step was refused: the line of the schedule, the desk, and why.
+    Step(usize, usize, TakeFault),
+    /// A write failed.
+    Device,
+    /// A file can't be read: its number, or 0 where the program reads it before the run.
+    ReadFailed(usize),
+    /// A growth was refused.
+    Memory,
+}
+
+impl fmt::Display for RunFault {
+    fn fmt<W: fmt::Write>(&self, f: &mut fmt::Formatter<W>) -> fmt::Result {
+        match self {
+            RunFault::File(file, fault) => {
+                let frame = fault.frame().unwrap_or(0);
+                write!(f, "file {file} frame {frame}: {fault}")
+            }
+            RunFault::Step(line, desk, fault) => write!(f, "step line {line} desk {desk}: {fault}"),
+            RunFault::Device => write!(f, "device"),
+            RunFault::ReadFailed(file) => write!(f, "cannot read file {file}"),
+            RunFault::Memory => write!(f, "memory"),
+        }
+    }
+}
+
+impl Error for RunFault {}
+
+impl RunFault {
+    /// The number of this fault: 2, 4, 7, 8 or 9.
+    pub fn code(&self) -> u8
+        ensures { result ≡ run_code self.now }
+    {
+        match self {
+            RunFault::File(..) => 2,
+            RunFault::Step(..) => 4,
+            RunFault::Device => 7,
+            RunFault::ReadFailed(_) => 8,
+            RunFault::Memory => 9,
+        }
+    }
+}
+
+/// The status that the program ends with: 1 for faulty data or a refused step, 3 for a device, a
+/// file that can't be read, or want of memory.
+pub fn status(fault: &RunFault) -> u8
+    ensures { result ≡ status_of fault.now }
+{
+    match fault {
+        RunFault::File(..) | RunFault::Step(..) => 1,
+        RunFault::Device | RunFault::ReadFailed(_) | RunFault::Memory => 3,
+    }
+}
+
+impl From<AllocError> for RunFault {
+    ghost from_gives = { λ _ e. e ≡ run_memory };
+
+    fn from(_error: AllocError) -> RunFault {
+        RunFault::Memory
+    }
+}
+
+impl<T: Drop> From<AllocFailed<T>> for RunFault {
+    ghost from_gives = { λ _ e. e ≡ run_memory };
+
+    fn from(_error: AllocFailed<T>) -> RunFault {
+        RunFault::Memory
+    }
+}
+
+impl From<Memory> for RunFault {
+    ghost from_gives = { λ _ e. e ≡ run_memory };
+
+    fn from(_error: Memory) -> RunFault {
+        RunFault::Memory
+    }
+}
+
+impl From<Device> for RunFault {
+    ghost from_gives = { λ _ e. e ≡ run_device };
+
+    fn from(_error: Device) -> RunFault {
+        RunFault::Device
+    }
+}

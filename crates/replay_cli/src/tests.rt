@@ -1,0 +1,169 @@
+//! What no clause says: the command line, the lines on standard error, and statuses.
+
+use super::*;
+use bg_types::Stops;
+use op_codec::{Cause, CodecFault};
+use std::alloc::Global;
+use std::test::Fail;
+
+/// A command line as the program gets it.
+fn line(alloc: Global, words: &[&str]) -> Result<Vec<String>, Fail> {
+    let mut line = Vec::new(alloc);
+    for word in words {
+        line.push(String::from_str(alloc, word)?)?;
+    }
+    Ok(line)
+}
+
+#[test]
+fn text_takes_files_in_order(rt: HostRuntime) -> Result<(), Fail> {
+    let words = line(rt.alloc(), &["bidigrid", "text", "b", "a", "b"])?;
+    let Ok(Job::Text { files }) = job(rt.alloc(), words.as_slice()) else {
+        return Err(Fail::from("no job"));
+    };
+    assert_eq!(rt; files.as_slice(), ["b", "a", "b"].as_slice());
+    Ok(())
+}
+
+/// What a command line comes to: how many files it names, or why it names none.
+fn outcome(alloc: Global, words: &[String]) -> Result<usize, &'static str> {
+    match job(alloc, words) {
+        Ok(Job::Text { files }) => Ok(files.len()),
+        Err(stop) => match stop {
+            Stop::Help(_text) => Err("help"),
+            Stop::Usage(_text) => Err("usage"),
+            Stop::Memory => Err("memory"),
+        },
+    }
+}
+
+#[test]
+fn a_run_has_one_to_64_files(rt: HostRuntime) -> Result<(), Fail> {
+    for (count, wanted) in [
+        (0, Err("usage")),
+        (1, Ok(1)),
+        (64, Ok(64)),
+        (65, Err("usage")),
+    ] {
+        let mut words = line(rt.alloc(), &["bidigrid", "text"])?;
+        for _ in 0..count {
+            words.push(String::from_str(rt.alloc(), "file")?)?;
+        }
+        assert_eq!(rt;
+            outcome(rt.alloc(), words.as_slice()),
+            wanted,
+            "{count} files"
+        );
+    }
+    Ok(())
+}
+
+#[test]
+fn wrong_words_are_a_usage_fault_and_help_is_none(rt: HostRuntime) -> Result<(), Fail> {
+    let rows: [(&[&str], &str); 7] = [
+        (&["bidigrid"], "usage"),
+        (&["bidigrid", "paint"], "usage"),
+        (&["bidigrid", "text"], "usage"),
+        (&["bidigrid", "text", "--width", "4", "file"], "usage"),
+        (&["bidigrid", "--help"], "help"),
+        (&["bidigrid", "text", "--help"], "help"),
+        (&["bidigrid", "help", "text"], "help"),
+    ];
+    for (words, wanted) in rows {
+        let words = line(rt.alloc(), words)?;
+        assert_eq!(rt;
+            outcome(rt.alloc(), words.as_slice()),
+            Err(wanted),
+            "{words:?}"
+        );
+    }
+    Ok(())
+}
+
+/// The faults with their lines, statuses and numbers.
+fn rows() -> [(RunFault, &'static str, u8, u8); 7] {
+    let truncated = CodecFault::Malformed {
+        frame: 12,
+        cause: Cause::Truncated,
+    };
+    let header = CodecFault::Malformed {
+        frame: 0,
+        cause: Cause::BadMagic,
+    };
+    [
+        (
+            RunFault::File(3, truncated),
+            "bidigrid: file 3 frame 12: Truncated\n",
+            1,
+            2,
+        ),
+        (
+            RunFault::File(64, header),
+            "bidigrid: file 64 frame 0: BadMagic\n",
+            1,
+            2,
+        ),
+        (
+            RunFault::Step(0, 1, TakeFault::IdentifierReused),
+            "bidigrid: step line 0 desk 1: IdentifierReused\n",
+            1,
+            4,
+        ),
+        (
+            RunFault::Step(7, 2, TakeFault::Full),
+            "bidigrid: step line 7 desk 2: Full\n",
+            1,
+            4,
+        ),
+        (RunFault::Device, "bidigrid: device\n", 3, 7),
+        (
+            RunFault::ReadFailed(0),
+            "bidigrid: cannot read some/path\n",
+            3,
+            8,
+        ),
+        (RunFault::Memory, "bidigrid: memory\n", 3, 9),
+    ]
+}
+
+#[test]
+fn each_fault_has_its_line_and_its_status(rt: HostRuntime) -> Result<(), Fail> {
+    for (fault, wanted, ends_with, code) in rows() {
+        let mut written = Vec::new(rt.alloc());
+        let done = report(&fault, "some/path", &mut Out::new(&mut written));
+        assert_eq!(rt; done, Ok(()));
+        assert_eq!(rt; str::from_utf8(written.as_slice()).ok(), Some(wanted));
+        assert_eq!(rt;
+            (status(&fault), fault.code()),
+            (ends_with, code),
+            "{wanted}"
+        );
+    }
+    Ok(())
+}
+
+#[test]
+fn a_line_that_can_not_be_written_is_a_device_fault(rt: HostRuntime) {
+    for (fault, line, _, _) in rows() {
+        for taken in 0..line.len() {
+            let mut written = Vec::new(rt.alloc());
+            let done = {
+                let mut err = Stops::new(Out::new(&mut written), 3, taken);
+                report(&fault, "some/path", &mut err)
+            };
+            assert_eq!(rt; done.is_err(), true, "{line}");
+            assert_eq!(rt; written.as_slice(), &line.as_bytes()[..taken], "{line}");
+        }
+    }
+}
+
+#[test]
+fn refusals_have_their_numbers(rt: HostRuntime) {
+    let codes = [
+        TakeFault::IdentifierReused,
+        TakeFault::Full,
+        TakeFault::Memory,
+    ]
+    .map(|f| f.code());
+    assert_eq!(rt; codes, [1, 2, 9]);
+}
