@@ -1,0 +1,5 @@
+pub mod Slices
+pub mod Cutting
+pub mod Pieces
+pub mod ClusterPlaces
+pub mod Splitting

@@ -1,0 +1,33 @@
+-- ClustersAndColumns, its second half: the columns of a cluster, by cases in their order.
+use Rattle.std.specs.Prelude.{ℕ, Bool, false, ◌==◌, ◌||◌, if◌then◌else◌, List, [], ◌∷◌}
+use Rattle.std.specs.List.{list_all, list_any}
+use Rattle.ucd_files.specs.Tables.{TableValues, bidi_of, lb_of, ea_of}
+use Rattle.paragraphs.specs.Classes.{is_separator, is_removed, is_isolate_control, is_line_end, is_wide}
+
+-- c has Bidi class B or break class BK, CR, LF or NL
+abbrev pub ends_line : TableValues → ℕ → Bool
+ends_line tables c = is_separator (bidi_of tables c) || is_line_end (lb_of tables c)
+
+-- the first of these code points is such a one
+abbrev pub begins_with_end : TableValues → List ℕ → Bool
+begins_with_end tables [] = false
+begins_with_end tables (c ∷ rest) = ends_line tables c
+
+-- the marks of direction, which are named by their code points: LRM, RLM and ALM
+abbrev pub is_direction_mark : ℕ → Bool
+is_direction_mark c = c == 0x200E || c == 0x200F || c == 0x61C
+
+-- c has an X9 class, is an isolate control by its class or is a mark of direction
+abbrev pub is_invisible : TableValues → ℕ → Bool
+is_invisible tables c = is_removed (bidi_of tables c) || is_isolate_control (bidi_of tables c) || is_direction_mark c
+
+-- c is East Asian W or F
+abbrev pub takes_two : TableValues → ℕ → Bool
+takes_two tables c = is_wide (ea_of tables c)
+
+-- the columns of a cluster of these code points
+abbrev pub columns_of : TableValues → List ℕ → ℕ
+columns_of tables cluster =
+    if begins_with_end tables cluster then 0
+    else (if list_all (is_invisible tables) cluster then 0
+    else (if list_any (takes_two tables) cluster then 2 else 1))

@@ -1,0 +1,5 @@
+pub mod Text
+pub mod Classes
+pub mod Paragraphs
+pub mod Clusters
+pub mod Columns

@@ -1,0 +1,54 @@
+//! Sets of character classes.
+
+ghost use Rattle.std.specs.Prelude.{◌≡◌};
+ghost use Rattle.paragraphs.specs.Classes.{is_separator, is_removed, is_isolate_control, is_line_end, is_wide};
+
+use bg_types::{Bidi, Ea, Lb};
+
+/// Whether a character of this class ends a paragraph (P1).
+#[inline]
+#[tactic(auto, unfolding(crate::specs::Classes::is_separator))]
+pub(crate) fn is_separator(class: Bidi) -> bool
+    ensures { result ≡ is_separator class }
+{
+    matches!(class, Bidi::B)
+}
+
+/// Whether X9 removes a character of this class.
+#[inline]
+#[tactic(auto, unfolding(crate::specs::Classes::is_removed))]
+pub(crate) fn is_removed(class: Bidi) -> bool
+    ensures { result ≡ is_removed class }
+{
+    matches!(
+        class,
+        Bidi::Rle | Bidi::Lre | Bidi::Rlo | Bidi::Lro | Bidi::Pdf | Bidi::Bn
+    )
+}
+
+/// Whether the class is that of an isolate's initiator or of what ends it (BD8).
+#[inline]
+#[tactic(auto, unfolding(crate::specs::Classes::is_isolate_control))]
+pub(crate) fn is_isolate_control(class: Bidi) -> bool
+    ensures { result ≡ is_isolate_control class }
+{
+    matches!(class, Bidi::Lri | Bidi::Rli | Bidi::Fsi | Bidi::Pdi)
+}
+
+/// Whether a line must end behind a character of this class (LB4, LB5).
+#[inline]
+#[tactic(auto, unfolding(crate::specs::Classes::is_line_end))]
+pub(crate) fn is_line_end(class: Lb) -> bool
+    ensures { result ≡ is_line_end class }
+{
+    matches!(class, Lb::Bk | Lb::Cr | Lb::Lf | Lb::Nl)
+}
+
+/// Whether a character of this width takes two columns.
+#[inline]
+#[tactic(auto, unfolding(crate::specs::Classes::is_wide))]
+pub(crate) fn is_wide(width: Ea) -> bool
+    ensures { result ≡ is_wide width }
+{
+    matches!(width, Ea::W | Ea::F)
+}

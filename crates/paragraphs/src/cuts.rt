@@ -1,0 +1,58 @@
+//! Where paragraphs end (P1).
+
+ghost use Rattle.std.specs.Prelude.{◌≡◌, IfOk, map};
+ghost use Rattle.std.specs.List.{All, concat};
+ghost use Rattle.ucd_files.specs.Tables.{bidi_of};
+ghost use Rattle.paragraphs.specs.Text.{code_points};
+ghost use Rattle.paragraphs.specs.Paragraphs.{begins_with_line_feed, ends_paragraph, paragraphs, StandsIn};
+
+use crate::class::is_separator;
+use crate::para::Para;
+use bg_types::Memory;
+use std::alloc::Global;
+use ucd_files::Tables;
+
+/// Whether a text begins with a U+000A of class B.
+#[inline]
+fn begins_with_line_feed(tables: &Tables, text: &str) -> bool
+    ensures { result ≡ begins_with_line_feed (bidi_of tables.now) (code_points text.now) }
+{
+    match text.chars().next() {
+        Some(c) => c == '\n' && is_separator(tables.bidi(c)),
+        None => false,
+    }
+}
+
+/// Whether a character, directly before `rest`, ends a paragraph.
+#[inline]
+fn ends_paragraph(tables: &Tables, c: char, rest: &str) -> bool
+    ensures { result ≡ ends_paragraph (bidi_of tables.now) c (code_points rest.now) }
+{
+    is_separator(tables.bidi(c)) && !(c == '\r' && begins_with_line_feed(tables, rest))
+}
+
+/// The paragraphs of a text, in order (P1). The last one is empty where the text is empty or ends
+/// with a separator.
+pub fn split<'a>(alloc: Global, tables: &Tables, text: &'a str) -> Result<Vec<Para<'a>>, Memory>
+    ensures ok { IfOk result (λ v. v.items ≡ paragraphs tables.now text.now) }
+    ensures joined { IfOk result (λ v. concat (map (λ p. p.text) v.items) ≡ text.now) }
+    ensures slices { IfOk result (λ v. All (StandsIn text.now) v.items) }
+{
+    let mut paragraphs = Vec::new(alloc);
+    let mut first_byte = 0;
+    let mut first_place = 0;
+    let mut place = 0;
+    let mut chars = text.chars();
+    while let Some(c) = chars.next() {
+        place += 1;
+        let rest = chars.as_str();
+        if ends_paragraph(tables, c, rest) {
+            let end = text.len() - rest.len();
+            paragraphs.push(Para::new(&text[first_byte..end], first_byte, first_place))?;
+            first_byte = end;
+            first_place = place;
+        }
+    }
+    paragraphs.push(Para::new(&text[first_byte..], first_byte, first_place))?;
+    Ok(paragraphs)
+}

@@ -1,0 +1,17 @@
+//! A text as paragraphs, clusters and columns.
+#![tactic(auto)]
+
+mod class;
+mod cluster;
+mod cuts;
+pub mod laws;
+mod para;
+mod width;
+
+pub use cluster::Clusters;
+pub use cuts::split;
+pub use para::Para;
+pub use width::columns;
+
+#[cfg(test)]
+mod tests;

@@ -1,0 +1,71 @@
+//! A paragraph.
+
+ghost use Rattle.std.specs.Prelude.{◌≡◌, ◌<◌, length};
+ghost use Rattle.std.specs.List.{All, concat};
+ghost use Rattle.paragraphs.specs.Clusters.{clusters};
+
+use crate::cluster::Clusters;
+use std::marker::Model;
+
+/// A paragraph of a text.
+#[derive(Debug, Drop)]
+pub struct Para<'a> {
+    text: &'a str,
+    first_byte: usize,
+    first_place: usize,
+}
+
+impl<'a> Model for Para<'a> {
+    ghost use Rattle.paragraphs.specs.Paragraphs.{Paragraph};
+
+    ghost Value = { Paragraph };
+
+    ghost view = { λ p. record { text = p.text.now; first_byte = p.first_byte; first_place = p.first_place } };
+}
+
+impl<'a> Para<'a> {
+    #[inline]
+    pub(crate) fn new(text: &'a str, first_byte: usize, first_place: usize) -> Para<'a>
+        ensures { result ≡ record { text = text.now; first_byte = first_byte; first_place = first_place } }
+    {
+        Para {
+            text,
+            first_byte,
+            first_place,
+        }
+    }
+
+    /// The paragraph with its separator, as a slice of the text.
+    #[inline]
+    pub fn text(&self) -> &'a str
+        ensures { result.now ≡ self.now.text }
+    {
+        self.text
+    }
+
+    /// How many bytes of the text stand before it.
+    #[inline]
+    pub fn first_byte(&self) -> usize
+        ensures { result ≡ self.now.first_byte }
+    {
+        self.first_byte
+    }
+
+    /// How many code points of the text stand before it.
+    #[inline]
+    pub fn first_place(&self) -> usize
+        ensures { result ≡ self.now.first_place }
+    {
+        self.first_place
+    }
+
+    /// Its extended grapheme clusters, in order. The other paragraphs have no part in them.
+    #[inline]
+    pub fn clusters(&self) -> Clusters<'a>
+        ensures clusters { result ≡ clusters self.now.text }
+        ensures joined { concat result ≡ self.now.text }
+        ensures some { All (λ cluster. 0 < length cluster) result }
+    {
+        Clusters::of(self.text())
+    }
+}

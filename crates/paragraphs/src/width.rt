@@ -1,0 +1,66 @@
+//! The columns of a cluster.
+
+ghost use Rattle.std.specs.Prelude.{◌≡◌, ◌<◌, length};
+ghost use Rattle.std.specs.List.{list_all, list_any};
+ghost use Rattle.paragraphs.specs.Text.{code_points};
+ghost use Rattle.paragraphs.specs.Columns.{ends_line, begins_with_end, is_direction_mark, is_invisible, takes_two, columns_of};
+
+use crate::class::{is_isolate_control, is_line_end, is_removed, is_separator, is_wide};
+use ucd_files::Tables;
+
+/// The columns of a cluster, 0 to 2. It has none where it begins with what ends a line or a
+/// paragraph, or where each of its characters is invisible; and two where one of them is wide.
+pub fn columns(tables: &Tables, cluster: &str) -> u8
+    // At least one code point.
+    requires { 0 < length cluster.now }
+    ensures { result ≡ columns_of tables.now (code_points cluster.now) }
+{
+    if begins_with_end(tables, cluster) || is_invisible_throughout(tables, cluster) {
+        0
+    } else if has_wide(tables, cluster) {
+        2
+    } else {
+        1
+    }
+}
+
+/// Whether the first character ends a line or a paragraph.
+#[inline]
+fn begins_with_end(tables: &Tables, cluster: &str) -> bool
+    ensures { result ≡ begins_with_end tables.now (code_points cluster.now) }
+{
+    match cluster.chars().next() {
+        Some(c) => is_separator(tables.bidi(c)) || is_line_end(tables.lb(c)),
+        None => false,
+    }
+}
+
+#[inline]
+fn is_invisible_throughout(tables: &Tables, cluster: &str) -> bool
+    ensures { result ≡ list_all (is_invisible tables.now) (code_points cluster.now) }
+{
+    cluster.chars().all(|c| is_invisible(tables, c))
+}
+
+/// Whether X9 removes a character, or it is an isolate control or a mark of direction.
+#[inline]
+fn is_invisible(tables: &Tables, c: char) -> bool
+    ensures { result ≡ is_invisible tables.now c }
+{
+    let class = tables.bidi(c);
+    is_removed(class) || is_isolate_control(class) || is_direction_mark(c)
+}
+
+#[inline]
+fn is_direction_mark(c: char) -> bool
+    ensures { result ≡ is_direction_mark c }
+{
+    c == '\u{200E}' || c == '\u{200F}' || c == '\u{61C}'
+}
+
+#[inline]
+fn has_wide(tables: &Tables, cluster: &str) -> bool
+    ensures { result ≡ list_any (takes_two tables.now) (code_points cluster.now) }
+{
+    cluster.chars().any(|c| is_wide(tables.ea(c)))
+}

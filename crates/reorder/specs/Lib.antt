@@ -1,0 +1,5 @@
+pub mod VisualList
+pub mod VisualOrder
+pub mod Links
+pub mod LineLevels
+pub mod Mirrored

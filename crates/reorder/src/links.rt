@@ -1,0 +1,74 @@
+//! Lists of cluster numbers, kept as links.
+
+ghost use Rattle.std.specs.Prelude.{◌≡◌, ◌==◌, ◌<◌, ◌≤◌, ◌%◌, length, All, IfOk, slice_set, if◌then◌else◌};
+ghost use Rattle.reorder.specs.Links.{walk};
+ghost use Rattle.reorder.specs.VisualList.{is_odd};
+
+use bg_types::Memory;
+use std::alloc::Global;
+
+/// A list of numbers that is not empty: the link at each of them but the last is the number right of it.
+#[derive(Clone, Copy)]
+pub(crate) struct Piece {
+    pub(crate) first: u32,
+    pub(crate) last: u32,
+}
+
+impl Piece {
+    /// One number alone.
+    #[inline]
+    pub(crate) fn of(number: u32) -> Piece
+        ensures first { result.first ≡ number }
+        ensures last { result.last ≡ number }
+    {
+        Piece {
+            first: number,
+            last: number,
+        }
+    }
+
+    /// Both pieces as one, of which `right` stands on the right.
+    #[inline]
+    fn before(self, right: Piece, links: &mut [u32]) -> Piece
+        requires { self.last < length links.old }
+        ensures links { links.new ≡ slice_set links.old self.last right.first }
+        ensures first { result.first ≡ self.first }
+        ensures last { result.last ≡ right.last }
+    {
+        links[self.last as usize] = right.first;
+        Piece {
+            first: self.first,
+            last: right.last,
+        }
+    }
+
+    /// This piece and a later one of the line as one piece of a level: the later one stands right of it, at an odd level left of it.
+    #[inline]
+    pub(crate) fn then(self, later: Piece, level: u8, links: &mut [u32]) -> Piece
+        requires own { self.last < length links.old }
+        requires later { later.last < length links.old }
+        ensures links { links.new ≡ (if is_odd level then slice_set links.old later.last self.first else slice_set links.old self.last later.first) }
+        ensures first { result.first ≡ (if is_odd level then later.first else self.first) }
+        ensures last { result.last ≡ (if is_odd level then self.last else later.last) }
+    {
+        if level % 2 == 1 {
+            later.before(self, links)
+        } else {
+            self.before(later, links)
+        }
+    }
+}
+
+/// The numbers that the links lead along from `first`, as many as there are links.
+pub(crate) fn walked(alloc: Global, links: &[u32], first: u32) -> Result<Vec<u32>, Memory>
+    requires { All (λ at. at < length links.now) (walk (length links.now) links.now first) }
+    ensures { IfOk result (λ order. order.items ≡ walk (length links.now) links.now first) }
+{
+    let mut order = Vec::with_capacity(alloc, links.len())?;
+    let mut at = first;
+    for _ in 0..links.len() {
+        order.push(at)?;
+        at = links[at as usize];
+    }
+    Ok(order)
+}
