@@ -2,3 +2,4 @@ pub mod Identifier
 pub mod WellFormed
 pub mod OperationSet
 pub mod Sink
+pub mod Classes

@@ -16,7 +16,7 @@ pub(crate) fn is_separator(class: Bidi) -> bool
 
 /// Whether X9 removes a character of this class.
 #[inline]
-#[tactic(auto, unfolding(crate::specs::Classes::is_removed))]
+#[tactic(auto, unfolding(bg_types::specs::Classes::is_removed))]
 pub(crate) fn is_removed(class: Bidi) -> bool
     ensures { result ≡ is_removed class }
 {
@@ -28,7 +28,7 @@ pub(crate) fn is_removed(class: Bidi) -> bool
 
 /// Whether the class is that of an isolate's initiator or of what ends it (BD8).
 #[inline]
-#[tactic(auto, unfolding(crate::specs::Classes::is_isolate_control))]
+#[tactic(auto, unfolding(bg_types::specs::Classes::is_isolate_control))]
 pub(crate) fn is_isolate_control(class: Bidi) -> bool
     ensures { result ≡ is_isolate_control class }
 {

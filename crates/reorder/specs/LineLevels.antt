@@ -2,7 +2,8 @@
 use Rattle.std.specs.Prelude.{ℕ, Bool, true, false, ◌&&◌, ◌||◌, List, [], ◌∷◌, map, drop, slice_index, if◌then◌else◌}
 use Rattle.std.specs.Str.{chars}
 use Rattle.bg_types.specs.declared.class.Bidi.{Bidi}
-use Rattle.bg_types.specs.declared.class.Bidi.TheVariants.{S, B, Ws, Fsi, Lri, Rli, Pdi, Rle, Lre, Rlo, Lro, Pdf, Bn}
+use Rattle.bg_types.specs.declared.class.Bidi.TheVariants.{S, B, Ws}
+use Rattle.bg_types.specs.Classes.{is_removed, is_isolate_control}
 use Rattle.ucd_files.specs.Tables.{TableValues, bidi_of}
 
 -- the separators of segments and paragraphs
@@ -14,17 +15,7 @@ is_separator _ = false
 -- white space, isolate controls, and the classes that X9 removes
 unfoldable pub is_run_class : Bidi → Bool
 is_run_class Ws = true
-is_run_class Fsi = true
-is_run_class Lri = true
-is_run_class Rli = true
-is_run_class Pdi = true
-is_run_class Rle = true
-is_run_class Lre = true
-is_run_class Rlo = true
-is_run_class Lro = true
-is_run_class Pdf = true
-is_run_class Bn = true
-is_run_class _ = false
+is_run_class class = is_isolate_control class || is_removed class
 
 -- a line's rest begins with a separator, with a run right before one, or with a run at the line's end, or is empty
 abbrev pub begins_reset : List Bidi → Bool

@@ -10,7 +10,7 @@ use std::alloc::Global;
 use ucd_files::Tables;
 
 /// Whether L1 resets a code point of a class, where what follows it in the line begins with one that is reset, or not.
-#[tactic(auto, unfolding(crate::specs::LineLevels::is_separator, crate::specs::LineLevels::is_run_class))]
+#[tactic(auto, unfolding(crate::specs::LineLevels::is_separator, crate::specs::LineLevels::is_run_class, bg_types::specs::Classes::is_removed, bg_types::specs::Classes::is_isolate_control))]
 fn is_reset(class: Bidi, follower_is_reset: bool) -> bool
     ensures { result ≡ (is_separator class || (is_run_class class && follower_is_reset)) }
 {
