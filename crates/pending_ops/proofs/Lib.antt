@@ -6,4 +6,6 @@ pub mod Freeing
 pub mod HandingOut
 pub mod Listing
 pub mod Counting
+pub mod OneStep
+pub mod Placed
 pub mod Loop
