@@ -1,0 +1,6 @@
+pub mod Places
+pub mod SearchSteps
+pub mod SearchEnd
+pub mod SetBracket
+pub mod PairSteps
+pub mod NoBrackets

@@ -1,0 +1,5 @@
+use Rattle.bracket_pairs.proofs.PairSteps.{IsResolved}
+use Rattle.bracket_pairs.proofs.n0.resolve_pairs.Given as goal
+
+abbrev pub invariant-loop-opening : goal.invariant-loop-opening
+invariant-loop-opening l = IsResolved l.embedding l.fn.sos l.closings l.before_w1 l.fn.types l.opening l.before l.types
