@@ -7,3 +7,10 @@ pub mod Sizes
 pub mod Refusals
 pub mod OneCause
 pub mod OneAnswer
+pub mod Parting
+pub mod Numerals
+pub mod Shapes
+pub mod Padding
+pub mod ReadLines
+pub mod Conversions
+pub mod ListedAgain

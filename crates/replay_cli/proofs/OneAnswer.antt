@@ -8,7 +8,7 @@ use Rattle.op_codec.specs.declared.fault.CodecFault.TheVariants as codec
 use Rattle.rga_tree.specs.TextOf.{text}
 use Rattle.replay_cli.specs.declared.fault.TakeFault.{TakeFault}
 use Rattle.replay_cli.specs.declared.fault.RunFault.{RunFault}
-use Rattle.replay_cli.specs.declared.fault.RunFault.TheVariants.{File, Step, Device, ReadFailed, Memory}
+use Rattle.replay_cli.specs.declared.fault.RunFault.TheVariants.{File, Step, Listing, Device, ReadFailed, Memory}
 use Rattle.replay_cli.specs.Files.{IsSetOfFiles, IsFaultyFile, AreRefused}
 use Rattle.replay_cli.specs.Cause.{IsCaused}
 use Rattle.replay_cli.specs.Written.{WritesText, WritesBeginning}
@@ -21,6 +21,7 @@ module _ (files : List (List ℕ)) (old new : Option (List ℕ)) (failed : Bool)
   answer-joined (Err (File n (codec.Malformed frame cause))) s written caused of_files limited = absurd (faulty_apart files of_files.lists n frame cause of_files.spelled caused)
   answer-joined (Err (File n codec.Memory)) s written caused of_files limited = absurd caused
   answer-joined (Err (Step line desk fault)) s written caused of_files limited = absurd (refusal_apart files s fault of_files limited caused.2)
+  answer-joined (Err (Listing line fault)) s written caused of_files limited = absurd caused
   answer-joined (Err Device) s written caused of_files limited = inl refl
   answer-joined (Err (ReadFailed file)) s written caused of_files limited = absurd caused
   answer-joined (Err Memory) s written caused of_files limited = inr refl
@@ -33,6 +34,7 @@ module _ (files : List (List ℕ)) (old new : Option (List ℕ)) (failed : Bool)
       inl (λ i. Err (File (one.0 i) (codec.Malformed (one.1 i) (one.2 i))))
   answer-faulty (Err (File m codec.Memory)) n frame cause written caused beginning faulty = absurd caused
   answer-faulty (Err (Step line desk fault)) n frame cause written caused beginning faulty = absurd (faulty_apart files caused.2.lists n frame cause caused.2.spelled faulty)
+  answer-faulty (Err (Listing line fault)) n frame cause written caused beginning faulty = absurd caused
   answer-faulty (Err Device) n frame cause written caused beginning faulty = let begun = beginning refl in absurd (faulty_apart files begun.of_files.lists n frame cause begun.of_files.spelled faulty)
   answer-faulty (Err (ReadFailed file)) n frame cause written caused beginning faulty = absurd caused
   answer-faulty (Err Memory) n frame cause written caused beginning faulty = inr refl
@@ -45,6 +47,7 @@ module _ (files : List (List ℕ)) (old new : Option (List ℕ)) (failed : Bool)
   answer-refused (Err (Step line desk other)) fault written caused beginning refused =
       let one = one_refused files other fault caused.2 refused in
       inl (λ i. Err (Step (caused.0 i) (caused.1 i) (one i)))
+  answer-refused (Err (Listing line other)) fault written caused beginning refused = absurd caused
   answer-refused (Err Device) fault written caused beginning refused = let begun = beginning refl in absurd (refusal_apart files begun.set fault begun.of_files begun.limited refused)
   answer-refused (Err (ReadFailed file)) fault written caused beginning refused = absurd caused
   answer-refused (Err Memory) fault written caused beginning refused = inr refl

@@ -5,15 +5,16 @@ use Rattle.op_codec.specs.declared.fault.CodecFault.TheVariants as codec
 use Rattle.replay_cli.specs.declared.fault.TakeFault.{TakeFault}
 use Rattle.replay_cli.specs.declared.fault.TakeFault.TheVariants as take
 use Rattle.replay_cli.specs.declared.fault.RunFault.{RunFault}
-use Rattle.replay_cli.specs.declared.fault.RunFault.TheVariants.{File, Step, Device, ReadFailed, Memory}
+use Rattle.replay_cli.specs.declared.fault.RunFault.TheVariants.{File, Step, Listing, Device, ReadFailed, Memory}
 use Rattle.replay_cli.specs.Files.{IsFaultyFile, AreRefused}
 
 -- the fault stands only where its cause is present: the first faulty file; a step of desk 1 without a schedule, which is
--- line 0; a failed sink. No file is read by name, and want of memory has no cause among the files
+-- line 0; a failed sink. No listing is read and no file by name, and want of memory has no cause among the files
 abbrev pub IsCaused : List (List ℕ) → Bool → RunFault → Type 0
 IsCaused files failed (File n (codec.Malformed frame cause)) = IsFaultyFile files n frame cause
 IsCaused files failed (File n codec.Memory) = ⊥
 IsCaused files failed (Step line desk fault) = (line ≡ 0) × (desk ≡ 1) × AreRefused files fault
+IsCaused files failed (Listing line fault) = ⊥
 IsCaused files failed Device = failed ≡ true
 IsCaused files failed (ReadFailed file) = ⊥
 IsCaused files failed Memory = Unit {0}

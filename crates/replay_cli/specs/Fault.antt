@@ -2,6 +2,8 @@
 use Rattle.std.specs.Prelude.{ℕ}
 use Rattle.replay_cli.specs.declared.fault.TakeFault.{TakeFault}
 use Rattle.replay_cli.specs.declared.fault.TakeFault.TheVariants as take
+use Rattle.replay_cli.specs.declared.fault.LineFault.{LineFault}
+use Rattle.replay_cli.specs.declared.fault.LineFault.TheVariants as line
 use Rattle.replay_cli.specs.declared.fault.RunFault.{RunFault}
 use Rattle.replay_cli.specs.declared.fault.RunFault.TheVariants as run
 
@@ -10,17 +12,25 @@ take_code take.IdentifierReused = 1
 take_code take.Full = 2
 take_code take.Memory = 9
 
+abbrev pub line_code : LineFault → ℕ
+line_code line.BadLine = 1
+line_code line.ZeroField = 2
+line_code line.ParentNotBefore = 3
+line_code line.NotAScalar = 4
+
 abbrev pub run_code : RunFault → ℕ
 run_code (run.File file fault) = 2
 run_code (run.Step line desk fault) = 4
+run_code (run.Listing line fault) = 5
 run_code run.Device = 7
 run_code (run.ReadFailed file) = 8
 run_code run.Memory = 9
 
--- 1 for faulty data or a refused step, 3 for a device, a file that can't be read, or want of memory
+-- 1 for a faulty file or listing or a refused step, 3 for a device, a file that can't be read, or want of memory
 abbrev pub status_of : RunFault → ℕ
 status_of (run.File file fault) = 1
 status_of (run.Step line desk fault) = 1
+status_of (run.Listing line fault) = 1
 status_of run.Device = 3
 status_of (run.ReadFailed file) = 3
 status_of run.Memory = 3

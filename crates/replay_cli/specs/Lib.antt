@@ -6,3 +6,8 @@ pub mod Cause
 pub mod Written
 pub mod KeptSet
 pub mod Desk
+pub mod Listing
+pub mod Line
+pub mod Listed
+pub mod Conversion
+pub mod Field

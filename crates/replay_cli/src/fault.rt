@@ -1,7 +1,7 @@
 //! Why a run ended early.
 
 ghost use Rattle.std.specs.Prelude.{◌≡◌};
-ghost use Rattle.replay_cli.specs.Fault.{take_code, run_code, status_of};
+ghost use Rattle.replay_cli.specs.Fault.{take_code, line_code, run_code, status_of};
 ghost use Rattle.replay_cli.specs.declared.fault.RunFault.TheVariants.{Memory as run_memory, Device as run_device};
 
 use bg_types::{Device, Memory};
@@ -37,15 +37,49 @@ impl TakeFault {
     }
 }
 
-/// Why a run ended early. Files, frames and desks are counted from 1; frame 0 is a file's header,
-/// and line 0 stands for no schedule. Each prints as the line on standard error says it, without
-/// the program's name.
+/// What is wrong with a line of a listing. Each prints its bare name.
+#[derive(Clone, Copy, Debug, PartialEq, Eq, Hash, thiserror::Error)]
+pub enum LineFault {
+    /// Another shape than that of an operation, a counter above 4,294,967,295 or a site above
+    /// 65,535.
+    #[error("BadLine")]
+    BadLine,
+    /// A counter or a site is 0, also one of a parent.
+    #[error("ZeroField")]
+    ZeroField,
+    /// The parent's counter isn't below the insertion's.
+    #[error("ParentNotBefore")]
+    ParentNotBefore,
+    /// The character is above 10FFFF or a surrogate.
+    #[error("NotAScalar")]
+    NotAScalar,
+}
+
+impl LineFault {
+    /// The number of this fault, 1 to 4.
+    pub fn code(self) -> u8
+        ensures { result ≡ line_code self }
+    {
+        match self {
+            LineFault::BadLine => 1,
+            LineFault::ZeroField => 2,
+            LineFault::ParentNotBefore => 3,
+            LineFault::NotAScalar => 4,
+        }
+    }
+}
+
+/// Why a run ended early. Files, frames, lines and desks are counted from 1; frame 0 is a file's
+/// header, and line 0 stands for no schedule. Each prints as the line on standard error says it,
+/// without the program's name.
 #[derive(Clone, Copy, Debug, PartialEq, Eq, Hash)]
 pub enum RunFault {
     /// An operation file is faulty: its number and its first fault.
     File(usize, CodecFault),
     /// A step was refused: the line of the schedule, the desk, and why.
     Step(usize, usize, TakeFault),
+    /// A listing is faulty: its first faulty line, and why.
+    Listing(usize, LineFault),
     /// A write failed.
     Device,
     /// A file can't be read: its number, or 0 where the program reads it before the run.
@@ -62,6 +96,7 @@ impl fmt::Display for RunFault {
                 write!(f, "file {file} frame {frame}: {fault}")
             }
             RunFault::Step(line, desk, fault) => write!(f, "step line {line} desk {desk}: {fault}"),
+            RunFault::Listing(line, fault) => write!(f, "listing line {line}: {fault}"),
             RunFault::Device => write!(f, "device"),
             RunFault::ReadFailed(file) => write!(f, "cannot read file {file}"),
             RunFault::Memory => write!(f, "memory"),
@@ -72,13 +107,14 @@ impl fmt::Display for RunFault {
 impl Error for RunFault {}
 
 impl RunFault {
-    /// The number of this fault: 2, 4, 7, 8 or 9.
+    /// The number of this fault: 2, 4, 5, 7, 8 or 9.
     pub fn code(&self) -> u8
         ensures { result ≡ run_code self.now }
     {
         match self {
             RunFault::File(..) => 2,
             RunFault::Step(..) => 4,
+            RunFault::Listing(..) => 5,
             RunFault::Device => 7,
             RunFault::ReadFailed(_) => 8,
             RunFault::Memory => 9,
@@ -86,13 +122,13 @@ impl RunFault {
     }
 }
 
-/// The status that the program ends with: 1 for faulty data or a refused step, 3 for a device, a
-/// file that can't be read, or want of memory.
+/// The status that the program ends with: 1 for a faulty file or listing or a refused step, 3 for a
+/// device, a file that can't be read, or want of memory.
 pub fn status(fault: &RunFault) -> u8
     ensures { result ≡ status_of fault.now }
 {
     match fault {
-        RunFault::File(..) | RunFault::Step(..) => 1,
+        RunFault::Listing(..) | RunFault::File(..) | RunFault::Step(..) => 1,
         RunFault::Device | RunFault::ReadFailed(_) | RunFault::Memory => 3,
     }
 }

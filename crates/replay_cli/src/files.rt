@@ -34,7 +34,8 @@ pub fn read_all<'a, R: Runtime<A = Global>>(
     Ok(files)
 }
 
-fn read<R: Runtime<A = Global>>(rt: &R, path: &str) -> Result<Vec<u8>, RunFault> {
+/// The bytes of a file that can be opened and read, and is not too long.
+pub fn read<R: Runtime<A = Global>>(rt: &R, path: &str) -> Result<Vec<u8>, RunFault> {
     match read_up_to_limit(rt, path) {
         Ok(Some(bytes)) => Ok(bytes),
         Ok(None) => Err(RunFault::ReadFailed(0)),

@@ -1,17 +1,23 @@
-//! The program `bidigrid`: operation files become text.
+//! The program `bidigrid`: operation files become text and listings, and listings become files.
 #![tactic(auto)]
 
+mod convert;
 mod desk;
 mod engine;
 mod fault;
+mod field;
 mod files;
+pub mod laws;
+mod line;
+mod listing;
 mod report;
 mod request;
 mod words;
 
 use bg_types::Out;
+pub use convert::{dump, pack};
 pub use engine::text;
-pub use fault::{RunFault, TakeFault, status};
+pub use fault::{LineFault, RunFault, TakeFault, status};
 use files::Unread;
 pub use report::report;
 pub use request::{Job, Stop};
@@ -26,6 +32,8 @@ fn main(rt: HostRuntime) -> ExitCode {
     };
     match job(rt.alloc(), words.as_slice()) {
         Ok(Job::Text { files }) => run_text(&rt, files.as_slice()),
+        Ok(Job::Dump { file }) => run_dump(&rt, file),
+        Ok(Job::Pack { listing }) => run_pack(&rt, listing),
         Err(stop) => end(&rt, &stop),
     }
 }
@@ -38,12 +46,41 @@ fn run_text(rt: &HostRuntime, paths: &[&str]) -> ExitCode {
     let Ok(mut buffered) = BufWriter::new(rt.alloc(), io::writer(rt)) else {
         return refuse(rt, &RunFault::Memory, "");
     };
-    let mut out = Out::new(&mut buffered);
-    if let Err(fault) = text(rt.alloc(), files.as_slice(), &mut out) {
+    let done = text(rt.alloc(), files.as_slice(), &mut Out::new(&mut buffered));
+    finish(rt, done, &mut buffered)
+}
+
+fn run_dump(rt: &HostRuntime, path: &str) -> ExitCode {
+    let file = match files::read(rt, path) {
+        Ok(bytes) => bytes,
+        Err(fault) => return refuse(rt, &fault, path),
+    };
+    let Ok(mut buffered) = BufWriter::new(rt.alloc(), io::writer(rt)) else {
+        return refuse(rt, &RunFault::Memory, "");
+    };
+    let done = dump(rt.alloc(), file.as_slice(), &mut Out::new(&mut buffered));
+    finish(rt, done, &mut buffered)
+}
+
+fn run_pack(rt: &HostRuntime, path: &str) -> ExitCode {
+    let listing = match files::read(rt, path) {
+        Ok(bytes) => bytes,
+        Err(fault) => return refuse(rt, &fault, path),
+    };
+    let Ok(mut buffered) = BufWriter::new(rt.alloc(), io::writer(rt)) else {
+        return refuse(rt, &RunFault::Memory, "");
+    };
+    let done = pack(rt.alloc(), listing.as_slice(), &mut Out::new(&mut buffered));
+    finish(rt, done, &mut buffered)
+}
+
+/// Ends a run of an engine that wrote to this writer.
+fn finish<W: Write>(rt: &HostRuntime, done: Result<(), RunFault>, out: &mut W) -> ExitCode {
+    if let Err(fault) = done {
         return refuse(rt, &fault, "");
     }
     // A late failure of the device shows only here.
-    if buffered.flush().is_err() {
+    if out.flush().is_err() {
         return refuse(rt, &RunFault::Device, "");
     }
     ExitCode::SUCCESS

@@ -7,6 +7,10 @@ use std::alloc::{AllocError, AllocFailed};
 pub enum Job<'a> {
     /// Write the text of the operations of these files.
     Text { files: Vec<&'a str> },
+    /// Write the listing of this file.
+    Dump { file: &'a str },
+    /// Write the file of this listing.
+    Pack { listing: &'a str },
 }
 
 /// Why there is no work to do.

@@ -29,6 +29,7 @@ fn text_takes_files_in_order(rt: HostRuntime) -> Result<(), Fail> {
 fn outcome(alloc: Global, words: &[String]) -> Result<usize, &'static str> {
     match job(alloc, words) {
         Ok(Job::Text { files }) => Ok(files.len()),
+        Ok(Job::Dump { .. } | Job::Pack { .. }) => Err("another job"),
         Err(stop) => match stop {
             Stop::Help(_text) => Err("help"),
             Stop::Usage(_text) => Err("usage"),
@@ -80,8 +81,31 @@ fn wrong_words_are_a_usage_fault_and_help_is_none(rt: HostRuntime) -> Result<(),
     Ok(())
 }
 
+#[test]
+fn dump_and_pack_take_one_file(rt: HostRuntime) -> Result<(), Fail> {
+    let words = line(rt.alloc(), &["bidigrid", "dump", "a"])?;
+    let Ok(Job::Dump { file }) = job(rt.alloc(), words.as_slice()) else {
+        return Err(Fail::from("no dump"));
+    };
+    assert_eq!(rt; file, "a");
+    let words = line(rt.alloc(), &["bidigrid", "pack", "b"])?;
+    let Ok(Job::Pack { listing }) = job(rt.alloc(), words.as_slice()) else {
+        return Err(Fail::from("no pack"));
+    };
+    assert_eq!(rt; listing, "b");
+    for name in ["dump", "pack"] {
+        for words in [
+            line(rt.alloc(), &["bidigrid", name])?,
+            line(rt.alloc(), &["bidigrid", name, "a", "b"])?,
+        ] {
+            assert_eq!(rt; outcome(rt.alloc(), words.as_slice()), Err("usage"));
+        }
+    }
+    Ok(())
+}
+
 /// The faults with their lines, statuses and numbers.
-fn rows() -> [(RunFault, &'static str, u8, u8); 7] {
+fn rows() -> [(RunFault, &'static str, u8, u8); 8] {
     let truncated = CodecFault::Malformed {
         frame: 12,
         cause: Cause::Truncated,
@@ -114,6 +138,12 @@ fn rows() -> [(RunFault, &'static str, u8, u8); 7] {
             "bidigrid: step line 7 desk 2: Full\n",
             1,
             4,
+        ),
+        (
+            RunFault::Listing(12, LineFault::ZeroField),
+            "bidigrid: listing line 12: ZeroField\n",
+            1,
+            5,
         ),
         (RunFault::Device, "bidigrid: device\n", 3, 7),
         (
@@ -166,4 +196,19 @@ fn refusals_have_their_numbers(rt: HostRuntime) {
     ]
     .map(|f| f.code());
     assert_eq!(rt; codes, [1, 2, 9]);
+}
+
+#[test]
+fn faults_of_lines_have_numbers_and_names(rt: HostRuntime) -> Result<(), Fail> {
+    let rows = [
+        (LineFault::BadLine, 1, "BadLine"),
+        (LineFault::ZeroField, 2, "ZeroField"),
+        (LineFault::ParentNotBefore, 3, "ParentNotBefore"),
+        (LineFault::NotAScalar, 4, "NotAScalar"),
+    ];
+    for (fault, code, name) in rows {
+        assert_eq!(rt; fault.code(), code);
+        assert_eq!(rt; format!(in rt.alloc(); "{fault}")?.as_str(), name);
+    }
+    Ok(())
 }

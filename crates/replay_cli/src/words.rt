@@ -22,9 +22,32 @@ const TEXT_LONG_ABOUT: &str =
 const TEXT_EXAMPLE: &str =
     "Example:\n  bidigrid text examples/hello/hebrew.bgop examples/hello/english.bgop";
 
+const DUMP_ABOUT: &str = "Writes an operation file as a listing";
+
+const DUMP_LONG_ABOUT: &str =
+    "Writes an operation file to standard output as a listing, one line an operation:\n\n  \
+    i C.S root X  inserts the character X at the root under the identifier (C,S)\n  \
+    i C.S P.Q X   inserts it behind (P,Q)\n  \
+    e C.S         erases what (C,S) inserted\n\n\
+    X is in hexadecimal. The subcommand pack makes the file again.";
+
+const DUMP_EXAMPLE: &str = "Example:\n  bidigrid dump examples/hello/hebrew.bgop";
+
+const PACK_ABOUT: &str = "Writes the operation file of a listing";
+
+const PACK_LONG_ABOUT: &str = "Writes the operation file of a listing to standard output.\n\n\
+    The lines are those that the subcommand dump writes. Leading zeros, more spaces, empty lines,\n\
+    CR LF and a last line without LF are accepted. Where a line is faulty, nothing is written.";
+
+const PACK_EXAMPLE: &str = "Example:\n  bidigrid pack examples/hello/hebrew.txt >hebrew.bgop";
+
 const NOT_UTF_8: &str = "error: an argument is not valid UTF-8\n";
 
 const FILE_HELP: &str = "Operation files, 1 to 64 of them";
+
+const DUMP_HELP: &str = "An operation file";
+
+const PACK_HELP: &str = "A listing";
 
 /// The words of the command line, the program's name among them.
 pub fn words<R: Env + Alloc<A = Global>>(rt: &R) -> Result<Vec<String>, Stop> {
@@ -42,10 +65,23 @@ pub fn job<'a>(alloc: Global, words: &'a [String]) -> Result<Job<'a>, Stop> {
         Err(error) => return Err(stop(alloc, &error)),
     };
     let mut files = Vec::new(alloc);
-    if let Some(("text", text)) = matches.subcommand() {
-        if let Some(paths) = text.get_strs("FILE") {
-            files.extend_from_slice(paths)?;
+    match matches.subcommand() {
+        Some(("dump", dump)) => {
+            if let Some(file) = dump.get_str("FILE") {
+                return Ok(Job::Dump { file });
+            }
         }
+        Some(("pack", pack)) => {
+            if let Some(listing) = pack.get_str("FILE") {
+                return Ok(Job::Pack { listing });
+            }
+        }
+        Some(("text", text)) => {
+            if let Some(paths) = text.get_strs("FILE") {
+                files.extend_from_slice(paths)?;
+            }
+        }
+        _ => {}
     }
     Ok(Job::Text { files })
 }
@@ -55,7 +91,9 @@ fn command<'a>(alloc: Global) -> Result<Command<'a>, AllocError> {
         .bin_name("bidigrid")?
         .about(ABOUT)
         .subcommand_required(true)
-        .subcommand(text_command(alloc)?)
+        .subcommand(text_command(alloc)?)?
+        .subcommand(dump_command(alloc)?)?
+        .subcommand(pack_command(alloc)?)
 }
 
 fn text_command<'a>(alloc: Global) -> Result<Command<'a>, AllocError> {
@@ -69,6 +107,29 @@ fn text_command<'a>(alloc: Global) -> Result<Command<'a>, AllocError> {
         .long_about(TEXT_LONG_ABOUT)
         .after_help(TEXT_EXAMPLE)
         .arg(files)
+}
+
+fn dump_command<'a>(alloc: Global) -> Result<Command<'a>, AllocError> {
+    Command::new(alloc, "dump")
+        .about(DUMP_ABOUT)
+        .long_about(DUMP_LONG_ABOUT)
+        .after_help(DUMP_EXAMPLE)
+        .arg(one_file(alloc, DUMP_HELP))
+}
+
+fn pack_command<'a>(alloc: Global) -> Result<Command<'a>, AllocError> {
+    Command::new(alloc, "pack")
+        .about(PACK_ABOUT)
+        .long_about(PACK_LONG_ABOUT)
+        .after_help(PACK_EXAMPLE)
+        .arg(one_file(alloc, PACK_HELP))
+}
+
+fn one_file<'a>(alloc: Global, help: &'a str) -> Arg<'a> {
+    Arg::new(alloc, "FILE")
+        .help(help)
+        .required(true)
+        .action(ArgAction::Set)
 }
 
 fn stop(alloc: Global, error: &Error) -> Stop {

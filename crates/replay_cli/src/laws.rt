@@ -1,0 +1,28 @@
+//! Laws of the definitions: each function's contract is the law, and its body is empty.
+
+ghost use Rattle.std.specs.Prelude.{◌≡◌, ◌⊎◌, ℕ, List};
+ghost use Rattle.std.specs.List.{AllByRecursion};
+ghost use Rattle.bg_types.specs.WellFormed.{IsWellFormed};
+ghost use Rattle.bg_types.specs.declared.op.OpView.{OpView};
+ghost use Rattle.op_codec.specs.Spelling.{Spells};
+ghost use Rattle.replay_cli.specs.declared.fault.LineFault.{LineFault};
+ghost use Rattle.replay_cli.specs.Listing.{listing_of};
+ghost use Rattle.replay_cli.specs.Listed.{Lists, IsFaultyLine};
+
+/// The listing of well-formed operations lists them. So of what `dump` writes of a file, `pack`
+/// reads back the operations that the file spells, and no others.
+pub fn listed_again()
+    ensures lists { (ops : List OpView) → AllByRecursion IsWellFormed ops → Lists (listing_of ops) ops }
+    ensures reads_back { (file : List ℕ) (ops again : List OpView) → Spells file ops → Lists (listing_of ops) again → again ≡ ops }
+{}
+
+/// A listing lists one list of operations or has one first faulty line, never both.
+pub fn listed_or_faulty()
+    ensures either { (bytes : List ℕ)
+        → ((ops : List OpView) × Lists bytes ops) ⊎ ((n : ℕ) × (fault : LineFault) × IsFaultyLine bytes n fault) }
+    ensures one_list { (bytes : List ℕ) (a b : List OpView) → Lists bytes a → Lists bytes b → a ≡ b }
+    ensures never_both { (bytes : List ℕ) (ops : List OpView) (n : ℕ) (fault : LineFault)
+        → Lists bytes ops → IsFaultyLine bytes n fault → ⊥ }
+    ensures one_fault { (bytes : List ℕ) (m n : ℕ) (f g : LineFault)
+        → IsFaultyLine bytes m f → IsFaultyLine bytes n g → (m ≡ n) × (f ≡ g) }
+{}
