@@ -1,0 +1,11 @@
+pub mod FlatLemmas
+pub mod LadderLemmas
+pub mod Strongest
+pub mod Matching
+pub mod Passing
+pub mod Chains
+pub mod Linking
+pub mod Gathering
+pub mod Facts
+pub mod Whole
+pub mod Balance

@@ -1,0 +1,166 @@
+-- One pass from the end matches initiators and PDIs and knows what each isolate holds.
+use Rattle.std.proofs.Common.{ℕ, zero, suc, ◌≡◌, ◌<◌, ◌+◌, ◌==◌, refl, ap, ap₂, sym, ◌∙◌, List, [], ◌∷◌, ◌++◌, length, get_or, set, drop, drop-cons, Option, Some, None, Bool, false, if◌then◌else◌, add-zero, add-one, arith}
+use Rattle.std.proofs.lemmas.List.{length-append, drop_all, drop-set, length-set}
+use Rattle.bg_types.specs.declared.class.Bidi.{Bidi}
+use Rattle.bg_types.specs.declared.class.Bidi.TheVariants.{L, R, Al, Lri, Rli, Fsi, Pdi}
+use Rattle.bidi_explicit.specs.declared.controls.Control.{Control}
+use Rattle.bidi_explicit.specs.declared.kind.Kind.{Kind}
+use Rattle.bidi_explicit.specs.declared.controls.OpenPdi.{OpenPdi}
+use Rattle.bidi_explicit.specs.Nesting.{Nodes, end, char, isolate, unclosed, is_initiator, split_at_pdi, enclose, base, nest, flattened}
+use Rattle.bidi_explicit.specs.Flat.{content}
+use Rattle.bidi_explicit.specs.Controls.{control, controls_from, Behind, own_pdis, behind, without_nearest, moved, nearest, control_by}
+
+-- a PDI of a list, and those behind it, where n characters stand before it
+abbrev pdis_from : ℕ → Nodes → List OpenPdi
+pdis_from i rest = (record { place = i; odd = base (content rest) == 1 }) ∷ own_pdis (suc i) rest
+
+-- the PDIs of a list, by its split at the first
+PdiFacts : ℕ → Nodes → Option (Nodes × Nodes) → Type 0
+PdiFacts i ns (Some p) = own_pdis i ns ≡ pdis_from (i + length (flattened p.0)) p.1
+PdiFacts i ns None = own_pdis i ns ≡ []
+
+at_place : (i j : ℕ) (rest : Nodes) → i ≡ j → pdis_from i rest ≡ pdis_from j rest
+at_place i j rest e = ap (λ n. pdis_from n rest) e
+
+pdis-char : (i : ℕ) (c : Bidi) (rest : Nodes) (o : Option (Nodes × Nodes)) → own_pdis i (char c rest) ≡ own_pdis (suc i) rest →
+    PdiFacts (suc i) rest o → PdiFacts i (char c rest) (elim o [ Some p ↦ Some (char c p.0, p.1) | None ↦ None ])
+unfolding PdiFacts
+pdis-char i c rest (Some p) e h = e ∙ h ∙ at_place (suc i + length (flattened p.0)) (i + length (c ∷ flattened p.0)) p.1 (omega arith)
+pdis-char i c rest None e h = e ∙ h
+
+pdis-isolate : (i : ℕ) (c : Bidi) (held rest : Nodes) (o : Option (Nodes × Nodes)) →
+    PdiFacts (suc (suc i + length (flattened held))) rest o →
+    PdiFacts i (isolate c held rest) (elim o [ Some p ↦ Some (isolate c held p.0, p.1) | None ↦ None ])
+unfolding PdiFacts
+pdis-isolate i c held rest (Some p) h =
+    h ∙ at_place (suc (suc i + length (flattened held)) + length (flattened p.0)) (i + length (c ∷ flattened held ++ Pdi ∷ flattened p.0)) p.1
+    (omega (arith, length-append (flattened held) (Pdi ∷ flattened p.0)))
+pdis-isolate i c held rest None h = h
+
+pdi-facts : (i : ℕ) (ns : Nodes) → PdiFacts i ns (split_at_pdi ns)
+unfolding PdiFacts
+pdi-facts i end = refl
+pdi-facts i (char Pdi rest) = at_place i (i + 0) rest (omega arith)
+pdi-facts i (char c rest) = pdis-char i c rest (split_at_pdi rest) refl (pdi-facts (suc i) rest)
+pdi-facts i (isolate c held rest) = pdis-isolate i c held rest (split_at_pdi rest) (pdi-facts (suc (suc i + length (flattened held))) rest)
+pdi-facts i (unclosed c held) = refl
+
+abbrev first : Nodes → Option (Nodes × Nodes) → Nodes
+first ns o = elim o [ Some p ↦ p.0 | None ↦ ns ]
+
+abbrev behind_isolate : Bidi → Nodes → Option (Nodes × Nodes) → Option (Nodes × Nodes)
+behind_isolate i held o = elim o [ Some p ↦ Some (isolate i held p.0, p.1) | None ↦ None ]
+
+abbrev behind_char : Bidi → Option (Nodes × Nodes) → Option (Nodes × Nodes)
+behind_char c o = elim o [ Some p ↦ Some (char c p.0, p.1) | None ↦ None ]
+
+-- what stands up to the first PDI, behind an isolate and behind a character
+first-isolate : (i : Bidi) (held rest : Nodes) (o : Option (Nodes × Nodes)) →
+    base (first (isolate i held rest) (behind_isolate i held o)) ≡ base (first rest o)
+first-isolate i held rest (Some p) = refl
+first-isolate i held rest None = refl
+
+first-weak : (c : Bidi) (ns : Nodes) (o : Option (Nodes × Nodes)) → ((m : Nodes) → base (char c m) ≡ base m) →
+    base (first (char c ns) (behind_char c o)) ≡ base (first ns o)
+first-weak c ns (Some p) h = h p.0
+first-weak c ns None h = h ns
+
+first-strong : (c : Bidi) (ns : Nodes) (o : Option (Nodes × Nodes)) (n : ℕ) → ((m : Nodes) → base (char c m) ≡ n) →
+    base (first (char c ns) (behind_char c o)) ≡ n
+first-strong c ns (Some p) n h = h p.0
+first-strong c ns None n h = h ns
+
+behind_eq : (odd odd' : Bool) (ps qs : List OpenPdi) → odd ≡ odd' → ps ≡ qs →
+    (let b : Behind = record { odd = odd; pdis = ps } in b) ≡ (let d : Behind = record { odd = odd'; pdis = qs } in d)
+behind_eq odd odd' ps qs e f = ap₂ (λ x xs. let b : Behind = record { odd = x; pdis = xs } in b) e f
+
+is_odd : (m n : ℕ) → m ≡ n → (m == 1) ≡ (n == 1)
+is_odd m n e = ap (λ k. k == 1) e
+
+-- an isolate that is closed or not
+enclosed : (i : ℕ) (c : Bidi) (ns : Nodes) (o : Option (Nodes × Nodes)) → split_at_pdi ns ≡ o → PdiFacts (suc i) ns o →
+    behind i (elim o [ Some p ↦ isolate c p.0 p.1 | None ↦ unclosed c ns ]) ≡ without_nearest (own_pdis (suc i) ns)
+unfolding PdiFacts
+enclosed i c ns (Some p) split h =
+    behind_eq _ _ _ _ (is_odd _ _ (first-isolate c p.0 p.1 (split_at_pdi p.1))) refl
+    ∙ ap without_nearest (sym h)
+enclosed i c ns None split h = ap without_nearest (sym h)
+
+behind-enclose : (i : ℕ) (c : Bidi) (ns : Nodes) → behind i (enclose c ns) ≡ without_nearest (own_pdis (suc i) ns)
+behind-enclose i c ns = enclosed i c ns (split_at_pdi ns) refl (pdi-facts (suc i) ns)
+
+-- the pass moves from behind a character to before it
+pub behind-step : (i : ℕ) (c : Bidi) (cs : List Bidi) → behind i (nest (c ∷ cs)) ≡ moved i c (behind (suc i) (nest cs))
+behind-step i Lri cs = behind-enclose i Lri (nest cs)
+behind-step i Rli cs = behind-enclose i Rli (nest cs)
+behind-step i Fsi cs = behind-enclose i Fsi (nest cs)
+behind-step i Pdi cs = refl
+behind-step i L cs = behind_eq _ _ _ _ (is_odd _ _ (first-strong L (nest cs) (split_at_pdi (nest cs)) 0 (λ m. refl))) refl
+behind-step i R cs = behind_eq _ _ _ _ (is_odd _ _ (first-strong R (nest cs) (split_at_pdi (nest cs)) 1 (λ m. refl))) refl
+behind-step i Al cs = behind_eq _ _ _ _ (is_odd _ _ (first-strong Al (nest cs) (split_at_pdi (nest cs)) 1 (λ m. refl))) refl
+behind-step i c cs = behind_eq _ _ _ _ (is_odd _ _ (first-weak c (nest cs) (split_at_pdi (nest cs)) (λ m. refl))) refl
+
+-- how many characters stand before a list's first PDI, and its place
+abbrev before_first : Option (Nodes × Nodes) → Option ℕ
+before_first o = elim o [ Some p ↦ Some (length (flattened p.0)) | None ↦ None ]
+
+abbrev placed : ℕ → Option ℕ → Option ℕ
+placed i o = elim o [ Some n ↦ Some (i + n) | None ↦ None ]
+
+-- the nearest PDI is the one that matches
+nearest-is : (i : ℕ) (ns : Nodes) (o : Option (Nodes × Nodes)) → PdiFacts i ns o → nearest (own_pdis i ns) ≡ placed i (before_first o)
+unfolding PdiFacts
+nearest-is i ns (Some p) h = ap nearest h
+nearest-is i ns None h = ap nearest h
+
+if_same : (b : Bool) (x y : Option ℕ) → x ≡ y → (if b then x else None) ≡ (if b then y else None)
+if_same b x y e = ap (λ o. if b then o else None) e
+
+control_eq : (k : Kind) (x y : Option ℕ) → x ≡ y →
+    (let b : Control = record { kind = k; pdi = x } in b) ≡ (let d : Control = record { kind = k; pdi = y } in d)
+control_eq k x y e = ap (λ o. let b : Control = record { kind = k; pdi = o } in b) e
+
+pub control-by : (i : ℕ) (c : Bidi) (cs : List Bidi) → control_by c (behind (suc i) (nest cs)) ≡ control i c cs
+control-by i c cs = control_eq _ _ _ (if_same (is_initiator c) _ _ (nearest-is (suc i) (nest cs) (split_at_pdi (nest cs)) (pdi-facts (suc i) (nest cs))))
+
+-- each control by its place
+pub get_or-controls : (j : ℕ) (cs : List Bidi) (i : ℕ) (d : Bidi) (e : Control) → i < length cs →
+    get_or (controls_from j cs) i e ≡ control (j + i) (get_or cs i d) (drop (suc i) cs)
+get_or-controls j [] i d e inside = absurd (omega arith)
+get_or-controls j (c ∷ cs) zero d e inside = ap (λ n. control n c cs) (sym (add-zero j))
+get_or-controls j (c ∷ cs) (suc i) d e inside =
+    get_or-controls (suc j) cs i d e (omega arith)
+    ∙ (let same : suc j + i ≡ j + suc i = omega arith in ap (λ n. control n (get_or cs i d) (drop (suc i) cs)) same)
+
+pub length-controls : (j : ℕ) (cs : List Bidi) → length (controls_from j cs) ≡ length cs
+length-controls j [] = refl
+length-controls j (c ∷ cs) = let h = length-controls (suc j) cs in omega arith
+
+-- from place i on each control is known, and b is what is known behind the place before
+pub record IsMatchedFrom (cs : List Bidi) (i : ℕ) (b : Behind) (xs : List Control) : Type 0 where
+  pub known : b ≡ behind i (nest (drop i cs))
+  pub done : drop i xs ≡ controls_from i (drop i cs)
+  pub long : length xs ≡ length cs
+
+pub IsMatchedFrom-start : (cs : List Bidi) (b : Behind) (xs : List Control) → b ≡ record { odd = false; pdis = [] } → length xs ≡ length cs →
+    IsMatchedFrom cs (length cs) b xs
+IsMatchedFrom-start cs b xs none long =
+    let nil : drop (length cs) cs ≡ [] = drop_all (length cs) cs (omega arith) in
+    let nothing : drop (length cs) xs ≡ [] = drop_all (length cs) xs (omega arith) in
+    record { known = none ∙ ap (λ ds. behind (length cs) (nest ds)) (sym nil); done = nothing ∙ ap (controls_from (length cs)) (sym nil); long = long }
+
+pub IsMatchedFrom-step : (cs : List Bidi) (i : ℕ) (b : Behind) (xs : List Control) → IsMatchedFrom cs (suc i) b xs → i < length cs →
+    (d : Bidi) (x : Control) (a : Behind) → x ≡ control_by (get_or cs i d) b → a ≡ moved i (get_or cs i d) b →
+    IsMatchedFrom cs i a (set xs i x)
+IsMatchedFrom-step cs i b xs m inside d x a put after =
+    let here : drop i cs ≡ get_or cs i d ∷ drop (suc i) cs = drop-cons cs i d inside in
+    record {
+      known = after ∙ ap (moved i (get_or cs i d)) m.known ∙ sym (behind-step i (get_or cs i d) (drop (suc i) cs))
+          ∙ ap (λ ds. behind i (nest ds)) (sym here);
+      done = drop-set xs i x (let l = m.long in omega arith)
+          ∙ ap₂ (λ y ys. y ∷ ys)
+          (put ∙ ap (control_by (get_or cs i d)) m.known ∙ control-by i (get_or cs i d) (drop (suc i) cs))
+          (ap (λ n. drop n xs) (add-one i) ∙ m.done)
+          ∙ ap (controls_from i) (sym here);
+      long = length-set xs i x ∙ m.long;
+    }

@@ -1,0 +1,93 @@
+-- One pass of the flat rules gives the levels of the tree.
+use Rattle.std.proofs.Common.{ℕ, zero, suc, ◌≡◌, ◌+◌, ◌<◌, ◌≤◌, ◌==◌, ap, sym, ◌∙◌, List, [], ◌∷◌, ◌++◌, length, get_or, drop, drop-cons, append_assoc, append-nil, Option, Bool, true, false, arith, if◌then◌else◌}
+use Rattle.std.proofs.lemmas.List.{drop_all}
+use Rattle.bg_types.specs.declared.class.Bidi.{Bidi}
+use Rattle.bidi_explicit.specs.declared.controls.Control.{Control}
+use Rattle.bidi_explicit.specs.declared.kind.Kind.{Kind}
+use Rattle.bidi_explicit.specs.declared.kind.Kind.TheVariants.{Embedding, Initiator, PopIsolate, PopEmbedding, Other}
+use Rattle.bidi_explicit.specs.declared.kind.Entry.{Entry}
+use Rattle.bidi_explicit.specs.declared.kept.Kept.{Kept}
+use Rattle.bidi_explicit.specs.Nesting.{nest, base}
+use Rattle.bidi_explicit.specs.Levels.{kind, place_of, fits, next_level, explicit_places}
+use Rattle.bidi_explicit.specs.Flat.{Machine, advance, seen, run, tokens, content, initial, top}
+use Rattle.bidi_explicit.specs.Controls.{controls_from}
+use Rattle.bidi_explicit.proofs.Matching.{get_or-controls}
+use Rattle.bidi_explicit.proofs.FlatLemmas.{flat_places-is}
+
+-- no step raises a count by more than one
+pub record IsNear (m n : Machine) : Type 0 where
+  pub embeddings : n.overflow_embeddings ≤ m.overflow_embeddings + 1
+  pub overflow : n.overflow_isolates ≤ m.overflow_isolates + 1
+  pub valid : n.valid_isolates ≤ m.valid_isolates + 1
+
+if_near : (b : Bool) (m x y : Machine) → IsNear m x → IsNear m y → IsNear m (if b then x else y)
+if_near true m x y p q = p
+if_near false m x y p q = q
+
+abbrev machine : List Entry → ℕ → ℕ → ℕ → Machine
+machine st oi oe vi = record { stack = st; overflow_isolates = oi; overflow_embeddings = oe; valid_isolates = vi }
+
+near_counts : (st st' : List Entry) (a b c x y z : ℕ) → x ≤ a + 1 → y ≤ b + 1 → z ≤ c + 1 → IsNear (machine st a b c) (machine st' x y z)
+near_counts st st' a b c x y z p q r = record { embeddings = q; overflow = p; valid = r }
+
+near : (k : Kind) (st : List Entry) (oi oe vi : ℕ) → IsNear (machine st oi oe vi) (advance k (machine st oi oe vi))
+near (Embedding odd o) st zero oe vi = if_near (fits (next_level odd (top st).level) oe) (machine st 0 oe vi) _ _
+    (near_counts st _ 0 oe vi 0 oe vi (omega arith) (omega arith) (omega arith))
+    (near_counts st _ 0 oe vi 0 (suc oe) vi (omega arith) (omega arith) (omega arith))
+near (Embedding odd o) st (suc n) oe vi = near_counts st st (suc n) oe vi (suc n) oe vi (omega arith) (omega arith) (omega arith)
+near (Initiator odd) st zero oe vi = if_near (fits (next_level odd (top st).level) oe) (machine st 0 oe vi) _ _
+    (near_counts st _ 0 oe vi 0 oe (suc vi) (omega arith) (omega arith) (omega arith))
+    (near_counts st _ 0 oe vi 1 oe vi (omega arith) (omega arith) (omega arith))
+near (Initiator odd) st (suc n) oe vi = near_counts st st (suc n) oe vi (suc (suc n)) oe vi (omega arith) (omega arith) (omega arith)
+near PopIsolate st zero oe zero = near_counts st st 0 oe 0 0 oe 0 (omega arith) (omega arith) (omega arith)
+near PopIsolate st zero oe (suc v) = near_counts st _ 0 oe (suc v) 0 0 v (omega arith) (omega arith) (omega arith)
+near PopIsolate st (suc n) oe vi = near_counts st st (suc n) oe vi n oe vi (omega arith) (omega arith) (omega arith)
+near PopEmbedding st zero zero vi = near_counts st _ 0 0 vi 0 0 vi (omega arith) (omega arith) (omega arith)
+near PopEmbedding st zero (suc n) vi = near_counts st st 0 (suc n) vi 0 n vi (omega arith) (omega arith) (omega arith)
+near PopEmbedding st (suc n) oe vi = near_counts st st (suc n) oe vi (suc n) oe vi (omega arith) (omega arith) (omega arith)
+near Other st oi oe vi = near_counts st st oi oe vi oi oe vi (omega arith) (omega arith) (omega arith)
+
+near-advance : (k : Kind) (m : Machine) → IsNear m (advance k m)
+near-advance k m = near k m.stack m.overflow_isolates m.overflow_embeddings m.valid_isolates
+
+-- the pass has come to place i: what it has, and what the machine would give of the rest, are all places
+pub record IsPassedTo (p : ℕ) (cs : List Bidi) (i : ℕ) (m : Machine) (done : List (Option Kept)) : Type 0 where
+  pub so_far : done ++ run p m (tokens (drop i cs)) ≡ explicit_places p cs
+  pub embeddings : m.overflow_embeddings ≤ i
+  pub overflow : m.overflow_isolates ≤ i
+  pub valid : m.valid_isolates ≤ i
+
+pub IsPassedTo-start : (p : ℕ) (cs : List Bidi) → IsPassedTo p cs 0 (initial p) []
+IsPassedTo-start p cs = record { so_far = flat_places-is p cs; embeddings = omega arith; overflow = omega arith; valid = omega arith }
+
+pub IsPassedTo-end : (p : ℕ) (cs : List Bidi) (i : ℕ) (m : Machine) (done : List (Option Kept)) → length cs ≤ i →
+    IsPassedTo p cs i m done → done ≡ explicit_places p cs
+IsPassedTo-end p cs i m done past s =
+    let e : drop i cs ≡ [] = drop_all i cs past in
+    sym (append-nil done) ∙ ap (λ ds. done ++ run p m (tokens ds)) (sym e) ∙ s.so_far
+
+module _ (p : ℕ) (cs : List Bidi) (i : ℕ) (m : Machine) (done : List (Option Kept)) (s : IsPassedTo p cs i m done) (inside : i < length cs)
+    (d : Bidi) (e : Control) (xs : List Control) (matched : xs ≡ controls_from 0 cs) where
+  kind_is : (get_or xs i e).kind ≡ kind (base (content (nest (drop (suc i) cs))) == 1) (get_or cs i d)
+  kind_is =
+      ap (λ ys. (get_or ys i e).kind) matched ∙ ap (λ x. let y : Control = x in y.kind) (get_or-controls 0 cs i d e inside)
+
+  run-step : run p m (tokens (drop i cs))
+      ≡ place_of p (top (seen (get_or xs i e).kind m).stack) (get_or cs i d) ∷ run p (advance (get_or xs i e).kind m) (tokens (drop (suc i) cs))
+  run-step =
+      ap (λ ds. run p m (tokens ds)) (drop-cons cs i d inside)
+      ∙ ap (λ k. place_of p (top (seen k m).stack) (get_or cs i d) ∷ run p (advance k m) (tokens (drop (suc i) cs))) (sym kind_is)
+
+  pub IsPassedTo-on : (n : Machine) (x : Option Kept) → n ≡ advance (get_or xs i e).kind m →
+      x ≡ place_of p (top (seen (get_or xs i e).kind m).stack) (get_or cs i d) → IsPassedTo p cs (suc i) n (done ++ x ∷ [])
+  IsPassedTo-on n x after put =
+      let near : IsNear m n = rw after (near-advance (get_or xs i e).kind m) in
+      record {
+        so_far = append_assoc done (x ∷ []) (run p n (tokens (drop (suc i) cs)))
+            ∙ ap (λ y. done ++ y ∷ run p n (tokens (drop (suc i) cs))) put
+            ∙ ap (λ k. done ++ place_of p (top (seen (get_or xs i e).kind m).stack) (get_or cs i d) ∷ run p k (tokens (drop (suc i) cs))) after
+            ∙ ap (λ ys. done ++ ys) (sym run-step) ∙ s.so_far;
+        embeddings = (let a = s.embeddings in let b = near.embeddings in omega arith);
+        overflow = (let a = s.overflow in let b = near.overflow in omega arith);
+        valid = (let a = s.valid in let b = near.valid in omega arith);
+      }

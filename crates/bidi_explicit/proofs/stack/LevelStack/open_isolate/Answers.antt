@@ -1,0 +1,6 @@
+use Rattle.std.proofs.Common.{arith, ◌≤◌, length}
+use Rattle.bidi_explicit.proofs.LadderLemmas.{ladder-room}
+use Rattle.bidi_explicit.proofs.stack.LevelStack.open_isolate.Goals as goal
+
+pub push-requires : goal.push-requires
+push-requires c = let room : length c.self.inside.stack.items ≤ 126 = ladder-room c.self.inside.stack.items c.self.invariant.ladder in (omega arith, omega arith)

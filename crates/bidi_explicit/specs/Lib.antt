@@ -1,0 +1,12 @@
+pub mod Nesting
+pub mod Levels
+pub mod Sequences
+pub mod Extents
+pub mod Embedding
+pub mod Flat
+pub mod Strong
+pub mod Controls
+pub mod Links
+pub mod Ladder
+pub mod Frames
+pub mod Laws

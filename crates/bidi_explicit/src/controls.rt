@@ -1,0 +1,130 @@
+//! What each character does to the levels, and which PDI matches it (BD9, X5c).
+
+ghost use Rattle.std.specs.Prelude.{◌≡◌, IfOk, OnOk, false, []};
+ghost use Rattle.bidi_explicit.specs.Levels.{kind};
+ghost use Rattle.bg_types.specs.declared.class.Bidi.TheVariants.{Pdi};
+ghost use Rattle.bidi_explicit.specs.Controls.{controls_from, moved, control_by, nearest, without_nearest};
+
+use crate::kind::Kind;
+use bg_types::{Bidi, Memory};
+use std::alloc::Global;
+use std::marker::Model;
+
+/// What a character does to the levels, and the place of the PDI that matches it.
+#[derive(Clone, Copy, Debug, Default)]
+pub(crate) struct Control {
+    pub(crate) kind: Kind,
+    pub(crate) pdi: Option<usize>,
+}
+
+/// A PDI that no initiator behind it has matched, and whether what stands behind it, up to the next such
+/// one, is right to left.
+#[derive(Clone, Copy, Debug, Default)]
+struct OpenPdi {
+    place: usize,
+    odd: bool,
+}
+
+/// What is known of the characters behind a place.
+#[derive(Drop)]
+struct Matcher {
+    pdis: Vec<OpenPdi>,
+    odd: bool,
+}
+
+impl Model for Matcher {
+    ghost use Rattle.std.specs.Prelude.{reverse};
+    ghost use Rattle.bidi_explicit.specs.Controls.{Behind};
+
+    ghost Value = { Behind };
+
+    ghost view = { λ s. record { odd = s.odd; pdis = reverse s.pdis.items } };
+}
+
+impl Matcher {
+    /// Nothing stands behind the last place.
+    fn new(alloc: Global) -> Matcher
+        ensures { result ≡ record { odd = false; pdis = [] } }
+    {
+        Matcher {
+            pdis: Vec::new(alloc),
+            odd: false,
+        }
+    }
+
+    /// Passes from behind a character to before it.
+    fn pass(&mut self, place: usize, class: Bidi) -> Result<Control, Memory>
+        ensures control { IfOk result (λ control. control ≡ control_by class self.old) }
+        ensures after { OnOk result (self.new ≡ moved place class self.old) }
+    {
+        let kind = kind_of(self.odd, class);
+        let mut pdi = None;
+        match class {
+            Bidi::Lri | Bidi::Rli | Bidi::Fsi => pdi = self.take_nearest(),
+            Bidi::Pdi => self.open(place)?,
+            Bidi::L => self.odd = false,
+            Bidi::R | Bidi::Al => self.odd = true,
+            _ => {}
+        }
+        Ok(Control { kind, pdi })
+    }
+
+    /// An initiator takes the nearest PDI.
+    fn take_nearest(&mut self) -> Option<usize>
+        ensures nearest { result ≡ nearest self.old.pdis }
+        ensures after { self.new ≡ without_nearest self.old.pdis }
+    {
+        match self.pdis.pop() {
+            Some(pdi) => {
+                self.odd = pdi.odd;
+                Some(pdi.place)
+            }
+            None => {
+                self.odd = false;
+                None
+            }
+        }
+    }
+
+    /// A PDI waits for its initiator.
+    fn open(&mut self, place: usize) -> Result<(), Memory>
+        ensures { OnOk result (self.new ≡ moved place Pdi self.old) }
+    {
+        self.pdis.push(OpenPdi {
+            place,
+            odd: self.odd,
+        })?;
+        self.odd = false;
+        Ok(())
+    }
+}
+
+/// What a class does, where FSI wants an odd level or not.
+fn kind_of(odd: bool, class: Bidi) -> Kind
+    ensures { result ≡ kind odd class }
+{
+    match class {
+        Bidi::Rle => Kind::Embedding(true, None),
+        Bidi::Lre => Kind::Embedding(false, None),
+        Bidi::Rlo => Kind::Embedding(true, Some(Bidi::R)),
+        Bidi::Lro => Kind::Embedding(false, Some(Bidi::L)),
+        Bidi::Rli => Kind::Initiator(true),
+        Bidi::Lri => Kind::Initiator(false),
+        Bidi::Fsi => Kind::Initiator(odd),
+        Bidi::Pdi => Kind::PopIsolate,
+        Bidi::Pdf => Kind::PopEmbedding,
+        _ => Kind::Other,
+    }
+}
+
+/// What each character of a paragraph does, in one pass from its end.
+pub(crate) fn controls(alloc: Global, classes: &[Bidi]) -> Result<Vec<Control>, Memory>
+    ensures { IfOk result (λ controls. controls.items ≡ controls_from 0 classes.now) }
+{
+    let mut controls = vec![in alloc; Control::default(); classes.len()]?;
+    let mut matcher = Matcher::new(alloc);
+    for place in (0..classes.len()).rev() {
+        controls[place] = matcher.pass(place, classes[place])?;
+    }
+    Ok(controls)
+}

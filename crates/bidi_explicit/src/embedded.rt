@@ -1,0 +1,132 @@
+//! What the explicit rules make of a paragraph.
+
+ghost use Rattle.std.specs.Prelude.{◌≡◌, ◌<◌, ◌≤◌, Some, length, slice_get};
+ghost use Rattle.std.specs.List.{All};
+ghost use Rattle.bidi_explicit.specs.Extents.{IsKept};
+
+use crate::kept::Kept;
+use bg_types::Bidi;
+use std::marker::Model;
+
+/// Where a sequence stands in the order of places, and what else is known of it.
+#[derive(Clone, Copy, Debug)]
+pub(crate) struct Extent {
+    pub(crate) start: usize,
+    pub(crate) end: usize,
+    pub(crate) level: u8,
+    pub(crate) sos: Bidi,
+    pub(crate) eos: Bidi,
+}
+
+/// A paragraph's level, what is kept at each of its places, and its isolating run sequences.
+#[derive(Debug, Drop)]
+pub struct Embedded {
+    pub(crate) level: u8,
+    pub(crate) places: Vec<Option<Kept>>,
+    pub(crate) order: Vec<usize>,
+    pub(crate) extents: Vec<Extent>,
+}
+
+impl Model for Embedded {
+    ghost use Rattle.bidi_explicit.specs.Embedding.{Embedding};
+    ghost use Rattle.bidi_explicit.specs.Extents.{extent_sequences, IsWithin};
+
+    ghost Value = { Embedding };
+
+    ghost view = { λ e. record { level = e.level; places = e.places.items; sequences = extent_sequences e.order.items e.extents.items } };
+
+    ghost invariant = { λ e. IsWithin e.places.items e.order.items e.extents.items };
+}
+
+impl Embedded {
+    /// The paragraph's level, 0 or 1 (P2, P3).
+    #[inline]
+    pub fn level(&self) -> u8
+        ensures { result ≡ self.now.level }
+    {
+        self.level
+    }
+
+    /// What is kept at each code point of the paragraph, in order, and `None` where X9 removes it.
+    #[inline]
+    pub fn places(&self) -> &[Option<Kept>]
+        ensures { result.now ≡ self.now.places }
+    {
+        &self.places
+    }
+
+    /// How many isolating run sequences there are: none where nothing is kept.
+    #[inline]
+    pub fn sequence_count(&self) -> usize
+        ensures { result ≡ length self.now.sequences }
+    {
+        self.extents.len()
+    }
+
+    /// A sequence by its number, from 0, in the order of their first places (X10).
+    #[inline]
+    pub fn sequence(&self, number: usize) -> Sequence<'_>
+        requires { number < length self.now.sequences }
+        ensures value { slice_get self.now.sequences number ≡ Some result }
+        ensures kept { All (IsKept self.now.places) result.places }
+    {
+        let extent = self.extents[number];
+        Sequence {
+            places: &self.order[extent.start..extent.end],
+            level: extent.level,
+            sos: extent.sos,
+            eos: extent.eos,
+        }
+    }
+}
+
+/// An isolating run sequence of a paragraph (BD13).
+#[derive(Debug, Drop)]
+pub struct Sequence<'a> {
+    places: &'a [usize],
+    level: u8,
+    sos: Bidi,
+    eos: Bidi,
+}
+
+impl<'a> Model for Sequence<'a> {
+    ghost use Rattle.bidi_explicit.specs.Sequences.{RunSequence};
+
+    ghost Value = { RunSequence };
+
+    ghost view = { λ s. record { places = s.places.now; level = s.level; sos = s.sos; eos = s.eos } };
+}
+
+impl<'a> Sequence<'a> {
+    /// The places of its characters in the paragraph, counted in code points, in rising order.
+    #[inline]
+    pub fn places(&self) -> &'a [usize]
+        ensures { result.now ≡ self.now.places }
+    {
+        self.places
+    }
+
+    /// The level of all its characters, at most 125.
+    #[inline]
+    pub fn level(&self) -> u8
+        ensures { result ≡ self.now.level }
+    {
+        self.level
+    }
+
+    /// The direction before its first character, L or R.
+    #[inline]
+    pub fn sos(&self) -> Bidi
+        ensures { result ≡ self.now.sos }
+    {
+        self.sos
+    }
+
+    /// The direction behind its last character, L or R.
+    #[inline]
+    pub fn eos(&self) -> Bidi
+        ensures { result ≡ self.now.eos }
+    {
+        self.eos
+    }
+}

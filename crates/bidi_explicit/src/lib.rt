@@ -1,0 +1,21 @@
+//! Explicit levels and isolating run sequences (UAX #9, X1 to X10).
+#![tactic(auto)]
+
+mod controls;
+mod embedded;
+mod kept;
+mod kind;
+pub mod laws;
+mod level;
+mod paragraph;
+mod places;
+mod sequences;
+mod stack;
+
+pub use embedded::{Embedded, Sequence};
+pub use kept::Kept;
+pub use level::paragraph_level;
+pub use paragraph::explicit;
+
+#[cfg(test)]
+mod tests;

@@ -1,0 +1,46 @@
+//! What the explicit rules make of a paragraph (UAX #9, X1 to X10).
+
+ghost use Rattle.std.specs.Prelude.{◌≡◌, ◌≤◌, IfOk, length, map, is_some, not};
+ghost use Rattle.std.specs.List.{All};
+ghost use Rattle.paragraphs.specs.Text.{code_points};
+ghost use Rattle.paragraphs.specs.Classes.{is_removed};
+ghost use Rattle.bidi_explicit.specs.Embedding.{classes_of, embedding, IsWithinDepth};
+
+use crate::controls::controls;
+use crate::embedded::Embedded;
+use crate::level::paragraph_level;
+use crate::places::places;
+use crate::sequences::sequences;
+use bg_types::{Base, Bidi, Memory};
+use paragraphs::Para;
+use std::alloc::Global;
+use ucd_files::Tables;
+
+/// The classes of a text's code points.
+fn classes_of(alloc: Global, tables: &Tables, text: &str) -> Result<Vec<Bidi>, Memory>
+    ensures { IfOk result (λ classes. classes.items ≡ classes_of tables.now text.now) }
+{
+    Ok(text.chars().map(|c| tables.bidi(c)).collect(alloc)?)
+}
+
+/// A paragraph's level, what is kept at each of its places with its level and class (X1 to X9), and its
+/// isolating run sequences (X10).
+pub fn explicit(alloc: Global, tables: &Tables, para: &Para, base: Base) -> Result<Embedded, Memory>
+    ensures embedding { IfOk result (λ e. e ≡ embedding base (classes_of tables.now para.now.text)) }
+    ensures places { IfOk result (λ e. length e.places ≡ length (code_points para.now.text)) }
+    ensures removed { IfOk result (λ e. map is_some e.places ≡ map (λ c. not (is_removed c)) (classes_of tables.now para.now.text)) }
+    ensures depth { IfOk result (λ e. All IsWithinDepth e.places) }
+    ensures sequence_depth { IfOk result (λ e. All (λ s. s.level ≤ 125) e.sequences) }
+{
+    let level = paragraph_level(tables, para, base);
+    let classes = classes_of(alloc, tables, para.text())?;
+    let controls = controls(alloc, &classes)?;
+    let places = places(alloc, level, &classes, &controls)?;
+    let (order, extents) = sequences(alloc, level, &controls, &places)?;
+    Ok(Embedded {
+        level,
+        places,
+        order,
+        extents,
+    })
+}
