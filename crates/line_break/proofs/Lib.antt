@@ -1,0 +1,11 @@
+pub mod Contexts
+pub mod RuleTable
+pub mod Marking
+pub mod Tails
+pub mod Greatest
+pub mod LineEnds
+pub mod LinesLeft
+pub mod Breaking
+pub mod Joining
+pub mod Measuring
+pub mod Following

@@ -1,0 +1,142 @@
+-- The clusters of a paragraph, measured up to one of them.
+use Rattle.std.proofs.Common.{◌≡◌, ℕ, zero, suc, ◌+◌, ◌-◌, ◌<◌, ◌≤◌, Bool, true, false, cond, List, [], ◌∷◌, ◌++◌, map, length, drop, get_or, sum, refl, sym, ap, subst, ◌∙◌, arith}
+use Rattle.std.proofs.lemmas.List.{append-nil, append_assoc, length-append, length-map, drop-drop, get_or-drop}
+use Rattle.std.proofs.lemmas.List.Elements.{All-nil, All-cons, All-head, All-tail}
+use Rattle.std.proofs.lemmas.List.Sums.{sum_by-cons}
+use Rattle.std.specs.List.{All, concat, list_all, list_any}
+use Rattle.std.specs.Str.{IsUtf8}
+use Rattle.ucd_files.specs.Tables.{TableValues}
+use Rattle.paragraphs.specs.Text.{code_points}
+use Rattle.paragraphs.specs.Clusters.{clusters, cluster_code_points}
+use Rattle.paragraphs.specs.Columns.{begins_with_end, is_invisible, takes_two, columns_of}
+use Rattle.paragraphs.proofs.ClusterPlaces.{clusters-utf8, concat-clusters, sum-cluster_sizes, some-clusters, some-cluster_sizes}
+use Rattle.line_break.specs.declared.cluster.Cluster.{Cluster}
+use Rattle.line_break.specs.declared.item.Item.{Item}
+use Rattle.line_break.specs.declared.status.Break.{Break}
+use Rattle.line_break.specs.declared.status.Break.TheVariants.{Must}
+use Rattle.line_break.specs.Items.{point_of}
+use Rattle.line_break.specs.Statuses.{statuses_behind, breaks}
+use Rattle.line_break.specs.LineClusters.{is_space as is_space_of, measured, measured_all, line_clusters}
+
+length-statuses_behind : (front later : List Item) → length (statuses_behind front later) ≡ length later
+length-statuses_behind front [] = refl
+length-statuses_behind front (p ∷ later) = let more = length-statuses_behind (front ++ p ∷ []) later in omega arith
+
+-- a status for each code point
+pub length-breaks : (tables : TableValues) (text : List ℕ) → length (breaks tables text) ≡ length (code_points text)
+unfolding breaks
+length-breaks tables text = length-statuses_behind [] (map (point_of tables) (code_points text)) ∙ length-map (code_points text) (point_of tables)
+
+-- how many code points each of these clusters has
+abbrev pub sizes : List (List ℕ) → List ℕ
+sizes left = map length (map code_points left)
+
+-- the clusters before `left` are measured, and have `place` code points
+pub record IsMeasuredTo (tables : TableValues) (text : List ℕ) (left : List (List ℕ)) (done : List Cluster) (place : ℕ) : Type 0 where
+  pub utf8 : All IsUtf8 left
+  pub some : All (λ n. 0 < n) (sizes left)
+  pub places : place + sum (sizes left) ≡ length (breaks tables text)
+  pub so_far : done ++ measured_all tables (map code_points left) (drop place (breaks tables text)) ≡ line_clusters tables text
+
+module _ (tables : TableValues) (text : List ℕ) where
+  pub IsMeasuredTo-start : (left : List (List ℕ)) (done : List Cluster) → IsUtf8 text → left ≡ clusters text → done ≡ [] → IsMeasuredTo tables text left done 0
+  unfolding line_clusters
+  IsMeasuredTo-start left done u all none =
+      let start : IsMeasuredTo tables text (clusters text) [] 0 = record {
+        utf8 = clusters-utf8 text u;
+        some = some-cluster_sizes text u;
+        places = let a = sum-cluster_sizes text u in let b = length-breaks tables text in omega arith;
+        so_far = refl;
+      } in
+      subst (λ (l : List (List ℕ)). IsMeasuredTo tables text l done 0) (sym all)
+      (subst (λ (d : List Cluster). IsMeasuredTo tables text (clusters text) d 0) (sym none) start)
+
+  no_clusters : (left : List (List ℕ)) → concat left ≡ text → All (λ cluster. 0 < length cluster) left → length text ≡ 0 → left ≡ []
+  no_clusters [] all some none = refl
+  no_clusters (c ∷ left) all some none =
+      absurd (let n = ap length all in let first = All-head (λ (x : List ℕ). 0 < length x) c left some in
+      let both = length-append c (concat left) in omega arith)
+
+  -- an empty text has no clusters
+  pub line_clusters-nil : IsUtf8 text → length text ≡ 0 → [] ≡ line_clusters tables text
+  unfolding line_clusters
+  line_clusters-nil u none =
+      ap (λ l. measured_all tables (map code_points l) (breaks tables text)) (sym (no_clusters (clusters text) (concat-clusters text u) (some-clusters text) none))
+
+  module _ (left : List (List ℕ)) (done : List Cluster) (place : ℕ) (m : IsMeasuredTo tables text left done place) where
+    -- all clusters are measured
+    pub line_clusters-end : left ≡ [] → done ≡ line_clusters tables text
+    line_clusters-end none = sym (append-nil done) ∙ ap (λ l. done ++ measured_all tables (map code_points l) (drop place (breaks tables text))) (sym none) ∙ m.so_far
+
+    -- one more cluster
+    module _ (c : List ℕ) (later : List (List ℕ)) (e : left ≡ c ∷ later) where
+      at_cluster : IsMeasuredTo tables text (c ∷ later) done place
+      at_cluster = subst (λ (l : List (List ℕ)). IsMeasuredTo tables text l done place) e m
+
+      pub cluster-utf8 : IsUtf8 c
+      cluster-utf8 = All-head IsUtf8 c later at_cluster.utf8
+
+      pub cluster-some : 0 < length (code_points c)
+      cluster-some = All-head (λ n. 0 < n) (length (code_points c)) (sizes later) at_cluster.some
+
+      pub cluster-fits : place + length (code_points c) ≤ length (breaks tables text)
+      cluster-fits = let all = at_cluster.places in let more = sum_by-cons (λ (n : ℕ). n) (length (code_points c)) (sizes later) in omega arith
+
+      pub IsMeasuredTo-on : (more : List Cluster) (size : ℕ) (new : Cluster) → size ≡ length (code_points c)
+          → new ≡ measured tables (code_points c) (drop place (breaks tables text)) → more ≡ done ++ new ∷ []
+          → IsMeasuredTo tables text later more (place + size)
+      IsMeasuredTo-on more size new n is put =
+          let next : IsMeasuredTo tables text later (done ++ measured tables (code_points c) (drop place (breaks tables text)) ∷ []) (place + length (code_points c)) = record {
+            utf8 = All-tail IsUtf8 c later at_cluster.utf8;
+            some = All-tail (λ n. 0 < n) (length (code_points c)) (sizes later) at_cluster.some;
+            places = let all = at_cluster.places in let all_more = sum_by-cons (λ (n : ℕ). n) (length (code_points c)) (sizes later) in omega arith;
+            so_far =
+                append_assoc done (measured tables (code_points c) (drop place (breaks tables text)) ∷ []) _
+                ∙ ap (λ s. done ++ measured tables (code_points c) (drop place (breaks tables text)) ∷ measured_all tables (map code_points later) s)
+                (sym (drop-drop (length (code_points c)) place (breaks tables text)))
+                ∙ at_cluster.so_far;
+          } in
+          subst (λ (x : List Cluster). IsMeasuredTo tables text later x (place + size)) (sym (put ∙ ap (λ x. done ++ x ∷ []) is))
+          (subst (λ (x : ℕ). IsMeasuredTo tables text later (done ++ measured tables (code_points c) (drop place (breaks tables text)) ∷ []) (place + x)) (sym n) next)
+
+same_default : (xs : List Break) (i : ℕ) (d e : Break) → i < length xs → get_or xs i d ≡ get_or xs i e
+same_default [] i d e l = absurd (omega arith)
+same_default (x ∷ xs) zero d e l = refl
+same_default (x ∷ xs) (suc i) d e l = same_default xs i d e (omega arith)
+
+-- a cluster with the status behind its last code point
+pub measured-is : (tables : TableValues) (points : List ℕ) (statuses all : List Break) (place size columns : ℕ) (is_space : Bool) (after : Break)
+    → statuses ≡ all → size ≡ length points → 0 < length points → place + length points ≤ length all
+    → columns ≡ columns_of tables points → is_space ≡ is_space_of tables points → after ≡ get_or statuses (place + size - 1) after
+    → record { columns = columns; is_space = is_space; after = after } ≡ measured tables points (drop place all)
+measured-is tables points statuses all place size columns is_space after same n some fits a b at =
+    let status : after ≡ get_or (drop place all) (length points - 1) Must =
+    at ∙ ap (λ s. get_or s (place + size - 1) after) same
+    ∙ same_default all (place + size - 1) after Must (omega arith)
+    ∙ (let where_at : place + size - 1 ≡ place + (length points - 1) = omega arith in ap (λ i. get_or all i Must) where_at)
+    ∙ sym (get_or-drop place all (length points - 1) Must) in
+    ap (λ x. cluster_of x is_space after) a ∙ ap (λ x. cluster_of (columns_of tables points) x after) b
+    ∙ ap (λ x. cluster_of (columns_of tables points) (is_space_of tables points) x) status
+  where
+    cluster_of : ℕ → Bool → Break → Cluster
+    cluster_of columns is_space after = record { columns = columns; is_space = is_space; after = after }
+
+columns_of-two : (tables : TableValues) (points : List ℕ) → columns_of tables points ≤ 2
+columns_of-two tables points = elim (begins_with_end tables points) as (λ b. cond b 0 (cond (list_all (is_invisible tables) points) 0 (cond (list_any (takes_two tables) points) 2 1)) ≤ 2) [
+  | true ↦ omega arith
+  | false ↦ elim (list_all (is_invisible tables) points) as (λ b. cond b 0 (cond (list_any (takes_two tables) points) 2 1) ≤ 2) [
+    | true ↦ omega arith
+    | false ↦ elim (list_any (takes_two tables) points) as (λ b. cond b 2 1 ≤ 2) [ true ↦ omega arith | false ↦ omega arith ]
+  ]
+]
+
+two-measured_all : (tables : TableValues) (cs : List (List ℕ)) (statuses : List Break) → All (λ (c : Cluster). c.columns ≤ 2) (measured_all tables cs statuses)
+two-measured_all tables [] statuses = All-nil (λ (c : Cluster). c.columns ≤ 2)
+two-measured_all tables (c ∷ cs) statuses =
+    All-cons (λ (c : Cluster). c.columns ≤ 2) (measured tables c statuses) (measured_all tables cs (drop (length c) statuses))
+    (columns_of-two tables c) (two-measured_all tables cs (drop (length c) statuses))
+
+-- no cluster has more than two columns
+pub two-line_clusters : (tables : TableValues) (text : List ℕ) → All (λ (c : Cluster). c.columns ≤ 2) (line_clusters tables text)
+unfolding line_clusters
+two-line_clusters tables text = two-measured_all tables (cluster_code_points text) (breaks tables text)

@@ -1,0 +1,9 @@
+pub mod Classes
+pub mod Items
+pub mod Context
+pub mod Rules
+pub mod Statuses
+pub mod LineClusters
+pub mod Lines
+pub mod Open
+pub mod Ranges

@@ -1,0 +1,55 @@
+//! Line breaking classes as the rules see them.
+
+ghost use Rattle.std.specs.Prelude.{◌≡◌};
+ghost use Rattle.ucd_files.specs.Tables.{bidi_of, lb_of};
+ghost use Rattle.line_break.specs.Classes.{one_of, is_nonspacing, resolved, is_east_asian};
+
+use bg_types::{Bidi, Ea, Lb};
+use ucd_files::Tables;
+
+/// Whether the class is one of these.
+#[inline]
+#[tactic(auto, unfolding(crate::specs::Classes::one_of))]
+pub(crate) fn is_one_of(class: Lb, classes: &[Lb]) -> bool
+    ensures { result ≡ one_of classes.now class }
+{
+    classes.contains(&class)
+}
+
+#[inline]
+#[tactic(auto, unfolding(crate::specs::Classes::is_nonspacing))]
+fn is_nonspacing(class: Bidi) -> bool
+    ensures { result ≡ is_nonspacing class }
+{
+    matches!(class, Bidi::Nsm)
+}
+
+/// The class of a character by LB1.
+#[inline]
+#[tactic(auto, unfolding(crate::specs::Classes::resolved))]
+pub(crate) fn resolved(tables: &Tables, c: char) -> Lb
+    ensures { result ≡ resolved (bidi_of tables.now c) (lb_of tables.now c) }
+{
+    match tables.lb(c) {
+        Lb::Ai | Lb::Sg | Lb::Xx => Lb::Al,
+        Lb::Cj => Lb::Ns,
+        // That SA becomes AL and not ID or another class of a dictionary is own.
+        Lb::Sa => {
+            if is_nonspacing(tables.bidi(c)) {
+                Lb::Cm
+            } else {
+                Lb::Al
+            }
+        }
+        class => class,
+    }
+}
+
+/// Whether LB30 leaves out a character of this width.
+#[inline]
+#[tactic(auto, unfolding(crate::specs::Classes::is_east_asian))]
+pub(crate) fn is_east_asian(width: Ea) -> bool
+    ensures { result ≡ is_east_asian width }
+{
+    matches!(width, Ea::F | Ea::W | Ea::H)
+}

@@ -1,0 +1,120 @@
+//! What the rules ask of the text before a boundary, and of what follows it.
+
+ghost use Rattle.std.specs.Prelude.{◌≡◌, ◌&&◌, List, [], ◌∷◌, ◌++◌};
+
+use crate::class::is_one_of;
+use crate::item::{Item, is_mark, takes_marks};
+use bg_types::Lb;
+
+/// What stands before a boundary.
+#[derive(Clone, Copy)]
+pub(crate) struct Before {
+    /// The class of the code point right before it.
+    pub(crate) point: Lb,
+    /// The class of the item before it.
+    pub(crate) item: Lb,
+    /// Whether that item is East Asian F, W or H.
+    pub(crate) wide: bool,
+    /// The class of the item before any number of spaces.
+    pub(crate) spaced: Lb,
+    /// Whether an odd number of RI items in a row ends there.
+    pub(crate) odd_regional: bool,
+    /// Whether HL and then HY or BA end there.
+    pub(crate) hebrew_hyphen: bool,
+}
+
+impl Before {
+    ghost use Rattle.line_break.specs.declared.item.Item.{Item};
+    ghost use Rattle.line_break.specs.Items.{is_mark, takes_marks};
+    ghost use Rattle.line_break.specs.Context.{before, before_by};
+
+    /// What stands before a text's first character: nothing.
+    #[tactic(auto, unfolding(crate::specs::Context::before, crate::specs::Items::items))]
+    pub(crate) fn nothing() -> Before
+        ensures { result ≡ before [] }
+    {
+        Before {
+            point: Lb::Sp,
+            item: Lb::Sp,
+            wide: false,
+            spaced: Lb::Sp,
+            odd_regional: false,
+            hebrew_hyphen: false,
+        }
+    }
+
+    /// What stands before the next boundary, `point` being the character between.
+    pub(crate) fn next(self, point: Item) -> Before
+        ensures { (front : List Item) → self ≡ before front → result ≡ before (front ++ point ∷ []) }
+    {
+        if self.takes(point) {
+            self.with_mark(point)
+        } else {
+            self.with_base(point.class, point.as_base())
+        }
+    }
+
+    /// Whether a character belongs to the item before it (LB9).
+    fn takes(self, point: Item) -> bool
+        ensures { result ≡ (is_mark point.class && takes_marks self.item) }
+    {
+        is_mark(point.class) && takes_marks(self.item)
+    }
+
+    /// The mark belongs to the item before it.
+    fn with_mark(self, mark: Item) -> Before
+        ensures { (items : List Item) → self ≡ before_by self.point items → result ≡ before_by mark.class items }
+    {
+        Before {
+            point: mark.class,
+            ..self
+        }
+    }
+
+    /// The character begins an item, behind the one before.
+    fn with_base(self, point: Lb, base: Item) -> Before
+        ensures { (items : List Item) → self ≡ before_by self.point items
+            → result ≡ before_by point (base ∷ items) }
+    {
+        Before {
+            point,
+            item: base.class,
+            wide: base.wide,
+            spaced: if is_one_of(base.class, &[Lb::Sp]) {
+                self.spaced
+            } else {
+                base.class
+            },
+            odd_regional: is_one_of(base.class, &[Lb::Ri]) && !self.odd_regional,
+            hebrew_hyphen: is_one_of(base.class, &[Lb::Hy, Lb::Ba])
+                && is_one_of(self.item, &[Lb::Hl]),
+        }
+    }
+}
+
+/// What follows a boundary.
+#[derive(Clone, Copy)]
+pub(crate) struct After {
+    /// The class of the code point right after it.
+    pub(crate) point: Lb,
+    /// The class of the item that it begins, where it belongs to none.
+    pub(crate) item: Lb,
+    /// Whether that item is East Asian F, W or H.
+    pub(crate) wide: bool,
+}
+
+impl After {
+    ghost use Rattle.line_break.specs.Context.{after};
+
+    /// What follows a boundary right before this character.
+    #[inline]
+    pub(crate) fn of(point: Item) -> After
+        ensures { result ≡ after point }
+    {
+        After {
+            point: point.class,
+            item: point.as_base().class,
+            wide: point.wide,
+        }
+    }
+}

@@ -1,0 +1,22 @@
+//! Laws of the definitions: the contract is the law, and the body is empty.
+
+ghost use Rattle.std.specs.Prelude.{◌≡◌, ℕ, ◌<◌, List, length, slice_range};
+ghost use Rattle.std.specs.List.{flat_map};
+ghost use Rattle.ucd_files.specs.Tables.{TableValues};
+ghost use Rattle.paragraphs.specs.Clusters.{clusters};
+ghost use Rattle.line_break.specs.Lines.{lines};
+ghost use Rattle.line_break.specs.Ranges.{Follow};
+
+/// The lines of a paragraph join to its clusters.
+pub fn lines_join()
+    ensures { (tables : TableValues) (text : List ℕ) (width : ℕ)
+        → flat_map (λ line. slice_range (clusters text) line.start line.end) (lines tables text width) ≡ clusters text }
+{}
+
+/// The lines of a paragraph that isn't empty are in order: the first starts at its first cluster,
+/// each other one where the one before it ends, and the last ends behind its last cluster; each has
+/// a cluster.
+pub fn lines_follow()
+    ensures { (tables : TableValues) (text : List ℕ) (width : ℕ) → 0 < length (clusters text)
+        → Follow 0 (lines tables text width) (length (clusters text)) }
+{}

@@ -1,0 +1,209 @@
+//! UAX #14's rules LB4 to LB31, in the standard's order.
+
+ghost use Rattle.std.specs.Prelude.{◌≡◌, ◌&&◌, [], ◌∷◌};
+ghost use Rattle.std.specs.List.{list_any};
+ghost use Rattle.line_break.specs.Rules.{holds, point, base, next_point, mark, first_rule, rules, item_rules, late_rules, joiners, enclosing, quotations, contingent, hyphens, ideographs, numbers, syllables, letters, parentheses, pairs};
+
+use crate::class::is_one_of;
+use crate::context::{After, Before};
+use crate::item::{is_mark, takes_marks};
+use crate::status::Break;
+use bg_types::Lb;
+use bg_types::Lb::{
+    Al, B2, Ba, Bb, Bk, Cb, Cl, Cp, Cr, Eb, Em, Ex, Gl, H2, H3, Hl, Hy, Id, In, Is, Jl, Jt, Jv, Lf,
+    Nl, Ns, Nu, Op, Po, Pr, Qu, Ri, Sp, Sy, Wj, Zw, Zwj,
+};
+
+/// The status of a boundary that is not a paragraph's end, by the first rule that holds.
+pub(crate) fn status(b: Before, a: After) -> Break
+    ensures { result ≡ first_rule rules Break.May b a }
+{
+    if is_one_of(b.point, &[Bk]) {
+        Break::Must // LB4
+    } else if is_between_cr_lf(b, a) {
+        Break::No // LB5
+    } else if is_one_of(b.point, &[Cr, Lf, Nl]) {
+        Break::Must
+    } else if is_one_of(a.point, &[Bk, Cr, Lf, Nl]) {
+        Break::No // LB6
+    } else if is_one_of(a.point, &[Sp, Zw]) {
+        Break::No // LB7
+    } else if is_one_of(b.spaced, &[Zw]) {
+        Break::May // LB8
+    } else if is_one_of(b.point, &[Zwj]) {
+        Break::No // LB8a
+    } else if is_before_mark(b, a) {
+        Break::No // LB9
+    } else {
+        item_status(b, a)
+    }
+}
+
+/// LB5's CR × LF.
+fn is_between_cr_lf(b: Before, a: After) -> bool
+    ensures { result ≡ (point (Lb.Cr ∷ []) b && next_point (Lb.Lf ∷ []) a) }
+{
+    is_one_of(b.point, &[Cr]) && is_one_of(a.point, &[Lf])
+}
+
+/// LB9: a mark follows that belongs to the item before.
+fn is_before_mark(b: Before, a: After) -> bool
+    ensures { result ≡ (base b && mark a) }
+{
+    takes_marks(b.item) && is_mark(a.point)
+}
+
+/// The same by the rules on items, LB11 and on.
+fn item_status(b: Before, a: After) -> Break
+    ensures { result ≡ first_rule item_rules Break.May b a }
+{
+    if joiners(b, a) {
+        Break::No
+    } else if enclosing(b, a) {
+        Break::No
+    } else if is_one_of(b.item, &[Sp]) {
+        Break::May // LB18
+    } else if quotations(b, a) {
+        Break::No
+    } else if contingent(b, a) {
+        Break::May
+    } else if hyphens(b, a) {
+        Break::No
+    } else {
+        late_status(b, a)
+    }
+}
+
+/// The same by LB23 and on.
+fn late_status(b: Before, a: After) -> Break
+    ensures { result ≡ first_rule late_rules Break.May b a }
+{
+    if ideographs(b, a) {
+        Break::No
+    } else if numbers(b, a) {
+        Break::No
+    } else if syllables(b, a) {
+        Break::No
+    } else if letters(b, a) {
+        Break::No
+    } else if parentheses(b, a) {
+        Break::No
+    } else if pairs(b, a) {
+        Break::No
+    } else {
+        Break::May // LB31
+    }
+}
+
+/// LB11 to LB12a: word joiner, non-breaking characters.
+#[tactic(auto, unfolding(crate::specs::Rules::joiners))]
+fn joiners(b: Before, a: After) -> bool
+    ensures { result ≡ list_any (holds b a) joiners }
+{
+    is_one_of(a.item, &[Wj])
+        || is_one_of(b.item, &[Wj])
+        || is_one_of(b.item, &[Gl])
+        || !is_one_of(b.item, &[Sp, Ba, Hy]) && is_one_of(a.item, &[Gl])
+}
+
+/// LB13 to LB17: opening and closing.
+#[tactic(auto, unfolding(crate::specs::Rules::enclosing))]
+fn enclosing(b: Before, a: After) -> bool
+    ensures { result ≡ list_any (holds b a) enclosing }
+{
+    is_one_of(a.item, &[Cl, Cp, Ex, Is, Sy])
+        || is_one_of(b.spaced, &[Op])
+        || is_one_of(b.spaced, &[Qu]) && is_one_of(a.item, &[Op])
+        || is_one_of(b.spaced, &[Cl, Cp]) && is_one_of(a.item, &[Ns])
+        || is_one_of(b.spaced, &[B2]) && is_one_of(a.item, &[B2])
+}
+
+/// LB19: quotation marks.
+#[tactic(auto, unfolding(crate::specs::Rules::quotations))]
+fn quotations(b: Before, a: After) -> bool
+    ensures { result ≡ list_any (holds b a) quotations }
+{
+    is_one_of(a.item, &[Qu]) || is_one_of(b.item, &[Qu])
+}
+
+/// LB20: contingent breaks.
+#[tactic(auto, unfolding(crate::specs::Rules::contingent))]
+fn contingent(b: Before, a: After) -> bool
+    ensures { result ≡ list_any (holds b a) contingent }
+{
+    is_one_of(a.item, &[Cb]) || is_one_of(b.item, &[Cb])
+}
+
+/// LB21 to LB22: hyphens and leaders.
+#[tactic(auto, unfolding(crate::specs::Rules::hyphens))]
+fn hyphens(b: Before, a: After) -> bool
+    ensures { result ≡ list_any (holds b a) hyphens }
+{
+    is_one_of(a.item, &[Ba, Hy, Ns])
+        || is_one_of(b.item, &[Bb])
+        || b.hebrew_hyphen
+        || is_one_of(b.item, &[Sy]) && is_one_of(a.item, &[Hl])
+        || is_one_of(a.item, &[In])
+}
+
+/// LB23 and LB23a: letters with numbers, ideographs with prefixes and postfixes.
+#[tactic(auto, unfolding(crate::specs::Rules::ideographs))]
+fn ideographs(b: Before, a: After) -> bool
+    ensures { result ≡ list_any (holds b a) ideographs }
+{
+    is_one_of(b.item, &[Al, Hl]) && is_one_of(a.item, &[Nu])
+        || is_one_of(b.item, &[Nu]) && is_one_of(a.item, &[Al, Hl])
+        || is_one_of(b.item, &[Pr]) && is_one_of(a.item, &[Id, Eb, Em])
+        || is_one_of(b.item, &[Id, Eb, Em]) && is_one_of(a.item, &[Po])
+}
+
+/// LB24 and LB25: prefixes, postfixes and numbers.
+#[tactic(auto, unfolding(crate::specs::Rules::numbers))]
+fn numbers(b: Before, a: After) -> bool
+    ensures { result ≡ list_any (holds b a) numbers }
+{
+    is_one_of(b.item, &[Pr, Po]) && is_one_of(a.item, &[Al, Hl])
+        || is_one_of(b.item, &[Al, Hl]) && is_one_of(a.item, &[Pr, Po])
+        || is_one_of(b.item, &[Cl, Cp, Nu]) && is_one_of(a.item, &[Po, Pr])
+        || is_one_of(b.item, &[Po, Pr]) && is_one_of(a.item, &[Op, Nu])
+        || is_one_of(b.item, &[Hy, Is, Nu, Sy]) && is_one_of(a.item, &[Nu])
+}
+
+/// LB26 and LB27: Korean syllable blocks.
+#[tactic(auto, unfolding(crate::specs::Rules::syllables))]
+fn syllables(b: Before, a: After) -> bool
+    ensures { result ≡ list_any (holds b a) syllables }
+{
+    is_one_of(b.item, &[Jl]) && is_one_of(a.item, &[Jl, Jv, H2, H3])
+        || is_one_of(b.item, &[Jv, H2]) && is_one_of(a.item, &[Jv, Jt])
+        || is_one_of(b.item, &[Jt, H3]) && is_one_of(a.item, &[Jt])
+        || is_one_of(b.item, &[Jl, Jv, Jt, H2, H3]) && is_one_of(a.item, &[Po])
+        || is_one_of(b.item, &[Pr]) && is_one_of(a.item, &[Jl, Jv, Jt, H2, H3])
+}
+
+/// LB28 and LB29: letters.
+#[tactic(auto, unfolding(crate::specs::Rules::letters))]
+fn letters(b: Before, a: After) -> bool
+    ensures { result ≡ list_any (holds b a) letters }
+{
+    is_one_of(b.item, &[Al, Hl]) && is_one_of(a.item, &[Al, Hl])
+        || is_one_of(b.item, &[Is]) && is_one_of(a.item, &[Al, Hl])
+}
+
+/// LB30: parentheses.
+#[tactic(auto, unfolding(crate::specs::Rules::parentheses))]
+fn parentheses(b: Before, a: After) -> bool
+    ensures { result ≡ list_any (holds b a) parentheses }
+{
+    is_one_of(b.item, &[Al, Hl, Nu]) && is_one_of(a.item, &[Op]) && !a.wide
+        || is_one_of(b.item, &[Cp]) && !b.wide && is_one_of(a.item, &[Al, Hl, Nu])
+}
+
+/// LB30a and LB30b: pairs of regional indicators and of emoji.
+#[tactic(auto, unfolding(crate::specs::Rules::pairs))]
+fn pairs(b: Before, a: After) -> bool
+    ensures { result ≡ list_any (holds b a) pairs }
+{
+    b.odd_regional && is_one_of(a.item, &[Ri])
+        || is_one_of(b.item, &[Eb]) && is_one_of(a.item, &[Em])
+}

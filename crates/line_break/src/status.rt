@@ -1,0 +1,61 @@
+//! The statuses of a paragraph's boundaries.
+
+ghost use Rattle.std.specs.Prelude.{◌≡◌, IfOk};
+ghost use Rattle.line_break.specs.Statuses.{breaks};
+ghost use Rattle.line_break.specs.Lines.{is_must, is_break};
+
+use crate::context::{After, Before};
+use crate::item::Item;
+use crate::rules::status;
+use bg_types::Memory;
+use paragraphs::Para;
+use std::alloc::Global;
+use ucd_files::Tables;
+
+/// What the boundary after a code point is to a line (UAX #14, LD).
+#[derive(Clone, Copy, Debug, PartialEq, Eq, Hash)]
+pub enum Break {
+    /// A line must end there.
+    Must,
+    /// A line may end there.
+    May,
+    /// No line ends there, unless nothing else fits.
+    No,
+}
+
+/// Whether a line must end at a boundary of this status.
+#[inline]
+pub(crate) fn is_must(status: Break) -> bool
+    ensures { result ≡ is_must status }
+{
+    matches!(status, Break::Must)
+}
+
+/// Whether a line must or may end at a boundary of this status.
+#[inline]
+pub(crate) fn is_break(status: Break) -> bool
+    ensures { result ≡ is_break status }
+{
+    !matches!(status, Break::No)
+}
+
+/// The status of the boundary after each code point of a paragraph, in order (UAX #14, in the
+/// profile of this crate's rules). The last one is Must.
+pub fn opportunities(alloc: Global, tables: &Tables, para: &Para) -> Result<Vec<Break>, Memory>
+    ensures { IfOk result (λ v. v.items ≡ breaks tables.now para.now.text) }
+{
+    let text = para.text();
+    let mut statuses = Vec::with_capacity(alloc, text.chars().count())?;
+    let mut chars = text.chars();
+    let Some(first) = chars.next() else {
+        return Ok(statuses);
+    };
+    let mut before = Before::nothing().next(Item::point(tables, first));
+    while let Some(c) = chars.next() {
+        let point = Item::point(tables, c);
+        statuses.push(status(before, After::of(point)))?;
+        before = before.next(point);
+    }
+    statuses.push(Break::Must)?;
+    Ok(statuses)
+}
