@@ -1,0 +1,16 @@
+pub mod Grown
+pub mod Homes
+pub mod Joined
+pub mod Least
+pub mod Seen
+pub mod Split
+pub mod Passing
+pub mod Numbers
+pub mod Shown
+pub mod Places
+pub mod Members
+pub mod Halves
+pub mod Put
+pub mod Spots
+pub mod Skipping
+pub mod Whole

@@ -1,0 +1,182 @@
+-- Which identifiers stand in blocks, and where they are at home.
+use Rattle.std.proofs.Common.{◌≡◌, ℕ, zero, suc, ◌<◌, ◌≤◌, ◌+◌, ◌&&◌, ◌||◌, Bool, true, false, cond, not, List, [], ◌∷◌, ◌++◌, length, take, drop, get_or, Option, Some, None, refl, sym, ap, subst, ◌∙◌, zero-add, length-append, arith}
+use Rattle.std.specs.Prelude.{map as each, insert, set, IsSome, is_some, slice_get}
+use Rattle.std.specs.List.{list_any, prefix_len, AllByRecursion, find as find_in}
+use Rattle.std.proofs.lemmas.List.{take-append-drop}
+use Rattle.std.proofs.lemmas.List.Folds.{list_any-append}
+use Rattle.bg_types.specs.Identifier.{Identifier, same_id}
+use Rattle.bg_types.proofs.IdentifierOrder.{same_id-is, same_id-itself}
+use Rattle.rga_tree.specs.declared.element.Element.{Element}
+use Rattle.rga_tree.specs.Row.{ids_of, is_distinct}
+use Rattle.rga_tree.proofs.Entries.{and_parts}
+use Rattle.rga_sequence.specs.Blocks.{joined, offset}
+use Rattle.rga_sequence.specs.BlockRows.{has, home_of}
+use Rattle.rga_sequence.proofs.Split.{or_left, or_right, has_joined, AreApart, AreAllApart}
+
+neither : (a b : Bool) → (a || b) ≡ false → (a ≡ false) × (b ≡ false)
+neither true b h = absurd cc
+neither false b h = (refl, h)
+
+-- ---- distinct rows
+
+any_ids : (q : Identifier) (es : List Element) → list_any (same_id q) (ids_of es) ≡ has q es
+any_ids q [] = refl
+any_ids q (e ∷ es) = ap (λ b. same_id q e.id || b) (any_ids q es)
+
+-- no identifier is in two parts of a distinct row
+pub distinct-apart : (x y : List Element) → is_distinct (ids_of (x ++ y)) ≡ true → AreApart x y × ((is_distinct (ids_of x) ≡ true) × (is_distinct (ids_of y) ≡ true))
+distinct-apart [] y d = (λ q a b. absurd cc, (refl, d))
+distinct-apart (e ∷ x) y d =
+    let p = and_parts (not (list_any (same_id e.id) (ids_of (x ++ y)))) (is_distinct (ids_of (x ++ y))) d in
+    let rest = distinct-apart x y p.1 in
+    let none : has e.id (x ++ y) ≡ false = sym (any_ids e.id (x ++ y)) ∙ unnot (list_any (same_id e.id) (ids_of (x ++ y))) p.0 in
+    let parts = neither (has e.id x) (has e.id y) (sym (list_any-append (λ z. same_id e.id z.id) x y) ∙ none) in (
+      (λ q a b. by_first q (same_id q e.id) refl a b parts.1 rest.0),
+      (
+        (λ i. not ((any_ids e.id x ∙ parts.0) i) && rest.1.0 i),
+        rest.1.1,
+      ),
+    ) where
+      unnot : (b : Bool) → not b ≡ true → b ≡ false
+      unnot true h = absurd cc
+      unnot false h = refl
+
+      by_first : (q : Identifier) (t : Bool) → same_id q e.id ≡ t → (t || has q x) ≡ true → has q y ≡ true → has e.id y ≡ false → AreApart x y → ⊥
+      by_first q true is a b out apart = let in_y : has e.id y ≡ true = subst (λ k. has k y ≡ true) (same_id-is q e.id is) b in absurd cc
+      by_first q false is a b out apart = apart q a b
+
+pub all_apart : (xs : List (List Element)) → is_distinct (ids_of (joined xs)) ≡ true → AreAllApart xs
+all_apart [] d = tt
+all_apart (x ∷ xs) d = let p = distinct-apart x (joined xs) d in (p.0, all_apart xs p.1.1)
+
+pub distinct_in : (xs : List (List Element)) (i : ℕ) → i < length xs → is_distinct (ids_of (joined xs)) ≡ true → is_distinct (ids_of (get_or xs i [])) ≡ true
+distinct_in [] i h d = absurd (omega arith)
+distinct_in (x ∷ xs) zero h d = (distinct-apart x (joined xs) d).1.0
+distinct_in (x ∷ xs) (suc i) h d = distinct_in xs i (omega arith) (distinct-apart x (joined xs) d).1.1
+
+pub halves_apart : (xs : List (List Element)) (i n : ℕ) → i < length xs → is_distinct (ids_of (joined xs)) ≡ true → AreApart (take n (get_or xs i [])) (drop n (get_or xs i []))
+halves_apart xs i n h d =
+    let x = get_or xs i [] in
+    (distinct-apart (take n x) (drop n x) (ap (λ r. is_distinct (ids_of r)) (take-append-drop n x) ∙ distinct_in xs i h d)).0
+
+-- ---- what is in a row
+
+pub all_have : (P : Identifier → Type 0) (es : List Element) → ((q : Identifier) → has q es ≡ true → P q) → AllByRecursion (λ e. P e.id) es
+all_have P [] h = tt
+all_have P (e ∷ es) h = (
+  h e.id (or_left (same_id e.id e.id) (has e.id es) (same_id-itself e.id)),
+  all_have P es (λ q there. h q (or_right (same_id q e.id) (has q es) there)),
+)
+
+pub has_drop : (n : ℕ) (es : List Element) (q : Identifier) → has q (drop n es) ≡ true → has q es ≡ true
+has_drop n es q h =
+    sym (sym (list_any-append (λ e. same_id q e.id) (take n es) (drop n es)) ∙ ap (has q) (take-append-drop n es)) ∙ or_right (has q (take n es)) (has q (drop n es)) h
+
+has-insert : (l r : List Element) (n : Element) (q : Identifier) → has q (l ++ n ∷ r) ≡ (same_id q n.id || has q (l ++ r))
+has-insert [] r n q = refl
+has-insert (x ∷ l) r n q = ap (λ b. same_id q x.id || b) (has-insert l r n q) ∙ turned (same_id q x.id) (same_id q n.id) (has q (l ++ r)) where
+  turned : (a b c : Bool) → (a || (b || c)) ≡ (b || (a || c))
+  turned true true c = refl
+  turned true false c = refl
+  turned false b c = refl
+
+pub has-inserted : (es : List Element) (i : ℕ) (n : Element) (q : Identifier) → has q (insert es i n) ≡ (same_id q n.id || has q es)
+has-inserted es i n q = has-insert (take i es) (drop i es) n q ∙ ap (λ r. same_id q n.id || has q r) (take-append-drop i es)
+
+-- ---- homes
+
+-- an identifier is at home exactly where it stands
+pub is_some-home : (xs : List (List Element)) (ns : List ℕ) (q : Identifier) → length xs ≡ length ns → is_some (home_of xs ns q) ≡ has q (joined xs)
+is_some-home [] ns q many = refl
+is_some-home (x ∷ xs) [] q many = absurd (omega arith)
+is_some-home (x ∷ xs) (n ∷ ns) q many =
+    elim (has q x) as (λ b. is_some (cond b (Some n) (home_of xs ns q)) ≡ (b || has q (joined xs))) [ true ↦ refl | false ↦ is_some-home xs ns q (omega arith) ]
+    ∙ sym (list_any-append (λ e. same_id q e.id) x (joined xs))
+
+-- the first block with it
+pub record IsFirst (xs : List (List Element)) (ns : List ℕ) (q : Identifier) (n p : ℕ) : Type 0 where
+  pub there : p < length xs
+  pub number : get_or ns p 0 ≡ n
+  pub inside : has q (get_or xs p []) ≡ true
+  pub before : has q (joined (take p xs)) ≡ false
+
+pub home-first : (xs : List (List Element)) (ns : List ℕ) (q : Identifier) (n : ℕ) → home_of xs ns q ≡ Some n → (p : ℕ) × IsFirst xs ns q n p
+home-first [] ns q n h = absurd cc
+home-first (x ∷ xs) [] q n h = absurd cc
+home-first (x ∷ xs) (m ∷ ns) q n h = by_test (λ k. home-first xs ns q n k) (has q x) refl h where
+  by_test : (home_of xs ns q ≡ Some n → (p : ℕ) × IsFirst xs ns q n p) → (b : Bool) → has q x ≡ b → cond b (Some m) (home_of xs ns q) ≡ Some n → (p : ℕ) × IsFirst (x ∷ xs) (m ∷ ns) q n p
+  by_test more true is h = let same : m ≡ n = cc in (0, record { there = omega arith; number = same; inside = is; before = refl })
+  by_test more false is h =
+      let rest = more h in (
+        suc rest.0,
+        record {
+          there = let less = rest.1.there in omega arith;
+          number = rest.1.number;
+          inside = rest.1.inside;
+          before = list_any-append (λ e. same_id q e.id) x (joined (take rest.0 xs)) ∙ (λ i. is i || rest.1.before i);
+        },
+      )
+
+-- ---- how many stand before the one with an identifier
+
+abbrev pub until : Identifier → List Element → ℕ
+until q es = prefix_len (λ e. not (same_id q e.id)) es
+
+pub until_none : (q : Identifier) (es : List Element) → has q es ≡ false → until q es ≡ length es
+until_none q [] h = refl
+until_none q (e ∷ es) h =
+    let p = neither (same_id q e.id) (has q es) h in
+    let rest = until_none q es p.1 in
+    ap (λ b. cond (not b) (1 + until q es) 0) p.0 ∙ omega (arith, rest)
+
+pub until_some : (q : Identifier) (es : List Element) → has q es ≡ true → until q es < length es
+until_some q [] h = absurd cc
+until_some q (e ∷ es) h =
+    let rest = until_some q es in
+    elim (same_id q e.id) as (λ b. (b || has q es) ≡ true → cond (not b) (1 + until q es) 0 < length (e ∷ es)) [
+      | true ↦ λ _. omega arith
+      | false ↦ λ h. omega (arith, rest h)
+    ] h
+
+until-past : (q : Identifier) (x y : List Element) → has q x ≡ false → until q (x ++ y) ≡ length x + until q y
+until-past q [] y h = sym (zero-add (until q y))
+until-past q (e ∷ x) y h =
+    let p = neither (same_id q e.id) (has q x) h in
+    let rest = until-past q x y p.1 in
+    ap (λ b. cond (not b) (1 + until q (x ++ y)) 0) p.0 ∙ omega (arith, rest)
+
+until-in : (q : Identifier) (x y : List Element) → has q x ≡ true → until q (x ++ y) ≡ until q x
+until-in q [] y h = absurd cc
+until-in q (e ∷ x) y h =
+    let rest = until-in q x y in
+    elim (same_id q e.id) as (λ b. (b || has q x) ≡ true → cond (not b) (1 + until q (x ++ y)) 0 ≡ cond (not b) (1 + until q x) 0) [
+      | true ↦ λ _. refl
+      | false ↦ λ h. ap (λ n. 1 + n) (rest h)
+    ] h
+
+-- it stands in the first block that has it
+pub until-first : (xs : List (List Element)) (p : ℕ) (q : Identifier) → p < length xs → has q (get_or xs p []) ≡ true → has q (joined (take p xs)) ≡ false
+    → offset xs p (until q (get_or xs p [])) ≡ until q (joined xs)
+until-first [] p q there inside before = absurd (omega arith)
+until-first (x ∷ xs) zero q there inside before = zero-add (until q x) ∙ sym (until-in q x (joined xs) inside)
+until-first (x ∷ xs) (suc p) q there inside before =
+    let parts = neither (has q x) (has q (joined (take p xs))) (sym (list_any-append (λ e. same_id q e.id) x (joined (take p xs))) ∙ before) in
+    let rest = until-first xs p q (omega arith) inside parts.1 in
+    omega (arith, until-past q x (joined xs) parts.0, rest, length-append x (joined (take p xs)))
+
+-- what stands there
+pub find-until : (q : Identifier) (es : List Element) → has q es ≡ true → find_in (λ e. same_id q e.id) es ≡ slice_get es (until q es)
+find-until q [] h = absurd cc
+find-until q (e ∷ es) h =
+    let rest = find-until q es in
+    let s : 1 + until q es ≡ suc (until q es) = omega arith in
+    elim (same_id q e.id) as (λ b. (b || has q es) ≡ true → cond b (Some e) (find_in (λ e. same_id q e.id) es) ≡ slice_get (e ∷ es) (cond (not b) (1 + until q es) 0)) [
+      | true ↦ λ _. refl
+      | false ↦ λ h. rest h ∙ ap (slice_get (e ∷ es)) (sym s)
+    ] h
+
+pub find_none : (q : Identifier) (es : List Element) → has q es ≡ false → find_in (λ e. same_id q e.id) es ≡ None
+find_none q [] h = refl
+find_none q (e ∷ es) h =
+    let p = neither (same_id q e.id) (has q es) h in
+    ap (λ b. cond b (Some e) (find_in (λ e. same_id q e.id) es)) p.0 ∙ find_none q es p.1

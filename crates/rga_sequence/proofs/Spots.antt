@@ -1,0 +1,116 @@
+-- Elements of the row by their blocks.
+use Rattle.std.proofs.Common.{◌≡◌, ℕ, zero, suc, ◌<◌, ◌≤◌, ◌+◌, Bool, true, false, cond, not, List, [], ◌∷◌, ◌++◌, length, take, get_or, Option, Some, None, refl, sym, ap, subst, ◌∙◌, zero-add, length-append, length-set, arith}
+use Rattle.std.specs.Prelude.{filter, set, slice_get, IsSome}
+use Rattle.std.specs.Option.{IfNone}
+use Rattle.bg_types.specs.Identifier.{Identifier, same_id}
+use Rattle.rga_tree.specs.declared.element.Element.{Element}
+use Rattle.rga_sequence.specs.Blocks.{seen, joined, offset}
+use Rattle.rga_sequence.specs.BlockRows.{has, home_of}
+use Rattle.rga_sequence.proofs.Members.{IsFirst, home-first, until, until_none}
+use Rattle.rga_sequence.proofs.Places.{slice_get-within}
+
+get_or-some : (xs : List ℕ) (i v d : ℕ) → slice_get xs i ≡ Some v → get_or xs i d ≡ v
+get_or-some [] i v d h = absurd cc
+get_or-some (x ∷ xs) zero v d h = cc
+get_or-some (x ∷ xs) (suc i) v d h = get_or-some xs i v d h
+
+-- the block that the index and the places tell is the first that has the identifier
+pub found_first : (xs : List (List Element)) (ns places : List ℕ) (q : Identifier) (number r : ℕ) → ((p : ℕ) → p < length xs → slice_get places (get_or ns p 0) ≡ Some p)
+    → home_of xs ns q ≡ Some number → r ≡ get_or places number r → IsFirst xs ns q number r
+found_first xs ns places q number r inverts found is =
+    let f = home-first xs ns q number found in
+    let at : slice_get places number ≡ Some f.0 = ap (slice_get places) (sym f.1.number) ∙ inverts f.0 f.1.there in
+    subst (IsFirst xs ns q number) (sym (is ∙ get_or-some places number f.0 r at)) f.1
+
+pub found_within : (xs : List (List Element)) (ns places : List ℕ) (q : Identifier) (number : ℕ) → ((p : ℕ) → p < length xs → slice_get places (get_or ns p 0) ≡ Some p)
+    → home_of xs ns q ≡ Some number → number < length places
+found_within xs ns places q number inverts found =
+    let f = home-first xs ns q number found in
+    slice_get-within places number f.0 (ap (slice_get places) (sym f.1.number) ∙ inverts f.0 f.1.there)
+
+pub some_spot : (o : Option (ℕ × ℕ)) (q : Identifier) (es : List Element) → IfNone o (has q es ≡ false) → until q es + 1 ≤ length es → IsSome o
+some_spot None q es absent there = let all = until_none q es absent in absurd (omega arith)
+some_spot (Some s) q es absent there = refl
+
+-- ---- the element at a place of the row
+
+get_or-past : (x y : List Element) (n : ℕ) (d : Element) → get_or (x ++ y) (length x + n) d ≡ get_or y n d
+get_or-past [] y n d = rw (zero-add n) refl
+get_or-past (e ∷ x) y n d = let s : suc (length x) + n ≡ suc (length x + n) = omega arith in rw s (get_or-past x y n d)
+
+get_or-in : (x y : List Element) (n : ℕ) (d : Element) → n < length x → get_or (x ++ y) n d ≡ get_or x n d
+get_or-in [] y n d h = absurd (omega arith)
+get_or-in (e ∷ x) y zero d h = refl
+get_or-in (e ∷ x) y (suc n) d h = get_or-in x y n d (omega arith)
+
+pub get_or_joined : (xs : List (List Element)) (p j : ℕ) (d : Element) → p < length xs → j < length (get_or xs p []) → get_or (joined xs) (offset xs p j) d ≡ get_or (get_or xs p []) j d
+get_or_joined [] p j d there within = absurd (omega arith)
+get_or_joined (x ∷ xs) zero j d there within = rw (zero-add j) (get_or-in x (joined xs) j d within)
+get_or_joined (x ∷ xs) (suc p) j d there within =
+    let e : length (x ++ joined (take p xs)) + j ≡ length x + offset xs p j = omega (arith, length-append x (joined (take p xs))) in
+    rw e (get_or-past x (joined xs) (offset xs p j) d ∙ get_or_joined xs p j d (omega arith) within)
+
+slice_get-past : (x y : List Element) (n : ℕ) → slice_get (x ++ y) (length x + n) ≡ slice_get y n
+slice_get-past [] y n = rw (zero-add n) refl
+slice_get-past (e ∷ x) y n = let s : suc (length x) + n ≡ suc (length x + n) = omega arith in rw s (slice_get-past x y n)
+
+slice_get-in : (x y : List Element) (n : ℕ) → n < length x → slice_get (x ++ y) n ≡ slice_get x n
+slice_get-in [] y n h = absurd (omega arith)
+slice_get-in (e ∷ x) y zero h = refl
+slice_get-in (e ∷ x) y (suc n) h = slice_get-in x y n (omega arith)
+
+pub slice_get_joined : (xs : List (List Element)) (p j : ℕ) → p < length xs → j < length (get_or xs p []) → slice_get (joined xs) (offset xs p j) ≡ slice_get (get_or xs p []) j
+slice_get_joined [] p j there within = absurd (omega arith)
+slice_get_joined (x ∷ xs) zero j there within = rw (zero-add j) (slice_get-in x (joined xs) j within)
+slice_get_joined (x ∷ xs) (suc p) j there within =
+    let e : length (x ++ joined (take p xs)) + j ≡ length x + offset xs p j = omega (arith, length-append x (joined (take p xs))) in
+    rw e (slice_get-past x (joined xs) (offset xs p j) ∙ slice_get_joined xs p j (omega arith) within)
+
+set-past : (x y : List Element) (n : ℕ) (v : Element) → set (x ++ y) (length x + n) v ≡ x ++ set y n v
+set-past [] y n v = rw (zero-add n) refl
+set-past (e ∷ x) y n v = let s : suc (length x) + n ≡ suc (length x + n) = omega arith in rw s (ap (λ r. e ∷ r) (set-past x y n v))
+
+set-in : (x y : List Element) (n : ℕ) (v : Element) → n < length x → set (x ++ y) n v ≡ set x n v ++ y
+set-in [] y n v h = absurd (omega arith)
+set-in (e ∷ x) y zero v h = refl
+set-in (e ∷ x) y (suc n) v h = ap (λ r. e ∷ r) (set-in x y n v (omega arith))
+
+-- a write in a block is a write in the row
+pub set_joined : (xs : List (List Element)) (p j : ℕ) (v : Element) → p < length xs → j < length (get_or xs p []) → joined (set xs p (set (get_or xs p []) j v)) ≡ set (joined xs) (offset xs p j) v
+set_joined [] p j v there within = absurd (omega arith)
+set_joined (x ∷ xs) zero j v there within = rw (zero-add j) (sym (set-in x (joined xs) j v within))
+set_joined (x ∷ xs) (suc p) j v there within =
+    let e : length (x ++ joined (take p xs)) + j ≡ length x + offset xs p j = omega (arith, length-append x (joined (take p xs))) in
+    rw e (ap (λ r. x ++ r) (set_joined xs p j v (omega arith) within) ∙ sym (set-past x (joined xs) (offset xs p j) v))
+
+pub there_set : (xs : List (List Element)) (p : ℕ) (y : List Element) → p < length xs → get_or (set xs p y) p [] ≡ y
+there_set [] p y there = absurd (omega arith)
+there_set (x ∷ xs) zero y there = refl
+there_set (x ∷ xs) (suc p) y there = there_set xs p y (omega arith)
+
+pub seen-append : (x y : List Element) → seen (x ++ y) ≡ seen x + seen y
+seen-append [] y = sym (zero-add (seen y))
+seen-append (e ∷ x) y =
+    let f = filter (λ z. not z.hidden) (x ++ y) in
+    let g = filter (λ z. not z.hidden) x in
+    let rest = seen-append x y in
+    elim e.hidden as (λ b. length (cond (not b) (e ∷ f) f) ≡ length (cond (not b) (e ∷ g) g) + seen y) [ true ↦ rest | false ↦ omega (arith, rest) ]
+
+pub seen_set : (xs : List (List Element)) (p : ℕ) (y : List Element) → p < length xs → seen (joined (set xs p y)) + seen (get_or xs p []) ≡ seen (joined xs) + seen y
+seen_set [] p y there = absurd (omega arith)
+seen_set (x ∷ xs) zero y there = omega (arith, seen-append y (joined xs), seen-append x (joined xs))
+seen_set (x ∷ xs) (suc p) y there = omega (arith, seen-append x (joined (set xs p y)), seen-append x (joined xs), seen_set xs p y (omega arith))
+
+-- where a place isn't in the first blocks there is one more
+pub more_blocks : (xs : List (List Element)) (b k j : ℕ) → b < length xs → length (joined (take (suc b) xs)) + k ≡ j → j < length (joined xs) → suc b < length xs
+more_blocks [] b k j there place within = absurd (omega arith)
+more_blocks (x ∷ []) zero k j there place within = absurd (omega (arith, length-append x []))
+more_blocks (x ∷ y ∷ xs) zero k j there place within = omega arith
+more_blocks (x ∷ xs) (suc b) k j there place within =
+    let rest = more_blocks xs b k (length (joined (take (suc b) xs)) + k) (omega arith) refl (omega (arith, length-append x (joined (take (suc b) xs)), length-append x (joined xs))) in
+    omega arith
+
+pub offset_less : (xs : List (List Element)) (p j : ℕ) → p < length xs → j < length (get_or xs p []) → offset xs p j < length (joined xs)
+offset_less [] p j there within = absurd (omega arith)
+offset_less (x ∷ xs) zero j there within = omega (arith, length-append x (joined xs))
+offset_less (x ∷ xs) (suc p) j there within = omega (arith, offset_less xs p j (omega arith) within, length-append x (joined xs), length-append x (joined (take p xs)))

@@ -1,0 +1,36 @@
+use Rattle.std.proofs.Common.{◌≡◌, ◌+◌, ◌∙◌, sym, ap, length, [], arith}
+use Rattle.std.specs.Map.{lookup}
+use Rattle.rga_tree.proofs.Placing.{Keeps-nothing}
+use Rattle.rga_sequence.specs.Blocks.{joined, seen}
+use Rattle.rga_sequence.specs.BlockRows.{items_of, numbers_of, home_of}
+use Rattle.rga_sequence.proofs.Homes.{id_eq}
+use Rattle.rga_sequence.proofs.blocks.Blocks.new.Goals as goal
+
+pub invariant_of-result : goal.invariant_of-result
+invariant_of-result c =
+    let e = c.new.ensures.items in
+    let none = ap length e in
+    let row = ap (λ bs. joined (items_of bs)) e in
+    let k = Keeps-nothing (joined (items_of c.new.result.items)) row in
+    record {
+      in_order = k.in_order;
+      distinct = k.distinct;
+      tree = k.tree;
+      only_placed = k.only_placed;
+      well_formed = k.well_formed;
+      indexed = record {
+        homes = λ q. ap (lookup (id_eq q)) c.new-3.ensures.empty ∙ sym (ap (λ bs. home_of (items_of bs) (numbers_of bs) q) e);
+        places = λ p h. absurd (omega (arith, none, h));
+        as_many = omega (arith, c.new.ensures.len, c.new-4.ensures.len);
+        counted = c.new-3.ensures.len ∙ sym (ap length row);
+        halves = λ h. absurd (omega (arith, ap (λ bs. length (items_of bs)) e, h));
+      };
+      enough = record {
+        paid = omega (arith, ap length row);
+        index = omega arith;
+        blocks = omega (arith, c.new.ensures.len, c.new-2.ensures.len);
+        places = omega (arith, c.new.ensures.len, c.new-2.ensures.len);
+      };
+      placed_are = sym (ap length row);
+      visible_are = sym (ap seen row);
+    }

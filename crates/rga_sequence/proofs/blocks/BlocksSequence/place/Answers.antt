@@ -1,0 +1,62 @@
+use Rattle.std.proofs.Common.{◌≡◌, ◌+◌, ◌-◌, ◌∙◌, sym, ap, subst, refl, length, arith}
+use Rattle.std.proofs.lemmas.List.Edits.{length-insert}
+use Rattle.rga_tree.specs.declared.element.Element.{Element}
+use Rattle.rga_tree.specs.Row.{place_of}
+use Rattle.rga_tree.proofs.Placing.{Keeps, placing, start_within}
+use Rattle.rga_tree.proofs.RowSets.{has_row}
+use Rattle.rga_sequence.specs.Blocks.{seen}
+use Rattle.rga_sequence.specs.Indexed.{elements_in, HasRoom}
+use Rattle.rga_sequence.proofs.Grown.{seen-insert, seen_le, weight_le}
+use Rattle.rga_sequence.proofs.Whole.{less_room, place_within}
+use Rattle.rga_sequence.proofs.blocks.BlocksSequence.place.Goals as goal
+
+pub put-requires-clause-parent : goal.put-requires-clause-parent
+put-requires-clause-parent c = start_within (elements_in c.args.self.now.row) c.args.parent c.requires.parent
+
+pub put-requires-clause-new : goal.put-requires-clause-new
+put-requires-clause-new c = sym (has_row (elements_in c.args.self.now.row) c.args.id) ∙ c.requires.new
+
+pub put-requires-clause-room : goal.put-requires-clause-room
+put-requires-clause-room c = less_room c.args.self.now.row c.args.self.now.room 1 c.args.self.now.enough c.requires.room
+
+pub overflow_add-self : goal.overflow_add-self
+overflow_add-self c =
+    let row = elements_in c.args.self.now.row in
+    let n : Element = record { id = c.args.id; parent = c.args.parent; ch = c.args.ch; hidden = c.args.hidden } in
+    let start = start_within row c.args.parent c.requires.parent in
+    let at = place_of c.args.parent c.args.id row in
+    let long : length (elements_in c.put.new.row) ≡ length row + 1 = ap length c.put.ensures.elements ∙ length-insert row at n (place_within c.args.parent c.args.id row start) in
+    omega (arith, long, c.len-self.ensures.len, c.put.ensures.indexed.counted, c.args.self.now.visible_are, seen_le row, c.weight.ensures, weight_le c.args.hidden)
+
+pub invariant_of-self : goal.invariant_of-self
+invariant_of-self c =
+    let row = elements_in c.args.self.now.row in
+    let keeps : Keeps row = record { in_order = c.args.self.now.in_order; distinct = c.args.self.now.distinct; tree = c.args.self.now.tree; only_placed = c.args.self.now.only_placed; well_formed = c.args.self.now.well_formed } in
+    let n : Element = record { id = c.args.id; parent = c.args.parent; ch = c.args.ch; hidden = c.args.hidden } in
+    let start = start_within row c.args.parent c.requires.parent in
+    let at = place_of c.args.parent c.args.id row in
+    let step = placing row (elements_in c.put.new.row) n at keeps c.requires.parent (c.counter-known.ensures.identifier, c.requires.before, c.ranges.ch.0) c.requires.new start refl c.put.ensures.elements in
+    let counted : c.args.self.now.visible + c.weight.result ≡ seen (elements_in c.put.new.row) =
+    (λ i. c.args.self.now.visible_are i + c.weight.ensures i) ∙ sym (seen-insert row at n) ∙ ap seen (sym c.put.ensures.elements) in
+    let some : c.args.self.now.room ≡ c.args.self.now.room - 1 + 1 = omega (arith, c.requires.room) in
+    record {
+      in_order = step.0.in_order;
+      distinct = step.0.distinct;
+      tree = step.0.tree;
+      only_placed = step.0.only_placed;
+      well_formed = step.0.well_formed;
+      indexed = c.put.ensures.indexed;
+      enough = c.put.ensures.room (c.args.self.now.room - 1) (subst (HasRoom c.args.self.now.row) some c.args.self.now.enough);
+      placed_are = c.len-self.ensures.len ∙ c.put.ensures.indexed.counted;
+      visible_are = counted;
+    }
+
+pub returns-clause-content : goal.returns-clause-content
+returns-clause-content c =
+    let row = elements_in c.args.self.now.row in
+    let keeps : Keeps row = record { in_order = c.args.self.now.in_order; distinct = c.args.self.now.distinct; tree = c.args.self.now.tree; only_placed = c.args.self.now.only_placed; well_formed = c.args.self.now.well_formed } in
+    let n : Element = record { id = c.args.id; parent = c.args.parent; ch = c.args.ch; hidden = c.args.hidden } in
+    let start = start_within row c.args.parent c.requires.parent in
+    let at = place_of c.args.parent c.args.id row in
+    let step = placing row (elements_in c.put.new.row) n at keeps c.requires.parent (c.counter-known.ensures.identifier, c.requires.before, c.ranges.ch.0) c.requires.new start refl c.put.ensures.elements in
+    step.1

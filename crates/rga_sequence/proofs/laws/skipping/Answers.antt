@@ -1,0 +1,5 @@
+use Rattle.rga_sequence.proofs.Skipping.{walk-leaf_attached}
+use Rattle.rga_sequence.proofs.laws.skipping.Goals as goal
+
+pub returns : goal.returns
+returns c = λ s well id node is new none stands. walk-leaf_attached s id node well is new none stands

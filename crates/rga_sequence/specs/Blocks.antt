@@ -1,0 +1,37 @@
+-- Rows of blocks of elements.
+use Rattle.std.specs.Prelude.{◌≡◌, ◌+◌, ◌&&◌, ℕ, Bool, false, not, List, [], ◌∷◌, length, filter, take, slice_get, get_or, Some}
+use Rattle.std.specs.List.{list_all, list_any, flat_map}
+use Rattle.std.specs.Ordering.{is_lt}
+use Rattle.bg_types.specs.Identifier.{Identifier, id_cmp, same_id}
+use Rattle.rga_tree.specs.declared.element.Element.{Element}
+
+-- how many elements are visible
+abbrev pub seen : List Element → ℕ
+seen es = length (filter (λ e. not e.hidden) es)
+
+-- how many elements of all blocks are visible
+abbrev pub seen_all : List (List Element) → ℕ
+seen_all [] = 0
+seen_all (b ∷ bs) = seen b + seen_all bs
+
+-- the elements of all blocks, in order
+abbrev pub joined : List (List Element) → List Element
+joined bs = flat_map (λ b. b) bs
+
+-- where element j of block b stands in the whole row
+abbrev pub offset : List (List Element) → ℕ → ℕ → ℕ
+offset bs b j = length (joined (take b bs)) + j
+
+-- element j of block b is e, which is visible, and k visible elements stand before it
+pub record IsVisiblePlace (bs : List (List Element)) (k b j : ℕ) (e : Element) : Type 0 where
+  pub there : slice_get (get_or bs b []) j ≡ Some e
+  pub visible : e.hidden ≡ false
+  pub before : seen_all (take b bs) + seen (take j (get_or bs b [])) ≡ k
+
+-- so many looks find visible element k, which is e: the place of its block and its place there, both from 1
+abbrev pub FindsBy : List (List Element) → ℕ → Element → ℕ → Type 0
+FindsBy bs k e n = (b : ℕ) × (j : ℕ) × IsVisiblePlace bs k b j e × (n ≡ (b + 1) + (j + 1))
+
+-- the identifier is that of an element, and no element's is smaller
+abbrev pub is_least : Identifier → List Element → Bool
+is_least least es = list_all (λ e. not (is_lt (id_cmp e.id least))) es && list_any (λ e. same_id least e.id) es

@@ -1,0 +1,17 @@
+-- What the skipping law asks of a new insertion.
+use Rattle.std.specs.Prelude.{◌≡◌, Some}
+use Rattle.std.specs.FinMap as map
+use Rattle.bg_types.specs.Identifier.{Identifier}
+use Rattle.bg_types.specs.OperationSet.{Node, OperationSet}
+use Rattle.bg_types.specs.declared.op.Place.{Place}
+use Rattle.bg_types.specs.declared.op.Place.TheVariants.{Root, After}
+use Rattle.rga_tree.specs.Attached.{IsAttached}
+
+-- an insertion of S has the identifier for parent
+abbrev pub IsParent : OperationSet → Identifier → Type 0
+IsParent s id = (child : Identifier) × (node : Node) × (map.get s.ins child ≡ Some node) × (node.parent ≡ After id)
+
+-- the place is the root, or attached in S
+abbrev pub StandsAttached : OperationSet → Place → Type 0
+StandsAttached s Root = Unit {0}
+StandsAttached s (After parent) = IsAttached s.ins parent

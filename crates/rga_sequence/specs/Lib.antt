@@ -1,0 +1,5 @@
+pub mod Blocks
+pub mod BlockRows
+pub mod Indexed
+pub mod Few
+pub mod Leaf

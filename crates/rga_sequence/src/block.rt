@@ -1,0 +1,170 @@
+//! Blocks of elements.
+
+ghost use Rattle.std.specs.Prelude.{◌≡◌, ◌+◌, ◌<◌, ◌≤◌, ◌∷◌, length, take, drop, insert, slice_set, slice_index_or, vec_len, vec_capacity, true, [], if◌then◌else◌};
+ghost use Rattle.std.specs.Ordering.{is_lt};
+ghost use Rattle.bg_types.specs.Identifier.{id_cmp};
+ghost use Rattle.rga_sequence.specs.Blocks.{seen, is_least};
+
+use bg_types::{Id, Place};
+use rga_tree::Element;
+
+/// How many elements a block has memory for.
+pub const FULL: usize = 512;
+
+/// How many elements stay in a full block that is split.
+pub const HALF: usize = 255;
+
+/// At least one element and at most 512, in the order of the walk, with memory for 512.
+#[derive(Drop)]
+pub struct Block {
+    pub elements: Vec<Element>,
+    pub visible: usize,
+    pub least: Id,
+    pub number: usize,
+    ghost few: { vec_len elements ≤ 512 },
+    ghost room: { 512 ≤ vec_capacity elements },
+    ghost counted: { visible ≡ seen elements.items },
+    ghost least_is: { is_least least elements.items ≡ true },
+}
+
+impl Block {
+    ghost use Rattle.rga_tree.specs.declared.element.Element.{Element};
+
+    /// A block of one element.
+    pub fn lone(
+        mut elements: Vec<Element>,
+        number: usize,
+        id: Id,
+        parent: Place,
+        ch: char,
+        hidden: bool,
+    ) -> Block
+        requires empty { elements.items ≡ [] }
+        requires room { 512 ≤ vec_capacity elements }
+        ensures items { result.elements.items ≡ record { id = id; parent = parent; ch = ch; hidden = hidden } ∷ [] }
+        ensures number { result.number ≡ number }
+    {
+        elements
+            .push(Element {
+                id,
+                parent,
+                ch,
+                hidden,
+            })
+            .unwrap();
+        Block {
+            elements,
+            visible: weight(hidden),
+            least: id,
+            number,
+        }
+    }
+
+    /// Puts an element in, with room for it.
+    pub fn insert(&mut self, at: usize, id: Id, parent: Place, ch: char, hidden: bool)
+        requires within { at ≤ length self.old.elements.items }
+        requires room { length self.old.elements.items < 512 }
+        ensures items { self.new.elements.items ≡ insert self.old.elements.items at
+            (record { id = id; parent = parent; ch = ch; hidden = hidden }) }
+        ensures number { self.new.number ≡ self.old.number }
+    {
+        self.least = lesser(id, self.least);
+        self.visible += weight(hidden);
+        self.elements
+            .insert(
+                at,
+                Element {
+                    id,
+                    parent,
+                    ch,
+                    hidden,
+                },
+            )
+            .unwrap();
+    }
+
+    /// Hides an element, and answers how many visible ones are fewer then.
+    pub fn hide(&mut self, at: usize) -> usize
+        requires { at < length self.old.elements.items }
+        ensures items { (d : Element) → let e = slice_index_or self.old.elements.items at d in
+            self.new.elements.items ≡ slice_set self.old.elements.items at (record e { hidden = true }) }
+        ensures number { self.new.number ≡ self.old.number }
+        ensures seen { seen self.new.elements.items + result ≡ seen self.old.elements.items }
+    {
+        let gone = weight(self.elements[at].hidden);
+        self.visible -= gone;
+        self.elements[at].hidden = true;
+        gone
+    }
+
+    /// Moves the upper half of a full block to a new one.
+    pub fn split(&mut self, mut upper: Vec<Element>, number: usize) -> Block
+        requires full { length self.old.elements.items ≡ 512 }
+        requires empty { upper.items ≡ [] }
+        requires room { 512 ≤ vec_capacity upper }
+        ensures items { self.new.elements.items ≡ take 256 self.old.elements.items }
+        ensures upper { result.elements.items ≡ drop 256 self.old.elements.items }
+        ensures number { self.new.number ≡ self.old.number }
+        ensures upper_number { result.number ≡ number }
+    {
+        upper.extend_from_slice(&self.elements[HALF..]).unwrap();
+        self.elements.truncate(HALF);
+        self.least = least_of(&self.elements);
+        self.visible = count_visible(&self.elements);
+        let least = least_of(&upper);
+        let visible = count_visible(&upper);
+        Block {
+            elements: upper,
+            visible,
+            least,
+            number,
+        }
+    }
+}
+
+fn count_visible(row: &[Element]) -> usize
+    ensures { result ≡ seen row.now }
+{
+    row.iter().filter(|e| !e.hidden).count()
+}
+
+/// How many visible elements an element is.
+pub fn weight(hidden: bool) -> usize
+    ensures { result ≡ (if hidden then 0 else 1) }
+{
+    if hidden { 0 } else { 1 }
+}
+
+/// The least identifier.
+fn least_of(row: &[Element]) -> Id
+    requires { 0 < length row.now }
+    ensures { is_least result row.now ≡ true }
+{
+    let mut least = row[0].id;
+    for e in row {
+        if is_below(e.id, least) {
+            least = e.id;
+        }
+    }
+    least
+}
+
+fn lesser(a: Id, b: Id) -> Id
+    ensures { result ≡ (if is_lt (id_cmp a b) then a else b) }
+{
+    if is_below(a, b) { a } else { b }
+}
+
+fn is_below(a: Id, b: Id) -> bool
+    ensures { result ≡ is_lt (id_cmp a b) }
+{
+    a < b
+}
+
+/// An empty row with memory for a block.
+#[derive(Drop)]
+pub struct Spare {
+    pub row: Vec<Element>,
+    ghost empty: { row.items ≡ [] },
+    ghost room: { 512 ≤ vec_capacity row },
+}

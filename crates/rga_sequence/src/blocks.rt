@@ -1,0 +1,179 @@
+//! The sequence in blocks.
+
+ghost use Rattle.std.specs.Prelude.{◌≡◌, ◌+◌, ◌*◌, ◌/◌, ◌-◌, ◌<◌, ◌≤◌, ℕ, true, length, get_or, slice_get, Some, [], vec_len, vec_capacity};
+ghost use Rattle.bg_types.specs.OperationSet.{no_operations, AllWellFormed};
+ghost use Rattle.rga_tree.specs.Tree.{IsTree, OnlyErasesPlaced};
+ghost use Rattle.rga_tree.specs.AllWellFormed.{AllWellFormed-prop};
+ghost use Rattle.rga_tree.specs.declared.element.Element.{Element};
+ghost use Rattle.rga_tree.specs.TextOf.{visible, visible_ids, text};
+ghost use Rattle.rga_tree.specs.Elements.{elements};
+ghost use Rattle.rga_tree.specs.Row.{operations_of, ids_of, is_distinct};
+ghost use Rattle.rga_sequence.specs.Blocks.{seen, FindsBy};
+ghost use Rattle.rga_sequence.specs.Few.{few_items};
+ghost use Rattle.rga_sequence.specs.Indexed.{blocks_in, elements_in, IsIndexed, IsIndexed-prop, HasRoom, HasRoom-prop};
+
+use crate::block::{HALF, weight};
+use crate::look::{Look, find};
+use crate::row::{Row, block_at, hide, make_memory, put, spot};
+use bg_types::{Id, Memory, Place};
+use rga_tree::{Element, Sequence};
+use std::alloc::Global;
+use std::collections::HashMap;
+
+/// A sequence in blocks.
+#[derive(Drop)]
+pub struct Blocks {
+    row: Row,
+    alloc: Global,
+    placed: usize,
+    visible: usize,
+    room: usize,
+    looks: u64,
+    ghost in_order: { elements_in row ≡ elements (operations_of (elements_in row)) },
+    ghost distinct: { is_distinct (ids_of (elements_in row)) ≡ true },
+    ghost tree: { IsTree (operations_of (elements_in row)) },
+    ghost only_placed: { OnlyErasesPlaced (operations_of (elements_in row)) },
+    ghost well_formed: { AllWellFormed (operations_of (elements_in row)) } by { AllWellFormed-prop (operations_of (elements_in row)) },
+    ghost indexed: { IsIndexed ⟦<Id as Eq>⟧.eq row } by { IsIndexed-prop ⟦<Id as Eq>⟧.eq row },
+    ghost enough: { HasRoom row room } by { HasRoom-prop row room },
+    ghost placed_are: { placed ≡ length (elements_in row) },
+    ghost visible_are: { visible ≡ seen (elements_in row) },
+}
+
+impl Blocks {
+    /// An empty sequence, which takes no memory.
+    pub fn new(alloc: Global) -> Blocks
+        ensures content { ⟦<Blocks as Sequence>⟧.content result ≡ no_operations }
+        ensures room { ⟦<Blocks as Sequence>⟧.free result ≡ 0 }
+        ensures looks { ⟦<Blocks as Look>⟧.looked result ≡ 0 }
+    {
+        Blocks {
+            row: Row {
+                blocks: Vec::new(alloc),
+                spares: Vec::new(alloc),
+                index: HashMap::new(alloc),
+                places: Vec::new(alloc),
+            },
+            alloc,
+            placed: 0,
+            visible: 0,
+            room: 0,
+            looks: 0,
+        }
+    }
+
+    /// How many blocks there are.
+    pub fn blocks(&self) -> usize
+        ensures count { result ≡ length (⟦<Blocks as Look>⟧.blocks self.now) }
+        ensures few { result ≤ 1 + length (elements (⟦<Blocks as Sequence>⟧.content self.now)) / 256 }
+    {
+        self.row.blocks.len()
+    }
+}
+
+impl Look for Blocks {
+    ghost blocks = { λ s. blocks_in s.row };
+
+    ghost looked = { λ s. s.looks };
+
+    ghost aside = { λ s. s.room };
+
+    fn header(&mut self, b: usize) -> usize {
+        self.looks += 1;
+        self.row.blocks[b].visible
+    }
+
+    fn element(&mut self, b: usize, j: usize) -> Element {
+        self.looks += 1;
+        self.row.blocks[b].elements[j]
+    }
+
+    fn looks(&self) -> u64 {
+        self.looks
+    }
+
+    ghost few = { λ s b. few_items s.row.blocks.items b };
+}
+
+impl Sequence for Blocks {
+    ghost content = { λ s. operations_of (elements_in s.row) };
+
+    ghost free = { λ s. s.room };
+
+    fn reserve(&mut self, n: usize) -> Result<(), Memory> {
+        if n <= self.room {
+            return Ok(());
+        }
+        let more = (n - self.room).div_ceil(HALF);
+        let room = self.room + more * HALF;
+        make_memory(&mut self.row, self.alloc, room, more)?;
+        self.room = room;
+        Ok(())
+    }
+
+    fn room(&self) -> usize {
+        self.room
+    }
+
+    fn place(&mut self, id: Id, parent: Place, ch: char, hidden: bool) {
+        let _known = id.counter();
+        put(&mut self.row, id, parent, ch, hidden);
+        self.placed = self.row.index.len();
+        self.visible += weight(hidden);
+        self.room -= 1;
+    }
+
+    fn hide(&mut self, id: Id) {
+        self.visible -= hide(&mut self.row, id);
+    }
+
+    fn len(&self) -> usize {
+        self.visible
+    }
+
+    fn id_at(&mut self, k: usize) -> Id
+        requires { k < length (visible (⟦<Blocks as Sequence>⟧.content self.old)) }
+        ensures value { slice_get (visible_ids (⟦<Blocks as Sequence>⟧.content self.old)) k ≡ Some result }
+        ensures content { ⟦<Blocks as Sequence>⟧.content self.new ≡ ⟦<Blocks as Sequence>⟧.content self.old }
+        ensures room { ⟦<Blocks as Sequence>⟧.free self.new ≡ ⟦<Blocks as Sequence>⟧.free self.old }
+        ensures looks { (e : Element) × FindsBy (⟦<Blocks as Look>⟧.blocks self.old) k e (⟦<Blocks as Look>⟧.looked self.new) }
+    {
+        self.looks = 0;
+        find(self, k).id
+    }
+
+    fn char_at(&mut self, k: usize) -> char
+        requires { k < length (visible (⟦<Blocks as Sequence>⟧.content self.old)) }
+        ensures value { slice_get (text (⟦<Blocks as Sequence>⟧.content self.old)) k ≡ Some result }
+        ensures content { ⟦<Blocks as Sequence>⟧.content self.new ≡ ⟦<Blocks as Sequence>⟧.content self.old }
+        ensures room { ⟦<Blocks as Sequence>⟧.free self.new ≡ ⟦<Blocks as Sequence>⟧.free self.old }
+        ensures looks { (e : Element) × FindsBy (⟦<Blocks as Look>⟧.blocks self.old) k e (⟦<Blocks as Look>⟧.looked self.new) }
+    {
+        self.looks = 0;
+        find(self, k).ch
+    }
+
+    fn placed(&self) -> usize {
+        self.placed
+    }
+
+    fn nth(&self, j: usize) -> Element {
+        let (b, at) = block_at(&self.row.blocks, j);
+        self.row.blocks[b].elements[at]
+    }
+
+    fn has(&self, id: Id) -> bool {
+        self.row.index.contains_key(&id)
+    }
+
+    fn element(&self, id: Id) -> Option<Element> {
+        let (b, at) = spot(&self.row, id)?;
+        Some(self.row.blocks[b].elements[at])
+    }
+
+    ghost is_tree = { λ s. s.tree };
+
+    ghost only_placed = { λ s. s.only_placed };
+
+    ghost well_formed = { λ s. s.well_formed };
+}

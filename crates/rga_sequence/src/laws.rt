@@ -1,0 +1,24 @@
+//! Laws of the definitions: each function's contract is the law, and its body is empty.
+
+ghost use Rattle.std.specs.Prelude.{◌≡◌, insert, false};
+ghost use Rattle.std.specs.FinMap as map;
+ghost use Rattle.bg_types.specs.Identifier.{Identifier};
+ghost use Rattle.bg_types.specs.OperationSet.{Node, OperationSet, AllWellFormed, with_operation};
+ghost use Rattle.bg_types.specs.WellFormed.{IsWellFormed};
+ghost use Rattle.bg_types.specs.declared.op.OpView.TheVariants.{Insert};
+ghost use Rattle.bg_types.specs.declared.op.Place.TheVariants.{Root};
+ghost use Rattle.rga_tree.specs.Walk.{walk};
+ghost use Rattle.rga_tree.specs.Elements.{elements};
+ghost use Rattle.rga_tree.specs.Row.{place_of};
+ghost use Rattle.rga_sequence.specs.Leaf.{IsParent, StandsAttached};
+
+/// The skipping law. A new insertion that is no parent, below the root or an attached parent, is
+/// put into the old walk behind its parent (the root: at the front), and behind all greater
+/// identifiers that follow there directly.
+pub fn skipping()
+    ensures { (s : OperationSet) → AllWellFormed s → (id : Identifier) (node : Node)
+        → IsWellFormed (Insert id node.parent node.ch) → map.contains_key s.ins id ≡ false
+        → (IsParent s id → ⊥) → StandsAttached s node.parent
+        → walk (with_operation s (Insert id node.parent node.ch)) Root
+        ≡ insert (walk s Root) (place_of node.parent id (elements s)) (id, node) }
+{}

@@ -1,0 +1,17 @@
+//! A sequence in blocks, whose places are found by their blocks.
+#![tactic(auto)]
+
+mod block;
+mod blocks;
+mod index;
+pub mod laws;
+mod look;
+mod order;
+mod row;
+mod skip;
+
+pub use blocks::Blocks;
+pub use look::{Look, find};
+
+#[cfg(test)]
+mod tests;

@@ -1,0 +1,238 @@
+//! The row of blocks with its index.
+
+ghost use Rattle.std.specs.Prelude.{◌≡◌, ◌+◌, ◌*◌, ◌<◌, ◌≤◌, ◌∷◌, take, drop, ℕ, length, get_or, slice_index_or, [], insert, slice_set, true, false, not, IfSome, IfNone, OnOk, vec_len, vec_capacity};
+ghost use Rattle.std.specs.List.{prefix_len};
+ghost use Rattle.bg_types.specs.Identifier.{same_id};
+ghost use Rattle.rga_tree.specs.declared.element.Element.{Element};
+ghost use Rattle.rga_tree.specs.Row.{start_of, place_of, ids_of, is_distinct};
+ghost use Rattle.rga_sequence.specs.Blocks.{seen, joined, offset};
+ghost use Rattle.rga_sequence.specs.BlockRows.{has, items_of};
+ghost use Rattle.rga_sequence.specs.Indexed.{blocks_in, elements_in, IsIndexed, HasRoom};
+
+use crate::block::{Block, FULL, HALF, Spare};
+use crate::index::{rehome, renumber};
+use crate::order::{hide_at, put_at, split_at};
+use crate::skip::place_from;
+use bg_types::{Id, Memory, Place};
+use rga_tree::Element;
+use std::alloc::Global;
+use std::collections::HashMap;
+
+/// Blocks in order, memory for more, the number of the block of each identifier, and the place of
+/// the block of each number.
+#[derive(Drop)]
+pub struct Row {
+    pub blocks: Vec<Block>,
+    pub spares: Vec<Spare>,
+    pub index: HashMap<Id, usize>,
+    pub places: Vec<usize>,
+}
+
+/// The block of an identifier, and its place there.
+pub fn spot(row: &Row, id: Id) -> Option<(usize, usize)>
+    requires { IsIndexed ⟦<Id as Eq>⟧.eq row.now }
+    ensures absent { IfNone result (has id (elements_in row.now) ≡ false) }
+    ensures block { IfSome result (λ s. s.0 < vec_len row.now.blocks) }
+    ensures within { IfSome result (λ s. s.1 < length (get_or (blocks_in row.now) s.0 [])) }
+    ensures place { IfSome result (λ s. offset (blocks_in row.now) s.0 s.1
+        ≡ prefix_len (λ e. not (same_id id e.id)) (elements_in row.now)) }
+{
+    match row.index.get(&id) {
+        None => None,
+        Some(&number) => {
+            let p = row.places[number];
+            Some((p, before(&row.blocks[p].elements, id)))
+        }
+    }
+}
+
+/// How many elements stand before the one with this identifier.
+fn before(row: &[Element], id: Id) -> usize
+    ensures { result ≡ prefix_len (λ e. not (same_id id e.id)) row.now }
+{
+    row.iter().take_while(|e| id != e.id).count()
+}
+
+/// Puts in a new element: behind its parent, and behind all greater ones that follow there.
+pub fn put(row: &mut Row, id: Id, parent: Place, ch: char, hidden: bool)
+    requires indexed { IsIndexed ⟦<Id as Eq>⟧.eq row.old }
+    requires distinct { is_distinct (ids_of (elements_in row.old)) ≡ true }
+    requires parent { start_of parent (elements_in row.old) ≤ length (elements_in row.old) }
+    requires new { has id (elements_in row.old) ≡ false }
+    requires room { HasRoom row.old 1 }
+    ensures elements { elements_in row.new ≡ insert (elements_in row.old)
+        (place_of parent id (elements_in row.old))
+        (record { id = id; parent = parent; ch = ch; hidden = hidden }) }
+    ensures indexed { IsIndexed ⟦<Id as Eq>⟧.eq row.new }
+    ensures room { (n : ℕ) → HasRoom row.old (n + 1) → HasRoom row.new n }
+{
+    if row.blocks.is_empty() {
+        put_first(row, id, parent, ch, hidden);
+    } else {
+        let (p, j) = start(row, &parent);
+        let (q, at) = place_from(&row.blocks, p, j, id);
+        let (q, at) = make_room(row, q, at);
+        put_into(row, q, at, id, parent, ch, hidden);
+    }
+}
+
+/// Puts in the first element.
+fn put_first(row: &mut Row, id: Id, parent: Place, ch: char, hidden: bool)
+    requires indexed { IsIndexed ⟦<Id as Eq>⟧.eq row.old }
+    requires none { vec_len row.old.blocks ≡ 0 }
+    requires room { HasRoom row.old 1 }
+    ensures elements { elements_in row.new ≡ record { id = id; parent = parent; ch = ch; hidden = hidden } ∷ [] }
+    ensures indexed { IsIndexed ⟦<Id as Eq>⟧.eq row.new }
+    ensures room { (n : ℕ) → HasRoom row.old (n + 1) → HasRoom row.new n }
+{
+    let elements = row.spares.pop().unwrap().row;
+    let block = Block::lone(elements, 0, id, parent, ch, hidden);
+    row.blocks.push(block).unwrap();
+    row.places.push(0).unwrap();
+    let kept: Result<_, _> = row.index.insert(id, 0);
+    kept.unwrap();
+}
+
+/// Right behind the parent: a block, and a place there.
+fn start(row: &Row, parent: &Place) -> (usize, usize)
+    requires indexed { IsIndexed ⟦<Id as Eq>⟧.eq row.now }
+    requires some { 0 < vec_len row.now.blocks }
+    requires parent { start_of parent.now (elements_in row.now) ≤ length (elements_in row.now) }
+    ensures block { result.0 < vec_len row.now.blocks }
+    ensures within { result.1 ≤ length (get_or (blocks_in row.now) result.0 []) }
+    ensures place { offset (blocks_in row.now) result.0 result.1 ≡ start_of parent.now (elements_in row.now) }
+{
+    match parent {
+        Place::Root => (0, 0),
+        Place::After(above) => {
+            let (p, j) = spot(row, *above).unwrap();
+            (p, j + 1)
+        }
+    }
+}
+
+/// The place in the row that is given by a block and a place there, with room for an element: a
+/// full block is split first.
+fn make_room(row: &mut Row, q: usize, at: usize) -> (usize, usize)
+    requires indexed { IsIndexed ⟦<Id as Eq>⟧.eq row.old }
+    requires distinct { is_distinct (ids_of (elements_in row.old)) ≡ true }
+    requires block { q < vec_len row.old.blocks }
+    requires within { at ≤ length (get_or (blocks_in row.old) q []) }
+    requires room { HasRoom row.old 1 }
+    ensures block { result.0 < vec_len row.new.blocks }
+    ensures within { result.1 ≤ length (get_or (blocks_in row.new) result.0 []) }
+    ensures free { length (get_or (blocks_in row.new) result.0 []) < 512 }
+    ensures place { offset (blocks_in row.new) result.0 result.1 ≡ offset (blocks_in row.old) q at }
+    ensures elements { elements_in row.new ≡ elements_in row.old }
+    ensures indexed { IsIndexed ⟦<Id as Eq>⟧.eq row.new }
+    ensures room { (n : ℕ) → HasRoom row.old n → HasRoom row.new n }
+{
+    if row.blocks[q].elements.len() < FULL {
+        return (q, at);
+    }
+    split(row, q);
+    if at <= HALF {
+        (q, at)
+    } else {
+        (q + 1, at - HALF)
+    }
+}
+
+/// Splits a full block into two.
+fn split(row: &mut Row, q: usize)
+    requires indexed { IsIndexed ⟦<Id as Eq>⟧.eq row.old }
+    requires distinct { is_distinct (ids_of (elements_in row.old)) ≡ true }
+    requires block { q < vec_len row.old.blocks }
+    requires full { length (get_or (blocks_in row.old) q []) ≡ 512 }
+    requires room { HasRoom row.old 1 }
+    ensures blocks { let x = get_or (blocks_in row.old) q [] in
+        blocks_in row.new ≡ insert (slice_set (blocks_in row.old) q (take 256 x)) (q + 1) (drop 256 x) }
+    ensures indexed { IsIndexed ⟦<Id as Eq>⟧.eq row.new }
+    ensures room { (n : ℕ) → HasRoom row.old n → HasRoom row.new n }
+{
+    let upper = row.spares.pop().unwrap().row;
+    let number = row.blocks.len();
+    split_at(&mut row.blocks, q, upper, number);
+    rehome(&mut row.index, &row.blocks[q + 1].elements, number);
+    row.places.push(number).unwrap();
+    renumber(&mut row.places, &row.blocks, q + 1);
+}
+
+/// Puts a new element into a block that has room.
+fn put_into(row: &mut Row, q: usize, at: usize, id: Id, parent: Place, ch: char, hidden: bool)
+    requires indexed { IsIndexed ⟦<Id as Eq>⟧.eq row.old }
+    requires new { has id (elements_in row.old) ≡ false }
+    requires block { q < vec_len row.old.blocks }
+    requires within { at ≤ length (get_or (blocks_in row.old) q []) }
+    requires free { length (get_or (blocks_in row.old) q []) < 512 }
+    requires room { HasRoom row.old 1 }
+    ensures elements { elements_in row.new ≡ insert (elements_in row.old) (offset (blocks_in row.old) q at)
+        (record { id = id; parent = parent; ch = ch; hidden = hidden }) }
+    ensures indexed { IsIndexed ⟦<Id as Eq>⟧.eq row.new }
+    ensures room { (n : ℕ) → HasRoom row.old (n + 1) → HasRoom row.new n }
+{
+    put_at(&mut row.blocks, q, at, id, parent, ch, hidden);
+    let number = row.blocks[q].number;
+    let kept: Result<_, _> = row.index.insert(id, number);
+    kept.unwrap();
+}
+
+/// Hides an element, and answers how many visible ones are fewer then.
+pub fn hide(row: &mut Row, id: Id) -> usize
+    requires indexed { IsIndexed ⟦<Id as Eq>⟧.eq row.old }
+    requires stands { has id (elements_in row.old) ≡ true }
+    ensures elements { (d : Element) → let at = prefix_len (λ e. not (same_id id e.id)) (elements_in row.old) in
+        let e = slice_index_or (elements_in row.old) at d in
+        elements_in row.new ≡ slice_set (elements_in row.old) at (record e { hidden = true }) }
+    ensures seen { seen (elements_in row.new) + result ≡ seen (elements_in row.old) }
+    ensures indexed { IsIndexed ⟦<Id as Eq>⟧.eq row.new }
+    ensures room { (n : ℕ) → HasRoom row.old n → HasRoom row.new n }
+{
+    let (p, j) = spot(row, id).unwrap();
+    hide_at(&mut row.blocks, p, j)
+}
+
+/// The block of element j of the row, and its place there.
+pub fn block_at(blocks: &[Block], j: usize) -> (usize, usize)
+    requires { j < length (joined (items_of blocks.now)) }
+    ensures block { result.0 < length blocks.now }
+    ensures within { result.1 < length (get_or (items_of blocks.now) result.0 []) }
+    ensures place { offset (items_of blocks.now) result.0 result.1 ≡ j }
+{
+    let mut b = 0;
+    let mut left = j;
+    while blocks[b].elements.len() <= left {
+        left -= blocks[b].elements.len();
+        b += 1;
+    }
+    (b, left)
+}
+
+/// Makes memory for `more` more blocks, and for n more identifiers.
+pub fn make_memory(row: &mut Row, alloc: Global, n: usize, more: usize) -> Result<(), Memory>
+    requires { IsIndexed ⟦<Id as Eq>⟧.eq row.old }
+    ensures blocks { row.new.blocks.items ≡ row.old.blocks.items }
+    ensures indexed { IsIndexed ⟦<Id as Eq>⟧.eq row.new }
+    ensures ok { OnOk result ((m : ℕ) → HasRoom row.old m → m + 256 * more ≤ n → HasRoom row.new (m + 256 * more)) }
+    ensures kept { (m : ℕ) → HasRoom row.old m → HasRoom row.new m }
+{
+    row.index.reserve(n)?;
+    row.spares.reserve(more)?;
+    row.blocks.reserve(row.spares.capacity())?;
+    row.places.reserve(row.spares.capacity())?;
+    add_spares(&mut row.spares, alloc, more)
+}
+
+/// Makes memory for `more` more blocks.
+fn add_spares(spares: &mut Vec<Spare>, alloc: Global, more: usize) -> Result<(), Memory>
+    requires { vec_len spares.old + more ≤ vec_capacity spares.old }
+    ensures ok { OnOk result (vec_len spares.new ≡ vec_len spares.old + more) }
+    ensures kept { vec_len spares.old ≤ vec_len spares.new }
+    ensures within { vec_len spares.new ≤ vec_capacity spares.old }
+{
+    for _ in 0..more {
+        let row = Vec::with_capacity(alloc, FULL)?;
+        spares.push(Spare { row })?;
+    }
+    Ok(())
+}
