@@ -1,0 +1,12 @@
+pub mod Scan
+pub mod WeakScans
+pub mod Runs
+pub mod NeutralScans
+pub mod Filling
+pub mod PuttingBack
+pub mod AllLevels
+pub mod Bounds
+pub mod Rows
+pub mod PlainRules
+pub mod PlainParagraph
+pub mod Counting

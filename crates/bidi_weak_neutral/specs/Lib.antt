@@ -1,0 +1,5 @@
+pub mod Classes
+pub mod Context
+pub mod Weak
+pub mod Neutral
+pub mod Levels

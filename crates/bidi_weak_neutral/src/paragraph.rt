@@ -1,0 +1,180 @@
+//! The resolved levels of a paragraph.
+
+ghost use Rattle.std.specs.Prelude.{◌≡◌, ◌<◌, ◌≤◌, IfOk, OnOk, All, Some, None, length, map, replicate, if◌then◌else◌};
+ghost use Rattle.paragraphs.specs.Text.{code_points};
+ghost use Rattle.bidi_weak_neutral.specs.Neutral.{implicit_level};
+ghost use Rattle.bidi_weak_neutral.specs.Levels.{levels_at, kept_levels, filled_levels, types_of_sequence, put_back, resolved_levels, levels_of, is_plain_text};
+
+use crate::class::is_plain;
+use crate::neutral::implicit_level;
+use crate::sequence::{characters, resolve_types, types_before};
+use bg_types::{Base, Bidi, Memory};
+use bidi_explicit::{Embedded, Kept, Sequence, explicit};
+use paragraphs::Para;
+use std::alloc::Global;
+use ucd_files::Tables;
+
+/// What is kept from one sequence to the next, so that memory is taken for the longest alone.
+#[derive(Drop)]
+struct Buffers {
+    characters: Vec<char>,
+    before: Vec<Bidi>,
+    types: Vec<Bidi>,
+}
+
+/// The types of a sequence of the paragraph after N2, in the buffer of types.
+fn resolve_sequence(
+    alloc: Global,
+    tables: &Tables,
+    points: &[char],
+    places: &[Option<Kept>],
+    sequence: &Sequence,
+    buffers: &mut Buffers,
+) -> Result<(), Memory>
+    requires { All (λ i. i < length points.now) sequence.now.places }
+    ensures types { OnOk result (buffers.new.types.items ≡ types_of_sequence tables.now points.now places.now sequence.now) }
+    ensures one_each { OnOk result (length buffers.new.types.items ≡ length sequence.now.places) }
+{
+    characters(&mut buffers.characters, points, sequence.places())?;
+    types_before(&mut buffers.before, places, sequence.places())?;
+    buffers.types.clear();
+    buffers.types.extend_from_slice(&buffers.before)?;
+    resolve_types(
+        alloc,
+        tables,
+        sequence,
+        &buffers.characters,
+        &buffers.before,
+        &mut buffers.types,
+    )
+}
+
+/// Puts the levels of a sequence's types at its places (I1, I2).
+fn put_levels(levels: &mut [u8], places: &[usize], level: u8, types: &[Bidi])
+    requires places { All (λ i. i < length levels.old) places.now }
+    requires types { length types.now ≡ length places.now }
+    requires level { level ≤ 125 }
+    ensures { levels.new ≡ levels_at levels.old places.now (map (implicit_level level) types.now) }
+{
+    for (k, place) in places.iter().enumerate() {
+        levels[*place] = implicit_level(level, types[k]);
+    }
+}
+
+/// Gives each removed place the level of the one before it, else the paragraph level.
+fn fill_removed(levels: &mut [u8], places: &[Option<Kept>], paragraph_level: u8)
+    requires { length levels.old ≡ length places.now }
+    ensures { levels.new ≡ filled_levels paragraph_level (kept_levels places.now levels.old) }
+{
+    let mut before = paragraph_level;
+    for (i, place) in places.iter().enumerate() {
+        if place.is_some() {
+            before = levels[i];
+        } else {
+            levels[i] = before;
+        }
+    }
+}
+
+/// Puts the levels of each sequence at its places.
+fn put_back(
+    alloc: Global,
+    tables: &Tables,
+    points: &[char],
+    embedded: &Embedded,
+    levels: &mut [u8],
+) -> Result<(), Memory>
+    requires points { length points.now ≡ length embedded.now.places }
+    requires levels { length levels.old ≡ length embedded.now.places }
+    requires depth { All (λ s. s.level ≤ 125) embedded.now.sequences }
+    ensures { OnOk result (levels.new ≡ put_back tables.now points.now embedded.now.places levels.old embedded.now.sequences) }
+{
+    let mut buffers = Buffers {
+        characters: Vec::new(alloc),
+        before: Vec::new(alloc),
+        types: Vec::new(alloc),
+    };
+    for number in 0..embedded.sequence_count() {
+        let sequence = embedded.sequence(number);
+        let places = embedded.places();
+        resolve_sequence(alloc, tables, points, places, &sequence, &mut buffers)?;
+        put_levels(levels, sequence.places(), sequence.level(), &buffers.types);
+    }
+    Ok(())
+}
+
+/// Resolves the levels in a list that holds the paragraph level throughout.
+fn resolve_levels(
+    alloc: Global,
+    tables: &Tables,
+    points: &[char],
+    embedded: &Embedded,
+    levels: &mut [u8],
+) -> Result<(), Memory>
+    requires points { length points.now ≡ length embedded.now.places }
+    requires levels { levels.old ≡ replicate (length points.now) embedded.now.level }
+    requires depth { All (λ s. s.level ≤ 125) embedded.now.sequences }
+    ensures { OnOk result (levels.new ≡ resolved_levels tables.now points.now embedded.now) }
+{
+    put_back(alloc, tables, points, embedded, levels)?;
+    fill_removed(levels, embedded.places(), embedded.level());
+    Ok(())
+}
+
+/// The code points of a text.
+fn code_points_of(alloc: Global, text: &str) -> Result<Vec<char>, Memory>
+    ensures { IfOk result (λ points. points.items ≡ code_points text.now) }
+{
+    Ok(text.chars().collect(alloc)?)
+}
+
+/// The resolved levels of any paragraph.
+fn levels_by_sequences(
+    alloc: Global,
+    tables: &Tables,
+    para: &Para,
+    base: Base,
+) -> Result<Vec<u8>, Memory>
+    ensures levels { IfOk result (λ levels. levels.items ≡ levels_of tables.now base para.now.text) }
+    ensures one_each { IfOk result (λ levels. length levels.items ≡ length (code_points para.now.text)) }
+    ensures bound { IfOk result (λ levels. All (λ level. level ≤ 126) levels.items) }
+{
+    let embedded = explicit(alloc, tables, para, base)?;
+    let points = code_points_of(alloc, para.text())?;
+    let mut levels = vec![in alloc; embedded.level(); points.len()]?;
+    resolve_levels(alloc, tables, &points, &embedded, &mut levels)?;
+    Ok(levels)
+}
+
+/// The number of code points of a text that goes left to right by itself, else `None`.
+fn plain_count(tables: &Tables, text: &str) -> Option<usize>
+    ensures { result ≡ (if is_plain_text tables.now text.now then Some (length (code_points text.now)) else None) }
+{
+    let mut count = 0;
+    let mut chars = text.chars();
+    while let Some(c) = chars.next() {
+        if !is_plain(tables.bidi(c)) {
+            return None;
+        }
+        count += 1;
+    }
+    Some(count)
+}
+
+/// The resolved level of each code point of a paragraph, 0 to 126 (UAX #9, 3.3.4 to 3.3.6).
+///
+/// A code point that X9 removes has the level of the one before it, else the paragraph level (own).
+/// A text that goes left to right by itself costs one look at each code point.
+pub fn levels(alloc: Global, tables: &Tables, para: &Para, base: Base) -> Result<Vec<u8>, Memory>
+    ensures levels { IfOk result (λ levels. levels.items ≡ levels_of tables.now base para.now.text) }
+    ensures one_each { IfOk result (λ levels. length levels.items ≡ length (code_points para.now.text)) }
+    ensures bound { IfOk result (λ levels. All (λ level. level ≤ 126) levels.items) }
+{
+    let plain = match base {
+        Base::Auto => plain_count(tables, para.text()),
+    };
+    match plain {
+        Some(count) => Ok(vec![in alloc; 0; count]?),
+        None => levels_by_sequences(alloc, tables, para, base),
+    }
+}
