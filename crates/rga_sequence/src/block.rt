@@ -12,7 +12,7 @@ use rga_tree::Element;
 pub const FULL: usize = 512;
 
 /// How many elements stay in a full block that is split.
-pub const HALF: usize = 255;
+pub const HALF: usize = 256;
 
 /// At least one element and at most 512, in the order of the walk, with memory for 512.
 #[derive(Drop)]
