@@ -1,0 +1,91 @@
+-- How many elements and waiting operations there are at most.
+use Rattle.std.proofs.Common.{◌≡◌, ◌≤◌, ◌<◌, ◌+◌, ◌++◌, ℕ, zero, suc, Bool, true, false, List, [], ◌∷◌, length, take, Option, None, Some, sym, ap, subst, ◌∙◌, refl, true≢false, is_some, arith, length-append}
+use Rattle.std.specs.Prelude.{◌||◌, slice_get, map as each}
+use Rattle.std.specs.List.{AllByRecursion, list_any}
+use Rattle.std.specs.FinMap as map
+use Rattle.std.specs.FinSet as set
+use Rattle.bg_types.specs.Identifier.{Identifier, id_cmp, same_id}
+use Rattle.bg_types.specs.OperationSet.{Node, OperationSet, AllWellFormed, Holds, union, size}
+use Rattle.bg_types.specs.declared.op.Place.TheVariants.{Root}
+use Rattle.bg_types.specs.declared.op.OpView.{OpView}
+use Rattle.bg_types.specs.declared.op.OpView.TheVariants.{Insert, Erase}
+use Rattle.bg_types.proofs.OperationSets.{get-union, unwrap_first}
+use Rattle.rga_tree.specs.Walk.{walk, walked_ids}
+use Rattle.rga_tree.specs.Elements.{elements, element_of}
+use Rattle.rga_tree.proofs.WalkAmong.{Entry}
+use Rattle.rga_tree.proofs.Listed.{is_listed, all_listed}
+use Rattle.rga_tree.proofs.AttachedWalk.{all_held, all_weaker_by}
+use Rattle.rga_tree.proofs.WalkDistinct.{IsDistinct-walked}
+use Rattle.pending_ops.specs.Waiting.{Waiting, ListsOnce}
+use Rattle.pending_ops.specs.Chains.{is_in}
+use Rattle.pending_ops.proofs.Tables.{IsDistinct-apart, one_of}
+use Rattle.pending_ops.proofs.Views.{contains-from_list}
+use Rattle.pending_ops.proofs.Listing.{len-from_list}
+use Rattle.desk_replica.specs.Desk.{arrivals, deletion_of, insertion_of}
+use Rattle.desk_replica.specs.Placement.{waiting_in, whole}
+use Rattle.desk_replica.proofs.Whole.{contains-union, some_not}
+use Rattle.desk_replica.proofs.Sizes.{len_set-map, len_map-map, len_set-set}
+use Rattle.desk_replica.proofs.Desks.{desk_of}
+use Rattle.desk_replica.proofs.Lists.{length-each}
+
+listed_in : (q : Identifier) (es : List Entry) → is_in (each (λ e. e.0) es) q ≡ is_listed q es
+listed_in q [] = refl
+listed_in q (e ∷ es) = ap (λ b. same_id q e.0 || b) (listed_in q es)
+
+-- the walk lists no more than there are insertions
+pub walk_within : (s : OperationSet) → AllWellFormed s → length (walk s Root) ≤ map.len s.ins
+walk_within s well =
+    let ids = walked_ids s in
+    let apart = IsDistinct-apart ids (IsDistinct-walked s well) in
+    let le = len_set-map (set.from_list ids) s.ins (λ q h.
+    all_listed (λ a. map.contains_key s.ins a ≡ true) (walk s Root) q
+    (all_weaker_by (λ e. map.get s.ins e.0 ≡ Some e.1) (λ e. map.contains_key s.ins e.0 ≡ true) (walk s Root) (λ e k. ap is_some k) (all_held s (map.len s.ins) Root))
+    (sym (listed_in q (walk s Root)) ∙ sym (contains-from_list ids q) ∙ h)) in
+    let l0 = len-from_list ids apart in
+    let l1 = length-each (λ (e : Entry). e.0) (walk s Root) in
+    omega arith
+
+some_second : (a b : Option Node) → is_some b ≡ true → is_some (unwrap_first a b) ≡ true
+some_second None b h = h
+some_second (Some n) b h = refl
+
+or_right : (a b : Bool) → b ≡ true → (a || b) ≡ true
+or_right true b h = refl
+or_right false b h = h
+
+-- what waits is part of what is kept
+pub size_within : (t h : OperationSet) → size h ≤ size (union t h)
+size_within t h =
+    let a = len_map-map h.ins (union t h).ins (λ q e. ap is_some (get-union t h q) ∙ some_second (map.get t.ins q) (map.get h.ins q) e) in
+    let b = len_set-set h.del (union t h).del (λ q e. contains-union t h q ∙ or_right (set.contains t.del q) (set.contains h.del q) e) in
+    omega (arith, a, b)
+
+-- a set without operations is listed by the empty list
+pub lists_none : (s : OperationSet) (xs : List OpView) (n : ℕ) → n ≡ size s → n ≤ 0 → ListsOnce s (take n xs)
+lists_none s xs n e z =
+    let ins : s.ins ≡ map.empty = map.empty_of_len s.ins (omega arith) in
+    let del : s.del ≡ set.empty = set.empty_of_len s.del (omega arith) in
+    let none : n ≡ 0 = omega arith in
+    subst (λ k. ListsOnce s (take k xs)) (sym none) (record {
+      each = λ op. ((λ h. absurd (nothing op ins del h)), (λ f. absurd (no_place f.0 op f.1)));
+      once = λ i j op h k. absurd (no_place i op h);
+      all = omega arith;
+    })
+  where
+    nothing : (op : OpView) → s.ins ≡ map.empty → s.del ≡ set.empty → Holds s op → ⊥
+    nothing (Insert q p ch) ins del h = some_not (record { parent = p; ch = ch }) ⊥ (sym (map.get-empty {X = Node} id_cmp q) ∙ sym (ap (λ m. map.get m q) ins) ∙ h)
+    nothing (Erase q) ins del h = true≢false (sym h ∙ ap (λ m. set.contains m q) del ∙ set.contains-empty id_cmp q)
+
+    no_place : (j : ℕ) (op : OpView) → slice_get [] j ≡ Some op → ⊥
+    no_place zero op h = let f : None ≡ Some op = h in absurd cc
+    no_place (suc j) op h = let f : None ≡ Some op = h in absurd cc
+
+pub length-arrivals : (t : OperationSet) (w : Waiting) (site : ℕ) → length (arrivals (desk_of t w site)) ≡ length (elements (whole t w)) + length (elements (whole t w)) + length (waiting_in w)
+length-arrivals t w site =
+    let es = elements (whole t w) in
+    let a = length-append (each (λ e. Some (insertion_of e)) es ++ each deletion_of es) (each (λ (op : OpView). Some op) (waiting_in w)) in
+    let b = length-append (each (λ e. Some (insertion_of e)) es) (each deletion_of es) in
+    let l0 = length-each (λ e. Some (insertion_of e)) es in
+    let l1 = length-each deletion_of es in
+    let l2 = length-each (λ (op : OpView). Some op) (waiting_in w) in
+    omega arith

@@ -1,0 +1,57 @@
+-- The numbers of a set with one more operation.
+use Rattle.std.proofs.Common.{◌≡◌, ◌≤◌, ◌<◌, ◌+◌, ℕ, [], ◌∷◌, List, refl, sym, ap, subst, ◌∙◌, arith, inl, inr}
+use Rattle.std.specs.Prelude.{◌⊎◌, All, max}
+use Rattle.std.specs.List.{AllByRecursion}
+use Rattle.std.proofs.lemmas.List.Elements.{All-nil, All-cons, All-head, All-tail}
+use Rattle.bg_types.specs.Identifier.{Identifier}
+use Rattle.bg_types.specs.WellFormed.{IsWellFormed, MayFollow}
+use Rattle.bg_types.specs.OperationSet.{OperationSet, Holds, MayJoin, named_counters, parent_counters, next, size, with_operation}
+use Rattle.bg_types.specs.declared.op.Place.{Place}
+use Rattle.bg_types.specs.declared.op.Place.TheVariants.{Root, After}
+use Rattle.bg_types.specs.declared.op.OpView.{OpView}
+use Rattle.bg_types.specs.declared.op.OpView.TheVariants.{Insert, Erase}
+use Rattle.bg_types.proofs.OperationSets.{Holds-with_operation, size-with_operation}
+use Rattle.bg_types.proofs.NextCounter.{next-above, next-least}
+use Rattle.pending_ops.specs.Releasing.{subject}
+use Rattle.desk_replica.specs.Placement.{IsCounted}
+
+-- the subject's counter is the greatest that an operation names
+named_upto : (op : OpView) (n : ℕ) → IsWellFormed op → (subject op).counter < n → All (λ c. c < n) (named_counters op)
+named_upto (Insert id Root ch) n is h = All-cons (λ c. c < n) id.counter [] h (All-nil (λ c. c < n))
+named_upto (Insert id (After parent) ch) n is h =
+    let below = is.1.1 in
+    All-cons (λ c. c < n) id.counter (parent.counter ∷ []) h (All-cons (λ c. c < n) parent.counter [] (omega arith) (All-nil (λ c. c < n)))
+named_upto (Erase target) n is h = All-cons (λ c. c < n) target.counter [] h (All-nil (λ c. c < n))
+
+named_first : (op : OpView) (n : ℕ) → All (λ c. c < n) (named_counters op) → (subject op).counter < n
+named_first (Insert id parent ch) n h = All-head (λ c. c < n) id.counter (parent_counters parent) h
+named_first (Erase target) n h = All-head (λ c. c < n) target.counter [] h
+
+all_up : (m n : ℕ) (op : OpView) → m ≤ n → All (λ c. c < m) (named_counters op) → All (λ c. c < n) (named_counters op)
+all_up m n (Insert id Root ch) le h = let a = named_first (Insert id Root ch) m h in All-cons (λ c. c < n) id.counter [] (omega arith) (All-nil (λ c. c < n))
+all_up m n (Insert id (After parent) ch) le h =
+    let a = named_first (Insert id (After parent) ch) m h in
+    let b = All-head (λ c. c < m) parent.counter [] (All-tail (λ c. c < m) id.counter (parent.counter ∷ []) h) in
+    All-cons (λ c. c < n) id.counter (parent.counter ∷ []) (omega arith) (All-cons (λ c. c < n) parent.counter [] (omega arith) (All-nil (λ c. c < n)))
+all_up m n (Erase target) le h = let a = named_first (Erase target) m h in All-cons (λ c. c < n) target.counter [] (omega arith) (All-nil (λ c. c < n))
+
+pub next-with : (s : OperationSet) (op : OpView) → MayJoin s op → IsWellFormed op → next (with_operation s op) ≡ max (next s) ((subject op).counter + 1)
+next-with s op may is =
+    let n = max (next s) ((subject op).counter + 1) in
+    let t = with_operation s op in
+    let some : 0 < n = omega arith in
+    let upto : next t ≤ n = next-least t n some (λ x h. elim ((Holds-with_operation s op x may).0 h) [
+      | inl e ↦ let own : (subject op).counter < n = omega arith in subst (λ y. All (λ c. c < n) (named_counters y)) (sym e) (named_upto op n is own)
+      | inr old ↦ all_up (next s) n x (omega arith) (next-above s x old)
+    ]) in
+    let kept : next s ≤ next t = next-least s (next t) (omega arith) (λ x h. next-above t x ((Holds-with_operation s op x may).1 (inr h))) in
+    let own = named_first op (next t) (next-above t op ((Holds-with_operation s op op may).1 (inl refl))) in
+    omega arith
+
+pub IsCounted-with : (s : OperationSet) (op : OpView) (kept greatest : ℕ) → IsCounted s kept greatest → MayJoin s op → ¬ (Holds s op) → IsWellFormed op → kept < 1_000_000
+    → IsCounted (with_operation s op) (kept + 1) (max greatest (subject op).counter)
+IsCounted-with s op kept greatest c may is_new is room = record {
+  kept_is = let e = size-with_operation s op may is_new in let k = c.kept_is in omega arith;
+  limited = omega arith;
+  next_is = let e = next-with s op may is in let k = c.next_is in omega arith;
+}

@@ -1,0 +1,66 @@
+-- Lists and their indices.
+use Rattle.std.proofs.Common.{◌≡◌, ◌≤◌, ◌<◌, ◌+◌, ◌-◌, ◌++◌, ℕ, zero, suc, Bool, true, false, List, [], ◌∷◌, length, take, Option, None, Some, sym, ap, subst, ◌∙◌, refl, arith, inl, inr}
+use Rattle.std.specs.Prelude.{◌⊎◌, slice_get, map as each}
+use Rattle.std.specs.Option.{option_map}
+use Rattle.std.specs.List.{AllByRecursion}
+
+pub slice_get-each : {X Y : Type 0} (f : X → Y) (xs : List X) (k : ℕ) → slice_get (each f xs) k ≡ option_map f (slice_get xs k)
+slice_get-each f [] k = refl
+slice_get-each f (x ∷ xs) zero = refl
+slice_get-each f (x ∷ xs) (suc k) = slice_get-each f xs k
+
+pub slice_get-left : {X : Type 0} (xs ys : List X) (k : ℕ) (x : X) → slice_get xs k ≡ Some x → slice_get (xs ++ ys) k ≡ Some x
+slice_get-left [] ys k x h = absurd (none k h)
+  where
+    none : (k : ℕ) → slice_get [] k ≡ Some x → ⊥
+    none zero h = absurd cc
+    none (suc k) h = absurd cc
+slice_get-left (y ∷ xs) ys zero x h = h
+slice_get-left (y ∷ xs) ys (suc k) x h = slice_get-left xs ys k x h
+
+pub slice_get-right : {X : Type 0} (xs ys : List X) (k n : ℕ) → n ≡ length xs + k → slice_get (xs ++ ys) n ≡ slice_get ys k
+slice_get-right [] ys k n e = ap (slice_get ys) (omega arith)
+slice_get-right (y ∷ xs) ys k zero e = absurd (omega arith)
+slice_get-right (y ∷ xs) ys k (suc n) e = slice_get-right xs ys k n (omega arith)
+
+pub slice_get-either : {X : Type 0} (xs ys : List X) (k : ℕ) (x : X) → slice_get (xs ++ ys) k ≡ Some x → (slice_get xs k ≡ Some x) ⊎ ((j : ℕ) × (slice_get ys j ≡ Some x))
+slice_get-either [] ys k x h = inr (k, h)
+slice_get-either (y ∷ xs) ys zero x h = inl h
+slice_get-either (y ∷ xs) ys (suc k) x h = slice_get-either xs ys k x h
+
+-- what a mapped list has comes from the list
+pub slice_get-from : {X Y : Type 0} (f : X → Y) (xs : List X) (k : ℕ) (y : Y) → slice_get (each f xs) k ≡ Some y → (x : X) × ((slice_get xs k ≡ Some x) × (f x ≡ y))
+slice_get-from f xs k y h = by (slice_get xs k) refl (sym (slice_get-each f xs k) ∙ h)
+  where
+    by : (o : _) → slice_get xs k ≡ o → option_map f o ≡ Some y → (x : _) × ((slice_get xs k ≡ Some x) × (f x ≡ y))
+    by None e h = absurd cc
+    by (Some x) e h = let same : f x ≡ y = cc in (x, (e, same))
+
+pub slice_get-to : {X Y : Type 0} (f : X → Y) (xs : List X) (k : ℕ) (x : X) → slice_get xs k ≡ Some x → slice_get (each f xs) k ≡ Some (f x)
+slice_get-to f xs k x h = slice_get-each f xs k ∙ ap (option_map f) h
+
+pub slice_get-within : {X : Type 0} (xs : List X) (k : ℕ) → k < length xs → (x : X) × (slice_get xs k ≡ Some x)
+slice_get-within [] k h = absurd (omega arith)
+slice_get-within (x ∷ xs) zero h = (x, refl)
+slice_get-within (x ∷ xs) (suc k) h = slice_get-within xs k (omega arith)
+
+pub within-slice_get : {X : Type 0} (xs : List X) (k : ℕ) (x : X) → slice_get xs k ≡ Some x → k < length xs
+within-slice_get [] zero x h = absurd (let e : None ≡ Some x = h in cc)
+within-slice_get [] (suc k) x h = absurd (let e : None ≡ Some x = h in cc)
+within-slice_get (y ∷ xs) zero x h = omega arith
+within-slice_get (y ∷ xs) (suc k) x h = let r = within-slice_get xs k x h in omega arith
+
+pub all_at : {X : Type 0} (P : X → Type 0) (xs : List X) (k : ℕ) (x : X) → AllByRecursion P xs → slice_get xs k ≡ Some x → P x
+all_at P [] k x a h = absurd (let w = within-slice_get [] k x h in omega arith)
+all_at P (y ∷ xs) zero x a h = let e : y ≡ x = cc in subst P e a.0
+all_at P (y ∷ xs) (suc k) x a h = all_at P xs k x a.1 h
+
+pub length-each : {X Y : Type 0} (f : X → Y) (xs : List X) → length (each f xs) ≡ length xs
+length-each f [] = refl
+length-each f (x ∷ xs) = ap (λ n. suc n) (length-each f xs)
+
+pub take_all : {X : Type 0} (xs : List X) (n : ℕ) → length xs ≤ n → take n xs ≡ xs
+take_all [] zero h = refl
+take_all [] (suc n) h = refl
+take_all (x ∷ xs) zero h = absurd (omega arith)
+take_all (x ∷ xs) (suc n) h = ap (λ l. x ∷ l) (take_all xs n (omega arith))

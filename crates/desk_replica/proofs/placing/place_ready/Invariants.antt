@@ -1,0 +1,18 @@
+use Rattle.std.proofs.Common.{◌≡◌, ◌≤◌, ℕ}
+use Rattle.bg_types.specs.OperationSet.{AllWellFormed}
+use Rattle.pending_ops.specs.Waiting.{is_ready}
+use Rattle.desk_replica.specs.Placement.{IsParted, AreDue, whole}
+use Rattle.desk_replica.specs.Reply.{attached_count}
+use Rattle.desk_replica.proofs.placing.place_ready.Given as goal
+
+abbrev pub invariant-loop-op : goal.invariant-loop-op
+invariant-loop-op g l = record {
+  parted : IsParted (g.S.Sequence.content l.seq) l.held.held (is_ready l.held);
+  formed : AllWellFormed l.held.held;
+  same : whole (g.S.Sequence.content l.seq) l.held ≡ whole (g.S.Sequence.content l.fn.seq) l.fn.held;
+  grows : attached_count (g.S.Sequence.content l.fn.seq) ≤ attached_count (g.S.Sequence.content l.seq);
+  room : (k : ℕ) × ((k ≤ g.S.Sequence.free l.seq) × AreDue l.held k);
+}
+
+abbrev pub decreases-loop-op : goal.decreases-loop-op
+decreases-loop-op g l = g.S.Sequence.free l.seq

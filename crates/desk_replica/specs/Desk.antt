@@ -1,0 +1,49 @@
+-- What a desk is to its callers.
+use Rattle.std.specs.Prelude.{◌≡◌, ◌↔◌, ◌++◌, not, ℕ, Option, Some, None, List, [], if◌then◌else◌, map as each, take, count_by, slice_get, refl}
+use Rattle.std.specs.List.{prefix_len}
+use Rattle.std.specs.Coded.{Coded, code_by, coded×, coded_ℕ, coded_list}
+use Rattle.std.specs.FinMap as map
+use Rattle.std.specs.FinSet as set
+use Rattle.bg_types.specs.Identifier.{Identifier, id_cmp, same_id}
+use Rattle.bg_types.specs.OperationSet.{Node, OperationSet, Holds, no_operations}
+use Rattle.bg_types.specs.declared.op.Place.TheVariants.{Root}
+use Rattle.bg_types.specs.declared.op.OpView.{OpView}
+use Rattle.bg_types.specs.declared.op.OpView.TheVariants.{Insert, Erase}
+use Rattle.rga_tree.specs.Walk.{walk}
+use Rattle.rga_tree.specs.declared.element.Element.{Element}
+use Rattle.rga_tree.specs.TextOf.{is_erased}
+use Rattle.rga_tree.specs.Elements.{elements}
+use Rattle.rga_tree.specs.Row.{hidden_ids}
+use Rattle.pending_ops.specs.Code.{coded_identifier, coded_node, coded_operation}
+
+-- set: the operations that the desk keeps. site: who types at it. waiting: those of the set that
+-- are not in the tree yet, in some order
+pub record Desk : Type 0 where
+  pub set : OperationSet
+  pub site : ℕ
+  pub waiting : List OpView
+
+abbrev pub fresh : ℕ → Desk
+fresh site = record { set = no_operations; site = site; waiting = [] }
+
+abbrev pub insertion_of : Element → OpView
+insertion_of e = Insert e.id e.parent e.ch
+
+abbrev pub coded_desk : Coded Desk
+coded_desk =
+    code_by (map.FinMap id_cmp Node × (set.FinSet id_cmp × (ℕ × List OpView)))
+    (coded× (map.code coded_identifier coded_node) (coded× (set.code coded_identifier) (coded× coded_ℕ (coded_list coded_operation))))
+    (λ d. (d.set.ins, (d.set.del, (d.site, d.waiting))))
+    (λ p. record { set = record { ins = p.0; del = p.1.0 }; site = p.1.1.0; waiting = p.1.1.1 }) (λ _. refl)
+
+abbrev pub deletion_of : Element → Option OpView
+deletion_of e = if e.hidden then Some (Erase e.id) else None
+
+-- what a merge takes in turn: the attached insertions in the order of the walk, then their deletions, with a gap where
+-- there is none, then those that wait
+abbrev pub arrivals : Desk → List (Option OpView)
+arrivals d = each (λ e. Some (insertion_of e)) (elements d.set) ++ each deletion_of (elements d.set) ++ each (λ op. Some op) d.waiting
+
+-- the operations of S, and no others, stand in the list
+abbrev pub ListsAll : OperationSet → List (Option OpView) → Type 0
+ListsAll s ops = (op : OpView) → Holds s op ↔ ((j : ℕ) × (slice_get ops j ≡ Some (Some op)))

@@ -1,0 +1,74 @@
+-- How the operations of a desk are parted: those in the tree, and those that wait.
+use Rattle.std.specs.Prelude.{◌≡◌, ◌≤◌, ◌<◌, ◌+◌, Bool, true, false, ℕ, List, Some, None, take}
+use Rattle.std.specs.FinMap as map
+use Rattle.std.specs.FinSet as set
+use Rattle.bg_types.specs.Identifier.{Identifier, id_cmp}
+use Rattle.bg_types.specs.OperationSet.{Node, OperationSet, AllWellFormed, union, size, next}
+use Rattle.bg_types.specs.declared.op.OpView.{OpView}
+use Rattle.bg_types.specs.declared.op.OpView.TheVariants.{Insert, Erase}
+use Rattle.rga_tree.specs.Tree.{stands_in}
+use Rattle.rga_tree.specs.Elements.{with_element}
+use Rattle.pending_ops.specs.Waiting.{Waiting, Releases, follows, is_ready, without_erasure}
+
+-- no insertion is both placed and held, the parent of a ready one is there and that of another is not, and
+-- a held deletion waits for what is not placed
+pub record IsParted (t h : OperationSet) (ready : Identifier → Bool) : Type 0 where
+  pub apart : (q : Identifier) → map.contains_key t.ins q ≡ true → map.get h.ins q ≡ None
+  pub stands : (q : Identifier) (node : Node) → map.get h.ins q ≡ Some node → ready q ≡ true → stands_in t node.parent ≡ true
+  pub waits : (q : Identifier) (node : Node) → map.get h.ins q ≡ Some node → ready q ≡ false → stands_in t node.parent ≡ false
+  pub early : (q : Identifier) → map.contains_key t.ins q ≡ true → set.contains h.del q ≡ false
+
+-- between two calls nothing is ready
+pub record IsSettled (t : OperationSet) (w : Waiting) : Type 0 where
+  pub parted : IsParted t w.held (λ _. false)
+  pub none_released : w.released ≡ set.empty
+  pub well_formed : AllWellFormed w.held
+
+-- the numbers that a desk keeps of its set
+pub record IsCounted (s : OperationSet) (kept greatest : ℕ) : Type 0 where
+  pub kept_is : kept ≡ size s
+  pub limited : kept ≤ 1_000_000
+  pub next_is : next s ≡ greatest + 1
+
+-- k held insertions are due: the ready ones, and those that have a chain of parents to one of them
+pub record AreDue (w : Waiting) (k : ℕ) : Type 0 where
+  pub due : set.FinSet id_cmp
+  pub ready : (q : Identifier) → is_ready w q ≡ true → set.contains due q ≡ true
+  pub after : (p q : Identifier) → set.contains due p ≡ true → follows w.held p q ≡ true → set.contains due q ≡ true
+  pub many : set.len due ≡ k
+
+-- what a desk keeps: the operations in the tree and those that wait
+abbrev pub whole : OperationSet → Waiting → OperationSet
+whole t w = union t w.held
+
+-- those that wait, in the order in which the store lists them
+abbrev pub waiting_in : Waiting → List OpView
+waiting_in w = take (size w.held) w.listed
+
+-- an operation need not wait: its parent or its target stands in the tree
+abbrev pub reaches_in : OperationSet → OpView → Bool
+reaches_in t (Insert id parent ch) = stands_in t parent
+reaches_in t (Erase target) = map.contains_key t.ins target
+
+-- an insertion may be placed in the tree
+abbrev pub MayPlace : OperationSet → OpView → Type 0
+MayPlace t (Insert id parent ch) = (stands_in t parent ≡ true) × (map.contains_key t.ins id ≡ false)
+MayPlace t (Erase target) = ⊥
+
+-- it is placed, hidden where its deletion waits, and what stands right after it is released
+pub record PlacesIn (t : OperationSet) (w : Waiting) (e : Identifier × Node) (u : OperationSet) (v : Waiting) : Type 0 where
+  pub rest : Waiting
+  pub tree : u ≡ with_element t (record { id = e.0; parent = e.1.parent; ch = e.1.ch; hidden = set.contains w.held.del e.0 })
+  pub held : rest.held ≡ without_erasure w.held e.0
+  pub released : rest.released ≡ w.released
+  pub releases : Releases rest e.0 v
+
+abbrev pub Places : OperationSet → Waiting → OpView → OperationSet → Waiting → Type 0
+Places t w (Insert id parent ch) u v = PlacesIn t w (id, record { parent = parent; ch = ch }) u v
+Places t w (Erase target) u v = ⊥
+
+-- what a desk of this site keeps true
+pub record IsDesk (t : OperationSet) (w : Waiting) (site kept greatest : ℕ) : Type 0 where
+  pub settled : IsSettled t w
+  pub counted : IsCounted (whole t w) kept greatest
+  pub sited : 0 < site

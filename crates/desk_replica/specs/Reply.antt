@@ -1,0 +1,45 @@
+-- What a desk that keeps S answers to an operation: reply(S, op) of the definition DeskSet.
+use Rattle.std.specs.Prelude.{◌≡◌, ◌<◌, ◌+◌, ℕ, length}
+use Rattle.bg_types.specs.OperationSet.{OperationSet, Holds, MayJoin, ReusesIdentifier, with_operation, size}
+use Rattle.bg_types.specs.declared.op.Place.TheVariants.{Root}
+use Rattle.bg_types.specs.declared.op.OpView.{OpView}
+use Rattle.bg_types.specs.declared.op.OpView.TheVariants.{Insert, Erase}
+use Rattle.rga_tree.specs.Walk.{walk}
+use Rattle.rga_tree.specs.Attached.{IsAttached}
+use Rattle.desk_replica.specs.declared.answer.Taken.{Taken}
+use Rattle.desk_replica.specs.declared.answer.Taken.TheVariants.{Known, Placed, Hidden, Held}
+use Rattle.desk_replica.specs.declared.answer.TakeFault.{TakeFault}
+use Rattle.desk_replica.specs.declared.answer.TakeFault.TheVariants.{IdentifierReused, Full, Memory}
+
+-- how many insertions are attached: the walk lists each once
+abbrev pub attached_count : OperationSet → ℕ
+attached_count s = length (walk s Root)
+
+-- the operation inserts an identifier that is attached in S + op
+abbrev pub IsPlacing : OperationSet → OpView → Type 0
+IsPlacing s (Insert id parent ch) = IsAttached (with_operation s (Insert id parent ch)).ins id
+IsPlacing s (Erase target) = ⊥
+
+-- the operation deletes an attached identifier
+abbrev pub IsHiding : OperationSet → OpView → Type 0
+IsHiding s (Insert id parent ch) = ⊥
+IsHiding s (Erase target) = IsAttached s.ins target
+
+-- the operation is not in S, no identifier is reused, and fewer than 1,000,000 are kept
+pub record IsAdmitted (s : OperationSet) (op : OpView) : Type 0 where
+  pub joins : MayJoin s op
+  pub is_new : ¬ (Holds s op)
+  pub room : size s < 1_000_000
+
+-- the answers to an operation that is taken; n is the growth of attached less 1
+abbrev pub IsTaken : OperationSet → OpView → Taken → Type 0
+IsTaken s op Known = Holds s op
+IsTaken s op (Placed n) = IsAdmitted s op × IsPlacing s op × (attached_count (with_operation s op) ≡ attached_count s + n + 1)
+IsTaken s op Hidden = IsAdmitted s op × IsHiding s op
+IsTaken s op Held = IsAdmitted s op × (¬ (IsPlacing s op)) × (¬ (IsHiding s op))
+
+-- the faults; want of memory meets only what is to be placed or held
+abbrev pub IsRefused : OperationSet → OpView → TakeFault → Type 0
+IsRefused s op IdentifierReused = ReusesIdentifier s op
+IsRefused s op Full = MayJoin s op × (¬ (Holds s op)) × (size s ≡ 1_000_000)
+IsRefused s op Memory = IsAdmitted s op × (¬ (IsHiding s op))

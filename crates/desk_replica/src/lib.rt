@@ -1,0 +1,14 @@
+//! A desk: one set of operations, kept as a tree of placed insertions and a store of what came early.
+#![tactic(auto)]
+
+mod answer;
+pub mod laws;
+mod placing;
+mod reading;
+mod replica;
+
+pub use answer::{TakeFault, Taken, TypeFault};
+pub use replica::Replica;
+
+#[cfg(test)]
+mod tests;

@@ -1,0 +1,200 @@
+//! Where an operation goes: into the tree, or among those that wait.
+
+ghost use Rattle.std.specs.Prelude.{◌≡◌, ◌≤◌, ◌<◌, ◌+◌, ℕ, Some, true, false, OnOk, OnErr, IfOk};
+ghost use Rattle.std.specs.Option.{option_map};
+ghost use Rattle.std.specs.FinMap as map;
+ghost use Rattle.std.specs.FinSet as set;
+ghost use Rattle.bg_types.specs.Identifier.{Identifier};
+ghost use Rattle.bg_types.specs.OperationSet.{Holds, MayJoin, ReusesIdentifier, AllWellFormed, with_operation, size, union};
+ghost use Rattle.bg_types.specs.WellFormed.{IsWellFormed};
+ghost use Rattle.bg_types.specs.declared.op.OpView.TheVariants.{Insert};
+ghost use Rattle.rga_tree.specs.Tree.{stands_in};
+ghost use Rattle.pending_ops.specs.Below.{CountsBelow};
+ghost use Rattle.pending_ops.specs.Releasing.{subject};
+ghost use Rattle.pending_ops.specs.Waiting.{ListsOnce, is_ready};
+ghost use Rattle.desk_replica.specs.Placement.{IsParted, IsSettled, AreDue, MayPlace, Places, reaches_in, waiting_in, whole};
+ghost use Rattle.desk_replica.specs.Reply.{IsAdmitted, IsTaken, IsHiding, attached_count};
+ghost use Rattle.desk_replica.specs.Standing.{IsStanding};
+
+use crate::answer::Taken;
+use crate::reading::insertion_of;
+use bg_types::{Id, Memory, Op, OpView, Place};
+use pending_ops::Held;
+use rga_tree::Sequence;
+
+/// How an operation stands to those that are kept.
+#[derive(Clone, Copy, Debug, PartialEq, Eq)]
+pub enum Standing {
+    Known,
+    /// Its identifier is kept with another parent or character.
+    Reused,
+    New,
+}
+
+/// What is kept at this identifier, if anything.
+fn kept_at<S: Sequence>(seq: &S, held: &Held, id: Id) -> Option<Op>
+    ensures { result ≡ option_map (λ node. Insert id node.parent node.ch)
+        (map.get (whole (S.content seq.now) held.now).ins id) }
+{
+    match seq.element(id) {
+        Some(e) => Some(insertion_of(&e)),
+        None => held.insertion(id),
+    }
+}
+
+pub fn look_up<S: Sequence>(seq: &S, held: &Held, op: &Op) -> Standing
+    requires { IsSettled (S.content seq.now) held.now }
+    ensures { IsStanding (whole (S.content seq.now) held.now) op.now result }
+{
+    match op.view() {
+        OpView::Insert { id, .. } => match kept_at(seq, held, id) {
+            None => Standing::New,
+            Some(kept) if kept == *op => Standing::Known,
+            Some(_) => Standing::Reused,
+        },
+        OpView::Erase { target } if is_erased(seq, held, target) => Standing::Known,
+        OpView::Erase { .. } => Standing::New,
+    }
+}
+
+/// Whether a deletion of this target is kept.
+fn is_erased<S: Sequence>(seq: &S, held: &Held, target: Id) -> bool
+    requires { IsSettled (S.content seq.now) held.now }
+    ensures { result ≡ set.contains (whole (S.content seq.now) held.now).del target }
+{
+    match seq.element(target) {
+        Some(e) => e.hidden,
+        None => held.erased(target),
+    }
+}
+
+/// Whether the root or a placed element is there to stand below.
+fn stands<S: Sequence>(seq: &S, parent: &Place) -> bool
+    ensures { result ≡ stands_in (S.content seq.now) parent.now }
+{
+    match parent {
+        Place::Root => true,
+        Place::After(id) => seq.has(*id),
+    }
+}
+
+/// Takes in a new operation. All growths come before the first change.
+pub fn admit<S: Sequence>(seq: &mut S, held: &mut Held, op: &Op) -> Result<Taken, Memory>
+    requires settled { IsSettled (S.content seq.old) held.old }
+    requires admitted { IsAdmitted (whole (S.content seq.old) held.old) op.now }
+    ensures settled { IsSettled (S.content seq.new) held.new }
+    ensures ok { OnOk result (whole (S.content seq.new) held.new ≡ with_operation (whole (S.content seq.old) held.old) op.now) }
+    ensures answer { IfOk result (IsTaken (whole (S.content seq.old) held.old) op.now) }
+    ensures content { OnErr result (S.content seq.new ≡ S.content seq.old) }
+    ensures held { OnErr result (held.new ≡ held.old) }
+    ensures memory { OnErr result (¬ (IsHiding (whole (S.content seq.old) held.old) op.now)) }
+{
+    if !reaches(seq, op) {
+        held.hold(*op)?;
+        return Ok(Taken::Held);
+    }
+    match op.view() {
+        OpView::Insert { .. } => place_new(seq, held, op),
+        OpView::Erase { target } => {
+            seq.hide(target);
+            Ok(Taken::Hidden)
+        }
+    }
+}
+
+/// Whether an operation need not wait: its parent or its target is placed.
+fn reaches<S: Sequence>(seq: &S, op: &Op) -> bool
+    ensures value { result ≡ reaches_in (S.content seq.now) op.now }
+    ensures well_formed { IsWellFormed op.now }
+{
+    match op.view() {
+        OpView::Insert { parent, .. } => stands(seq, &parent),
+        OpView::Erase { target } => seq.has(target),
+    }
+}
+
+/// Places a new insertion, and what waits for it.
+fn place_new<S: Sequence>(seq: &mut S, held: &mut Held, op: &Op) -> Result<Taken, Memory>
+    requires settled { IsSettled (S.content seq.old) held.old }
+    requires admitted { IsAdmitted (whole (S.content seq.old) held.old) op.now }
+    requires may { MayPlace (S.content seq.old) op.now }
+    ensures settled { IsSettled (S.content seq.new) held.new }
+    ensures ok { OnOk result (whole (S.content seq.new) held.new ≡ with_operation (whole (S.content seq.old) held.old) op.now) }
+    ensures answer { IfOk result (IsTaken (whole (S.content seq.old) held.old) op.now) }
+    ensures content { OnErr result (S.content seq.new ≡ S.content seq.old) }
+    ensures held { OnErr result (held.new ≡ held.old) }
+{
+    let due = count_due(held, op);
+    seq.reserve(due + 1)?;
+    let before = seq.placed();
+    place_one(seq, held, op);
+    place_ready(seq, held);
+    Ok(Taken::Placed(seq.placed() - before - 1))
+}
+
+/// How many held insertions wait for this one, directly or through others.
+fn count_due(held: &mut Held, op: &Op) -> usize
+    ensures count { CountsBelow held.old.held (subject op.now) result }
+    ensures unchanged { held.new ≡ held.old }
+{
+    match op.view() {
+        OpView::Insert { id, .. } => held.count_below(id),
+        OpView::Erase { target } => held.count_below(target),
+    }
+}
+
+/// Places ready insertions until none is ready.
+fn place_ready<S: Sequence>(seq: &mut S, held: &mut Held)
+    requires parted { IsParted (S.content seq.old) held.old.held (is_ready held.old) }
+    requires formed { AllWellFormed held.old.held }
+    requires room { (k : ℕ) × ((k ≤ S.free seq.old) × AreDue held.old k) }
+    ensures settled { IsSettled (S.content seq.new) held.new }
+    ensures same { whole (S.content seq.new) held.new ≡ whole (S.content seq.old) held.old }
+    ensures grows { attached_count (S.content seq.old) ≤ attached_count (S.content seq.new) }
+{
+    while let Some(op) = held.next_ready() {
+        place_one(seq, held, &op);
+    }
+}
+
+/// Places an insertion that does not wait any more, and makes those right after it ready.
+fn place_one<S: Sequence>(seq: &mut S, held: &mut Held, op: &Op)
+    requires may { MayPlace (S.content seq.old) op.now }
+    requires room { 1 ≤ S.free seq.old }
+    ensures places { Places (S.content seq.old) held.old op.now (S.content seq.new) held.new }
+    ensures room { S.free seq.new + 1 ≡ S.free seq.old }
+    ensures grows { attached_count (S.content seq.new) ≡ attached_count (S.content seq.old) + 1 }
+{
+    match op.view() {
+        OpView::Insert { id, parent, ch } => {
+            let hidden = held.drop_erasure(id);
+            seq.place(id, parent, ch, hidden);
+            held.release_of(id);
+        }
+        OpView::Erase { .. } => unreachable!(),
+    }
+}
+
+/// The greatest counter that an operation names.
+pub fn counter_of(op: &Op) -> u32
+    ensures counter { result ≡ (subject op.now).counter }
+    ensures well_formed { IsWellFormed op.now }
+{
+    match op.view() {
+        OpView::Insert { id, .. } => id.counter(),
+        OpView::Erase { target } => target.counter(),
+    }
+}
+
+/// How many operations wait.
+pub fn count_waiting(held: &Held) -> usize
+    ensures count { result ≡ size held.now.held }
+    ensures each_once { ListsOnce held.now.held (waiting_in held.now) }
+{
+    let count = held.count();
+    if count > 0 {
+        // The list is known to be whole where one of it is read.
+        let _first = held.nth(0);
+    }
+    count
+}

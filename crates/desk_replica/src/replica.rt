@@ -1,0 +1,230 @@
+//! The desk.
+
+ghost use Rattle.std.specs.Prelude.{◌≡◌, ◌≤◌, ◌<◌, ◌↔◌, ◌^◌, Some, OnOk, OnErr, IfOk, IfErr, IfSome, IsSome, MatchResult, length, slice_get, string_bytes, encode_utf8_all};
+ghost use Rattle.bg_types.specs.OperationSet.{no_operations, with_operation, size, next, AllWellFormed};
+ghost use Rattle.bg_types.specs.WellFormed.{IsWellFormed};
+ghost use Rattle.rga_tree.specs.Attached.{IsAttached};
+ghost use Rattle.rga_tree.specs.TextOf.{text, visible, visible_ids};
+ghost use Rattle.pending_ops.specs.Waiting.{ListsOnce};
+ghost use Rattle.desk_replica.specs.Desk.{fresh};
+ghost use Rattle.desk_replica.specs.Reply.{IsTaken, IsRefused};
+ghost use Rattle.desk_replica.specs.Told.{told, visible_before};
+ghost use Rattle.desk_replica.specs.Typing.{typed, insertion, parent_at, IsTypedAt, IsTypeRefused, IsErasedAt};
+
+mod merging;
+
+use crate::answer::{TakeFault, Taken, TypeFault};
+use crate::placing::{Standing, admit, count_waiting, counter_of, look_up};
+use crate::reading::{count_before, hidden_at, insertion_of};
+use bg_types::{Id, Memory, Op, OpView, Place};
+use pending_ops::Held;
+use rga_tree::{Sequence, text_of};
+use std::alloc::Global;
+use std::marker::Model;
+
+/// How many operations a desk keeps at most.
+const LIMIT: u32 = 1_000_000;
+
+/// One desk: a set of operations, read as a text. Operations come in any order and any number of
+/// times; those that wait for one that is not there yet are kept too.
+///
+/// Places count visible characters, from 0.
+#[derive(Drop)]
+pub struct Replica<S: Sequence> {
+    alloc: Global,
+    site: u16,
+    seq: S,
+    held: Held,
+    /// How many operations are kept.
+    kept: u32,
+    /// The greatest counter that one of them names, or 0.
+    greatest: u32,
+}
+
+impl<S: Sequence> Model for Replica<S> {
+    ghost use Rattle.desk_replica.specs.Desk.{Desk, coded_desk};
+    ghost use Rattle.desk_replica.specs.Placement.{IsDesk, waiting_in, whole};
+
+    ghost Value = { Desk };
+
+    ghost coded = { coded_desk };
+
+    ghost view = { λ a. record { set = whole (S.content a.seq) a.held; site = a.site; waiting = waiting_in a.held } };
+
+    ghost invariant = { λ a. IsDesk (S.content a.seq) a.held a.site a.kept a.greatest };
+}
+
+impl<S: Sequence> Replica<S> {
+    /// A desk of this site (at least 1) without operations, over an empty sequence. The key keeps
+    /// who does not know it from choosing identifiers that make the calls slow.
+    pub fn new(alloc: Global, site: u16, seq: S, key: u128) -> Replica<S>
+        requires site { 0 < site }
+        requires empty { S.content seq ≡ no_operations }
+        ensures { result ≡ fresh site }
+    {
+        Replica {
+            alloc,
+            site,
+            seq,
+            held: Held::keyed(alloc, key),
+            kept: 0,
+            greatest: 0,
+        }
+    }
+
+    /// Takes an operation, and answers what became of it. A fault changes nothing.
+    pub fn take(&mut self, op: &Op) -> Result<Taken, TakeFault>
+        ensures answer { MatchResult result (IsTaken self.old.set op.now) (IsRefused self.old.set op.now) }
+        ensures ok { OnOk result (self.new.set ≡ with_operation self.old.set op.now) }
+        ensures err { OnErr result (self.new ≡ self.old) }
+        ensures site { self.new.site ≡ self.old.site }
+    {
+        match look_up(&self.seq, &self.held, op) {
+            Standing::Known => return Ok(Taken::Known),
+            Standing::Reused => return Err(TakeFault::IdentifierReused),
+            Standing::New => {}
+        }
+        if self.kept >= LIMIT {
+            return Err(TakeFault::Full);
+        }
+        match admit(&mut self.seq, &mut self.held, op) {
+            Ok(taken) => {
+                self.kept += 1;
+                self.greatest = self.greatest.max(counter_of(op));
+                Ok(taken)
+            }
+            Err(Memory) => Err(TakeFault::Memory),
+        }
+    }
+
+    /// Types a character at a place: makes the insertion, takes it, and answers it. A fault changes
+    /// nothing.
+    pub fn type_char(&mut self, place: usize, ch: char) -> Result<Op, TypeFault>
+        requires { place ≤ length (visible self.old.set) }
+        ensures op { IfOk result (λ op. op ≡ insertion (typed self.old.set self.old.site place ch)) }
+        ensures ok { OnOk result (self.new.set ≡ with_operation self.old.set (insertion (typed self.old.set self.old.site place ch))) }
+        ensures typed { OnOk result (IsTypedAt self.old.set self.new.set place (typed self.old.set self.old.site place ch)) }
+        ensures fault { IfErr result (IsTypeRefused self.old.set) }
+        ensures err { OnErr result (self.new ≡ self.old) }
+        ensures site { self.new.site ≡ self.old.site }
+    {
+        if self.greatest == u32::MAX {
+            return Err(TypeFault::CounterSpent);
+        }
+        if self.kept >= LIMIT {
+            return Err(TypeFault::Full);
+        }
+        let op = self.make(place, ch);
+        match self.take(&op) {
+            Ok(_) => Ok(op),
+            Err(_) => Err(TypeFault::Memory),
+        }
+    }
+
+    /// The insertion of a character at a place.
+    fn make(&mut self, place: usize, ch: char) -> Op
+        requires place { place ≤ length (visible self.old.set) }
+        requires counter { next self.old.set < 2 ^ 32 }
+        ensures op { result ≡ insertion (typed self.old.set self.old.site place ch) }
+        ensures well_formed { IsWellFormed result }
+        ensures unchanged { self.new ≡ self.old }
+    {
+        let parent = self.parent_for(place);
+        let id = Id::new(self.greatest + 1, self.site).unwrap();
+        Op::insert(id, parent, ch).unwrap()
+    }
+
+    /// What a character that is typed at a place goes behind.
+    fn parent_for(&mut self, place: usize) -> Place
+        requires { place ≤ length (visible self.old.set) }
+        ensures parent { result ≡ parent_at (visible_ids self.old.set) place }
+        ensures unchanged { self.new ≡ self.old }
+    {
+        if place == 0 {
+            return Place::Root;
+        }
+        Place::After(self.id_at(place - 1))
+    }
+
+    /// Erases the visible character at a place: makes the deletion, takes it, and answers it. The
+    /// only fault is `Full`, which changes nothing.
+    pub fn erase_at(&mut self, place: usize) -> Result<Op, TypeFault>
+        requires { place < length (visible self.old.set) }
+        ensures op { IfOk result (λ op. IsErasedAt self.old.set self.new.set place op) }
+        ensures fault { IfErr result (λ fault. (fault ≡ TypeFault.Full) × (size self.old.set ≡ 1_000_000)) }
+        ensures err { OnErr result (self.new ≡ self.old) }
+        ensures site { self.new.site ≡ self.old.site }
+    {
+        let op = Op::erase(self.id_at(place));
+        match self.take(&op) {
+            Ok(_) => Ok(op),
+            Err(_) => Err(TypeFault::Full),
+        }
+    }
+
+    /// The visible characters in order.
+    pub fn text(&self) -> Result<String, Memory>
+        ensures { IfOk result (λ t. string_bytes t ≡ encode_utf8_all (text self.now.set)) }
+    {
+        text_of(self.alloc, &self.seq)
+    }
+
+    /// How many characters are visible.
+    pub fn len(&self) -> usize
+        ensures { result ≡ length (visible self.now.set) }
+    {
+        self.seq.len()
+    }
+
+    /// The identifier of the visible character at a place.
+    pub fn id_at(&mut self, place: usize) -> Id
+        requires { place < length (visible self.old.set) }
+        ensures value { slice_get (visible_ids self.old.set) place ≡ Some result }
+        ensures unchanged { self.new ≡ self.old }
+        // What every desk's set is, for the caller's proof.
+        ensures well_formed { AllWellFormed self.old.set }
+    {
+        self.seq.id_at(place)
+    }
+
+    /// How many visible characters stand before that of this identifier, or `None` where it is not
+    /// placed. Goes over the elements up to it.
+    pub fn place_of(&self, id: Id) -> Option<usize>
+        ensures placed { IsSome result ↔ IsAttached self.now.set.ins id }
+        ensures value { IfSome result (λ place. place ≡ visible_before self.now.set id) }
+    {
+        if !self.seq.has(id) {
+            return None;
+        }
+        Some(count_before(&self.seq, id))
+    }
+
+    /// How many operations are kept, at most 1,000,000.
+    pub fn op_count(&self) -> usize
+        ensures count { result ≡ size self.now.set }
+        ensures limited { size self.now.set ≤ 1_000_000 }
+        ensures well_formed { AllWellFormed self.now.set }
+    {
+        self.kept as usize
+    }
+
+    /// The kept operation at place `j` of a list of them all: the placed insertions in the order of
+    /// the walk, then the deletions of placed ones in that order, then those that wait. While the
+    /// desk does not change the list does not either. Goes over the elements where it is a deletion
+    /// of a placed one.
+    pub fn op_at(&self, j: usize) -> Op
+        requires { j < size self.now.set }
+        ensures listed { slice_get (told self.now) j ≡ Some result }
+        ensures each_once { ListsOnce self.now.set (told self.now) }
+    {
+        let reached = self.kept as usize - count_waiting(&self.held);
+        if j >= reached {
+            return self.held.nth(j - reached);
+        }
+        let placed = self.seq.placed();
+        if j < placed {
+            return insertion_of(&self.seq.nth(j));
+        }
+        Op::erase(hidden_at(&self.seq, j - placed))
+    }
+}
