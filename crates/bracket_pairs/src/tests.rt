@@ -65,7 +65,7 @@ fn pairs_take_the_direction_that_n0_gives(rt: HostRuntime) -> Result<(), Fail> {
     // Level, sos, text, types before W1, types after W7, types after N0.
     let rows: [(u8, &str, &str, &str, &str, &str); 30] = [
         (0, "L", "", "", "", ""),
-        // The worked rows.
+        // Small texts worked out by hand.
         (
             1,
             "R",

@@ -1,5 +1,3 @@
-pub mod KeptSets
-pub mod Placing
 pub mod Spelled
 pub mod Taking
 pub mod Answered

@@ -1,12 +1,12 @@
 -- What follows for a run that writes the text of the files' operations, or tells a fault only where its cause is present.
-use Rattle.std.proofs.Common.{◌≡◌, ℕ, ◌≤◌, ◌⊎◌, inl, inr, Bool, List, Option, Result, Ok, Err, refl, ap, subst}
+use Rattle.std.proofs.Common.{◌≡◌, ℕ, ◌≤◌, ◌⊎◌, inl, inr, Bool, List, Option, Result, Ok, Err, refl, subst}
 use Rattle.std.specs.Prelude.{OnOk, IfErr, MatchResult, encode_utf8_all}
 use Rattle.std.specs.Io.KnownBytes.{Appends}
 use Rattle.bg_types.specs.OperationSet.{OperationSet, size}
 use Rattle.op_codec.specs.declared.fault.Cause.{Cause}
 use Rattle.op_codec.specs.declared.fault.CodecFault.TheVariants as codec
 use Rattle.rga_tree.specs.TextOf.{text}
-use Rattle.replay_cli.specs.declared.fault.TakeFault.{TakeFault}
+use Rattle.desk_replica.specs.declared.answer.TakeFault.{TakeFault}
 use Rattle.replay_cli.specs.declared.fault.RunFault.{RunFault}
 use Rattle.replay_cli.specs.declared.fault.RunFault.TheVariants.{File, Step, Listing, Device, ReadFailed, Memory}
 use Rattle.replay_cli.specs.Files.{IsSetOfFiles, IsFaultyFile, AreRefused}

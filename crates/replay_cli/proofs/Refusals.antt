@@ -1,14 +1,14 @@
 -- A first refusal, and that no set of at most 1,000,000 operations holds what follows it.
-use Rattle.std.proofs.Common.{◌≡◌, ◌≢◌, ℕ, zero, ◌+◌, ◌<◌, ◌≤◌, List, [], ◌∷◌, ◌++◌, length, Some, refl, sym, ap, subst, ◌∙◌, inl, inr, ◌⊎◌, arith}
+use Rattle.std.proofs.Common.{◌≡◌, zero, ◌+◌, ◌≤◌, List, [], ◌∷◌, ◌++◌, Some, refl, sym, ap, subst, ◌∙◌, inl, inr, arith}
 use Rattle.std.specs.Prelude.{Contains}
 use Rattle.std.proofs.lemmas.List.Elements.{Contains-append_left, Contains-append_right}
 use Rattle.std.specs.FinMap as map
-use Rattle.bg_types.specs.OperationSet.{Node, OperationSet, Holds, MayJoin, ReusesIdentifier, with_operation, size}
+use Rattle.bg_types.specs.OperationSet.{OperationSet, Holds, MayJoin, ReusesIdentifier, with_operation, size}
 use Rattle.bg_types.specs.declared.op.OpView.{OpView}
 use Rattle.bg_types.specs.declared.op.OpView.TheVariants.{Insert, Erase}
 use Rattle.bg_types.proofs.OperationSets.{some_is, same_operations, Holds-with_operation, size-with_operation}
-use Rattle.replay_cli.specs.declared.fault.TakeFault.{TakeFault}
-use Rattle.replay_cli.specs.declared.fault.TakeFault.TheVariants.{IdentifierReused, Full, Memory}
+use Rattle.desk_replica.specs.declared.answer.TakeFault.{TakeFault}
+use Rattle.desk_replica.specs.declared.answer.TakeFault.TheVariants.{IdentifierReused, Full, Memory}
 use Rattle.replay_cli.specs.SetOf.{IsSetOf}
 use Rattle.replay_cli.specs.Refusal.{IsRefusal, IsFirstRefusal}
 use Rattle.replay_cli.proofs.Sizes.{IsPart, size-part}

@@ -1,15 +1,52 @@
--- Taking operations one after the other.
-use Rattle.std.proofs.Common.{◌≡◌, ℕ, suc, zero, ◌+◌, ◌<◌, ◌≤◌, List, [], ◌∷◌, ◌++◌, length, get_or, take, drop, refl, sym, ap, subst, ◌∙◌, inl, inr, ◌⊎◌, arith, append_assoc}
-use Rattle.std.specs.Prelude.{◌↔◌, Contains}
+-- Taking operations one after the other, and what a desk's answers mean for the files.
+use Rattle.std.proofs.Common.{◌≡◌, ℕ, ◌+◌, ◌<◌, ◌≤◌, List, [], ◌∷◌, ◌++◌, length, get_or, take, drop, refl, sym, ap, subst, ◌∙◌, inl, inr, ◌⊎◌, arith, append_assoc}
+use Rattle.std.specs.Prelude.{Contains}
 use Rattle.std.proofs.lemmas.List.Elements.{Contains-append_left, Contains-push, Contains-push_cases}
-use Rattle.bg_types.specs.OperationSet.{OperationSet, Holds, MayJoin, with_operation, no_operations, size}
+use Rattle.std.specs.FinMap as map
+use Rattle.std.specs.FinSet as set
+use Rattle.bg_types.specs.Identifier.{id_cmp}
+use Rattle.bg_types.specs.OperationSet.{Node, OperationSet, MayJoin, with_operation, no_operations, size}
 use Rattle.bg_types.specs.declared.op.OpView.{OpView}
-use Rattle.bg_types.proofs.OperationSets.{Holds-with_operation, Holds-no_operations}
-use Rattle.replay_cli.specs.declared.fault.TakeFault.{TakeFault}
-use Rattle.replay_cli.specs.declared.fault.TakeFault.TheVariants.{Memory}
+use Rattle.bg_types.proofs.OperationSets.{Holds-with_operation, Holds-no_operations, Holds-may_join, with_operation-known, size-with_operation}
+use Rattle.desk_replica.specs.declared.answer.Taken.{Taken}
+use Rattle.desk_replica.specs.declared.answer.Taken.TheVariants.{Known, Placed, Hidden, Held}
+use Rattle.desk_replica.specs.declared.answer.TakeFault.{TakeFault}
+use Rattle.desk_replica.specs.declared.answer.TakeFault.TheVariants.{IdentifierReused, Full, Memory}
+use Rattle.desk_replica.specs.Reply.{IsAdmitted, IsTaken, IsRefused}
 use Rattle.replay_cli.specs.SetOf.{IsSetOf}
 use Rattle.replay_cli.specs.Refusal.{IsRefusal, IsFirstRefusal}
 use Rattle.replay_cli.proofs.Spelled.{take-push, split-at}
+
+-- ---- what an answer says
+
+pub joins : (s : OperationSet) (op : OpView) (taken : Taken) → IsTaken s op taken → MayJoin s op
+joins s op Known h = Holds-may_join s op h
+joins s op (Placed n) h = h.0.joins
+joins s op Hidden h = h.0.joins
+joins s op Held h = h.0.joins
+
+admitted-limited : (s : OperationSet) (op : OpView) → IsAdmitted s op → size (with_operation s op) ≤ 1_000_000
+admitted-limited s op h = let grown = size-with_operation s op h.joins h.is_new in let room = h.room in omega (arith, grown, room)
+
+pub nothing-limited : size no_operations ≤ 1_000_000
+nothing-limited = let ins = map.len-empty id_cmp Node in let del = set.len-empty id_cmp in omega (arith, ins, del)
+
+-- a desk stays within its limit
+pub taken-limited : (s t : OperationSet) (op : OpView) (taken : Taken) → IsTaken s op taken → t ≡ with_operation s op → size s ≤ 1_000_000 → size t ≤ 1_000_000
+taken-limited s t op taken h grown limited = subst (λ u. size u ≤ 1_000_000) (sym grown) (by_answer taken h) where
+  by_answer : (a : Taken) → IsTaken s op a → size (with_operation s op) ≤ 1_000_000
+  by_answer Known is = subst (λ u. size u ≤ 1_000_000) (sym (with_operation-known s op is)) limited
+  by_answer (Placed n) is = admitted-limited s op is.0
+  by_answer Hidden is = admitted-limited s op is.0
+  by_answer Held is = admitted-limited s op is.0
+
+-- a desk that refuses wants memory, or the operation is one that it refuses whatever memory there is
+refusal : (s : OperationSet) (op : OpView) (fault : TakeFault) → IsRefused s op fault → (fault ≡ Memory) ⊎ IsRefusal s op fault
+refusal s op IdentifierReused h = inr h
+refusal s op Full h = inr h
+refusal s op Memory h = inl refl
+
+-- ---- the set of a list
 
 pub IsSetOf-nil : IsSetOf [] no_operations
 IsSetOf-nil op = ((λ h. absurd (Holds-no_operations op h)), (λ h. absurd (omega (arith, h.1))))
@@ -50,10 +87,14 @@ IsFirstRefusal-at before ops i op s fault lt is h limited refused = record {
 }
 
 -- want of memory aside
-pub refused-at : (before ops : List OpView) (i : ℕ) (op : OpView) (s : OperationSet) (fault : TakeFault) → i < length ops → op ≡ get_or ops i op → IsSetOf (before ++ take i ops) s → size s ≤ 1_000_000
+refused-or_memory : (before ops : List OpView) (i : ℕ) (op : OpView) (s : OperationSet) (fault : TakeFault) → i < length ops → op ≡ get_or ops i op → IsSetOf (before ++ take i ops) s → size s ≤ 1_000_000
     → (fault ≡ Memory) ⊎ IsRefusal s op fault → (fault ≡ Memory) ⊎ IsFirstRefusal (before ++ ops) fault
-refused-at before ops i op s fault lt is h limited (inl memory) = inl memory
-refused-at before ops i op s fault lt is h limited (inr refused) = inr (IsFirstRefusal-at before ops i op s fault lt is h limited refused)
+refused-or_memory before ops i op s fault lt is h limited (inl memory) = inl memory
+refused-or_memory before ops i op s fault lt is h limited (inr refused) = inr (IsFirstRefusal-at before ops i op s fault lt is h limited refused)
+
+pub refused-at : (before ops : List OpView) (i : ℕ) (op : OpView) (s : OperationSet) (fault : TakeFault) → i < length ops → op ≡ get_or ops i op → IsSetOf (before ++ take i ops) s → size s ≤ 1_000_000
+    → IsRefused s op fault → (fault ≡ Memory) ⊎ IsFirstRefusal (before ++ ops) fault
+refused-at before ops i op s fault lt is h limited refused = refused-or_memory before ops i op s fault lt is h limited (refusal s op fault refused)
 
 -- a first refusal among the first operations is one among all
 pub IsFirstRefusal-append : (ops more : List OpView) (fault : TakeFault) → IsFirstRefusal ops fault → IsFirstRefusal (ops ++ more) fault

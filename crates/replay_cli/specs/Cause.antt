@@ -2,8 +2,8 @@
 use Rattle.std.specs.Prelude.{◌≡◌, ℕ, true, Bool, List}
 use Rattle.op_codec.specs.declared.fault.CodecFault.{CodecFault}
 use Rattle.op_codec.specs.declared.fault.CodecFault.TheVariants as codec
-use Rattle.replay_cli.specs.declared.fault.TakeFault.{TakeFault}
-use Rattle.replay_cli.specs.declared.fault.TakeFault.TheVariants as take
+use Rattle.desk_replica.specs.declared.answer.TakeFault.{TakeFault}
+use Rattle.desk_replica.specs.declared.answer.TakeFault.TheVariants as take
 use Rattle.replay_cli.specs.declared.fault.RunFault.{RunFault}
 use Rattle.replay_cli.specs.declared.fault.RunFault.TheVariants.{File, Step, Listing, Device, ReadFailed, Memory}
 use Rattle.replay_cli.specs.Files.{IsFaultyFile, AreRefused}

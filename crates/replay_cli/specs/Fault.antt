@@ -1,16 +1,9 @@
 -- The numbers of faults, and the statuses that they end the program with.
 use Rattle.std.specs.Prelude.{ℕ}
-use Rattle.replay_cli.specs.declared.fault.TakeFault.{TakeFault}
-use Rattle.replay_cli.specs.declared.fault.TakeFault.TheVariants as take
 use Rattle.replay_cli.specs.declared.fault.LineFault.{LineFault}
 use Rattle.replay_cli.specs.declared.fault.LineFault.TheVariants as line
 use Rattle.replay_cli.specs.declared.fault.RunFault.{RunFault}
 use Rattle.replay_cli.specs.declared.fault.RunFault.TheVariants as run
-
-abbrev pub take_code : TakeFault → ℕ
-take_code take.IdentifierReused = 1
-take_code take.Full = 2
-take_code take.Memory = 9
 
 abbrev pub line_code : LineFault → ℕ
 line_code line.BadLine = 1

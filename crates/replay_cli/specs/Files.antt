@@ -7,7 +7,7 @@ use Rattle.bg_types.specs.declared.op.OpView.{OpView}
 use Rattle.op_codec.specs.declared.fault.Cause.{Cause}
 use Rattle.op_codec.specs.Spelling.{Spells}
 use Rattle.op_codec.specs.Fault.{IsFault}
-use Rattle.replay_cli.specs.declared.fault.TakeFault.{TakeFault}
+use Rattle.desk_replica.specs.declared.answer.TakeFault.{TakeFault}
 use Rattle.replay_cli.specs.SetOf.{IsSetOf}
 use Rattle.replay_cli.specs.Refusal.{IsFirstRefusal}
 

@@ -4,8 +4,6 @@ pub mod Refusal
 pub mod Files
 pub mod Cause
 pub mod Written
-pub mod KeptSet
-pub mod Desk
 pub mod Listing
 pub mod Line
 pub mod Listed

@@ -2,8 +2,8 @@
 use Rattle.std.specs.Prelude.{◌≡◌, ◌≤◌, List, ◌∷◌, ◌++◌}
 use Rattle.bg_types.specs.OperationSet.{OperationSet, Holds, MayJoin, ReusesIdentifier, size}
 use Rattle.bg_types.specs.declared.op.OpView.{OpView}
-use Rattle.replay_cli.specs.declared.fault.TakeFault.{TakeFault}
-use Rattle.replay_cli.specs.declared.fault.TakeFault.TheVariants.{IdentifierReused, Full, Memory}
+use Rattle.desk_replica.specs.declared.answer.TakeFault.{TakeFault}
+use Rattle.desk_replica.specs.declared.answer.TakeFault.TheVariants.{IdentifierReused, Full, Memory}
 use Rattle.replay_cli.specs.SetOf.{IsSetOf}
 
 -- a desk that keeps S refuses the operation: it inserts a kept identifier with another parent or character, or is new

@@ -1,6 +1,6 @@
 //! The engine `text`: one desk takes the operations of all files, and its text is written.
 
-ghost use Rattle.std.specs.Prelude.{◌≡◌, ◌≢◌, ◌≤◌, ◌⊎◌, ◌↔◌, ◌++◌, ℕ, List, true, false, map as each, OnOk, IfOk, IfErr, MatchResult, string_bytes, encode_utf8_all};
+ghost use Rattle.std.specs.Prelude.{◌≡◌, ◌≢◌, ◌≤◌, ◌⊎◌, ◌↔◌, ◌++◌, ℕ, List, true, false, map as each, OnOk, IfOk, IfErr, MatchResult, encode_utf8_all};
 ghost use Rattle.std.specs.List.{AllZip};
 ghost use Rattle.std.specs.Io.KnownBytes.{Appends, Keeps};
 ghost use Rattle.bg_types.specs.OperationSet.{OperationSet, size};
@@ -9,24 +9,32 @@ ghost use Rattle.op_codec.specs.Spelling.{Spells};
 ghost use Rattle.op_codec.specs.declared.fault.Cause.{Cause};
 ghost use Rattle.op_codec.specs.declared.fault.CodecFault.TheVariants.{Malformed};
 ghost use Rattle.rga_tree.specs.TextOf.{text as text_of_set};
-ghost use Rattle.replay_cli.specs.declared.fault.TakeFault.{TakeFault as Refusal};
+ghost use Rattle.desk_replica.specs.declared.answer.TakeFault.{TakeFault as Refusal};
 ghost use Rattle.replay_cli.specs.SetOf.{IsSetOf};
 ghost use Rattle.replay_cli.specs.Refusal.{IsFirstRefusal};
 ghost use Rattle.replay_cli.specs.Files.{bytes_of, IsSetOfFiles, IsFaultyFile, AreRefused};
 ghost use Rattle.replay_cli.specs.Cause.{IsCaused, file_fault_of, step_fault_of};
 ghost use Rattle.replay_cli.specs.Written.{WritesText, WritesBeginning};
-ghost use Rattle.replay_cli.specs.Desk.{set_of};
 
-use crate::desk::Desk;
-use crate::fault::{RunFault, TakeFault};
-use bg_types::{Memory, Op, Sink, put_all};
+use crate::desk::{Desk, new_desk};
+use crate::fault::RunFault;
+use bg_types::{Op, Sink, put_all};
+use desk_replica::TakeFault;
 use op_codec::{CodecFault, decode_file};
-use rga_tree::{Plain, text_of};
 use std::alloc::Global;
 
+/// The site of the one desk of a run without a schedule.
+const SITE: u16 = 1;
+
 /// Writes the text of all operations of the files, which one desk takes in order. Nothing is
-/// written before all are taken. Files are numbered from 1.
-pub fn text<S: Sink>(alloc: Global, files: &[Vec<u8>], out: &mut S) -> Result<(), RunFault>
+/// written before all are taken. Files are numbered from 1. The key keeps who does not know it
+/// from writing files that make the run slow.
+pub fn text<S: Sink>(
+    alloc: Global,
+    key: u128,
+    files: &[Vec<u8>],
+    out: &mut S,
+) -> Result<(), RunFault>
     requires { S.has_failed out.old ≡ false }
 
     // What each answer tells.
@@ -45,10 +53,15 @@ pub fn text<S: Sink>(alloc: Global, files: &[Vec<u8>], out: &mut S) -> Result<()
     ensures refused { (fault : Refusal) → AreRefused (bytes_of files.now) fault
         → (result ≡ Err (RunFault.Step 0 1 fault)) ⊎ (result ≡ Err RunFault.Memory) }
 {
-    write_text(alloc, files, out)
+    write_text(alloc, key, files, out)
 }
 
-fn write_text<S: Sink>(alloc: Global, files: &[Vec<u8>], out: &mut S) -> Result<(), RunFault>
+fn write_text<S: Sink>(
+    alloc: Global,
+    key: u128,
+    files: &[Vec<u8>],
+    out: &mut S,
+) -> Result<(), RunFault>
     requires { S.has_failed out.old ≡ false }
     ensures done { OnOk result (WritesText (bytes_of files.now) (S.written out.old) (S.written out.new)) }
     ensures fault { IfErr result (IsCaused (bytes_of files.now) (S.has_failed out.new)) }
@@ -56,20 +69,21 @@ fn write_text<S: Sink>(alloc: Global, files: &[Vec<u8>], out: &mut S) -> Result<
     ensures beginning { result ≡ Err RunFault.Device → WritesBeginning (bytes_of files.now) (S.written out.old) (S.written out.new) }
     ensures nothing { IfErr result (λ fault. fault ≢ RunFault.Device → Keeps (S.written out.old) (S.written out.new)) }
 {
-    let desk = desk_of(alloc, files)?;
-    let read = desk_text(alloc, &desk)?;
+    let desk = desk_of(alloc, key, files)?;
+    let read = desk.text()?;
     put_all(out, read.as_bytes())?;
     Ok(())
 }
 
 /// A desk that has taken the operations of all files. All files are read before the first
 /// operation is taken.
-fn desk_of(alloc: Global, files: &[Vec<u8>]) -> Result<Desk, RunFault>
-    ensures ok { IfOk result (λ desk. IsSetOfFiles (bytes_of files.now) (set_of desk)) }
+fn desk_of(alloc: Global, key: u128, files: &[Vec<u8>]) -> Result<Desk, RunFault>
+    ensures ok { IfOk result (λ desk. IsSetOfFiles (bytes_of files.now) desk.set) }
+    ensures limited { IfOk result (λ desk. size desk.set ≤ 1_000_000) }
     ensures fault { IfErr result (IsCaused (bytes_of files.now) false) }
 {
     let all = decode_all(alloc, files)?;
-    let mut desk = Desk::new(alloc);
+    let mut desk = new_desk(alloc, SITE, key);
     for ops in &all {
         if let Err(fault) = take_all(&mut desk, ops) {
             return Err(step_fault(fault));
@@ -96,8 +110,10 @@ fn decode_all(alloc: Global, files: &[Vec<u8>]) -> Result<Vec<Vec<Op>>, RunFault
 
 /// Takes the operations in order. A fault ends the taking.
 fn take_all(desk: &mut Desk, ops: &[Op]) -> Result<(), TakeFault>
-    ensures ok { (before : List Operation) → IsSetOf before (set_of desk.old) → OnOk result (IsSetOf (before ++ ops.now) (set_of desk.new)) }
-    ensures fault { (before : List Operation) → IsSetOf before (set_of desk.old)
+    requires { size desk.old.set ≤ 1_000_000 }
+    ensures ok { (before : List Operation) → IsSetOf before desk.old.set → OnOk result (IsSetOf (before ++ ops.now) desk.new.set) }
+    ensures limited { OnOk result (size desk.new.set ≤ 1_000_000) }
+    ensures fault { (before : List Operation) → IsSetOf before desk.old.set
         → IfErr result (λ fault. (fault ≡ TakeFault.Memory) ⊎ IsFirstRefusal (before ++ ops.now) fault) }
 {
     for op in ops {
@@ -124,15 +140,6 @@ fn step_fault(fault: TakeFault) -> RunFault
         TakeFault::IdentifierReused | TakeFault::Full => RunFault::Step(0, 1, fault),
         TakeFault::Memory => RunFault::Memory,
     }
-}
-
-/// What a desk reads as.
-fn desk_text(alloc: Global, desk: &Desk) -> Result<String, Memory>
-    ensures { IfOk result (λ t. string_bytes t ≡ encode_utf8_all (text_of_set (set_of desk.now))) }
-{
-    let mut seq = Plain::new(alloc);
-    desk.place_in(&mut seq)?;
-    text_of(alloc, &seq)
 }
 
 #[cfg(test)]

@@ -1,41 +1,15 @@
 //! Why a run ended early.
 
 ghost use Rattle.std.specs.Prelude.{◌≡◌};
-ghost use Rattle.replay_cli.specs.Fault.{take_code, line_code, run_code, status_of};
+ghost use Rattle.replay_cli.specs.Fault.{line_code, run_code, status_of};
 ghost use Rattle.replay_cli.specs.declared.fault.RunFault.TheVariants.{Memory as run_memory, Device as run_device};
 
 use bg_types::{Device, Memory};
+use desk_replica::TakeFault;
 use op_codec::CodecFault;
 use std::alloc::{AllocError, AllocFailed};
 use std::error::Error;
 use std::fmt;
-
-/// Why a desk refused an operation. Each prints its bare name.
-#[derive(Clone, Copy, Debug, PartialEq, Eq, Hash, thiserror::Error)]
-pub enum TakeFault {
-    /// An insertion whose identifier is kept with another parent or character.
-    #[error("IdentifierReused")]
-    IdentifierReused,
-    /// A new operation while 1,000,000 are kept.
-    #[error("Full")]
-    Full,
-    /// A growth was refused.
-    #[error("Memory")]
-    Memory,
-}
-
-impl TakeFault {
-    /// The number of this fault: 1, 2 or 9.
-    pub fn code(self) -> u8
-        ensures { result ≡ take_code self }
-    {
-        match self {
-            TakeFault::IdentifierReused => 1,
-            TakeFault::Full => 2,
-            TakeFault::Memory => 9,
-        }
-    }
-}
 
 /// What is wrong with a line of a listing. Each prints its bare name.
 #[derive(Clone, Copy, Debug, PartialEq, Eq, Hash, thiserror::Error)]

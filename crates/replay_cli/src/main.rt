@@ -7,6 +7,7 @@ mod engine;
 mod fault;
 mod field;
 mod files;
+mod key;
 pub mod laws;
 mod line;
 mod listing;
@@ -16,8 +17,9 @@ mod words;
 
 use bg_types::Out;
 pub use convert::{dump, pack};
+pub use desk_replica::TakeFault;
 pub use engine::text;
-pub use fault::{LineFault, RunFault, TakeFault, status};
+pub use fault::{LineFault, RunFault, status};
 use files::Unread;
 pub use report::report;
 pub use request::{Job, Stop};
@@ -46,7 +48,13 @@ fn run_text(rt: &HostRuntime, paths: &[&str]) -> ExitCode {
     let Ok(mut buffered) = BufWriter::new(rt.alloc(), io::writer(rt)) else {
         return refuse(rt, &RunFault::Memory, "");
     };
-    let done = text(rt.alloc(), files.as_slice(), &mut Out::new(&mut buffered));
+    let key = key::draw_key(rt);
+    let done = text(
+        rt.alloc(),
+        key,
+        files.as_slice(),
+        &mut Out::new(&mut buffered),
+    );
     finish(rt, done, &mut buffered)
 }
 

@@ -1,9 +1,9 @@
-//! The worked rows, from bytes to bytes.
+//! Files worked out by hand, from bytes to bytes.
 
 ghost use Rattle.std.specs.Prelude.{◌<◌};
 
 use super::*;
-use bg_types::{Id, Out, Place, Stops};
+use bg_types::{Id, Memory, Out, Place, Stops};
 use op_codec::{Cause, encode_file};
 use std::test::Fail;
 
@@ -21,6 +21,9 @@ const LATE_PARENT: [u8; 24] = [
 ];
 
 const EMPTY: [u8; 5] = [0x42, 0x47, 0x4F, 0x50, 1];
+
+/// Any key.
+const KEY: u128 = 0x2545_F491_4F6C_DD1D;
 
 fn insertion(id: (u32, u16), parent: Option<(u32, u16)>, ch: char) -> Option<Op> {
     let place = match parent {
@@ -47,7 +50,7 @@ fn four() -> Option<[Op; 4]> {
 /// The answer over these files, and what stands written.
 fn run(alloc: Global, files: &[Vec<u8>]) -> (Result<(), RunFault>, Vec<u8>) {
     let mut bytes = Vec::new(alloc);
-    let answer = text(alloc, files, &mut Out::new(&mut bytes));
+    let answer = text(alloc, KEY, files, &mut Out::new(&mut bytes));
     (answer, bytes)
 }
 
@@ -180,7 +183,7 @@ fn a_sink_that_stops_keeps_a_beginning(rt: HostRuntime) -> Result<(), Fail> {
         for piece in 1..4usize {
             let mut bytes = Vec::new(rt.alloc());
             let mut sink = Stops::new(Out::new(&mut bytes), piece, left);
-            let answer = text(rt.alloc(), &files, &mut sink);
+            let answer = text(rt.alloc(), KEY, &files, &mut sink);
             let wanted = if left < 4 {
                 Err(RunFault::Device)
             } else {
