@@ -5,7 +5,7 @@ ghost use Rattle.desk_replica.specs.Desk.{fresh};
 
 use desk_replica::Replica;
 // The one place that names the sequence of every desk.
-use rga_tree::Plain as Elements;
+use rga_sequence::Blocks as Elements;
 use std::alloc::Global;
 
 /// A desk of a run.
