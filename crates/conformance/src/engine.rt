@@ -1,0 +1,280 @@
+//! The run of a test file.
+
+ghost use Rattle.std.specs.Prelude.{◌≡◌, ◌+◌, ◌↔◌, IsTrue, OnOk};
+ghost use Rattle.conformance.specs.Agreement.{IsAsWanted};
+ghost use Rattle.conformance.specs.Counted.{counted, cases_of};
+
+use crate::bidi::{BidiLine, are_levels, is_level, line_of, wanted_places};
+use crate::breaks::breaks_of;
+use crate::case::{
+    BreakCase, CharacterCase, ClassLine, Wanted, break_case, character_case, class_line,
+};
+use crate::choice::choice_of;
+use crate::data::TestFile;
+use crate::fault::{LineFault, RunFault};
+use crate::field::content;
+use crate::report::{summary, tell_breaks, tell_levels};
+use crate::tally::{Direction, Tally, Verdict};
+use bg_types::{Device, Sink, put_all};
+use std::alloc::Global;
+use std::io::{BufRead, ErrorKind};
+use ucd_files::Tables;
+
+/// The greatest length of a line, in bytes, its end included.
+const BOUND: u64 = 65_536;
+
+/// How many of the cases that differ are told.
+const TOLD: u64 = 20;
+
+/// The bits of a line of `BidiTest.txt`.
+const AUTOMATIC: u8 = 1;
+
+const LEFT_TO_RIGHT: u8 = 2;
+
+const RIGHT_TO_LEFT: u8 = 4;
+
+/// A run of a test file.
+#[derive(Drop)]
+struct Comparison<'a> {
+    alloc: Global,
+    tables: &'a Tables,
+    tally: Tally,
+    /// What the last lines `@Levels` and `@Reorder` said.
+    wanted: Wanted,
+    /// What is told of the case that differed last.
+    told: Option<String>,
+}
+
+/// Compares the cases of a test file, writes the first 20 that differ, and then the line that
+/// counts.
+pub fn run<B: BufRead, S: Sink>(
+    alloc: Global,
+    tables: &Tables,
+    kind: TestFile,
+    file: &mut B,
+    out: &mut S,
+) -> Result<Tally, RunFault> {
+    let mut comparison = Comparison::new(alloc, tables);
+    let mut line = Vec::new(alloc);
+    for number in 1..u64::MAX {
+        line.clear();
+        if read_line(&mut *file, &mut line).map_err(|fault| at(number, fault))? {
+            break;
+        }
+        comparison
+            .take(kind, &line)
+            .map_err(|fault| at(number, fault))?;
+        if let Some(told) = comparison.told.take() {
+            let name = kind.name();
+            let text = format!(in alloc; "{name} line {number}: {told}\n")?;
+            put_text(out, text.as_str())?;
+        }
+    }
+    let text = summary(alloc, kind.name(), &comparison.tally)?;
+    put_text(out, text.as_str())?;
+    Ok(comparison.tally)
+}
+
+/// Writes a text to a sink, which may have failed before.
+fn put_text<S: Sink>(out: &mut S, text: &str) -> Result<(), Device> {
+    if out.failed() {
+        return Err(Device);
+    }
+    put_all(out, text.as_bytes())
+}
+
+/// A fault of the line of this number.
+fn at(number: u64, fault: RunFault) -> RunFault {
+    match fault {
+        RunFault::Line(_, fault) => RunFault::Line(number, fault),
+        fault => fault,
+    }
+}
+
+/// Reads a line, and tells whether there is none.
+fn read_line<B: BufRead + Drop>(file: B, line: &mut Vec<u8>) -> Result<bool, RunFault> {
+    match file.take(BOUND + 1).read_until(b'\n', line) {
+        Ok(count) if count as u64 > BOUND => Err(RunFault::Line(0, LineFault::TooLong)),
+        Ok(count) => Ok(count == 0),
+        Err(error) if error.kind() == ErrorKind::OutOfMemory => Err(RunFault::Memory),
+        Err(_) => Err(RunFault::ReadFailed),
+    }
+}
+
+impl<'a> Comparison<'a> {
+    fn new(alloc: Global, tables: &'a Tables) -> Comparison<'a> {
+        Comparison {
+            alloc,
+            tables,
+            tally: Tally::default(),
+            wanted: Wanted {
+                level: None,
+                levels: Vec::new(alloc),
+                order: Vec::new(alloc),
+            },
+            told: None,
+        }
+    }
+
+    /// Compares the cases of a line.
+    fn take(&mut self, kind: TestFile, line: &[u8]) -> Result<(), RunFault> {
+        let Ok(text) = std::str::from_utf8(line) else {
+            return Err(RunFault::Line(0, LineFault::BadUtf8));
+        };
+        let line = content(text);
+        if line.is_empty() {
+            return Ok(());
+        }
+        match kind {
+            TestFile::BidiCharacter => self.take_characters(line),
+            TestFile::Bidi => self.take_classes(line),
+            TestFile::LineBreak => self.take_breaks(line),
+        }
+    }
+
+    /// Counts a case.
+    fn count(&mut self, verdict: Verdict) -> Result<(), RunFault>
+        ensures counted { OnOk result (self.new.tally ≡ counted verdict self.old.tally) }
+        ensures once { OnOk result (cases_of self.new.tally ≡ cases_of self.old.tally + 1) }
+    {
+        self.tally = self.tally.counted(verdict).ok_or(RunFault::TooMany)?;
+        Ok(())
+    }
+
+    /// Counts a case, and keeps what is told of it unless enough were told.
+    fn keep(&mut self, found: Found) -> Result<(), RunFault>
+        ensures once { OnOk result (cases_of self.new.tally ≡ cases_of self.old.tally + 1) }
+    {
+        let Found { verdict, told } = found;
+        if told.is_some() && self.tally.differ < TOLD {
+            self.told = told;
+        }
+        self.count(verdict)
+    }
+
+    /// Compares the one case of a line.
+    fn take_characters(&mut self, line: &str) -> Result<(), RunFault>
+        ensures once { OnOk result (cases_of self.new.tally ≡ cases_of self.old.tally + 1) }
+    {
+        let CharacterCase {
+            text,
+            direction,
+            wanted,
+        } = character_case(self.alloc, line)?;
+        let found = compare_line(self.alloc, self.tables, text.as_str(), direction, &wanted)?;
+        self.keep(found)
+    }
+
+    fn take_classes(&mut self, line: &str) -> Result<(), RunFault> {
+        match class_line(self.alloc, line)? {
+            ClassLine::Levels(levels) => self.wanted.levels = levels,
+            ClassLine::Order(order) => self.wanted.order = order,
+            ClassLine::Case { text, directions } => {
+                self.take_directions(text.as_str(), directions)?;
+            }
+            ClassLine::Other => {}
+        }
+        Ok(())
+    }
+
+    /// Compares a text for each direction that is asked for.
+    fn take_directions(&mut self, text: &str, directions: u8) -> Result<(), RunFault> {
+        if directions & AUTOMATIC != 0 {
+            self.take_direction(text, None)?;
+        }
+        if directions & LEFT_TO_RIGHT != 0 {
+            self.take_direction(text, Some(Direction::LeftToRight))?;
+        }
+        if directions & RIGHT_TO_LEFT != 0 {
+            self.take_direction(text, Some(Direction::RightToLeft))?;
+        }
+        Ok(())
+    }
+
+    /// Compares a text with what the last lines `@Levels` and `@Reorder` want.
+    fn take_direction(&mut self, text: &str, direction: Option<Direction>) -> Result<(), RunFault>
+        ensures once { OnOk result (cases_of self.new.tally ≡ cases_of self.old.tally + 1) }
+    {
+        let found = compare_line(self.alloc, self.tables, text, direction, &self.wanted)?;
+        self.keep(found)
+    }
+
+    /// Compares the one case of a line.
+    fn take_breaks(&mut self, line: &str) -> Result<(), RunFault>
+        ensures once { OnOk result (cases_of self.new.tally ≡ cases_of self.old.tally + 1) }
+    {
+        let case = break_case(self.alloc, line)?;
+        let found = compare_breaks(self.alloc, self.tables, &case)?;
+        self.keep(found)
+    }
+}
+
+/// What came of a case, and what is told of it where it differs.
+#[derive(Drop)]
+struct Found {
+    verdict: Verdict,
+    told: Option<String>,
+}
+
+impl Found {
+    fn of(verdict: Verdict) -> Found {
+        Found {
+            verdict,
+            told: None,
+        }
+    }
+
+    fn difference(told: String) -> Found {
+        Found {
+            verdict: Verdict::Differs,
+            told: Some(told),
+        }
+    }
+}
+
+/// What comes of a text for a direction.
+fn compare_line(
+    alloc: Global,
+    tables: &Tables,
+    text: &str,
+    direction: Option<Direction>,
+    wanted: &Wanted,
+) -> Result<Found, RunFault> {
+    let Some(came) = line_of(alloc, tables, text)? else {
+        let told = String::from_str(alloc, "more than one paragraph")?;
+        return Ok(Found::difference(told));
+    };
+    if let Some(direction) = direction {
+        if came.level != direction.level() {
+            return Ok(Found::of(Verdict::LeftOut(direction)));
+        }
+    }
+    let places = wanted_places(alloc, &wanted.levels, &came.order)?;
+    if is_as_wanted(wanted, &came, &places) {
+        return Ok(Found::of(Verdict::Agrees));
+    }
+    Ok(Found::difference(tell_levels(alloc, wanted, &came, &places)?))
+}
+
+/// Whether the level of the paragraph, the levels and the order are as wanted.
+fn is_as_wanted(wanted: &Wanted, came: &BidiLine, places: &[u32]) -> bool
+    ensures { IsTrue result ↔ IsAsWanted wanted.now came.now places.now }
+{
+    is_level(wanted.level, came.level)
+        && are_levels(&wanted.levels, &came.levels)
+        && places == wanted.order.as_slice()
+}
+
+/// What comes of the breaks of a text.
+fn compare_breaks(alloc: Global, tables: &Tables, case: &BreakCase) -> Result<Found, RunFault> {
+    let text = case.text.as_str();
+    let came = breaks_of(alloc, tables, text)?;
+    if came == case.breaks {
+        return Ok(Found::of(Verdict::Agrees));
+    }
+    if let Some(choice) = choice_of(alloc, tables, text, &case.breaks, &came)? {
+        return Ok(Found::of(Verdict::Chosen(choice)));
+    }
+    let told = tell_breaks(alloc, text, &case.breaks, &came)?;
+    Ok(Found::difference(told))
+}

@@ -1,0 +1,98 @@
+//! What is told of a case that differs, and the line that counts.
+
+use crate::bidi::BidiLine;
+use crate::case::Wanted;
+use crate::fault::RunFault;
+use crate::tally::Tally;
+use std::alloc::Global;
+use std::fmt::Write;
+
+/// What is wanted of a line of text, and what came.
+pub fn tell_levels(
+    alloc: Global,
+    wanted: &Wanted,
+    came: &BidiLine,
+    places: &[u32],
+) -> Result<String, RunFault> {
+    let mut text = String::from_str(alloc, "wanted levels")?;
+    put_levels(&mut text, &wanted.levels)?;
+    text.push_str(" order")?;
+    put_numbers(&mut text, &wanted.order)?;
+    text.push_str(", came levels")?;
+    for level in &came.levels {
+        write!(text, " {level}")?;
+    }
+    text.push_str(" order")?;
+    put_numbers(&mut text, places)?;
+    Ok(text)
+}
+
+/// What breaks of a text are wanted, and which came.
+pub fn tell_breaks(
+    alloc: Global,
+    text: &str,
+    wanted: &[bool],
+    came: &[bool],
+) -> Result<String, RunFault> {
+    let mut told = String::from_str(alloc, "wanted ×")?;
+    put_marks(&mut told, text, wanted)?;
+    told.push_str(", came ×")?;
+    put_marks(&mut told, text, came)?;
+    Ok(told)
+}
+
+fn put_levels(text: &mut String, levels: &[Option<u8>]) -> Result<(), RunFault> {
+    for level in levels {
+        match level {
+            Some(level) => write!(text, " {level}")?,
+            None => text.push_str(" x")?,
+        }
+    }
+    Ok(())
+}
+
+fn put_numbers(text: &mut String, numbers: &[u32]) -> Result<(), RunFault> {
+    for number in numbers {
+        write!(text, " {number}")?;
+    }
+    Ok(())
+}
+
+/// Writes code points, each with its mark behind it.
+fn put_marks(told: &mut String, text: &str, breaks: &[bool]) -> Result<(), RunFault> {
+    for (i, c) in text.chars().enumerate() {
+        let code = u32::from(c);
+        let mark = match breaks.get(i) {
+            Some(true) => '÷',
+            Some(false) => '×',
+            None => '?',
+        };
+        write!(told, " {code:04X} {mark}")?;
+    }
+    Ok(())
+}
+
+/// The line that counts.
+pub fn summary(alloc: Global, name: &str, tally: &Tally) -> Result<String, RunFault> {
+    let cases = tally.cases();
+    let agree = tally.agree;
+    let differ = tally.differ;
+    let left = tally.left_to_right;
+    let right = tally.right_to_left;
+    let out = u128::from(left) + u128::from(right);
+    let pairs = tally.pairs;
+    let pictographs = tally.pictographs;
+    let mut text = String::new(alloc);
+    write!(
+        text,
+        "{name}: {cases} cases, {agree} agree, {differ} differ, {out} left out"
+    )?;
+    if out > 0 {
+        write!(text, " (asked left to right {left}, right to left {right})")?;
+    }
+    if pairs > 0 || pictographs > 0 {
+        write!(text, ", by choice {pairs} LB25 {pictographs} LB30b")?;
+    }
+    text.push_str("\n")?;
+    Ok(text)
+}
