@@ -1,3 +1,4 @@
 pub mod Counted
 pub mod Agreement
 pub mod Pairs
+pub mod Came

@@ -1,7 +1,8 @@
 //! Levels and visual order.
 
-ghost use Rattle.std.specs.Prelude.{◌≡◌, ◌<◌, ◌↔◌, IfOk, IsTrue, length, sum};
+ghost use Rattle.std.specs.Prelude.{◌≡◌, ◌<◌, ◌↔◌, IfOk, IfSome, IsTrue, length, replicate, sum, None};
 ghost use Rattle.std.specs.List.{All, filter};
+ghost use Rattle.conformance.specs.Came.{IsLineOf, IsOneParagraph};
 ghost use Rattle.conformance.specs.Agreement.{is_level, EachIsLevel, AreLevels, is_wanted_at};
 
 use crate::fault::{LineFault, RunFault};
@@ -28,7 +29,10 @@ pub struct BidiLine {
 }
 
 /// What the crates give for a text that is one line, or `None` where it has more paragraphs.
-pub fn line_of(alloc: Global, tables: &Tables, text: &str) -> Result<Option<BidiLine>, RunFault> {
+pub fn line_of(alloc: Global, tables: &Tables, text: &str) -> Result<Option<BidiLine>, RunFault>
+    ensures line { IfOk result (λ line. IfSome line (IsLineOf tables.now text.now)) }
+    ensures none { IfOk result (λ line. line ≡ None → IsOneParagraph tables.now text.now → ⊥) }
+{
     let paragraphs = split(alloc, tables, text)?;
     match paragraphs.first() {
         Some(para) if para.text().len() == text.len() => {
@@ -39,7 +43,9 @@ pub fn line_of(alloc: Global, tables: &Tables, text: &str) -> Result<Option<Bidi
 }
 
 /// The same for a paragraph. Each code point counts as a cluster, as the test files have it.
-fn paragraph_line(alloc: Global, tables: &Tables, para: &Para) -> Result<BidiLine, RunFault> {
+fn paragraph_line(alloc: Global, tables: &Tables, para: &Para) -> Result<BidiLine, RunFault>
+    ensures { IfOk result (IsLineOf tables.now para.now.text) }
+{
     let level = explicit(alloc, tables, para, Base::Auto)?.level();
     let resolved = levels(alloc, tables, para, Base::Auto)?;
     let sizes = ones(alloc, resolved.len())?;
@@ -60,6 +66,7 @@ fn paragraph_line(alloc: Global, tables: &Tables, para: &Para) -> Result<BidiLin
 fn ones(alloc: Global, count: usize) -> Result<Vec<u32>, Memory>
     ensures positive { IfOk result (λ sizes. All (λ size. 0 < size) sizes.items) }
     ensures whole { IfOk result (λ sizes. sum sizes.items ≡ count) }
+    ensures ones { IfOk result (λ sizes. sizes.items ≡ replicate count 1) }
 {
     Ok(vec![in alloc; 1; count]?)
 }

@@ -1,8 +1,13 @@
 //! The run of a test file.
 
-ghost use Rattle.std.specs.Prelude.{◌≡◌, ◌+◌, ◌↔◌, IsTrue, OnOk};
+ghost use Rattle.std.specs.Prelude.{◌≡◌, ◌≢◌, ◌+◌, ◌↔◌, IsTrue, IfOk, OnOk, Some};
 ghost use Rattle.conformance.specs.Agreement.{IsAsWanted};
-ghost use Rattle.conformance.specs.Counted.{counted, cases_of};
+ghost use Rattle.bg_types.specs.declared.class.Base.TheVariants.{Auto};
+ghost use Rattle.bidi_explicit.specs.Embedding.{paragraph_level, classes_of};
+ghost use Rattle.conformance.specs.Came.{breaks_of, CameAsWanted, IsOneParagraph};
+ghost use Rattle.conformance.specs.Counted.{counted, cases_of, level_of};
+ghost use Rattle.conformance.specs.declared.tally.Choice.{Choice};
+ghost use Rattle.conformance.specs.declared.tally.Verdict.TheVariants.{Agrees, Differs, LeftOut, Chosen};
 
 use crate::bidi::{BidiLine, are_levels, is_level, line_of, wanted_places};
 use crate::breaks::breaks_of;
@@ -217,14 +222,18 @@ struct Found {
 }
 
 impl Found {
-    fn of(verdict: Verdict) -> Found {
+    fn of(verdict: Verdict) -> Found
+        ensures { result.verdict ≡ verdict }
+    {
         Found {
             verdict,
             told: None,
         }
     }
 
-    fn difference(told: String) -> Found {
+    fn difference(told: String) -> Found
+        ensures { result.verdict ≡ Differs }
+    {
         Found {
             verdict: Verdict::Differs,
             told: Some(told),
@@ -239,7 +248,13 @@ fn compare_line(
     text: &str,
     direction: Option<Direction>,
     wanted: &Wanted,
-) -> Result<Found, RunFault> {
+) -> Result<Found, RunFault>
+    ensures agrees { IfOk result (λ found. found.verdict ≡ Agrees → CameAsWanted tables.now text.now wanted.now) }
+    ensures left_out { IfOk result (λ found. (asked : Direction) → found.verdict ≡ LeftOut asked
+        → (direction ≡ Some asked) × (paragraph_level Auto (classes_of tables.now text.now) ≢ level_of asked)) }
+    ensures differs { IfOk result (λ found. found.verdict ≡ Differs → IsOneParagraph tables.now text.now → CameAsWanted tables.now text.now wanted.now → ⊥) }
+    ensures chosen { IfOk result (λ found. (choice : Choice) → found.verdict ≡ Chosen choice → ⊥) }
+{
     let Some(came) = line_of(alloc, tables, text)? else {
         let told = String::from_str(alloc, "more than one paragraph")?;
         return Ok(Found::difference(told));
@@ -265,11 +280,21 @@ fn is_as_wanted(wanted: &Wanted, came: &BidiLine, places: &[u32]) -> bool
         && places == wanted.order.as_slice()
 }
 
+/// Whether a line may end where it is wanted, and nowhere else.
+fn are_breaks(wanted: &[bool], came: &[bool]) -> bool
+    ensures { IsTrue result ↔ wanted.now ≡ came.now }
+{
+    wanted == came
+}
+
 /// What comes of the breaks of a text.
-fn compare_breaks(alloc: Global, tables: &Tables, case: &BreakCase) -> Result<Found, RunFault> {
+fn compare_breaks(alloc: Global, tables: &Tables, case: &BreakCase) -> Result<Found, RunFault>
+    ensures agrees { IfOk result (λ found. found.verdict ≡ Agrees → case.now.breaks.items ≡ breaks_of tables.now case.now.text.bytes.items) }
+    ensures as_wanted { IfOk result (λ found. case.now.breaks.items ≡ breaks_of tables.now case.now.text.bytes.items → found.verdict ≡ Agrees) }
+{
     let text = case.text.as_str();
     let came = breaks_of(alloc, tables, text)?;
-    if came == case.breaks {
+    if are_breaks(&case.breaks, &came) {
         return Ok(Found::of(Verdict::Agrees));
     }
     if let Some(choice) = choice_of(alloc, tables, text, &case.breaks, &came)? {
