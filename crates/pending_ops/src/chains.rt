@@ -34,6 +34,10 @@ pub fn insertion_in(slots: &Table<Slot>, id: Id) -> Option<Op>
     requires { (s : Slot) → slot_in slots.now.entries id ≡ Some s → MayFollow s.parent id }
     ensures { result ≡ option_map (λ s. Insert id s.parent s.ch) (slot_in slots.now.entries id) }
 {
+    // Of an empty table nothing is hashed: mostly nothing waits.
+    if slots.is_empty() {
+        return None;
+    }
     match slots.get(&id) {
         Some(slot) => Op::insert(id, slot.parent, slot.ch),
         None => None,
@@ -56,6 +60,16 @@ pub fn link(firsts: &mut Table<Id>, parent: &Place, id: Id) -> Option<Id>
     }
 }
 
+/// The first of those that name this parent.
+pub fn first_of(firsts: &Table<Id>, parent: Id) -> Option<Id>
+    ensures { result ≡ first_in firsts.now.entries parent }
+{
+    if firsts.is_empty() {
+        return None;
+    }
+    firsts.get(&parent).copied()
+}
+
 /// Appends the insertions that name this parent.
 pub fn append_chain(slots: &Table<Slot>, firsts: &Table<Id>, parent: Id, queue: &mut Vec<Id>)
     requires { (xs : List Identifier)
@@ -66,7 +80,7 @@ pub fn append_chain(slots: &Table<Slot>, firsts: &Table<Id>, parent: Id, queue: 
         × (queue.new.items ≡ queue.old.items ++ xs)) }
     ensures capacity { vec_capacity queue.new ≡ vec_capacity queue.old }
 {
-    let mut cursor = firsts.get(&parent).copied();
+    let mut cursor = first_of(firsts, parent);
     while let Some(id) = cursor {
         queue.push_reserved(id);
         cursor = match slots.get(&id) {

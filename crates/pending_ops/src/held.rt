@@ -16,7 +16,9 @@ ghost use Rattle.pending_ops.specs.Below.{CountsBelow};
 ghost use Rattle.pending_ops.specs.Chains.{IsChainOf, first_in, insertions_of, slot_in};
 ghost use Rattle.pending_ops.specs.declared.chains.Slot.{Slot};
 
-use crate::chains::{Names, Slot, Table, append_chain, first_ready, insertion_in, link, unlink};
+use crate::chains::{
+    Names, Slot, Table, append_chain, first_of, first_ready, insertion_in, link, unlink,
+};
 use crate::keyed::Keyed;
 use bg_types::{Id, Memory, Op, OpView, Place};
 use indexmap::{IndexMap, IndexSet};
@@ -222,7 +224,7 @@ impl Held {
     pub fn release_of(&mut self, id: Id)
         ensures { Releases self.old id self.new }
     {
-        if !self.firsts.contains_key(&id) {
+        if first_of(&self.firsts, id).is_none() {
             return;
         }
         if self.released.contains(&id) {
@@ -252,6 +254,9 @@ impl Held {
         ensures released { self.new.released ≡ self.old.released }
         ensures absent { OnFalse result (self.new ≡ self.old) }
     {
+        if self.erased.is_empty() {
+            return false;
+        }
         self.erased.swap_remove(&id)
     }
 }

@@ -1,9 +1,9 @@
 -- Where elements are at home.
 use Rattle.std.proofs.Common.{◌≡◌, ℕ, zero, suc, ◌<◌, ◌+◌, ◌||◌, Bool, true, false, cond, List, [], ◌∷◌, length, take, get_or, Option, Some, None, refl, sym, ap, subst, ◌∙◌, arith}
-use Rattle.std.specs.Prelude.{IsSome, is_some}
+use Rattle.std.specs.Prelude.{IsSome}
 use Rattle.std.specs.List.{list_any, AllByRecursion}
 use Rattle.std.proofs.lemmas.List.Folds.{list_any_more}
-use Rattle.bg_types.specs.Identifier.{Identifier, id_cmp, same_id}
+use Rattle.bg_types.specs.Identifier.{Identifier, same_id}
 use Rattle.rga_tree.specs.declared.element.Element.{Element}
 use Rattle.bg_types.proofs.IdentifierOrder.{id_cmp-total}
 use Rattle.std.specs.Cmp.{eq_by_cmp_equiv}

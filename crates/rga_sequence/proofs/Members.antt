@@ -1,6 +1,6 @@
 -- Which identifiers stand in blocks, and where they are at home.
-use Rattle.std.proofs.Common.{◌≡◌, ℕ, zero, suc, ◌<◌, ◌≤◌, ◌+◌, ◌&&◌, ◌||◌, Bool, true, false, cond, not, List, [], ◌∷◌, ◌++◌, length, take, drop, get_or, Option, Some, None, refl, sym, ap, subst, ◌∙◌, zero-add, length-append, arith}
-use Rattle.std.specs.Prelude.{map as each, insert, set, IsSome, is_some, slice_get}
+use Rattle.std.proofs.Common.{◌≡◌, ℕ, zero, suc, ◌<◌, ◌+◌, ◌&&◌, ◌||◌, Bool, true, false, cond, not, List, [], ◌∷◌, ◌++◌, length, take, drop, get_or, Some, None, refl, sym, ap, subst, ◌∙◌, zero-add, length-append, arith}
+use Rattle.std.specs.Prelude.{insert, is_some, slice_get}
 use Rattle.std.specs.List.{list_any, prefix_len, AllByRecursion, find as find_in}
 use Rattle.std.proofs.lemmas.List.{take-append-drop}
 use Rattle.std.proofs.lemmas.List.Folds.{list_any-append}
@@ -11,7 +11,7 @@ use Rattle.rga_tree.specs.Row.{ids_of, is_distinct}
 use Rattle.rga_tree.proofs.Entries.{and_parts}
 use Rattle.rga_sequence.specs.Blocks.{joined, offset}
 use Rattle.rga_sequence.specs.BlockRows.{has, home_of}
-use Rattle.rga_sequence.proofs.Split.{or_left, or_right, has_joined, AreApart, AreAllApart}
+use Rattle.rga_sequence.proofs.Split.{or_left, or_right, AreApart, AreAllApart}
 
 neither : (a b : Bool) → (a || b) ≡ false → (a ≡ false) × (b ≡ false)
 neither true b h = absurd cc
@@ -153,6 +153,27 @@ until-in q (e ∷ x) y h =
       | true ↦ λ _. refl
       | false ↦ λ h. ap (λ n. 1 + n) (rest h)
     ] h
+
+has-there : (es : List Element) (q : Identifier) (i : ℕ) (d : Element) → i < length es → same_id q (get_or es i d).id ≡ true → has q es ≡ true
+has-there [] q i d h is = absurd (omega arith)
+has-there (e ∷ es) q zero d h is = or_left (same_id q e.id) (has q es) is
+has-there (e ∷ es) q (suc i) d h is = or_right (same_id q e.id) (has q es) (has-there es q i d (omega arith) is)
+
+-- in a distinct row each stands where one with its identifier does
+pub until-there : (q : Identifier) (es : List Element) (i : ℕ) (d : Element) → is_distinct (ids_of es) ≡ true → i < length es → same_id q (get_or es i d).id ≡ true → until q es ≡ i
+until-there q [] i d distinct h is = absurd (omega arith)
+until-there q (e ∷ es) zero d distinct h is = ap (λ b. cond (not b) (1 + until q es) 0) is
+until-there q (e ∷ es) (suc i) d distinct h is =
+    let parts = and_parts (not (list_any (same_id e.id) (ids_of es))) (is_distinct (ids_of es)) distinct in
+    let rest = until-there q es i d parts.1 (omega arith) is in
+    let later : has q es ≡ true = has-there es q i d (omega arith) is in
+    by_test (same_id q e.id) refl later parts.0 rest where
+      by_test : (b : Bool) → same_id q e.id ≡ b → has q es ≡ true → not (list_any (same_id e.id) (ids_of es)) ≡ true → until q es ≡ i → cond (not b) (1 + until q es) 0 ≡ suc i
+      by_test true same later none rest =
+          let again : has e.id es ≡ true = subst (λ k. has k es ≡ true) (same_id-is q e.id same) later in
+          let both : not true ≡ true = ap not (sym again ∙ sym (any_ids e.id es)) ∙ none in
+          absurd cc
+      by_test false same later none rest = omega (arith, rest)
 
 -- it stands in the first block that has it
 pub until-first : (xs : List (List Element)) (p : ℕ) (q : Identifier) → p < length xs → has q (get_or xs p []) ≡ true → has q (joined (take p xs)) ≡ false

@@ -1,5 +1,5 @@
 -- The place behind all greater elements, with whole blocks passed.
-use Rattle.std.proofs.Common.{◌≡◌, ℕ, zero, suc, ◌<◌, ◌≤◌, ◌+◌, ◌&&◌, ◌||◌, Bool, true, false, cond, not, List, [], ◌∷◌, ◌++◌, length, take, drop, get_or, refl, sym, ap, subst, ◌∙◌, zero-add, length-append, length-drop, ◌-◌, arith}
+use Rattle.std.proofs.Common.{◌≡◌, ℕ, suc, ◌<◌, ◌≤◌, ◌+◌, ◌||◌, Bool, true, false, cond, not, List, [], ◌∷◌, ◌++◌, length, take, drop, get_or, refl, sym, ap, subst, ◌∙◌, zero-add, length-append, length-drop, ◌-◌, arith}
 use Rattle.std.proofs.lemmas.List.{length-map, drop-map, drop_all, get_or-drop, get_or-map, map-append, take-map}
 use Rattle.std.proofs.lemmas.Bool.{ltb-true, ltb-false}
 use Rattle.std.specs.Prelude.{nat_lt, insert}
@@ -13,7 +13,7 @@ use Rattle.bg_types.proofs.IdentifierOrder.{id_cmp-total, id_cmp-exact, same_id-
 use Rattle.rga_tree.proofs.Entries.{and_parts}
 use Rattle.rga_sequence.specs.declared.block.Block.{Block}
 use Rattle.rga_sequence.specs.BlockRows.{items_of}
-use Rattle.rga_sequence.specs.Blocks.{joined, offset, is_least}
+use Rattle.rga_sequence.specs.Blocks.{joined, offset}
 use Rattle.rga_sequence.proofs.Joined.{joined-suc, joined-add, drop_joined}
 
 abbrev pub is_greater : Identifier → Element → Bool

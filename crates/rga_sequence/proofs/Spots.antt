@@ -1,8 +1,8 @@
 -- Elements of the row by their blocks.
-use Rattle.std.proofs.Common.{◌≡◌, ℕ, zero, suc, ◌<◌, ◌≤◌, ◌+◌, Bool, true, false, cond, not, List, [], ◌∷◌, ◌++◌, length, take, get_or, Option, Some, None, refl, sym, ap, subst, ◌∙◌, zero-add, length-append, length-set, arith}
+use Rattle.std.proofs.Common.{◌≡◌, ℕ, zero, suc, ◌<◌, ◌≤◌, ◌+◌, true, false, cond, not, List, [], ◌∷◌, ◌++◌, length, take, get_or, Option, Some, None, refl, sym, ap, subst, ◌∙◌, zero-add, length-append, arith}
 use Rattle.std.specs.Prelude.{filter, set, slice_get, IsSome}
 use Rattle.std.specs.Option.{IfNone}
-use Rattle.bg_types.specs.Identifier.{Identifier, same_id}
+use Rattle.bg_types.specs.Identifier.{Identifier}
 use Rattle.rga_tree.specs.declared.element.Element.{Element}
 use Rattle.rga_sequence.specs.Blocks.{seen, joined, offset}
 use Rattle.rga_sequence.specs.BlockRows.{has, home_of}

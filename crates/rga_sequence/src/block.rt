@@ -7,6 +7,7 @@ ghost use Rattle.rga_sequence.specs.Blocks.{seen, is_least};
 
 use bg_types::{Id, Place};
 use rga_tree::Element;
+use std::mem::replace;
 
 /// How many elements a block has memory for.
 pub const FULL: usize = 512;
@@ -21,6 +22,8 @@ pub struct Block {
     pub visible: usize,
     pub least: Id,
     pub number: usize,
+    /// Where an element was put in last. The next one is often put behind it.
+    pub recent: usize,
     ghost few: { vec_len elements ≤ 512 },
     ghost room: { 512 ≤ vec_capacity elements },
     ghost counted: { visible ≡ seen elements.items },
@@ -57,6 +60,7 @@ impl Block {
             visible: weight(hidden),
             least: id,
             number,
+            recent: 0,
         }
     }
 
@@ -70,6 +74,7 @@ impl Block {
     {
         self.least = lesser(id, self.least);
         self.visible += weight(hidden);
+        self.recent = at;
         self.elements
             .insert(
                 at,
@@ -97,18 +102,21 @@ impl Block {
         gone
     }
 
-    /// Moves the upper half of a full block to a new one.
-    pub fn split(&mut self, mut upper: Vec<Element>, number: usize) -> Block
+    /// Moves the upper half of a full block to a new one. The new memory is for the lower half: of
+    /// blocks that grow at their end alone the half that stays empty was never written.
+    pub fn split(&mut self, mut lower: Vec<Element>, number: usize) -> Block
         requires full { length self.old.elements.items ≡ 512 }
-        requires empty { upper.items ≡ [] }
-        requires room { 512 ≤ vec_capacity upper }
+        requires empty { lower.items ≡ [] }
+        requires room { 512 ≤ vec_capacity lower }
         ensures items { self.new.elements.items ≡ take 256 self.old.elements.items }
         ensures upper { result.elements.items ≡ drop 256 self.old.elements.items }
         ensures number { self.new.number ≡ self.old.number }
         ensures upper_number { result.number ≡ number }
     {
-        upper.extend_from_slice(&self.elements[HALF..]).unwrap();
-        self.elements.truncate(HALF);
+        lower.extend_from_slice(&self.elements[..HALF]).unwrap();
+        let mut upper = replace(&mut self.elements, lower);
+        upper.rotate_left(HALF);
+        upper.truncate(HALF);
         self.least = least_of(&self.elements);
         self.visible = count_visible(&self.elements);
         let least = least_of(&upper);
@@ -118,6 +126,7 @@ impl Block {
             visible,
             least,
             number,
+            recent: HALF - 1,
         }
     }
 }

@@ -100,6 +100,8 @@ impl Sequence for Blocks {
 
     ghost free = { λ s. s.room };
 
+    ghost parts = { λ s. blocks_in s.row };
+
     fn reserve(&mut self, n: usize) -> Result<(), Memory> {
         if n <= self.room {
             return Ok(());
@@ -162,6 +164,14 @@ impl Sequence for Blocks {
         self.row.blocks[b].elements[at]
     }
 
+    fn part_count(&self) -> usize {
+        self.blocks()
+    }
+
+    fn part(&self, p: usize) -> &[Element] {
+        &self.row.blocks[p].elements
+    }
+
     fn has(&self, id: Id) -> bool {
         self.row.index.contains_key(&id)
     }
@@ -170,6 +180,8 @@ impl Sequence for Blocks {
         let (b, at) = spot(&self.row, id)?;
         Some(self.row.blocks[b].elements[at])
     }
+
+    ghost whole = { λ s. s.in_order };
 
     ghost is_tree = { λ s. s.tree };
 

@@ -30,7 +30,8 @@ pub struct Row {
 
 /// The block of an identifier, and its place there.
 pub fn spot(row: &Row, id: Id) -> Option<(usize, usize)>
-    requires { IsIndexed ⟦<Id as Eq>⟧.eq row.now }
+    requires indexed { IsIndexed ⟦<Id as Eq>⟧.eq row.now }
+    requires distinct { is_distinct (ids_of (elements_in row.now)) ≡ true }
     ensures absent { IfNone result (has id (elements_in row.now) ≡ false) }
     ensures block { IfSome result (λ s. s.0 < vec_len row.now.blocks) }
     ensures within { IfSome result (λ s. s.1 < length (get_or (blocks_in row.now) s.0 [])) }
@@ -41,15 +42,20 @@ pub fn spot(row: &Row, id: Id) -> Option<(usize, usize)>
         None => None,
         Some(&number) => {
             let p = row.places[number];
-            Some((p, before(&row.blocks[p].elements, id)))
+            let block = &row.blocks[p];
+            Some((p, before(&block.elements, block.recent, id)))
         }
     }
 }
 
-/// How many elements stand before the one with this identifier.
-fn before(row: &[Element], id: Id) -> usize
+/// How many elements stand before the one with this identifier. Looks at a likely place first.
+fn before(row: &[Element], likely: usize, id: Id) -> usize
+    requires { is_distinct (ids_of row.now) ≡ true }
     ensures { result ≡ prefix_len (λ e. not (same_id id e.id)) row.now }
 {
+    if likely < row.len() && id == row[likely].id {
+        return likely;
+    }
     row.iter().take_while(|e| id != e.id).count()
 }
 
@@ -96,6 +102,7 @@ fn put_first(row: &mut Row, id: Id, parent: Place, ch: char, hidden: bool)
 /// Right behind the parent: a block, and a place there.
 fn start(row: &Row, parent: &Place) -> (usize, usize)
     requires indexed { IsIndexed ⟦<Id as Eq>⟧.eq row.now }
+    requires distinct { is_distinct (ids_of (elements_in row.now)) ≡ true }
     requires some { 0 < vec_len row.now.blocks }
     requires parent { start_of parent.now (elements_in row.now) ≤ length (elements_in row.now) }
     ensures block { result.0 < vec_len row.now.blocks }
@@ -180,6 +187,7 @@ fn put_into(row: &mut Row, q: usize, at: usize, id: Id, parent: Place, ch: char,
 /// Hides an element, and answers how many visible ones are fewer then.
 pub fn hide(row: &mut Row, id: Id) -> usize
     requires indexed { IsIndexed ⟦<Id as Eq>⟧.eq row.old }
+    requires distinct { is_distinct (ids_of (elements_in row.old)) ≡ true }
     requires stands { has id (elements_in row.old) ≡ true }
     ensures elements { (d : Element) → let at = prefix_len (λ e. not (same_id id e.id)) (elements_in row.old) in
         let e = slice_index_or (elements_in row.old) at d in

@@ -1,12 +1,9 @@
 use super::*;
-use rga_tree::{Plain, Sequence, text_of};
+use every_sequence::*;
+use rga_tree::{Plain, Sequence};
 use std::alloc::Global;
-use std::process::Abort;
-use std::test::*;
 
 mod every_sequence;
-
-use every_sequence::*;
 
 impl Fresh for Plain {
     fn fresh(alloc: Global) -> Plain {
@@ -21,32 +18,20 @@ impl Fresh for Blocks {
 }
 
 #[test]
-fn both_read_the_walk_in_every_order(rt: HostRuntime) -> Result<(), Fail> {
-    reads_the_walk_in_every_order::<Blocks>(&rt, rt.alloc())?;
-    reads_the_walk_in_every_order::<Plain>(&rt, rt.alloc())
+fn both_keep_every_line(rt: HostRuntime) {
+    assert!(rt; keeps_every_line::<Blocks>(rt.alloc()));
+    assert!(rt; keeps_every_line::<Plain>(rt.alloc()));
 }
 
 #[test]
-fn both_hide_early_and_late(rt: HostRuntime) -> Result<(), Fail> {
-    hides_early_and_late::<Blocks>(&rt, rt.alloc())?;
-    hides_early_and_late::<Plain>(&rt, rt.alloc())
+fn both_keep_long_rows(rt: HostRuntime) {
+    assert!(rt; keeps_long_rows::<Blocks>(rt.alloc()));
+    assert!(rt; keeps_long_rows::<Plain>(rt.alloc()));
 }
 
 #[test]
-fn both_keep_a_long_chain(rt: HostRuntime) -> Result<(), Fail> {
-    keeps_a_long_chain::<Blocks>(&rt, rt.alloc())?;
-    keeps_a_long_chain::<Plain>(&rt, rt.alloc())
-}
-
-#[test]
-fn both_put_greater_siblings_first(rt: HostRuntime) -> Result<(), Fail> {
-    puts_greater_siblings_first::<Blocks>(&rt, rt.alloc())?;
-    puts_greater_siblings_first::<Plain>(&rt, rt.alloc())
-}
-
-#[test]
-fn blocks_keep_all_where_room_is_refused(rt: HostRuntime) -> Result<(), Fail> {
-    keeps_all_where_room_is_refused::<Blocks>(&rt, rt.alloc())
+fn blocks_keep_all_where_room_is_refused(rt: HostRuntime) {
+    assert!(rt; keeps_all_where_room_is_refused::<Blocks>(rt.alloc()));
 }
 
 fn letter(counter: u32) -> char {
@@ -54,119 +39,173 @@ fn letter(counter: u32) -> char {
 }
 
 /// (1,1) behind the root, and then each behind the one before.
-fn chain(rt: &impl Abort, alloc: Global, count: u32) -> Result<Blocks, Fail> {
-    let mut seq = Blocks::new(alloc);
+fn chain(alloc: Global, count: u32) -> Option<Tried<Blocks>> {
+    let mut seq = Tried::new(alloc);
+    let mut above = (0, 0);
     for counter in 1..=count {
-        assert!(rt;
-            put(
-                &mut seq,
-                element(((counter, 1), (counter - 1, 1), letter(counter), false))?
-            )?
-        );
+        let name = (counter, 1);
+        if !seq.put((name, above, letter(counter), false)) {
+            return None;
+        }
+        above = name;
     }
-    Ok(seq)
+    Some(seq)
 }
 
-/// Places the element of a row if its parent is there and it is not.
-fn add<S: Sequence>(seq: &mut S, row: Row) -> Result<bool, Fail> {
-    Ok(put(seq, element(row)?)?)
+/// Whether both calls find this element at visible place k, each with so many looks.
+fn is_found(seq: &mut Tried<Blocks>, k: usize, name: Name, looks: u64) -> bool {
+    if k >= seq.seq.len() {
+        return false;
+    }
+    let found = id(name) == Some(seq.seq.id_at(k)) && seq.seq.looks() == looks;
+    found && seq.at(k).is_some() && seq.seq.looks() == looks
 }
 
-fn looks_for(rt: &impl Abort, seq: &mut Blocks, k: usize) -> Result<((u32, u16), u64), Fail> {
-    assert!(rt; k < seq.len());
-    let id = seq.id_at(k);
-    Ok(((id.counter(), id.site()), seq.looks()))
+/// How many elements a chain has, which of them are erased, what is placed then, how many blocks
+/// there are, how many elements are visible, and some visible places: who stands there, and how
+/// many looks find it.
+type Split = (
+    u32,
+    &'static [u32],
+    &'static [Row],
+    usize,
+    usize,
+    &'static [(usize, Name, u64)],
+);
+
+static SPLITS: [Split; 4] = [
+    (
+        512,
+        &[],
+        &[],
+        1,
+        512,
+        &[(0, (1, 1), 2), (511, (512, 1), 513)],
+    ),
+    // A full block is split for one more.
+    (
+        512,
+        &[],
+        &[((513, 1), (512, 1), 'z', false)],
+        2,
+        513,
+        &[(0, (1, 1), 2), (512, (513, 1), 259)],
+    ),
+    // Behind the last of a block, also where all that follow are less.
+    (
+        513,
+        &[],
+        &[((600, 2), (256, 1), 'z', false)],
+        2,
+        514,
+        &[(256, (600, 2), 258), (257, (257, 1), 3)],
+    ),
+    // Erased ones stay erased across a split.
+    (
+        512,
+        &[1, 256, 257, 512],
+        &[((513, 1), (512, 1), 'z', true)],
+        2,
+        508,
+        &[
+            (0, (2, 1), 3),
+            (253, (255, 1), 256),
+            (254, (258, 1), 4),
+            (507, (511, 1), 257),
+        ],
+    ),
+];
+
+fn keeps_split(alloc: Global, split: Split) -> Option<bool> {
+    let (count, erased, more, blocks, visible, finds) = split;
+    let mut seq = chain(alloc, count)?;
+    let mut right = true;
+    for counter in erased {
+        right = seq.erase((*counter, 1)) && right;
+    }
+    right = seq.put_all(more) && right;
+    right = seq.seq.blocks() == blocks && seq.seq.len() == visible && right;
+    for (k, name, looks) in finds {
+        right = is_found(&mut seq, *k, *name, *looks) && right;
+    }
+    Some(right)
 }
 
 #[test]
-fn a_full_block_is_split_for_one_more(rt: HostRuntime) -> Result<(), Fail> {
-    let mut seq = chain(&rt, rt.alloc(), 512)?;
-    assert_eq!(rt; seq.blocks(), 1);
-    assert_eq!(rt; looks_for(&rt, &mut seq, 511)?, ((512, 1), 513));
-    assert!(rt; add(&mut seq, ((513, 1), (512, 1), 'z', false))?);
-    assert_eq!(rt; seq.blocks(), 2);
-    assert_eq!(rt; looks_for(&rt, &mut seq, 0)?, ((1, 1), 2));
-    assert_eq!(rt; looks_for(&rt, &mut seq, 512)?, ((513, 1), 259));
-    assert!(rt; 512 < seq.len());
-    assert_eq!(rt; seq.char_at(512), 'z');
-    assert_eq!(rt; seq.looks(), 259);
-    Ok(())
+fn a_full_block_is_split_for_one_more(rt: HostRuntime) {
+    let mut right = true;
+    for split in &SPLITS {
+        right = keeps_split(rt.alloc(), *split) == Some(true) && right;
+    }
+    assert!(rt; right);
 }
 
-/// A chain of 512 and then (600,2): behind which parent, and at which place it stands then.
+/// Whether (600,2), put behind this parent into a chain of 512, stands at this place then.
+fn is_split_at(alloc: Global, parent: Name, place: usize) -> Option<bool> {
+    let mut seq = chain(alloc, 512)?;
+    let mut right = seq.put(((600, 2), parent, 'z', false)) && seq.seq.blocks() == 2;
+    for j in 0..513usize {
+        let before = if j < place { j + 1 } else { j };
+        let counter = if j == place { 600 } else { before };
+        let row = seq.nth(j)?;
+        right = row.0.0 as usize == counter && seq.stands_at(j, row) && right;
+    }
+    Some(right)
+}
+
 #[test]
-fn a_block_is_split_at_any_place(rt: HostRuntime) -> Result<(), Fail> {
-    let lines: [((u32, u16), usize); 6] = [
-        ((0, 0), 0),
-        ((1, 1), 1),
-        ((255, 1), 255),
-        ((256, 1), 256),
-        ((257, 1), 257),
-        ((512, 1), 512),
+fn a_block_is_split_at_any_place(rt: HostRuntime) {
+    let lines = [
+        (0, 0),
+        (1, 1),
+        (255, 255),
+        (256, 256),
+        (257, 257),
+        (512, 512),
     ];
-    for (parent, place) in lines {
-        let mut seq = chain(&rt, rt.alloc(), 512)?;
-        assert!(rt; add(&mut seq, ((600, 2), parent, 'z', false))?);
-        assert_eq!(rt; seq.blocks(), 2);
-        assert_eq!(rt; seq.placed(), 513);
-        for j in 0..513usize {
-            let before = if j < place { j + 1 } else { j };
-            let counter = if j == place { 600 } else { before };
-            assert!(rt; j < seq.placed());
-            assert_eq!(rt; seq.nth(j).id.counter() as usize, counter);
-            assert_eq!(rt; seq.element(seq.nth(j).id), Some(seq.nth(j)));
-        }
+    let mut right = true;
+    for (counter, place) in lines {
+        let site = if counter == 0 { 0 } else { 1 };
+        right = is_split_at(rt.alloc(), (counter, site), place) == Some(true) && right;
     }
-    Ok(())
+    assert!(rt; right);
 }
 
-/// Behind the last element of a block, also where all that follow are less.
-#[test]
-fn the_front_of_a_block_is_the_end_of_the_one_before(rt: HostRuntime) -> Result<(), Fail> {
-    let mut seq = chain(&rt, rt.alloc(), 513)?;
-    assert!(rt; add(&mut seq, ((600, 2), (256, 1), 'z', false))?);
-    assert_eq!(rt; looks_for(&rt, &mut seq, 256)?, ((600, 2), 258));
-    assert_eq!(rt; looks_for(&rt, &mut seq, 257)?, ((257, 1), 3));
-    Ok(())
-}
-
-#[test]
-fn erased_elements_stay_erased_across_a_split(rt: HostRuntime) -> Result<(), Fail> {
-    let mut seq = chain(&rt, rt.alloc(), 512)?;
-    for counter in [1, 256, 257, 512] {
-        erase(&mut seq, (counter, 1))?;
+/// Whether the text is the character of (1,1), and then those of 1,300 down to 2.
+fn is_falling(seq: &Tried<Blocks>) -> bool {
+    let Ok(text) = seq.text() else {
+        return false;
+    };
+    let mut right = text.len() == 1300;
+    for (k, ch) in text.as_str().chars().enumerate() {
+        let counter = if k == 0 {
+            1
+        } else {
+            1301usize.saturating_sub(k)
+        };
+        right = ch == letter((counter % 26) as u32) && right;
     }
-    assert!(rt; add(&mut seq, ((513, 1), (512, 1), 'z', true))?);
-    assert_eq!(rt; seq.blocks(), 2);
-    assert_eq!(rt; seq.placed(), 513);
-    assert_eq!(rt; seq.len(), 508);
-    assert_eq!(rt; looks_for(&rt, &mut seq, 0)?, ((2, 1), 3));
-    assert_eq!(rt; looks_for(&rt, &mut seq, 253)?, ((255, 1), 256));
-    assert_eq!(rt; looks_for(&rt, &mut seq, 254)?, ((258, 1), 4));
-    assert_eq!(rt; looks_for(&rt, &mut seq, 507)?, ((511, 1), 257));
-    Ok(())
+    right
 }
 
-#[test]
-fn many_children_stand_in_falling_order(rt: HostRuntime) -> Result<(), Fail> {
-    let mut text = String::new(rt.alloc());
-    text.push(letter(1))?;
+/// Whether 1,299 children of (1,1), placed in this order, stand in falling order.
+fn puts_children(alloc: Global, falling: bool) -> Option<bool> {
+    let mut seq = chain(alloc, 1)?;
+    let mut right = true;
     for k in 0..1299u32 {
-        text.push(letter(1300 - k))?;
+        let counter = if falling { 1300 - k } else { 2 + k };
+        right = seq.put(((counter, 2), (1, 1), letter(counter), false)) && right;
     }
-    for falling in [false, true] {
-        let mut seq = chain(&rt, rt.alloc(), 1)?;
-        for k in 0..1299u32 {
-            let counter = if falling { 1300 - k } else { 2 + k };
-            assert!(rt; add(&mut seq, ((counter, 2), (1, 1), letter(counter), false))?);
-        }
-        assert_eq!(rt; text_of(rt.alloc(), &seq)?, text);
-        assert!(rt; add(&mut seq, ((2, 1), (1, 1), 'z', false))?);
-        assert_eq!(rt; seq.placed(), 1301);
-        assert_eq!(rt; seq.nth(1300).id, id((2, 1))?);
-        assert!(rt; seq.blocks() <= 6);
-    }
-    Ok(())
+    right = is_falling(&seq) && right;
+    right = seq.put(((2, 1), (1, 1), 'z', false)) && right;
+    right = seq.seq.placed() == 1301 && seq.seq.blocks() <= 6 && right;
+    Some(seq.nth(1300)?.0 == (2, 1) && right)
+}
+
+#[test]
+fn many_children_stand_in_falling_order(rt: HostRuntime) {
+    assert!(rt; puts_children(rt.alloc(), false) == Some(true));
+    assert!(rt; puts_children(rt.alloc(), true) == Some(true));
 }
 
 /// A number that looks random, from the one before.
@@ -176,59 +215,51 @@ fn stir(seed: u64) -> u64 {
 }
 
 /// An element below element j, or below the root. Its identifier is above its parent's by little.
-fn random_row<S: Sequence>(seq: &S, seed: u64) -> Row {
-    let j = (seed >> 20) as usize % seq.placed().max(1);
-    let parent = if j < seq.placed() && seed % 13 > 0 {
-        let id = seq.nth(j).id;
-        (id.counter(), id.site())
-    } else {
-        (0, 0)
+fn random_row(seq: &Tried<Plain>, seed: u64) -> Row {
+    let j = (seed >> 20) as usize % seq.seq.placed().max(1);
+    let parent = match seq.nth(j) {
+        Some(row) if seed % 13 > 0 => row.0,
+        _ => (0, 0),
     };
     let counter = parent.0.saturating_add(1 + ((seed >> 40) % 30) as u32);
     let site = 1 + ((seed >> 48) % 60_000) as u16;
     ((counter, site), parent, letter(counter), seed % 7 == 0)
 }
 
-fn erase<S: Sequence>(seq: &mut S, of: (u32, u16)) -> Result<(), Fail> {
-    let id = id(of)?;
-    if seq.has(id) {
-        seq.hide(id);
+/// Makes 2,500 changes of both, and answers whether both answered the same.
+fn change_both(blocks: &mut Tried<Blocks>, plain: &mut Tried<Plain>) -> bool {
+    let mut seed = 20;
+    let mut same = true;
+    for _ in 0..2_500 {
+        seed = stir(seed);
+        let row = random_row(plain, seed);
+        same = blocks.put(row) == plain.put(row) && same;
+        if seed % 11 == 0 {
+            same = blocks.erase(row.0) == plain.erase(row.0) && same;
+        }
     }
-    Ok(())
+    same
 }
 
-/// Element j of both, sought by its place and by its identifier.
-fn same_element(rt: &impl Abort, blocks: &Blocks, plain: &Plain, j: usize) -> Result<(), Fail> {
-    assert!(rt; j < blocks.placed() && j < plain.placed());
-    assert_eq!(rt; blocks.nth(j), plain.nth(j));
-    assert_eq!(rt; blocks.element(plain.nth(j).id), Some(plain.nth(j)));
-    Ok(())
+/// Whether both tell the same at each place.
+fn show_the_same(blocks: &mut Tried<Blocks>, plain: &mut Tried<Plain>) -> bool {
+    let mut same = blocks.seq.placed() == plain.seq.placed();
+    for j in 0..plain.seq.placed() {
+        let row = plain.nth(j);
+        same = row.is_some_and(|row| blocks.stands_at(j, row)) && same;
+    }
+    for k in 0..=plain.seq.len() {
+        same = blocks.at(k) == plain.at(k) && same;
+        same = blocks.seq.looks() <= (blocks.seq.blocks() as u64).saturating_add(512) && same;
+    }
+    same
 }
 
 #[test]
-fn blocks_stand_as_the_plain_row(rt: HostRuntime) -> Result<(), Fail> {
-    let mut seed = 20;
-    let mut plain = Plain::new(rt.alloc());
-    let mut blocks = Blocks::new(rt.alloc());
-    for _ in 0..2_500 {
-        seed = stir(seed);
-        let row = random_row(&blocks, seed);
-        assert_eq!(rt; add(&mut blocks, row)?, add(&mut plain, row)?);
-        if seed % 11 == 0 {
-            erase(&mut blocks, row.0)?;
-            erase(&mut plain, row.0)?;
-        }
-    }
-    assert!(rt; 2_000 < blocks.placed() && 5 < blocks.blocks());
-    assert_eq!(rt; blocks.placed(), plain.placed());
-    assert_eq!(rt; blocks.len(), plain.len());
-    for j in 0..blocks.placed() {
-        same_element(&rt, &blocks, &plain, j)?;
-    }
-    for k in 0..blocks.len() {
-        assert!(rt; k < plain.len() && k < blocks.len());
-        assert_eq!(rt; blocks.id_at(k), plain.id_at(k));
-        assert!(rt; blocks.looks() <= blocks.blocks() as u64 + 512);
-    }
-    Ok(())
+fn blocks_stand_as_the_plain_row(rt: HostRuntime) {
+    let mut plain = Tried::new(rt.alloc());
+    let mut blocks = Tried::new(rt.alloc());
+    assert!(rt; change_both(&mut blocks, &mut plain));
+    assert!(rt; 2_000 < blocks.seq.placed() && 5 < blocks.seq.blocks());
+    assert!(rt; show_the_same(&mut blocks, &mut plain));
 }

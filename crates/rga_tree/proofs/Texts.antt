@@ -1,19 +1,17 @@
 -- The text as the characters of the visible elements, one element after the other.
-use Rattle.std.proofs.Common.{◌≡◌, ℕ, zero, suc, ◌+◌, true, false, cond, not, List, [], ◌∷◌, ◌++◌, length, take, Some, refl, sym, ap, ◌∙◌, append_assoc, arith}
+use Rattle.std.proofs.Common.{◌≡◌, ℕ, zero, suc, ◌+◌, ◌<◌, true, false, cond, not, List, [], ◌∷◌, ◌++◌, length, take, get_or, refl, sym, ap, ◌∙◌, append_assoc, arith}
 use Rattle.std.proofs.lemmas.List.{append-nil}
 use Rattle.std.proofs.Math.Seq.{take-length}
-use Rattle.std.specs.Prelude.{map as each, filter, slice_get, encode_utf8, encode_utf8_all}
+use Rattle.std.specs.Prelude.{map as each, filter, encode_utf8, encode_utf8_all}
+use Rattle.std.specs.List.{flat_map}
 use Rattle.bg_types.specs.OperationSet.{OperationSet}
 use Rattle.bg_types.specs.declared.op.Place.TheVariants.{Root}
 use Rattle.rga_tree.specs.declared.element.Element.{Element}
 use Rattle.rga_tree.specs.Walk.{walk}
 use Rattle.rga_tree.specs.TextOf.{is_erased, text}
 use Rattle.rga_tree.specs.Elements.{element_of, elements}
+use Rattle.rga_tree.specs.Row.{shown_of}
 use Rattle.rga_tree.proofs.WalkAmong.{Entry}
-
--- the characters of the visible elements
-abbrev pub shown_of : List Element → List ℕ
-shown_of row = each (λ e. e.ch) (filter (λ e. not e.hidden) row)
 
 pub text-elements : (s : OperationSet) → text s ≡ shown_of (elements s)
 text-elements s = by_walk (walk s Root) where
@@ -27,33 +25,67 @@ text-elements s = by_walk (walk s Root) where
       ]
 
 -- one more element
-shown_next : (row : List Element) (j : ℕ) (e : Element) → slice_get row j ≡ Some e → shown_of (take (suc j) row) ≡ shown_of (take j row) ++ cond (not e.hidden) (e.ch ∷ []) []
-shown_next [] j e is = absurd cc
-shown_next (x ∷ row) zero e is =
-    let same : x ≡ e = cc in
+shown_next : (row : List Element) (j : ℕ) (e : Element) → j < length row → e ≡ get_or row j e → shown_of (take (suc j) row) ≡ shown_of (take j row) ++ cond (not e.hidden) (e.ch ∷ []) []
+shown_next [] j e there is = absurd (omega arith)
+shown_next (x ∷ row) zero e there is =
     elim x.hidden as (λ b. each (λ (y : Element). y.ch) (cond (not b) (x ∷ []) []) ≡ cond (not b) (x.ch ∷ []) []) [ true ↦ refl | false ↦ refl ]
-    ∙ ap (λ (y : Element). cond (not y.hidden) (y.ch ∷ []) []) same
-shown_next (x ∷ row) (suc j) e is =
+    ∙ ap (λ (y : Element). cond (not y.hidden) (y.ch ∷ []) []) (sym is)
+shown_next (x ∷ row) (suc j) e there is =
+    let rest = shown_next row j e (omega arith) is in
     elim x.hidden as (λ b. each (λ (y : Element). y.ch) (cond (not b) (x ∷ filter (λ y. not y.hidden) (take (suc j) row)) (filter (λ y. not y.hidden) (take (suc j) row)))
     ≡ each (λ (y : Element). y.ch) (cond (not b) (x ∷ filter (λ y. not y.hidden) (take j row)) (filter (λ y. not y.hidden) (take j row))) ++ cond (not e.hidden) (e.ch ∷ []) []) [
-      | true ↦ shown_next row j e is
-      | false ↦ ap (λ t. x.ch ∷ t) (shown_next row j e is)
+      | true ↦ rest
+      | false ↦ ap (λ t. x.ch ∷ t) rest
     ]
 
-encode-push : (xs : List ℕ) (c : ℕ) → encode_utf8_all (xs ++ c ∷ []) ≡ encode_utf8_all xs ++ encode_utf8 c
-encode-push [] c = append-nil (encode_utf8 c)
-encode-push (x ∷ xs) c = ap (λ t. encode_utf8 x ++ t) (encode-push xs c) ∙ sym (append_assoc (encode_utf8 x) (encode_utf8_all xs) (encode_utf8 c))
+encode-append : (xs ys : List ℕ) → encode_utf8_all (xs ++ ys) ≡ encode_utf8_all xs ++ encode_utf8_all ys
+encode-append [] ys = refl
+encode-append (x ∷ xs) ys = ap (λ t. encode_utf8 x ++ t) (encode-append xs ys) ∙ sym (append_assoc (encode_utf8 x) (encode_utf8_all xs) (encode_utf8_all ys))
 
-pub encode-hidden : (row : List Element) (j : ℕ) (e : Element) → slice_get row j ≡ Some e → not e.hidden ≡ false → encode_utf8_all (shown_of (take (j + 1) row)) ≡ encode_utf8_all (shown_of (take j row))
-encode-hidden row j e is hidden =
+-- the bytes of the visible characters
+abbrev pub bytes_of : List Element → List ℕ
+bytes_of row = encode_utf8_all (shown_of row)
+
+pub bytes-hidden : (row : List Element) (j : ℕ) (e : Element) → j < length row → e ≡ get_or row j e → e.hidden ≡ true → bytes_of (take (j + 1) row) ≡ bytes_of (take j row)
+bytes-hidden row j e there is hidden =
     let next : j + 1 ≡ suc j = omega arith in
-    rw next (ap encode_utf8_all (shown_next row j e is ∙ ap (λ b. shown_of (take j row) ++ cond b (e.ch ∷ []) []) hidden ∙ append-nil (shown_of (take j row))))
+    rw next (ap encode_utf8_all (shown_next row j e there is ∙ ap (λ b. shown_of (take j row) ++ cond (not b) (e.ch ∷ []) []) hidden ∙ append-nil (shown_of (take j row))))
 
-pub encode-visible : (row : List Element) (j : ℕ) (e : Element) → slice_get row j ≡ Some e → not e.hidden ≡ true → encode_utf8_all (shown_of (take (j + 1) row)) ≡ encode_utf8_all (shown_of (take j row)) ++ encode_utf8 e.ch
-encode-visible row j e is visible =
+pub bytes-visible : (row : List Element) (j : ℕ) (e : Element) → j < length row → e ≡ get_or row j e → e.hidden ≡ false → bytes_of (take (j + 1) row) ≡ bytes_of (take j row) ++ encode_utf8 e.ch
+bytes-visible row j e there is visible =
     let next : j + 1 ≡ suc j = omega arith in
-    rw next (ap encode_utf8_all (shown_next row j e is ∙ ap (λ b. shown_of (take j row) ++ cond b (e.ch ∷ []) []) visible) ∙ encode-push (shown_of (take j row)) e.ch)
+    rw next (ap encode_utf8_all (shown_next row j e there is ∙ ap (λ b. shown_of (take j row) ++ cond (not b) (e.ch ∷ []) []) visible)
+    ∙ encode-append (shown_of (take j row)) (e.ch ∷ []) ∙ ap (λ t. bytes_of (take j row) ++ t) (append-nil (encode_utf8 e.ch)))
 
-pub encode-whole : (s : OperationSet) (j : ℕ) → j ≡ length (elements s) → encode_utf8_all (shown_of (take j (elements s))) ≡ encode_utf8_all (text s)
-encode-whole s j whole =
-    ap (λ n. encode_utf8_all (shown_of (take n (elements s)))) whole ∙ ap (λ r. encode_utf8_all (shown_of r)) (take-length (elements s)) ∙ ap encode_utf8_all (sym (text-elements s))
+shown-append : (xs ys : List Element) → shown_of (xs ++ ys) ≡ shown_of xs ++ shown_of ys
+shown-append [] ys = refl
+shown-append (x ∷ xs) ys =
+    elim x.hidden as (λ b. each (λ (y : Element). y.ch) (cond (not b) (x ∷ filter (λ y. not y.hidden) (xs ++ ys)) (filter (λ y. not y.hidden) (xs ++ ys)))
+    ≡ each (λ (y : Element). y.ch) (cond (not b) (x ∷ filter (λ y. not y.hidden) xs) (filter (λ y. not y.hidden) xs)) ++ shown_of ys) [
+      | true ↦ shown-append xs ys
+      | false ↦ ap (λ t. x.ch ∷ t) (shown-append xs ys)
+    ]
+
+bytes-append : (xs ys : List Element) → bytes_of (xs ++ ys) ≡ bytes_of xs ++ bytes_of ys
+bytes-append xs ys = ap encode_utf8_all (shown-append xs ys) ∙ encode-append (shown_of xs) (shown_of ys)
+
+-- the elements of all parts
+abbrev pub joined : List (List Element) → List Element
+joined parts = flat_map (λ part. part) parts
+
+-- one more part
+bytes_next : (parts : List (List Element)) (p : ℕ) → bytes_of (joined (take (suc p) parts)) ≡ bytes_of (joined (take p parts)) ++ bytes_of (get_or parts p [])
+bytes_next [] zero = refl
+bytes_next [] (suc p) = refl
+bytes_next (x ∷ parts) zero = ap bytes_of (append-nil x)
+bytes_next (x ∷ parts) (suc p) =
+    bytes-append x (joined (take (suc p) parts)) ∙ ap (λ t. bytes_of x ++ t) (bytes_next parts p)
+    ∙ sym (append_assoc (bytes_of x) (bytes_of (joined (take p parts))) (bytes_of (get_or parts p [])))
+    ∙ ap (λ t. t ++ bytes_of (get_or parts p [])) (sym (bytes-append x (joined (take p parts))))
+
+pub bytes-part : (parts : List (List Element)) (p : ℕ) → bytes_of (joined (take (p + 1) parts)) ≡ bytes_of (joined (take p parts)) ++ bytes_of (get_or parts p [])
+bytes-part parts p = let next : p + 1 ≡ suc p = omega arith in rw next (bytes_next parts p)
+
+pub bytes-whole : (s : OperationSet) (parts : List (List Element)) (p : ℕ) → joined parts ≡ elements s → p ≡ length parts → bytes_of (joined (take p parts)) ≡ encode_utf8_all (text s)
+bytes-whole s parts p whole all =
+    ap (λ n. bytes_of (joined (take n parts))) all ∙ ap (λ r. bytes_of (joined r)) (take-length parts) ∙ ap bytes_of whole ∙ ap encode_utf8_all (sym (text-elements s))

@@ -16,6 +16,10 @@ entry_of e = (e.id, record { parent = e.parent; ch = e.ch })
 abbrev pub hidden_ids : List Element → List Identifier
 hidden_ids row = each (λ e. e.id) (filter (λ e. e.hidden) row)
 
+-- the characters of the visible elements
+abbrev pub shown_of : List Element → List ℕ
+shown_of row = each (λ e. e.ch) (filter (λ e. not e.hidden) row)
+
 -- the insertions of the elements, and the deletions of the hidden ones
 abbrev pub operations_of : List Element → OperationSet
 operations_of row = record { ins = map.from_entries (each entry_of row); del = set.from_list (hidden_ids row) }

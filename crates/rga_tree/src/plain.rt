@@ -1,6 +1,8 @@
 //! The plain sequence: one row, searched from the front.
 
-ghost use Rattle.std.specs.Prelude.{◌≡◌, ◌-◌, ◌+◌, ◌≤◌, ◌<◌, true, not, length, filter, slice_get, vec_len, vec_capacity};
+ghost use Rattle.std.specs.Prelude.{◌≡◌, ◌-◌, ◌+◌, ◌≤◌, ◌<◌, ◌∷◌, [], true, not, length, filter, slice_get, vec_len, vec_capacity};
+ghost use Rattle.std.proofs.Common.{◌∙◌};
+ghost use Rattle.std.proofs.lemmas.List.{append-nil};
 ghost use Rattle.std.specs.Ordering.{is_lt};
 ghost use Rattle.std.specs.List.{find as find_in, prefix_len, list_any};
 ghost use Rattle.bg_types.specs.Identifier.{id_cmp, same_id};
@@ -43,6 +45,8 @@ impl Sequence for Plain {
     ghost content = { λ p. operations_of p.row.items };
 
     ghost free = { λ p. vec_capacity p.row - vec_len p.row };
+
+    ghost parts = { λ p. p.row.items ∷ [] };
 
     fn reserve(&mut self, n: usize) -> Result<(), Memory> {
         self.row.reserve(n)?;
@@ -94,6 +98,14 @@ impl Sequence for Plain {
         self.row[j]
     }
 
+    fn part_count(&self) -> usize {
+        1
+    }
+
+    fn part(&self, _p: usize) -> &[Element] {
+        &self.row
+    }
+
     fn has(&self, id: Id) -> bool {
         contains(&self.row, id)
     }
@@ -101,6 +113,8 @@ impl Sequence for Plain {
     fn element(&self, id: Id) -> Option<Element> {
         find(&self.row, id)
     }
+
+    ghost whole = { λ p. append-nil p.row.items ∙ p.in_order };
 
     ghost is_tree = { λ p. p.tree };
 

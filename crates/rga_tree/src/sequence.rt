@@ -1,13 +1,16 @@
 //! Sequences: the elements of a tree in the order of its walk.
 
-ghost use Rattle.std.specs.Prelude.{◌≡◌, ◌<◌, ◌≤◌, ◌+◌, ℕ, length, slice_get, true, false, Some, IsTrue, IsOk, OnOk, OnErr, IfOk, string_bytes, encode_utf8_all};
+ghost use Rattle.std.specs.Prelude.{◌≡◌, ◌<◌, ◌≤◌, ◌+◌, ◌++◌, ℕ, List, [], length, get_or, slice_get, true, false, Some, IsTrue, IsOk, OnOk, OnErr, IfOk, string_bytes, encode_utf8_all};
+ghost use Rattle.std.specs.List.{flat_map};
 ghost use Rattle.std.specs.Option.{option_map};
 ghost use Rattle.std.specs.FinMap as map;
 ghost use Rattle.bg_types.specs.OperationSet.{OperationSet, with_operation, AllWellFormed};
 ghost use Rattle.bg_types.specs.WellFormed.{MayFollow};
 ghost use Rattle.bg_types.specs.declared.op.OpView.{OpView};
 ghost use Rattle.bg_types.specs.declared.op.OpView.TheVariants.{Erase};
+ghost use Rattle.rga_tree.specs.declared.element.Element.{Element};
 ghost use Rattle.rga_tree.specs.TextOf.{visible, visible_ids, text};
+ghost use Rattle.rga_tree.specs.Row.{shown_of};
 ghost use Rattle.rga_tree.specs.Tree.{stands_in, IsTree, OnlyErasesPlaced};
 ghost use Rattle.rga_tree.specs.Elements.{elements, element_of, with_element};
 
@@ -23,6 +26,9 @@ pub trait Sequence {
 
     /// How many placings take no memory.
     ghost free: { Self → ℕ };
+
+    /// The elements in parts, each in one piece of memory.
+    ghost parts: { Self → List (List Element) };
 
     /// Makes room for n placings (at most 4,000,000). Where memory is refused, content and room
     /// stay as they were.
@@ -82,6 +88,15 @@ pub trait Sequence {
         requires { j < length (elements (content self.now)) }
         ensures { slice_get (elements (content self.now)) j ≡ Some result };
 
+    /// In how many parts the elements lie. Together, in order, the parts are the elements.
+    fn part_count(&self) -> usize
+        ensures { result ≡ length (parts self.now) };
+
+    /// The elements of part p. Who reads all elements in order reads part after part.
+    fn part(&self, p: usize) -> &[Element]
+        requires { p < length (parts self.now) }
+        ensures { result.now ≡ get_or (parts self.now) p [] };
+
     /// Whether the identifier's insertion is placed.
     fn has(&self, id: Id) -> bool
         ensures { result ≡ map.contains_key (content self.now).ins id };
@@ -90,6 +105,9 @@ pub trait Sequence {
     fn element(&self, id: Id) -> Option<Element>
         ensures { result ≡ option_map (λ node. element_of (content self.now) (id, node))
             (map.get (content self.now).ins id) };
+
+    /// The parts together are the elements, in order.
+    ghost whole: { (s : Self) → flat_map (λ part. part) (parts s) ≡ elements (content s) };
 
     /// The parent of each element is the root or an element.
     ghost is_tree: { (s : Self) → IsTree (content s) };
@@ -106,11 +124,20 @@ pub fn text_of<S: Sequence>(alloc: Global, seq: &S) -> Result<String, Memory>
     ensures { IfOk result (λ t. string_bytes t ≡ encode_utf8_all (text (S.content seq.now))) }
 {
     let mut read = String::with_capacity(alloc, seq.placed())?;
-    for j in 0..seq.placed() {
-        let element = seq.nth(j);
+    for p in 0..seq.part_count() {
+        push_shown(&mut read, seq.part(p))?;
+    }
+    Ok(read)
+}
+
+/// Appends the characters of the visible elements.
+fn push_shown(read: &mut String, row: &[Element]) -> Result<(), Memory>
+    ensures { OnOk result (string_bytes read.new ≡ string_bytes read.old ++ encode_utf8_all (shown_of row.now)) }
+{
+    for element in row {
         if !element.hidden {
             read.push(element.ch)?;
         }
     }
-    Ok(read)
+    Ok(())
 }

@@ -8,7 +8,7 @@ use Rattle.pending_ops.proofs.chains.append_chain.Goals as goal
 pub loop-cursor-init : goal.loop-cursor-init
 loop-cursor-init c =
     let slot = slot_in c.args.slots.now.entries in
-    let start = c.copied-cursor.ensures ∙ c.get.ensures.value ∙ lookup-id_eq c.args.firsts.now.entries c.args.parent in
+    let start = c.first_of-cursor.ensures in
     record {
       walking = record {
         done = [];

@@ -1,4 +1,4 @@
-use Rattle.std.proofs.Common.{◌≡◌, ◌<◌, ◌+◌, ◌∙◌, true, false, sym, ap, subst, length, take}
+use Rattle.std.proofs.Common.{◌≡◌, ◌+◌, ◌∙◌, true, sym, subst, take}
 use Rattle.std.specs.List.{list_any}
 use Rattle.std.specs.Ordering.{is_lt}
 use Rattle.bg_types.specs.Identifier.{Identifier, id_cmp, same_id}

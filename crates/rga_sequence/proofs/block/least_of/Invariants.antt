@@ -1,4 +1,4 @@
-use Rattle.std.proofs.Common.{◌≡◌, ◌&&◌, ◌||◌, true, not, take, Bool}
+use Rattle.std.proofs.Common.{◌≡◌, true, not, take}
 use Rattle.std.specs.List.{list_all, list_any}
 use Rattle.std.specs.Ordering.{is_lt}
 use Rattle.bg_types.specs.Identifier.{id_cmp, same_id}

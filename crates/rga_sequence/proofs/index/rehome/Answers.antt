@@ -1,4 +1,4 @@
-use Rattle.std.proofs.Common.{◌≡◌, ◌∙◌, sym, ap, subst, take, Some}
+use Rattle.std.proofs.Common.{◌∙◌, sym, subst, take}
 use Rattle.std.specs.Prelude.{IsSome}
 use Rattle.std.specs.HashMap.{get}
 use Rattle.bg_types.specs.Identifier.{same_id}

@@ -1,4 +1,4 @@
-use Rattle.std.proofs.Common.{◌≡◌, ◌+◌, take, cond, Some}
+use Rattle.std.proofs.Common.{◌≡◌, take, cond, Some}
 use Rattle.rga_sequence.specs.BlockRows.{has}
 use Rattle.std.specs.HashMap.{get, spare, hash_map_len}
 use Rattle.bg_types.specs.Identifier.{Identifier}

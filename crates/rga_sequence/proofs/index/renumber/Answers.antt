@@ -1,8 +1,6 @@
-use Rattle.std.proofs.Common.{◌≡◌, ◌<◌, ◌+◌, ◌∙◌, ℕ, get_or, length, sym, ap, arith, rules}
-use Rattle.std.specs.Prelude.{slice_get, set, Some}
+use Rattle.std.proofs.Common.{◌≡◌, ◌<◌, ◌∙◌, get_or, length, sym, ap, arith, rules}
+use Rattle.std.specs.Prelude.{slice_get, set}
 use Rattle.rga_sequence.specs.BlockRows.{numbers_of}
-use Rattle.rga_sequence.specs.declared.block.Block.{Block}
-use Rattle.std.proofs.lemmas.List.{length-map}
 use Rattle.rga_sequence.proofs.Numbers.{number_there}
 use Rattle.rga_sequence.proofs.Places.{one_more_place}
 use Rattle.rga_sequence.proofs.index.renumber.Goals as goal

@@ -1,5 +1,5 @@
-use Rattle.std.proofs.Common.{◌≡◌, ◌<◌, ◌≤◌, ◌+◌, ◌-◌, ◌∙◌, ap, length, take, get_or, [], arith}
-use Rattle.rga_sequence.specs.Blocks.{seen, seen_all}
+use Rattle.std.proofs.Common.{◌≤◌, ◌+◌, ◌∙◌, ap, get_or, [], arith}
+use Rattle.rga_sequence.specs.Blocks.{seen}
 use Rattle.rga_sequence.proofs.Seen.{block_more, seen_all-more}
 use Rattle.rga_sequence.proofs.look.block_of.Goals as goal
 

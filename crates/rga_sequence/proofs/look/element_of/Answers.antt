@@ -1,7 +1,7 @@
-use Rattle.std.proofs.Common.{◌≡◌, ◌<◌, ◌≤◌, ◌+◌, ◌-◌, ◌∙◌, true, false, sym, ap, cond, length, take, get_or, [], Some, arith}
+use Rattle.std.proofs.Common.{◌≡◌, ◌<◌, ◌+◌, ◌∙◌, false, sym, ap, cond, take, get_or, [], arith}
 use Rattle.std.specs.Prelude.{slice_get}
 use Rattle.rga_sequence.specs.Blocks.{seen}
-use Rattle.rga_sequence.proofs.Seen.{element_more, seen-more, fell, kept, some_there}
+use Rattle.rga_sequence.proofs.Seen.{element_more, seen-more, fell, kept}
 use Rattle.rga_sequence.proofs.look.element_of.Goals.{then-not-element, else-not-element, then-element, else-element+then-left-gt0}
 use Rattle.rga_sequence.proofs.look.element_of.Goals as goal
 

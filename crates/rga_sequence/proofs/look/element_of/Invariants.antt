@@ -1,4 +1,4 @@
-use Rattle.std.proofs.Common.{◌≡◌, ◌<◌, ◌+◌, ◌-◌, take, length, get_or, [], Some}
+use Rattle.std.proofs.Common.{◌≡◌, ◌+◌, ◌-◌, take, length, get_or, [], Some}
 use Rattle.std.specs.Prelude.{slice_get}
 use Rattle.rga_sequence.specs.Blocks.{seen}
 use Rattle.rga_sequence.proofs.look.element_of.Given as goal

@@ -1,6 +1,6 @@
 use Rattle.std.proofs.Common.{◌+◌, ◌∙◌, refl, ap, sym, arith, take, get_or, []}
 use Rattle.std.specs.Prelude.{slice_get}
-use Rattle.rga_sequence.specs.Blocks.{seen, seen_all, IsVisiblePlace}
+use Rattle.rga_sequence.specs.Blocks.{seen, IsVisiblePlace}
 use Rattle.rga_sequence.proofs.Seen.{visible_at}
 use Rattle.rga_sequence.proofs.look.find.Goals as goal
 

@@ -1,4 +1,4 @@
-use Rattle.std.proofs.Common.{◌≡◌, ◌+◌, ◌∙◌, List, true, sym, ap, get_or}
+use Rattle.std.proofs.Common.{◌+◌, ◌∙◌, List, true, sym, ap, get_or}
 use Rattle.std.specs.Prelude.{set, slice_set}
 use Rattle.std.proofs.lemmas.List.{map-set}
 use Rattle.rga_tree.specs.declared.element.Element.{Element}

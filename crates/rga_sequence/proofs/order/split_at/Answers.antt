@@ -1,4 +1,4 @@
-use Rattle.std.proofs.Common.{◌≡◌, ◌<◌, ◌+◌, ◌++◌, ◌∙◌, cond, true, List, ap, length, take, drop, get_or, [], arith}
+use Rattle.std.proofs.Common.{◌≡◌, ◌+◌, ◌++◌, ◌∙◌, cond, true, List, ap, length, take, drop, get_or, [], arith}
 use Rattle.std.specs.Prelude.{is_ok, insert, set}
 use Rattle.std.proofs.lemmas.List.{take_at}
 use Rattle.rga_sequence.specs.declared.block.Block.{Block}

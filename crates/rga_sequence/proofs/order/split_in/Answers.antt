@@ -1,4 +1,4 @@
-use Rattle.std.proofs.Common.{◌≡◌, ◌∙◌, sym, ap, take, drop}
+use Rattle.std.proofs.Common.{◌∙◌, sym, ap, take, drop}
 use Rattle.std.specs.Prelude.{slice_set}
 use Rattle.std.proofs.lemmas.List.{map-set}
 use Rattle.rga_sequence.specs.declared.block.Block.{Block}

@@ -1,12 +1,12 @@
-use Rattle.std.proofs.Common.{◌≡◌, ℕ, ◌<◌, ◌+◌, ◌∙◌, [], Some, true, false, sym, ap, subst, length, get_or, length-set, arith}
-use Rattle.std.specs.Prelude.{set, slice_get, vec_len}
+use Rattle.std.proofs.Common.{◌≡◌, ◌<◌, ◌∙◌, [], true, false, sym, ap, subst, length, get_or, length-set, arith}
+use Rattle.std.specs.Prelude.{set, slice_get}
 use Rattle.std.proofs.lemmas.List.{length-map}
-use Rattle.bg_types.specs.Identifier.{Identifier, same_id}
+use Rattle.bg_types.specs.Identifier.{same_id}
 use Rattle.bg_types.specs.declared.op.Place.TheVariants.{Root}
 use Rattle.rga_tree.specs.declared.element.Element.{Element}
 use Rattle.rga_sequence.specs.declared.block.Block.{Block}
 use Rattle.rga_sequence.specs.Blocks.{seen, joined, offset}
-use Rattle.rga_sequence.specs.BlockRows.{items_of, numbers_of, has, home_of, AreHalfFull}
+use Rattle.rga_sequence.specs.BlockRows.{items_of, numbers_of, home_of, AreHalfFull}
 use Rattle.rga_sequence.proofs.Halves.{AreHalfFull-set}
 use Rattle.rga_sequence.proofs.Members.{until}
 use Rattle.rga_sequence.proofs.Put.{home_kept}

@@ -1,1 +1,0 @@
-use Rattle.rga_sequence.proofs.row.make_memory.Goals as goal

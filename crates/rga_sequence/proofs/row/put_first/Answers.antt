@@ -1,4 +1,4 @@
-use Rattle.std.proofs.Common.{◌≡◌, ℕ, zero, suc, ◌<◌, ◌≤◌, ◌+◌, ◌++◌, ◌∷◌, ◌∙◌, [], List, Some, None, cond, true, false, sym, ap, subst, refl, length, get_or, arith}
+use Rattle.std.proofs.Common.{◌≡◌, ℕ, zero, suc, ◌<◌, ◌+◌, ◌++◌, ◌∷◌, ◌∙◌, [], List, Some, None, cond, true, false, sym, ap, subst, refl, length, get_or, arith}
 use Rattle.std.specs.Prelude.{slice_get, is_ok, is_some, vec_len}
 use Rattle.std.specs.Option.{option_to_list}
 use Rattle.std.specs.HashMap.{get, hash_map_len}

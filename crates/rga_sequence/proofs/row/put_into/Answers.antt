@@ -1,5 +1,5 @@
-use Rattle.std.proofs.Common.{◌≡◌, ℕ, ◌<◌, ◌≤◌, ◌+◌, ◌∙◌, [], Some, None, cond, true, false, sym, ap, subst, refl, length, get_or, arith}
-use Rattle.std.specs.Prelude.{insert, set, slice_get, is_some}
+use Rattle.std.proofs.Common.{◌≡◌, ◌<◌, ◌+◌, ◌∙◌, [], Some, cond, false, sym, ap, subst, length, get_or, arith}
+use Rattle.std.specs.Prelude.{insert, slice_get, is_some}
 use Rattle.std.specs.HashMap.{get, hash_map_len}
 use Rattle.bg_types.specs.Identifier.{same_id}
 use Rattle.std.proofs.lemmas.List.{length-map}

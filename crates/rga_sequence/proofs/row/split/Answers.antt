@@ -1,5 +1,5 @@
-use Rattle.std.proofs.Common.{◌≡◌, ℕ, ◌<◌, ◌≤◌, ◌+◌, ◌*◌, ◌++◌, ◌∙◌, ◌∷◌, [], List, Some, cond, true, sym, ap, subst, refl, length, take, drop, get_or, length-append, length-drop, length-take-le, arith}
-use Rattle.std.specs.Prelude.{insert, set, slice_get, IsSome, is_ok, is_some, vec_len}
+use Rattle.std.proofs.Common.{◌≡◌, ◌<◌, ◌≤◌, ◌+◌, ◌++◌, ◌∙◌, ◌∷◌, [], Some, cond, true, sym, ap, subst, length, take, drop, get_or, length-append, length-drop, length-take-le, arith}
+use Rattle.std.specs.Prelude.{insert, slice_get, IsSome, is_ok, is_some, vec_len}
 use Rattle.std.specs.List.{AllByRecursion}
 use Rattle.std.specs.Option.{option_to_list}
 use Rattle.std.specs.HashMap.{get}
@@ -9,7 +9,6 @@ use Rattle.rga_tree.specs.declared.element.Element.{Element}
 use Rattle.rga_sequence.specs.declared.block.Block.{Block}
 use Rattle.rga_sequence.specs.Blocks.{joined}
 use Rattle.rga_sequence.specs.BlockRows.{items_of, numbers_of, has, home_of, AreHalfFull}
-use Rattle.rga_sequence.specs.Indexed.{HasRoom}
 use Rattle.rga_sequence.proofs.Halves.{full_paid, AreHalfFull-split}
 use Rattle.rga_sequence.proofs.Homes.{id_eq}
 use Rattle.rga_sequence.proofs.Joined.{split_joined, split_high}

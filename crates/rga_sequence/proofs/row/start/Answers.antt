@@ -1,4 +1,4 @@
-use Rattle.std.proofs.Common.{◌≡◌, ◌≤◌, ◌+◌, length, subst, arith}
+use Rattle.std.proofs.Common.{◌≤◌, ◌+◌, length, subst, arith}
 use Rattle.bg_types.specs.declared.op.Place.{Place}
 use Rattle.rga_tree.specs.Row.{start_of}
 use Rattle.rga_sequence.specs.Few.{few_items}

@@ -1,22 +1,15 @@
-use Rattle.std.proofs.Common.{◌++◌, sym, ap, ◌∙◌, arith}
-use Rattle.std.specs.Prelude.{string_bytes, encode_utf8}
-use Rattle.rga_tree.specs.Elements.{elements}
-use Rattle.rga_tree.proofs.Texts.{encode-hidden, encode-visible, encode-whole}
+use Rattle.std.proofs.Common.{◌≡◌, ◌++◌, sym, ◌∙◌, length, arith}
+use Rattle.rga_tree.proofs.Texts.{bytes_of, bytes-part, bytes-whole}
 use Rattle.rga_tree.proofs.sequence.text_of.Goals as goal
-use Rattle.rga_tree.proofs.sequence.text_of.Goals.{then-not-element+in_ok-push, else-not-element}
 
-pub loop-j-preserved : goal.loop-j-preserved
-loop-j-preserved g c =
-    let row = elements (g.S.Sequence.content c.args.seq.now) in
-    elim c.if-not-element.branch [
-      | then-not-element+in_ok-push w ↦
-          ap string_bytes w.read-is ∙ w.in_ok-push.ensures.bytes ∙ ap (λ t. t ++ encode_utf8 c.nth-element.result.ch) c.loop-j.invariant
-          ∙ sym (encode-visible row c.loop-j.j c.nth-element.result c.nth-element.ensures w.if-not-element.true)
-      | else-not-element w ↦
-          ap string_bytes w.read-is ∙ c.loop-j.invariant ∙ sym (encode-hidden row c.loop-j.j c.nth-element.result c.nth-element.ensures w.if-not-element.false)
-    ]
+pub loop-p-preserved : goal.loop-p-preserved
+loop-p-preserved g c =
+    let parts = g.S.Sequence.parts c.args.seq.now in
+    c.in_ok-push_shown.ensures ∙ (λ i. c.loop-p.invariant i ++ bytes_of (c.part.ensures i)) ∙ sym (bytes-part parts c.loop-p.p)
 
 pub returns : goal.returns
 returns g c =
-    let s = g.S.Sequence.content c.args.seq.now in
-    c.loop-j.invariant ∙ encode-whole s c.loop-j.j (omega (arith, c.placed-j-end.ensures))
+    let seq = c.args.seq.now in
+    let parts = g.S.Sequence.parts seq in
+    let all : c.loop-p.p ≡ length parts = omega (arith, c.part_count-p-end.ensures) in
+    c.loop-p.invariant ∙ bytes-whole (g.S.Sequence.content seq) parts c.loop-p.p (g.met.S.Sequence.whole seq) all

@@ -1,8 +1,7 @@
 use Rattle.std.proofs.Common.{◌≡◌, take}
-use Rattle.std.specs.Prelude.{string_bytes, encode_utf8_all}
-use Rattle.rga_tree.specs.Elements.{elements}
-use Rattle.rga_tree.proofs.Texts.{shown_of}
+use Rattle.std.specs.Prelude.{string_bytes}
+use Rattle.rga_tree.proofs.Texts.{bytes_of, joined}
 use Rattle.rga_tree.proofs.sequence.text_of.Given as goal
 
-abbrev pub invariant-loop-j : goal.invariant-loop-j
-invariant-loop-j g l = string_bytes l.read ≡ encode_utf8_all (shown_of (take l.j (elements (g.S.Sequence.content l.seq))))
+abbrev pub invariant-loop-p : goal.invariant-loop-p
+invariant-loop-p g l = string_bytes l.read ≡ bytes_of (joined (take l.p (g.S.Sequence.parts l.seq)))

@@ -1,9 +1,9 @@
-use Rattle.std.proofs.Common.{◌≡◌, List, true, false, cond, sym, ap, subst, ◌∙◌, refl, length, arith, is_some}
+use Rattle.std.proofs.Common.{◌≡◌, List, true, false, cond, sym, ap, subst, ◌∙◌, refl, length, arith, rules, is_some}
 use Rattle.bg_types.specs.Identifier.{Identifier, same_id}
 use Rattle.bg_types.proofs.IdentifierOrder.{same_id-is}
 use Rattle.pending_ops.specs.Waiting.{Releases}
 use Rattle.pending_ops.specs.Chains.{AreApart, first_in, is_in, waiting_of}
-use Rattle.pending_ops.proofs.Tables.{IsDistinct-id_eq, added_one, from_ok, is_in-updated, list_any-id_eq, lookup-id_eq, none_there, ok_if, ok_is}
+use Rattle.pending_ops.proofs.Tables.{IsDistinct-id_eq, added_one, from_ok, is_in-updated, list_any-id_eq, none_there, ok_if, ok_is}
 use Rattle.pending_ops.proofs.Freeing.{AreLinked-released, Releases-none, Releases-some, fewer_released}
 use Rattle.pending_ops.proofs.held.Held.release_of.Goals as goal
 
@@ -12,7 +12,8 @@ unwrap-requires c =
     let firsts = c.self.inside.firsts.entries in
     let released = c.self.inside.released.keys in
     let id = c.args.id in
-    let there : is_some (first_in firsts id) ≡ true = sym (c.if-not-contains_key.ensures ∙ ap is_some (lookup-id_eq firsts id)) in
+    let some : is_some c.first_of.result ≡ true = search rules in
+    let there : is_some (first_in firsts id) ≡ true = ap is_some (sym c.first_of.ensures) ∙ some in
     let new : is_in released id ≡ false = sym (c.if-contains.ensures ∙ list_any-id_eq released id) in
     let apart = IsDistinct-id_eq c.insert.new.self.keys c.insert.ensures.unique in
     ok_if c.insert.result _ c.insert.ensures.err (λ same.
@@ -26,7 +27,8 @@ invariant_of-self c =
     let released = c.self.inside.released.keys in
     let more = c.insert.new.self.keys in
     let id = c.args.id in
-    let there : is_some (first_in firsts id) ≡ true = sym (c.if-not-contains_key.ensures ∙ ap is_some (lookup-id_eq firsts id)) in
+    let some : is_some c.first_of.result ≡ true = search rules in
+    let there : is_some (first_in firsts id) ≡ true = ap is_some (sym c.first_of.ensures) ∙ some in
     let ok = ok_is c.insert.result c.unwrap.result c.unwrap.ensures in
     let grown = is_in-updated released more id true (from_ok c.insert.result _ ok c.insert.ensures.updates).0 in
     let one = added_one c.insert.result _ (length more) (length released) ok (sym c.if-contains.ensures) c.insert.ensures.added c.insert.ensures.len in
@@ -42,14 +44,16 @@ returns c =
     let erased = c.self.inside.erased.keys in
     let more = c.insert.new.self.keys in
     let id = c.args.id in
-    let there : is_some (first_in firsts id) ≡ true = sym (c.if-not-contains_key.ensures ∙ ap is_some (lookup-id_eq firsts id)) in
+    let some : is_some c.first_of.result ≡ true = search rules in
+    let there : is_some (first_in firsts id) ≡ true = ap is_some (sym c.first_of.ensures) ∙ some in
     let grown = is_in-updated released more id true (from_ok c.insert.result _ (ok_is c.insert.result c.unwrap.result c.unwrap.ensures) c.insert.ensures.updates).0 in
     subst (λ w. Releases w id (waiting_of slots more erased)) c.self.view_is (Releases-some slots firsts released erased id c.self.invariant.0 more grown there)
 
-pub returns-then-not-contains_key : goal.returns-then-not-contains_key
-returns-then-not-contains_key c =
+pub returns-then-is_none : goal.returns-then-is_none
+returns-then-is_none c =
     let firsts = c.self.inside.firsts.entries in
-    let none = none_there (first_in firsts c.args.id) (sym (c.if-not-contains_key.ensures ∙ ap is_some (lookup-id_eq firsts c.args.id))) in
+    let gone : is_some c.first_of.result ≡ false = search rules in
+    let none = none_there (first_in firsts c.args.id) (ap is_some (sym c.first_of.ensures) ∙ gone) in
     subst (λ w. Releases w c.args.id w) c.self.view_is
     (Releases-none c.self.inside.slots.entries firsts c.self.inside.released.keys c.self.inside.erased.keys c.args.id c.self.invariant.0 none)
 
@@ -65,7 +69,8 @@ pub returns-then-contains : goal.returns-then-contains
 returns-then-contains c =
     let firsts = c.self.inside.firsts.entries in
     let released = c.self.inside.released.keys in
-    let there : is_some (first_in firsts c.args.id) ≡ true = sym (c.if-not-contains_key.ensures ∙ ap is_some (lookup-id_eq firsts c.args.id)) in
+    let some : is_some c.first_of.result ≡ true = search rules in
+    let there : is_some (first_in firsts c.args.id) ≡ true = ap is_some (sym c.first_of.ensures) ∙ some in
     let kept : is_in released c.args.id ≡ true = sym (c.if-contains.ensures ∙ list_any-id_eq released c.args.id) in
     subst (λ w. Releases w c.args.id w) c.self.view_is
     (Releases-some c.self.inside.slots.entries firsts released c.self.inside.erased.keys c.args.id c.self.invariant.0 released (λ q. stays released c.args.id q kept) there)

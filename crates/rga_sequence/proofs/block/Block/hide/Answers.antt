@@ -1,7 +1,6 @@
-use Rattle.std.proofs.Common.{◌≡◌, ℕ, ◌≤◌, ◌∙◌, true, ap, cond, arith, get_or, length-set}
-use Rattle.std.specs.Prelude.{set, vec_len, vec_capacity}
+use Rattle.std.proofs.Common.{◌≡◌, ℕ, ◌∙◌, ap, cond, arith, get_or}
 use Rattle.rga_tree.specs.declared.element.Element.{Element}
-use Rattle.rga_sequence.specs.Blocks.{seen, is_least}
+use Rattle.rga_sequence.specs.Blocks.{is_least}
 use Rattle.rga_sequence.proofs.Shown.{seen-gone, set-hide, least-hide, weight_le-seen}
 use Rattle.rga_sequence.proofs.block.Block.hide.Goals as goal
 

@@ -1,7 +1,5 @@
 use Rattle.std.proofs.Common.{◌≡◌, ◌≤◌, ◌<◌, ◌+◌, ◌∙◌, cond, true, sym, ap, length, arith}
 use Rattle.std.specs.Prelude.{insert, is_ok, vec_len, vec_capacity}
-use Rattle.std.specs.Ordering.{is_lt}
-use Rattle.bg_types.specs.Identifier.{id_cmp}
 use Rattle.rga_tree.specs.declared.element.Element.{Element}
 use Rattle.rga_sequence.specs.Blocks.{seen, is_least}
 use Rattle.rga_sequence.proofs.Grown.{seen-insert, seen_le, weight_le, least-insert}

@@ -1,4 +1,4 @@
-use Rattle.std.proofs.Common.{◌≡◌, ◌+◌, ◌∙◌, sym, ap, length, [], arith}
+use Rattle.std.proofs.Common.{◌∙◌, sym, ap, length, arith}
 use Rattle.std.specs.Map.{lookup}
 use Rattle.rga_tree.proofs.Placing.{Keeps-nothing}
 use Rattle.rga_sequence.specs.Blocks.{joined, seen}

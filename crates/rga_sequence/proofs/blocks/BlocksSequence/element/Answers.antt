@@ -1,4 +1,4 @@
-use Rattle.std.proofs.Common.{◌≡◌, ◌<◌, ◌∙◌, [], Some, true, false, Bool, ap, sym, refl, length, get_or, arith}
+use Rattle.std.proofs.Common.{◌≡◌, ◌<◌, ◌∙◌, [], true, false, Bool, ap, sym, refl, length, get_or, arith}
 use Rattle.std.specs.Prelude.{slice_get}
 use Rattle.std.proofs.lemmas.List.{length-map}
 use Rattle.rga_tree.proofs.Placing.{Keeps}
@@ -6,7 +6,7 @@ use Rattle.rga_tree.proofs.Seen.{element_row}
 use Rattle.rga_sequence.specs.declared.block.Block.{Block}
 use Rattle.rga_sequence.specs.Blocks.{offset}
 use Rattle.rga_sequence.specs.BlockRows.{items_of, has}
-use Rattle.rga_sequence.specs.Indexed.{blocks_in, elements_in}
+use Rattle.rga_sequence.specs.Indexed.{elements_in}
 use Rattle.rga_sequence.proofs.Members.{until, until_none, find-until, find_none}
 use Rattle.rga_sequence.proofs.Spots.{slice_get_joined, offset_less}
 use Rattle.rga_sequence.proofs.Whole.{element_is}

@@ -1,4 +1,4 @@
-use Rattle.std.proofs.Common.{◌≡◌, ◌+◌, ◌-◌, ◌∙◌, true, false, sym, ap, subst, refl, length, get_or, length-set, arith}
+use Rattle.std.proofs.Common.{◌≡◌, ◌∙◌, true, false, sym, ap, subst, refl, length, get_or, length-set, arith}
 use Rattle.std.specs.Prelude.{set}
 use Rattle.bg_types.specs.declared.op.Place.TheVariants.{Root}
 use Rattle.rga_tree.specs.declared.element.Element.{Element}
@@ -6,7 +6,6 @@ use Rattle.rga_tree.specs.Row.{operations_of}
 use Rattle.rga_tree.proofs.Hiding.{hiding}
 use Rattle.rga_tree.proofs.Placing.{Keeps}
 use Rattle.rga_tree.proofs.RowSets.{has_row}
-use Rattle.rga_sequence.specs.Blocks.{seen}
 use Rattle.rga_sequence.specs.Indexed.{elements_in}
 use Rattle.rga_sequence.proofs.Members.{until, until_some}
 use Rattle.rga_sequence.proofs.Whole.{any_default}

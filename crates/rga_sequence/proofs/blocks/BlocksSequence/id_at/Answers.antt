@@ -1,7 +1,5 @@
-use Rattle.std.proofs.Common.{◌≡◌, ◌<◌, ◌∙◌, Some, not, ap, sym, refl, length, arith}
-use Rattle.std.specs.Prelude.{filter, slice_get}
+use Rattle.std.proofs.Common.{arith}
 use Rattle.rga_tree.proofs.Seen.{seen_at, visible_row}
-use Rattle.rga_sequence.specs.Blocks.{joined}
 use Rattle.rga_sequence.specs.Indexed.{blocks_in, elements_in}
 use Rattle.rga_sequence.proofs.Whole.{seen_all-joined}
 use Rattle.rga_sequence.proofs.blocks.BlocksSequence.id_at.Goals as goal

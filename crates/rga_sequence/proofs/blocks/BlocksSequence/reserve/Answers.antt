@@ -1,5 +1,4 @@
-use Rattle.std.proofs.Common.{◌≡◌, ◌+◌, ◌*◌, ◌∙◌, sym, ap, subst, refl, length, arith}
-use Rattle.std.specs.Prelude.{OnOk}
+use Rattle.std.proofs.Common.{◌≡◌, ◌+◌, ◌*◌, ◌∙◌, sym, ap, subst, length, arith}
 use Rattle.rga_tree.proofs.Placing.{Keeps}
 use Rattle.rga_sequence.specs.Blocks.{seen, joined}
 use Rattle.rga_sequence.specs.BlockRows.{items_of}
