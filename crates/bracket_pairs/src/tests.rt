@@ -63,7 +63,7 @@ fn resolved(
 fn pairs_take_the_direction_that_n0_gives(rt: HostRuntime) -> Result<(), Fail> {
     let tables = tables(rt.alloc(), vectors::BRACKETS)?;
     // Level, sos, text, types before W1, types after W7, types after N0.
-    let rows: [(u8, &str, &str, &str, &str, &str); 30] = [
+    let rows: [(u8, &str, &str, &str, &str, &str); 27] = [
         (0, "L", "", "", "", ""),
         // Small texts worked out by hand.
         (
@@ -84,10 +84,6 @@ fn pairs_take_the_direction_that_n0_gives(rt: HostRuntime) -> Result<(), Fail> {
         ),
         (1, "R", "\u{5D0}(b)", "RnLn", "RnLn", "RRLR"),
         (0, "L", "a(\u{5D0})", "LnRn", "LnRn", "LLRL"),
-        // The standard's examples of N0.
-        (1, "R", "A(sB)C", "LnLRnR", "LnLRnR", "LRLRRR"),
-        (1, "R", "A b(c)", "RnLnLn", "RnLnLn", "RnLLLL"),
-        (1, "R", "A (b(s))", "RnnLnLnn", "RnnLnLnn", "RnRLLLLR"),
         // Crossed.
         (0, "L", "([R)]", "nnRnn", "nnRnn", "LnRLn"),
         (1, "L", "([)a]", "nnnLn", "nnnLn", "nnnLn"),
@@ -145,6 +141,57 @@ fn pairs_take_the_direction_that_n0_gives(rt: HostRuntime) -> Result<(), Fail> {
             types_of(rt.alloc(), after)?,
             "{text} at level {level}"
         );
+    }
+    Ok(())
+}
+
+/// UAX #9, section 3.3.5, as in `BidiCharacterTest.txt`, whose levels give the brackets' directions.
+#[test]
+fn the_examples_of_n0_at_both_levels(rt: HostRuntime) -> Result<(), Fail> {
+    let tables = tables(rt.alloc(), vectors::BRACKETS)?;
+    // Text, types after W7, types after N0 at level 0 and at level 1.
+    let rows = [
+        (
+            "AB(CD[&ef].)gh",
+            "RRnRRnnLLnnnLL",
+            "RRLRRLnLLLnLLL",
+            "RRRRRRnLLRnRLL",
+        ),
+        (
+            "abc (def GHI) JKL",
+            "LLLnnLLLnRRRnnRRR",
+            "LLLnLLLLnRRRLnRRR",
+            "LLLnRLLLnRRRRnRRR",
+        ),
+        (
+            "ABC (def GHI) jkl",
+            "RRRnnLLLnRRRnnLLL",
+            "RRRnLLLLnRRRLnLLL",
+            "RRRnRLLLnRRRRnLLL",
+        ),
+        (
+            "abc (DEF ghi) JKL",
+            "LLLnnRRRnLLLnnRRR",
+            "LLLnLRRRnLLLLnRRR",
+            "LLLnRRRRnLLLRnRRR",
+        ),
+        (
+            "ABC (DEF ghi) jkl",
+            "RRRnnRRRnLLLnnLLL",
+            "RRRnLRRRnLLLLnLLL",
+            "RRRnRRRRnLLLRnLLL",
+        ),
+        ("ABC book(s)", "RRRnLLLLnLn", "RRRnLLLLLLL", "RRRnLLLLLLL"),
+    ];
+    for (text, types, even, odd) in rows {
+        for (level, sos, after) in [(0, "L", even), (1, "R", odd)] {
+            let came = resolved(&rt, rt.alloc(), &tables, (level, sos, text, types, types))?;
+            assert_eq!(rt;
+                came,
+                types_of(rt.alloc(), after)?,
+                "{text} at level {level}"
+            );
+        }
     }
     Ok(())
 }

@@ -74,7 +74,8 @@ fn put_slow_order(levels: &[u8], order: &mut [u32]) {
 
 #[test]
 fn the_standards_examples_are_shown_in_its_order(rt: HostRuntime) -> Result<(), Fail> {
-    // The examples 1 to 4 of UAX #9, section 3.4, L2, with its signs > < = for LRI, RLI and PDI.
+    // After the examples of UAX #9, section 3.4, L2, with its signs > < = for LRI, RLI and PDI.
+    // GNU FriBidi 1.0.8 gives them these levels and this order.
     let rows = [
         ("car means CAR.", "00000000001110", "car means RAC."),
         ("<car MEANS CAR.=", "0222111111111110", "<.RAC SNAEM car="),
