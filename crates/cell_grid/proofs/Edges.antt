@@ -1,0 +1,123 @@
+-- Entries stand side by side, at the row's edge.
+use Rattle.std.proofs.Common.{◌≡◌, ℕ, ◌+◌, ◌-◌, ◌≤◌, cond, List, [], ◌∷◌, map, length, get_or, sum, sum_by, slice_range, refl, sym, ap, subst, ◌∙◌, arith}
+use Rattle.std.proofs.lemmas.List.Sums.{sum_by-cons}
+use Rattle.std.specs.List.{All}
+use Rattle.ucd_files.specs.Tables.{TableValues}
+use Rattle.paragraphs.specs.Clusters.{cluster_sizes}
+use Rattle.bidi_explicit.specs.Embedding.{paragraph_level, classes_of}
+use Rattle.bidi_weak_neutral.specs.Levels.{levels_of}
+use Rattle.line_break.specs.declared.line.Line.{Line}
+use Rattle.reorder.specs.VisualList.{visual_list}
+use Rattle.reorder.proofs.Rearranged.{visual_list-permutes}
+use Rattle.cell_grid.specs.declared.span.Span.{Span}
+use Rattle.cell_grid.specs.declared.entry.Entry.{Entry}
+use Rattle.cell_grid.specs.Spans.{spans}
+use Rattle.cell_grid.specs.Hanging.{line_columns}
+use Rattle.cell_grid.specs.Rows.{entries_from, start_column, levels_in_line, row_of, shifted, shifted_entry}
+use Rattle.cell_grid.specs.Outline.{own_columns, IsLine}
+use Rattle.cell_grid.specs.Grids.{DrawnGrid, IsDrawn}
+use Rattle.cell_grid.specs.Laws.{ColumnsFollow, total, StandsAtItsEdge}
+use Rattle.cell_grid.proofs.Sides.{sum-order, length-hung, sum-hung, start-fits, total-entries_from}
+use Rattle.cell_grid.proofs.LinesOf.{length-slice, length-levels, hung-columns}
+use Rattle.cell_grid.proofs.Counting.{length-own_columns, length-sizes_of}
+use Rattle.cell_grid.proofs.Slicing.{paragraph-utf8}
+use Rattle.cell_grid.proofs.Drawn.{rows-each, each-row}
+
+same_follow : (from : ℕ) (es : List Entry) (a b : ℕ) → a ≡ b → ColumnsFollow from es a → ColumnsFollow from es b
+same_follow from es a b e h = subst (ColumnsFollow from es) e h
+
+module _ (spans : List Span) (levels columns : List ℕ) where
+  follow-entries : (column : ℕ) (order : List ℕ) → ColumnsFollow column (entries_from spans levels columns column order) (column + sum_by (λ k. get_or columns k 0) order)
+  follow-entries column [] = omega arith
+  follow-entries column (k ∷ order) =
+      let e = sum_by-cons (λ k. get_or columns k 0) k order in (
+        refl,
+        same_follow (column + get_or columns k 0) (entries_from spans levels columns (column + get_or columns k 0) order)
+            (column + get_or columns k 0 + sum_by (λ k. get_or columns k 0) order) (column + sum_by (λ k. get_or columns k 0) (k ∷ order)) (omega arith)
+            (follow-entries (column + get_or columns k 0) order),
+      )
+
+follow-shifted : (i j : ℕ) (es : List Entry) (from to : ℕ) → ColumnsFollow from es to → ColumnsFollow from (map (shifted_entry i j) es) to
+follow-shifted i j [] from to h = h
+follow-shifted i j (e ∷ es) from to h = (h.0, follow-shifted i j es (e.column + e.columns) to h.1)
+
+total-shifted : (i j : ℕ) (es : List Entry) → total (map (shifted_entry i j) es) ≡ total es
+total-shifted i j [] = refl
+total-shifted i j (e ∷ es) =
+    sum_by-cons (λ (x : Entry). x.columns) (shifted_entry i j e) (map (shifted_entry i j) es)
+    ∙ ap (λ n. e.columns + n) (total-shifted i j es) ∙ sym (sum_by-cons (λ (x : Entry). x.columns) e es)
+
+-- the columns of a line that fits are within the width, one for each cluster
+pub line_columns-fit : (tables : TableValues) (width : ℕ) (text : List ℕ) (line : Line) → IsLine tables width text line → sum (line_columns tables width text line) ≤ width
+line_columns-fit tables width text line h =
+    subst (λ l. sum l ≤ width) (hung-columns tables width text line h) (sum-hung width _)
+
+pub length-line_columns : (tables : TableValues) (width : ℕ) (text : List ℕ) (line : Line) → IsLine tables width text line → length (line_columns tables width text line) ≡ line.end - line.start
+length-line_columns tables width text line h =
+    let order = h.order in
+    let within = h.within in
+    let n = length-own_columns tables text in
+    let fits : line.end ≤ length (own_columns tables text) = omega arith in
+    ap length (sym (hung-columns tables width text line h)) ∙ length-hung width _ ∙ length-slice (own_columns tables text) line.start line.end order fits
+
+module _ (tables : TableValues) (width para : ℕ) (text levels : List ℕ) (line : Line) (h : IsLine tables width text line) where
+  -- a row's entries are as wide as its clusters
+  pub row-total : total (row_of tables width para text levels line).entries ≡ sum (line_columns tables width text line)
+  row-total =
+      let sp = slice_range (spans text) line.start line.end in
+      let sz = slice_range (cluster_sizes text) line.start line.end in
+      let lv = levels_in_line tables text levels para sp sz in
+      let cols = line_columns tables width text line in
+      let order = h.order in
+      let within = h.within in
+      let nz = length-sizes_of text in
+      let a = length-levels tables text levels para sp sz in
+      let b = length-slice (cluster_sizes text) line.start line.end order (omega arith) in
+      let c = length-line_columns tables width text line h in
+      let same : length cols ≡ length lv = omega arith in
+      total-entries_from sp lv cols (start_column width para cols) (visual_list lv)
+      ∙ sum-order (length lv) (visual_list lv) (visual_list-permutes lv) cols same
+
+  -- its entries stand side by side, from its start on
+  pub row-follow : (i j : ℕ) → let start = start_column width para (line_columns tables width text line) in
+      ColumnsFollow start (map (shifted_entry i j) (row_of tables width para text levels line).entries) (start + total (map (shifted_entry i j) (row_of tables width para text levels line).entries))
+  row-follow i j =
+      let sp = slice_range (spans text) line.start line.end in
+      let lv = levels_in_line tables text levels para sp (slice_range (cluster_sizes text) line.start line.end) in
+      let cols = line_columns tables width text line in
+      let start = start_column width para cols in
+      let entries = (row_of tables width para text levels line).entries in
+      let wide = total-shifted i j entries in
+      let sums = total-entries_from sp lv cols start (visual_list lv) in
+      let end : start + sum_by (λ k. get_or cols k 0) (visual_list lv) ≡ start + total (map (shifted_entry i j) entries) = omega arith in
+      follow-shifted i j entries start (start + total (map (shifted_entry i j) entries))
+      (same_follow start entries (start + sum_by (λ k. get_or cols k 0) (visual_list lv)) (start + total (map (shifted_entry i j) entries)) end (follow-entries sp lv cols start (visual_list lv)))
+
+  pub row-within : (i j : ℕ) → start_column width para (line_columns tables width text line) + total (map (shifted_entry i j) (row_of tables width para text levels line).entries) ≤ width
+  row-within i j =
+      let all = row-total in
+      let wide = total-shifted i j (row_of tables width para text levels line).entries in
+      let fits = start-fits width para (line_columns tables width text line) (line_columns-fit tables width text line h) in
+      omega arith
+
+  pub row-edge : (i j : ℕ) → StandsAtItsEdge width (shifted i j (row_of tables width para text levels line))
+  row-edge i j =
+      let cols = line_columns tables width text line in
+      let all = row-total in
+      let wide = total-shifted i j (row_of tables width para text levels line).entries in
+      let fit = line_columns-fit tables width text line h in
+      record {
+        start = start_column width para cols;
+        follow = row-follow i j;
+        fits = row-within i j;
+        left = λ even. ap (λ b. cond b (width - sum cols) 0) even;
+        right = λ odd. let at : start_column width para cols ≡ width - sum cols = ap (λ b. cond b (width - sum cols) 0) odd in omega arith;
+      }
+
+-- each row of a grid stands at its edge
+pub edge-rows : (g : DrawnGrid) (d : IsDrawn g) → All (StandsAtItsEdge d.width) g.rows
+edge-rows g d =
+    subst (All (StandsAtItsEdge d.width)) (sym d.rows)
+    (each-row g.tables d.width d.base g.text d.utf8 (StandsAtItsEdge d.width) (λ p h.
+    rows-each g.tables d.width d.at_least d.base p.text (paragraph-utf8 g.text d.utf8 p h) (λ r. StandsAtItsEdge d.width (shifted p.first_byte p.first_place r)) (λ line l.
+    row-edge g.tables d.width (paragraph_level d.base (classes_of g.tables p.text)) p.text (levels_of g.tables d.base p.text) line l p.first_byte p.first_place)))

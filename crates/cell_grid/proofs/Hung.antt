@@ -1,0 +1,39 @@
+-- Columns that hang, one after the other.
+use Rattle.std.proofs.Common.{◌≡◌, ℕ, suc, ◌+◌, ◌-◌, ◌<◌, ◌≤◌, cond, List, [], ◌∷◌, ◌++◌, length, drop, get_or, replicate, refl, sym, ap, ◌∙◌, arith, append_assoc, inl, inr}
+use Rattle.std.proofs.lemmas.Bool.{le-leb, lt-leb}
+use Rattle.std.proofs.lemmas.Bool.Decides.{leb_tells}
+use Rattle.cell_grid.specs.Hanging.{hung}
+use Rattle.cell_grid.proofs.Steps.{drop-next}
+
+pub hung-fits : (room n : ℕ) (later : List ℕ) → n ≤ room → hung room (n ∷ later) ≡ n ∷ hung (room - n) later
+hung-fits room n later le = ap (λ b. cond b (n ∷ hung (room - n) later) (replicate (suc (length later)) 0)) (le-leb n room le)
+
+hung-cut : (room n : ℕ) (later : List ℕ) → room < n → hung room (n ∷ later) ≡ replicate (suc (length later)) 0
+hung-cut room n later lt = ap (λ b. cond b (n ∷ hung (room - n) later) (replicate (suc (length later)) 0)) (lt-leb n room lt)
+
+-- with no room left none has columns
+pub hung-none : (later : List ℕ) → hung 0 later ≡ replicate (length later) 0
+hung-none [] = refl
+hung-none (n ∷ later) = elim (leb_tells n 0) [
+  | inl fits ↦
+      let le = fits.1 in
+      let z : n ≡ 0 = omega arith in
+      let r : 0 - n ≡ 0 = omega arith in
+      hung-fits 0 n later le ∙ ap (λ k. k ∷ hung (0 - n) later) z ∙ ap (λ k. 0 ∷ hung k later) r ∙ ap (λ l. 0 ∷ l) (hung-none later)
+  | inr full ↦ hung-cut 0 n later full.1
+]
+
+pub hung-full : (room n : ℕ) (later : List ℕ) → room < n → hung room (n ∷ later) ≡ 0 ∷ hung 0 later
+hung-full room n later lt = hung-cut room n later lt ∙ ap (λ l. 0 ∷ l) (sym (hung-none later))
+
+-- one more cluster
+module _ (columns whole done : List ℕ) (room i n : ℕ) (lt : i < length columns) (is : n ≡ get_or columns i 0) (so_far : done ++ hung room (drop i columns) ≡ whole) where
+  pub hung-on : n ≤ room → (done ++ n ∷ []) ++ hung (room - n) (drop (i + 1) columns) ≡ whole
+  hung-on le =
+      append_assoc done (n ∷ []) (hung (room - n) (drop (i + 1) columns))
+      ∙ ap (λ l. done ++ l) (sym (ap (hung room) (drop-next columns i n 0 lt is) ∙ hung-fits room n (drop (i + 1) columns) le)) ∙ so_far
+
+  pub hung-over : room < n → (done ++ 0 ∷ []) ++ hung 0 (drop (i + 1) columns) ≡ whole
+  hung-over more =
+      append_assoc done (0 ∷ []) (hung 0 (drop (i + 1) columns))
+      ∙ ap (λ l. done ++ l) (sym (ap (hung room) (drop-next columns i n 0 lt is) ∙ hung-full room n (drop (i + 1) columns) more)) ∙ so_far

@@ -1,0 +1,63 @@
+-- A row for each line.
+use Rattle.std.proofs.Common.{◌<◌, ◌∷◌, [], ◌++◌, List, length, map, take, get_or, refl, sym, ap, subst, ◌∙◌, arith}
+use Rattle.std.proofs.lemmas.List.{map-append}
+use Rattle.std.specs.Str.{IsUtf8}
+use Rattle.bidi_explicit.specs.Embedding.{paragraph_level, classes_of}
+use Rattle.bidi_weak_neutral.specs.Levels.{levels_of}
+use Rattle.line_break.specs.declared.line.Line.{Line}
+use Rattle.cell_grid.specs.Rows.{DrawnRow, row_of}
+use Rattle.cell_grid.specs.Outline.{IsLine}
+use Rattle.cell_grid.proofs.Steps.{take-next, take-whole}
+use Rattle.cell_grid.proofs.Counting.{few-clusters}
+use Rattle.cell_grid.proofs.LinesOf.{IsLine-lines}
+use Rattle.cell_grid.proofs.paragraph.rows.Goals as goal
+
+pub loop-line-init : goal.loop-line-init
+loop-line-init c = c.in_ok-rows.ensures.items
+
+pub row_of-requires-clause-size : goal.row_of-requires-clause-size
+row_of-requires-clause-size c =
+    let few = few-clusters c.text.result.now c.text.utf8 in
+    let same = ap length c.text.ensures in
+    let all = c.requires.size in
+    omega arith
+
+pub row_of-requires-clause-line : goal.row_of-requires-clause-line
+row_of-requires-clause-line c =
+    let i = c.loop-line.line-index in
+    let d : Line = record { start = 0; end = 0 } in
+    let text = c.args.para.now.text in
+    let items = c.deref-line-items.ensures.value ∙ c.in_ok-lines.ensures.lines in
+    let lt = subst (λ (l : List Line). i < length l) items c.loop-line-test.true in
+    subst (λ t. IsLine c.args.tables.now c.args.width t (get_or c.deref-line-items.result.now i d)) (sym c.text.ensures)
+    (subst (λ (l : List Line). IsLine c.args.tables.now c.args.width text (get_or l i d)) (sym items)
+    (IsLine-lines c.args.tables.now text (subst IsUtf8 c.text.ensures c.text.utf8) c.args.width c.requires.at_least i d lt))
+
+pub loop-line-preserved : goal.loop-line-preserved
+loop-line-preserved c =
+    let tables = c.args.tables.now in
+    let width = c.args.width in
+    let text = c.args.para.now.text in
+    let i = c.loop-line.line-index in
+    let items = c.deref-line-items.result.now in
+    let line : Line = get_or items i (record { start = 0; end = 0 }) in
+    let level = paragraph_level c.args.base (classes_of tables text) in
+    let levels = levels_of tables c.args.base text in
+    let f : Line → DrawnRow = row_of tables width level text levels in
+    let made = c.in_ok-row_of.ensures
+    ∙ ap (λ n. row_of tables width n c.text.result.now c.in_ok-levels.field-0.items line) c.paragraph_level.ensures.level
+    ∙ ap (λ t. row_of tables width level t c.in_ok-levels.field-0.items line) c.text.ensures
+    ∙ ap (λ l. row_of tables width level text l line) c.in_ok-levels.ensures.levels in
+    c.in_ok-push.ensures.items
+    ∙ ap (λ l. l ++ c.in_ok-row_of.field-0 ∷ []) c.loop-line.invariant
+    ∙ ap (λ r. map f (take i items) ++ r ∷ []) made
+    ∙ sym (map-append f (take i items) (line ∷ []))
+    ∙ sym (ap (map f) (take-next items i line (record { start = 0; end = 0 }) c.loop-line-test.true refl))
+
+pub returns : goal.returns
+returns c =
+    let tables = c.args.tables.now in
+    let text = c.args.para.now.text in
+    let f : Line → DrawnRow = row_of tables c.args.width (paragraph_level c.args.base (classes_of tables text)) text (levels_of tables c.args.base text) in
+    c.loop-line.invariant
+    ∙ ap (map f) (take-whole c.deref-line-items.result.now c.loop-line.line-index c.loop-line-test.false ∙ c.deref-line-items.ensures.value ∙ c.in_ok-lines.ensures.lines)

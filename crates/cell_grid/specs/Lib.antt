@@ -1,0 +1,10 @@
+pub mod Spans
+pub mod Hanging
+pub mod Cells
+pub mod Rows
+pub mod Shifting
+pub mod Outline
+pub mod Grids
+pub mod Print
+pub mod Printable
+pub mod Laws

@@ -1,0 +1,58 @@
+-- Print of a grid: the cells' texts, each row ended by one LF.
+use Rattle.std.specs.Prelude.{ℕ, Bool, true, false, List, [], ◌∷◌, ◌++◌, map, replicate, slice_get, slice_range, Option, Some, None, encode_utf8_all, if◌then◌else◌}
+use Rattle.std.specs.List.{flat_map}
+use Rattle.bg_types.specs.declared.class.Base.{Base}
+use Rattle.bg_types.specs.declared.class.Bidi.{Bidi}
+use Rattle.bg_types.specs.declared.class.Bidi.TheVariants.{S}
+use Rattle.ucd_files.specs.Tables.{TableValues, bidi_of}
+use Rattle.paragraphs.specs.Text.{code_points}
+use Rattle.reorder.specs.Mirrored.{mirrored_of}
+use Rattle.cell_grid.specs.declared.entry.Entry.{Entry}
+use Rattle.cell_grid.specs.declared.cell.Cell.{Cell}
+use Rattle.cell_grid.specs.declared.cell.Cell.TheVariants.{Blank, Head, Tail}
+use Rattle.cell_grid.specs.Rows.{DrawnRow}
+use Rattle.cell_grid.specs.Grids.{DrawnGrid, grid_of}
+
+-- Bidi class S
+unfoldable pub is_segment_separator : Bidi → Bool
+is_segment_separator S = true
+is_segment_separator _ = false
+
+-- the first of these code points separates segments, as a tab does
+abbrev pub begins_with_tab : TableValues → List ℕ → Bool
+begins_with_tab tables [] = false
+begins_with_tab tables (c ∷ rest) = is_segment_separator (bidi_of tables c)
+
+-- UAX #9, L4: a cluster of these code points as it is shown at a level
+abbrev pub mirrored_text : TableValues → (level : ℕ) → List ℕ → List ℕ
+mirrored_text tables level cluster = encode_utf8_all (map (λ c. mirrored_of tables c level) cluster)
+
+-- a cluster that begins with a tab is shown as one space for each of its columns
+abbrev pub cluster_text : TableValues → (level columns : ℕ) → List ℕ → List ℕ
+cluster_text tables level columns cluster =
+    if begins_with_tab tables cluster then replicate columns 32 else mirrored_text tables level cluster
+
+-- the code points of an entry's cluster
+abbrev pub cluster_of : List ℕ → Entry → List ℕ
+cluster_of text e = code_points (slice_range text e.span.first_byte e.span.end_byte)
+
+abbrev pub entry_text : TableValues → (text : List ℕ) → Option Entry → List ℕ
+entry_text tables text None = []
+entry_text tables text (Some e) = cluster_text tables e.level e.columns (cluster_of text e)
+
+-- what a cell prints: a head its cluster, a tail nothing, a blank one space
+abbrev pub cell_text : TableValues → (text : List ℕ) → List Entry → Cell → List ℕ
+cell_text tables text entries Blank = 32 ∷ []
+cell_text tables text entries (Head n) = entry_text tables text (slice_get entries n)
+cell_text tables text entries (Tail n) = []
+
+abbrev pub row_text : TableValues → (text : List ℕ) → DrawnRow → List ℕ
+row_text tables text r = flat_map (cell_text tables text r.entries) r.cells ++ 10 ∷ []
+
+-- print of a grid
+abbrev pub printed : DrawnGrid → List ℕ
+printed g = flat_map (row_text g.tables g.text) g.rows
+
+-- print of the grid of a text at a width and a base
+abbrev pub shown : TableValues → (width : ℕ) → Base → List ℕ → List ℕ
+shown tables width base text = printed (grid_of tables width base text)

@@ -1,0 +1,17 @@
+-- What may be shifted, so that no number passes the greatest length of a text.
+use Rattle.std.specs.Prelude.{ℕ, ◌+◌, ◌≤◌}
+use Rattle.std.specs.List.{All}
+use Rattle.cell_grid.specs.declared.span.Span.{Span}
+use Rattle.cell_grid.specs.declared.entry.Entry.{Entry}
+use Rattle.cell_grid.specs.Rows.{DrawnRow}
+
+pub record MayShift (bytes places : ℕ) (s : Span) : Type 0 where
+  pub first_byte : s.first_byte + bytes ≤ 4_000_000
+  pub end_byte : s.end_byte + bytes ≤ 4_000_000
+  pub first_place : s.first_place + places ≤ 4_000_000
+  pub end_place : s.end_place + places ≤ 4_000_000
+
+pub record MayShiftRow (bytes places : ℕ) (r : DrawnRow) : Type 0 where
+  pub first_place : r.first_place + places ≤ 4_000_000
+  pub last_place : r.last_place + places ≤ 4_000_000
+  pub entries : All (λ (e : Entry). MayShift bytes places e.span) r.entries

@@ -1,0 +1,108 @@
+//! The grid of a text.
+
+ghost use Rattle.std.specs.Prelude.{◌≡◌, ◌+◌, ◌++◌, ◌≤◌, length, IfOk, OnOk};
+ghost use Rattle.std.specs.Str.{IsUtf8};
+ghost use Rattle.paragraphs.specs.Text.{code_points};
+ghost use Rattle.cell_grid.specs.Grids.{paragraph_rows, grid_of, IsDrawn};
+
+use crate::paragraph::rows;
+use crate::row::Row;
+use bg_types::{Base, Memory};
+use paragraphs::{Para, split};
+use std::alloc::Global;
+use std::marker::Model;
+use ucd_files::Tables;
+
+/// A text as it is drawn: a row for each line of each paragraph. It borrows the text and the
+/// tables.
+#[derive(Drop)]
+pub struct Grid<'a> {
+    tables: &'a Tables,
+    text: &'a str,
+    rows: Vec<Row>,
+}
+
+impl<'a> Model for Grid<'a> {
+    ghost use Rattle.cell_grid.specs.Grids.{DrawnGrid, IsDrawn};
+
+    ghost Value = { DrawnGrid };
+
+    ghost view = { λ g. record { tables = g.tables.now; text = g.text.now; rows = g.rows.items } };
+
+    ghost invariant = { λ g. IsDrawn (record { tables = g.tables.now; text = g.text.now; rows = g.rows.items }) };
+}
+
+impl<'a> Grid<'a> {
+    /// Its tables.
+    #[inline]
+    pub fn tables(&self) -> &'a Tables
+        ensures { result.now ≡ self.now.tables }
+    {
+        self.tables
+    }
+
+    /// The text that it was drawn from.
+    #[inline]
+    pub fn text(&self) -> &'a str
+        ensures { result.now ≡ self.now.text }
+    {
+        self.text
+    }
+
+    /// Its rows from the top, at least one.
+    #[inline]
+    pub fn rows(&self) -> &[Row]
+        ensures rows { result.now ≡ self.now.rows }
+        // What every grid is, for the caller's proof.
+        ensures drawn { IsDrawn self.now }
+    {
+        &self.rows
+    }
+}
+
+/// Draws a text on a grid of a width in columns: a row for each line of each paragraph.
+///
+/// Memory is taken in proportion to the text and the cells.
+pub fn draw<'a>(
+    alloc: Global,
+    tables: &'a Tables,
+    width: u16,
+    base: Base,
+    text: &'a str,
+) -> Result<Grid<'a>, Memory>
+    requires at_least { 2 ≤ width }
+    requires at_most { width ≤ 500 }
+    requires size { length text.now ≤ 4_000_000 }
+    ensures grid { IfOk result (λ grid. grid ≡ grid_of tables.now width base text.now) }
+    ensures drawn { IfOk result IsDrawn }
+{
+    let mut rows = Vec::new(alloc);
+    for para in &split(alloc, tables, text)? {
+        push_rows(alloc, tables, width, base, para, &mut rows)?;
+    }
+    Ok(Grid { tables, text, rows })
+}
+
+/// Puts the rows of a paragraph behind the others, where they stand in the text.
+fn push_rows(
+    alloc: Global,
+    tables: &Tables,
+    width: u16,
+    base: Base,
+    para: &Para,
+    drawn: &mut Vec<Row>,
+) -> Result<(), Memory>
+    requires at_least { 2 ≤ width }
+    requires at_most { width ≤ 500 }
+    requires text { IsUtf8 para.now.text }
+    requires bytes { para.now.first_byte + length para.now.text ≤ 4_000_000 }
+    requires places { para.now.first_place + length (code_points para.now.text) ≤ 4_000_000 }
+    ensures { OnOk result (drawn.new.items ≡ drawn.old.items ++ paragraph_rows tables.now width base para.now) }
+{
+    for row in rows(alloc, tables, width, base, para)? {
+        let mut row = row;
+        row.shift(para.first_byte(), para.first_place());
+        drawn.push(row)?;
+    }
+    Ok(())
+}

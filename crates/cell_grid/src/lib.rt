@@ -1,0 +1,23 @@
+//! A text drawn on a character grid: rows, their entries and cells, and their print.
+#![tactic(auto)]
+
+mod cell;
+mod column;
+mod entry;
+mod grid;
+pub mod laws;
+mod outline;
+mod paragraph;
+mod printed;
+mod row;
+mod span;
+
+pub use cell::Cell;
+pub use entry::Entry;
+pub use grid::{Grid, draw};
+pub use printed::print;
+pub use row::Row;
+pub use span::Span;
+
+#[cfg(test)]
+mod tests;

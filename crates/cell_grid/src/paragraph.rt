@@ -1,0 +1,114 @@
+//! The rows of a paragraph.
+
+ghost use Rattle.std.specs.Prelude.{◌≡◌, ◌≤◌, length, slice_range, IfOk};
+ghost use Rattle.paragraphs.specs.Text.{code_points};
+ghost use Rattle.paragraphs.specs.Clusters.{clusters, cluster_sizes};
+ghost use Rattle.cell_grid.specs.Spans.{spans};
+ghost use Rattle.cell_grid.specs.Rows.{levels_in_line, row_of, rows_of};
+ghost use Rattle.cell_grid.specs.Outline.{own_columns, StandIn, IsLine};
+
+use crate::column::hung;
+use crate::outline::{Outline, outline_of};
+use crate::row::Row;
+use crate::span::{Span, extent};
+use bg_types::{Base, Memory};
+use bidi_explicit::paragraph_level;
+use bidi_weak_neutral::levels;
+use line_break::{Line, lines};
+use paragraphs::Para;
+use reorder::line_levels;
+use std::alloc::Global;
+use ucd_files::Tables;
+
+/// What the rows of a paragraph are made of.
+#[derive(Drop)]
+struct Material<'a> {
+    tables: &'a Tables,
+    text: &'a str,
+    para_level: u8,
+    /// The level of each code point.
+    levels: Vec<u8>,
+    clusters: Outline,
+}
+
+/// The levels of a line's clusters, which stand there in the paragraph's text (L1).
+fn levels_in_line(
+    alloc: Global,
+    material: &Material,
+    spans: &[Span],
+    sizes: &[u32],
+) -> Result<Vec<u8>, Memory>
+    requires levels { length material.now.levels.items ≡ length (code_points material.now.text.now) }
+    requires stand { StandIn material.now.text.now spans.now sizes.now }
+    ensures { IfOk result (λ levels. levels.items
+        ≡ levels_in_line material.now.tables.now material.now.text.now material.now.levels.items material.now.para_level spans.now sizes.now) }
+{
+    let whole = extent(spans);
+    line_levels(
+        alloc,
+        material.tables,
+        &material.text[whole.first_byte..whole.end_byte],
+        &material.levels[whole.first_place..whole.end_place],
+        sizes,
+        material.para_level,
+    )
+}
+
+/// What a list with an element for each cluster has of a line.
+#[inline]
+fn part<T>(all: &[T], line: Line) -> &[T]
+    requires order { line.start ≤ line.end }
+    requires within { line.end ≤ length all.now }
+    ensures { result.now ≡ slice_range all.now line.start line.end }
+{
+    &all[line.start..line.end]
+}
+
+/// The row of a line, counted from the paragraph's start.
+fn row_of(alloc: Global, material: &Material, width: u16, line: Line) -> Result<Row, Memory>
+    requires width { width ≤ 500 }
+    requires size { length (clusters material.now.text.now) ≤ 4_000_000 }
+    requires levels { length material.now.levels.items ≡ length (code_points material.now.text.now) }
+    requires spans { material.now.clusters.spans.items ≡ spans material.now.text.now }
+    requires sizes { material.now.clusters.sizes.items ≡ cluster_sizes material.now.text.now }
+    requires columns { material.now.clusters.columns.items ≡ own_columns material.now.tables.now material.now.text.now }
+    requires line { IsLine material.now.tables.now width material.now.text.now line }
+    ensures { IfOk result (λ row. row
+        ≡ row_of material.now.tables.now width material.now.para_level material.now.text.now material.now.levels.items line) }
+{
+    let spans = part(&material.clusters.spans, line);
+    let sizes = part(&material.clusters.sizes, line);
+    let own = part(&material.clusters.columns, line);
+    let levels = levels_in_line(alloc, material, spans, sizes)?;
+    let columns = hung(alloc, width, own)?;
+    Row::with(alloc, width, material.para_level, spans, &levels, &columns)
+}
+
+/// The rows of a paragraph at a width in columns, bytes and places counted from the paragraph's
+/// start.
+pub(crate) fn rows(
+    alloc: Global,
+    tables: &Tables,
+    width: u16,
+    base: Base,
+    para: &Para,
+) -> Result<Vec<Row>, Memory>
+    requires at_least { 2 ≤ width }
+    requires at_most { width ≤ 500 }
+    requires size { length para.now.text ≤ 4_000_000 }
+    ensures { IfOk result (λ rows. rows.items ≡ rows_of tables.now width base para.now.text) }
+{
+    let material = Material {
+        tables,
+        text: para.text(),
+        para_level: paragraph_level(tables, para, base),
+        levels: levels(alloc, tables, para, base)?,
+        clusters: outline_of(alloc, tables, para)?,
+    };
+    let lines = lines(alloc, tables, para, width)?;
+    let mut rows = Vec::with_capacity(alloc, lines.len())?;
+    for line in &lines {
+        rows.push(row_of(alloc, &material, width, *line)?)?;
+    }
+    Ok(rows)
+}

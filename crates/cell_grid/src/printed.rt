@@ -1,0 +1,136 @@
+//! The print of a grid.
+
+ghost use Rattle.std.specs.Prelude.{◌≡◌, ◌≤◌, ◌<◌, length, false, replicate, is_err, OnOk, OnErr, Some, None};
+ghost use Rattle.std.specs.List.{All};
+ghost use Rattle.std.specs.Io.KnownBytes.{Appends};
+ghost use Rattle.bg_types.specs.Sink.{AppendsBeginning};
+ghost use Rattle.paragraphs.specs.Text.{code_points};
+ghost use Rattle.cell_grid.specs.Print.{is_segment_separator, begins_with_tab, mirrored_text, entry_text, cell_text, row_text, printed};
+ghost use Rattle.cell_grid.specs.Printable.{IsSlice, IsOneOf, IsPrintable};
+
+use crate::cell::Cell;
+use crate::entry::Entry;
+use crate::grid::Grid;
+use crate::row::Row;
+use bg_types::{Bidi, Device, Sink, put_all};
+use reorder::mirrored;
+use ucd_files::Tables;
+
+/// Writes a grid: the text of each cell, and one LF behind each row. Takes no memory.
+///
+/// After `Device` a beginning of it is written.
+pub fn print<W: Sink>(grid: &Grid, sink: &mut W) -> Result<(), Device>
+    requires working { W.has_failed sink.old ≡ false }
+    ensures ok { OnOk result (Appends (W.written sink.old) (W.written sink.new) (printed grid.now)) }
+    ensures err { OnErr result (AppendsBeginning (W.written sink.old) (W.written sink.new) (printed grid.now)) }
+    ensures failed { W.has_failed sink.new ≡ is_err result }
+{
+    for row in grid.rows() {
+        print_row(grid.tables(), grid.text(), row, sink)?;
+    }
+    Ok(())
+}
+
+fn print_row<W: Sink>(tables: &Tables, text: &str, row: &Row, sink: &mut W) -> Result<(), Device>
+    requires working { W.has_failed sink.old ≡ false }
+    requires row { IsPrintable text.now row.now }
+    ensures ok { OnOk result (Appends (W.written sink.old) (W.written sink.new) (row_text tables.now text.now row.now)) }
+    ensures err { OnErr result (AppendsBeginning (W.written sink.old) (W.written sink.new) (row_text tables.now text.now row.now)) }
+    ensures failed { W.has_failed sink.new ≡ is_err result }
+{
+    for cell in row.cells() {
+        print_cell(tables, text, row.entries(), *cell, sink)?;
+    }
+    put_all(sink, b"\n")
+}
+
+fn print_cell<W: Sink>(
+    tables: &Tables,
+    text: &str,
+    entries: &[Entry],
+    cell: Cell,
+    sink: &mut W,
+) -> Result<(), Device>
+    requires working { W.has_failed sink.old ≡ false }
+    requires entries { All (λ e. IsSlice text.now e.span) entries.now }
+    requires cell { IsOneOf (length entries.now) cell }
+    ensures ok { OnOk result (Appends (W.written sink.old) (W.written sink.new) (cell_text tables.now text.now entries.now cell)) }
+    ensures err { OnErr result (AppendsBeginning (W.written sink.old) (W.written sink.new) (cell_text tables.now text.now entries.now cell)) }
+    ensures failed { W.has_failed sink.new ≡ is_err result }
+{
+    match cell {
+        Cell::Blank => put_all(sink, b" "),
+        Cell::Head(number) => print_entry(tables, text, entries[number as usize], sink),
+        Cell::Tail(_) => Ok(()),
+    }
+}
+
+fn print_entry<W: Sink>(
+    tables: &Tables,
+    text: &str,
+    entry: Entry,
+    sink: &mut W,
+) -> Result<(), Device>
+    requires working { W.has_failed sink.old ≡ false }
+    requires entry { IsSlice text.now entry.span }
+    ensures ok { OnOk result (Appends (W.written sink.old) (W.written sink.new) (entry_text tables.now text.now (Some entry))) }
+    ensures err { OnErr result (AppendsBeginning (W.written sink.old) (W.written sink.new) (entry_text tables.now text.now (Some entry))) }
+    ensures failed { W.has_failed sink.new ≡ is_err result }
+{
+    let cluster = &text[entry.span.first_byte..entry.span.end_byte];
+    if begins_with_tab(tables, cluster) {
+        print_spaces(entry.columns, sink)
+    } else {
+        print_mirrored(tables, cluster, entry.level, sink)
+    }
+}
+
+/// Whether a cluster's first code point separates segments, as a tab does.
+fn begins_with_tab(tables: &Tables, cluster: &str) -> bool
+    ensures { result ≡ begins_with_tab tables.now (code_points cluster.now) }
+{
+    match cluster.chars().next() {
+        Some(c) => is_segment_separator(tables.bidi(c)),
+        None => false,
+    }
+}
+
+#[inline]
+#[tactic(auto, unfolding(crate::specs::Print::is_segment_separator))]
+fn is_segment_separator(class: Bidi) -> bool
+    ensures { result ≡ is_segment_separator class }
+{
+    matches!(class, Bidi::S)
+}
+
+fn print_spaces<W: Sink>(columns: u8, sink: &mut W) -> Result<(), Device>
+    requires working { W.has_failed sink.old ≡ false }
+    ensures ok { OnOk result (Appends (W.written sink.old) (W.written sink.new) (replicate columns 32)) }
+    ensures err { OnErr result (AppendsBeginning (W.written sink.old) (W.written sink.new) (replicate columns 32)) }
+    ensures failed { W.has_failed sink.new ≡ is_err result }
+{
+    for _ in 0..columns {
+        put_all(sink, b" ")?;
+    }
+    Ok(())
+}
+
+/// Writes a cluster as it is shown at a level (L4).
+fn print_mirrored<W: Sink>(
+    tables: &Tables,
+    cluster: &str,
+    level: u8,
+    sink: &mut W,
+) -> Result<(), Device>
+    requires working { W.has_failed sink.old ≡ false }
+    ensures ok { OnOk result (Appends (W.written sink.old) (W.written sink.new) (mirrored_text tables.now level (code_points cluster.now))) }
+    ensures err { OnErr result (AppendsBeginning (W.written sink.old) (W.written sink.new) (mirrored_text tables.now level (code_points cluster.now))) }
+    ensures failed { W.has_failed sink.new ≡ is_err result }
+{
+    for c in cluster.chars() {
+        let mut buffer = [0; 4];
+        let shown = mirrored(tables, c, level).encode_utf8(&mut buffer);
+        put_all(sink, shown.as_bytes())?;
+    }
+    Ok(())
+}
