@@ -1,0 +1,42 @@
+-- The caret at a place, by the row that was found.
+use Rattle.std.proofs.Common.{◌≡◌, ℕ, ◌<◌, ◌≤◌, List, length, get_or, Some, cond, refl, ap, sym, subst, ◌∙◌}
+use Rattle.std.specs.Prelude.{slice_get}
+use Rattle.std.specs.Option.{option_map_or, IsSomeAnd}
+use Rattle.std.specs.Str.{chars}
+use Rattle.std.proofs.lemmas.Bool.{eq-eqb, ne_eqb}
+use Rattle.std.proofs.lemmas.Option.{slice_get_read}
+use Rattle.cell_grid.specs.Rows.{DrawnRow}
+use Rattle.cell_grid.specs.Grids.{DrawnGrid}
+use Rattle.cell_grid.specs.Laws.{RowsFollow}
+use Rattle.caret.specs.declared.caret.Caret.{Caret}
+use Rattle.caret.specs.Gaps.{IsCaretOf}
+use Rattle.caret.specs.Places.{row_at, at_cluster, at_end, gap_zero, caret_in, caret_at}
+use Rattle.caret.proofs.RowOrder.{last_place-at_end, end-at_last_place}
+
+-- the row with this number, as it was read
+pub found_row : (rows read : List DrawnRow) (number n : ℕ) (row : DrawnRow) → read ≡ rows → number ≡ n → number < length rows → row ≡ get_or read number row → slice_get rows n ≡ Some row
+found_row rows read number n row same at within is =
+    let read_there : slice_get rows number ≡ Some row = slice_get_read rows (length rows) number row refl within (is ∙ ap (λ xs. get_or xs number row) same) in
+    subst (λ k. slice_get rows k ≡ Some row) at read_there
+
+-- a caret in a row of the grid, at one of its gaps
+pub IsCaretOf-in_row : (rows : List DrawnRow) (number : ℕ) (row : DrawnRow) (caret : Caret)
+    → slice_get rows number ≡ Some row → caret.row ≡ number → caret.gap ≤ length row.entries → IsCaretOf rows caret
+IsCaretOf-in_row rows number row caret is in_row within =
+    subst (λ o. IsSomeAnd o (λ (r : DrawnRow). caret.gap ≤ length r.entries)) (sym (ap (λ n. slice_get rows n) in_row ∙ is)) within
+
+module _ (grid : DrawnGrid) (p : ℕ) (row : DrawnRow) (follow : RowsFollow 0 grid.rows (length (chars grid.text))) (is : slice_get grid.rows (row_at grid.rows p) ≡ Some row) where
+  caret_at-row : caret_at grid p ≡ caret_in (length (chars grid.text)) p (row_at grid.rows p) row
+  caret_at-row = ap (λ o. option_map_or (caret_in (length (chars grid.text)) p (row_at grid.rows p)) o (gap_zero 0 p)) is
+
+  -- where p is the row's last place, it is the text's end
+  pub caret_at-end : p ≡ row.last_place → at_end (row_at grid.rows p) row ≡ caret_at grid p
+  caret_at-end same =
+      let at = eq-eqb p (length (chars grid.text)) (end-at_last_place (length (chars grid.text)) p grid.rows row follow is same) in
+      sym (caret_at-row ∙ ap (λ b. cond b (at_end (row_at grid.rows p) row) (at_cluster p (row_at grid.rows p) row)) at)
+
+  -- and else it isn't
+  pub caret_at-cluster : (p ≡ row.last_place → ⊥) → at_cluster p (row_at grid.rows p) row ≡ caret_at grid p
+  caret_at-cluster other =
+      let at = ne_eqb p (length (chars grid.text)) (λ end. other (last_place-at_end (length (chars grid.text)) p grid.rows row follow is end)) in
+      sym (caret_at-row ∙ ap (λ b. cond b (at_end (row_at grid.rows p) row) (at_cluster p (row_at grid.rows p) row)) at)

@@ -1,0 +1,6 @@
+pub mod LastBelow
+pub mod RowOrder
+pub mod CaretAt
+pub mod Steps
+pub mod Finding
+pub mod PlaceLaw

@@ -1,0 +1,148 @@
+-- The rows of a grid stand in the order of their places.
+use Rattle.std.proofs.Common.{◌≡◌, ℕ, zero, suc, ◌+◌, ◌-◌, ◌<◌, ◌≤◌, true, false, List, [], ◌∷◌, length, get_or, Some, ap, sym, subst, ◌∙◌, inl, inr, arith}
+use Rattle.std.specs.Prelude.{nat_le, slice_get}
+use Rattle.std.specs.Option.{option_map_or}
+use Rattle.std.specs.List.Sorted.{IsNonDecreasingBy, IsPartitionPoint}
+use Rattle.std.proofs.lemmas.Option.{slice_get-get_or, slice_get_within}
+use Rattle.std.proofs.lemmas.Bool.{leb-true, leb-false, le-leb, cases_lt}
+use Rattle.cell_grid.specs.Rows.{DrawnRow}
+use Rattle.cell_grid.specs.Laws.{RowsFollow}
+use Rattle.caret.specs.Places.{begins_by, row_at}
+use Rattle.caret.proofs.LastBelow.{last_below-is, last_below-later, last_below-passes}
+
+-- a row of a grid begins where the rows begin, or later
+first_place-from : (from to : ℕ) (rows : List DrawnRow) (k : ℕ) (d : DrawnRow) → RowsFollow from rows to → k < length rows → from ≤ (get_or rows k d).first_place
+first_place-from from to [] k d follow within = absurd (omega arith)
+first_place-from from to (r ∷ later) zero d follow within = omega (arith, follow.0)
+first_place-from from to (r ∷ later) (suc k) d follow within =
+    let next : r.last_place ≤ (get_or later k d).first_place = first_place-from r.last_place to later k d follow.2 (omega arith) in
+    omega (arith, follow.0, follow.1)
+
+-- first places never fall
+pub first_place-rises : (from to : ℕ) (rows : List DrawnRow) → RowsFollow from rows to → IsNonDecreasingBy (λ (r : DrawnRow). r.first_place) rows
+first_place-rises from to [] follow i j d le within = absurd (omega arith)
+first_place-rises from to (r ∷ later) follow zero j d le within = omega (arith, follow.0, first_place-from from to (r ∷ later) j d follow within)
+first_place-rises from to (r ∷ later) follow (suc i) zero d le within = absurd (omega arith)
+first_place-rises from to (r ∷ later) follow (suc i) (suc j) d le within =
+    first_place-rises r.last_place to later follow.2 i j d (omega arith) (omega arith)
+
+begins_by-at : (rows : List DrawnRow) (p k : ℕ) (d : DrawnRow) → k < length rows → begins_by rows p k ≡ nat_le (get_or rows k d).first_place p
+begins_by-at rows p k d within =
+    ap (λ o. option_map_or (λ (row : DrawnRow). nat_le row.first_place p) o false) (slice_get-get_or rows k d within)
+
+-- the rows before number i begin at p or before, the others behind it
+abbrev pub Splits : List DrawnRow → ℕ → ℕ → Type 0
+Splits rows p i = IsPartitionPoint (λ (r : DrawnRow). nat_le r.first_place p ≡ true) (λ (r : DrawnRow). nat_le r.first_place p ≡ false) rows i
+
+-- row 0 begins at place 0, so it is among the former
+pub some-splits : (to p i : ℕ) (rows : List DrawnRow) → RowsFollow 0 rows to → 0 < length rows → Splits rows p i → 0 < i
+some-splits to p i [] follow some splits = absurd (omega arith)
+some-splits to p zero (r ∷ later) follow some splits =
+    let past : p < r.first_place = leb-false r.first_place p (splits.1 0 r (omega arith) (omega arith)) in
+    absurd (omega (arith, follow.0))
+some-splits to p (suc i) (r ∷ later) follow some splits = omega arith
+
+-- and the last of the former is the row of p
+pub row_at-splits : (to p i : ℕ) (rows : List DrawnRow) → RowsFollow 0 rows to → 0 < length rows → i ≤ length rows → Splits rows p i → row_at rows p ≡ i - 1
+row_at-splits to p i [] follow some within splits = absurd (omega arith)
+row_at-splits to p i (r ∷ later) follow some within splits =
+    let first : 0 < i = some-splits to p i (r ∷ later) follow some splits in
+    let rows = r ∷ later in
+    last_below-is (begins_by rows p) (length rows) (i - 1) (omega arith)
+    (begins_by-at rows p (i - 1) r (omega arith) ∙ splits.0 (i - 1) r (omega arith) (omega arith))
+    (λ j above below. begins_by-at rows p j r below ∙ splits.1 j r (omega arith) below)
+
+-- the last row ends where the rows end
+last_place-last : (from to : ℕ) (rows : List DrawnRow) (k : ℕ) (row : DrawnRow) → RowsFollow from rows to → slice_get rows k ≡ Some row → k + 1 ≡ length rows → row.last_place ≡ to
+last_place-last from to [] k row follow is last = absurd (omega arith)
+last_place-last from to (r ∷ []) zero row follow is last = let same : r ≡ row = cc in ap (λ (x : DrawnRow). x.last_place) (sym same) ∙ follow.2
+last_place-last from to (r ∷ s ∷ later) zero row follow is last = absurd (omega arith)
+last_place-last from to (r ∷ later) (suc k) row follow is last = last_place-last r.last_place to later k row follow.2 is (omega arith)
+
+-- each other one where the next one begins
+last_place-next : (from to : ℕ) (rows : List DrawnRow) (k : ℕ) (row d : DrawnRow) → RowsFollow from rows to → slice_get rows k ≡ Some row → suc k < length rows → (get_or rows (suc k) d).first_place ≡ row.last_place
+last_place-next from to [] k row d follow is next = absurd (omega arith)
+last_place-next from to (r ∷ []) k row d follow is next = absurd (omega arith)
+last_place-next from to (r ∷ s ∷ later) zero row d follow is next = let same : r ≡ row = cc in follow.2.0 ∙ ap (λ (x : DrawnRow). x.last_place) same
+last_place-next from to (r ∷ s ∷ later) (suc k) row d follow is next = last_place-next r.last_place to (s ∷ later) k row d follow.2 is (omega arith)
+
+-- and none begins behind that end
+first_place-to : (from to : ℕ) (rows : List DrawnRow) (k : ℕ) (d : DrawnRow) → RowsFollow from rows to → k < length rows → (get_or rows k d).first_place ≤ to
+first_place-to from to [] k d follow within = absurd (omega arith)
+first_place-to from to (r ∷ later) zero d follow within = omega (arith, follow.0, follow.1, upto later r.last_place follow.2)
+  where
+    upto : (rows : List DrawnRow) (start : ℕ) → RowsFollow start rows to → start ≤ to
+    upto [] start rest = omega (arith, rest)
+    upto (s ∷ rows) start rest = let more = upto rows s.last_place rest.2 in omega (arith, rest.0, rest.1, more)
+first_place-to from to (r ∷ later) (suc k) d follow within = first_place-to r.last_place to later k d follow.2 (omega arith)
+
+first_place-first : (to : ℕ) (rows : List DrawnRow) (d : DrawnRow) → RowsFollow 0 rows to → 0 < length rows → (get_or rows 0 d).first_place ≡ 0
+first_place-first to [] d follow some = absurd (omega arith)
+first_place-first to (r ∷ later) d follow some = follow.0
+
+-- a row doesn't end before it begins
+pub first_place-last_place : (from to : ℕ) (rows : List DrawnRow) (k : ℕ) (row : DrawnRow) → RowsFollow from rows to → slice_get rows k ≡ Some row → row.first_place ≤ row.last_place
+first_place-last_place from to [] k row follow is = absurd (cc)
+first_place-last_place from to (r ∷ later) zero row follow is =
+    let same : r ≡ row = cc in subst (λ (x : DrawnRow). x.first_place ≤ x.last_place) same follow.1
+first_place-last_place from to (r ∷ later) (suc k) row follow is = first_place-last_place r.last_place to later k row follow.2 is
+
+module _ (to p : ℕ) (rows : List DrawnRow) (row : DrawnRow) (follow : RowsFollow 0 rows to) (is : slice_get rows (row_at rows p) ≡ Some row) where
+  -- the row of p is the last one, or the next one begins behind p
+  behind-row_at : suc (row_at rows p) < length rows → p < row.last_place
+  behind-row_at next =
+      let later = last_below-later (begins_by rows p) (length rows) (suc (row_at rows p)) (omega arith) next in
+      let past : p < (get_or rows (suc (row_at rows p)) row).first_place =
+      leb-false _ p (sym (begins_by-at rows p (suc (row_at rows p)) row next) ∙ later) in
+      omega (arith, last_place-next 0 to rows (row_at rows p) row row follow is next)
+
+  -- it begins at p or before
+  pub first_place-row_at : 0 < length rows → row.first_place ≤ p
+  first_place-row_at some =
+      let first : begins_by rows p 0 ≡ true =
+      begins_by-at rows p 0 row some ∙ le-leb (get_or rows 0 row).first_place p (omega (arith, first_place-first to rows row follow some)) in
+      let here : nat_le row.first_place p ≡ true =
+      sym (ap (λ o. option_map_or (λ (r : DrawnRow). nat_le r.first_place p) o false) is) ∙ last_below-passes (begins_by rows p) (length rows) first in
+      leb-true row.first_place p here
+
+  -- where p is a place of the text, it ends behind p
+  pub last_place-row_at : p < to → p < row.last_place
+  last_place-row_at within =
+      elim (cases_lt (suc (row_at rows p)) (length rows)) [
+        | inl next ↦ behind-row_at next
+        | inr last ↦
+            let end = last_place-last 0 to rows (row_at rows p) row follow is (let in_rows = slice_get_within rows (row_at rows p) row is in omega arith) in
+            omega arith
+      ]
+
+  -- the text's end is in the last row
+  pub row_at-end : p ≡ to → row_at rows p + 1 ≡ length rows
+  row_at-end end =
+      elim (cases_lt (suc (row_at rows p)) (length rows)) [
+        | inl next ↦
+            let past = behind-row_at next in
+            let start = last_place-next 0 to rows (row_at rows p) row row follow is next in
+            let upto = first_place-to 0 to rows (suc (row_at rows p)) row follow next in
+            absurd (omega arith)
+        | inr last ↦ let in_rows = slice_get_within rows (row_at rows p) row is in omega arith
+      ]
+
+  -- the row of the text's end ends there
+  pub last_place-at_end : p ≡ to → p ≡ row.last_place
+  last_place-at_end end =
+      elim (cases_lt (suc (row_at rows p)) (length rows)) [
+        | inl next ↦
+            let past = behind-row_at next in
+            let start = last_place-next 0 to rows (row_at rows p) row row follow is next in
+            let upto = first_place-to 0 to rows (suc (row_at rows p)) row follow next in
+            absurd (omega arith)
+        | inr last ↦ end ∙ sym (last_place-last 0 to rows (row_at rows p) row follow is (let within = slice_get_within rows (row_at rows p) row is in omega arith))
+      ]
+
+  -- and no other row ends at its place
+  pub end-at_last_place : p ≡ row.last_place → p ≡ to
+  end-at_last_place same =
+      elim (cases_lt (suc (row_at rows p)) (length rows)) [
+        | inl next ↦ absurd (omega (arith, behind-row_at next))
+        | inr last ↦ same ∙ last_place-last 0 to rows (row_at rows p) row follow is (let within = slice_get_within rows (row_at rows p) row is in omega arith)
+      ]

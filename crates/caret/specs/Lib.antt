@@ -1,0 +1,5 @@
+pub mod Lists
+pub mod Gaps
+pub mod Moves
+pub mod Places
+pub mod Laws

@@ -1,0 +1,111 @@
+//! The gaps of a row.
+
+ghost use Rattle.std.specs.Prelude.{◌≡◌, ◌+◌, ◌≤◌, length};
+ghost use Rattle.reorder.specs.VisualList.{is_odd};
+ghost use Rattle.caret.specs.Gaps.{left_side, right_side, end_column, row_end, gap_column, last_gap_by, gap_place};
+ghost use Rattle.caret.specs.Moves.{caret_by};
+
+use crate::caret::Caret;
+use cell_grid::{Entry, Row};
+
+/// Whether a level is odd: of a cluster that is read from right to left, or of a paragraph that begins at the right edge.
+pub(crate) fn is_odd(level: u8) -> bool
+    ensures { result ≡ is_odd level }
+{
+    level % 2 == 1
+}
+
+/// The place on the left side of an entry.
+pub(crate) fn left_side(entry: &Entry) -> usize
+    ensures { result ≡ left_side entry.now }
+{
+    if is_odd(entry.level) {
+        entry.span.end_place
+    } else {
+        entry.span.first_place
+    }
+}
+
+/// The place on the right side of an entry.
+pub(crate) fn right_side(entry: &Entry) -> usize
+    ensures { result ≡ right_side entry.now }
+{
+    if is_odd(entry.level) {
+        entry.span.first_place
+    } else {
+        entry.span.end_place
+    }
+}
+
+/// The column where an entry ends.
+fn end_column(entry: &Entry) -> usize
+    ensures { result ≡ end_column entry.now }
+{
+    let column = entry.column;
+    let columns = entry.columns;
+    column as usize + columns as usize
+}
+
+/// The column where the entries of a row end; an empty row has its start there.
+fn row_end(row: &Row) -> usize
+    ensures { result ≡ row_end row.now }
+{
+    match row.entries().last() {
+        Some(entry) => end_column(entry),
+        None if is_odd(row.para_level()) => row.cells().len(),
+        None => 0,
+    }
+}
+
+/// The column of a gap: that of the entry right of it, and of the last gap the row's end.
+pub(crate) fn gap_column(row: &Row, gap: usize) -> usize
+    ensures { result ≡ gap_column row.now gap }
+{
+    match row.entries().get(gap) {
+        Some(entry) => usize::from(entry.column),
+        None => row_end(row),
+    }
+}
+
+/// The last gap of a row whose column isn't greater than `column`, else gap 0.
+fn last_gap_by(row: &Row, column: usize) -> usize
+    ensures gap { result ≡ last_gap_by row.now column }
+    ensures within { result ≤ length row.now.entries }
+{
+    let entries = row.entries();
+    let mut last = 0;
+    for (gap, entry) in entries.iter().enumerate() {
+        if usize::from(entry.column) <= column {
+            last = gap;
+        }
+    }
+    if row_end(row) <= column {
+        last = entries.len();
+    }
+    last
+}
+
+/// The place at a gap: on the side of the entry left of it, at gap 0 on that of entry 0, else the empty row's.
+fn gap_place(row: &Row, gap: usize) -> usize
+    ensures { result ≡ gap_place row.now gap }
+{
+    let entries = row.entries();
+    if gap == 0 {
+        entries.first().map_or(row.first_place(), left_side)
+    } else {
+        entries.get(gap - 1).map_or(row.first_place(), right_side)
+    }
+}
+
+/// The caret in a row at the last gap whose column isn't greater than `column`, else at gap 0.
+pub(crate) fn caret_by(row: &Row, number: usize, column: usize) -> Caret
+    ensures caret { result ≡ caret_by column number row.now }
+    ensures within { result.gap ≤ length row.now.entries }
+{
+    let gap = last_gap_by(row, column);
+    Caret {
+        row: number,
+        gap,
+        place: gap_place(row, gap),
+    }
+}

@@ -1,0 +1,120 @@
+//! The caret at a place of the text.
+
+ghost use Rattle.std.specs.Prelude.{◌≡◌, ◌+◌, ◌<◌, ◌≤◌, length, IfSome};
+ghost use Rattle.std.specs.Str.{chars};
+ghost use Rattle.cell_grid.specs.Grids.{DrawnGrid};
+ghost use Rattle.caret.specs.Gaps.{IsCaretOf};
+ghost use Rattle.caret.specs.Places.{holds, ends_at, entry_where, row_at, gap_zero, at_cluster, at_end, caret_at};
+
+use crate::caret::Caret;
+use crate::gaps::is_odd;
+use cell_grid::{Entry, Grid, Row, laws};
+
+/// Whether an entry's cluster holds a place.
+fn holds(entry: &Entry, place: usize) -> bool
+    ensures { result ≡ holds place entry.now }
+{
+    entry.span.first_place <= place && place < entry.span.end_place
+}
+
+/// The entry whose cluster holds a place, with its number.
+fn entry_at(entries: &[Entry], place: usize) -> Option<(usize, Entry)>
+    ensures entry { result ≡ entry_where (holds place) entries.now }
+    ensures within { IfSome result (λ found. found.0 < length entries.now) }
+{
+    entries
+        .iter()
+        .copied()
+        .enumerate()
+        .find(|(_, entry)| holds(entry, place))
+}
+
+/// The entry whose cluster ends at a place, with its number.
+fn entry_up_to(entries: &[Entry], place: usize) -> Option<(usize, Entry)>
+    ensures entry { result ≡ entry_where (ends_at place) entries.now }
+    ensures within { IfSome result (λ found. found.0 < length entries.now) }
+{
+    entries
+        .iter()
+        .copied()
+        .enumerate()
+        .find(|(_, entry)| entry.span.end_place == place)
+}
+
+/// The last row whose first place is at most `place`, by binary search.
+fn row_at(grid: &Grid, place: usize) -> usize
+    ensures number { result ≡ row_at grid.now.rows place }
+    ensures within { result < length grid.now.rows }
+{
+    laws::rows_follow();
+    let rows = grid.rows();
+    let count = rows.partition_point(|row| row.first_place() <= place);
+    count - 1
+}
+
+/// Gap 0 of a row, with a place.
+fn gap_zero(number: usize, place: usize) -> Caret
+    ensures { result ≡ gap_zero number place }
+{
+    Caret {
+        row: number,
+        gap: 0,
+        place,
+    }
+}
+
+/// The caret at the start of a row's cluster that holds a place: the cluster's left gap at an even
+/// level, its right gap at an odd one.
+fn at_cluster(row: &Row, number: usize, place: usize) -> Caret
+    ensures caret { result ≡ at_cluster place number row.now }
+    ensures row { result.row ≡ number }
+    ensures within { result.gap ≤ length row.now.entries }
+{
+    let entries = row.entries();
+    match entry_at(entries, place) {
+        Some((gap, entry)) => Caret {
+            row: number,
+            gap: if is_odd(entry.level) { gap + 1 } else { gap },
+            place: entry.span.first_place,
+        },
+        None => gap_zero(number, place),
+    }
+}
+
+/// The caret at the end of a row's logically last cluster: the cluster's right gap at an even level,
+/// its left gap at an odd one. In an empty row it is gap 0.
+fn at_end(row: &Row, number: usize) -> Caret
+    ensures caret { result ≡ at_end number row.now }
+    ensures row { result.row ≡ number }
+    ensures within { result.gap ≤ length row.now.entries }
+{
+    let entries = row.entries();
+    match entry_up_to(entries, row.last_place()) {
+        Some((gap, entry)) => Caret {
+            row: number,
+            gap: if is_odd(entry.level) { gap } else { gap + 1 },
+            place: entry.span.end_place,
+        },
+        None => gap_zero(number, row.last_place()),
+    }
+}
+
+/// The caret at a place of the text, which counts code points and is at most the text's length.
+///
+/// It stands in the last row whose first place is at most `place`, at the start of the cluster that
+/// holds the place; at the text's end, behind the row's logically last cluster. The row is found by
+/// binary search.
+pub fn at_place(grid: &Grid, place: usize) -> Caret
+    requires { place ≤ length (chars grid.now.text) }
+    ensures caret { result ≡ caret_at grid.now place }
+    ensures within { IsCaretOf grid.now.rows result }
+{
+    laws::rows_follow();
+    let number = row_at(grid, place);
+    let row = &grid.rows()[number];
+    if place == row.last_place() {
+        at_end(row, number)
+    } else {
+        at_cluster(row, number, place)
+    }
+}
