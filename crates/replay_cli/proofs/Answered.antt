@@ -7,6 +7,7 @@ use Rattle.std.specs.Io.KnownBytes.{Appends}
 use Rattle.bg_types.specs.OperationSet.{OperationSet, size}
 use Rattle.bg_types.specs.Sink.{AppendsBeginning}
 use Rattle.bg_types.specs.declared.op.Op.{Op}
+use Rattle.op_codec.specs.declared.fault.CodecFault.TheVariants as codec
 use Rattle.op_codec.specs.Spelling.{Spells}
 use Rattle.rga_tree.specs.TextOf.{text}
 use Rattle.desk_replica.specs.declared.answer.TakeFault.{TakeFault}
@@ -15,7 +16,7 @@ use Rattle.replay_cli.specs.declared.fault.RunFault.{RunFault}
 use Rattle.replay_cli.specs.declared.fault.RunFault.TheVariants as run
 use Rattle.replay_cli.specs.Refusal.{IsFirstRefusal}
 use Rattle.replay_cli.specs.Files.{joined, IsSetOfFiles, AreRefused}
-use Rattle.replay_cli.specs.Cause.{IsCaused, step_fault_of}
+use Rattle.replay_cli.specs.Cause.{IsCaused, IsReadCaused, step_fault_of}
 use Rattle.replay_cli.specs.Written.{WritesText, WritesBeginning}
 use Rattle.replay_cli.proofs.Spelled.{joined-split}
 use Rattle.replay_cli.proofs.Taking.{IsFirstRefusal-append}
@@ -61,3 +62,16 @@ told-device failed (Err fault) h stopped = ((λ _. ap (λ (f : RunFault). Err f)
 pub only-device : (r : Result (Unit {0}) RunFault) (K : Type 0) → IsErrAnd r (λ fault. fault ≡ run.Device) → IfErr r (λ fault. fault ≢ run.Device → K)
 only-device (Ok done) K h = absurd h
 only-device (Err fault) K h = λ other. absurd (other h)
+
+-- a fault that reading the files ended with
+pub read_caused : (files : List (List ℕ)) (fault : RunFault) → IsReadCaused files fault → IsCaused files false fault
+read_caused files (run.Tables fault) h = h
+read_caused files (run.File n (codec.Malformed frame cause)) h = h
+read_caused files (run.File n codec.Memory) h = h
+read_caused files (run.Schedule line fault) h = h
+read_caused files (run.Step line desk fault) h = absurd h
+read_caused files (run.Listing line fault) h = h
+read_caused files run.Device h = absurd h
+read_caused files (run.PastEnd place) h = h
+read_caused files (run.ReadFailed file) h = h
+read_caused files run.Memory h = tt

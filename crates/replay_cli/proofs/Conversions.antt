@@ -12,7 +12,7 @@ use Rattle.op_codec.specs.Fault.{IsFault}
 use Rattle.op_codec.proofs.Unique.{one_list, never_both, one_fault}
 use Rattle.replay_cli.specs.declared.fault.LineFault.{LineFault}
 use Rattle.replay_cli.specs.declared.fault.RunFault.{RunFault}
-use Rattle.replay_cli.specs.declared.fault.RunFault.TheVariants.{File, Step, Listing, Device, ReadFailed, Memory}
+use Rattle.replay_cli.specs.declared.fault.RunFault.TheVariants.{Tables, File, Schedule, Step, Listing, Device, PastEnd, ReadFailed, Memory}
 use Rattle.replay_cli.specs.Line.{line_fault}
 use Rattle.replay_cli.specs.Listing.{listing_of}
 use Rattle.replay_cli.specs.Listed.{IsFaultless, line_operations, Lists, IsFaultyLine}
@@ -56,6 +56,9 @@ module _ (file : List ℕ) (old new : Option (List ℕ)) (failed : Bool) where
   dump-spelled (Err (Step line desk fault)) ops written caused spelled = absurd caused
   dump-spelled (Err (Listing line fault)) ops written caused spelled = absurd caused
   dump-spelled (Err Device) ops written caused spelled = inl refl
+  dump-spelled (Err (Tables fault)) ops written caused spelled = absurd caused
+  dump-spelled (Err (Schedule at wrong)) ops written caused spelled = absurd caused
+  dump-spelled (Err (PastEnd place)) ops written caused spelled = absurd caused
   dump-spelled (Err (ReadFailed n)) ops written caused spelled = absurd caused
   dump-spelled (Err Memory) ops written caused spelled = inr refl
 
@@ -69,6 +72,9 @@ module _ (file : List ℕ) (old new : Option (List ℕ)) (failed : Bool) where
   dump-faulty (Err (Step line desk fault)) frame cause written caused beginning faulty = absurd caused
   dump-faulty (Err (Listing line fault)) frame cause written caused beginning faulty = absurd caused
   dump-faulty (Err Device) frame cause written caused beginning faulty = let begun = beginning refl in absurd (never_both file begun.ops frame cause begun.spelled faulty)
+  dump-faulty (Err (Tables wrong)) frame cause written caused beginning faulty = absurd caused
+  dump-faulty (Err (Schedule at wrong)) frame cause written caused beginning faulty = absurd caused
+  dump-faulty (Err (PastEnd place)) frame cause written caused beginning faulty = absurd caused
   dump-faulty (Err (ReadFailed n)) frame cause written caused beginning faulty = absurd caused
   dump-faulty (Err Memory) frame cause written caused beginning faulty = inr refl
 
@@ -82,6 +88,9 @@ module _ (bytes : List ℕ) (old new : Option (List ℕ)) (failed : Bool) where
   pack-listed (Err (Step line desk fault)) ops written caused listed = absurd caused
   pack-listed (Err (Listing line fault)) ops written caused listed = absurd (listed_apart bytes ops line fault listed caused)
   pack-listed (Err Device) ops written caused listed = inl refl
+  pack-listed (Err (Tables fault)) ops written caused listed = absurd caused
+  pack-listed (Err (Schedule at wrong)) ops written caused listed = absurd caused
+  pack-listed (Err (PastEnd place)) ops written caused listed = absurd caused
   pack-listed (Err (ReadFailed n)) ops written caused listed = absurd caused
   pack-listed (Err Memory) ops written caused listed = inr refl
 
@@ -94,6 +103,9 @@ module _ (bytes : List ℕ) (old new : Option (List ℕ)) (failed : Bool) where
       let one = one_faulty_line bytes m n other fault caused faulty in
       inl (λ i. Err (Listing (one.0 i) (one.1 i)))
   pack-faulty (Err Device) n fault written caused beginning faulty = let begun = beginning refl in absurd (listed_apart bytes begun.ops n fault begun.listed faulty)
+  pack-faulty (Err (Tables wrong)) n fault written caused beginning faulty = absurd caused
+  pack-faulty (Err (Schedule at wrong)) n fault written caused beginning faulty = absurd caused
+  pack-faulty (Err (PastEnd place)) n fault written caused beginning faulty = absurd caused
   pack-faulty (Err (ReadFailed m)) n fault written caused beginning faulty = absurd caused
   pack-faulty (Err Memory) n fault written caused beginning faulty = inr refl
 

@@ -10,5 +10,15 @@ pub mod Numerals
 pub mod Shapes
 pub mod Padding
 pub mod ReadLines
+pub mod ReadSteps
+pub mod Unions
+pub mod DeskLists
+pub mod Running
+pub mod StepAnswers
+pub mod Plans
+pub mod OneReplay
+pub mod Walks
+pub mod WalkAnswers
+pub mod TextSize
 pub mod Conversions
 pub mod ListedAgain

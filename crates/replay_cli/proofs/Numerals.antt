@@ -9,6 +9,7 @@ use Rattle.std.proofs.lemmas.Int.Digits.{digits_value-lt, digits_value_more, dig
 use Rattle.std.proofs.lemmas.Str.Parse.{digits_value-take-le}
 use borrow.Author.Tests.{ltb-true, lt-ltb, le-leb, lt-leb}
 use Rattle.replay_cli.specs.Line.{is_digits, number_in, up_to, counter_in, scalar_in}
+use Rattle.replay_cli.specs.Schedule.{count_in}
 
 -- ---- digits
 
@@ -114,6 +115,20 @@ scalar_read word None h long short = by_digits (is_digits 16 word) refl where
       let small = digits_value-lt 16 word all in
       let most = pow-le-pow_right {n = 16} (lit< tt) {i = length word} {j = 6} short in
       absurd (h (all, omega (arith, small, most)))
+
+pub count_read : (word : List ℕ) (r : Option ℕ) → SomeIff r (AllDigits 10 word × (digits_value 10 word < 2 ^ 32)) (digits_value 10 word) → 1 ≤ length word → length word ≤ 7 → r ≡ count_in word
+count_read word (Some x) h long short = ap Some h.1 ∙ sym (number_in-some 10 1 7 word h.0.0 long short)
+count_read word None h long short = by_digits (is_digits 10 word) refl where
+  by_digits : (t : Bool) → is_digits 10 word ≡ t → None ≡ count_in word
+  by_digits false e = sym (number_in-none 10 1 7 word e)
+  by_digits true e =
+      let all = AllDigits-from 10 word e in
+      let small = digits_value-lt 10 word all in
+      let most = pow-le-pow_right {n = 10} (lit< tt) {i = length word} {j = 7} short in
+      absurd (h (all, omega (arith, small, most)))
+
+pub count_wrong : (word : List ℕ) → (length word < 1) ⊎ (7 < length word) → count_in word ≡ None
+count_wrong word wrong = number_in-wrong 10 1 7 word wrong
 
 pub scalar_wrong : (word : List ℕ) → (length word < 4) ⊎ (6 < length word) → scalar_in word ≡ None
 scalar_wrong word wrong = number_in-wrong 16 4 6 word wrong

@@ -8,7 +8,7 @@ use Rattle.op_codec.specs.declared.fault.CodecFault.TheVariants as codec
 use Rattle.rga_tree.specs.TextOf.{text}
 use Rattle.desk_replica.specs.declared.answer.TakeFault.{TakeFault}
 use Rattle.replay_cli.specs.declared.fault.RunFault.{RunFault}
-use Rattle.replay_cli.specs.declared.fault.RunFault.TheVariants.{File, Step, Listing, Device, ReadFailed, Memory}
+use Rattle.replay_cli.specs.declared.fault.RunFault.TheVariants.{Tables, File, Schedule, Step, Listing, Device, PastEnd, ReadFailed, Memory}
 use Rattle.replay_cli.specs.Files.{IsSetOfFiles, IsFaultyFile, AreRefused}
 use Rattle.replay_cli.specs.Cause.{IsCaused}
 use Rattle.replay_cli.specs.Written.{WritesText, WritesBeginning}
@@ -23,6 +23,9 @@ module _ (files : List (List ℕ)) (old new : Option (List ℕ)) (failed : Bool)
   answer-joined (Err (Step line desk fault)) s written caused of_files limited = absurd (refusal_apart files s fault of_files limited caused.2)
   answer-joined (Err (Listing line fault)) s written caused of_files limited = absurd caused
   answer-joined (Err Device) s written caused of_files limited = inl refl
+  answer-joined (Err (Tables fault)) s written caused of_files limited = absurd caused
+  answer-joined (Err (Schedule at wrong)) s written caused of_files limited = absurd caused
+  answer-joined (Err (PastEnd place)) s written caused of_files limited = absurd caused
   answer-joined (Err (ReadFailed file)) s written caused of_files limited = absurd caused
   answer-joined (Err Memory) s written caused of_files limited = inr refl
 
@@ -36,6 +39,9 @@ module _ (files : List (List ℕ)) (old new : Option (List ℕ)) (failed : Bool)
   answer-faulty (Err (Step line desk fault)) n frame cause written caused beginning faulty = absurd (faulty_apart files caused.2.lists n frame cause caused.2.spelled faulty)
   answer-faulty (Err (Listing line fault)) n frame cause written caused beginning faulty = absurd caused
   answer-faulty (Err Device) n frame cause written caused beginning faulty = let begun = beginning refl in absurd (faulty_apart files begun.of_files.lists n frame cause begun.of_files.spelled faulty)
+  answer-faulty (Err (Tables wrong)) n frame cause written caused beginning faulty = absurd caused
+  answer-faulty (Err (Schedule at wrong)) n frame cause written caused beginning faulty = absurd caused
+  answer-faulty (Err (PastEnd place)) n frame cause written caused beginning faulty = absurd caused
   answer-faulty (Err (ReadFailed file)) n frame cause written caused beginning faulty = absurd caused
   answer-faulty (Err Memory) n frame cause written caused beginning faulty = inr refl
 
@@ -49,5 +55,8 @@ module _ (files : List (List ℕ)) (old new : Option (List ℕ)) (failed : Bool)
       inl (λ i. Err (Step (caused.0 i) (caused.1 i) (one i)))
   answer-refused (Err (Listing line other)) fault written caused beginning refused = absurd caused
   answer-refused (Err Device) fault written caused beginning refused = let begun = beginning refl in absurd (refusal_apart files begun.set fault begun.of_files begun.limited refused)
+  answer-refused (Err (Tables wrong)) fault written caused beginning refused = absurd caused
+  answer-refused (Err (Schedule at wrong)) fault written caused beginning refused = absurd caused
+  answer-refused (Err (PastEnd place)) fault written caused beginning refused = absurd caused
   answer-refused (Err (ReadFailed file)) fault written caused beginning refused = absurd caused
   answer-refused (Err Memory) fault written caused beginning refused = inr refl

@@ -13,7 +13,7 @@ use Rattle.replay_cli.specs.Refusal.{IsFirstRefusal}
 use Rattle.replay_cli.specs.Files.{joined, IsSetOfFiles, IsFaultyFile, AreRefused}
 use Rattle.replay_cli.proofs.Refusals.{IsSetOf-unique, refused_apart, one_refusal}
 
-one_lists : (files : List (List ℕ)) (xs ys : List (List OpView)) → AllZip Spells files xs → AllZip Spells files ys → xs ≡ ys
+pub one_lists : (files : List (List ℕ)) (xs ys : List (List OpView)) → AllZip Spells files xs → AllZip Spells files ys → xs ≡ ys
 one_lists [] [] [] a b = refl
 one_lists [] [] (y ∷ ys) a b = absurd b
 one_lists [] (x ∷ xs) ys a b = absurd a

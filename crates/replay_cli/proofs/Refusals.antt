@@ -52,7 +52,7 @@ reused_not_new : (s : OperationSet) (op : OpView) → ReusesIdentifier s op → 
 reused_not_new s (Insert id parent ch) reused may = reused.2 (may reused.0 reused.1)
 reused_not_new s (Erase target) reused may = reused
 
-same_refusal : (s : OperationSet) (op : OpView) (f g : TakeFault) → IsRefusal s op f → IsRefusal s op g → f ≡ g
+pub same_refusal : (s : OperationSet) (op : OpView) (f g : TakeFault) → IsRefusal s op f → IsRefusal s op g → f ≡ g
 same_refusal s op IdentifierReused IdentifierReused a b = refl
 same_refusal s op IdentifierReused Full a b = absurd (reused_not_new s op a b.0)
 same_refusal s op IdentifierReused Memory a b = absurd b

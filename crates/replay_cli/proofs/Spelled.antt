@@ -1,6 +1,6 @@
 -- Files that are read one after the other.
 use Rattle.std.proofs.Common.{◌≡◌, ◌<◌, get_or, ℕ, zero, suc, ◌+◌, List, [], ◌∷◌, ◌++◌, take, drop, length, refl, sym, ap, subst, ◌∙◌, arith, append_assoc}
-use Rattle.std.specs.Prelude.{false, map as each}
+use Rattle.std.specs.Prelude.{map as each}
 use Rattle.std.specs.Global.{Vec}
 use Rattle.std.specs.List.{AllZip}
 use Rattle.std.proofs.lemmas.List.{map-append}
@@ -13,7 +13,7 @@ use Rattle.op_codec.specs.declared.fault.CodecFault.TheVariants as codec
 use Rattle.op_codec.specs.Spelling.{Spells}
 use Rattle.op_codec.specs.Fault.{TellsFault}
 use Rattle.replay_cli.specs.Files.{bytes_of, joined}
-use Rattle.replay_cli.specs.Cause.{IsCaused, file_fault_of}
+use Rattle.replay_cli.specs.Cause.{IsReadCaused, file_fault_of}
 
 module _ {A : Type 0} where
   take-suc : (xs : List A) (i : ℕ) (x : A) → i < length xs → x ≡ get_or xs i x → take (suc i) xs ≡ take i xs ++ x ∷ []
@@ -54,7 +54,7 @@ spelled-next files i file lists ops lt is h s =
 
 -- and one is faulty after those before it were read
 pub faulty-next : (files : List (Vec ℕ)) (i n : ℕ) (file : Vec ℕ) (lists : List (List OpView)) (fault : CodecFault) → i < length files → file ≡ get_or files i file
-    → AllZip Spells (bytes_of (take i files)) lists → n ≡ length lists + 1 → TellsFault file.items fault → IsCaused (bytes_of files) false (file_fault_of n fault)
+    → AllZip Spells (bytes_of (take i files)) lists → n ≡ length lists + 1 → TellsFault file.items fault → IsReadCaused (bytes_of files) (file_fault_of n fault)
 faulty-next files i n file lists codec.Memory lt is h number told = tt
 faulty-next files i n file lists (codec.Malformed frame cause) lt is h number told =
     let before = bytes_of (take i files) in

@@ -7,7 +7,7 @@ use Rattle.op_codec.specs.declared.fault.CodecFault.TheVariants as codec
 use Rattle.op_codec.specs.Spelling.{spelling, Spells}
 use Rattle.op_codec.specs.Fault.{IsFault}
 use Rattle.replay_cli.specs.declared.fault.RunFault.{RunFault}
-use Rattle.replay_cli.specs.declared.fault.RunFault.TheVariants.{File, Step, Listing, Device, ReadFailed, Memory}
+use Rattle.replay_cli.specs.declared.fault.RunFault.TheVariants.{Tables, File, Schedule, Step, Listing, Device, PastEnd, ReadFailed, Memory}
 use Rattle.replay_cli.specs.Listing.{listing_of}
 use Rattle.replay_cli.specs.Listed.{Lists, IsFaultyLine}
 
@@ -33,6 +33,9 @@ IsDumpCaused file failed (File n codec.Memory) = ⊥
 IsDumpCaused file failed (Step line desk fault) = ⊥
 IsDumpCaused file failed (Listing line fault) = ⊥
 IsDumpCaused file failed Device = failed ≡ true
+IsDumpCaused file failed (Tables fault) = ⊥
+IsDumpCaused file failed (Schedule at wrong) = ⊥
+IsDumpCaused file failed (PastEnd place) = ⊥
 IsDumpCaused file failed (ReadFailed n) = ⊥
 IsDumpCaused file failed Memory = Unit {0}
 
@@ -57,5 +60,8 @@ IsPackCaused bytes failed (File n fault) = ⊥
 IsPackCaused bytes failed (Step line desk fault) = ⊥
 IsPackCaused bytes failed (Listing line fault) = IsFaultyLine bytes line fault
 IsPackCaused bytes failed Device = failed ≡ true
+IsPackCaused bytes failed (Tables fault) = ⊥
+IsPackCaused bytes failed (Schedule at wrong) = ⊥
+IsPackCaused bytes failed (PastEnd place) = ⊥
 IsPackCaused bytes failed (ReadFailed n) = ⊥
 IsPackCaused bytes failed Memory = Unit {0}

@@ -15,6 +15,10 @@ use Rattle.replay_cli.specs.Refusal.{IsFirstRefusal}
 abbrev pub bytes_of : List (Vec ℕ) → List (List ℕ)
 bytes_of files = each (λ file. file.items) files
 
+-- the operations of each file
+abbrev pub lists_of : List (Vec OpView) → List (List OpView)
+lists_of files = each (λ ops. ops.items) files
+
 -- the lists, one after the other
 abbrev pub joined : List (List OpView) → List OpView
 joined lists = flat_map (λ ops. ops) lists

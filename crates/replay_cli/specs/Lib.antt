@@ -9,3 +9,14 @@ pub mod Line
 pub mod Listed
 pub mod Conversion
 pub mod Field
+pub mod Schedule
+pub mod ScheduleCause
+pub mod Desks
+pub mod DeskSets
+pub mod Shows
+pub mod Round
+pub mod Answer
+pub mod Printed
+pub mod TablesCause
+pub mod Replayed
+pub mod Carets

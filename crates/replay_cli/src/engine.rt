@@ -1,6 +1,6 @@
 //! The engine `text`: one desk takes the operations of all files, and its text is written.
 
-ghost use Rattle.std.specs.Prelude.{◌≡◌, ◌≢◌, ◌≤◌, ◌⊎◌, ◌↔◌, ◌++◌, ℕ, List, true, false, map as each, OnOk, IfOk, IfErr, MatchResult, encode_utf8_all};
+ghost use Rattle.std.specs.Prelude.{◌≡◌, ◌≢◌, ◌≤◌, ◌⊎◌, ◌↔◌, ◌++◌, ℕ, List, length, true, false, map as each, OnOk, IfOk, IfErr, MatchResult, encode_utf8_all};
 ghost use Rattle.std.specs.List.{AllZip};
 ghost use Rattle.std.specs.Io.KnownBytes.{Appends, Keeps};
 ghost use Rattle.bg_types.specs.OperationSet.{OperationSet, size};
@@ -13,7 +13,7 @@ ghost use Rattle.desk_replica.specs.declared.answer.TakeFault.{TakeFault as Refu
 ghost use Rattle.replay_cli.specs.SetOf.{IsSetOf};
 ghost use Rattle.replay_cli.specs.Refusal.{IsFirstRefusal};
 ghost use Rattle.replay_cli.specs.Files.{bytes_of, IsSetOfFiles, IsFaultyFile, AreRefused};
-ghost use Rattle.replay_cli.specs.Cause.{IsCaused, file_fault_of, step_fault_of};
+ghost use Rattle.replay_cli.specs.Cause.{IsCaused, IsReadCaused, file_fault_of, step_fault_of};
 ghost use Rattle.replay_cli.specs.Written.{WritesText, WritesBeginning};
 
 use crate::desk::{Desk, new_desk};
@@ -77,7 +77,7 @@ fn write_text<S: Sink>(
 
 /// A desk that has taken the operations of all files. All files are read before the first
 /// operation is taken.
-fn desk_of(alloc: Global, key: u128, files: &[Vec<u8>]) -> Result<Desk, RunFault>
+pub fn desk_of(alloc: Global, key: u128, files: &[Vec<u8>]) -> Result<Desk, RunFault>
     ensures ok { IfOk result (λ desk. IsSetOfFiles (bytes_of files.now) desk.set) }
     ensures limited { IfOk result (λ desk. size desk.set ≤ 1_000_000) }
     ensures fault { IfErr result (IsCaused (bytes_of files.now) false) }
@@ -93,9 +93,10 @@ fn desk_of(alloc: Global, key: u128, files: &[Vec<u8>]) -> Result<Desk, RunFault
 }
 
 /// The operations of each file, or the fault of the first faulty one.
-fn decode_all(alloc: Global, files: &[Vec<u8>]) -> Result<Vec<Vec<Op>>, RunFault>
+pub fn decode_all(alloc: Global, files: &[Vec<u8>]) -> Result<Vec<Vec<Op>>, RunFault>
     ensures ok { IfOk result (λ all. AllZip Spells (bytes_of files.now) (each (λ ops. ops.items) all.items)) }
-    ensures fault { IfErr result (IsCaused (bytes_of files.now) false) }
+    ensures count { IfOk result (λ all. length all.items ≡ length files.now) }
+    ensures fault { IfErr result (IsReadCaused (bytes_of files.now)) }
 {
     let mut all = Vec::with_capacity(alloc, files.len())?;
     for file in files {

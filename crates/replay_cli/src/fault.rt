@@ -1,7 +1,7 @@
 //! Why a run ended early.
 
 ghost use Rattle.std.specs.Prelude.{◌≡◌};
-ghost use Rattle.replay_cli.specs.Fault.{line_code, run_code, status_of};
+ghost use Rattle.replay_cli.specs.Fault.{line_code, schedule_code, run_code, status_of};
 ghost use Rattle.replay_cli.specs.declared.fault.RunFault.TheVariants.{Memory as run_memory, Device as run_device};
 
 use bg_types::{Device, Memory};
@@ -10,6 +10,7 @@ use op_codec::CodecFault;
 use std::alloc::{AllocError, AllocFailed};
 use std::error::Error;
 use std::fmt;
+use ucd_files::UcdFault;
 
 /// What is wrong with a line of a listing. Each prints its bare name.
 #[derive(Clone, Copy, Debug, PartialEq, Eq, Hash, thiserror::Error)]
@@ -43,17 +44,62 @@ impl LineFault {
     }
 }
 
+/// What is wrong with a line of a schedule. Each prints its bare name.
+#[derive(Clone, Copy, Debug, PartialEq, Eq, Hash, thiserror::Error)]
+pub enum ScheduleFault {
+    /// The first word is none of `take`, `merge` and `show`.
+    #[error("UnknownStep")]
+    UnknownStep,
+    /// Another count of words than the step has.
+    #[error("WrongWords")]
+    WrongWords,
+    /// A word that is not 1 to 7 decimal digits, where a number has to stand.
+    #[error("BadNumber")]
+    BadNumber,
+    /// There is no desk of this number.
+    #[error("NoSuchDesk")]
+    NoSuchDesk,
+    /// There is no file of this number.
+    #[error("NoSuchFile")]
+    NoSuchFile,
+    /// The file has no operation of this number.
+    #[error("NoSuchOperation")]
+    NoSuchOperation,
+}
+
+impl ScheduleFault {
+    /// The number of this fault, 1 to 6.
+    pub fn code(self) -> u8
+        ensures { result ≡ schedule_code self }
+    {
+        match self {
+            ScheduleFault::UnknownStep => 1,
+            ScheduleFault::WrongWords => 2,
+            ScheduleFault::BadNumber => 3,
+            ScheduleFault::NoSuchDesk => 4,
+            ScheduleFault::NoSuchFile => 5,
+            ScheduleFault::NoSuchOperation => 6,
+        }
+    }
+}
+
 /// Why a run ended early. Files, frames, lines and desks are counted from 1; frame 0 is a file's
 /// header, and line 0 stands for no schedule. Each prints as the line on standard error says it,
 /// without the program's name.
-#[derive(Clone, Copy, Debug, PartialEq, Eq, Hash)]
+#[derive(Clone, Copy, Debug, PartialEq, Eq)]
 pub enum RunFault {
+    /// A data file of Unicode is faulty: the first fault of the first faulty one.
+    Tables(UcdFault),
     /// An operation file is faulty: its number and its first fault.
     File(usize, CodecFault),
+    /// A schedule is faulty: its first faulty line, and why.
+    Schedule(usize, ScheduleFault),
     /// A step was refused: the line of the schedule, the desk, and why.
     Step(usize, usize, TakeFault),
     /// A listing is faulty: its first faulty line, and why.
     Listing(usize, LineFault),
+    /// A place is beyond the text's end.
+    PastEnd(u32),
     /// A write failed.
     Device,
     /// A file can't be read: its number, or 0 where the program reads it before the run.
@@ -65,12 +111,15 @@ pub enum RunFault {
 impl fmt::Display for RunFault {
     fn fmt<W: fmt::Write>(&self, f: &mut fmt::Formatter<W>) -> fmt::Result {
         match self {
+            RunFault::Tables(fault) => write!(f, "ucd {fault}"),
             RunFault::File(file, fault) => {
                 let frame = fault.frame().unwrap_or(0);
                 write!(f, "file {file} frame {frame}: {fault}")
             }
+            RunFault::Schedule(line, fault) => write!(f, "schedule line {line}: {fault}"),
             RunFault::Step(line, desk, fault) => write!(f, "step line {line} desk {desk}: {fault}"),
             RunFault::Listing(line, fault) => write!(f, "listing line {line}: {fault}"),
+            RunFault::PastEnd(place) => write!(f, "place {place}: PastEnd"),
             RunFault::Device => write!(f, "device"),
             RunFault::ReadFailed(file) => write!(f, "cannot read file {file}"),
             RunFault::Memory => write!(f, "memory"),
@@ -81,14 +130,17 @@ impl fmt::Display for RunFault {
 impl Error for RunFault {}
 
 impl RunFault {
-    /// The number of this fault: 2, 4, 5, 7, 8 or 9.
+    /// The number of this fault, 1 to 9.
     pub fn code(&self) -> u8
         ensures { result ≡ run_code self.now }
     {
         match self {
+            RunFault::Tables(_) => 1,
             RunFault::File(..) => 2,
+            RunFault::Schedule(..) => 3,
             RunFault::Step(..) => 4,
             RunFault::Listing(..) => 5,
+            RunFault::PastEnd(_) => 6,
             RunFault::Device => 7,
             RunFault::ReadFailed(_) => 8,
             RunFault::Memory => 9,
@@ -96,13 +148,15 @@ impl RunFault {
     }
 }
 
-/// The status that the program ends with: 1 for a faulty file or listing or a refused step, 3 for a
-/// device, a file that can't be read, or want of memory.
+/// The status that the program ends with: 1 for a faulty data file, operation file, schedule or
+/// listing, a refused step or a place beyond the text, 3 for a device, a file that can't be read, or want of memory.
 pub fn status(fault: &RunFault) -> u8
     ensures { result ≡ status_of fault.now }
 {
     match fault {
+        RunFault::Tables(_) | RunFault::Schedule(..) => 1,
         RunFault::Listing(..) | RunFault::File(..) | RunFault::Step(..) => 1,
+        RunFault::PastEnd(_) => 1,
         RunFault::Device | RunFault::ReadFailed(_) | RunFault::Memory => 3,
     }
 }

@@ -4,10 +4,14 @@ ghost use Rattle.std.specs.Prelude.{◌≡◌, ◌≢◌, ◌<◌, ◌≤◌, �
 ghost use Rattle.std.specs.List.{prefix_len, position_or_len};
 ghost use Rattle.std.specs.Str.Parse.{AllDigits, digits_value};
 ghost use Rattle.replay_cli.specs.Line.{words, counter_in, site_in, scalar_in, identifier_in, parent_in};
+ghost use Rattle.replay_cli.specs.Schedule.{count_in};
 ghost use Rattle.replay_cli.specs.Field.{TakesWord, identifier_of, parent_place};
 
 /// The most digits of a decimal number, leading zeros included.
 const DECIMAL_DIGITS: usize = 10;
+
+/// The most digits of a number of a desk, a file or an operation, leading zeros included.
+const COUNT_DIGITS: usize = 7;
 
 /// The fewest and the most digits of a character's code, leading zeros included.
 const FEWEST_DIGITS: usize = 4;
@@ -38,6 +42,20 @@ pub fn one_word(line: &[u8]) -> Option<&[u8]>
         return None;
     }
     Some(word)
+}
+
+/// The words of a line that has two.
+pub fn two_words(line: &[u8]) -> Option<(&[u8], &[u8])>
+    ensures { MatchOption result (length (words line.now) ≢ 2)
+        (λ found. words line.now ≡ found.0.now ∷ found.1.now ∷ []) }
+{
+    let (first, rest) = next_word(line);
+    let (second, rest) = next_word(rest);
+    let (more, _) = next_word(rest);
+    if second.is_empty() || !more.is_empty() {
+        return None;
+    }
+    Some((first, second))
 }
 
 /// The words of a line that has three.
@@ -111,6 +129,16 @@ pub fn read_scalar(word: &[u8]) -> Option<u32>
         return None;
     }
     read_number(word, 16)
+}
+
+/// The number of a desk, a file or an operation that a word writes.
+pub fn read_count(word: &[u8]) -> Option<usize>
+    ensures { result ≡ count_in word.now }
+{
+    if word.is_empty() || word.len() > COUNT_DIGITS {
+        return None;
+    }
+    Some(read_number(word, 10)? as usize)
 }
 
 fn read_site(word: &[u8]) -> Option<u16>

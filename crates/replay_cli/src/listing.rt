@@ -52,7 +52,7 @@ pub fn read_listing(alloc: Global, listing: &[u8]) -> Result<Vec<Op>, RunFault>
 }
 
 /// The first line, without the LF or CR LF that ends it, and what follows.
-fn split_line(text: &[u8]) -> (&[u8], &[u8])
+pub fn split_line(text: &[u8]) -> (&[u8], &[u8])
     requires { 0 < length text.now }
     ensures lines { lines text.now ≡ result.0.now ∷ lines result.1.now }
     ensures shorter { length result.1.now < length text.now }

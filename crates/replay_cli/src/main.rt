@@ -11,20 +11,25 @@ mod key;
 pub mod laws;
 mod line;
 mod listing;
+mod replaying;
 mod report;
 mod request;
+mod schedule;
+mod walk;
 mod words;
 
-use bg_types::Out;
+use bg_types::{Base, Out};
 pub use convert::{dump, pack};
 pub use desk_replica::TakeFault;
 pub use engine::text;
-pub use fault::{LineFault, RunFault, status};
-use files::Unread;
+pub use fault::{LineFault, RunFault, ScheduleFault, status};
+use files::{Unread, UnreadData};
+pub use replaying::{Ucd, replay};
 pub use report::report;
-pub use request::{Job, Stop};
+pub use request::{Job, Replay, Stop, Walk};
 use std::io::{self, BufWriter, Write};
 use std::process::ExitCode;
+pub use walk::{Move, carets};
 pub use words::job;
 
 fn main(rt: HostRuntime) -> ExitCode {
@@ -34,6 +39,8 @@ fn main(rt: HostRuntime) -> ExitCode {
     };
     match job(rt.alloc(), words.as_slice()) {
         Ok(Job::Text { files }) => run_text(&rt, files.as_slice()),
+        Ok(Job::Replay(job)) => run_replay(&rt, &job),
+        Ok(Job::Caret(job)) => run_caret(&rt, &job),
         Ok(Job::Dump { file }) => run_dump(&rt, file),
         Ok(Job::Pack { listing }) => run_pack(&rt, listing),
         Err(stop) => end(&rt, &stop),
@@ -53,6 +60,68 @@ fn run_text(rt: &HostRuntime, paths: &[&str]) -> ExitCode {
         rt.alloc(),
         key,
         files.as_slice(),
+        &mut Out::new(&mut buffered),
+    );
+    finish(rt, done, &mut buffered)
+}
+
+fn run_replay(rt: &HostRuntime, job: &Replay) -> ExitCode {
+    let data = match files::read_data(rt, job.folder) {
+        Ok(data) => data,
+        Err(UnreadData { fault, path }) => return refuse(rt, &fault, path.as_str()),
+    };
+    let files = match files::read_all(rt, job.files.as_slice()) {
+        Ok(files) => files,
+        Err(Unread { fault, path }) => return refuse(rt, &fault, path),
+    };
+    let schedule = match job.schedule {
+        Some(path) => match files::read(rt, path) {
+            Ok(bytes) => Some(bytes),
+            Err(fault) => return refuse(rt, &fault, path),
+        },
+        None => None,
+    };
+    let Ok(mut buffered) = BufWriter::new(rt.alloc(), io::writer(rt)) else {
+        return refuse(rt, &RunFault::Memory, "");
+    };
+    // The command line has 1 to 64 files.
+    if files.is_empty() || files.len() > 64 {
+        return ExitCode::from(2);
+    }
+    let done = replay(
+        rt.alloc(),
+        key::draw_key(rt),
+        &data.ucd(),
+        job.width,
+        Base::Auto,
+        files.as_slice(),
+        schedule.as_deref(),
+        &mut Out::new(&mut buffered),
+    );
+    finish(rt, done, &mut buffered)
+}
+
+fn run_caret(rt: &HostRuntime, job: &Walk) -> ExitCode {
+    let data = match files::read_data(rt, job.folder) {
+        Ok(data) => data,
+        Err(UnreadData { fault, path }) => return refuse(rt, &fault, path.as_str()),
+    };
+    let files = match files::read_all(rt, job.files.as_slice()) {
+        Ok(files) => files,
+        Err(Unread { fault, path }) => return refuse(rt, &fault, path),
+    };
+    let Ok(mut buffered) = BufWriter::new(rt.alloc(), io::writer(rt)) else {
+        return refuse(rt, &RunFault::Memory, "");
+    };
+    let done = carets(
+        rt.alloc(),
+        key::draw_key(rt),
+        &data.ucd(),
+        job.width,
+        Base::Auto,
+        files.as_slice(),
+        job.place,
+        job.moves.as_slice(),
         &mut Out::new(&mut buffered),
     );
     finish(rt, done, &mut buffered)

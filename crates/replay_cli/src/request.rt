@@ -1,5 +1,8 @@
 //! What a command line asks for.
 
+ghost use Rattle.std.specs.Prelude.{◌≤◌};
+
+use crate::walk::Move;
 use std::alloc::{AllocError, AllocFailed};
 
 /// The work to be done.
@@ -7,10 +10,43 @@ use std::alloc::{AllocError, AllocFailed};
 pub enum Job<'a> {
     /// Write the text of the operations of these files.
     Text { files: Vec<&'a str> },
+    /// Draw the texts of desks.
+    Replay(Replay<'a>),
+    /// Tell where a caret comes to.
+    Caret(Walk<'a>),
     /// Write the listing of this file.
     Dump { file: &'a str },
     /// Write the file of this listing.
     Pack { listing: &'a str },
+}
+
+/// Desks, one for each file, that are to be drawn.
+#[derive(Debug, Drop)]
+pub struct Replay<'a> {
+    /// The folder of the five data files.
+    pub folder: &'a str,
+    /// The width of a row in columns.
+    pub width: u16,
+    /// The schedule, if there is one.
+    pub schedule: Option<&'a str>,
+    pub files: Vec<&'a str>,
+    ghost at_least: { 2 ≤ width },
+    ghost at_most: { width ≤ 500 },
+}
+
+/// A walk of a caret over a text that is drawn.
+#[derive(Debug, Drop)]
+pub struct Walk<'a> {
+    /// The folder of the five data files.
+    pub folder: &'a str,
+    /// The width of a row in columns.
+    pub width: u16,
+    /// Where the walk begins, in code points of the text.
+    pub place: u32,
+    pub moves: Vec<Move>,
+    pub files: Vec<&'a str>,
+    ghost at_least: { 2 ≤ width },
+    ghost at_most: { width ≤ 500 },
 }
 
 /// Why there is no work to do.

@@ -5,6 +5,7 @@ use bg_types::Stops;
 use op_codec::{Cause, CodecFault};
 use std::alloc::Global;
 use std::test::Fail;
+use ucd_files::{UcdFault, UcdFile};
 
 /// A command line as the program gets it.
 fn line(alloc: Global, words: &[&str]) -> Result<Vec<String>, Fail> {
@@ -29,6 +30,8 @@ fn text_takes_files_in_order(rt: HostRuntime) -> Result<(), Fail> {
 fn outcome(alloc: Global, words: &[String]) -> Result<usize, &'static str> {
     match job(alloc, words) {
         Ok(Job::Text { files }) => Ok(files.len()),
+        Ok(Job::Replay(job)) => Ok(job.files.len()),
+        Ok(Job::Caret(job)) => Ok(job.files.len()),
         Ok(Job::Dump { .. } | Job::Pack { .. }) => Err("another job"),
         Err(stop) => match stop {
             Stop::Help(_text) => Err("help"),
@@ -82,6 +85,109 @@ fn wrong_words_are_a_usage_fault_and_help_is_none(rt: HostRuntime) -> Result<(),
 }
 
 #[test]
+fn caret_takes_a_place_and_moves(rt: HostRuntime) -> Result<(), Fail> {
+    let rows: [(&str, &[Move]); 2] = [
+        ("", &[]),
+        ("lrud", &[Move::Left, Move::Right, Move::Up, Move::Down]),
+    ];
+    for (letters, moves) in rows {
+        let words = line(
+            rt.alloc(),
+            &[
+                "bidigrid", "caret", "--ucd", "dir", "--width", "8", "--at", "3", "--moves",
+                letters, "a",
+            ],
+        )?;
+        let Ok(Job::Caret(job)) = job(rt.alloc(), words.as_slice()) else {
+            return Err(Fail::from("no caret"));
+        };
+        assert_eq!(rt; (job.folder, job.width, job.place), ("dir", 8, 3));
+        assert_eq!(rt; job.moves.as_slice(), moves);
+        assert_eq!(rt; job.files.as_slice(), ["a"].as_slice());
+    }
+    let rows: [(&str, &str, &str); 4] = [
+        ("1", "0", "l"),
+        ("8", "x", "l"),
+        ("8", "4294967296", "l"),
+        ("8", "0", "lx"),
+    ];
+    for (width, place, letters) in rows {
+        let words = line(
+            rt.alloc(),
+            &[
+                "bidigrid", "caret", "--ucd", "d", "--width", width, "--at", place, "--moves",
+                letters, "a",
+            ],
+        )?;
+        let got = outcome(rt.alloc(), words.as_slice());
+        assert_eq!(rt; got, Err("usage"), "{width} {place} {letters}");
+    }
+    Ok(())
+}
+
+#[test]
+fn replay_takes_a_folder_a_width_and_a_schedule(rt: HostRuntime) -> Result<(), Fail> {
+    let rows: [(&str, &str, bool); 2] = [("2", "s", true), ("500", "", false)];
+    for (width, schedule, has) in rows {
+        let mut words = line(
+            rt.alloc(),
+            &["bidigrid", "replay", "--ucd", "dir", "--width"],
+        )?;
+        words.push(String::from_str(rt.alloc(), width)?)?;
+        if has {
+            words.push(String::from_str(rt.alloc(), "--schedule")?)?;
+            words.push(String::from_str(rt.alloc(), schedule)?)?;
+        }
+        words.push(String::from_str(rt.alloc(), "a")?)?;
+        words.push(String::from_str(rt.alloc(), "b")?)?;
+        let Ok(Job::Replay(job)) = job(rt.alloc(), words.as_slice()) else {
+            return Err(Fail::from("no replay"));
+        };
+        assert_eq!(rt; job.folder, "dir");
+        assert_eq!(rt; job.schedule.is_some(), has);
+        assert_eq!(rt; job.schedule.unwrap_or(""), schedule);
+        assert_eq!(rt; job.files.as_slice(), ["a", "b"].as_slice());
+    }
+    let rows: [(&[&str], &str); 9] = [
+        (&["--ucd", "d", "--width", "1", "a"], "usage"),
+        (&["--ucd", "d", "--width", "501", "a"], "usage"),
+        (&["--ucd", "d", "--width", "65536", "a"], "usage"),
+        (&["--ucd", "d", "--width", "x", "a"], "usage"),
+        (&["--ucd", "d", "a"], "usage"),
+        (&["--width", "4", "a"], "usage"),
+        (&["--ucd", "d", "--width", "4"], "usage"),
+        (&["--ucd", "d", "--width", "4", "--schedule"], "usage"),
+        (&["--help"], "help"),
+    ];
+    for (more, wanted) in rows {
+        let mut words = line(rt.alloc(), &["bidigrid", "replay"])?;
+        for word in more {
+            words.push(String::from_str(rt.alloc(), word)?)?;
+        }
+        let got = outcome(rt.alloc(), words.as_slice());
+        assert_eq!(rt; got, Err(wanted), "{more:?}");
+    }
+    Ok(())
+}
+
+#[test]
+fn faults_of_schedules_have_numbers_and_names(rt: HostRuntime) -> Result<(), Fail> {
+    let rows = [
+        (ScheduleFault::UnknownStep, 1, "UnknownStep"),
+        (ScheduleFault::WrongWords, 2, "WrongWords"),
+        (ScheduleFault::BadNumber, 3, "BadNumber"),
+        (ScheduleFault::NoSuchDesk, 4, "NoSuchDesk"),
+        (ScheduleFault::NoSuchFile, 5, "NoSuchFile"),
+        (ScheduleFault::NoSuchOperation, 6, "NoSuchOperation"),
+    ];
+    for (fault, code, name) in rows {
+        assert_eq!(rt; fault.code(), code);
+        assert_eq!(rt; format!(in rt.alloc(); "{fault}")?.as_str(), name);
+    }
+    Ok(())
+}
+
+#[test]
 fn dump_and_pack_take_one_file(rt: HostRuntime) -> Result<(), Fail> {
     let words = line(rt.alloc(), &["bidigrid", "dump", "a"])?;
     let Ok(Job::Dump { file }) = job(rt.alloc(), words.as_slice()) else {
@@ -105,7 +211,7 @@ fn dump_and_pack_take_one_file(rt: HostRuntime) -> Result<(), Fail> {
 }
 
 /// The faults with their lines, statuses and numbers.
-fn rows() -> [(RunFault, &'static str, u8, u8); 8] {
+fn rows() -> [(RunFault, &'static str, u8, u8); 10] {
     let truncated = CodecFault::Malformed {
         frame: 12,
         cause: Cause::Truncated,
@@ -114,7 +220,24 @@ fn rows() -> [(RunFault, &'static str, u8, u8); 8] {
         frame: 0,
         cause: Cause::BadMagic,
     };
+    let table = UcdFault::At {
+        file: UcdFile::Lb,
+        line: 17,
+        cause: ucd_files::Cause::UnknownValue,
+    };
     [
+        (
+            RunFault::Tables(table),
+            "bidigrid: ucd lb line 17: UnknownValue\n",
+            1,
+            1,
+        ),
+        (
+            RunFault::Schedule(5, ScheduleFault::NoSuchDesk),
+            "bidigrid: schedule line 5: NoSuchDesk\n",
+            1,
+            3,
+        ),
         (
             RunFault::File(3, truncated),
             "bidigrid: file 3 frame 12: Truncated\n",

@@ -1,8 +1,11 @@
 //! The command line, read by `clap`.
 
-use crate::request::{Job, Stop};
+ghost use Rattle.std.specs.Prelude.{◌≤◌, IfOk};
+
+use crate::request::{Job, Replay, Stop, Walk};
+use crate::walk::Move;
 use clap::error::ErrorKind;
-use clap::{Arg, ArgAction, Command, Error};
+use clap::{Arg, ArgAction, ArgMatches, Command, Error, value_parser};
 use std::alloc::{AllocError, Global};
 use std::io;
 use std::rt::Env;
@@ -21,6 +24,47 @@ const TEXT_LONG_ABOUT: &str =
 
 const TEXT_EXAMPLE: &str =
     "Example:\n  bidigrid text examples/hello/hebrew.bgop examples/hello/english.bgop";
+
+const REPLAY_ABOUT: &str = "Draws the texts of desks that take and merge operations";
+
+const REPLAY_LONG_ABOUT: &str =
+    "Draws the texts of desks on a character grid, to standard output.\n\n\
+    There are as many desks as files. A schedule says what they do, a line a step; desks, files and\n\
+    the operations of a file are counted from 1:\n\n  \
+    take D F N  desk D takes operation number N of file F\n  \
+    merge D E   desk D takes all that desk E holds\n  \
+    show D      the text of desk D is drawn\n\n\
+    Empty lines and lines that begin with # are skipped. Without a schedule each desk takes all\n\
+    files, and then each is drawn. Desks that hold the same operations are drawn the same.\n\n\
+    DIR holds DerivedBidiClass.txt, BidiBrackets.txt, BidiMirroring.txt, LineBreak.txt and\n\
+    EastAsianWidth.txt of Unicode. Where they, a file or the schedule are faulty, nothing is\n\
+    written. A step that can't be taken ends the run after the texts drawn before it.";
+
+const REPLAY_EXAMPLE: &str = "Example:\n  bidigrid replay --ucd examples/ucd-small --width 24 \
+    --schedule examples/three/schedule \\\n    examples/three/english.bgop \
+    examples/three/hebrew.bgop examples/three/arabic.bgop";
+
+const CARET_ABOUT: &str = "Tells where a caret comes to in a drawn text";
+
+const CARET_LONG_ABOUT: &str =
+    "Draws the text that the operations of the files make, as replay does, and writes where a caret\n\
+    stands at a place of it and after each move, a line `row gap place` each, to standard output.\n\n\
+    Rows and gaps are counted from 0, places in code points of the text. Gap g stands left of the\n\
+    row's entry number g. A move is a letter: l left, r right, u up, d down. Left and right go as\n\
+    the eye sees it, whichever way the text is read there.";
+
+const CARET_EXAMPLE: &str = "Example:\n  bidigrid caret --ucd examples/ucd-small --width 24 --at 7 \
+    --moves llr \\\n    examples/hello/english.bgop examples/hello/hebrew.bgop";
+
+const AT_HELP: &str = "The place where the caret begins, in code points of the text";
+
+const MOVES_HELP: &str = "The moves, a letter each: l, r, u or d";
+
+const UCD_HELP: &str = "The folder of the five data files";
+
+const WIDTH_HELP: &str = "The width of a row, 2 to 500 columns";
+
+const SCHEDULE_HELP: &str = "What the desks do, a line a step";
 
 const DUMP_ABOUT: &str = "Writes an operation file as a listing";
 
@@ -76,6 +120,8 @@ pub fn job<'a>(alloc: Global, words: &'a [String]) -> Result<Job<'a>, Stop> {
                 return Ok(Job::Pack { listing });
             }
         }
+        Some(("replay", replay)) => return replay_job(alloc, replay),
+        Some(("caret", caret)) => return caret_job(alloc, caret),
         Some(("text", text)) => {
             if let Some(paths) = text.get_strs("FILE") {
                 files.extend_from_slice(paths)?;
@@ -86,27 +132,160 @@ pub fn job<'a>(alloc: Global, words: &'a [String]) -> Result<Job<'a>, Stop> {
     Ok(Job::Text { files })
 }
 
+fn replay_job<'a>(alloc: Global, replay: &ArgMatches<'a>) -> Result<Job<'a>, Stop> {
+    let width = width(alloc, replay)?;
+    let mut files = Vec::new(alloc);
+    if let Some(paths) = replay.get_strs("FILE") {
+        files.extend_from_slice(paths)?;
+    }
+    Ok(Job::Replay(Replay {
+        folder: replay.get_str("UCD").unwrap_or(""),
+        width,
+        schedule: replay.get_str("SCHEDULE"),
+        files,
+    }))
+}
+
+fn caret_job<'a>(alloc: Global, caret: &ArgMatches<'a>) -> Result<Job<'a>, Stop> {
+    let width = width(alloc, caret)?;
+    let moves = moves(alloc, caret.get_str("MOVES").unwrap_or(""))?;
+    let mut files = Vec::new(alloc);
+    if let Some(paths) = caret.get_strs("FILE") {
+        files.extend_from_slice(paths)?;
+    }
+    Ok(Job::Caret(Walk {
+        folder: caret.get_str("UCD").unwrap_or(""),
+        width,
+        place: caret.get_one::<u32>("AT").unwrap_or(0),
+        moves,
+        files,
+    }))
+}
+
+/// The width is one that the grid has.
+fn width(alloc: Global, matches: &ArgMatches) -> Result<u16, Stop>
+    ensures at_least { IfOk result (λ width. 2 ≤ width) }
+    ensures at_most { IfOk result (λ width. width ≤ 500) }
+{
+    let width = matches.get_one::<u16>("WIDTH").unwrap_or(0);
+    if width < 2 || width > 500 {
+        return Err(Stop::Usage(format!(in alloc;
+            "error: invalid value '{width}' for '--width <N>': {width} is not in 2..=500\n"
+        )?));
+    }
+    Ok(width)
+}
+
+/// The moves that letters write.
+fn moves(alloc: Global, letters: &str) -> Result<Vec<Move>, Stop> {
+    let mut moves = Vec::new(alloc);
+    for letter in letters.chars() {
+        let Some(step) = step(letter) else {
+            return Err(Stop::Usage(format!(in alloc;
+                "error: invalid value '{letters}' for '--moves <M>': '{letter}' is none of l, r, u, d\n"
+            )?));
+        };
+        moves.push(step)?;
+    }
+    Ok(moves)
+}
+
+fn step(letter: char) -> Option<Move> {
+    match letter {
+        'l' => Some(Move::Left),
+        'r' => Some(Move::Right),
+        'u' => Some(Move::Up),
+        'd' => Some(Move::Down),
+        _ => None,
+    }
+}
+
 fn command<'a>(alloc: Global) -> Result<Command<'a>, AllocError> {
     Command::new(alloc, "bidigrid")
         .bin_name("bidigrid")?
         .about(ABOUT)
         .subcommand_required(true)
         .subcommand(text_command(alloc)?)?
+        .subcommand(replay_command(alloc)?)?
+        .subcommand(caret_command(alloc)?)?
         .subcommand(dump_command(alloc)?)?
         .subcommand(pack_command(alloc)?)
 }
 
 fn text_command<'a>(alloc: Global) -> Result<Command<'a>, AllocError> {
-    let files = Arg::new(alloc, "FILE")
-        .help(FILE_HELP)
-        .required(true)
-        .num_args(1..=64)
-        .action(ArgAction::Append);
     Command::new(alloc, "text")
         .about(TEXT_ABOUT)
         .long_about(TEXT_LONG_ABOUT)
         .after_help(TEXT_EXAMPLE)
-        .arg(files)
+        .arg(files_arg(alloc))
+}
+
+fn ucd_arg<'a>(alloc: Global) -> Arg<'a> {
+    Arg::new(alloc, "UCD")
+        .long("ucd")
+        .value_name("DIR")
+        .help(UCD_HELP)
+        .required(true)
+        .action(ArgAction::Set)
+}
+
+fn width_arg<'a>(alloc: Global) -> Arg<'a> {
+    Arg::new(alloc, "WIDTH")
+        .long("width")
+        .value_name("N")
+        .help(WIDTH_HELP)
+        .required(true)
+        .value_parser(value_parser!(u16))
+        .action(ArgAction::Set)
+}
+
+fn files_arg<'a>(alloc: Global) -> Arg<'a> {
+    Arg::new(alloc, "FILE")
+        .help(FILE_HELP)
+        .required(true)
+        .num_args(1..=64)
+        .action(ArgAction::Append)
+}
+
+fn caret_command<'a>(alloc: Global) -> Result<Command<'a>, AllocError> {
+    let at = Arg::new(alloc, "AT")
+        .long("at")
+        .value_name("P")
+        .help(AT_HELP)
+        .required(true)
+        .value_parser(value_parser!(u32))
+        .action(ArgAction::Set);
+    let moves = Arg::new(alloc, "MOVES")
+        .long("moves")
+        .value_name("M")
+        .help(MOVES_HELP)
+        .required(true)
+        .action(ArgAction::Set);
+    Command::new(alloc, "caret")
+        .about(CARET_ABOUT)
+        .long_about(CARET_LONG_ABOUT)
+        .after_help(CARET_EXAMPLE)
+        .arg(ucd_arg(alloc))?
+        .arg(width_arg(alloc))?
+        .arg(at)?
+        .arg(moves)?
+        .arg(files_arg(alloc))
+}
+
+fn replay_command<'a>(alloc: Global) -> Result<Command<'a>, AllocError> {
+    let schedule = Arg::new(alloc, "SCHEDULE")
+        .long("schedule")
+        .value_name("FILE")
+        .help(SCHEDULE_HELP)
+        .action(ArgAction::Set);
+    Command::new(alloc, "replay")
+        .about(REPLAY_ABOUT)
+        .long_about(REPLAY_LONG_ABOUT)
+        .after_help(REPLAY_EXAMPLE)
+        .arg(ucd_arg(alloc))?
+        .arg(width_arg(alloc))?
+        .arg(schedule)?
+        .arg(files_arg(alloc))
 }
 
 fn dump_command<'a>(alloc: Global) -> Result<Command<'a>, AllocError> {

@@ -1,12 +1,12 @@
 use Rattle.std.proofs.Common.{◌≡◌, ◌+◌, ◌++◌, ap, sym, subst, ◌∙◌, rules, take, length, arith, List, [], ◌∷◌}
-use Rattle.std.specs.Prelude.{false, map as each}
+use Rattle.std.specs.Prelude.{map as each}
 use Rattle.std.specs.List.{AllZip}
 use Rattle.std.proofs.lemmas.List.{map-append, length-map}
 use Rattle.bg_types.specs.declared.op.OpView.{OpView}
 use Rattle.op_codec.specs.Spelling.{Spells}
 use Rattle.op_codec.specs.Fault.{TellsFault}
 use Rattle.replay_cli.specs.Files.{bytes_of}
-use Rattle.replay_cli.specs.Cause.{IsCaused}
+use Rattle.replay_cli.specs.Cause.{IsReadCaused}
 use Rattle.replay_cli.proofs.Spelled.{spelled-next, faulty-next}
 use Rattle.replay_cli.proofs.engine.decode_all.Goals as goal
 
@@ -16,7 +16,7 @@ returns-in-Err-clause-fault c =
     let count : length lists ≡ length c.loop-file.all.items = length-map c.loop-file.all.items (λ ops. ops.items) in
     let len : c.len-number.result ≡ length c.loop-file.all.items = search rules in
     let told : TellsFault c.file-item.result.items c.in-Err.fault = subst (λ bytes. TellsFault bytes c.in-Err.fault) c.deref.ensures.value c.in-Err.ensures.fault in
-    subst (IsCaused (bytes_of c.args.files.now) false) (sym c.file_fault.ensures)
+    subst (IsReadCaused (bytes_of c.args.files.now)) (sym c.file_fault.ensures)
     (faulty-next c.args.files.now c.loop-file.file-index (c.len-number.result + 1) c.file-item.result lists c.in-Err.fault c.loop-file-test.true c.file-item.is c.loop-file.invariant.spelled (omega arith) told)
 
 pub loop-file-preserved : goal.loop-file-preserved

@@ -15,7 +15,8 @@ use Rattle.replay_cli.specs.Cause.{IsCaused}
 use Rattle.desk_replica.specs.Desk.{Desk}
 use Rattle.replay_cli.proofs.Spelled.{joined-next}
 use Rattle.replay_cli.proofs.Taking.{IsSetOf-nil, nothing-limited}
-use Rattle.replay_cli.proofs.Answered.{IsCaused-refused}
+use Rattle.replay_cli.proofs.Answered.{IsCaused-refused, read_caused}
+use Rattle.replay_cli.proofs.Running.{err_handed}
 use Rattle.replay_cli.proofs.engine.desk_of.Goals as goal
 
 pub loop-ops-init : goal.loop-ops-init
@@ -50,3 +51,7 @@ returns-clause-ok c =
       spelled = c.in_ok-all.ensures.ok;
       of_all = subst (λ l. IsSetOf (joined (each (λ ops. ops.items) l)) c.loop-ops.desk.set) whole c.loop-ops.invariant.taken;
     }
+
+pub returns-in_err-all-clause-fault : goal.returns-in_err-all-clause-fault
+returns-in_err-all-clause-fault c =
+    err_handed (IsCaused (bytes_of c.args.files.now) false) c.from_residual.result c.in_err-all.field-0.0 c.from_residual.ensures.1 (read_caused (bytes_of c.args.files.now) c.in_err-all.field-0.0 c.in_err-all.ensures.fault)

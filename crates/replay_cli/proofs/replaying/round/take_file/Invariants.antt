@@ -1,0 +1,16 @@
+use Rattle.std.proofs.Common.{◌≡◌, ◌-◌, ◌∷◌, [], length, false}
+use Rattle.std.specs.List.{flat_map, range_with_len}
+use Rattle.replay_cli.specs.declared.schedule.step.Step.TheVariants.{Take, Show}
+use Rattle.replay_cli.specs.Files.{lists_of}
+use Rattle.replay_cli.specs.Desks.{sets_of}
+use Rattle.replay_cli.specs.Round.{unnumbered, file_takes, files_takes, turn, nth_turn}
+use Rattle.replay_cli.specs.Printed.{printed}
+use Rattle.replay_cli.specs.Shows.{Ran}
+use Rattle.replay_cli.proofs.replaying.round.take_file.Given as goal
+
+abbrev pub invariant-loop-op : goal.invariant-loop-op
+invariant-loop-op g l = record {
+  ran : Ran (printed l.setting.tables.now l.setting.width l.setting.base) (lists_of l.setting.files.now) (sets_of l.fn.desks) (flat_map (λ op. unnumbered (Take l.desk l.file op) ∷ []) (range_with_len 1 (l.op - 1)))
+      (sets_of l.desks) (g.S.Sink.written l.fn.out) (g.S.Sink.written l.out);
+  working : g.S.Sink.has_failed l.out ≡ false;
+}
