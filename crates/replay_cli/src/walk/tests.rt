@@ -52,10 +52,10 @@ fn run(
     width: u16,
     place: u32,
     moves: &[Move],
-) -> Result<(Result<(), RunFault>, Vec<u8>), Fail>
-    requires narrow { 2 ≤ width }
-    requires wide { width ≤ 500 }
-{
+) -> Result<(Result<(), RunFault>, Vec<u8>), Fail> {
+    if width < 2 || width > 500 {
+        return Err(Fail::from("no width of a grid"));
+    }
     let files = vec![in alloc; file]?;
     let mut bytes = Vec::new(alloc);
     let answer = carets(
