@@ -211,7 +211,7 @@ fn dump_and_pack_take_one_file(rt: HostRuntime) -> Result<(), Fail> {
 }
 
 /// The faults with their lines, statuses and numbers.
-fn rows() -> [(RunFault, &'static str, u8, u8); 10] {
+fn rows() -> [(RunFault, &'static str, u8, u8); 11] {
     let truncated = CodecFault::Malformed {
         frame: 12,
         cause: Cause::Truncated,
@@ -226,6 +226,7 @@ fn rows() -> [(RunFault, &'static str, u8, u8); 10] {
         cause: ucd_files::Cause::UnknownValue,
     };
     [
+        (RunFault::PastEnd(3), "bidigrid: place 3: PastEnd\n", 1, 6),
         (
             RunFault::Tables(table),
             "bidigrid: ucd lb line 17: UnknownValue\n",
