@@ -3,3 +3,4 @@ pub mod Cutting
 pub mod Pieces
 pub mod ClusterPlaces
 pub mod Splitting
+pub mod Following

@@ -1,10 +1,12 @@
 //! Laws of the definitions: the contract is the law, and the body is empty.
 
-ghost use Rattle.std.specs.Prelude.{◌≡◌, ℕ, ◌<◌, ◌≤◌, List, length, slice_index, sum, take};
+ghost use Rattle.std.specs.Prelude.{◌≡◌, ℕ, ◌<◌, ◌≤◌, List, length, map, slice_index, sum, take};
 ghost use Rattle.std.specs.List.{All, concat};
 ghost use Rattle.std.specs.Str.{IsUtf8};
+ghost use Rattle.ucd_files.specs.Tables.{TableValues};
 ghost use Rattle.paragraphs.specs.Text.{code_points};
-ghost use Rattle.paragraphs.specs.Clusters.{cluster_code_points, cluster_sizes, cluster_boundaries};
+ghost use Rattle.paragraphs.specs.Clusters.{clusters, cluster_code_points, cluster_sizes, cluster_boundaries};
+ghost use Rattle.paragraphs.specs.Paragraphs.{paragraphs, ParagraphsFollow, StandsIn};
 
 /// The clusters of a text take up its code points, each at least one, and the boundary before a
 /// cluster stands behind the code points of all earlier ones.
@@ -14,4 +16,21 @@ pub fn cluster_places()
     ensures some { (text : List ℕ) → IsUtf8 text → All (λ size. 0 < size) (cluster_sizes text) }
     ensures boundary { (text : List ℕ) (k : ℕ) → k ≤ length (cluster_sizes text)
         → slice_index (cluster_boundaries text) k ≡ sum (take k (cluster_sizes text)) }
+{}
+
+/// The clusters of a text are text themselves, none of them empty, and join to it.
+pub fn clusters_join()
+    ensures joined { (text : List ℕ) → IsUtf8 text → concat (clusters text) ≡ text }
+    ensures utf8 { (text : List ℕ) → IsUtf8 text → All IsUtf8 (clusters text) }
+    ensures some { (text : List ℕ) → All (λ cluster. 0 < length cluster) (clusters text) }
+{}
+
+/// A text has a paragraph. Its paragraphs join to it, are slices of it between characters, and
+/// stand one behind the other from its start.
+pub fn paragraphs_join()
+    ensures joined { (tables : TableValues) (text : List ℕ) → IsUtf8 text
+        → concat (map (λ p. p.text) (paragraphs tables text)) ≡ text }
+    ensures some { (tables : TableValues) (text : List ℕ) → 0 < length (paragraphs tables text) }
+    ensures slices { (tables : TableValues) (text : List ℕ) → IsUtf8 text → All (StandsIn text) (paragraphs tables text) }
+    ensures follow { (tables : TableValues) (text : List ℕ) → IsUtf8 text → ParagraphsFollow 0 0 (paragraphs tables text) }
 {}

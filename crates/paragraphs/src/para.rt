@@ -2,6 +2,7 @@
 
 ghost use Rattle.std.specs.Prelude.{◌≡◌, ◌<◌, length};
 ghost use Rattle.std.specs.List.{All, concat};
+ghost use Rattle.std.specs.Str.{IsUtf8};
 ghost use Rattle.paragraphs.specs.Clusters.{clusters};
 
 use crate::cluster::Clusters;
@@ -64,6 +65,7 @@ impl<'a> Para<'a> {
     pub fn clusters(&self) -> Clusters<'a>
         ensures clusters { result ≡ clusters self.now.text }
         ensures joined { concat result ≡ self.now.text }
+    ensures utf8 { All IsUtf8 result }
         ensures some { All (λ cluster. 0 < length cluster) result }
     {
         Clusters::of(self.text())

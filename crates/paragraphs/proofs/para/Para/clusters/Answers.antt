@@ -2,7 +2,8 @@
 use Rattle.std.proofs.Common.{◌<◌, length, ap, ◌∙◌}
 use Rattle.std.proofs.lemmas.List.Elements.{All-same}
 use Rattle.std.specs.List.{concat}
-use Rattle.paragraphs.proofs.ClusterPlaces.{concat-clusters, some-clusters}
+use Rattle.std.specs.Str.{IsUtf8}
+use Rattle.paragraphs.proofs.ClusterPlaces.{clusters-utf8, concat-clusters, some-clusters}
 use Rattle.paragraphs.proofs.para.Para.clusters.Goals as goal
 
 pub returns-clause-joined : goal.returns-clause-joined
@@ -10,3 +11,6 @@ returns-clause-joined c = ap concat c.of.ensures ∙ concat-clusters c.text.resu
 
 pub returns-clause-some : goal.returns-clause-some
 returns-clause-some c = All-same (λ cluster. 0 < length cluster) _ _ c.of.ensures (some-clusters c.text.result.now)
+
+pub returns-clause-utf8 : goal.returns-clause-utf8
+returns-clause-utf8 c = All-same IsUtf8 _ _ c.of.ensures (clusters-utf8 c.text.result.now c.text.utf8)
