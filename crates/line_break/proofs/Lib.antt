@@ -9,3 +9,4 @@ pub mod Breaking
 pub mod Joining
 pub mod Measuring
 pub mod Following
+pub mod Fitting

@@ -7,9 +7,8 @@ use Rattle.std.specs.List.{All, concat, list_all, list_any}
 use Rattle.std.specs.Str.{IsUtf8}
 use Rattle.ucd_files.specs.Tables.{TableValues}
 use Rattle.paragraphs.specs.Text.{code_points}
-use Rattle.paragraphs.specs.Clusters.{clusters, cluster_code_points}
+use Rattle.paragraphs.specs.Clusters.{clusters, cluster_code_points, cluster_sizes}
 use Rattle.paragraphs.specs.Columns.{begins_with_end, is_invisible, takes_two, columns_of}
-use Rattle.paragraphs.proofs.ClusterPlaces.{clusters-utf8, concat-clusters, sum-cluster_sizes, some-clusters, some-cluster_sizes}
 use Rattle.line_break.specs.declared.cluster.Cluster.{Cluster}
 use Rattle.line_break.specs.declared.item.Item.{Item}
 use Rattle.line_break.specs.declared.status.Break.{Break}
@@ -39,13 +38,14 @@ pub record IsMeasuredTo (tables : TableValues) (text : List ℕ) (left : List (L
   pub so_far : done ++ measured_all tables (map code_points left) (drop place (breaks tables text)) ≡ line_clusters tables text
 
 module _ (tables : TableValues) (text : List ℕ) where
-  pub IsMeasuredTo-start : (left : List (List ℕ)) (done : List Cluster) → IsUtf8 text → left ≡ clusters text → done ≡ [] → IsMeasuredTo tables text left done 0
+  pub IsMeasuredTo-start : (left : List (List ℕ)) (done : List Cluster) → left ≡ clusters text → All IsUtf8 left → All (λ size. 0 < size) (cluster_sizes text)
+      → sum (cluster_sizes text) ≡ length (code_points text) → done ≡ [] → IsMeasuredTo tables text left done 0
   unfolding line_clusters
-  IsMeasuredTo-start left done u all none =
+  IsMeasuredTo-start left done all u some whole none =
       let start : IsMeasuredTo tables text (clusters text) [] 0 = record {
-        utf8 = clusters-utf8 text u;
-        some = some-cluster_sizes text u;
-        places = let a = sum-cluster_sizes text u in let b = length-breaks tables text in omega arith;
+        utf8 = subst (All IsUtf8) all u;
+        some = some;
+        places = let b = length-breaks tables text in omega arith;
         so_far = refl;
       } in
       subst (λ (l : List (List ℕ)). IsMeasuredTo tables text l done 0) (sym all)
@@ -58,10 +58,9 @@ module _ (tables : TableValues) (text : List ℕ) where
       let both = length-append c (concat left) in omega arith)
 
   -- an empty text has no clusters
-  pub line_clusters-nil : IsUtf8 text → length text ≡ 0 → [] ≡ line_clusters tables text
+  pub line_clusters-nil : concat (clusters text) ≡ text → All (λ cluster. 0 < length cluster) (clusters text) → length text ≡ 0 → [] ≡ line_clusters tables text
   unfolding line_clusters
-  line_clusters-nil u none =
-      ap (λ l. measured_all tables (map code_points l) (breaks tables text)) (sym (no_clusters (clusters text) (concat-clusters text u) (some-clusters text) none))
+  line_clusters-nil joined some none = ap (λ l. measured_all tables (map code_points l) (breaks tables text)) (sym (no_clusters (clusters text) joined some none))
 
   module _ (left : List (List ℕ)) (done : List Cluster) (place : ℕ) (m : IsMeasuredTo tables text left done place) where
     -- all clusters are measured

@@ -7,7 +7,7 @@ ghost use Rattle.line_break.specs.LineClusters.{is_space, hangs, line_clusters};
 use crate::class::is_one_of;
 use crate::status::{Break, opportunities};
 use bg_types::{Lb, Memory};
-use paragraphs::{Para, columns};
+use paragraphs::{Para, columns, laws};
 use std::alloc::Global;
 use ucd_files::Tables;
 
@@ -42,6 +42,8 @@ pub(crate) fn line_clusters(
 ) -> Result<Vec<Cluster>, Memory>
     ensures { IfOk result (λ v. v.items ≡ line_clusters tables.now para.now.text) }
 {
+    laws::clusters_join();
+    laws::cluster_places();
     let text = para.text();
     if text.is_empty() {
         return Ok(Vec::new(alloc));

@@ -1,10 +1,11 @@
 //! Laws of the definitions: the contract is the law, and the body is empty.
 
-ghost use Rattle.std.specs.Prelude.{◌≡◌, ℕ, ◌<◌, List, length, slice_range};
-ghost use Rattle.std.specs.List.{flat_map};
+ghost use Rattle.std.specs.Prelude.{◌≡◌, ℕ, ◌<◌, ◌≤◌, true, List, [], ◌∷◌, length, slice_range};
+ghost use Rattle.std.specs.List.{All, flat_map};
 ghost use Rattle.ucd_files.specs.Tables.{TableValues};
 ghost use Rattle.paragraphs.specs.Clusters.{clusters};
-ghost use Rattle.line_break.specs.Lines.{lines};
+ghost use Rattle.line_break.specs.LineClusters.{line_clusters};
+ghost use Rattle.line_break.specs.Lines.{fits, lines};
 ghost use Rattle.line_break.specs.Ranges.{Follow};
 
 /// The lines of a paragraph join to its clusters.
@@ -19,4 +20,21 @@ pub fn lines_join()
 pub fn lines_follow()
     ensures { (tables : TableValues) (text : List ℕ) (width : ℕ) → 0 < length (clusters text)
         → Follow 0 (lines tables text width) (length (clusters text)) }
+{}
+
+/// A line fits the width, spaces at its end not counted.
+pub fn lines_fit()
+    ensures { (tables : TableValues) (text : List ℕ) (width : ℕ) → 2 ≤ width
+        → All (λ line. fits width (slice_range (line_clusters tables text) line.start line.end) ≡ true) (lines tables text width) }
+{}
+
+/// A paragraph that is empty has one line, which is empty.
+pub fn empty_line()
+    ensures { (tables : TableValues) (text : List ℕ) (width : ℕ) → length (clusters text) ≡ 0
+        → lines tables text width ≡ record { start = 0; end = 0 } ∷ [] }
+{}
+
+/// A paragraph is measured cluster by cluster.
+pub fn each_measured()
+    ensures { (tables : TableValues) (text : List ℕ) → length (line_clusters tables text) ≡ length (clusters text) }
 {}

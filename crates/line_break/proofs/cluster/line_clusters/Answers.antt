@@ -3,6 +3,7 @@ use Rattle.std.proofs.Common.{length, sym, ap, subst, ◌∙◌, arith}
 use Rattle.std.proofs.lemmas.Bool.{eqb-true}
 use Rattle.std.proofs.lemmas.Iterator.{YieldsList-from_chars}
 use Rattle.std.proofs.lemmas.Iterator.Consumers.{count_from_yields_List}
+use Rattle.std.specs.List.{All}
 use Rattle.std.specs.Str.{IsUtf8}
 use Rattle.paragraphs.specs.Text.{code_points}
 use Rattle.line_break.specs.Statuses.{breaks}
@@ -12,13 +13,17 @@ use Rattle.line_break.proofs.cluster.line_clusters.Goals as goal
 pub returns-then-is_empty : goal.returns-then-is_empty
 returns-then-is_empty c =
     c.new.ensures.items
-    ∙ line_clusters-nil c.args.tables.now c.args.para.now.text (subst IsUtf8 c.text-text.ensures c.text-text.utf8)
+    ∙ line_clusters-nil c.args.tables.now c.args.para.now.text
+    (c.clusters_join.ensures.joined c.args.para.now.text (subst IsUtf8 c.text-text.ensures c.text-text.utf8)) (c.clusters_join.ensures.some c.args.para.now.text)
     (ap length (sym c.text-text.ensures) ∙ eqb-true (length c.text-text.result.now) 0 (sym c.if-is_empty.ensures))
 
 pub loop-cluster-init : goal.loop-cluster-init
 loop-cluster-init c =
-    IsMeasuredTo-start c.args.tables.now c.args.para.now.text _ _ (subst IsUtf8 c.text-text.ensures c.text-text.utf8)
-    (c.into_iter-cluster-iterator.ensures.into_iter_gives ∙ c.clusters-cluster-items.ensures.clusters) c.in_ok-clusters.ensures.items
+    let u = subst IsUtf8 c.text-text.ensures c.text-text.utf8 in
+    let into = c.into_iter-cluster-iterator.ensures.into_iter_gives in
+    IsMeasuredTo-start c.args.tables.now c.args.para.now.text _ _ (into ∙ c.clusters-cluster-items.ensures.clusters)
+    (subst (All IsUtf8) (sym into) c.clusters-cluster-items.ensures.utf8)
+    (c.cluster_places.ensures.some c.args.para.now.text u) (c.cluster_places.ensures.sum c.args.para.now.text u) c.in_ok-clusters.ensures.items
 
 pub overflow_add-place : goal.overflow_add-place
 overflow_add-place c =
