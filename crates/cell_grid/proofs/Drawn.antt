@@ -11,17 +11,16 @@ use Rattle.ucd_files.specs.Tables.{TableValues}
 use Rattle.paragraphs.specs.Text.{code_points}
 use Rattle.paragraphs.specs.Clusters.{cluster_sizes}
 use Rattle.paragraphs.specs.Paragraphs.{Paragraph, paragraphs, StandsIn}
-use Rattle.paragraphs.proofs.Splitting.{paragraphs-stand}
 use Rattle.bidi_explicit.specs.Embedding.{paragraph_level, classes_of}
 use Rattle.bidi_weak_neutral.specs.Levels.{levels_of}
 use Rattle.line_break.specs.declared.line.Line.{Line}
 use Rattle.line_break.specs.Lines.{lines}
 use Rattle.reorder.specs.VisualList.{visual_list}
-use Rattle.reorder.proofs.Rearranged.{visual_list-permutes}
 use Rattle.cell_grid.specs.declared.span.Span.{Span}
 use Rattle.cell_grid.specs.declared.entry.Entry.{Entry}
 use Rattle.cell_grid.specs.declared.cell.Cell.{Cell}
 use Rattle.cell_grid.specs.declared.cell.Cell.TheVariants.{Blank, Head, Tail}
+use Rattle.cell_grid.specs.LawsBelow.{LawsBelow}
 use Rattle.cell_grid.specs.Spans.{spans, extent, shifted_span}
 use Rattle.cell_grid.specs.Hanging.{line_columns}
 use Rattle.cell_grid.specs.Cells.{entry_cells, entries_cells, cells_of}
@@ -31,11 +30,12 @@ use Rattle.cell_grid.specs.Outline.{IsLine}
 use Rattle.cell_grid.specs.Grids.{DrawnGrid, paragraph_rows, grid_rows, IsDrawn}
 use Rattle.cell_grid.specs.Printable.{IsSlice, IsOneOf, IsPrintable}
 use Rattle.cell_grid.proofs.Sides.{map-numbers, spans-entries_from}
-use Rattle.cell_grid.proofs.LinesOf.{length-slice, length-levels, IsLine-lines}
+use Rattle.cell_grid.proofs.Parts.{length-slice}
+use Rattle.cell_grid.proofs.LinesOf.{length-levels, IsLine-lines}
 use Rattle.cell_grid.proofs.Counting.{length-spans_of, length-sizes_of}
 use Rattle.cell_grid.proofs.Slicing.{IsSpan, All-unmap, spans-slices, slice-in, paragraph-utf8}
 
-module _ (tables : TableValues) (width para : ℕ) (text levels : List ℕ) (line : Line) (h : IsLine tables width text line) where
+module _ (below : LawsBelow) (tables : TableValues) (width para : ℕ) (text levels : List ℕ) (line : Line) (h : IsLine tables width text line) where
   line_spans : List Span
   line_spans = slice_range (spans text) line.start line.end
 
@@ -66,7 +66,7 @@ module _ (tables : TableValues) (width para : ℕ) (text levels : List ℕ) (lin
       subst (λ l. IsPermutation l (map (λ (e : Entry). e.span) entries)) (map-numbers sp (extent []))
       (subst (IsPermutation (map f (range_with_len 0 (length sp)))) (sym (spans-entries_from sp lv cols (start_column width para cols) (visual_list lv)))
       (subst (λ n. IsPermutation (map f (range_with_len 0 n)) (map f (visual_list lv))) length-line_levels
-      (IsPermutation-map f (range_with_len 0 (length lv)) (visual_list lv) (visual_list-permutes lv))))
+      (IsPermutation-map f (range_with_len 0 (length lv)) (visual_list lv) (below.rearrangement lv))))
 
   -- what holds of each of the line's clusters holds of each entry
   pub each-entry : (Q : Span → Type 0) → All Q (spans text) → All (λ (e : Entry). Q e.span) (row_of tables width para text levels line).entries
@@ -77,14 +77,14 @@ module _ (tables : TableValues) (width para : ℕ) (text levels : List ℕ) (lin
 
 -- ---- rows that may be shifted
 
-module _ (tables : TableValues) (width : ℕ) (wide : 2 ≤ width) (base : Base) (text : List ℕ) (u : IsUtf8 text) where
+module _ (below : LawsBelow) (tables : TableValues) (width : ℕ) (wide : 2 ≤ width) (base : Base) (text : List ℕ) (u : IsUtf8 text) where
   pub rows-each : (P : DrawnRow → Type 0)
       → ((line : Line) → IsLine tables width text line → P (row_of tables width (paragraph_level base (classes_of tables text)) text (levels_of tables base text) line))
       → All P (rows_of tables width base text)
   rows-each P f =
       All-map P (row_of tables width (paragraph_level base (classes_of tables text)) text (levels_of tables base text)) (lines tables text width)
       (All-weaker (IsLine tables width text) (λ line. P (row_of tables width (paragraph_level base (classes_of tables text)) text (levels_of tables base text) line)) f (lines tables text width)
-      (IsLine-lines tables text u width wide))
+      (IsLine-lines below tables text u width wide))
 
   pub rows-shift : (bytes places : ℕ) → bytes + length text ≤ 4_000_000 → places + length (code_points text) ≤ 4_000_000 → All (MayShiftRow bytes places) (rows_of tables width base text)
   rows-shift bytes places fit_bytes fit_places =
@@ -94,13 +94,13 @@ module _ (tables : TableValues) (width : ℕ) (wide : 2 ≤ width) (base : Base)
       record {
         first_place = omega arith;
         last_place = omega arith;
-        entries = each-entry tables width (paragraph_level base (classes_of tables text)) text (levels_of tables base text) line h (MayShift bytes places)
+        entries = each-entry below tables width (paragraph_level base (classes_of tables text)) text (levels_of tables base text) line h (MayShift bytes places)
             (All-weaker (IsSpan text) (MayShift bytes places) (λ s is.
             let end = is.slice.end.0 in
             let forward = is.slice.order in
             let some = is.some in
             let in_text = is.within in
-            record { first_byte = omega arith; end_byte = omega arith; first_place = omega arith; end_place = omega arith }) (spans text) (spans-slices text u));
+            record { first_byte = omega arith; end_byte = omega arith; first_place = omega arith; end_place = omega arith }) (spans text) (spans-slices below text u));
       })
 
 -- ---- rows that can be printed
@@ -135,26 +135,26 @@ All-flat_map P f (x ∷ xs) h =
     (All-append P (f x) (flat_map f xs) (All-head (λ y. All P (f y)) x xs h) (All-flat_map P f xs (All-tail (λ y. All P (f y)) x xs h)))
 
 -- what holds of each row of each paragraph, where it stands in the text
-pub each-row : (tables : TableValues) (width : ℕ) (base : Base) (text : List ℕ) (u : IsUtf8 text) (P : DrawnRow → Type 0)
+pub each-row : (below : LawsBelow) (tables : TableValues) (width : ℕ) (base : Base) (text : List ℕ) (u : IsUtf8 text) (P : DrawnRow → Type 0)
     → ((p : Paragraph) → StandsIn text p → All (λ r. P (shifted p.first_byte p.first_place r)) (rows_of tables width base p.text)) → All P (grid_rows tables width base text)
-each-row tables width base text u P f =
+each-row below tables width base text u P f =
     All-flat_map P (paragraph_rows tables width base) (paragraphs tables text)
     (All-weaker (StandsIn text) (λ p. All P (paragraph_rows tables width base p)) (λ p h. All-map P (shifted p.first_byte p.first_place) (rows_of tables width base p.text) (f p h))
-    (paragraphs tables text) (paragraphs-stand tables text u))
+    (paragraphs tables text) (below.paragraphs_stand tables text u))
 
 -- each row of a grid can be printed
-pub IsPrintable-rows : (g : DrawnGrid) → IsDrawn g → All (IsPrintable g.text) g.rows
-IsPrintable-rows g d =
+pub IsPrintable-rows : (below : LawsBelow) (g : DrawnGrid) → IsDrawn g → All (IsPrintable g.text) g.rows
+IsPrintable-rows below g d =
     subst (All (IsPrintable g.text)) (sym d.rows)
-    (each-row g.tables d.width d.base g.text d.utf8 (IsPrintable g.text) (λ p h.
-    rows-each g.tables d.width d.at_least d.base p.text (paragraph-utf8 g.text d.utf8 p h) (λ r. IsPrintable g.text (shifted p.first_byte p.first_place r)) (λ line l.
+    (each-row below g.tables d.width d.base g.text d.utf8 (IsPrintable g.text) (λ p h.
+    rows-each below g.tables d.width d.at_least d.base p.text (paragraph-utf8 g.text d.utf8 p h) (λ r. IsPrintable g.text (shifted p.first_byte p.first_place r)) (λ line l.
     let para = paragraph_level d.base (classes_of g.tables p.text) in
     let levels = levels_of g.tables d.base p.text in
     let r = row_of g.tables d.width para p.text levels line in
     record {
       entries = All-map (λ (e : Entry). IsSlice g.text e.span) (shifted_entry p.first_byte p.first_place) r.entries
-          (each-entry g.tables d.width para p.text levels line l (λ s. IsSlice g.text (shifted_span p.first_byte p.first_place s))
+          (each-entry below g.tables d.width para p.text levels line l (λ s. IsSlice g.text (shifted_span p.first_byte p.first_place s))
           (All-weaker (IsSpan p.text) (λ s. IsSlice g.text (shifted_span p.first_byte p.first_place s)) (slice-in g.text d.utf8 p h) (spans p.text)
-          (spans-slices p.text (paragraph-utf8 g.text d.utf8 p h))));
+          (spans-slices below p.text (paragraph-utf8 g.text d.utf8 p h))));
       cells = subst (λ n. All (IsOneOf n) r.cells) (sym (length-map r.entries (shifted_entry p.first_byte p.first_place))) (heads-cells_of d.width _ r.entries);
     })))

@@ -8,9 +8,9 @@ use Rattle.bidi_explicit.specs.Embedding.{paragraph_level, classes_of}
 use Rattle.bidi_weak_neutral.specs.Levels.{levels_of}
 use Rattle.line_break.specs.declared.line.Line.{Line}
 use Rattle.reorder.specs.VisualList.{visual_list}
-use Rattle.reorder.proofs.Rearranged.{visual_list-permutes}
 use Rattle.cell_grid.specs.declared.span.Span.{Span}
 use Rattle.cell_grid.specs.declared.entry.Entry.{Entry}
+use Rattle.cell_grid.specs.LawsBelow.{LawsBelow}
 use Rattle.cell_grid.specs.Spans.{spans}
 use Rattle.cell_grid.specs.Hanging.{line_columns}
 use Rattle.cell_grid.specs.Rows.{entries_from, start_column, levels_in_line, row_of, shifted, shifted_entry}
@@ -18,7 +18,8 @@ use Rattle.cell_grid.specs.Outline.{own_columns, IsLine}
 use Rattle.cell_grid.specs.Grids.{DrawnGrid, IsDrawn}
 use Rattle.cell_grid.specs.Laws.{ColumnsFollow, total, StandsAtItsEdge}
 use Rattle.cell_grid.proofs.Sides.{sum-order, length-hung, sum-hung, start-fits, total-entries_from}
-use Rattle.cell_grid.proofs.LinesOf.{length-slice, length-levels, hung-columns}
+use Rattle.cell_grid.proofs.Parts.{length-slice}
+use Rattle.cell_grid.proofs.LinesOf.{length-levels, hung-columns}
 use Rattle.cell_grid.proofs.Counting.{length-own_columns, length-sizes_of}
 use Rattle.cell_grid.proofs.Slicing.{paragraph-utf8}
 use Rattle.cell_grid.proofs.Drawn.{rows-each, each-row}
@@ -52,15 +53,15 @@ pub line_columns-fit : (tables : TableValues) (width : ℕ) (text : List ℕ) (l
 line_columns-fit tables width text line h =
     subst (λ l. sum l ≤ width) (hung-columns tables width text line h) (sum-hung width _)
 
-pub length-line_columns : (tables : TableValues) (width : ℕ) (text : List ℕ) (line : Line) → IsLine tables width text line → length (line_columns tables width text line) ≡ line.end - line.start
-length-line_columns tables width text line h =
+pub length-line_columns : (below : LawsBelow) (tables : TableValues) (width : ℕ) (text : List ℕ) (line : Line) → IsLine tables width text line → length (line_columns tables width text line) ≡ line.end - line.start
+length-line_columns below tables width text line h =
     let order = h.order in
     let within = h.within in
-    let n = length-own_columns tables text in
+    let n = length-own_columns below tables text in
     let fits : line.end ≤ length (own_columns tables text) = omega arith in
     ap length (sym (hung-columns tables width text line h)) ∙ length-hung width _ ∙ length-slice (own_columns tables text) line.start line.end order fits
 
-module _ (tables : TableValues) (width para : ℕ) (text levels : List ℕ) (line : Line) (h : IsLine tables width text line) where
+module _ (below : LawsBelow) (tables : TableValues) (width para : ℕ) (text levels : List ℕ) (line : Line) (h : IsLine tables width text line) where
   -- a row's entries are as wide as its clusters
   pub row-total : total (row_of tables width para text levels line).entries ≡ sum (line_columns tables width text line)
   row-total =
@@ -73,10 +74,10 @@ module _ (tables : TableValues) (width para : ℕ) (text levels : List ℕ) (lin
       let nz = length-sizes_of text in
       let a = length-levels tables text levels para sp sz in
       let b = length-slice (cluster_sizes text) line.start line.end order (omega arith) in
-      let c = length-line_columns tables width text line h in
+      let c = length-line_columns below tables width text line h in
       let same : length cols ≡ length lv = omega arith in
       total-entries_from sp lv cols (start_column width para cols) (visual_list lv)
-      ∙ sum-order (length lv) (visual_list lv) (visual_list-permutes lv) cols same
+      ∙ sum-order (length lv) (visual_list lv) (below.rearrangement lv) cols same
 
   -- its entries stand side by side, from its start on
   pub row-follow : (i j : ℕ) → let start = start_column width para (line_columns tables width text line) in
@@ -115,9 +116,9 @@ module _ (tables : TableValues) (width para : ℕ) (text levels : List ℕ) (lin
       }
 
 -- each row of a grid stands at its edge
-pub edge-rows : (g : DrawnGrid) (d : IsDrawn g) → All (StandsAtItsEdge d.width) g.rows
-edge-rows g d =
+pub edge-rows : (below : LawsBelow) (g : DrawnGrid) (d : IsDrawn g) → All (StandsAtItsEdge d.width) g.rows
+edge-rows below g d =
     subst (All (StandsAtItsEdge d.width)) (sym d.rows)
-    (each-row g.tables d.width d.base g.text d.utf8 (StandsAtItsEdge d.width) (λ p h.
-    rows-each g.tables d.width d.at_least d.base p.text (paragraph-utf8 g.text d.utf8 p h) (λ r. StandsAtItsEdge d.width (shifted p.first_byte p.first_place r)) (λ line l.
-    row-edge g.tables d.width (paragraph_level d.base (classes_of g.tables p.text)) p.text (levels_of g.tables d.base p.text) line l p.first_byte p.first_place)))
+    (each-row below g.tables d.width d.base g.text d.utf8 (StandsAtItsEdge d.width) (λ p h.
+    rows-each below g.tables d.width d.at_least d.base p.text (paragraph-utf8 g.text d.utf8 p h) (λ r. StandsAtItsEdge d.width (shifted p.first_byte p.first_place r)) (λ line l.
+    row-edge below g.tables d.width (paragraph_level d.base (classes_of g.tables p.text)) p.text (levels_of g.tables d.base p.text) line l p.first_byte p.first_place)))

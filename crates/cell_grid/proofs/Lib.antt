@@ -8,6 +8,8 @@ pub mod Outlining
 pub mod Standing
 pub mod Sides
 pub mod Fitting
+pub mod Parts
+pub mod LineBounds
 pub mod LinesOf
 pub mod Counting
 pub mod Slicing
@@ -16,5 +18,7 @@ pub mod Edges
 pub mod Once
 pub mod Following
 pub mod Lookups
+pub mod Covering
 pub mod CellsOnce
+pub mod Holding
 pub mod PlacesOnce

@@ -8,7 +8,6 @@ use Rattle.ucd_files.specs.Tables.{TableValues}
 use Rattle.paragraphs.specs.Text.{code_points}
 use Rattle.paragraphs.specs.Clusters.{clusters, cluster_sizes}
 use Rattle.paragraphs.specs.Columns.{columns_of}
-use Rattle.paragraphs.proofs.ClusterPlaces.{clusters-utf8, concat-clusters, some-clusters}
 use Rattle.line_break.specs.declared.status.Break.{Break}
 use Rattle.line_break.specs.Statuses.{breaks}
 use Rattle.line_break.specs.LineClusters.{measured_all, line_clusters}
@@ -43,18 +42,17 @@ pub points-fit : (c : List ℕ) → IsUtf8 c → length (code_points c) ≤ leng
 points-fit c u = let a = length-le-encodes (code_points c) in let b = ap length (encodes-chars c u) in omega arith
 
 module _ (tables : TableValues) (text : List ℕ) where
-  pub IsOutlinedTo-start : (left : List (List ℕ)) (done : List Span) (sizes columns : List ℕ) → IsUtf8 text → left ≡ clusters text → done ≡ [] → sizes ≡ [] → columns ≡ []
-      → IsOutlinedTo tables text left done sizes columns 0 0
-  IsOutlinedTo-start left done sizes columns u all no_spans no_sizes no_columns =
-      subst (λ (l : List (List ℕ)). IsOutlinedTo tables text l done sizes columns 0 0) (sym all) (record {
-        utf8 = clusters-utf8 text u;
-        some = some-clusters text;
-        bytes = let n = ap length (concat-clusters text u) in omega arith;
-        places = omega arith;
-        all_spans = ap (λ l. l ++ spans text) no_spans;
-        all_sizes = ap (λ l. l ++ cluster_sizes text) no_sizes;
-        all_columns = ap (λ l. l ++ columns_each tables (clusters text)) no_columns ∙ sym (own_columns-each tables text);
-      })
+  pub IsOutlinedTo-start : (left : List (List ℕ)) (done : List Span) (sizes columns : List ℕ) → left ≡ clusters text → All IsUtf8 left → All (λ (cluster : List ℕ). 0 < length cluster) left
+      → concat left ≡ text → done ≡ [] → sizes ≡ [] → columns ≡ [] → IsOutlinedTo tables text left done sizes columns 0 0
+  IsOutlinedTo-start left done sizes columns all u some joined no_spans no_sizes no_columns = record {
+    utf8 = u;
+    some = some;
+    bytes = let n = ap length joined in omega arith;
+    places = omega arith;
+    all_spans = ap (λ l. l ++ spans_from 0 0 left) no_spans ∙ ap (spans_from 0 0) all;
+    all_sizes = ap (λ l. l ++ map length (map code_points left)) no_sizes ∙ ap (λ (l : List (List ℕ)). map length (map code_points l)) all;
+    all_columns = ap (λ l. l ++ columns_each tables left) no_columns ∙ ap (columns_each tables) all ∙ sym (own_columns-each tables text);
+  }
 
   module _ (left : List (List ℕ)) (done : List Span) (sizes columns : List ℕ) (byte place : ℕ) (m : IsOutlinedTo tables text left done sizes columns byte place) where
     -- all clusters are outlined

@@ -9,8 +9,8 @@ use Rattle.std.specs.Str.{IsUtf8, IsCharBoundary}
 use Rattle.paragraphs.specs.Text.{code_points}
 use Rattle.paragraphs.specs.Clusters.{clusters}
 use Rattle.paragraphs.specs.Paragraphs.{Paragraph, StandsIn}
-use Rattle.paragraphs.proofs.ClusterPlaces.{clusters-utf8, concat-clusters, some-cluster_sizes}
 use Rattle.cell_grid.specs.declared.span.Span.{Span}
+use Rattle.cell_grid.specs.LawsBelow.{LawsBelow}
 use Rattle.cell_grid.specs.Spans.{span_at, spans_from, spans, shifted_span}
 use Rattle.cell_grid.specs.Printable.{IsSlice}
 use Rattle.cell_grid.proofs.Outlining.{points-fit}
@@ -50,17 +50,18 @@ module _ (text : List ℕ) where
       (spans-are (front ++ c ∷ []) later (ap concat (append_assoc front (c ∷ []) later) ∙ joined) (All-append IsUtf8 front (c ∷ []) uf one) ul
       (All-tail (λ (x : List ℕ). 0 < length (code_points x)) c later some)))
 
-  twice : (cs : List (List ℕ)) → map length (map code_points cs) ≡ map (λ (c : List ℕ). length (code_points c)) cs
-  twice [] = refl
-  twice (c ∷ cs) = ap (λ l. length (code_points c) ∷ l) (twice cs)
+twice : (cs : List (List ℕ)) → map length (map code_points cs) ≡ map (λ (c : List ℕ). length (code_points c)) cs
+twice [] = refl
+twice (c ∷ cs) = ap (λ l. length (code_points c) ∷ l) (twice cs)
 
+module _ (below : LawsBelow) (text : List ℕ) (u : IsUtf8 text) where
   -- no cluster is without code points
-  pub some-points : IsUtf8 text → All (λ (c : List ℕ). 0 < length (code_points c)) (clusters text)
-  some-points u = All-unmap (λ n. 0 < n) (λ (c : List ℕ). length (code_points c)) (clusters text) (subst (All (λ n. 0 < n)) (twice (clusters text)) (some-cluster_sizes text u))
+  pub some-points : All (λ (c : List ℕ). 0 < length (code_points c)) (clusters text)
+  some-points = All-unmap (λ n. 0 < n) (λ (c : List ℕ). length (code_points c)) (clusters text) (subst (All (λ n. 0 < n)) (twice (clusters text)) (below.sizes_some text u))
 
   -- each cluster of a text
-  pub spans-slices : IsUtf8 text → All (IsSpan text) (spans text)
-  spans-slices u = spans-are [] (clusters text) (concat-clusters text u) (All-nil IsUtf8) (clusters-utf8 text u) (some-points u)
+  pub spans-slices : All (IsSpan text) (spans text)
+  spans-slices = spans-are text [] (clusters text) (below.clusters_join text u) (All-nil IsUtf8) (below.clusters_utf8 text u) some-points
 
 -- ---- in a text of which the paragraph is a part
 

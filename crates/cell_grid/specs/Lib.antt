@@ -1,3 +1,4 @@
+pub mod LawsBelow
 pub mod Spans
 pub mod Hanging
 pub mod Cells

@@ -5,6 +5,7 @@ ghost use Rattle.std.specs.Str.{IsUtf8};
 ghost use Rattle.paragraphs.specs.Text.{code_points};
 ghost use Rattle.cell_grid.specs.Grids.{paragraph_rows, grid_of, IsDrawn};
 
+use crate::laws_below::laws_below;
 use crate::paragraph::rows;
 use crate::row::Row;
 use bg_types::{Base, Memory};
@@ -99,6 +100,7 @@ fn push_rows(
     requires places { para.now.first_place + length (code_points para.now.text) ≤ 4_000_000 }
     ensures { OnOk result (drawn.new.items ≡ drawn.old.items ++ paragraph_rows tables.now width base para.now) }
 {
+    laws_below();
     for row in rows(alloc, tables, width, base, para)? {
         let mut row = row;
         row.shift(para.first_byte(), para.first_place());

@@ -1,4 +1,4 @@
-//! Laws of the definitions: each function's contract is the law, and its body is empty.
+//! Laws of the definitions: each function's contract is the law, and its body does nothing.
 
 ghost use Rattle.std.specs.Prelude.{◌≡◌, ℕ, ◌<◌, ◌≤◌, List, length, IsPermutation};
 ghost use Rattle.std.specs.List.{All};
@@ -7,29 +7,41 @@ ghost use Rattle.paragraphs.specs.Text.{code_points};
 ghost use Rattle.cell_grid.specs.Grids.{DrawnGrid, IsDrawn};
 ghost use Rattle.cell_grid.specs.Laws.{text_spans, entry_spans, RowsFollow, HoldsPlacesOnce, StandsAtItsEdge, CoversCellsOnce};
 
+use crate::laws_below::laws_below;
+
 /// Each cluster of each paragraph is one entry of one row.
 pub fn clusters_once()
     ensures { (g : DrawnGrid) → IsDrawn g → IsPermutation (text_spans g.tables g.text) (entry_spans g.rows) }
-{}
+{
+    laws_below();
+}
 
 /// Entries with columns cover their cells once and Blank the rest; an entry of no columns has no cell.
 pub fn cells_once()
     ensures { (g : DrawnGrid) (drawn : IsDrawn g) → All (CoversCellsOnce drawn.width) g.rows }
-{}
+{
+    laws_below();
+}
 
 /// Entries stand side by side, from the left in a paragraph of even level and up to the right in one
 /// of odd level.
 pub fn rows_at_their_edge()
     ensures { (g : DrawnGrid) (drawn : IsDrawn g) → All (StandsAtItsEdge drawn.width) g.rows }
-{}
+{
+    laws_below();
+}
 
 /// A grid has a row. The rows take up the text's places in order.
 pub fn rows_follow()
     ensures some { (g : DrawnGrid) → IsDrawn g → 0 < length g.rows }
     ensures follow { (g : DrawnGrid) → IsDrawn g → RowsFollow 0 g.rows (length (code_points g.text)) }
-{}
+{
+    laws_below();
+}
 
 /// Each place of a row lies in exactly one of its entries.
 pub fn places_once()
     ensures { (g : DrawnGrid) → IsDrawn g → All HoldsPlacesOnce g.rows }
-{}
+{
+    laws_below();
+}

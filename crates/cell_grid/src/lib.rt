@@ -6,6 +6,7 @@ mod column;
 mod entry;
 mod grid;
 pub mod laws;
+mod laws_below;
 mod outline;
 mod paragraph;
 mod printed;

@@ -8,6 +8,7 @@ ghost use Rattle.cell_grid.specs.Rows.{levels_in_line, row_of, rows_of};
 ghost use Rattle.cell_grid.specs.Outline.{own_columns, StandIn, IsLine};
 
 use crate::column::hung;
+use crate::laws_below::laws_below;
 use crate::outline::{Outline, outline_of};
 use crate::row::Row;
 use crate::span::{Span, extent};
@@ -76,6 +77,7 @@ fn row_of(alloc: Global, material: &Material, width: u16, line: Line) -> Result<
     ensures { IfOk result (λ row. row
         ≡ row_of material.now.tables.now width material.now.para_level material.now.text.now material.now.levels.items line) }
 {
+    laws_below();
     let spans = part(&material.clusters.spans, line);
     let sizes = part(&material.clusters.sizes, line);
     let own = part(&material.clusters.columns, line);
@@ -98,6 +100,7 @@ pub(crate) fn rows(
     requires size { length para.now.text ≤ 4_000_000 }
     ensures { IfOk result (λ rows. rows.items ≡ rows_of tables.now width base para.now.text) }
 {
+    laws_below();
     let material = Material {
         tables,
         text: para.text(),

@@ -11,6 +11,7 @@ ghost use Rattle.cell_grid.specs.Printable.{IsSlice, IsOneOf, IsPrintable};
 use crate::cell::Cell;
 use crate::entry::Entry;
 use crate::grid::Grid;
+use crate::laws_below::laws_below;
 use crate::row::Row;
 use bg_types::{Bidi, Device, Sink, put_all};
 use reorder::mirrored;
@@ -25,6 +26,7 @@ pub fn print<W: Sink>(grid: &Grid, sink: &mut W) -> Result<(), Device>
     ensures err { OnErr result (AppendsBeginning (W.written sink.old) (W.written sink.new) (printed grid.now)) }
     ensures failed { W.has_failed sink.new ≡ is_err result }
 {
+    laws_below();
     for row in grid.rows() {
         print_row(grid.tables(), grid.text(), row, sink)?;
     }

@@ -20,7 +20,7 @@ shift-requires c =
     let p = c.args.para.now in
     let drawn = c.in_ok-row-items.ensures in
     let rows = rows_of c.args.tables.now c.args.width c.args.base p.text in
-    let may : All (MayShiftRow p.first_byte p.first_place) rows = rows-shift c.args.tables.now c.args.width c.requires.at_least c.args.base p.text c.requires.text p.first_byte p.first_place c.requires.bytes c.requires.places in
+    let may : All (MayShiftRow p.first_byte p.first_place) rows = rows-shift c.laws_below.ensures c.args.tables.now c.args.width c.requires.at_least c.args.base p.text c.requires.text p.first_byte p.first_place c.requires.bytes c.requires.places in
     let lt = subst (λ (l : List DrawnRow). length c.loop-row.yielded < length l) drawn turn.0 in
     let here = subst (MayShiftRow p.first_byte p.first_place) (sym (turn.1 ∙ ap (λ (l : List DrawnRow). get_or l (length c.loop-row.yielded) c.in-Some.row) drawn)) (may (length c.loop-row.yielded) c.in-Some.row lt) in
     subst (λ n. MayShiftRow n c.first_place.result c.in-Some.row) (sym c.first_byte.ensures) (subst (λ n. MayShiftRow p.first_byte n c.in-Some.row) (sym c.first_place.ensures) here)

@@ -1,15 +1,18 @@
 -- Each cluster stands where the one before it ends.
-use Rattle.std.proofs.Common.{refl, subst, ◌∙◌, arith}
+use Rattle.std.proofs.Common.{◌<◌, ℕ, List, length, refl, sym, ap, subst, ◌∙◌, arith}
 use Rattle.std.proofs.lemmas.Iterator.{YieldsList-from_chars}
 use Rattle.std.proofs.lemmas.Iterator.Consumers.{count_from_yields_List}
+use Rattle.std.specs.List.{All, concat}
 use Rattle.std.specs.Str.{IsUtf8}
 use Rattle.cell_grid.proofs.Outlining.{IsOutlinedTo-start, spans-end, sizes-end, columns-end, cluster-utf8, cluster-some, cluster-fits, cluster-points, IsOutlinedTo-on}
 use Rattle.cell_grid.proofs.outline.outline_of.Goals as goal
 
 pub loop-cluster-init : goal.loop-cluster-init
 loop-cluster-init c =
-    IsOutlinedTo-start c.args.tables.now c.args.para.now.text _ _ _ _ (subst IsUtf8 c.text.ensures c.text.utf8)
-    (c.into_iter-cluster-iterator.ensures.into_iter_gives ∙ c.clusters-cluster-items.ensures.clusters)
+    let into = c.into_iter-cluster-iterator.ensures.into_iter_gives in
+    let given = c.clusters-cluster-items.ensures in
+    IsOutlinedTo-start c.args.tables.now c.args.para.now.text _ _ _ _ (into ∙ given.clusters)
+    (subst (All IsUtf8) (sym into) given.utf8) (subst (All (λ (cluster : List ℕ). 0 < length cluster)) (sym into) given.some) (ap concat into ∙ given.joined)
     c.in_ok-with_capacity.ensures.items c.in_ok-with_capacity-2.ensures.items c.in_ok-with_capacity-3.ensures.items
 
 pub overflow_add-span : goal.overflow_add-span

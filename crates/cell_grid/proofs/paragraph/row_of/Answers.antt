@@ -6,7 +6,8 @@ use Rattle.cell_grid.specs.Spans.{spans}
 use Rattle.cell_grid.specs.Hanging.{hung}
 use Rattle.cell_grid.specs.Rows.{row_with, levels_in_line}
 use Rattle.cell_grid.specs.Outline.{own_columns, StandIn}
-use Rattle.cell_grid.proofs.LinesOf.{length-slice, hung-columns, length-levels}
+use Rattle.cell_grid.proofs.Parts.{length-slice}
+use Rattle.cell_grid.proofs.LinesOf.{hung-columns, length-levels}
 use Rattle.cell_grid.proofs.Counting.{if_ok, length-spans_of, length-own_columns, length-sizes_of}
 use Rattle.cell_grid.proofs.Sides.{length-hung, sum-hung}
 use Rattle.cell_grid.proofs.paragraph.row_of.Goals as goal
@@ -25,7 +26,7 @@ part-sizes-requires-clause-within c =
 
 pub part-own-requires-clause-within : goal.part-own-requires-clause-within
 part-own-requires-clause-within c =
-    let n = ap length (c.deref-3.ensures.value ∙ c.requires.columns) ∙ length-own_columns c.args.material.now.tables.now c.args.material.now.text.now in
+    let n = ap length (c.deref-3.ensures.value ∙ c.requires.columns) ∙ length-own_columns c.laws_below.ensures c.args.material.now.tables.now c.args.material.now.text.now in
     let within = c.requires.line.within in
     omega arith
 
@@ -59,7 +60,7 @@ with-requires-clause-columns c =
     let order = c.requires.line.order in
     let within = c.requires.line.within in
     let ns = length-spans_of text in
-    let no = length-own_columns tables text in
+    let no = length-own_columns c.laws_below.ensures tables text in
     let sp = ap length (c.part-spans.ensures ∙ ap (λ (l : List Span). slice_range l line.start line.end) (c.deref.ensures.value ∙ c.requires.spans)) ∙ length-slice (spans text) line.start line.end order (omega arith) in
     let own = ap length (c.part-own.ensures ∙ ap (λ (l : List ℕ). slice_range l line.start line.end) (c.deref-3.ensures.value ∙ c.requires.columns)) ∙ length-slice (own_columns tables text) line.start line.end order (omega arith) in
     let hg = ap length (c.deref-5.ensures.value ∙ c.in_ok-columns.ensures) ∙ length-hung c.args.width c.part-own.result.now in

@@ -17,7 +17,7 @@ loop-line-init c = c.in_ok-rows.ensures.items
 
 pub row_of-requires-clause-size : goal.row_of-requires-clause-size
 row_of-requires-clause-size c =
-    let few = few-clusters c.text.result.now c.text.utf8 in
+    let few = few-clusters c.laws_below.ensures c.text.result.now c.text.utf8 in
     let same = ap length c.text.ensures in
     let all = c.requires.size in
     omega arith
@@ -31,7 +31,7 @@ row_of-requires-clause-line c =
     let lt = subst (λ (l : List Line). i < length l) items c.loop-line-test.true in
     subst (λ t. IsLine c.args.tables.now c.args.width t (get_or c.deref-line-items.result.now i d)) (sym c.text.ensures)
     (subst (λ (l : List Line). IsLine c.args.tables.now c.args.width text (get_or l i d)) (sym items)
-    (IsLine-lines c.args.tables.now text (subst IsUtf8 c.text.ensures c.text.utf8) c.args.width c.requires.at_least i d lt))
+    (IsLine-lines c.laws_below.ensures c.args.tables.now text (subst IsUtf8 c.text.ensures c.text.utf8) c.args.width c.requires.at_least i d lt))
 
 pub loop-line-preserved : goal.loop-line-preserved
 loop-line-preserved c =

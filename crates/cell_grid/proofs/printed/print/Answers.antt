@@ -20,7 +20,7 @@ print_row-requires-clause-row g c =
     let i = c.loop-row.row-index in
     let items = c.rows-row-items.ensures.rows in
     let lt = subst (λ (l : List DrawnRow). i < length l) items c.loop-row-test.true in
-    let here = subst (IsPrintable grid.text) (sym (c.row-item.is ∙ ap (λ (l : List DrawnRow). get_or l i c.row-item.result) items)) (IsPrintable-rows grid c.rows-row-items.ensures.drawn i c.row-item.result lt) in
+    let here = subst (IsPrintable grid.text) (sym (c.row-item.is ∙ ap (λ (l : List DrawnRow). get_or l i c.row-item.result) items)) (IsPrintable-rows c.laws_below.ensures grid c.rows-row-items.ensures.drawn i c.row-item.result lt) in
     subst (λ t. IsPrintable t c.row-item.result) (sym c.text.ensures) here
 
 pub returns-in_err-print_row-clause-err : goal.returns-in_err-print_row-clause-err

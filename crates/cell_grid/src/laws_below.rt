@@ -1,0 +1,23 @@
+//! The laws of the crates below, for the proofs of this one.
+
+ghost use Rattle.cell_grid.specs.LawsBelow.{LawsBelow};
+
+use paragraphs::laws::{cluster_places, clusters_join, paragraphs_join};
+use line_break::laws::{each_measured, empty_line, lines_fit, lines_follow};
+use reorder::laws::rearrangement;
+
+/// What the crates below promise of clusters, paragraphs, lines and the visual order. Called for its
+/// contract alone.
+#[inline]
+pub(crate) fn laws_below()
+    ensures { LawsBelow }
+{
+    clusters_join();
+    cluster_places();
+    paragraphs_join();
+    each_measured();
+    empty_line();
+    lines_follow();
+    lines_fit();
+    rearrangement();
+}
