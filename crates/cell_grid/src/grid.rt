@@ -77,8 +77,10 @@ pub fn draw<'a>(
     ensures grid { IfOk result (λ grid. grid ≡ grid_of tables.now width base text.now) }
     ensures drawn { IfOk result IsDrawn }
 {
-    let mut rows = Vec::new(alloc);
-    for para in &split(alloc, tables, text)? {
+    let paragraphs = split(alloc, tables, text)?;
+    // Each paragraph has a row at least.
+    let mut rows = Vec::with_capacity(alloc, paragraphs.len())?;
+    for para in &paragraphs {
         push_rows(alloc, tables, width, base, para, &mut rows)?;
     }
     Ok(Grid { tables, text, rows })
@@ -101,7 +103,9 @@ fn push_rows(
     ensures { OnOk result (drawn.new.items ≡ drawn.old.items ++ paragraph_rows tables.now width base para.now) }
 {
     laws_below();
-    for row in rows(alloc, tables, width, base, para)? {
+    let made = rows(alloc, tables, width, base, para)?;
+    drawn.reserve(made.len())?;
+    for row in made {
         let mut row = row;
         row.shift(para.first_byte(), para.first_place());
         drawn.push(row)?;

@@ -10,15 +10,15 @@ use Rattle.cell_grid.proofs.Drawn.{rows-shift}
 use Rattle.cell_grid.proofs.grid.push_rows.Goals as goal
 
 pub loop-row-init : goal.loop-row-init
-loop-row-init c = sym (append-nil c.args.drawn.now.items)
+loop-row-init c = c.in_ok-reserve.ensures.items ∙ sym (append-nil c.args.drawn.now.items)
 
 pub shift-requires : goal.shift-requires
 shift-requires c =
     let into = c.into_iter-row-iterator.ensures.into_iter_gives in
-    let list = YieldsList-from_vec {s = c.into_iter-row-iterator.result} c.in_ok-row-items.row-items.items into.0 (into.1 ∙ c.in_ok-row-items.row-items.ok.0) in
+    let list = YieldsList-from_vec {s = c.into_iter-row-iterator.result} c.in_ok-made.made.items into.0 (into.1 ∙ c.in_ok-made.made.ok.0) in
     let turn = YieldsList-turn list c.loop-row.yielded c.loop-row.row-iterator c.loop-row.yielded_by c.next.result c.next.new.self c.in-Some.row c.in-Some.is c.next.ensures.steps in
     let p = c.args.para.now in
-    let drawn = c.in_ok-row-items.ensures in
+    let drawn = c.in_ok-made.ensures in
     let rows = rows_of c.args.tables.now c.args.width c.args.base p.text in
     let may : All (MayShiftRow p.first_byte p.first_place) rows = rows-shift c.laws_below.ensures c.args.tables.now c.args.width c.requires.at_least c.args.base p.text c.requires.text p.first_byte p.first_place c.requires.bytes c.requires.places in
     let lt = subst (λ (l : List DrawnRow). length c.loop-row.yielded < length l) drawn turn.0 in
@@ -41,6 +41,6 @@ pub returns : goal.returns
 returns c =
     let f = shifted c.args.para.now.first_byte c.args.para.now.first_place in
     let into = c.into_iter-row-iterator.ensures.into_iter_gives in
-    let list = YieldsList-from_vec {s = c.into_iter-row-iterator.result} c.in_ok-row-items.row-items.items into.0 (into.1 ∙ c.in_ok-row-items.row-items.ok.0) in
+    let list = YieldsList-from_vec {s = c.into_iter-row-iterator.result} c.in_ok-made.made.items into.0 (into.1 ∙ c.in_ok-made.made.ok.0) in
     let end = YieldsList-end list c.loop-row.yielded c.loop-row.row-iterator c.loop-row.yielded_by c.next.result c.next.new.self c.in-None.is c.next.ensures.steps in
-    c.loop-row.invariant ∙ ap (λ l. c.args.drawn.now.items ++ map f l) (sym (map-id c.loop-row.yielded) ∙ end.0 ∙ c.in_ok-row-items.ensures)
+    c.loop-row.invariant ∙ ap (λ l. c.args.drawn.now.items ++ map f l) (sym (map-id c.loop-row.yielded) ∙ end.0 ∙ c.in_ok-made.ensures)
