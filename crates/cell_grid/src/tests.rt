@@ -328,3 +328,12 @@ fn a_failing_sink_keeps_a_beginning(rt: HostRuntime) -> Result<(), Fail> {
     }
     Ok(())
 }
+
+#[test]
+fn the_laws_are_called() {
+    laws::clusters_once();
+    laws::cells_once();
+    laws::rows_at_their_edge();
+    laws::rows_follow();
+    laws::places_once();
+}

@@ -413,3 +413,12 @@ fn spaces_by_their_class(rt: HostRuntime) -> Result<(), Fail> {
     }
     Ok(())
 }
+
+#[test]
+fn the_laws_are_called() {
+    laws::lines_join();
+    laws::lines_follow();
+    laws::lines_fit();
+    laws::empty_line();
+    laws::each_measured();
+}

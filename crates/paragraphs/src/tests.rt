@@ -177,3 +177,10 @@ fn columns_by_cases(rt: HostRuntime) -> Result<(), Fail> {
     }
     Ok(())
 }
+
+#[test]
+fn the_laws_are_called() {
+    laws::cluster_places();
+    laws::clusters_join();
+    laws::paragraphs_join();
+}
