@@ -74,8 +74,8 @@ fn put_slow_order(levels: &[u8], order: &mut [u32]) {
 
 #[test]
 fn the_standards_examples_are_shown_in_its_order(rt: HostRuntime) -> Result<(), Fail> {
-    // After the examples of UAX #9, section 3.4, L2, with its signs > < = for LRI, RLI and PDI.
-    // GNU FriBidi 1.0.8 gives them these levels and this order.
+    // The examples of UAX #9, section 3.4, L2, with its signs > < = for LRI, RLI and PDI. Levels and
+    // order are what GNU FriBidi 1.0.8 answers for these texts.
     let rows = [
         ("car means CAR.", "00000000001110", "car means RAC."),
         ("<car MEANS CAR.=", "0222111111111110", "<.RAC SNAEM car="),
@@ -102,6 +102,84 @@ fn the_standards_examples_are_shown_in_its_order(rt: HostRuntime) -> Result<(), 
                 "{stored}"
             );
         }
+    }
+    Ok(())
+}
+
+/// The orders that Unicode's own BidiCharacterTest.txt of version 15.0 gives for levels: the lines
+/// under its heading "Examples from UAX #9", then those with the most levels.
+#[test]
+fn the_standards_test_file_gives_these_orders(rt: HostRuntime) -> Result<(), Fail> {
+    let rows: [(&str, &[u32]); 18] = [
+        (
+            "11011000000000",
+            &[1, 0, 2, 4, 3, 5, 6, 7, 8, 9, 10, 11, 12, 13],
+        ),
+        (
+            "11111112211122",
+            &[12, 13, 11, 10, 9, 7, 8, 6, 5, 4, 3, 2, 1, 0],
+        ),
+        (
+            "00000000011100111",
+            &[0, 1, 2, 3, 4, 5, 6, 7, 8, 11, 10, 9, 12, 13, 16, 15, 14],
+        ),
+        (
+            "22211222111111111",
+            &[16, 15, 14, 13, 12, 11, 10, 9, 8, 5, 6, 7, 4, 3, 0, 1, 2],
+        ),
+        (
+            "11100000011100000",
+            &[2, 1, 0, 3, 4, 5, 6, 7, 8, 11, 10, 9, 12, 13, 14, 15, 16],
+        ),
+        (
+            "11111222111111222",
+            &[14, 15, 16, 13, 12, 11, 10, 9, 8, 5, 6, 7, 4, 3, 2, 1, 0],
+        ),
+        (
+            "00000111000000111",
+            &[0, 1, 2, 3, 4, 7, 6, 5, 8, 9, 10, 11, 12, 13, 16, 15, 14],
+        ),
+        (
+            "22211111122211111",
+            &[16, 15, 14, 13, 12, 9, 10, 11, 8, 7, 6, 5, 4, 3, 0, 1, 2],
+        ),
+        (
+            "11100111000000000",
+            &[2, 1, 0, 3, 4, 7, 6, 5, 8, 9, 10, 11, 12, 13, 14, 15, 16],
+        ),
+        (
+            "11111111122211222",
+            &[14, 15, 16, 13, 12, 9, 10, 11, 8, 7, 6, 5, 4, 3, 2, 1, 0],
+        ),
+        ("11100000000", &[2, 1, 0, 3, 4, 5, 6, 7, 8, 9, 10]),
+        ("11112222222", &[4, 5, 6, 7, 8, 9, 10, 3, 2, 1, 0]),
+        ("2121341111", &[9, 8, 7, 6, 5, 4, 3, 2, 1, 0]),
+        (
+            "000011112312120101",
+            &[0, 1, 2, 3, 13, 12, 11, 10, 8, 9, 7, 6, 5, 4, 14, 15, 16, 17],
+        ),
+        (
+            "212133334534341111",
+            &[17, 16, 15, 14, 13, 12, 11, 10, 8, 9, 7, 6, 5, 4, 3, 2, 1, 0],
+        ),
+        ("1010230000", &[0, 1, 2, 3, 4, 5, 6, 7, 8, 9]),
+        (
+            "101022223423230000",
+            &[0, 1, 2, 3, 4, 5, 6, 7, 9, 8, 10, 11, 12, 13, 14, 15, 16, 17],
+        ),
+        (
+            "111122223423231212",
+            &[17, 16, 15, 14, 4, 5, 6, 7, 9, 8, 10, 11, 12, 13, 3, 2, 1, 0],
+        ),
+    ];
+    for (digits, order) in rows {
+        let mut buffer = [0; 64];
+        let levels = levels_of(digits, &mut buffer);
+        assert_eq!(rt;
+            order_of(&rt, rt.alloc(), levels)?.as_slice(),
+            order,
+            "{digits}"
+        );
     }
     Ok(())
 }
