@@ -48,11 +48,13 @@ pub fn split<'a>(alloc: Global, tables: &Tables, text: &'a str) -> Result<Vec<Pa
         let rest = chars.as_str();
         if ends_paragraph(tables, c, rest) {
             let end = text.len() - rest.len();
-            paragraphs.push(Para::new(&text[first_byte..end], first_byte, first_place))?;
+            let para = Para::new(&text[first_byte..end], first_byte, first_place)?;
+            paragraphs.push(para)?;
             first_byte = end;
             first_place = place;
         }
     }
-    paragraphs.push(Para::new(&text[first_byte..], first_byte, first_place))?;
+    let last = Para::new(&text[first_byte..], first_byte, first_place)?;
+    paragraphs.push(last)?;
     Ok(paragraphs)
 }
