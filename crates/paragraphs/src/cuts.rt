@@ -33,6 +33,7 @@ fn ends_paragraph(tables: &Tables, c: char, rest: &str) -> bool
 
 /// The paragraphs of a text, in order (P1). The last one is empty where the text is empty or ends
 /// with a separator.
+/// `Memory` also where one begins 4 GiB or more behind the text's start.
 pub fn split<'a>(alloc: Global, tables: &Tables, text: &'a str) -> Result<Vec<Para<'a>>, Memory>
     ensures ok { IfOk result (λ v. v.items ≡ paragraphs tables.now text.now) }
     ensures joined { IfOk result (λ v. concat (map (λ p. p.text) v.items) ≡ text.now) }
