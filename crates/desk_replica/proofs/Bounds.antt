@@ -1,6 +1,7 @@
 -- How many elements and waiting operations there are at most.
 use Rattle.std.proofs.Common.{◌≡◌, ◌≤◌, ◌<◌, ◌+◌, ◌++◌, ℕ, zero, suc, Bool, true, false, List, [], ◌∷◌, length, take, Option, None, Some, sym, ap, subst, ◌∙◌, refl, true≢false, is_some, arith, length-append}
-use Rattle.std.specs.Prelude.{◌||◌, slice_get, map as each}
+use Rattle.std.specs.Prelude.{◌||◌, not, slice_get, map as each}
+use Rattle.std.proofs.lemmas.List.Sums.{length-filter, count_by-le-length}
 use Rattle.std.specs.List.{AllByRecursion, list_any}
 use Rattle.std.specs.FinMap as map
 use Rattle.std.specs.FinSet as set
@@ -11,6 +12,7 @@ use Rattle.bg_types.specs.declared.op.OpView.{OpView}
 use Rattle.bg_types.specs.declared.op.OpView.TheVariants.{Insert, Erase}
 use Rattle.bg_types.proofs.OperationSets.{get-union, unwrap_first}
 use Rattle.rga_tree.specs.Walk.{walk, walked_ids}
+use Rattle.rga_tree.specs.TextOf.{is_erased, text, visible}
 use Rattle.rga_tree.specs.Elements.{elements, element_of}
 use Rattle.rga_tree.proofs.WalkAmong.{Entry}
 use Rattle.rga_tree.proofs.Listed.{is_listed, all_listed}
@@ -52,6 +54,15 @@ some_second (Some n) b h = refl
 or_right : (a b : Bool) → b ≡ true → (a || b) ≡ true
 or_right true b h = refl
 or_right false b h = h
+
+-- a text has no more characters than there are operations
+pub text_within : (s : OperationSet) → AllWellFormed s → length (text s) ≤ size s
+text_within s well =
+    let characters = length-each (λ (e : Entry). e.1.ch) (visible s) in
+    let kept = length-filter (λ (e : Entry). not (is_erased s e.0)) (walk s Root) in
+    let some = count_by-le-length (λ (e : Entry). not (is_erased s e.0)) (walk s Root) in
+    let all = walk_within s well in
+    omega (arith, characters, kept, some, all)
 
 -- what waits is part of what is kept
 pub size_within : (t h : OperationSet) → size h ≤ size (union t h)

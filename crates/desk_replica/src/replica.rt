@@ -162,9 +162,10 @@ impl<S: Sequence> Replica<S> {
         }
     }
 
-    /// The visible characters in order.
+    /// The visible characters in order, at most 1,000,000.
     pub fn text(&self) -> Result<String, Memory>
-        ensures { IfOk result (λ t. string_bytes t ≡ encode_utf8_all (text self.now.set)) }
+        ensures ok { IfOk result (λ t. string_bytes t ≡ encode_utf8_all (text self.now.set)) }
+        ensures limited { length (text self.now.set) ≤ 1_000_000 }
     {
         text_of(self.alloc, &self.seq)
     }

@@ -21,6 +21,7 @@ impl<S: Sequence> Replica<S> {
         ensures ok { OnOk result (self.new.set ≡ union self.old.set other.now.set) }
         ensures agree { OnOk result (Agree self.old.set other.now.set) }
         ensures count { IfOk result (λ n. size self.new.set ≡ size self.old.set + n) }
+        ensures limited { OnOk result (size self.new.set ≤ 1_000_000) }
         ensures fault { IfErr result (IsMergeRefused self.old.set other.now.set self.new.set) }
         ensures nothing_new { ((op : OpView) → Holds other.now.set op → Holds self.old.set op) → IsOk result }
         ensures site { self.new.site ≡ self.old.site }

@@ -71,3 +71,9 @@ returns-clause-count g c =
     let a = c.self.invariant.counted.kept_is ∙ ap (λ (d : Desk). size d.set) c.self.view_is in
     let b = c.self-2.invariant.counted.kept_is ∙ ap (λ (d : Desk). size d.set) c.self-2.view_is in
     omega arith
+
+pub returns-clause-limited : goal.returns-clause-limited
+returns-clause-limited g c =
+    let kept = c.self-2.invariant.counted.kept_is ∙ ap (λ (d : Desk). size d.set) c.self-2.view_is in
+    let limited = c.self-2.invariant.counted.limited in
+    omega (arith, kept, limited)
