@@ -1,4 +1,4 @@
--- How many elements and waiting operations there are at most.
+-- How many elements and characters there are at most, and that nothing is listed where nothing is held.
 use Rattle.std.proofs.Common.{◌≡◌, ◌≤◌, ◌<◌, ◌+◌, ◌++◌, ℕ, zero, suc, Bool, true, false, List, [], ◌∷◌, length, take, Option, None, Some, sym, ap, subst, ◌∙◌, refl, true≢false, is_some, arith, length-append}
 use Rattle.std.specs.Prelude.{◌||◌, not, slice_get, map as each}
 use Rattle.std.proofs.lemmas.List.Sums.{length-filter, count_by-le-length}
@@ -23,7 +23,6 @@ use Rattle.pending_ops.specs.Chains.{is_in}
 use Rattle.pending_ops.proofs.Tables.{IsDistinct-apart, one_of}
 use Rattle.pending_ops.proofs.Views.{contains-from_list}
 use Rattle.pending_ops.proofs.Listing.{len-from_list}
-use Rattle.desk_replica.specs.Desk.{arrivals, deletion_of, insertion_of}
 use Rattle.desk_replica.specs.Placement.{waiting_in, whole}
 use Rattle.desk_replica.proofs.Whole.{contains-union, some_not}
 use Rattle.desk_replica.proofs.Sizes.{len_set-map, len_map-map, len_set-set}
@@ -47,14 +46,6 @@ walk_within s well =
     let l1 = length-each (λ (e : Entry). e.0) (walk s Root) in
     omega arith
 
-some_second : (a b : Option Node) → is_some b ≡ true → is_some (unwrap_first a b) ≡ true
-some_second None b h = h
-some_second (Some n) b h = refl
-
-or_right : (a b : Bool) → b ≡ true → (a || b) ≡ true
-or_right true b h = refl
-or_right false b h = h
-
 -- a text has no more characters than there are operations
 pub text_within : (s : OperationSet) → AllWellFormed s → length (text s) ≤ size s
 text_within s well =
@@ -63,13 +54,6 @@ text_within s well =
     let some = count_by-le-length (λ (e : Entry). not (is_erased s e.0)) (walk s Root) in
     let all = walk_within s well in
     omega (arith, characters, kept, some, all)
-
--- what waits is part of what is kept
-pub size_within : (t h : OperationSet) → size h ≤ size (union t h)
-size_within t h =
-    let a = len_map-map h.ins (union t h).ins (λ q e. ap is_some (get-union t h q) ∙ some_second (map.get t.ins q) (map.get h.ins q) e) in
-    let b = len_set-set h.del (union t h).del (λ q e. contains-union t h q ∙ or_right (set.contains t.del q) (set.contains h.del q) e) in
-    omega (arith, a, b)
 
 -- a set without operations is listed by the empty list
 pub lists_none : (s : OperationSet) (xs : List OpView) (n : ℕ) → n ≡ size s → n ≤ 0 → ListsOnce s (take n xs)
@@ -90,13 +74,3 @@ lists_none s xs n e z =
     no_place : (j : ℕ) (op : OpView) → slice_get [] j ≡ Some op → ⊥
     no_place zero op h = let f : None ≡ Some op = h in absurd cc
     no_place (suc j) op h = let f : None ≡ Some op = h in absurd cc
-
-pub length-arrivals : (t : OperationSet) (w : Waiting) (site : ℕ) → length (arrivals (desk_of t w site)) ≡ length (elements (whole t w)) + length (elements (whole t w)) + length (waiting_in w)
-length-arrivals t w site =
-    let es = elements (whole t w) in
-    let a = length-append (each (λ e. Some (insertion_of e)) es ++ each deletion_of es) (each (λ (op : OpView). Some op) (waiting_in w)) in
-    let b = length-append (each (λ e. Some (insertion_of e)) es) (each deletion_of es) in
-    let l0 = length-each (λ e. Some (insertion_of e)) es in
-    let l1 = length-each deletion_of es in
-    let l2 = length-each (λ (op : OpView). Some op) (waiting_in w) in
-    omega arith

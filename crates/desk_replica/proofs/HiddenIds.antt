@@ -1,59 +1,39 @@
--- The hidden elements of a row, from the front.
-use Rattle.std.proofs.Common.{◌≡◌, ◌≤◌, ◌<◌, ◌+◌, ◌-◌, ℕ, zero, suc, Bool, true, false, cond, List, [], ◌∷◌, length, drop, None, Some, sym, ap, ◌∙◌, refl, arith}
+-- What rows tell, one after the other: their insertions, and the hidden ones among them.
+use Rattle.std.proofs.Common.{◌≡◌, ◌<◌, ◌+◌, ◌-◌, ◌++◌, ℕ, true, false, cond, List, [], ◌∷◌, length, take, get_or, Some, sym, ap, ◌∙◌, arith, length-append}
 use Rattle.std.specs.Prelude.{slice_get, filter, map as each}
+use Rattle.std.proofs.lemmas.List.{map-append}
+use Rattle.std.proofs.lemmas.List.Elements.{filter-append}
 use Rattle.bg_types.specs.Identifier.{Identifier}
+use Rattle.bg_types.specs.declared.op.OpView.TheVariants.{Erase}
 use Rattle.rga_tree.specs.declared.element.Element.{Element}
 use Rattle.rga_tree.specs.Row.{hidden_ids}
-use Rattle.desk_replica.proofs.Lists.{slice_get-within}
+use Rattle.desk_replica.specs.Desk.{insertion_of}
+use Rattle.desk_replica.specs.Told.{insertions_in, deletions_in}
+use Rattle.desk_replica.proofs.Lists.{slice_get-left, slice_get-right}
 
-drop_at : (row : List Element) (j : ℕ) (e : Element) → slice_get row j ≡ Some e → drop j row ≡ e ∷ drop (suc j) row
-drop_at [] zero e is = absurd (let f : None ≡ Some e = is in cc)
-drop_at [] (suc j) e is = absurd (let f : None ≡ Some e = is in cc)
-drop_at (x ∷ row) zero e is = let same : x ≡ e = (let f : Some x ≡ Some e = is in cc) in ap (λ y. y ∷ row) same
-drop_at (x ∷ row) (suc j) e is = drop_at row j e is
+pub insertions-append : (xs ys : List Element) → insertions_in (xs ++ ys) ≡ insertions_in xs ++ insertions_in ys
+insertions-append xs ys = map-append insertion_of xs ys
 
--- the hidden ones from a place on
-hidden_from : (row : List Element) (j : ℕ) (e : Element) → slice_get row j ≡ Some e
-    → hidden_ids (drop j row) ≡ cond e.hidden (e.id ∷ hidden_ids (drop (j + 1) row)) (hidden_ids (drop (j + 1) row))
-hidden_from row j e is =
-    let next : suc j ≡ j + 1 = omega arith in
-    ap hidden_ids (drop_at row j e is ∙ ap (λ n. e ∷ drop n row) next) ∙ by e.hidden
-  where
-    by : (b : Bool) → each (λ (x : Element). x.id) (cond b (e ∷ filter (λ x. x.hidden) (drop (j + 1) row)) (filter (λ x. x.hidden) (drop (j + 1) row)))
-        ≡ cond b (e.id ∷ hidden_ids (drop (j + 1) row)) (hidden_ids (drop (j + 1) row))
-    by true = refl
-    by false = refl
+pub hidden-append : (xs ys : List Element) → hidden_ids (xs ++ ys) ≡ hidden_ids xs ++ hidden_ids ys
+hidden-append xs ys =
+    let hidden = λ (e : Element). e.hidden in
+    ap (each (λ (e : Element). e.id)) (filter-append hidden xs ys) ∙ map-append (λ (e : Element). e.id) (filter hidden xs) (filter hidden ys)
 
-pub hidden_from_front : (row : List Element) (j k : ℕ) → k ≡ 0 → slice_get (hidden_ids (drop j row)) k ≡ slice_get (hidden_ids (drop j row)) 0
-hidden_from_front row j k e = ap (slice_get (hidden_ids (drop j row))) e
+pub deletions-append : (xs ys : List Element) → deletions_in (xs ++ ys) ≡ deletions_in xs ++ deletions_in ys
+deletions-append xs ys = ap (each Erase) (hidden-append xs ys) ∙ map-append Erase (hidden_ids xs) (hidden_ids ys)
 
-pub hidden_here : (row : List Element) (j : ℕ) (e : Element) → slice_get row j ≡ Some e → e.hidden ≡ true → slice_get (hidden_ids (drop j row)) 0 ≡ Some e.id
-hidden_here row j e is holds = ap (λ xs. slice_get xs 0) (hidden_from row j e is ∙ ap (λ b. cond b (e.id ∷ hidden_ids (drop (j + 1) row)) (hidden_ids (drop (j + 1) row))) holds)
+-- a row of one
+pub hidden_one : (e : Element) → e.hidden ≡ true → hidden_ids (e ∷ []) ≡ e.id ∷ []
+hidden_one e is = ap (λ b. each (λ (x : Element). x.id) (cond b (e ∷ []) [])) is
 
-pub hidden_next : (row : List Element) (j k : ℕ) (e : Element) → slice_get row j ≡ Some e → e.hidden ≡ true → (k ≡ 0 → ⊥)
-    → slice_get (hidden_ids (drop (j + 1) row)) (k - 1) ≡ slice_get (hidden_ids (drop j row)) k
-hidden_next row j zero e is holds more = absurd (more refl)
-hidden_next row j (suc k) e is holds more =
-    let less : suc k - 1 ≡ k = omega arith in
-    ap (slice_get (hidden_ids (drop (j + 1) row))) less
-    ∙ sym (ap (λ xs. slice_get xs (suc k)) (hidden_from row j e is ∙ ap (λ b. cond b (e.id ∷ hidden_ids (drop (j + 1) row)) (hidden_ids (drop (j + 1) row))) holds))
+pub hidden_none : (e : Element) → e.hidden ≡ false → hidden_ids (e ∷ []) ≡ []
+hidden_none e is = ap (λ b. each (λ (x : Element). x.id) (cond b (e ∷ []) [])) is
 
-pub hidden_not : (row : List Element) (j k : ℕ) (e : Element) → slice_get row j ≡ Some e → e.hidden ≡ false
-    → slice_get (hidden_ids (drop (j + 1) row)) k ≡ slice_get (hidden_ids (drop j row)) k
-hidden_not row j k e is fails = sym (ap (λ xs. slice_get xs k) (hidden_from row j e is ∙ ap (λ b. cond b (e.id ∷ hidden_ids (drop (j + 1) row)) (hidden_ids (drop (j + 1) row))) fails))
+-- hidden element k of a row that is parted in three
+pub hidden_middle : (all front row rest : List Element) (k left : ℕ) (x : Identifier) → all ≡ front ++ row ++ rest → k ≡ length (hidden_ids front) + left → slice_get (hidden_ids row) left ≡ Some x → slice_get (hidden_ids all) k ≡ Some x
+hidden_middle all front row rest k left x parted at is =
+    ap (λ l. slice_get l k) (ap hidden_ids parted ∙ hidden-append (front ++ row) rest ∙ ap (λ l. l ++ hidden_ids rest) (hidden-append front row))
+    ∙ slice_get-left (hidden_ids front ++ hidden_ids row) (hidden_ids rest) k x (slice_get-right (hidden_ids front) (hidden_ids row) left k at ∙ is)
 
-drop_all : (row : List Element) (j : ℕ) → length row ≤ j → drop j row ≡ []
-drop_all [] zero h = refl
-drop_all [] (suc j) h = refl
-drop_all (x ∷ row) zero h = absurd (omega arith)
-drop_all (x ∷ row) (suc j) h = drop_all row j (omega arith)
-
-nothing_there : (k : ℕ) (x : Identifier) → slice_get [] k ≡ Some x → ⊥
-nothing_there zero x h = let f : None ≡ Some x = h in cc
-nothing_there (suc k) x h = let f : None ≡ Some x = h in cc
-
--- none is found behind the last
-pub hidden_found : (row : List Element) (j left k : ℕ) → length row ≤ j → k < length (hidden_ids row) → slice_get (hidden_ids (drop j row)) left ≡ slice_get (hidden_ids row) k → ⊥
-hidden_found row j left k long within h =
-    let x = slice_get-within (hidden_ids row) k within in
-    nothing_there left x.0 (sym (ap (λ r. slice_get (hidden_ids r) left) (drop_all row j long)) ∙ h ∙ x.1)
+pub length-hidden : (all front row : List Element) → all ≡ front ++ row → length (hidden_ids all) ≡ length (hidden_ids front) + length (hidden_ids row)
+length-hidden all front row parted = ap (λ r. length (hidden_ids r)) parted ∙ ap length (hidden-append front row) ∙ length-append (hidden_ids front) (hidden_ids row)

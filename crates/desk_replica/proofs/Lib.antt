@@ -10,9 +10,9 @@ pub mod FirstTurn
 pub mod Admitting
 pub mod Desks
 pub mod Lists
-pub mod Arrivals
+pub mod ElementPlaces
 pub mod Bounds
-pub mod Turns
+pub mod Disagreeing
 pub mod Merges
 pub mod Leaf
 pub mod Counters
@@ -22,3 +22,4 @@ pub mod Counts
 pub mod HiddenIds
 pub mod OnceEach
 pub mod Told
+pub mod InTurn

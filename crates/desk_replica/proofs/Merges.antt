@@ -1,5 +1,5 @@
 -- A merge takes all operations of the other desk.
-use Rattle.std.proofs.Common.{◌≡◌, ◌≤◌, ◌<◌, ◌+◌, ◌-◌, ℕ, zero, suc, Bool, true, false, List, length, Option, None, Some, sym, ap, subst, ◌∙◌, refl, true≢false, is_some, arith, inl, inr}
+use Rattle.std.proofs.Common.{◌≡◌, ◌≤◌, ◌<◌, ◌+◌, ◌-◌, ◌++◌, ℕ, zero, suc, Bool, true, false, List, [], ◌∷◌, length, Option, None, Some, sym, ap, subst, ◌∙◌, refl, true≢false, is_some, arith, inl, inr}
 use Rattle.std.specs.Prelude.{◌⊎◌, ◌↔◌, ◌≢◌, slice_get}
 use Rattle.std.specs.FinMap as map
 use Rattle.std.specs.FinSet as set
@@ -10,11 +10,11 @@ use Rattle.bg_types.specs.declared.op.OpView.TheVariants.{Insert, Erase}
 use Rattle.bg_types.proofs.OperationSets.{Holds-union, Holds-with_operation, same_operations, some_is}
 use Rattle.desk_replica.specs.declared.answer.TakeFault.{TakeFault}
 use Rattle.desk_replica.specs.declared.answer.TakeFault.TheVariants.{IdentifierReused, Full, Memory}
-use Rattle.desk_replica.specs.Desk.{ListsAll}
+use Rattle.pending_ops.specs.Waiting.{ListsOnce}
 use Rattle.desk_replica.specs.Reply.{IsRefused}
-use Rattle.desk_replica.specs.Merging.{Disagree, IsBetween, IsMergeRefused}
+use Rattle.desk_replica.specs.Merging.{Disagree, IsBetween, IsMergeRefused, IsStopped, with_operations}
 use Rattle.desk_replica.proofs.Sizes.{len_map-map, len_set-set}
-use Rattle.desk_replica.proofs.Lists.{within-slice_get}
+use Rattle.desk_replica.proofs.Lists.{slice_get-left, slice_get-right}
 
 pub disagree_of : (s t : OperationSet) (op : OpView) → ReusesIdentifier s op → Holds t op → Disagree s t
 disagree_of s t (Insert id parent ch) r h = record { id = id; one = r.0; other = record { parent = parent; ch = ch }; in_s = r.1; in_t = h; differ = r.2 }
@@ -78,19 +78,6 @@ size_more s u keeps =
     let b = len_set-set s.del u.del (λ q e. keeps (Erase q) e) in
     omega (arith, a, b)
 
--- after every turn all is taken
-pub all_taken : (t u : OperationSet) (turns : List (Option OpView)) (n : ℕ) → n ≡ length turns → ListsAll t turns → ((i : ℕ) (op : OpView) → i < n → slice_get turns i ≡ Some (Some op) → Holds u op) → (op : OpView) → Holds t op → Holds u op
-all_taken t u turns n e lists taken op h =
-    let f = (lists op).0 h in
-    let w = within-slice_get turns f.0 (Some op) f.1 in
-    taken f.0 op (omega arith) f.1
-
-pub all_join : (s t : OperationSet) (turns : List (Option OpView)) (n : ℕ) → n ≡ length turns → ListsAll t turns → ((i : ℕ) (op : OpView) → i < n → slice_get turns i ≡ Some (Some op) → MayJoin s op) → Agree s t
-all_join s t turns n e lists may = agree_of s t (λ op h.
-    let f = (lists op).0 h in
-    let w = within-slice_get turns f.0 (Some op) f.1 in
-    may f.0 op (omega arith) f.1)
-
 -- where the other holds nothing new, only a reuse is refused
 pub nothing_refused : (s t u : OperationSet) (fault : TakeFault) → ((op : OpView) → Holds t op → Holds s op) → IsMergeRefused s t u fault → ⊥
 nothing_refused s t u IdentifierReused sub r =
@@ -99,30 +86,40 @@ nothing_refused s t u IdentifierReused sub r =
 nothing_refused s t u Full sub r = r.3.1.1 (r.1.keeps r.3.0 (sub r.3.0 r.3.1.0))
 nothing_refused s t u Memory sub r = r.3.1.1 (r.1.keeps r.3.0 (sub r.3.0 r.3.1.0))
 
--- the operations of the first n turns are held
-abbrev pub AreTaken : List (Option OpView) → ℕ → OperationSet → Type 0
-AreTaken turns n u = (i : ℕ) (op : OpView) → i < n → slice_get turns i ≡ Some (Some op) → Holds u op
+-- what operations of t make of a set between S and S with t
+pub record Joins (s t u v : OperationSet) (ops : List OpView) : Type 0 where
+  pub between : IsBetween s t v
+  pub keeps : (op : OpView) → Holds u op → Holds v op
+  pub holds : (j : ℕ) (op : OpView) → slice_get ops j ≡ Some op → Holds v op
 
-same_op : (a b : OpView) (o : Option (Option OpView)) → o ≡ Some (Some a) → o ≡ Some (Some b) → a ≡ b
-same_op a b o e f = let g : Some (Some a) ≡ Some (Some b) = sym e ∙ f in cc
+nothing_at : (j : ℕ) (op : OpView) → slice_get [] j ≡ Some op → ⊥
+nothing_at zero op h = let f : None ≡ Some op = h in cc
+nothing_at (suc j) op h = let f : None ≡ Some op = h in cc
 
-no_op : (a : OpView) (o : Option (Option OpView)) → o ≡ Some None → o ≡ Some (Some a) → ⊥
-no_op a o e f = let g : Some None ≡ Some (Some a) = sym e ∙ f in absurd cc
+pub joins_all : (s t u : OperationSet) (ops : List OpView) → Agree s t → IsBetween s t u → ((j : ℕ) (op : OpView) → slice_get ops j ≡ Some op → Holds t op) → Joins s t u (with_operations u ops) ops
+joins_all s t u [] agree between of_t = record { between = between; keeps = λ op h. h; holds = λ j op h. absurd (nothing_at j op h) }
+joins_all s t u (x ∷ ops) agree between of_t =
+    let v = with_operation u x in
+    let one = between_more s t u v x agree between (of_t zero x refl) refl in
+    let rest = joins_all s t v ops agree one.0 (λ j op h. of_t (suc j) op h) in
+    record { between = rest.between; keeps = λ op h. rest.keeps op (one.1.1 op h); holds = held (with_operations v ops) (rest.keeps x one.1.0) rest.holds }
+  where
+    held : (w : OperationSet) → Holds w x → ((j : ℕ) (op : OpView) → slice_get ops j ≡ Some op → Holds w op) → (j : ℕ) (op : OpView) → slice_get (x ∷ ops) j ≡ Some op → Holds w op
+    held w here rest zero op h = let same : x ≡ op = (let f : Some x ≡ Some op = h in cc) in subst (Holds w) same here
+    held w here rest (suc j) op h = rest j op h
 
-at_or_before : (i j : ℕ) → i < j + 1 → (i < j) ⊎ (i ≡ j)
-at_or_before zero zero h = inr refl
-at_or_before zero (suc j) h = inl (omega arith)
-at_or_before (suc i) zero h = absurd (omega arith)
-at_or_before (suc i) (suc j) h = elim (at_or_before i j (omega arith)) [ inl a ↦ inl (omega arith) | inr b ↦ inr (ap (λ n. suc n) b) ]
+-- S with each operation of t is their union
+pub taken_united : (s t u : OperationSet) (ops : List OpView) → Agree s t → ListsOnce t ops → u ≡ with_operations s ops → (u ≡ union s t) × ((op : OpView) → Holds s op → Holds u op)
+taken_united s t u ops agree lists taken =
+    let all = joins_all s t s ops agree (between_start s t) (λ j op h. (lists.each op).1 (j, h)) in (
+      taken ∙ united s t (with_operations s ops) agree all.between (λ op h. let f = (lists.each op).0 h in all.holds f.0 op f.1),
+      λ op h. subst (λ x. Holds x op) (sym taken) (all.keeps op h),
+    )
 
-pub taken_more : (turns : List (Option OpView)) (j : ℕ) (op : OpView) (u v : OperationSet) → AreTaken turns j u → slice_get turns j ≡ Some (Some op) → Holds v op → ((x : OpView) → Holds u x → Holds v x) → AreTaken turns (j + 1) v
-taken_more turns j op u v taken at h keeps i x lt e = elim (at_or_before i j lt) [
-  | inl a ↦ keeps x (taken i x a e)
-  | inr b ↦ subst (Holds v) (same_op op x (slice_get turns j) at (ap (slice_get turns) (sym b) ∙ e)) h
-]
-
-pub taken_skip : (turns : List (Option OpView)) (j : ℕ) (u : OperationSet) → AreTaken turns j u → slice_get turns j ≡ Some None → AreTaken turns (j + 1) u
-taken_skip turns j u taken at i x lt e = elim (at_or_before i j lt) [
-  | inl a ↦ taken i x a e
-  | inr b ↦ absurd (no_op x (slice_get turns j) at (ap (slice_get turns) (sym b) ∙ e))
-]
+-- where an operation of t is refused, so is the merge
+pub stopped_refused : (s t u : OperationSet) (ops : List OpView) (fault : TakeFault) → Agree s t → ListsOnce t ops → IsStopped s ops u fault → IsMergeRefused s t u fault
+stopped_refused s t u ops fault agree lists h =
+    let at : (j : ℕ) (op : OpView) → slice_get (h.before ++ h.op ∷ h.after) j ≡ Some op → Holds t op = λ j op f. (lists.each op).1 (j, ap (λ l. slice_get l j) h.in_order ∙ f) in
+    let some = joins_all s t s h.before agree (between_start s t) (λ j op f. at j op (slice_get-left h.before (h.op ∷ h.after) j op f)) in
+    merge_refused s t u h.op fault agree (subst (IsBetween s t) (sym h.taken) some.between)
+    (at (length h.before) h.op (slice_get-right h.before (h.op ∷ h.after) 0 (length h.before) (omega arith))) h.refused

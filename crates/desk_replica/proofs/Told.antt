@@ -28,9 +28,8 @@ use Rattle.desk_replica.proofs.Whole.{contains-union, first_none, some_not, whic
 use Rattle.desk_replica.proofs.Settled.{elements-whole, in_whole, there}
 use Rattle.desk_replica.proofs.Admitting.{IsContent}
 use Rattle.desk_replica.proofs.Desks.{desk_of}
-use Rattle.desk_replica.proofs.Lists.{slice_get-left, slice_get-right, slice_get-from, slice_get-to, length-each}
-use Rattle.desk_replica.proofs.Arrivals.{element_at, element_for}
-use Rattle.desk_replica.proofs.Turns.{slice_get-take}
+use Rattle.desk_replica.proofs.Lists.{slice_get-left, slice_get-right, slice_get-from, slice_get-to, slice_get-take, length-each}
+use Rattle.desk_replica.proofs.ElementPlaces.{element_at, element_for}
 use Rattle.desk_replica.proofs.OnceEach.{Lists, Once, lists_size}
 
 or_left : (a b : Bool) → a ≡ true → (a || b) ≡ true
@@ -155,6 +154,15 @@ deletion_place row waiting j q h = elim (slice_get_either (each insertion_of row
   | inr a ↦ inr a
 ]
 
+-- what waits is kept
+pub late_kept : (t : OperationSet) (w : Waiting) → IsSettled t w → (op : OpView) → Holds w.held op → Holds (whole t w) op
+late_kept t w d (Insert q p ch) h = get-union t w.held q ∙ first_none (map.get t.ins q) (map.get w.held.ins q) (by (map.get t.ins q) refl) ∙ h
+  where
+    by : (o : Option Node) → map.get t.ins q ≡ o → map.get t.ins q ≡ None
+    by None e = e
+    by (Some n) e = some_not (record { parent = p; ch = ch }) _ (sym (d.parted.apart q (ap is_some e)) ∙ h)
+late_kept t w d (Erase q) h = contains-union t w.held q ∙ or_right (set.contains t.del q) (set.contains w.held.del q) h
+
 module _ (t : OperationSet) (w : Waiting) (c : IsContent t) (d : IsSettled t w) (lists : ListsOnce w.held (waiting_in w)) where
   abbrev row : List Element
   row = elements t
@@ -176,24 +184,15 @@ module _ (t : OperationSet) (w : Waiting) (c : IsContent t) (d : IsSettled t w) 
       let mark : set.contains t.del r.element.id ≡ r.element.hidden = subst (λ (y : Element). set.contains t.del y.id ≡ y.hidden) x.1.1 refl in
       ap (set.contains t.del) (sym r.names) ∙ mark ∙ r.hidden
 
-  -- what waits is kept
-  late_kept : (op : OpView) → Holds w.held op → Holds (whole t w) op
-  late_kept (Insert q p ch) h = get-union t w.held q ∙ first_none (map.get t.ins q) (map.get w.held.ins q) (by (map.get t.ins q) refl) ∙ h
-    where
-      by : (o : Option Node) → map.get t.ins q ≡ o → map.get t.ins q ≡ None
-      by None e = e
-      by (Some n) e = some_not (record { parent = p; ch = ch }) _ (sym (d.parted.apart q (ap is_some e)) ∙ h)
-  late_kept (Erase q) h = contains-union t w.held q ∙ or_right (set.contains t.del q) (set.contains w.held.del q) h
-
   -- each place is of a kept operation
   sound : (op : OpView) (j : ℕ) → slice_get ops j ≡ Some op → Holds (whole t w) op
   sound (Insert q p ch) j h = elim (insertion_place row (waiting_in w) j q p ch h) [
     | inl a ↦ subst (Holds (whole t w)) a.1.1 (in_whole t w.held c.well d.well_formed c.tree c.only d.parted a.0.id (record { parent = a.0.parent; ch = a.0.ch }) (insertion_in j a.0 a.1.0))
-    | inr a ↦ late_kept (Insert q p ch) ((lists.each (Insert q p ch)).1 (a.0, a.1.1))
+    | inr a ↦ late_kept t w d (Insert q p ch) ((lists.each (Insert q p ch)).1 (a.0, a.1.1))
   ]
   sound (Erase q) j h = elim (deletion_place row (waiting_in w) j q h) [
     | inl a ↦ contains-union t w.held q ∙ or_left (set.contains t.del q) (set.contains w.held.del q) (deletion_in a.0 q a.1.1)
-    | inr a ↦ late_kept (Erase q) ((lists.each (Erase q)).1 (a.0, a.1.1))
+    | inr a ↦ late_kept t w d (Erase q) ((lists.each (Erase q)).1 (a.0, a.1.1))
   ]
 
   -- and each kept operation has a place
@@ -273,7 +272,7 @@ module _ (t : OperationSet) (w : Waiting) (c : IsContent t) (d : IsSettled t w) 
 -- ---- the list of a desk
 
 module _ (t : OperationSet) (w : Waiting) (site : ℕ) (d : Desk) (c : IsContent t) (s : IsSettled t w) (view : desk_of t w site ≡ d) where
-  told_is : told_by (elements t) (waiting_in w) ≡ told d
+  pub told_is : told_by (elements t) (waiting_in w) ≡ told d
   told_is = ap (λ row. told_by row (waiting_in w)) (sym (elements-whole t w.held c.well s.well_formed c.tree c.only s.parted)) ∙ ap told view
 
   pub told_once : ListsOnce w.held (waiting_in w) → ListsOnce d.set (told d)

@@ -35,15 +35,3 @@ coded_desk =
     (coded× (map.code coded_identifier coded_node) (coded× (set.code coded_identifier) (coded× coded_ℕ (coded_list coded_operation))))
     (λ d. (d.set.ins, (d.set.del, (d.site, d.waiting))))
     (λ p. record { set = record { ins = p.0; del = p.1.0 }; site = p.1.1.0; waiting = p.1.1.1 }) (λ _. refl)
-
-abbrev pub deletion_of : Element → Option OpView
-deletion_of e = if e.hidden then Some (Erase e.id) else None
-
--- what a merge takes in turn: the attached insertions in the order of the walk, then their deletions, with a gap where
--- there is none, then those that wait
-abbrev pub arrivals : Desk → List (Option OpView)
-arrivals d = each (λ e. Some (insertion_of e)) (elements d.set) ++ each deletion_of (elements d.set) ++ each (λ op. Some op) d.waiting
-
--- the operations of S, and no others, stand in the list
-abbrev pub ListsAll : OperationSet → List (Option OpView) → Type 0
-ListsAll s ops = (op : OpView) → Holds s op ↔ ((j : ℕ) × (slice_get ops j ≡ Some (Some op)))

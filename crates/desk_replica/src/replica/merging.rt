@@ -1,18 +1,24 @@
 //! Taking all operations of another desk.
 
-ghost use Rattle.std.specs.Prelude.{◌≡◌, ◌≤◌, ◌<◌, ◌+◌, Some, OnOk, IfOk, IfErr, IsOk, length, slice_get};
+ghost use Rattle.std.specs.Prelude.{◌≡◌, ◌≤◌, ◌+◌, OnOk, IfOk, IfErr, IsOk, All, length};
 ghost use Rattle.std.specs.Bool.{OnTrue, OnFalse};
-ghost use Rattle.bg_types.specs.OperationSet.{Holds, Agree, union, size};
+ghost use Rattle.bg_types.specs.OperationSet.{Holds, Agree, MayJoin, ReusesIdentifier, union, size};
+ghost use Rattle.bg_types.specs.WellFormed.{MayFollow};
 ghost use Rattle.bg_types.specs.declared.op.OpView.{OpView};
-ghost use Rattle.desk_replica.specs.Desk.{arrivals, ListsAll};
-ghost use Rattle.desk_replica.specs.Merging.{Disagree, IsMergeRefused};
+ghost use Rattle.rga_tree.specs.Elements.{elements};
+ghost use Rattle.pending_ops.specs.Waiting.{ListsOnce};
+ghost use Rattle.desk_replica.specs.Desk.{insertion_of as made_by};
+ghost use Rattle.desk_replica.specs.Told.{told, insertions_in, deletions_in};
+ghost use Rattle.desk_replica.specs.Placement.{waiting_in};
+ghost use Rattle.desk_replica.specs.Merging.{Disagree, IsMergeRefused, IsStopped, ReusesIn, with_operations};
 
 use super::Replica;
 use crate::answer::TakeFault;
 use crate::placing::{Standing, count_waiting, look_up};
 use crate::reading::insertion_of;
 use bg_types::Op;
-use rga_tree::Sequence;
+use pending_ops::Held;
+use rga_tree::{Element, Sequence};
 
 impl<S: Sequence> Replica<S> {
     /// Takes all operations of another desk, and answers how many were new. After
@@ -30,14 +36,7 @@ impl<S: Sequence> Replica<S> {
             return Err(TakeFault::IdentifierReused);
         }
         let before = self.kept;
-        for j in 0..other.arrivals() {
-            match other.arrival(j) {
-                Some(op) => {
-                    self.take(&op)?;
-                }
-                None => {}
-            }
-        }
+        self.take_told(other)?;
         Ok(self.kept - before)
     }
 
@@ -46,42 +45,127 @@ impl<S: Sequence> Replica<S> {
         ensures yes { OnTrue result (Disagree self.now.set other.now.set) }
         ensures no { OnFalse result (Agree self.now.set other.now.set) }
     {
-        for j in 0..other.arrivals() {
-            if let Some(op) = other.arrival(j) {
-                if look_up(&self.seq, &self.held, &op) == Standing::Reused {
-                    return true;
-                }
+        self.disagrees_placed(&other.seq) || self.disagrees_waiting(&other.held)
+    }
+
+    fn disagrees_placed(&self, seq: &S) -> bool
+        ensures yes { OnTrue result (Disagree self.now.set (S.content seq.now)) }
+        ensures no { OnFalse result (Agree self.now.set (S.content seq.now)) }
+    {
+        for p in 0..seq.part_count() {
+            if self.disagrees_row(seq.part(p)) {
+                return true;
             }
         }
         false
     }
 
-    /// How many turns it takes to go over all operations.
-    fn arrivals(&self) -> usize
-        ensures count { result ≡ length (arrivals self.now) }
-        ensures all { ListsAll self.now.set (arrivals self.now) }
+    fn disagrees_row(&self, row: &[Element]) -> bool
+        requires { All (λ e. MayFollow e.parent e.id) row.now }
+        ensures yes { OnTrue result (ReusesIn self.now.set row.now) }
+        ensures no { OnFalse result (All (λ e. MayJoin self.now.set (made_by e)) row.now) }
     {
-        2 * self.seq.placed() + count_waiting(&self.held)
+        for e in row {
+            if self.reuses(&insertion_of(e)) {
+                return true;
+            }
+        }
+        false
     }
 
-    /// The operation of a turn: each placed insertion, then the deletion of each placed one where
-    /// it is hidden, then each one that waits.
-    fn arrival(&self, j: usize) -> Option<Op>
-        requires { j < length (arrivals self.now) }
-        ensures { slice_get (arrivals self.now) j ≡ Some result }
+    fn disagrees_waiting(&self, held: &Held) -> bool
+        ensures yes { OnTrue result (Disagree self.now.set held.now.held) }
+        ensures no { OnFalse result (Agree self.now.set held.now.held) }
     {
-        let placed = self.seq.placed();
-        if j < placed {
-            return Some(insertion_of(&self.seq.nth(j)));
+        for j in 0..count_waiting(held) {
+            if self.reuses(&held.nth(j)) {
+                return true;
+            }
         }
-        if j - placed < placed {
-            let e = self.seq.nth(j - placed);
-            return if e.hidden {
-                Some(Op::erase(e.id))
-            } else {
-                None
-            };
+        false
+    }
+
+    /// Whether an operation's identifier is kept with another parent or character.
+    fn reuses(&self, op: &Op) -> bool
+        ensures yes { OnTrue result (ReusesIdentifier self.now.set op.now) }
+        ensures no { OnFalse result (MayJoin self.now.set op.now) }
+    {
+        look_up(&self.seq, &self.held, op) == Standing::Reused
+    }
+
+    /// Takes the operations of another desk in the order in which `op_at` tells them. The elements
+    /// are read part after part, since `nth` of each may cost more than to read it.
+    fn take_told(&mut self, other: &Replica<S>) -> Result<(), TakeFault>
+        ensures ok { OnOk result (self.new.set ≡ with_operations self.old.set (told other.now)) }
+        ensures fault { IfErr result (IsStopped self.old.set (told other.now) self.new.set) }
+        ensures all { ListsOnce other.now.set (told other.now) }
+        ensures site { self.new.site ≡ self.old.site }
+    {
+        let waiting = count_waiting(&other.held);
+        self.take_insertions(&other.seq)?;
+        self.take_deletions(&other.seq)?;
+        self.take_waiting(&other.held, waiting)
+    }
+
+    fn take_insertions(&mut self, seq: &S) -> Result<(), TakeFault>
+        ensures ok { OnOk result (self.new.set ≡ with_operations self.old.set (insertions_in (elements (S.content seq.now)))) }
+        ensures fault { IfErr result (IsStopped self.old.set (insertions_in (elements (S.content seq.now))) self.new.set) }
+        ensures site { self.new.site ≡ self.old.site }
+    {
+        for p in 0..seq.part_count() {
+            self.insert_row(seq.part(p))?;
         }
-        Some(self.held.nth(j - placed - placed))
+        Ok(())
+    }
+
+    /// Takes the insertions that made the elements of a row.
+    fn insert_row(&mut self, row: &[Element]) -> Result<(), TakeFault>
+        requires { All (λ e. MayFollow e.parent e.id) row.now }
+        ensures ok { OnOk result (self.new.set ≡ with_operations self.old.set (insertions_in row.now)) }
+        ensures fault { IfErr result (IsStopped self.old.set (insertions_in row.now) self.new.set) }
+        ensures site { self.new.site ≡ self.old.site }
+    {
+        for e in row {
+            self.take(&insertion_of(e))?;
+        }
+        Ok(())
+    }
+
+    fn take_deletions(&mut self, seq: &S) -> Result<(), TakeFault>
+        ensures ok { OnOk result (self.new.set ≡ with_operations self.old.set (deletions_in (elements (S.content seq.now)))) }
+        ensures fault { IfErr result (IsStopped self.old.set (deletions_in (elements (S.content seq.now))) self.new.set) }
+        ensures site { self.new.site ≡ self.old.site }
+    {
+        for p in 0..seq.part_count() {
+            self.erase_row(seq.part(p))?;
+        }
+        Ok(())
+    }
+
+    /// Takes the deletions of the hidden elements of a row.
+    fn erase_row(&mut self, row: &[Element]) -> Result<(), TakeFault>
+        ensures ok { OnOk result (self.new.set ≡ with_operations self.old.set (deletions_in row.now)) }
+        ensures fault { IfErr result (IsStopped self.old.set (deletions_in row.now) self.new.set) }
+        ensures site { self.new.site ≡ self.old.site }
+    {
+        for e in row {
+            if e.hidden {
+                self.take(&Op::erase(e.id))?;
+            }
+        }
+        Ok(())
+    }
+
+    /// Takes the operations that wait in a store of so many.
+    fn take_waiting(&mut self, held: &Held, count: usize) -> Result<(), TakeFault>
+        requires { count ≡ size held.now.held }
+        ensures ok { OnOk result (self.new.set ≡ with_operations self.old.set (waiting_in held.now)) }
+        ensures fault { IfErr result (IsStopped self.old.set (waiting_in held.now) self.new.set) }
+        ensures site { self.new.site ≡ self.old.site }
+    {
+        for j in 0..count {
+            self.take(&held.nth(j))?;
+        }
+        Ok(())
     }
 }

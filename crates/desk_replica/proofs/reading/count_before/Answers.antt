@@ -1,39 +1,48 @@
-use Rattle.std.proofs.Common.{◌≡◌, true, false, not, take, sym, ap, ◌∙◌, arith}
-use Rattle.std.specs.Prelude.{count_by}
-use Rattle.std.specs.Cmp.{both_tied, unsigned_ties}
-use Rattle.bg_types.specs.Identifier.{same_id}
-use Rattle.rga_tree.specs.declared.element.Element.{Element}
+use Rattle.std.proofs.Common.{◌≡◌, ◌≤◌, ◌<◌, ◌+◌, length, sym, ap, ◌∙◌, arith}
 use Rattle.rga_tree.specs.Elements.{elements}
-use Rattle.desk_replica.proofs.Counts.{counted_yes, counted_no, passes, stops, ends}
+use Rattle.desk_replica.specs.Told.{in_front, count_visible}
+use Rattle.desk_replica.proofs.Counts.{front_all, front_most, part_count, part_found, part_missing, part_within}
+use Rattle.desk_replica.proofs.InTurn.{joined}
 use Rattle.desk_replica.proofs.reading.count_before.Goals as goal
-use Rattle.desk_replica.proofs.reading.count_before.Goals.{then-not-e, else-not-e}
 
-pub returns-then-eq : goal.returns-then-eq
-returns-then-eq g c =
-    let row = elements (g.S.Sequence.content c.args.seq.now) in
-    let e = c.nth-e.result in
-    let tied : c.eq.result ≡ same_id c.args.id e.id = c.eq.ensures ∙ both_tied _ _ _ _ (unsigned_ties c.args.id.counter e.id.counter) (unsigned_ties c.args.id.site e.id.site) in
-    let here : not (same_id c.args.id e.id) ≡ false = ap not (sym tied ∙ c.if-eq.true) in
-    let n = stops (λ (x : Element). not (same_id c.args.id x.id)) row c.loop-j.j e c.nth-e.ensures here c.loop-j.invariant.passed in
-    c.loop-j.invariant.counted ∙ ap (λ k. count_by (λ (x : Element). not x.hidden) (take k row)) (sym n)
+pub returns-in-Ok : goal.returns-in-Ok
+returns-in-Ok g c =
+    let seq = c.args.seq.now in
+    let n = part_found c.args.id (g.S.Sequence.parts seq) c.loop-p.p c.part.result.now (elements (g.S.Sequence.content seq)) (omega (arith, c.loop-p-test.true, c.part_count-p-end.ensures)) c.part.ensures (g.met.S.Sequence.whole seq)
+    c.loop-p.invariant.passed c.in-Ok.ensures.found in
+    omega (arith, n, c.loop-p.invariant.counted, c.in-Ok.ensures.ok)
 
-pub loop-j-preserved : goal.loop-j-preserved
-loop-j-preserved g c =
-    let row = elements (g.S.Sequence.content c.args.seq.now) in
-    let e = c.nth-e.result in
-    let tied : c.eq.result ≡ same_id c.args.id e.id = c.eq.ensures ∙ both_tied _ _ _ _ (unsigned_ties c.args.id.counter e.id.counter) (unsigned_ties c.args.id.site e.id.site) in
-    let other : not (same_id c.args.id e.id) ≡ true = ap not (sym tied ∙ c.if-eq.false) in
-    let seen = λ (x : Element). not x.hidden in
+pub overflow_add-result : goal.overflow_add-result
+overflow_add-result g c =
+    let seq = c.args.seq.now in
+    let all = elements (g.S.Sequence.content seq) in
+    let n = part_found c.args.id (g.S.Sequence.parts seq) c.loop-p.p c.part.result.now all (omega (arith, c.loop-p-test.true, c.part_count-p-end.ensures)) c.part.ensures (g.met.S.Sequence.whole seq)
+    c.loop-p.invariant.passed c.in-Ok.ensures.found in
+    let le : c.loop-p.count + c.in-Ok.before ≤ c.placed-placed.result = omega (arith, n, c.loop-p.invariant.counted, c.in-Ok.ensures.ok, front_most c.args.id all, c.placed-placed.ensures) in
+    omega (arith, le)
+
+pub overflow_add-count : goal.overflow_add-count
+overflow_add-count g c =
+    let seq = c.args.seq.now in
+    let n = part_within c.args.id (g.S.Sequence.parts seq) c.loop-p.p c.part.result.now (elements (g.S.Sequence.content seq)) (omega (arith, c.loop-p-test.true, c.part_count-p-end.ensures)) c.part.ensures (g.met.S.Sequence.whole seq)
+    c.loop-p.invariant.passed in
+    let le : c.loop-p.count + c.in-Err.all ≤ c.placed-placed.result = omega (arith, n, c.loop-p.invariant.counted, c.in-Err.ensures.err, c.placed-placed.ensures) in
+    omega (arith, le)
+
+pub loop-p-preserved : goal.loop-p-preserved
+loop-p-preserved g c =
+    let seq = c.args.seq.now in
+    let parts = g.S.Sequence.parts seq in
+    let all = elements (g.S.Sequence.content seq) in
+    let within : c.loop-p.p < length parts = omega (arith, c.loop-p-test.true, c.part_count-p-end.ensures) in
+    let n = part_count c.args.id parts c.loop-p.p c.part.result.now all within c.part.ensures (g.met.S.Sequence.whole seq) c.loop-p.invariant.passed in
     record {
-      counted = elim c.if-not-e.branch [
-        | then-not-e w ↦ let n = counted_yes seen row c.loop-j.j e c.nth-e.ensures (ap not w.if-not-e.true) in let m = c.loop-j.invariant.counted in omega (arith, n, m, w.count-is)
-        | else-not-e w ↦ w.count-is ∙ c.loop-j.invariant.counted ∙ sym (counted_no seen row c.loop-j.j e c.nth-e.ensures (ap not w.if-not-e.false))
-      ];
-      passed = passes (λ (x : Element). not (same_id c.args.id x.id)) row c.loop-j.j e c.nth-e.ensures other c.loop-j.invariant.passed;
+      counted = omega (arith, n, c.loop-p.invariant.counted, c.in-Err.ensures.err);
+      passed = part_missing c.args.id parts c.loop-p.p c.part.result.now all within c.part.ensures (g.met.S.Sequence.whole seq) c.loop-p.invariant.passed c.in-Err.ensures.missing;
     }
 
 pub returns : goal.returns
 returns g c =
-    let row = elements (g.S.Sequence.content c.args.seq.now) in
-    let n = ends (λ (x : Element). not (same_id c.args.id x.id)) row c.loop-j.j (omega (arith, c.placed-j-end.ensures)) c.loop-j.invariant.passed in
-    c.loop-j.invariant.counted ∙ ap (λ k. count_by (λ (x : Element). not x.hidden) (take k row)) (sym n)
+    let seq = c.args.seq.now in
+    let done = c.loop-p-test.false in
+    c.loop-p.invariant.counted ∙ front_all c.args.id (g.S.Sequence.parts seq) c.loop-p.p (elements (g.S.Sequence.content seq)) (g.met.S.Sequence.whole seq) (omega (arith, c.part_count-p-end.ensures)) c.loop-p.invariant.passed

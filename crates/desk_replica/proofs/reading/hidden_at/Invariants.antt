@@ -1,8 +1,7 @@
-use Rattle.std.proofs.Common.{◌≡◌, drop}
-use Rattle.std.specs.Prelude.{slice_get}
-use Rattle.rga_tree.specs.Elements.{elements}
+use Rattle.std.proofs.Common.{◌≡◌, ◌+◌, take, length}
 use Rattle.rga_tree.specs.Row.{hidden_ids}
+use Rattle.desk_replica.proofs.InTurn.{joined}
 use Rattle.desk_replica.proofs.reading.hidden_at.Given as goal
 
-abbrev pub invariant-loop-j : goal.invariant-loop-j
-invariant-loop-j g l = let row = elements (g.S.Sequence.content l.seq) in slice_get (hidden_ids (drop l.j row)) l.left ≡ slice_get (hidden_ids row) l.fn.k
+abbrev pub invariant-loop-p : goal.invariant-loop-p
+invariant-loop-p g l = l.fn.k ≡ length (hidden_ids (joined (take l.p (g.S.Sequence.parts l.seq)))) + l.left

@@ -1,7 +1,7 @@
 use Rattle.std.proofs.Common.{◌-◌, Some, sym, ap, ◌∙◌, arith}
 use Rattle.bg_types.specs.declared.op.OpView.{OpView}
 use Rattle.desk_replica.proofs.Told.{told_once, reached, told_insertion, told_deletion, told_late, size_is}
-use Rattle.desk_replica.proofs.Turns.{follows_parent}
+use Rattle.desk_replica.proofs.ElementPlaces.{follows_parent}
 use Rattle.desk_replica.proofs.replica.Replica.op_at.Goals as goal
 
 pub overflow_sub-reached : goal.overflow_sub-reached

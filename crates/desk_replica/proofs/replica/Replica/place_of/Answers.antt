@@ -1,6 +1,7 @@
 use Rattle.std.proofs.Common.{◌≡◌, true, false, true≢false, ap, sym, ◌∙◌, refl}
+use Rattle.desk_replica.specs.Told.{in_front, count_visible}
 use Rattle.desk_replica.proofs.Desks.{reads}
-use Rattle.desk_replica.proofs.Counts.{before_elements, before_in}
+use Rattle.desk_replica.proofs.Counts.{before_elements}
 use Rattle.desk_replica.proofs.replica.Replica.place_of.Goals as goal
 
 pub returns-then-not-has-clause-placed : goal.returns-then-not-has-clause-placed
@@ -18,4 +19,4 @@ returns-clause-placed g c =
 pub returns-clause-value : goal.returns-clause-value
 returns-clause-value g c =
     let r = reads (g.S.Sequence.content c.self.inside.seq) c.self.inside.held c.self.inside.site c.args.self.now (record { well = g.met.S.Sequence.well_formed c.self.inside.seq; tree = g.met.S.Sequence.is_tree c.self.inside.seq; only = g.met.S.Sequence.only_placed c.self.inside.seq }) c.self.invariant.settled c.self.view_is in
-    c.count_before.ensures ∙ ap (before_in c.args.id) r.elements_is ∙ before_elements c.args.self.now.set c.args.id
+    c.count_before.ensures ∙ ap (λ row. count_visible (in_front c.args.id row)) r.elements_is ∙ before_elements c.args.self.now.set c.args.id

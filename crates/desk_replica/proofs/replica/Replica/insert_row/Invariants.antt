@@ -1,0 +1,10 @@
+use Rattle.std.proofs.Common.{◌≡◌, take}
+use Rattle.desk_replica.specs.Told.{insertions_in}
+use Rattle.desk_replica.specs.Merging.{with_operations}
+use Rattle.desk_replica.proofs.replica.Replica.insert_row.Given as goal
+
+abbrev pub invariant-loop-e : goal.invariant-loop-e
+invariant-loop-e g l = record {
+  taken : l.self.set ≡ with_operations l.fn.self.set (insertions_in (take l.e-index l.row));
+  site : l.self.site ≡ l.fn.self.site;
+}

@@ -1,0 +1,31 @@
+use Rattle.std.proofs.Common.{◌≡◌, sym, ap, ◌∙◌, refl, arith}
+use Rattle.std.proofs.lemmas.Result.{err_from_is_err_and}
+use Rattle.rga_tree.specs.Elements.{elements}
+use Rattle.desk_replica.specs.Told.{deletions_in}
+use Rattle.desk_replica.proofs.HiddenIds.{deletions-append}
+use Rattle.desk_replica.proofs.InTurn.{part_next, part_stopped, parts_done}
+use Rattle.desk_replica.proofs.replica.Replica.take_deletions.Goals as goal
+
+pub loop-p-init : goal.loop-p-init
+loop-p-init g c = record { taken = refl; site = refl }
+
+pub returns-in_err-erase_row-clause-fault : goal.returns-in_err-erase_row-clause-fault
+returns-in_err-erase_row-clause-fault g c =
+    let seq = c.args.seq.now in
+    let fault = c.in_err-erase_row.field-0.0 in
+    let p = err_from_is_err_and c.from_residual.result c.from_residual.ensures.1 in
+    rw (p.1, p.2) (part_stopped deletions_in deletions-append c.args.self.now.set c.loop-p.self.set c.erase_row.new.self.set (g.S.Sequence.parts seq) c.loop-p.p c.part.result.now (omega (arith, c.loop-p-test.true, c.part_count-p-end.ensures)) c.part.ensures c.loop-p.invariant.taken
+    (elements (g.S.Sequence.content seq)) fault (g.met.S.Sequence.whole seq) c.in_err-erase_row.ensures.fault)
+
+pub loop-p-preserved : goal.loop-p-preserved
+loop-p-preserved g c = record {
+  taken = part_next deletions_in deletions-append c.args.self.now.set c.loop-p.self.set c.erase_row.new.self.set (g.S.Sequence.parts c.args.seq.now) c.loop-p.p c.part.result.now (omega (arith, c.loop-p-test.true, c.part_count-p-end.ensures)) c.part.ensures c.loop-p.invariant.taken
+      c.in_ok-erase_row.ensures.ok;
+  site = c.in_ok-erase_row.ensures.site ∙ c.loop-p.invariant.site;
+}
+
+pub returns-clause-ok : goal.returns-clause-ok
+returns-clause-ok g c =
+    let seq = c.args.seq.now in
+    let done = c.loop-p-test.false in
+    parts_done deletions_in deletions-append c.args.self.now.set c.loop-p.self.set (g.S.Sequence.parts seq) c.loop-p.p (elements (g.S.Sequence.content seq)) (g.met.S.Sequence.whole seq) (omega (arith, c.part_count-p-end.ensures)) c.loop-p.invariant.taken

@@ -1,0 +1,11 @@
+use Rattle.std.proofs.Common.{◌≡◌, take}
+use Rattle.desk_replica.specs.Told.{deletions_in}
+use Rattle.desk_replica.specs.Merging.{with_operations}
+use Rattle.desk_replica.proofs.InTurn.{joined}
+use Rattle.desk_replica.proofs.replica.Replica.take_deletions.Given as goal
+
+abbrev pub invariant-loop-p : goal.invariant-loop-p
+invariant-loop-p g l = record {
+  taken : l.self.set ≡ with_operations l.fn.self.set (deletions_in (joined (take l.p (g.S.Sequence.parts l.seq))));
+  site : l.self.site ≡ l.fn.self.site;
+}

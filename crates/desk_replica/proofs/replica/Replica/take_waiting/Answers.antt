@@ -1,0 +1,31 @@
+use Rattle.std.proofs.Common.{◌≡◌, sym, ap, subst, ◌∙◌, refl, arith}
+use Rattle.std.proofs.lemmas.Result.{err_from_is_err_and}
+use Rattle.desk_replica.specs.Desk.{Desk}
+use Rattle.desk_replica.specs.Placement.{waiting_in}
+use Rattle.desk_replica.specs.Merging.{IsStopped}
+use Rattle.desk_replica.proofs.Disagreeing.{waiting_at}
+use Rattle.desk_replica.proofs.InTurn.{taken_next, stopped_at, taken_all}
+use Rattle.desk_replica.proofs.replica.Replica.take_waiting.Goals as goal
+
+pub loop-j-init : goal.loop-j-init
+loop-j-init g c = record { taken = refl; site = refl }
+
+pub returns-in_err-take-clause-fault : goal.returns-in_err-take-clause-fault
+returns-in_err-take-clause-fault g c =
+    let s = c.args.self.now.set in
+    let w = c.args.held.now in
+    let fault = c.in_err-take.field-0.0 in
+    let p = err_from_is_err_and c.from_residual.result c.from_residual.ensures.1 in
+    let same : c.take.new.self.set ≡ c.loop-j.self.set = ap (λ (d : Desk). d.set) c.in_err-take.ensures.err in
+    let at = waiting_at w c.loop-j.j c.nth.result c.nth.ensures.listed (omega (arith, c.loop-j-test.true, c.requires)) in
+    let stopped = stopped_at s c.loop-j.self.set (waiting_in w) c.loop-j.j c.nth.result at.0 at.1 c.loop-j.invariant.taken fault c.in_err-take.ensures.answer in
+    rw (p.1, p.2) (subst (λ x. IsStopped s (waiting_in w) x fault) (sym same) stopped)
+
+pub loop-j-preserved : goal.loop-j-preserved
+loop-j-preserved g c =
+    let w = c.args.held.now in
+    let at = waiting_at w c.loop-j.j c.nth.result c.nth.ensures.listed (omega (arith, c.loop-j-test.true, c.requires)) in
+    record {
+      taken = taken_next c.args.self.now.set c.loop-j.self.set (waiting_in w) c.loop-j.j c.nth.result at.0 at.1 c.loop-j.invariant.taken c.take.new.self.set c.in_ok-take.ensures.ok;
+      site = c.in_ok-take.ensures.site ∙ c.loop-j.invariant.site;
+    }

@@ -1,0 +1,10 @@
+use Rattle.std.proofs.Common.{◌≡◌, take}
+use Rattle.desk_replica.specs.Placement.{waiting_in}
+use Rattle.desk_replica.specs.Merging.{with_operations}
+use Rattle.desk_replica.proofs.replica.Replica.take_waiting.Given as goal
+
+abbrev pub invariant-loop-j : goal.invariant-loop-j
+invariant-loop-j g l = record {
+  taken : l.self.set ≡ with_operations l.fn.self.set (take l.j (waiting_in l.held));
+  site : l.self.site ≡ l.fn.self.site;
+}
