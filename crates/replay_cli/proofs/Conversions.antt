@@ -9,13 +9,13 @@ use Rattle.op_codec.specs.declared.fault.Cause.{Cause}
 use Rattle.op_codec.specs.declared.fault.CodecFault.TheVariants as codec
 use Rattle.op_codec.specs.Spelling.{spelling, Spells}
 use Rattle.op_codec.specs.Fault.{IsFault}
-use Rattle.op_codec.proofs.Unique.{one_list, never_both, one_fault}
 use Rattle.replay_cli.specs.declared.fault.LineFault.{LineFault}
 use Rattle.replay_cli.specs.declared.fault.RunFault.{RunFault}
 use Rattle.replay_cli.specs.declared.fault.RunFault.TheVariants.{Tables, File, Schedule, Step, Listing, Device, PastEnd, ReadFailed, Memory}
 use Rattle.replay_cli.specs.Line.{line_fault}
 use Rattle.replay_cli.specs.Listing.{listing_of}
 use Rattle.replay_cli.specs.Listed.{IsFaultless, line_operations, Lists, IsFaultyLine}
+use Rattle.replay_cli.proofs.LowerLaws.{FileLaws}
 use Rattle.replay_cli.specs.Conversion.{WritesListing, WritesListingBeginning, IsDumpCaused, WritesFile, WritesFileBeginning, IsPackCaused}
 
 -- ---- a listing lists one list of operations, or has one first faulty line, and never both
@@ -47,11 +47,11 @@ one_faulty_line bytes m n f g a b =
 
 -- ---- dump
 
-module _ (file : List ℕ) (old new : Option (List ℕ)) (failed : Bool) where
+module _ (laws : FileLaws) (file : List ℕ) (old new : Option (List ℕ)) (failed : Bool) where
   pub dump-spelled : (r : Result (Unit {0}) RunFault) (ops : List OpView) → OnOk r (WritesListing file old new) → IfErr r (IsDumpCaused file failed) → Spells file ops
       → MatchResult r (λ _. Appends old new (listing_of ops)) (λ fault. (fault ≡ Device) ⊎ (fault ≡ Memory))
-  dump-spelled (Ok done) ops written caused spelled = subst (λ (l : List OpView). Appends old new (listing_of l)) (one_list file written.ops ops written.spelled spelled) written.written
-  dump-spelled (Err (File n (codec.Malformed frame cause))) ops written caused spelled = absurd (never_both file ops frame cause spelled caused.1)
+  dump-spelled (Ok done) ops written caused spelled = subst (λ (l : List OpView). Appends old new (listing_of l)) (laws.one_list file written.ops ops written.spelled spelled) written.written
+  dump-spelled (Err (File n (codec.Malformed frame cause))) ops written caused spelled = absurd (laws.never_both file ops frame cause spelled caused.1)
   dump-spelled (Err (File n codec.Memory)) ops written caused spelled = absurd caused
   dump-spelled (Err (Step line desk fault)) ops written caused spelled = absurd caused
   dump-spelled (Err (Listing line fault)) ops written caused spelled = absurd caused
@@ -64,14 +64,14 @@ module _ (file : List ℕ) (old new : Option (List ℕ)) (failed : Bool) where
 
   pub dump-faulty : (r : Result (Unit {0}) RunFault) (frame : ℕ) (cause : Cause) → OnOk r (WritesListing file old new) → IfErr r (IsDumpCaused file failed) → (r ≡ Err Device → WritesListingBeginning file old new)
       → IsFault file frame cause → (r ≡ Err (File 1 (codec.Malformed frame cause))) ⊎ (r ≡ Err Memory)
-  dump-faulty (Ok done) frame cause written caused beginning faulty = absurd (never_both file written.ops frame cause written.spelled faulty)
+  dump-faulty (Ok done) frame cause written caused beginning faulty = absurd (laws.never_both file written.ops frame cause written.spelled faulty)
   dump-faulty (Err (File n (codec.Malformed again other))) frame cause written caused beginning faulty =
-      let one = one_fault file again frame other cause caused.1 faulty in
+      let one = laws.one_fault file again frame other cause caused.1 faulty in
       inl (λ i. Err (File (caused.0 i) (codec.Malformed (one.0 i) (one.1 i))))
   dump-faulty (Err (File n codec.Memory)) frame cause written caused beginning faulty = absurd caused
   dump-faulty (Err (Step line desk fault)) frame cause written caused beginning faulty = absurd caused
   dump-faulty (Err (Listing line fault)) frame cause written caused beginning faulty = absurd caused
-  dump-faulty (Err Device) frame cause written caused beginning faulty = let begun = beginning refl in absurd (never_both file begun.ops frame cause begun.spelled faulty)
+  dump-faulty (Err Device) frame cause written caused beginning faulty = let begun = beginning refl in absurd (laws.never_both file begun.ops frame cause begun.spelled faulty)
   dump-faulty (Err (Tables wrong)) frame cause written caused beginning faulty = absurd caused
   dump-faulty (Err (Schedule at wrong)) frame cause written caused beginning faulty = absurd caused
   dump-faulty (Err (PastEnd place)) frame cause written caused beginning faulty = absurd caused

@@ -1,7 +1,7 @@
 pub mod Spelled
 pub mod Taking
 pub mod Answered
-pub mod Sizes
+pub mod LowerLaws
 pub mod Refusals
 pub mod OneCause
 pub mod OneAnswer

@@ -24,7 +24,7 @@ use Rattle.replay_cli.specs.Schedule.{line_says, fault_said, IsFaultless, Schedu
 use Rattle.replay_cli.specs.DeskSets.{set_at, operation_at, sets_after_step, sets_after, IsTakeRefused, IsMergeRefusal, IsStepRefused, NoneRefused, FirstRefused, desk_of, empty_desks}
 use Rattle.replay_cli.specs.Replayed.{Given, print_of, IsPlan, PlanRan, IsFaultyPlan, IsReady, IsUnrefused, shows_of, WritesShows, IsRefused, EndsInSteps, IsFaultySchedule, IsReplayEnd}
 use Rattle.replay_cli.proofs.Refusals.{same_refusal}
-use Rattle.replay_cli.proofs.OneCause.{one_lists, faulty_apart, one_faulty}
+use Rattle.replay_cli.specs.Outcome.{HaveOneOutcome}
 
 -- ---- one plan
 
@@ -131,10 +131,10 @@ one_refusal files sets steps line line' desk desk' f g a b =
 
 -- ---- one answer
 
-module _ (g : Given) (old new : Option (List ℕ)) (failed : Bool) where
+module _ (g : Given) (outcome : HaveOneOutcome g.files) (old new : Option (List ℕ)) (failed : Bool) where
   -- a list that the files spell, and the steps of its plan, are those that an answer speaks of
   files_one : (xs ys : List (List OpView)) → AllZip Spells g.files xs → AllZip Spells g.files ys → xs ≡ ys
-  files_one xs ys a b = one_lists g.files xs ys a b
+  files_one xs ys a b = outcome.one_list xs ys a b
 
   moved : (files lists : List (List OpView)) (steps : List Numbered) (a : AllZip Spells g.files files) (b : AllZip Spells g.files lists) → IsPlan files g.schedule steps → IsPlan lists g.schedule steps
   moved files lists steps a b h = subst (λ (fs : List (List OpView)). IsPlan fs g.schedule steps) (files_one files lists a b) h
@@ -153,7 +153,7 @@ module _ (g : Given) (old new : Option (List ℕ)) (failed : Bool) where
       let same = one_plan files g.schedule w.steps steps (moved w.files files w.steps w.unrefused.ready.spelled h.ready.spelled w.unrefused.ready.planned) h.ready.planned in
       subst (Appends old new) (ap (λ (fs : List (List OpView)). shows_of g fs w.steps) lists ∙ ap (shows_of g files) same) w.written
   replay-shown (Err (Tables fault)) files steps w e h = absurd (some_apart g.fault fault h.ready.tables e.0)
-  replay-shown (Err (File n (codec.Malformed frame cause))) files steps w e h = absurd (faulty_apart g.files files n frame cause h.ready.spelled e.1)
+  replay-shown (Err (File n (codec.Malformed frame cause))) files steps w e h = absurd (outcome.spelled_or_faulty files n frame cause h.ready.spelled e.1)
   replay-shown (Err (File n codec.Memory)) files steps w e h = absurd e
   replay-shown (Err (Schedule line fault)) files steps w e h =
       absurd (plan_apart files g.schedule steps line fault h.ready.planned (subst (λ (fs : List (List OpView)). IsFaultyPlan fs g.schedule line fault) (files_one e.0.files files e.0.spelled h.ready.spelled) e.0.shown))
@@ -181,16 +181,16 @@ module _ (g : Given) (old new : Option (List ℕ)) (failed : Bool) where
 
   pub replay-faulty : (r : Result (Unit {0}) RunFault) (n frame : ℕ) (cause : Cause) → OnOk r (WritesShows g old new) → IfErr r (IsReplayEnd g old new failed) → g.fault ≡ None → IsFaultyFile g.files n frame cause
       → (r ≡ Err (File n (codec.Malformed frame cause))) ⊎ (r ≡ Err Memory)
-  replay-faulty (Ok done) n frame cause w e none h = absurd (faulty_apart g.files w.files n frame cause w.unrefused.ready.spelled h)
+  replay-faulty (Ok done) n frame cause w e none h = absurd (outcome.spelled_or_faulty w.files n frame cause w.unrefused.ready.spelled h)
   replay-faulty (Err (Tables fault)) n frame cause w e none h = absurd (some_apart g.fault fault none e.0)
   replay-faulty (Err (File m (codec.Malformed again other))) n frame cause w e none h =
-      let one = one_faulty g.files m n again frame other cause e.1 h in
+      let one = outcome.one_faulty m n again frame other cause e.1 h in
       inl (λ i. Err (File (one.0 i) (codec.Malformed (one.1 i) (one.2 i))))
   replay-faulty (Err (File m codec.Memory)) n frame cause w e none h = absurd e
-  replay-faulty (Err (Schedule line fault)) n frame cause w e none h = absurd (faulty_apart g.files e.0.files n frame cause e.0.spelled h)
-  replay-faulty (Err (Step line desk fault)) n frame cause w e none h = absurd (faulty_apart g.files e.files n frame cause e.spelled h)
+  replay-faulty (Err (Schedule line fault)) n frame cause w e none h = absurd (outcome.spelled_or_faulty e.0.files n frame cause e.0.spelled h)
+  replay-faulty (Err (Step line desk fault)) n frame cause w e none h = absurd (outcome.spelled_or_faulty e.files n frame cause e.spelled h)
   replay-faulty (Err (Listing line fault)) n frame cause w e none h = absurd e
-  replay-faulty (Err Device) n frame cause w e none h = absurd (faulty_apart g.files e.files n frame cause e.spelled h)
+  replay-faulty (Err Device) n frame cause w e none h = absurd (outcome.spelled_or_faulty e.files n frame cause e.spelled h)
   replay-faulty (Err (PastEnd place)) n frame cause w e none h = absurd e
   replay-faulty (Err (ReadFailed file)) n frame cause w e none h = absurd e
   replay-faulty (Err Memory) n frame cause w e none h = inr refl
@@ -202,7 +202,7 @@ module _ (g : Given) (old new : Option (List ℕ)) (failed : Bool) where
       → (r ≡ Err (Schedule line fault)) ⊎ (r ≡ Err Memory)
   replay-schedule (Ok done) line fault w e h = absurd (plan_wrong w.files h.files w.steps line fault w.unrefused.ready.spelled h.spelled w.unrefused.ready.planned h.shown)
   replay-schedule (Err (Tables other)) line fault w e h = absurd (some_apart g.fault other h.tables e.0)
-  replay-schedule (Err (File n (codec.Malformed frame cause))) line fault w e h = absurd (faulty_apart g.files h.files n frame cause h.spelled e.1)
+  replay-schedule (Err (File n (codec.Malformed frame cause))) line fault w e h = absurd (outcome.spelled_or_faulty h.files n frame cause h.spelled e.1)
   replay-schedule (Err (File n codec.Memory)) line fault w e h = absurd e
   replay-schedule (Err (Schedule at other)) line fault w e h =
       let one = one_faulty_plan h.files g.schedule at line other fault (subst (λ (fs : List (List OpView)). IsFaultyPlan fs g.schedule at other) (files_one e.0.files h.files e.0.spelled h.spelled) e.0.shown) h.shown in
@@ -220,7 +220,7 @@ module _ (g : Given) (old new : Option (List ℕ)) (failed : Bool) where
       absurd (refused_apart w.files (empty_desks (length w.files)) w.steps line desk fault w.unrefused.none_refused
       (first_moved h.files w.files h.steps w.steps line desk fault h.ready.spelled w.unrefused.ready.spelled h.ready.planned w.unrefused.ready.planned h.first))
   replay-refused (Err (Tables other)) line desk fault w e h = absurd (some_apart g.fault other h.ready.tables e.0)
-  replay-refused (Err (File n (codec.Malformed frame cause))) line desk fault w e h = absurd (faulty_apart g.files h.files n frame cause h.ready.spelled e.1)
+  replay-refused (Err (File n (codec.Malformed frame cause))) line desk fault w e h = absurd (outcome.spelled_or_faulty h.files n frame cause h.ready.spelled e.1)
   replay-refused (Err (File n codec.Memory)) line desk fault w e h = absurd e
   replay-refused (Err (Schedule at other)) line desk fault w e h = absurd (plan_wrong h.files e.0.files h.steps at other h.ready.spelled e.0.spelled h.ready.planned e.0.shown)
   replay-refused (Err (Step at who other)) line desk fault w e h =

@@ -5,9 +5,9 @@ use Rattle.std.proofs.lemmas.List.Elements.{Contains-append_left, Contains-push,
 use Rattle.std.specs.FinMap as map
 use Rattle.std.specs.FinSet as set
 use Rattle.bg_types.specs.Identifier.{id_cmp}
-use Rattle.bg_types.specs.OperationSet.{Node, OperationSet, MayJoin, with_operation, no_operations, size}
+use Rattle.bg_types.specs.OperationSet.{Node, OperationSet, Holds, MayJoin, with_operation, no_operations, size}
 use Rattle.bg_types.specs.declared.op.OpView.{OpView}
-use Rattle.bg_types.proofs.OperationSets.{Holds-with_operation, Holds-no_operations, Holds-may_join, with_operation-known, size-with_operation}
+use Rattle.bg_types.specs.declared.op.OpView.TheVariants.{Insert, Erase}
 use Rattle.desk_replica.specs.declared.answer.Taken.{Taken}
 use Rattle.desk_replica.specs.declared.answer.Taken.TheVariants.{Known, Placed, Hidden, Held}
 use Rattle.desk_replica.specs.declared.answer.TakeFault.{TakeFault}
@@ -15,30 +15,35 @@ use Rattle.desk_replica.specs.declared.answer.TakeFault.TheVariants.{IdentifierR
 use Rattle.desk_replica.specs.Reply.{IsAdmitted, IsTaken, IsRefused}
 use Rattle.replay_cli.specs.SetOf.{IsSetOf}
 use Rattle.replay_cli.specs.Refusal.{IsRefusal, IsFirstRefusal}
+use Rattle.replay_cli.proofs.LowerLaws.{HoldsBoth, Grows, StaysTheSame}
 use Rattle.replay_cli.proofs.Spelled.{take-push, split-at}
 
 -- ---- what an answer says
 
+known-joins : (s : OperationSet) (op : OpView) → Holds s op → MayJoin s op
+known-joins s (Insert id parent ch) held = λ kept found. (let equal = sym found ∙ held in cc)
+known-joins s (Erase target) held = tt
+
 pub joins : (s : OperationSet) (op : OpView) (taken : Taken) → IsTaken s op taken → MayJoin s op
-joins s op Known h = Holds-may_join s op h
+joins s op Known h = known-joins s op h
 joins s op (Placed n) h = h.0.joins
 joins s op Hidden h = h.0.joins
 joins s op Held h = h.0.joins
 
-admitted-limited : (s : OperationSet) (op : OpView) → IsAdmitted s op → size (with_operation s op) ≤ 1_000_000
-admitted-limited s op h = let grown = size-with_operation s op h.joins h.is_new in let room = h.room in omega (arith, grown, room)
+admitted-limited : Grows → (s : OperationSet) (op : OpView) → IsAdmitted s op → size (with_operation s op) ≤ 1_000_000
+admitted-limited grows s op h = let grown = grows s op h.joins h.is_new in let room = h.room in omega (arith, grown, room)
 
 pub nothing-limited : size no_operations ≤ 1_000_000
 nothing-limited = let ins = map.len-empty id_cmp Node in let del = set.len-empty id_cmp in omega (arith, ins, del)
 
 -- a desk stays within its limit
-pub taken-limited : (s t : OperationSet) (op : OpView) (taken : Taken) → IsTaken s op taken → t ≡ with_operation s op → size s ≤ 1_000_000 → size t ≤ 1_000_000
-taken-limited s t op taken h grown limited = subst (λ u. size u ≤ 1_000_000) (sym grown) (by_answer taken h) where
+pub taken-limited : Grows → StaysTheSame → (s t : OperationSet) (op : OpView) (taken : Taken) → IsTaken s op taken → t ≡ with_operation s op → size s ≤ 1_000_000 → size t ≤ 1_000_000
+taken-limited grows kept s t op taken h grown limited = subst (λ u. size u ≤ 1_000_000) (sym grown) (by_answer taken h) where
   by_answer : (a : Taken) → IsTaken s op a → size (with_operation s op) ≤ 1_000_000
-  by_answer Known is = subst (λ u. size u ≤ 1_000_000) (sym (with_operation-known s op is)) limited
-  by_answer (Placed n) is = admitted-limited s op is.0
-  by_answer Hidden is = admitted-limited s op is.0
-  by_answer Held is = admitted-limited s op is.0
+  by_answer Known is = subst (λ u. size u ≤ 1_000_000) (sym (kept s op is)) limited
+  by_answer (Placed n) is = admitted-limited grows s op is.0
+  by_answer Hidden is = admitted-limited grows s op is.0
+  by_answer Held is = admitted-limited grows s op is.0
 
 -- a desk that refuses wants memory, or the operation is one that it refuses whatever memory there is
 refusal : (s : OperationSet) (op : OpView) (fault : TakeFault) → IsRefused s op fault → (fault ≡ Memory) ⊎ IsRefusal s op fault
@@ -48,13 +53,13 @@ refusal s op Memory h = inl refl
 
 -- ---- the set of a list
 
-pub IsSetOf-nil : IsSetOf [] no_operations
-IsSetOf-nil op = ((λ h. absurd (Holds-no_operations op h)), (λ h. absurd (omega (arith, h.1))))
+pub IsSetOf-nil : ((op : OpView) → Holds no_operations op → ⊥) → IsSetOf [] no_operations
+IsSetOf-nil nothing op = ((λ h. absurd (nothing op h)), (λ h. absurd (omega (arith, h.1))))
 
 -- S + op is the set of the list with op at its end
-pub IsSetOf-push : (ops : List OpView) (op : OpView) (s : OperationSet) → IsSetOf ops s → MayJoin s op → IsSetOf (ops ++ op ∷ []) (with_operation s op)
-IsSetOf-push ops op s h may x =
-    let joined = Holds-with_operation s op x may in (
+IsSetOf-push : HoldsBoth → (ops : List OpView) (op : OpView) (s : OperationSet) → IsSetOf ops s → MayJoin s op → IsSetOf (ops ++ op ∷ []) (with_operation s op)
+IsSetOf-push holds ops op s h may x =
+    let joined = holds s op x may in (
       λ held. elim (joined.0 held) [
         | inl is ↦ subst (Contains (ops ++ op ∷ [])) (sym is) (Contains-push ops op)
         | inr old ↦ Contains-append_left ops (op ∷ []) x ((h x).0 old)
@@ -66,11 +71,11 @@ IsSetOf-push ops op s h may x =
     )
 
 -- one more of the operations is taken
-pub IsSetOf-next : (before ops : List OpView) (i : ℕ) (op : OpView) (s t : OperationSet) → i < length ops → op ≡ get_or ops i op → IsSetOf (before ++ take i ops) s → MayJoin s op → t ≡ with_operation s op
+pub IsSetOf-next : HoldsBoth → (before ops : List OpView) (i : ℕ) (op : OpView) (s t : OperationSet) → i < length ops → op ≡ get_or ops i op → IsSetOf (before ++ take i ops) s → MayJoin s op → t ≡ with_operation s op
     → IsSetOf (before ++ take (i + 1) ops) t
-IsSetOf-next before ops i op s t lt is h may grown =
+IsSetOf-next holds before ops i op s t lt is h may grown =
     let list : (before ++ take i ops) ++ op ∷ [] ≡ before ++ take (i + 1) ops = append_assoc before (take i ops) (op ∷ []) ∙ ap (λ l. before ++ l) (sym (take-push ops i op lt is)) in
-    subst (λ l. IsSetOf l t) list (subst (IsSetOf ((before ++ take i ops) ++ op ∷ [])) (sym grown) (IsSetOf-push (before ++ take i ops) op s h may))
+    subst (λ l. IsSetOf l t) list (subst (IsSetOf ((before ++ take i ops) ++ op ∷ [])) (sym grown) (IsSetOf-push holds (before ++ take i ops) op s h may))
 
 -- an operation is refused after those before it were taken
 pub IsFirstRefusal-at : (before ops : List OpView) (i : ℕ) (op : OpView) (s : OperationSet) (fault : TakeFault) → i < length ops → op ≡ get_or ops i op → IsSetOf (before ++ take i ops) s → size s ≤ 1_000_000

@@ -17,7 +17,7 @@ use Rattle.replay_cli.specs.Files.{IsSetOfFiles, IsFaultyFile, AreRefused}
 use Rattle.replay_cli.specs.Cause.{IsCaused}
 use Rattle.replay_cli.specs.TablesCause.{IsTablesCaused}
 use Rattle.replay_cli.specs.Carets.{Asked, text_bytes, walk_lines, lines_over, IsTextOfFiles, IsRead, IsWalked, WritesLines, WritesLinesBeginning, IsBeyondText, IsWalkCaused, IsUnwalked}
-use Rattle.replay_cli.proofs.OneCause.{one_set, faulty_apart, one_faulty, refusal_apart, one_refused}
+use Rattle.replay_cli.specs.Outcome.{HaveOneOutcome}
 
 module _ (a : Asked) where
   -- ---- causes
@@ -88,25 +88,25 @@ module _ (a : Asked) where
 
   -- ---- one answer
 
-  one_text : (s t : OperationSet) → IsRead a s → IsRead a t → s ≡ t
-  one_text s t x y = one_set a.files s t x.of_files y.of_files
+  one_text : HaveOneOutcome a.files → (s t : OperationSet) → IsRead a s → IsRead a t → s ≡ t
+  one_text outcome s t x y = outcome.one_set s t x.of_files y.of_files
 
   not_both : {fault : UcdFault} → a.fault ≡ Some fault → a.fault ≡ None → ⊥
   not_both some none = absurd cc
 
-  module _ (old new : Option (List ℕ)) (failed : Bool) where
+  module _ (outcome : HaveOneOutcome a.files) (old new : Option (List ℕ)) (failed : Bool) where
     pub answer-walked : (r : Result (Unit {0}) RunFault) (s : OperationSet) → OnOk r (WritesLines a old new) → IfErr r (IsWalkCaused a failed) → IsRead a s → a.place ≤ length (chars (text_bytes s))
         → MatchResult r (λ _. Appends old new (lines_over a (text_bytes s))) (λ fault. (fault ≡ Device) ⊎ (fault ≡ Memory))
-    answer-walked (Ok done) s written caused read within = subst (λ t. Appends old new (lines_over a (text_bytes t))) (one_text written.set s written.read read) written.written
+    answer-walked (Ok done) s written caused read within = subst (λ t. Appends old new (lines_over a (text_bytes t))) (one_text outcome written.set s written.read read) written.written
     answer-walked (Err (Tables fault)) s written caused read within = absurd (not_both caused read.tables)
-    answer-walked (Err (File n (codec.Malformed frame cause))) s written caused read within = absurd (faulty_apart a.files read.of_files.lists n frame cause read.of_files.spelled caused.1)
+    answer-walked (Err (File n (codec.Malformed frame cause))) s written caused read within = absurd (outcome.spelled_or_faulty read.of_files.lists n frame cause read.of_files.spelled caused.1)
     answer-walked (Err (File n codec.Memory)) s written caused read within = absurd caused
     answer-walked (Err (Schedule line fault)) s written caused read within = absurd caused
-    answer-walked (Err (Step line desk fault)) s written caused read within = absurd (refusal_apart a.files s fault read.of_files read.limited caused.3)
+    answer-walked (Err (Step line desk fault)) s written caused read within = absurd (outcome.set_or_refusal s fault read.of_files read.limited caused.3)
     answer-walked (Err (Listing line fault)) s written caused read within = absurd caused
     answer-walked (Err (PastEnd place)) s written caused read within =
         let beyond = caused.1 in
-        let past : length (chars (text_bytes s)) < a.place = subst (λ t. length (chars (text_bytes t)) < a.place) (one_text beyond.set s beyond.read read) beyond.past in
+        let past : length (chars (text_bytes s)) < a.place = subst (λ t. length (chars (text_bytes t)) < a.place) (one_text outcome beyond.set s beyond.read read) beyond.past in
         absurd (omega arith)
     answer-walked (Err Device) s written caused read within = inl refl
     answer-walked (Err (ReadFailed file)) s written caused read within = absurd caused
@@ -115,18 +115,18 @@ module _ (a : Asked) where
     pub answer-past : (r : Result (Unit {0}) RunFault) (s : OperationSet) → OnOk r (WritesLines a old new) → IfErr r (IsWalkCaused a failed) → (r ≡ Err Device → WritesLinesBeginning a old new)
         → IsRead a s → length (chars (text_bytes s)) < a.place → (r ≡ Err (PastEnd a.place)) ⊎ (r ≡ Err Memory)
     answer-past (Ok done) s written caused beginning read past =
-        let within : a.place ≤ length (chars (text_bytes s)) = subst (λ t. a.place ≤ length (chars (text_bytes t))) (one_text written.set s written.read read) written.within in
+        let within : a.place ≤ length (chars (text_bytes s)) = subst (λ t. a.place ≤ length (chars (text_bytes t))) (one_text outcome written.set s written.read read) written.within in
         absurd (omega arith)
     answer-past (Err (Tables fault)) s written caused beginning read past = absurd (not_both caused read.tables)
-    answer-past (Err (File n (codec.Malformed frame cause))) s written caused beginning read past = absurd (faulty_apart a.files read.of_files.lists n frame cause read.of_files.spelled caused.1)
+    answer-past (Err (File n (codec.Malformed frame cause))) s written caused beginning read past = absurd (outcome.spelled_or_faulty read.of_files.lists n frame cause read.of_files.spelled caused.1)
     answer-past (Err (File n codec.Memory)) s written caused beginning read past = absurd caused
     answer-past (Err (Schedule line fault)) s written caused beginning read past = absurd caused
-    answer-past (Err (Step line desk fault)) s written caused beginning read past = absurd (refusal_apart a.files s fault read.of_files read.limited caused.3)
+    answer-past (Err (Step line desk fault)) s written caused beginning read past = absurd (outcome.set_or_refusal s fault read.of_files read.limited caused.3)
     answer-past (Err (Listing line fault)) s written caused beginning read past = absurd caused
     answer-past (Err (PastEnd place)) s written caused beginning read past = inl (ap (λ (p : ℕ). Err (PastEnd p)) caused.0)
     answer-past (Err Device) s written caused beginning read past =
         let begun = beginning refl in
-        let within : a.place ≤ length (chars (text_bytes s)) = subst (λ t. a.place ≤ length (chars (text_bytes t))) (one_text begun.set s begun.read read) begun.within in
+        let within : a.place ≤ length (chars (text_bytes s)) = subst (λ t. a.place ≤ length (chars (text_bytes t))) (one_text outcome begun.set s begun.read read) begun.within in
         absurd (omega arith)
     answer-past (Err (ReadFailed file)) s written caused beginning read past = absurd caused
     answer-past (Err Memory) s written caused beginning read past = inr refl
@@ -148,36 +148,36 @@ module _ (a : Asked) where
 
     pub answer-faulty : (r : Result (Unit {0}) RunFault) (n frame : ℕ) (cause : Cause) → OnOk r (WritesLines a old new) → IfErr r (IsWalkCaused a failed) → (r ≡ Err Device → WritesLinesBeginning a old new)
         → a.fault ≡ None → IsFaultyFile a.files n frame cause → (r ≡ Err (File n (codec.Malformed frame cause))) ⊎ (r ≡ Err Memory)
-    answer-faulty (Ok done) n frame cause written caused beginning none faulty = absurd (faulty_apart a.files written.read.of_files.lists n frame cause written.read.of_files.spelled faulty)
+    answer-faulty (Ok done) n frame cause written caused beginning none faulty = absurd (outcome.spelled_or_faulty written.read.of_files.lists n frame cause written.read.of_files.spelled faulty)
     answer-faulty (Err (Tables fault)) n frame cause written caused beginning none faulty = absurd (not_both caused none)
     answer-faulty (Err (File m (codec.Malformed again other))) n frame cause written caused beginning none faulty =
-        let one = one_faulty a.files m n again frame other cause caused.1 faulty in
+        let one = outcome.one_faulty m n again frame other cause caused.1 faulty in
         inl (λ i. Err (File (one.0 i) (codec.Malformed (one.1 i) (one.2 i))))
     answer-faulty (Err (File m codec.Memory)) n frame cause written caused beginning none faulty = absurd caused
     answer-faulty (Err (Schedule line fault)) n frame cause written caused beginning none faulty = absurd caused
-    answer-faulty (Err (Step line desk fault)) n frame cause written caused beginning none faulty = absurd (faulty_apart a.files caused.3.lists n frame cause caused.3.spelled faulty)
+    answer-faulty (Err (Step line desk fault)) n frame cause written caused beginning none faulty = absurd (outcome.spelled_or_faulty caused.3.lists n frame cause caused.3.spelled faulty)
     answer-faulty (Err (Listing line fault)) n frame cause written caused beginning none faulty = absurd caused
     answer-faulty (Err (PastEnd place)) n frame cause written caused beginning none faulty =
-        absurd (faulty_apart a.files caused.1.read.of_files.lists n frame cause caused.1.read.of_files.spelled faulty)
+        absurd (outcome.spelled_or_faulty caused.1.read.of_files.lists n frame cause caused.1.read.of_files.spelled faulty)
     answer-faulty (Err Device) n frame cause written caused beginning none faulty =
-        let begun = beginning refl in absurd (faulty_apart a.files begun.read.of_files.lists n frame cause begun.read.of_files.spelled faulty)
+        let begun = beginning refl in absurd (outcome.spelled_or_faulty begun.read.of_files.lists n frame cause begun.read.of_files.spelled faulty)
     answer-faulty (Err (ReadFailed file)) n frame cause written caused beginning none faulty = absurd caused
     answer-faulty (Err Memory) n frame cause written caused beginning none faulty = inr refl
 
     pub answer-refused : (r : Result (Unit {0}) RunFault) (fault : TakeFault) → OnOk r (WritesLines a old new) → IfErr r (IsWalkCaused a failed) → (r ≡ Err Device → WritesLinesBeginning a old new)
         → a.fault ≡ None → AreRefused a.files fault → (r ≡ Err (Step 0 1 fault)) ⊎ (r ≡ Err Memory)
-    answer-refused (Ok done) fault written caused beginning none refused = absurd (refusal_apart a.files written.set fault written.read.of_files written.read.limited refused)
+    answer-refused (Ok done) fault written caused beginning none refused = absurd (outcome.set_or_refusal written.set fault written.read.of_files written.read.limited refused)
     answer-refused (Err (Tables wrong)) fault written caused beginning none refused = absurd (not_both caused none)
-    answer-refused (Err (File n (codec.Malformed frame cause))) fault written caused beginning none refused = absurd (faulty_apart a.files refused.lists n frame cause refused.spelled caused.1)
+    answer-refused (Err (File n (codec.Malformed frame cause))) fault written caused beginning none refused = absurd (outcome.spelled_or_faulty refused.lists n frame cause refused.spelled caused.1)
     answer-refused (Err (File n codec.Memory)) fault written caused beginning none refused = absurd caused
     answer-refused (Err (Schedule line wrong)) fault written caused beginning none refused = absurd caused
     answer-refused (Err (Step line desk other)) fault written caused beginning none refused =
-        let one = one_refused a.files other fault caused.3 refused in
+        let one = outcome.one_refusal other fault caused.3 refused in
         inl (λ i. Err (Step (caused.1 i) (caused.2 i) (one i)))
     answer-refused (Err (Listing line other)) fault written caused beginning none refused = absurd caused
     answer-refused (Err (PastEnd place)) fault written caused beginning none refused =
-        absurd (refusal_apart a.files caused.1.set fault caused.1.read.of_files caused.1.read.limited refused)
+        absurd (outcome.set_or_refusal caused.1.set fault caused.1.read.of_files caused.1.read.limited refused)
     answer-refused (Err Device) fault written caused beginning none refused =
-        let begun = beginning refl in absurd (refusal_apart a.files begun.set fault begun.read.of_files begun.read.limited refused)
+        let begun = beginning refl in absurd (outcome.set_or_refusal begun.set fault begun.read.of_files begun.read.limited refused)
     answer-refused (Err (ReadFailed file)) fault written caused beginning none refused = absurd caused
     answer-refused (Err Memory) fault written caused beginning none refused = inr refl

@@ -2,6 +2,7 @@ pub mod Fault
 pub mod SetOf
 pub mod Refusal
 pub mod Files
+pub mod Outcome
 pub mod Cause
 pub mod Written
 pub mod Listing

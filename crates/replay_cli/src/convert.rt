@@ -15,7 +15,7 @@ ghost use Rattle.replay_cli.specs.Conversion.{WritesListing, WritesListingBeginn
 use crate::fault::RunFault;
 use crate::listing::{read_listing, write_listing};
 use bg_types::{Op, Sink, put_all};
-use op_codec::{CodecFault, decode_file, encode_file};
+use op_codec::{CodecFault, decode_file, encode_file, laws};
 use std::alloc::Global;
 
 /// Writes the listing of an operation file, one line an operation. Nothing is written before the
@@ -37,6 +37,8 @@ pub fn dump<S: Sink>(alloc: Global, file: &[u8], out: &mut S) -> Result<(), RunF
     ensures faulty { (frame : ℕ) (cause : Cause) → IsFault file.now frame cause
         → (result ≡ Err (RunFault.File 1 (Malformed frame cause))) ⊎ (result ≡ Err RunFault.Memory) }
 {
+    laws::one_spelling();
+    laws::spelled_or_faulty();
     write_dump(alloc, file, out)
 }
 

@@ -18,7 +18,8 @@ ghost use Rattle.replay_cli.specs.Written.{WritesText, WritesBeginning};
 
 use crate::desk::{Desk, new_desk};
 use crate::fault::RunFault;
-use bg_types::{Op, Sink, put_all};
+use crate::laws;
+use bg_types::{Op, Sink, laws as sets, put_all};
 use desk_replica::TakeFault;
 use op_codec::{CodecFault, decode_file};
 use std::alloc::Global;
@@ -53,6 +54,7 @@ pub fn text<S: Sink>(
     ensures refused { (fault : Refusal) → AreRefused (bytes_of files.now) fault
         → (result ≡ Err (RunFault.Step 0 1 fault)) ⊎ (result ≡ Err RunFault.Memory) }
 {
+    laws::one_outcome();
     write_text(alloc, key, files, out)
 }
 
@@ -82,6 +84,7 @@ pub fn desk_of(alloc: Global, key: u128, files: &[Vec<u8>]) -> Result<Desk, RunF
     ensures limited { IfOk result (λ desk. size desk.set ≤ 1_000_000) }
     ensures fault { IfErr result (IsCaused (bytes_of files.now) false) }
 {
+    sets::nothing_held();
     let all = decode_all(alloc, files)?;
     let mut desk = new_desk(alloc, SITE, key);
     for ops in &all {
@@ -117,6 +120,7 @@ fn take_all(desk: &mut Desk, ops: &[Op]) -> Result<(), TakeFault>
     ensures fault { (before : List Operation) → IsSetOf before desk.old.set
         → IfErr result (λ fault. (fault ≡ TakeFault.Memory) ⊎ IsFirstRefusal (before ++ ops.now) fault) }
 {
+    sets::one_more_operation();
     for op in ops {
         desk.take(op)?;
     }

@@ -8,6 +8,11 @@ ghost use Rattle.op_codec.specs.Spelling.{Spells};
 ghost use Rattle.replay_cli.specs.declared.fault.LineFault.{LineFault};
 ghost use Rattle.replay_cli.specs.Listing.{listing_of};
 ghost use Rattle.replay_cli.specs.Listed.{Lists, IsFaultyLine};
+ghost use Rattle.replay_cli.specs.Outcome.{HaveOneOutcome};
+
+use bg_types::laws as sets;
+use desk_replica::laws as desks;
+use op_codec::laws as codec;
 
 /// The listing of well-formed operations lists them. So of what `dump` writes of a file, `pack`
 /// reads back the operations that the file spells, and no others.
@@ -26,3 +31,15 @@ pub fn listed_or_faulty()
     ensures one_fault { (bytes : List ℕ) (m n : ℕ) (f g : LineFault)
         → IsFaultyLine bytes m f → IsFaultyLine bytes n g → (m ≡ n) × (f ≡ g) }
 {}
+
+/// Operation files have one outcome: the set of their operations, the first faulty one, or the first
+/// refusal of a desk that takes their operations in order.
+pub fn one_outcome()
+    ensures { (files : List (List ℕ)) → HaveOneOutcome files }
+{
+    sets::same_operations();
+    sets::one_more_operation();
+    desks::size_of_more();
+    codec::one_spelling();
+    codec::spelled_or_faulty();
+}

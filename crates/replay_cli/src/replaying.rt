@@ -28,6 +28,7 @@ mod steps;
 use crate::desk::{Desk, new_desk};
 use crate::engine::decode_all;
 use crate::fault::RunFault;
+use crate::laws;
 use crate::schedule::read_schedule;
 use bg_types::{Base, Sink};
 use round::run_round;
@@ -89,6 +90,7 @@ pub fn replay<S: Sink>(
     ensures refused { (line desk : ℕ) (fault : Refusal) → IsRefused (given ucd.now width base files.now (option_copied schedule.entry)) line desk fault
         → (result ≡ Err (RunFault.Step line desk fault)) ⊎ (result ≡ Err RunFault.Device) ⊎ (result ≡ Err RunFault.Memory) }
 {
+    laws::one_outcome();
     read_and_run(alloc, key, ucd, width, base, files, schedule, out)
 }
 

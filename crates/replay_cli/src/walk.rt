@@ -18,6 +18,7 @@ ghost use Rattle.replay_cli.specs.Carets.{moved, walk, caret_line, walk_lines, a
 
 use crate::engine::desk_of;
 use crate::fault::RunFault;
+use crate::laws;
 use crate::replaying::{Ucd, load, read_text};
 use bg_types::{Base, Memory, Sink, put_all};
 use caret::{Caret, at_place, down, left, right, up};
@@ -73,6 +74,7 @@ pub fn carets<S: Sink>(
     ensures refused { (fault : Refusal) → (asked ucd.now width base files.now place moves.now).fault ≡ None → AreRefused (bytes_of files.now) fault
         → (result ≡ Err (RunFault.Step 0 1 fault)) ⊎ (result ≡ Err RunFault.Memory) }
 {
+    laws::one_outcome();
     write_lines(alloc, key, ucd, width, base, files, place, moves, out)
 }
 

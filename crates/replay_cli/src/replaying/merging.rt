@@ -7,7 +7,8 @@ ghost use Rattle.replay_cli.specs.DeskSets.{set_at, with_set, IsMergeRefusal};
 ghost use Rattle.replay_cli.specs.Desks.{sets_of};
 
 use crate::desk::Desk;
-use desk_replica::TakeFault;
+use bg_types::laws as sets;
+use desk_replica::{TakeFault, laws};
 
 /// Lets a desk take all that another holds, both counted from 1.
 pub fn merge_desks(desks: &mut [Desk], desk: usize, from: usize) -> Result<(), TakeFault>
@@ -39,6 +40,7 @@ fn meet_itself(desk: &Desk) -> Result<(), TakeFault>
     ensures same { union desk.now.set desk.now.set ≡ desk.now.set }
     ensures accepted { (fault : Fault) → ¬ (IsMergeRefusal desk.now.set desk.now.set fault) }
 {
+    laws::union_law();
     // The count tells that the desk keeps its limit.
     let _kept = desk.op_count();
     Ok(())
@@ -50,8 +52,9 @@ fn take_all_of(desk: &mut Desk, other: &Desk) -> Result<(), TakeFault>
     ensures accepted { OnOk result ((fault : Fault) → ¬ (IsMergeRefusal desk.old.set other.now.set fault)) }
     ensures fault { IfErr result (λ fault. (fault ≡ TakeFault.Memory) ⊎ IsMergeRefusal desk.old.set other.now.set fault) }
 {
+    sets::one_more_operation();
+    sets::united_operations();
+    laws::size_of_more();
     desk.merge(other)?;
-    // The count tells that the desk keeps its limit.
-    let _kept = desk.op_count();
     Ok(())
 }

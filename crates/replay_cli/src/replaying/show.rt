@@ -33,12 +33,10 @@ pub fn show<S: Sink>(setting: &Setting, desk: &Desk, out: &mut S) -> Result<(), 
     Ok(())
 }
 
-/// A desk's text, which has at most 4,000,000 bytes.
+/// A desk's text. It has at most 1,000,000 characters, of at most 4 bytes each.
 pub fn read_text(desk: &Desk) -> Result<String, Memory>
     ensures value { IfOk result (λ t. string_bytes t ≡ encode_utf8_all (text desk.now.set)) }
     ensures size { IfOk result (λ t. length (string_bytes t) ≤ 4_000_000) }
 {
-    // The count tells that the desk keeps at most 1,000,000 characters, of at most 4 bytes each.
-    let _kept = desk.op_count();
     desk.text()
 }

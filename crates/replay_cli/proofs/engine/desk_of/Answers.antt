@@ -22,7 +22,7 @@ use Rattle.replay_cli.proofs.engine.desk_of.Goals as goal
 pub loop-ops-init : goal.loop-ops-init
 loop-ops-init c =
     let fresh = ap (λ (d : Desk). d.set) c.new_desk-desk.ensures in
-    record { taken = subst (IsSetOf []) (sym fresh) IsSetOf-nil; limited = subst (λ s. size s ≤ 1_000_000) (sym fresh) nothing-limited }
+    record { taken = subst (IsSetOf []) (sym fresh) (IsSetOf-nil c.nothing_held.ensures); limited = subst (λ s. size s ≤ 1_000_000) (sym fresh) nothing-limited }
 
 pub returns-in-Err-clause-fault : goal.returns-in-Err-clause-fault
 returns-in-Err-clause-fault c =

@@ -17,8 +17,8 @@ loop-op-preserved c =
     let t = c.take.new.self.set in
     let op = c.op-item.result in
     record {
-      taken = λ before h. IsSetOf-next before c.args.ops.now c.loop-op.op-index op s t c.loop-op-test.true c.op-item.is (c.loop-op.invariant.taken before h) (joins s op c.in_ok-take.field-0 c.in_ok-take.ensures.answer) c.in_ok-take.ensures.ok;
-      limited = taken-limited s t op c.in_ok-take.field-0 c.in_ok-take.ensures.answer c.in_ok-take.ensures.ok c.loop-op.invariant.limited;
+      taken = λ before h. IsSetOf-next c.one_more_operation.ensures.holds before c.args.ops.now c.loop-op.op-index op s t c.loop-op-test.true c.op-item.is (c.loop-op.invariant.taken before h) (joins s op c.in_ok-take.field-0 c.in_ok-take.ensures.answer) c.in_ok-take.ensures.ok;
+      limited = taken-limited c.one_more_operation.ensures.grows c.one_more_operation.ensures.known s t op c.in_ok-take.field-0 c.in_ok-take.ensures.answer c.in_ok-take.ensures.ok c.loop-op.invariant.limited;
     }
 
 pub returns-clause-ok : goal.returns-clause-ok

@@ -15,7 +15,7 @@ returns-in_err-put_all-clause-device g c = told-device (g.S.Sink.has_failed c.pu
 pub returns-in_err-put_all-clause-beginning : goal.returns-in_err-put_all-clause-beginning
 returns-in_err-put_all-clause-beginning g c =
     λ device. WritesBeginning-desk (bytes_of c.args.files.now) c.in_ok-desk.desk.set c.as_bytes.result.now (g.S.Sink.written c.args.out.now) (g.S.Sink.written c.put_all.new.sink)
-    c.in_ok-desk.ensures.ok c.in_ok-desk.ensures.limited (c.as_bytes.ensures.value ∙ c.in_ok-read.ensures) c.in_err-put_all.ensures.err
+    c.in_ok-desk.ensures.ok c.in_ok-desk.ensures.limited (c.as_bytes.ensures.value ∙ c.in_ok-read.ensures.ok) c.in_err-put_all.ensures.err
 
 pub returns-in_err-put_all-clause-nothing : goal.returns-in_err-put_all-clause-nothing
 returns-in_err-put_all-clause-nothing g c = only-device c.from_residual-in_err-put_all.result _ c.from_residual-in_err-put_all.ensures.1
@@ -23,4 +23,4 @@ returns-in_err-put_all-clause-nothing g c = only-device c.from_residual-in_err-p
 pub returns-clause-done : goal.returns-clause-done
 returns-clause-done g c =
     WritesText-desk (bytes_of c.args.files.now) c.in_ok-desk.desk.set c.as_bytes.result.now (g.S.Sink.written c.args.out.now) (g.S.Sink.written c.put_all.new.sink)
-    c.in_ok-desk.ensures.ok c.in_ok-desk.ensures.limited (c.as_bytes.ensures.value ∙ c.in_ok-read.ensures) c.in_ok-put_all.ensures.ok
+    c.in_ok-desk.ensures.ok c.in_ok-desk.ensures.limited (c.as_bytes.ensures.value ∙ c.in_ok-read.ensures.ok) c.in_ok-put_all.ensures.ok

@@ -1,7 +1,7 @@
-use Rattle.std.proofs.Common.{◌≡◌, ◌≤◌, List, ℕ, length, sym, subst, Result, Ok, Err}
+use Rattle.std.proofs.Common.{◌≡◌, ◌≤◌, List, ℕ, length, sym, subst, arith, Result, Ok, Err}
 use Rattle.std.specs.Prelude.{IfOk, string_bytes, encode_utf8_all}
 use Rattle.rga_tree.specs.TextOf.{text}
-use Rattle.replay_cli.proofs.TextSize.{text_within}
+use Rattle.replay_cli.proofs.TextSize.{encoded_within}
 use Rattle.replay_cli.proofs.replaying.show.read_text.Goals as goal
 
 ok_size : {A E : Type 0} (bytes_of : A → List ℕ) (bytes : List ℕ) (r : Result A E) → length bytes ≤ 4_000_000 → IfOk r (λ a. bytes_of a ≡ bytes) → IfOk r (λ a. length (bytes_of a) ≤ 4_000_000)
@@ -10,5 +10,7 @@ ok_size bytes_of bytes (Err e) small is = tt
 
 pub returns-clause-size : goal.returns-clause-size
 returns-clause-size c =
-    let small = text_within c.args.desk.now.set c.op_count-kept.ensures.well_formed c.op_count-kept.ensures.limited in
-    ok_size string_bytes (encode_utf8_all (text c.args.desk.now.set)) c.text.result small c.text.ensures
+    let bytes = encoded_within (text c.args.desk.now.set) in
+    let characters = c.text.ensures.limited in
+    let small : length (encode_utf8_all (text c.args.desk.now.set)) ≤ 4_000_000 = omega (arith, bytes, characters) in
+    ok_size string_bytes (encode_utf8_all (text c.args.desk.now.set)) c.text.result small c.text.ensures.ok
