@@ -200,3 +200,16 @@ fn a_sink_that_stops_keeps_a_beginning(rt: HostRuntime) -> Result<(), Fail> {
     }
     Ok(())
 }
+
+/// With ample memory a run is right, and where a growth is refused it says so, and nothing is
+/// written.
+#[test]
+fn a_run_is_right_or_says_memory(rt: HostRuntime) -> Result<(), Fail> {
+    let files = [TWO.to_vec(rt.alloc())?, TWO.to_vec(rt.alloc())?];
+    let mut room = [0u8; 4];
+    match text(rt.alloc(), KEY, &files, &mut Out::new(room.as_mut_slice())) {
+        Ok(()) => assert!(rt; room.starts_with(b"ab")),
+        Err(fault) => assert_eq!(rt; (fault, room[0]), (RunFault::Memory, 0)),
+    }
+    Ok(())
+}

@@ -323,3 +323,38 @@ fn a_sink_that_stops_keeps_a_beginning_of_the_shows(rt: HostRuntime) -> Result<(
     }
     Ok(())
 }
+
+/// The room of three shows, of which the first ones are written.
+const SHOWS: [&[u8; 15]; 4] = [
+    b"\0\0\0\0\0\0\0\0\0\0\0\0\0\0\0",
+    b"    \n\0\0\0\0\0\0\0\0\0\0",
+    b"    \nab  \n\0\0\0\0\0",
+    b"    \nab  \nab  \n",
+];
+
+/// With ample memory a run is right, and where a growth is refused it says so, and whole shows are
+/// written.
+#[test]
+fn a_run_is_right_or_says_memory(rt: HostRuntime) -> Result<(), Fail> {
+    let files = two_files(rt.alloc())?;
+    assert!(rt; !files.is_empty() && files.len() <= 64);
+    let mut room = [0u8; 15];
+    let answer = replay(
+        rt.alloc(),
+        KEY,
+        &SMALL,
+        4,
+        Base::Auto,
+        files.as_slice(),
+        Some(b"show 2\ntake 1 1 2\ntake 1 1 1\nshow 1\nmerge 2 1\nshow 2\n"),
+        &mut Out::new(room.as_mut_slice()),
+    );
+    match answer {
+        Ok(()) => assert!(rt; room == *SHOWS[3]),
+        Err(fault) => {
+            assert_eq!(rt; fault, RunFault::Memory);
+            assert!(rt; SHOWS.iter().any(|shows| room == **shows));
+        }
+    }
+    Ok(())
+}

@@ -1,7 +1,7 @@
 //! Walks by hand, from bytes to bytes.
 
 use super::*;
-use bg_types::{Id, Op, Out, Place};
+use bg_types::{Id, Op, Out, Place, Stops};
 use op_codec::{Cause, CodecFault, encode_file};
 use std::process::Abort;
 use std::test::Fail;
@@ -44,7 +44,10 @@ fn moves_of(alloc: Global, letters: &str) -> Result<Vec<Move>, Fail> {
     Ok(moves)
 }
 
-/// The answer to a walk over the text of a file, and what stands written.
+/// What a walk answers, and what stands written.
+type Outcome = (Result<(), RunFault>, Vec<u8>);
+
+/// A walk over the text of a file.
 fn run(
     alloc: Global,
     ucd: &Ucd,
@@ -52,23 +55,40 @@ fn run(
     width: u16,
     place: u32,
     moves: &[Move],
-) -> Result<(Result<(), RunFault>, Vec<u8>), Fail> {
-    if width < 2 || width > 500 {
-        return Err(Fail::from("no width of a grid"));
+) -> Result<Outcome, Fail> {
+    run_until(alloc, 1_000, 1_000, ucd, file, width, place, moves)
+}
+
+/// A walk into a sink that takes at most so many bytes a call, and stops after so many.
+fn run_until(
+    alloc: Global,
+    most: usize,
+    left: usize,
+    ucd: &Ucd,
+    file: Vec<u8>,
+    width: u16,
+    place: u32,
+    moves: &[Move],
+) -> Result<Outcome, Fail> {
+    if most == 0 || width < 2 || width > 500 {
+        return Err(Fail::from("out of the engine's range"));
     }
     let files = vec![in alloc; file]?;
     let mut bytes = Vec::new(alloc);
-    let answer = carets(
-        alloc,
-        KEY,
-        ucd,
-        width,
-        Base::Auto,
-        files.as_slice(),
-        place,
-        moves,
-        &mut Out::new(&mut bytes),
-    );
+    let answer = {
+        let mut out = Stops::new(Out::new(&mut bytes), most, left);
+        carets(
+            alloc,
+            KEY,
+            ucd,
+            width,
+            Base::Auto,
+            files.as_slice(),
+            place,
+            moves,
+            &mut out,
+        )
+    };
     Ok((answer, bytes))
 }
 
@@ -130,5 +150,60 @@ fn tables_are_read_before_files_and_files_before_the_place(rt: HostRuntime) -> R
         cause: Cause::Truncated,
     };
     assert_eq!(rt; answer, Err(RunFault::File(1, fault)));
+    Ok(())
+}
+
+#[test]
+fn a_sink_that_stops_keeps_a_beginning_of_the_lines(rt: HostRuntime) -> Result<(), Fail> {
+    let whole = b"0 0 0\n0 1 1\n1 1 4\n0 1 1\n".as_slice();
+    for left in 0..whole.len() + 2 {
+        let file = file_of(&rt, rt.alloc(), "ab cd")?;
+        let moves = moves_of(rt.alloc(), "rdu")?;
+        let (answer, bytes) = run_until(rt.alloc(), 5, left, &UCD, file, 2, 0, moves.as_slice())?;
+        let wanted = if left < whole.len() {
+            Err(RunFault::Device)
+        } else {
+            Ok(())
+        };
+        assert_eq!(rt; answer, wanted, "{left} bytes");
+        assert_eq!(rt;
+            bytes.as_slice(),
+            &whole[..left.min(whole.len())],
+            "{left} bytes"
+        );
+    }
+    Ok(())
+}
+
+#[test]
+fn a_sink_that_takes_a_byte_a_call_gets_all_lines(rt: HostRuntime) -> Result<(), Fail> {
+    let file = file_of(&rt, rt.alloc(), "ab \u{5D0}\u{5D1}\u{5D2}")?;
+    let moves = moves_of(rt.alloc(), "ll")?;
+    let (answer, bytes) = run_until(rt.alloc(), 1, 1_000, &UCD, file, 8, 3, moves.as_slice())?;
+    assert_eq!(rt; answer, Ok(()));
+    assert_eq!(rt; bytes.as_slice(), b"0 6 3\n0 5 4\n0 4 5\n".as_slice());
+    Ok(())
+}
+
+/// With ample memory a walk is right, and where a growth is refused it says so, and nothing is
+/// written.
+#[test]
+fn a_walk_is_right_or_says_memory(rt: HostRuntime) -> Result<(), Fail> {
+    let files = [file_of(&rt, rt.alloc(), "ab cd")?];
+    let mut room = [0u8; 32];
+    match carets(
+        rt.alloc(),
+        KEY,
+        &UCD,
+        2,
+        Base::Auto,
+        &files,
+        0,
+        &[Move::Right, Move::Down, Move::Up],
+        &mut Out::new(room.as_mut_slice()),
+    ) {
+        Ok(()) => assert!(rt; room.starts_with(b"0 0 0\n0 1 1\n1 1 4\n0 1 1\n")),
+        Err(fault) => assert_eq!(rt; (fault, room[0]), (RunFault::Memory, 0)),
+    }
     Ok(())
 }
