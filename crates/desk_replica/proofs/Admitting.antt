@@ -1,32 +1,30 @@
 -- What is answered to a new operation.
-use Rattle.std.proofs.Common.{◌≡◌, ◌≤◌, ◌<◌, ◌+◌, ◌-◌, ℕ, suc, Bool, true, false, not, cond, List, [], ◌∷◌, length, Option, None, Some, sym, ap, subst, ◌∙◌, refl, true≢false, is_some, arith}
+use Rattle.std.proofs.Common.{◌≡◌, ◌≤◌, ◌+◌, ◌-◌, ℕ, suc, Bool, true, false, cond, List, [], ◌∷◌, length, Option, None, Some, sym, ap, subst, ◌∙◌, refl, true≢false, is_some, arith}
 use Rattle.std.specs.Prelude.{◌||◌, map as each, OnErr, Result, Ok, Err}
 use Rattle.std.specs.FinMap as map
 use Rattle.std.specs.FinSet as set
-use Rattle.bg_types.specs.Identifier.{Identifier, id_cmp, same_id}
+use Rattle.bg_types.specs.Identifier.{Identifier, same_id}
 use Rattle.bg_types.specs.WellFormed.{IsWellFormed}
-use Rattle.bg_types.specs.OperationSet.{Node, OperationSet, AllWellFormed, Holds, MayJoin, union, with_operation, size}
+use Rattle.bg_types.specs.OperationSet.{Node, OperationSet, AllWellFormed, union, with_operation}
 use Rattle.bg_types.specs.declared.op.Place.{Place}
 use Rattle.bg_types.specs.declared.op.Place.TheVariants.{Root, After}
 use Rattle.bg_types.specs.declared.op.OpView.{OpView}
 use Rattle.bg_types.specs.declared.op.OpView.TheVariants.{Insert, Erase}
 use Rattle.bg_types.proofs.IdentifierOrder.{id_cmp-total, same_id-is, same_id-itself}
-use Rattle.bg_types.proofs.OperationSets.{same_sets, get-union, unwrap_first}
+use Rattle.bg_types.proofs.OperationSets.{same_sets}
 use Rattle.rga_tree.specs.Walk.{walk}
 use Rattle.rga_tree.specs.Attached.{IsAttached}
-use Rattle.rga_tree.specs.Attached.IsAttached.{below_root, below}
 use Rattle.rga_tree.specs.Tree.{stands_in, IsTree, OnlyErasesPlaced}
 use Rattle.rga_tree.specs.Elements.{elements}
-use Rattle.rga_tree.proofs.WalkAmong.{Entry}
 use Rattle.rga_tree.proofs.TreeAttached.{IsAttached-more}
 use Rattle.rga_tree.proofs.AttachedWalk.{IsReached, IsAttached-child}
 use Rattle.rga_tree.proofs.SetSteps.{AllWellFormed-with}
 use Rattle.pending_ops.specs.Waiting.{Waiting, IsNew}
 use Rattle.desk_replica.specs.Placement.{IsParted, IsSettled, MayPlace, reaches_in, whole}
 use Rattle.desk_replica.specs.Reply.{IsAdmitted, IsPlacing, IsHiding, IsTaken, attached_count}
-use Rattle.desk_replica.specs.declared.answer.Taken.TheVariants.{Placed, Hidden, Held}
+use Rattle.desk_replica.specs.declared.answer.Taken.TheVariants.{Placed}
 use Rattle.desk_replica.proofs.Whole.{some_not, contains-union}
-use Rattle.desk_replica.proofs.Settled.{walk-whole, placed_attached, attached_placed, in_whole}
+use Rattle.desk_replica.proofs.Settled.{walk-whole, placed_attached, attached_placed}
 use Rattle.desk_replica.proofs.FirstTurn.{nothing_kept, not_held, union-held}
 
 -- a sequence keeps these of its content

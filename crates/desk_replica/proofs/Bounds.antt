@@ -1,32 +1,27 @@
 -- How many elements and characters there are at most, and that nothing is listed where nothing is held.
-use Rattle.std.proofs.Common.{◌≡◌, ◌≤◌, ◌<◌, ◌+◌, ◌++◌, ℕ, zero, suc, Bool, true, false, List, [], ◌∷◌, length, take, Option, None, Some, sym, ap, subst, ◌∙◌, refl, true≢false, is_some, arith, length-append}
+use Rattle.std.proofs.Common.{◌≡◌, ◌≤◌, ℕ, zero, suc, true, List, [], ◌∷◌, length, take, None, Some, sym, ap, subst, ◌∙◌, refl, true≢false, is_some, arith}
 use Rattle.std.specs.Prelude.{◌||◌, not, slice_get, map as each}
 use Rattle.std.proofs.lemmas.List.Sums.{length-filter, count_by-le-length}
-use Rattle.std.specs.List.{AllByRecursion, list_any}
 use Rattle.std.specs.FinMap as map
 use Rattle.std.specs.FinSet as set
 use Rattle.bg_types.specs.Identifier.{Identifier, id_cmp, same_id}
-use Rattle.bg_types.specs.OperationSet.{Node, OperationSet, AllWellFormed, Holds, union, size}
+use Rattle.bg_types.specs.OperationSet.{Node, OperationSet, AllWellFormed, Holds, size}
 use Rattle.bg_types.specs.declared.op.Place.TheVariants.{Root}
 use Rattle.bg_types.specs.declared.op.OpView.{OpView}
 use Rattle.bg_types.specs.declared.op.OpView.TheVariants.{Insert, Erase}
-use Rattle.bg_types.proofs.OperationSets.{get-union, unwrap_first}
 use Rattle.rga_tree.specs.Walk.{walk, walked_ids}
 use Rattle.rga_tree.specs.TextOf.{is_erased, text, visible}
-use Rattle.rga_tree.specs.Elements.{elements, element_of}
 use Rattle.rga_tree.proofs.WalkAmong.{Entry}
 use Rattle.rga_tree.proofs.Listed.{is_listed, all_listed}
 use Rattle.rga_tree.proofs.AttachedWalk.{all_held, all_weaker_by}
 use Rattle.rga_tree.proofs.WalkDistinct.{IsDistinct-walked}
-use Rattle.pending_ops.specs.Waiting.{Waiting, ListsOnce}
+use Rattle.pending_ops.specs.Waiting.{ListsOnce}
 use Rattle.pending_ops.specs.Chains.{is_in}
-use Rattle.pending_ops.proofs.Tables.{IsDistinct-apart, one_of}
+use Rattle.pending_ops.proofs.Tables.{IsDistinct-apart}
 use Rattle.pending_ops.proofs.Views.{contains-from_list}
 use Rattle.pending_ops.proofs.Listing.{len-from_list}
-use Rattle.desk_replica.specs.Placement.{waiting_in, whole}
-use Rattle.desk_replica.proofs.Whole.{contains-union, some_not}
-use Rattle.desk_replica.proofs.Sizes.{len_set-map, len_map-map, len_set-set}
-use Rattle.desk_replica.proofs.Desks.{desk_of}
+use Rattle.desk_replica.proofs.Whole.{some_not}
+use Rattle.desk_replica.proofs.Sizes.{len_set-map}
 use Rattle.desk_replica.proofs.Lists.{length-each}
 
 listed_in : (q : Identifier) (es : List Entry) → is_in (each (λ e. e.0) es) q ≡ is_listed q es

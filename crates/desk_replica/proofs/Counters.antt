@@ -1,12 +1,9 @@
 -- The numbers of a set with one more operation.
-use Rattle.std.proofs.Common.{◌≡◌, ◌≤◌, ◌<◌, ◌+◌, ℕ, [], ◌∷◌, List, refl, sym, ap, subst, ◌∙◌, arith, inl, inr}
-use Rattle.std.specs.Prelude.{◌⊎◌, All, max}
-use Rattle.std.specs.List.{AllByRecursion}
+use Rattle.std.proofs.Common.{◌≡◌, ◌≤◌, ◌<◌, ◌+◌, ℕ, [], ◌∷◌, refl, sym, subst, arith, inl, inr}
+use Rattle.std.specs.Prelude.{All, max}
 use Rattle.std.proofs.lemmas.List.Elements.{All-nil, All-cons, All-head, All-tail}
-use Rattle.bg_types.specs.Identifier.{Identifier}
-use Rattle.bg_types.specs.WellFormed.{IsWellFormed, MayFollow}
-use Rattle.bg_types.specs.OperationSet.{OperationSet, Holds, MayJoin, named_counters, parent_counters, next, size, with_operation}
-use Rattle.bg_types.specs.declared.op.Place.{Place}
+use Rattle.bg_types.specs.WellFormed.{IsWellFormed}
+use Rattle.bg_types.specs.OperationSet.{OperationSet, Holds, MayJoin, named_counters, parent_counters, next, with_operation}
 use Rattle.bg_types.specs.declared.op.Place.TheVariants.{Root, After}
 use Rattle.bg_types.specs.declared.op.OpView.{OpView}
 use Rattle.bg_types.specs.declared.op.OpView.TheVariants.{Insert, Erase}

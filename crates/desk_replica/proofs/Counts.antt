@@ -72,7 +72,7 @@ hidden_next row j e within is hidden = count_by_more_no (λ (x : Element). not x
 
 -- one more part
 module _ (id : Identifier) (parts : List (List Element)) (p : ℕ) (row all : List Element) (within : p < length parts) (is : row ≡ get_or parts p []) (whole : joined parts ≡ all)
-  (passed : in_front id (joined (take p parts)) ≡ joined (take p parts)) where
+    (passed : in_front id (joined (take p parts)) ≡ joined (take p parts)) where
   pub part_found : length (in_front id row) < length row → count_visible (joined (take p parts)) + count_visible (in_front id row) ≡ count_visible (in_front id all)
   part_found found =
       let front = joined (take p parts) in

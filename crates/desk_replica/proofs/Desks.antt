@@ -1,11 +1,11 @@
 -- What a desk keeps true.
-use Rattle.std.proofs.Common.{◌≡◌, ◌≤◌, ◌<◌, ◌+◌, ℕ, Bool, true, false, List, [], take, Option, None, Some, sym, ap, subst, ◌∙◌, refl, true≢false, is_some, arith}
+use Rattle.std.proofs.Common.{◌≡◌, ◌≤◌, ◌<◌, ◌+◌, ℕ, true, [], take, sym, subst, ◌∙◌, refl, true≢false, arith}
 use Rattle.std.specs.Prelude.{max}
 use Rattle.std.specs.FinMap as map
 use Rattle.std.specs.FinSet as set
 use Rattle.bg_types.specs.Identifier.{Identifier, id_cmp}
 use Rattle.bg_types.specs.WellFormed.{IsWellFormed}
-use Rattle.bg_types.specs.OperationSet.{Node, OperationSet, AllWellFormed, Holds, no_operations, union, with_operation, next, size}
+use Rattle.bg_types.specs.OperationSet.{Node, OperationSet, AllWellFormed, no_operations, with_operation, next, size}
 use Rattle.bg_types.specs.declared.op.Place.TheVariants.{Root}
 use Rattle.bg_types.specs.declared.op.OpView.{OpView}
 use Rattle.bg_types.proofs.OperationSets.{Holds-no_operations}
@@ -13,7 +13,7 @@ use Rattle.bg_types.proofs.NextCounter.{next-least}
 use Rattle.pending_ops.specs.Waiting.{Waiting, nothing_waits}
 use Rattle.pending_ops.specs.Releasing.{subject}
 use Rattle.desk_replica.specs.Desk.{Desk, fresh}
-use Rattle.desk_replica.specs.Placement.{IsParted, IsSettled, IsCounted, IsDesk, waiting_in, whole}
+use Rattle.desk_replica.specs.Placement.{IsSettled, IsCounted, IsDesk, waiting_in, whole}
 use Rattle.desk_replica.specs.Reply.{IsAdmitted}
 use Rattle.rga_tree.specs.Walk.{walk}
 use Rattle.rga_tree.specs.Attached.{IsAttached}

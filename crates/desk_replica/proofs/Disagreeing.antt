@@ -1,12 +1,11 @@
 -- Where two desks keep an identifier with another parent or character.
-use Rattle.std.proofs.Common.{◌≡◌, ◌<◌, ◌++◌, ℕ, List, [], length, take, get_or, Option, None, Some, sym, ap, subst, ◌∙◌, is_some, arith, length-take}
+use Rattle.std.proofs.Common.{◌≡◌, ◌<◌, ◌++◌, ℕ, List, [], length, take, get_or, Some, sym, ap, subst, ◌∙◌, is_some}
 use Rattle.std.specs.Prelude.{All, Contains, slice_get}
-use Rattle.std.proofs.lemmas.List.Elements.{All-get_or, All-contains, Contains-append_left, Contains-append_right, Contains-get_or}
+use Rattle.std.proofs.lemmas.List.Elements.{All-get_or, Contains-append_left, Contains-append_right, Contains-get_or}
 use Rattle.std.proofs.lemmas.Option.{get_or_from_slice_get, slice_get-get_or}
 use Rattle.std.specs.FinMap as map
-use Rattle.bg_types.specs.Identifier.{Identifier}
 use Rattle.bg_types.specs.WellFormed.{MayFollow}
-use Rattle.bg_types.specs.OperationSet.{Node, OperationSet, AllWellFormed, Agree, Holds, MayJoin, ReusesIdentifier, size}
+use Rattle.bg_types.specs.OperationSet.{OperationSet, AllWellFormed, Agree, Holds, MayJoin, ReusesIdentifier, size}
 use Rattle.bg_types.specs.declared.op.OpView.{OpView}
 use Rattle.bg_types.specs.declared.op.OpView.TheVariants.{Insert}
 use Rattle.bg_types.proofs.OperationSets.{get-union}
@@ -15,7 +14,7 @@ use Rattle.rga_tree.specs.Elements.{elements, element_of}
 use Rattle.rga_tree.proofs.TreeAttached.{IsAttached-tree}
 use Rattle.rga_tree.proofs.AttachedWalk.{listed-attached}
 use Rattle.pending_ops.specs.Waiting.{Waiting, ListsOnce}
-use Rattle.desk_replica.specs.Desk.{Desk, insertion_of}
+use Rattle.desk_replica.specs.Desk.{insertion_of}
 use Rattle.desk_replica.specs.Placement.{IsSettled, waiting_in, whole}
 use Rattle.desk_replica.specs.Merging.{Disagree, ReusesIn}
 use Rattle.desk_replica.proofs.Whole.{which}

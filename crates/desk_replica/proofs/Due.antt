@@ -1,14 +1,14 @@
 -- What is due: the held insertions that the loop has still to place.
-use Rattle.std.proofs.Common.{◌≡◌, ◌≤◌, ◌<◌, ◌+◌, ◌-◌, ℕ, Bool, true, false, not, cond, [], ◌∷◌, Option, Some, None, refl, sym, ap, subst, ◌∙◌, arith, true≢false}
-use Rattle.std.specs.Prelude.{◌||◌, ◌&&◌}
+use Rattle.std.proofs.Common.{◌≡◌, ◌<◌, ◌-◌, ℕ, Bool, true, false, not, cond, [], ◌∷◌, Option, None, refl, sym, ap, ◌∙◌, arith, true≢false}
+use Rattle.std.specs.Prelude.{◌&&◌}
 use Rattle.std.specs.Option.{option_map_or}
 use Rattle.std.specs.FinMap as map
 use Rattle.std.specs.FinSet as set
-use Rattle.bg_types.specs.Identifier.{Identifier, id_cmp, same_id}
+use Rattle.bg_types.specs.Identifier.{Identifier, same_id}
 use Rattle.bg_types.specs.OperationSet.{Node, OperationSet}
 use Rattle.bg_types.proofs.IdentifierOrder.{id_cmp-total}
 use Rattle.pending_ops.specs.Waiting.{Waiting, follows, is_after, is_ready}
-use Rattle.pending_ops.specs.Below.{CountsBelow, IsBelow, IsChain}
+use Rattle.pending_ops.specs.Below.{CountsBelow}
 use Rattle.pending_ops.proofs.Tables.{one_of}
 use Rattle.desk_replica.specs.Placement.{AreDue}
 use Rattle.desk_replica.proofs.Sizes.{set_has_one}

@@ -1,32 +1,20 @@
 -- Where an entry of the walk stands among the elements.
-use Rattle.std.proofs.Common.{◌≡◌, ◌≤◌, ◌<◌, ◌+◌, ◌-◌, ◌++◌, ℕ, zero, suc, Bool, true, false, cond, List, [], ◌∷◌, length, take, Option, None, Some, sym, ap, subst, ◌∙◌, refl, true≢false, is_some, arith, inl, inr, length-append}
-use Rattle.std.specs.Prelude.{◌⊎◌, ◌↔◌, ◌||◌, slice_get, map as each}
-use Rattle.std.specs.List.{AllByRecursion, list_any}
+use Rattle.std.proofs.Common.{◌≡◌, ℕ, zero, suc, true, false, List, [], ◌∷◌, Some, sym, ap, subst, ◌∙◌, refl, true≢false}
+use Rattle.std.specs.Prelude.{◌||◌, slice_get}
 use Rattle.std.specs.FinMap as map
-use Rattle.std.specs.FinSet as set
-use Rattle.bg_types.specs.Identifier.{Identifier, id_cmp, same_id}
-use Rattle.bg_types.specs.OperationSet.{Node, OperationSet, AllWellFormed, Holds, union, size}
-use Rattle.bg_types.specs.declared.op.Place.{Place}
+use Rattle.bg_types.specs.Identifier.{Identifier, same_id}
+use Rattle.bg_types.specs.OperationSet.{Node, OperationSet, AllWellFormed}
 use Rattle.bg_types.specs.declared.op.Place.TheVariants.{Root}
-use Rattle.bg_types.specs.declared.op.OpView.{OpView}
-use Rattle.bg_types.specs.declared.op.OpView.TheVariants.{Insert, Erase}
+use Rattle.bg_types.specs.declared.op.OpView.TheVariants.{Insert}
 use Rattle.bg_types.proofs.IdentifierOrder.{same_id-is}
-use Rattle.bg_types.proofs.OperationSets.{get-union, unwrap_first, some_is}
+use Rattle.bg_types.proofs.OperationSets.{some_is}
 use Rattle.rga_tree.specs.declared.element.Element.{Element}
 use Rattle.rga_tree.specs.Walk.{walk}
-use Rattle.rga_tree.specs.TextOf.{is_erased}
 use Rattle.rga_tree.specs.Elements.{elements, element_of}
 use Rattle.rga_tree.proofs.WalkAmong.{Entry}
 use Rattle.rga_tree.proofs.Listed.{is_listed}
-use Rattle.rga_tree.proofs.AttachedWalk.{all_held, listed-attached}
-use Rattle.pending_ops.specs.Waiting.{Waiting, ListsOnce}
-use Rattle.pending_ops.proofs.Tables.{one_of}
-use Rattle.desk_replica.specs.Placement.{IsSettled, waiting_in, whole}
-use Rattle.desk_replica.proofs.Whole.{contains-union, first_none, some_not, which}
-use Rattle.desk_replica.proofs.Settled.{AllWellFormed-union, placed_attached, in_whole, mark-whole}
-use Rattle.desk_replica.proofs.Admitting.{IsContent}
-use Rattle.desk_replica.proofs.Desks.{desk_of}
-use Rattle.desk_replica.proofs.Lists.{slice_get-left, slice_get-right, slice_get-either, slice_get-from, slice_get-to, all_at, within-slice_get}
+use Rattle.rga_tree.proofs.AttachedWalk.{all_held}
+use Rattle.desk_replica.proofs.Lists.{slice_get-from, slice_get-to, all_at}
 use Rattle.bg_types.specs.WellFormed.{MayFollow}
 
 -- where a listed identifier stands

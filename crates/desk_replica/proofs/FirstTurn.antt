@@ -1,10 +1,9 @@
 -- A new insertion is placed: the first turn of the loop, as if it had been held and ready.
-use Rattle.std.proofs.Common.{◌≡◌, ◌≤◌, ◌<◌, ◌+◌, ◌-◌, ℕ, Bool, true, false, not, cond, List, [], ◌∷◌, Option, None, Some, sym, ap, subst, ◌∙◌, refl, true≢false, is_some, arith}
+use Rattle.std.proofs.Common.{◌≡◌, ◌≤◌, ℕ, Bool, true, false, not, cond, List, [], ◌∷◌, Option, None, Some, sym, ap, subst, ◌∙◌, refl, true≢false, is_some, arith}
 use Rattle.std.specs.Prelude.{◌||◌, ◌&&◌}
 use Rattle.std.specs.Option.{option_map_or}
 use Rattle.std.specs.FinMap as map
-use Rattle.std.specs.FinSet as set
-use Rattle.bg_types.specs.Identifier.{Identifier, id_cmp, same_id}
+use Rattle.bg_types.specs.Identifier.{Identifier, same_id}
 use Rattle.bg_types.specs.OperationSet.{Node, OperationSet, AllWellFormed, Holds, MayJoin, union, with_operation, size}
 use Rattle.bg_types.specs.declared.op.Place.{Place}
 use Rattle.bg_types.specs.declared.op.OpView.{OpView}
@@ -13,15 +12,14 @@ use Rattle.bg_types.proofs.IdentifierOrder.{id_cmp-total, same_id-is, same_id-it
 use Rattle.bg_types.proofs.OperationSets.{same_sets, get-union, unwrap_first}
 use Rattle.rga_tree.specs.Tree.{stands_in}
 use Rattle.pending_ops.specs.Waiting.{Waiting, follows, is_after, is_ready}
-use Rattle.pending_ops.specs.Below.{CountsBelow, IsBelow, IsChain}
+use Rattle.pending_ops.specs.Below.{CountsBelow, IsChain}
 use Rattle.pending_ops.specs.Releasing.{subject}
 use Rattle.desk_replica.specs.Placement.{IsParted, IsSettled, AreDue, MayPlace, Places, PlacesIn}
 use Rattle.desk_replica.specs.Reply.{IsAdmitted}
-use Rattle.desk_replica.proofs.Whole.{some_not, none_of, contains-union}
 use Rattle.desk_replica.proofs.Sizes.{len_set-map}
 use Rattle.desk_replica.proofs.Step.{Stepped, parted_now, same_now, in_tree, del_tree, ins_held, del_held}
 use Rattle.desk_replica.proofs.Due.{due-start}
-use Rattle.desk_replica.proofs.Loop.{is_ready-same, none_ready, formed_rest}
+use Rattle.desk_replica.proofs.Loop.{none_ready, formed_rest}
 
 -- nothing is kept at the identifier of a new insertion
 pub nothing_kept : (s : OperationSet) (id : Identifier) (parent : Place) (ch : ℕ) → MayJoin s (Insert id parent ch) → ¬ (Holds s (Insert id parent ch)) → map.get s.ins id ≡ None

@@ -1,10 +1,9 @@
 -- A placed leaf makes the walk longer by one.
-use Rattle.std.proofs.Common.{◌≡◌, ◌≤◌, ◌+◌, ◌++◌, ℕ, true, false, cond, List, ◌∷◌, length, take, drop, refl, ap, ◌∙◌, arith, length-append, length-take, length-drop}
+use Rattle.std.proofs.Common.{◌≡◌, ◌+◌, ℕ, true, false, cond, List, length, refl, ap, ◌∙◌, arith, length-append, length-take, length-drop}
 use Rattle.std.specs.Prelude.{insert}
 use Rattle.std.specs.FinMap as map
-use Rattle.bg_types.specs.Identifier.{Identifier}
 use Rattle.bg_types.specs.WellFormed.{IsWellFormed}
-use Rattle.bg_types.specs.OperationSet.{Node, OperationSet, AllWellFormed, with_operation}
+use Rattle.bg_types.specs.OperationSet.{OperationSet, AllWellFormed, with_operation}
 use Rattle.bg_types.specs.declared.op.Place.TheVariants.{Root}
 use Rattle.bg_types.specs.declared.op.OpView.TheVariants.{Insert, Erase}
 use Rattle.rga_tree.specs.declared.element.Element.{Element}

@@ -19,7 +19,7 @@ pub mod Counters
 pub mod Typed
 pub mod Typing
 pub mod Counts
-pub mod HiddenIds
+pub mod Rows
 pub mod OnceEach
 pub mod Told
 pub mod InTurn

@@ -1,5 +1,5 @@
 -- One turn of the loop that places what is ready.
-use Rattle.std.proofs.Common.{◌≡◌, ◌≤◌, ◌<◌, ◌+◌, ◌-◌, ℕ, Bool, true, false, not, cond, Option, None, Some, sym, ap, subst, ◌∙◌, refl, true≢false, is_some}
+use Rattle.std.proofs.Common.{◌≡◌, ◌<◌, ◌-◌, ℕ, Bool, true, false, not, cond, Option, None, Some, sym, ap, ◌∙◌, refl, true≢false, is_some}
 use Rattle.std.specs.Prelude.{◌||◌, ◌&&◌}
 use Rattle.std.specs.Option.{option_map_or}
 use Rattle.std.specs.FinMap as map
@@ -11,7 +11,7 @@ use Rattle.bg_types.specs.declared.op.Place.TheVariants.{Root, After}
 use Rattle.bg_types.specs.declared.op.OpView.{OpView}
 use Rattle.bg_types.specs.declared.op.OpView.TheVariants.{Insert, Erase}
 use Rattle.bg_types.proofs.IdentifierOrder.{id_cmp-total}
-use Rattle.pending_ops.specs.Waiting.{Waiting, HandsOut, TakesOut, NoneReady, follows, is_after, is_ready, is_released}
+use Rattle.pending_ops.specs.Waiting.{Waiting, HandsOut, TakesOut, NoneReady, follows, is_ready, is_released}
 use Rattle.desk_replica.specs.Placement.{IsParted, IsSettled, AreDue, MayPlace, Places, PlacesIn}
 use Rattle.desk_replica.proofs.Whole.{some_not}
 use Rattle.desk_replica.proofs.Step.{Stepped, parted_now, same_now, in_tree, del_tree, ins_held, del_held}

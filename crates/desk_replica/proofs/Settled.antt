@@ -1,17 +1,14 @@
 -- Between two calls the tree holds what is attached of all operations that are kept.
-use Rattle.std.proofs.Common.{◌≡◌, ◌≤◌, ◌<◌, ◌+◌, ℕ, zero, suc, Bool, true, false, not, cond, List, [], ◌∷◌, length, Option, None, Some, sym, ap, subst, ◌∙◌, refl, true≢false, is_some, arith}
-use Rattle.std.specs.Prelude.{◌||◌, ◌&&◌, ◌↔◌, map as each, filter}
+use Rattle.std.proofs.Common.{◌≡◌, Bool, true, false, not, cond, List, [], ◌∷◌, Option, None, Some, sym, ap, ◌∙◌, refl, true≢false, is_some}
+use Rattle.std.specs.Prelude.{◌||◌, map as each, filter}
 use Rattle.std.specs.List.{AllByRecursion}
 use Rattle.std.specs.FinMap as map
 use Rattle.std.specs.FinSet as set
-use Rattle.bg_types.specs.Identifier.{Identifier, id_cmp, same_id}
+use Rattle.bg_types.specs.Identifier.{Identifier}
 use Rattle.bg_types.specs.OperationSet.{Node, OperationSet, AllWellFormed, union}
-use Rattle.bg_types.specs.declared.op.Place.{Place}
 use Rattle.bg_types.specs.declared.op.Place.TheVariants.{Root, After}
-use Rattle.bg_types.specs.declared.op.OpView.{OpView}
 use Rattle.bg_types.specs.declared.op.OpView.TheVariants.{Insert, Erase}
-use Rattle.bg_types.proofs.OperationSets.{get-union, unwrap_first}
-use Rattle.rga_tree.specs.declared.element.Element.{Element}
+use Rattle.bg_types.proofs.OperationSets.{get-union}
 use Rattle.rga_tree.specs.Walk.{walk}
 use Rattle.rga_tree.specs.Attached.{IsAttached, IsAttachedPart}
 use Rattle.rga_tree.specs.Attached.IsAttached.{below_root, below}
@@ -24,7 +21,7 @@ use Rattle.rga_tree.proofs.AttachedPart.{walk-part}
 use Rattle.rga_tree.proofs.TreeAttached.{IsAttached-tree, IsAttached-more}
 use Rattle.pending_ops.proofs.Tables.{one_of}
 use Rattle.desk_replica.specs.Placement.{IsParted}
-use Rattle.desk_replica.proofs.Whole.{contains-union, first_none, first_some, which, none_of, some_not}
+use Rattle.desk_replica.proofs.Whole.{contains-union, first_some, which}
 
 -- each operation that is kept is well formed
 pub AllWellFormed-union : (t h : OperationSet) → AllWellFormed t → AllWellFormed h → AllWellFormed (union t h)

@@ -1,5 +1,5 @@
 -- Of two sets or maps by identifier, that with fewer identifiers is not longer.
-use Rattle.std.proofs.Common.{◌≡◌, ◌≤◌, ◌<◌, ◌+◌, ◌-◌, ℕ, zero, suc, Bool, true, false, not, cond, List, [], ◌∷◌, length, Option, Some, None, refl, sym, ap, ◌∙◌, arith, is_some, true≢false}
+use Rattle.std.proofs.Common.{◌≡◌, ◌≤◌, ◌<◌, ◌+◌, ◌-◌, ℕ, zero, suc, Bool, true, false, not, cond, List, [], ◌∷◌, length, Option, None, refl, sym, ap, ◌∙◌, arith, is_some, true≢false}
 use Rattle.std.specs.Prelude.{◌&&◌, ◌||◌, map as each}
 use Rattle.std.specs.List.{list_any}
 use Rattle.std.specs.FinMap as map

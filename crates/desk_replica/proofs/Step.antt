@@ -1,19 +1,17 @@
 -- One insertion is taken from what waits and placed.
-use Rattle.std.proofs.Common.{◌≡◌, Bool, true, false, not, cond, Option, None, Some, sym, ap, subst, ◌∙◌, refl, true≢false, is_some}
+use Rattle.std.proofs.Common.{◌≡◌, Bool, true, false, not, cond, Option, None, Some, sym, ap, ◌∙◌, refl, true≢false, is_some}
 use Rattle.std.specs.Prelude.{◌||◌, ◌&&◌}
 use Rattle.std.specs.Option.{option_map_or}
 use Rattle.std.specs.FinMap as map
 use Rattle.std.specs.FinSet as set
-use Rattle.bg_types.specs.Identifier.{Identifier, id_cmp, same_id}
+use Rattle.bg_types.specs.Identifier.{Identifier, same_id}
 use Rattle.bg_types.specs.OperationSet.{Node, OperationSet, union}
 use Rattle.bg_types.specs.declared.op.Place.{Place}
 use Rattle.bg_types.specs.declared.op.Place.TheVariants.{Root, After}
 use Rattle.bg_types.proofs.IdentifierOrder.{id_cmp-total, same_id-is}
 use Rattle.bg_types.proofs.OperationSets.{unwrap_first}
-use Rattle.rga_tree.specs.declared.element.Element.{Element}
 use Rattle.rga_tree.specs.Tree.{stands_in}
 use Rattle.rga_tree.specs.Elements.{with_element}
-use Rattle.rga_tree.proofs.SetSteps.{with_element-grown}
 use Rattle.pending_ops.specs.Waiting.{Waiting, follows, is_after, is_ready}
 use Rattle.pending_ops.proofs.Tables.{neither}
 use Rattle.desk_replica.specs.Placement.{IsParted, PlacesIn}

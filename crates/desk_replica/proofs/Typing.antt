@@ -1,27 +1,26 @@
 -- What a desk makes of a character that is typed.
 use Rattle.std.proofs.Common.{◌≡◌, ◌≤◌, ◌<◌, ◌+◌, ◌-◌, ℕ, zero, suc, Bool, true, false, not, cond, List, [], ◌∷◌, length, Option, None, Some, sym, ap, subst, ◌∙◌, refl, true≢false, is_some, arith}
-use Rattle.std.specs.Prelude.{◌||◌, ◌&&◌, ◌^◌, All, IfSome, slice_get, filter, insert, map as each}
-use Rattle.std.specs.Option.{option_map, option_map_or}
-use Rattle.std.specs.List.{AllByRecursion, prefix_len}
+use Rattle.std.specs.Prelude.{◌||◌, ◌&&◌, IfSome, slice_get, filter, insert, map as each}
+use Rattle.std.specs.Option.{option_map_or}
+use Rattle.std.specs.List.{AllByRecursion}
 use Rattle.std.specs.Ordering.{is_lt}
 use Rattle.std.specs.FinMap as map
 use Rattle.std.specs.FinSet as set
 use Rattle.std.proofs.lemmas.List.Elements.{All-head, All-tail}
 use Rattle.bg_types.specs.Identifier.{Identifier, id_cmp, same_id}
 use Rattle.bg_types.specs.WellFormed.{IsWellFormed, MayFollow}
-use Rattle.bg_types.specs.OperationSet.{Node, OperationSet, AllWellFormed, Holds, next, parent_counters, size, union, with_operation}
+use Rattle.bg_types.specs.OperationSet.{Node, OperationSet, AllWellFormed, next, parent_counters, size, union, with_operation}
 use Rattle.bg_types.specs.declared.op.Place.{Place}
 use Rattle.bg_types.specs.declared.op.Place.TheVariants.{Root, After}
-use Rattle.bg_types.specs.declared.op.OpView.{OpView}
 use Rattle.bg_types.specs.declared.op.OpView.TheVariants.{Insert, Erase}
-use Rattle.bg_types.proofs.IdentifierOrder.{id_cmp-total, same_id-is, same_id-itself}
+use Rattle.bg_types.proofs.IdentifierOrder.{id_cmp-total, same_id-is}
 use Rattle.bg_types.proofs.NextCounter.{next-above}
 use Rattle.bg_types.proofs.OperationSets.{same_sets, get-union, unwrap_first}
 use Rattle.rga_tree.specs.Walk.{walk}
 use Rattle.rga_tree.specs.Attached.{IsAttached}
 use Rattle.rga_tree.specs.TextOf.{text, visible, visible_ids, is_erased}
-use Rattle.rga_tree.specs.Tree.{stands_in, IsTree, OnlyErasesPlaced}
-use Rattle.rga_tree.specs.Elements.{elements, element_of}
+use Rattle.rga_tree.specs.Tree.{stands_in}
+use Rattle.rga_tree.specs.Elements.{elements}
 use Rattle.rga_tree.specs.Row.{start_of, place_of}
 use Rattle.rga_tree.proofs.WalkAmong.{Entry}
 use Rattle.rga_tree.proofs.Entries.{entries_of, Rises-entries, AreWellFounded-entries}
@@ -30,13 +29,13 @@ use Rattle.rga_tree.proofs.RowPlaces.{AreDistinct}
 use Rattle.rga_tree.proofs.WalkDistinct.{AreDistinct-walk}
 use Rattle.rga_tree.proofs.AttachedWalk.{all_attached, all_held, all_passing, all_weaker_by}
 use Rattle.rga_tree.proofs.LeafWalk.{walk-leaf_at}
-use Rattle.rga_tree.proofs.SetSteps.{AllWellFormed-with, with_element-grown, IsTree-grown, OnlyErasesPlaced-grown}
+use Rattle.rga_tree.proofs.SetSteps.{AllWellFormed-with, IsTree-grown, OnlyErasesPlaced-grown}
 use Rattle.rga_tree.specs.declared.element.Element.{Element}
 use Rattle.pending_ops.specs.Waiting.{Waiting}
 use Rattle.desk_replica.specs.declared.answer.TakeFault.{TakeFault}
 use Rattle.desk_replica.specs.declared.answer.TakeFault.TheVariants.{IdentifierReused, Full, Memory}
 use Rattle.desk_replica.specs.Reply.{IsRefused}
-use Rattle.desk_replica.specs.Placement.{IsParted, IsSettled, whole}
+use Rattle.desk_replica.specs.Placement.{IsParted, IsSettled}
 use Rattle.desk_replica.specs.Typing.{typed, insertion, parent_at, IsTypedAt, IsErasedAt}
 use Rattle.desk_replica.proofs.Whole.{contains-union, first_none, some_not}
 use Rattle.desk_replica.proofs.Lists.{all_at, slice_get-from, slice_get-to, slice_get-within}

@@ -3,7 +3,6 @@ use Rattle.std.proofs.Common.{◌≡◌, Bool, true, false, Option, Some, None, 
 use Rattle.std.specs.Prelude.{◌||◌}
 use Rattle.std.specs.FinMap as map
 use Rattle.std.specs.FinSet as set
-use Rattle.bg_types.specs.Identifier.{Identifier}
 use Rattle.bg_types.specs.OperationSet.{Node, OperationSet, Agree, union}
 use Rattle.bg_types.proofs.OperationSets.{same_sets, get-union, unwrap_first}
 use Rattle.desk_replica.proofs.Whole.{contains-union, same_unions}

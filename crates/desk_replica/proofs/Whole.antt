@@ -1,11 +1,11 @@
 -- What a desk keeps, identifier by identifier.
-use Rattle.std.proofs.Common.{◌≡◌, Bool, true, false, cond, Option, Some, None, refl, sym, ap, ◌∙◌, is_some}
+use Rattle.std.proofs.Common.{◌≡◌, false, Option, Some, None, refl, sym, ap, ◌∙◌, is_some}
 use Rattle.std.specs.Prelude.{◌||◌}
 use Rattle.std.specs.FinMap as map
 use Rattle.std.specs.FinSet as set
-use Rattle.bg_types.specs.Identifier.{Identifier, id_cmp, same_id}
+use Rattle.bg_types.specs.Identifier.{Identifier}
 use Rattle.bg_types.specs.OperationSet.{Node, OperationSet, union}
-use Rattle.bg_types.proofs.IdentifierOrder.{id_cmp-total, id_cmp-exact}
+use Rattle.bg_types.proofs.IdentifierOrder.{id_cmp-total}
 use Rattle.bg_types.proofs.OperationSets.{same_sets, get-union, unwrap_first}
 
 pub contains-union : (t h : OperationSet) (q : Identifier) → set.contains (union t h).del q ≡ (set.contains t.del q || set.contains h.del q)

@@ -1,19 +1,13 @@
 -- What a desk is to its callers.
-use Rattle.std.specs.Prelude.{◌≡◌, ◌↔◌, ◌++◌, not, ℕ, Option, Some, None, List, [], if◌then◌else◌, map as each, take, count_by, slice_get, refl}
-use Rattle.std.specs.List.{prefix_len}
+use Rattle.std.specs.Prelude.{ℕ, List, [], refl}
 use Rattle.std.specs.Coded.{Coded, code_by, coded×, coded_ℕ, coded_list}
 use Rattle.std.specs.FinMap as map
 use Rattle.std.specs.FinSet as set
-use Rattle.bg_types.specs.Identifier.{Identifier, id_cmp, same_id}
-use Rattle.bg_types.specs.OperationSet.{Node, OperationSet, Holds, no_operations}
-use Rattle.bg_types.specs.declared.op.Place.TheVariants.{Root}
+use Rattle.bg_types.specs.Identifier.{id_cmp}
+use Rattle.bg_types.specs.OperationSet.{Node, OperationSet, no_operations}
 use Rattle.bg_types.specs.declared.op.OpView.{OpView}
-use Rattle.bg_types.specs.declared.op.OpView.TheVariants.{Insert, Erase}
-use Rattle.rga_tree.specs.Walk.{walk}
+use Rattle.bg_types.specs.declared.op.OpView.TheVariants.{Insert}
 use Rattle.rga_tree.specs.declared.element.Element.{Element}
-use Rattle.rga_tree.specs.TextOf.{is_erased}
-use Rattle.rga_tree.specs.Elements.{elements}
-use Rattle.rga_tree.specs.Row.{hidden_ids}
 use Rattle.pending_ops.specs.Code.{coded_identifier, coded_node, coded_operation}
 
 -- set: the operations that the desk keeps. site: who types at it. waiting: those of the set that

@@ -1,5 +1,5 @@
 -- What typing and erasing at a place make of a desk's set.
-use Rattle.std.specs.Prelude.{◌≡◌, ◌<◌, ◌≤◌, ◌^◌, ℕ, zero, suc, List, Option, Some, insert, remove, slice_get}
+use Rattle.std.specs.Prelude.{◌≡◌, ◌<◌, ◌≤◌, ◌^◌, ℕ, zero, suc, List, Some, insert, remove, slice_get}
 use Rattle.std.specs.Option.{option_map_or}
 use Rattle.bg_types.specs.Identifier.{Identifier}
 use Rattle.bg_types.specs.OperationSet.{Node, OperationSet, with_operation, next, size}

@@ -1,6 +1,6 @@
-use Rattle.std.proofs.Common.{◌≡◌, true, false, sym, ap, subst, ◌∙◌, rules}
+use Rattle.std.proofs.Common.{◌≡◌, true, false, sym, ap, ◌∙◌, rules}
 use Rattle.bg_types.specs.OperationSet.{with_operation}
-use Rattle.desk_replica.specs.Placement.{reaches_in, whole}
+use Rattle.desk_replica.specs.Placement.{whole}
 use Rattle.desk_replica.proofs.Admitting.{held_new, held_settled, held_whole, waits_answer, hidden_settled, hidden_whole, may_reach, hides, on_err}
 use Rattle.desk_replica.proofs.placing.admit.Goals as goal
 

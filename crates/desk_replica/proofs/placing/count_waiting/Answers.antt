@@ -1,4 +1,4 @@
-use Rattle.std.proofs.Common.{◌≤◌, sym, subst, arith, ◌∙◌, refl}
+use Rattle.std.proofs.Common.{arith, refl}
 use Rattle.bg_types.specs.OperationSet.{size}
 use Rattle.desk_replica.proofs.Bounds.{lists_none}
 use Rattle.desk_replica.proofs.placing.count_waiting.Goals as goal

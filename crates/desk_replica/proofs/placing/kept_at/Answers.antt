@@ -1,5 +1,4 @@
 use Rattle.std.proofs.Common.{ap, Some, ◌∙◌}
-use Rattle.bg_types.specs.WellFormed.{MayFollow}
 use Rattle.desk_replica.proofs.Looks.{kept-placed, kept-missing, may_follow}
 use Rattle.desk_replica.proofs.placing.kept_at.Goals as goal
 

@@ -1,4 +1,4 @@
-use Rattle.std.proofs.Common.{◌≡◌, ◌≤◌, ◌<◌, ◌+◌, ◌-◌, length, sym, ap, subst, ◌∙◌, arith, refl}
+use Rattle.std.proofs.Common.{◌≤◌, ◌+◌, length, ap, ◌∙◌, arith}
 use Rattle.rga_tree.specs.Elements.{elements}
 use Rattle.desk_replica.specs.Reply.{attached_count}
 use Rattle.desk_replica.proofs.FirstTurn.{first_from, count_within}

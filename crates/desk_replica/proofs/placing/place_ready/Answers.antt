@@ -1,5 +1,5 @@
-use Rattle.std.proofs.Common.{◌≡◌, ◌≤◌, ◌<◌, ◌+◌, ◌-◌, sym, ap, ◌∙◌, arith, refl}
-use Rattle.desk_replica.proofs.Loop.{turn, may_place, some_due, settled}
+use Rattle.std.proofs.Common.{◌-◌, ◌∙◌, arith, refl}
+use Rattle.desk_replica.proofs.Loop.{turn, may_place, some_due}
 use Rattle.desk_replica.proofs.placing.place_ready.Goals as goal
 
 pub loop-op-init : goal.loop-op-init

@@ -1,8 +1,6 @@
-use Rattle.std.proofs.Common.{◌≡◌, ◌≤◌, ◌<◌, ◌+◌, length, sym, ap, ◌∙◌, arith}
+use Rattle.std.proofs.Common.{◌≤◌, ◌<◌, ◌+◌, length, ◌∙◌, arith}
 use Rattle.rga_tree.specs.Elements.{elements}
-use Rattle.desk_replica.specs.Told.{in_front, count_visible}
 use Rattle.desk_replica.proofs.Counts.{front_all, front_most, part_count, part_found, part_missing, part_within}
-use Rattle.desk_replica.proofs.InTurn.{joined}
 use Rattle.desk_replica.proofs.reading.count_before.Goals as goal
 
 pub returns-in-Ok : goal.returns-in-Ok

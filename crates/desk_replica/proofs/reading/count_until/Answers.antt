@@ -1,9 +1,7 @@
-use Rattle.std.proofs.Common.{◌≡◌, ◌<◌, false, true, take, length, sym, ap, ◌∙◌, arith, length-take}
-use Rattle.std.proofs.lemmas.List.{take_rest}
+use Rattle.std.proofs.Common.{◌≡◌, length, sym, ap, ◌∙◌, arith, length-take}
 use Rattle.std.specs.Cmp.{both_tied, unsigned_ties}
 use Rattle.bg_types.specs.Identifier.{same_id}
-use Rattle.bg_types.proofs.IdentifierOrder.{same_id-is, same_id-itself}
-use Rattle.desk_replica.specs.Told.{in_front, count_visible}
+use Rattle.desk_replica.specs.Told.{count_visible}
 use Rattle.desk_replica.proofs.Counts.{front_here, front_next, visible_next, hidden_next}
 use Rattle.desk_replica.proofs.reading.count_until.Goals as goal
 use Rattle.desk_replica.proofs.reading.count_until.Goals.{then-not-e, else-not-e}

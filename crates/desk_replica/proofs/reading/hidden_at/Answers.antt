@@ -1,7 +1,7 @@
-use Rattle.std.proofs.Common.{◌≡◌, drop, take, ◌+◌, sym, ◌∙◌, arith}
+use Rattle.std.proofs.Common.{drop, take, ◌+◌, sym, ◌∙◌, arith}
 use Rattle.rga_tree.specs.Elements.{elements}
-use Rattle.desk_replica.proofs.HiddenIds.{hidden_middle, length-hidden}
-use Rattle.desk_replica.proofs.InTurn.{joined, joined_push, joined_split, joined_all}
+use Rattle.desk_replica.proofs.Rows.{hidden_middle}
+use Rattle.desk_replica.proofs.InTurn.{joined, joined_split}
 use Rattle.desk_replica.proofs.reading.hidden_at.Goals as goal
 
 pub returns-in-Ok : goal.returns-in-Ok

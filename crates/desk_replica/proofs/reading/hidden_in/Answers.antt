@@ -1,8 +1,8 @@
-use Rattle.std.proofs.Common.{◌≡◌, [], ◌∷◌, drop, take, ◌+◌, Some, ap, sym, ◌∙◌, append_assoc}
+use Rattle.std.proofs.Common.{[], ◌∷◌, drop, take, ◌+◌, ap, sym, ◌∙◌, append_assoc}
 use Rattle.std.specs.Prelude.{slice_get}
 use Rattle.rga_tree.specs.Row.{hidden_ids}
-use Rattle.desk_replica.proofs.HiddenIds.{hidden_middle, hidden_one, hidden_none, length-hidden}
-use Rattle.desk_replica.proofs.InTurn.{split_at, take_push}
+use Rattle.desk_replica.proofs.Rows.{hidden_middle, hidden_one}
+use Rattle.desk_replica.proofs.InTurn.{split_at}
 use Rattle.desk_replica.proofs.reading.hidden_in.Goals as goal
 
 pub returns-then-left-eq0-clause-ok : goal.returns-then-left-eq0-clause-ok

@@ -1,4 +1,4 @@
-use Rattle.std.proofs.Common.{◌≡◌, sym, ap, subst, ◌∙◌, arith}
+use Rattle.std.proofs.Common.{sym, subst, ◌∙◌, arith}
 use Rattle.std.specs.Prelude.{All}
 use Rattle.std.proofs.lemmas.List.Elements.{All-append}
 use Rattle.bg_types.specs.OperationSet.{MayJoin}
@@ -6,7 +6,7 @@ use Rattle.rga_tree.specs.declared.element.Element.{Element}
 use Rattle.rga_tree.specs.Elements.{elements}
 use Rattle.desk_replica.specs.Desk.{insertion_of}
 use Rattle.desk_replica.proofs.Disagreeing.{agree_placed, disagree_placed, part_contains, part_follows}
-use Rattle.desk_replica.proofs.InTurn.{joined, joined_push, joined_all}
+use Rattle.desk_replica.proofs.InTurn.{joined_push, joined_all}
 use Rattle.desk_replica.proofs.replica.Replica.disagrees_placed.Goals as goal
 
 pub disagrees_row-requires : goal.disagrees_row-requires

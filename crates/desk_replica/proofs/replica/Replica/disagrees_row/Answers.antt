@@ -1,4 +1,4 @@
-use Rattle.std.proofs.Common.{◌≡◌, sym, subst, ◌∙◌}
+use Rattle.std.proofs.Common.{sym, subst}
 use Rattle.std.proofs.lemmas.List.Elements.{All-more}
 use Rattle.bg_types.specs.OperationSet.{MayJoin, ReusesIdentifier}
 use Rattle.rga_tree.specs.declared.element.Element.{Element}

@@ -1,4 +1,4 @@
-use Rattle.std.proofs.Common.{◌≡◌, [], ◌∷◌, sym, ap, subst, ◌∙◌, refl, arith}
+use Rattle.std.proofs.Common.{◌≡◌, [], ◌∷◌, sym, ap, subst, ◌∙◌, refl}
 use Rattle.std.specs.Prelude.{map as each}
 use Rattle.std.proofs.lemmas.Result.{err_from_is_err_and}
 use Rattle.bg_types.specs.OperationSet.{with_operation}
@@ -7,7 +7,7 @@ use Rattle.bg_types.specs.declared.op.OpView.TheVariants.{Erase}
 use Rattle.desk_replica.specs.Desk.{Desk}
 use Rattle.desk_replica.specs.Told.{deletions_in}
 use Rattle.desk_replica.specs.Merging.{IsStopped, with_operations}
-use Rattle.desk_replica.proofs.HiddenIds.{deletions-append, hidden_one, hidden_none}
+use Rattle.desk_replica.proofs.Rows.{deletions-append, hidden_one, hidden_none}
 use Rattle.desk_replica.proofs.InTurn.{row_next, row_stopped}
 use Rattle.desk_replica.proofs.replica.Replica.erase_row.Goals as goal
 use Rattle.desk_replica.proofs.replica.Replica.erase_row.Goals.{then-e+in_ok-take, else-e}

@@ -1,12 +1,12 @@
-use Rattle.std.proofs.Common.{◌≡◌, [], ◌∷◌, sym, ap, subst, ◌∙◌, refl, arith}
+use Rattle.std.proofs.Common.{◌≡◌, [], ◌∷◌, sym, ap, subst, ◌∙◌, refl}
 use Rattle.std.proofs.lemmas.Result.{err_from_is_err_and}
 use Rattle.bg_types.specs.OperationSet.{with_operation}
 use Rattle.bg_types.specs.declared.op.OpView.{OpView}
-use Rattle.desk_replica.specs.Desk.{Desk, insertion_of}
+use Rattle.desk_replica.specs.Desk.{Desk}
 use Rattle.desk_replica.specs.Told.{insertions_in}
 use Rattle.desk_replica.specs.Merging.{IsStopped}
-use Rattle.desk_replica.proofs.HiddenIds.{insertions-append}
-use Rattle.desk_replica.proofs.InTurn.{row_next, row_stopped, row_done}
+use Rattle.desk_replica.proofs.Rows.{insertions-append}
+use Rattle.desk_replica.proofs.InTurn.{row_next, row_stopped}
 use Rattle.desk_replica.proofs.replica.Replica.insert_row.Goals as goal
 
 pub loop-e-init : goal.loop-e-init

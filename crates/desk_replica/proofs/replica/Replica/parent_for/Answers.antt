@@ -1,5 +1,4 @@
-use Rattle.std.proofs.Common.{◌<◌, ap, ◌∙◌, arith, ◌≡◌}
-use Rattle.bg_types.specs.declared.op.Place.TheVariants.{After}
+use Rattle.std.proofs.Common.{◌<◌, arith}
 use Rattle.rga_tree.specs.TextOf.{visible_ids}
 use Rattle.desk_replica.proofs.Typing.{parent_is}
 use Rattle.desk_replica.proofs.replica.Replica.parent_for.Goals as goal

@@ -1,6 +1,6 @@
-use Rattle.std.proofs.Common.{◌≡◌, ◌<◌, ◌+◌, sym, ap, subst, ◌∙◌, arith, rules}
+use Rattle.std.proofs.Common.{◌≡◌, ◌<◌, ◌+◌, sym, subst, arith}
 use Rattle.std.specs.Prelude.{max}
-use Rattle.bg_types.specs.OperationSet.{Holds, size}
+use Rattle.bg_types.specs.OperationSet.{Holds}
 use Rattle.bg_types.proofs.OperationSets.{with_operation-known}
 use Rattle.pending_ops.specs.Releasing.{subject}
 use Rattle.desk_replica.specs.Desk.{Desk}

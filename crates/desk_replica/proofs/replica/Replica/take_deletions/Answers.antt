@@ -1,8 +1,8 @@
-use Rattle.std.proofs.Common.{◌≡◌, sym, ap, ◌∙◌, refl, arith}
+use Rattle.std.proofs.Common.{◌∙◌, refl, arith}
 use Rattle.std.proofs.lemmas.Result.{err_from_is_err_and}
 use Rattle.rga_tree.specs.Elements.{elements}
 use Rattle.desk_replica.specs.Told.{deletions_in}
-use Rattle.desk_replica.proofs.HiddenIds.{deletions-append}
+use Rattle.desk_replica.proofs.Rows.{deletions-append}
 use Rattle.desk_replica.proofs.InTurn.{part_next, part_stopped, parts_done}
 use Rattle.desk_replica.proofs.replica.Replica.take_deletions.Goals as goal
 

@@ -1,9 +1,8 @@
-use Rattle.std.proofs.Common.{◌≡◌, ◌++◌, List, sym, ap, subst, ◌∙◌}
+use Rattle.std.proofs.Common.{◌++◌, ap, subst, ◌∙◌}
 use Rattle.std.proofs.lemmas.Result.{err_from_is_err_and, on_ok_weaker, IfErr-weaker}
-use Rattle.bg_types.specs.declared.op.OpView.{OpView}
 use Rattle.rga_tree.specs.Elements.{elements}
 use Rattle.desk_replica.specs.Placement.{waiting_in}
-use Rattle.desk_replica.specs.Told.{told, insertions_in, deletions_in}
+use Rattle.desk_replica.specs.Told.{insertions_in, deletions_in}
 use Rattle.desk_replica.specs.Merging.{IsStopped, with_operations}
 use Rattle.desk_replica.proofs.InTurn.{stopped_first, stopped_second, taken_both}
 use Rattle.desk_replica.proofs.Told.{told_is, told_once}

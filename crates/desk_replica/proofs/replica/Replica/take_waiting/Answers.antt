@@ -4,7 +4,7 @@ use Rattle.desk_replica.specs.Desk.{Desk}
 use Rattle.desk_replica.specs.Placement.{waiting_in}
 use Rattle.desk_replica.specs.Merging.{IsStopped}
 use Rattle.desk_replica.proofs.Disagreeing.{waiting_at}
-use Rattle.desk_replica.proofs.InTurn.{taken_next, stopped_at, taken_all}
+use Rattle.desk_replica.proofs.InTurn.{taken_next, stopped_at}
 use Rattle.desk_replica.proofs.replica.Replica.take_waiting.Goals as goal
 
 pub loop-j-init : goal.loop-j-init

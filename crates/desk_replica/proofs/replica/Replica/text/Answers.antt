@@ -1,4 +1,4 @@
-use Rattle.std.proofs.Common.{◌≡◌, ◌≤◌, sym, ap, ◌∙◌, subst, arith}
+use Rattle.std.proofs.Common.{◌≡◌, ap, ◌∙◌, subst, arith}
 use Rattle.std.specs.Prelude.{IfOk, string_bytes, encode_utf8_all}
 use Rattle.bg_types.specs.OperationSet.{size}
 use Rattle.desk_replica.specs.Desk.{Desk}

@@ -1,4 +1,4 @@
-use Rattle.std.proofs.Common.{◌≡◌, sym, ap, subst, ◌∙◌}
+use Rattle.std.proofs.Common.{◌≡◌, sym, subst, ◌∙◌}
 use Rattle.bg_types.specs.OperationSet.{with_operation}
 use Rattle.bg_types.specs.WellFormed.{IsWellFormed}
 use Rattle.desk_replica.specs.Desk.{Desk}
