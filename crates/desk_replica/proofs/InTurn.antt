@@ -77,9 +77,6 @@ module _ (s u : OperationSet) (ops : List OpView) (j : ℕ) (op : OpView) (withi
   pub stopped_at : (fault : TakeFault) → IsRefused u op fault → IsStopped s ops u fault
   stopped_at fault refused = record { before = take j ops; op = op; after = drop (j + 1) ops; in_order = split_at ops j op within is; taken = taken; refused = refused }
 
-pub taken_all : (s u : OperationSet) (ops : List OpView) (j : ℕ) → length ops ≤ j → u ≡ with_operations s (take j ops) → u ≡ with_operations s ops
-taken_all s u ops j long taken = taken ∙ ap (with_operations s) (take_all ops j long)
-
 -- ---- what rows tell: of two rows the one after the other
 
 module _ (tell : List Element → List OpView) (tell-append : (xs ys : List Element) → tell (xs ++ ys) ≡ tell xs ++ tell ys) (s : OperationSet) where
@@ -101,9 +98,6 @@ module _ (tell : List Element → List OpView) (tell-append : (xs ys : List Elem
           taken = taken;
           refused = refused;
         }
-
-  pub row_done : (u : OperationSet) (row : List Element) (j : ℕ) → length row ≤ j → u ≡ with_operations s (tell (take j row)) → u ≡ with_operations s (tell row)
-  row_done u row j long taken = taken ∙ ap (λ r. with_operations s (tell r)) (take_all row j long)
 
   -- one more part
   module _ (u v : OperationSet) (parts : List (List Element)) (p : ℕ) (row : List Element) (within : p < length parts) (is : row ≡ get_or parts p []) (taken : u ≡ with_operations s (tell (joined (take p parts)))) where

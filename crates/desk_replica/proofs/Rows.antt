@@ -1,5 +1,5 @@
 -- What rows tell, one after the other: their insertions, and the hidden ones among them.
-use Rattle.std.proofs.Common.{◌≡◌, ◌+◌, ◌++◌, ℕ, true, false, cond, List, [], ◌∷◌, length, Some, ap, ◌∙◌, length-append}
+use Rattle.std.proofs.Common.{◌≡◌, ◌+◌, ◌++◌, ℕ, true, false, cond, List, [], ◌∷◌, length, Some, ap, ◌∙◌}
 use Rattle.std.specs.Prelude.{slice_get, filter, map as each}
 use Rattle.std.proofs.lemmas.List.{map-append}
 use Rattle.std.proofs.lemmas.List.Elements.{filter-append}
@@ -34,6 +34,3 @@ pub hidden_middle : (all front row rest : List Element) (k left : ℕ) (x : Iden
 hidden_middle all front row rest k left x parted at is =
     ap (λ l. slice_get l k) (ap hidden_ids parted ∙ hidden-append (front ++ row) rest ∙ ap (λ l. l ++ hidden_ids rest) (hidden-append front row))
     ∙ slice_get-left (hidden_ids front ++ hidden_ids row) (hidden_ids rest) k x (slice_get-right (hidden_ids front) (hidden_ids row) left k at ∙ is)
-
-pub length-hidden : (all front row : List Element) → all ≡ front ++ row → length (hidden_ids all) ≡ length (hidden_ids front) + length (hidden_ids row)
-length-hidden all front row parted = ap (λ r. length (hidden_ids r)) parted ∙ ap length (hidden-append front row) ∙ length-append (hidden_ids front) (hidden_ids row)
