@@ -1,6 +1,6 @@
 -- Lists and their indices.
-use Rattle.std.proofs.Common.{◌≡◌, ◌≤◌, ◌<◌, ◌+◌, ◌++◌, ℕ, zero, suc, List, [], ◌∷◌, length, take, None, Some, sym, ap, subst, ◌∙◌, refl, arith, inl, inr}
-use Rattle.std.specs.Prelude.{◌⊎◌, slice_get, map as each}
+use Rattle.std.proofs.Common.{◌≡◌, ◌≤◌, ◌<◌, ◌+◌, ◌++◌, ℕ, zero, suc, List, [], ◌∷◌, length, take, None, Some, sym, ap, subst, ◌∙◌, refl, arith}
+use Rattle.std.specs.Prelude.{slice_get, map as each}
 use Rattle.std.specs.Option.{option_map}
 use Rattle.std.specs.List.{AllByRecursion}
 
@@ -22,11 +22,6 @@ pub slice_get-right : {X : Type 0} (xs ys : List X) (k n : ℕ) → n ≡ length
 slice_get-right [] ys k n e = ap (slice_get ys) (omega arith)
 slice_get-right (y ∷ xs) ys k zero e = absurd (omega arith)
 slice_get-right (y ∷ xs) ys k (suc n) e = slice_get-right xs ys k n (omega arith)
-
-pub slice_get-either : {X : Type 0} (xs ys : List X) (k : ℕ) (x : X) → slice_get (xs ++ ys) k ≡ Some x → (slice_get xs k ≡ Some x) ⊎ ((j : ℕ) × (slice_get ys j ≡ Some x))
-slice_get-either [] ys k x h = inr (k, h)
-slice_get-either (y ∷ xs) ys zero x h = inl h
-slice_get-either (y ∷ xs) ys (suc k) x h = slice_get-either xs ys k x h
 
 -- what a mapped list has comes from the list
 pub slice_get-from : {X Y : Type 0} (f : X → Y) (xs : List X) (k : ℕ) (y : Y) → slice_get (each f xs) k ≡ Some y → (x : X) × ((slice_get xs k ≡ Some x) × (f x ≡ y))
