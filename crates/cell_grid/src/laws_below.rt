@@ -2,8 +2,8 @@
 
 ghost use Rattle.cell_grid.specs.LawsBelow.{LawsBelow};
 
-use paragraphs::laws::{cluster_places, clusters_join, paragraphs_join};
 use line_break::laws::{each_measured, empty_line, lines_fit, lines_follow};
+use paragraphs::laws::{cluster_places, clusters_join, paragraphs_join};
 use reorder::laws::rearrangement;
 
 /// What the crates below promise of clusters, paragraphs, lines and the visual order. Called for its

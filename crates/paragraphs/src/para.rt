@@ -71,7 +71,7 @@ impl<'a> Para<'a> {
     pub fn clusters(&self) -> Clusters<'a>
         ensures clusters { result ≡ clusters self.now.text }
         ensures joined { concat result ≡ self.now.text }
-    ensures utf8 { All IsUtf8 result }
+        ensures utf8 { All IsUtf8 result }
         ensures some { All (λ cluster. 0 < length cluster) result }
     {
         Clusters::of(self.text())
