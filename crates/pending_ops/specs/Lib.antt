@@ -3,3 +3,4 @@ pub mod Below
 pub mod Releasing
 pub mod Code
 pub mod Chains
+pub mod Hashing

@@ -1,35 +1,92 @@
 //! The hasher of the tables, with a key for each store.
 
-ghost use Rattle.std.specs.Prelude.{◌≡◌};
-ghost use Rattle.std.specs.Int.{w128, to_le_bytes};
-ghost use Rattle.std.specs.Hash.DefaultHasher.{initial, write};
+ghost use Rattle.std.specs.Prelude.{◌≡◌, ◌+◌, ◌*◌, ◌/◌, ◌%◌, ◌^◌, ◌<◌, get_or};
+ghost use Rattle.pending_ops.specs.Hashing.{word};
 
-use std::hash::{BuildHasher, DefaultHasher, Hasher};
+use std::hash::{BuildHasher, Hasher};
 
-/// Hashes by SipHash-1-3 behind a key, so that who does not know the key cannot choose identifiers
-/// that share a slot.
+const WORD: u128 = 0x1_0000_0000_0000_0000;
+
+// Added to the key's halves, so that the key 0 has two factors above 0 as well.
+const FIRST: u64 = 0x9e37_79b9_7f4a_7c15;
+
+const NEXT: u64 = 0x2545_f491_4f6c_dd1d;
+
+/// Hashes by multiplication with a key (multiply-shift). Of identifiers that were chosen without
+/// the key, any two share one of n slots (a power of two) with a probability of at most 2 / n, so
+/// that no choice of identifiers makes the calls slow.
 #[derive(Clone, Copy)]
 pub struct Keyed {
-    /// The state once the key was written.
-    start: DefaultHasher,
+    start: Sum,
 }
 
 impl Keyed {
     pub fn new(key: u128) -> Keyed
-        ensures { result.start ≡ write initial (to_le_bytes w128 key) }
+        ensures sum { result.start.sum ≡ 0 }
+        ensures first { result.start.factor ≡ (key % 2 ^ 64 + 0x9e37_79b9_7f4a_7c15) % 2 ^ 64 }
+        ensures next { result.start.next ≡ (key / 2 ^ 64 + 0x2545_f491_4f6c_dd1d) % 2 ^ 64 }
     {
-        let mut start = DefaultHasher::new();
-        start.write(&key.to_le_bytes());
-        Keyed { start }
+        Keyed {
+            start: Sum {
+                sum: 0,
+                factor: ((key % WORD) as u64).wrapping_add(FIRST),
+                next: ((key / WORD) as u64).wrapping_add(NEXT),
+            },
+        }
     }
 }
 
 impl BuildHasher for Keyed {
-    type Hasher = DefaultHasher;
+    type Hasher = Sum;
 
     ghost build_hasher = { λ keyed. keyed.start };
 
-    fn build_hasher(&self) -> DefaultHasher {
+    fn build_hasher(&self) -> Sum {
         self.start
     }
+}
+
+/// The sum of the numbers that were written, each times its factor. An identifier writes two: its
+/// counter and its site.
+#[derive(Clone, Copy)]
+pub struct Sum {
+    sum: u64,
+    factor: u64,
+    /// The factor of each number behind the first.
+    next: u64,
+}
+
+impl Hasher for Sum {
+    ghost write = { λ h bytes. record { sum = (h.sum + h.factor * word bytes % 2 ^ 64) % 2 ^ 64; factor = h.next; next = h.next } };
+
+    ghost finish = { λ h. h.sum / 2 ^ 32 };
+
+    fn finish(&self) -> u64 {
+        self.sum >> 32
+    }
+
+    fn write(&mut self, bytes: &[u8]) {
+        self.sum = self
+            .sum
+            .wrapping_add(self.factor.wrapping_mul(first_four(bytes)));
+        self.factor = self.next;
+    }
+}
+
+/// The first four bytes as a number, the lowest first.
+fn first_four(bytes: &[u8]) -> u64
+    ensures { result ≡ word bytes.now }
+{
+    byte(bytes, 0)
+        + 0x100 * byte(bytes, 1)
+        + 0x1_0000 * byte(bytes, 2)
+        + 0x100_0000 * byte(bytes, 3)
+}
+
+/// A byte, or 0 where there is none.
+fn byte(bytes: &[u8], i: usize) -> u64
+    ensures value { result ≡ get_or bytes.now i 0 }
+    ensures bound { result < 256 }
+{
+    if i < bytes.len() { bytes[i] as u64 } else { 0 }
 }
