@@ -245,8 +245,10 @@ fn change_both(blocks: &mut Tried<Blocks>, plain: &mut Tried<Plain>) -> bool {
 fn show_the_same(blocks: &mut Tried<Blocks>, plain: &mut Tried<Plain>) -> bool {
     let mut same = blocks.seq.placed() == plain.seq.placed();
     for j in 0..plain.seq.placed() {
-        let row = plain.nth(j);
-        same = row.is_some_and(|row| blocks.stands_at(j, row)) && same;
+        same = match plain.nth(j) {
+            Some(row) => blocks.stands_at(j, row) && same,
+            None => false,
+        };
     }
     for k in 0..=plain.seq.len() {
         same = blocks.at(k) == plain.at(k) && same;
