@@ -1,5 +1,5 @@
 -- How many bytes code points take.
-use Rattle.std.proofs.Common.{ℕ, ◌+◌, ◌*◌, ◌≤◌, List, [], ◌∷◌, length, arith, length-append}
+use Rattle.std.proofs.Common.{ℕ, ◌*◌, ◌≤◌, List, [], ◌∷◌, length, arith, length-append}
 use Rattle.std.specs.Prelude.{encode_utf8_all, encode_utf8}
 use Rattle.std.proofs.lemmas.Str.{length-encode, len_utf8_bounds}
 

@@ -1,14 +1,11 @@
 -- What a merge makes of two sets, and which merges are refused.
-use Rattle.std.proofs.Common.{◌≡◌, ◌<◌, ◌≤◌, ◌+◌, ℕ, Some, refl, sym, ap, subst, ◌∙◌, inl, inr, ◌⊎◌, arith}
-use Rattle.std.specs.Prelude.{◌↔◌}
-use Rattle.std.specs.FinMap as map
-use Rattle.bg_types.specs.Identifier.{Identifier}
-use Rattle.bg_types.specs.OperationSet.{Node, OperationSet, Holds, MayJoin, Agree, with_operation, union, size}
+use Rattle.std.proofs.Common.{◌≡◌, ◌<◌, ◌≤◌, refl, sym, subst, ◌∙◌, inl, inr, ◌⊎◌, arith}
+use Rattle.bg_types.specs.OperationSet.{OperationSet, Holds, MayJoin, Agree, with_operation, union, size}
 use Rattle.bg_types.specs.declared.op.OpView.{OpView}
 use Rattle.bg_types.specs.declared.op.OpView.TheVariants.{Insert, Erase}
 use Rattle.desk_replica.specs.declared.answer.TakeFault.{TakeFault}
 use Rattle.desk_replica.specs.declared.answer.TakeFault.TheVariants.{IdentifierReused, Full, Memory}
-use Rattle.desk_replica.specs.Merging.{Disagree, IsBetween, IsMergeRefused}
+use Rattle.desk_replica.specs.Merging.{IsBetween, IsMergeRefused}
 use Rattle.replay_cli.specs.DeskSets.{IsMergeRefusal}
 use Rattle.replay_cli.proofs.LowerLaws.{GrowthLaws, UnitedOperations}
 
