@@ -14,6 +14,9 @@ use Rattle.line_break.specs.Lines.{is_break}
 use Rattle.conformance.specs.declared.bidi.BidiLine.{BidiLine}
 use Rattle.conformance.specs.declared.case.Wanted.{Wanted}
 use Rattle.conformance.specs.Agreement.{is_wanted_at, IsAsWanted}
+use Rattle.conformance.specs.Choices.{Explains}
+use Rattle.conformance.specs.declared.case.BreakCase.{BreakCase}
+use Rattle.conformance.specs.declared.tally.Choice.{Choice}
 
 -- whether a line may or must end behind each code point of a paragraph
 abbrev pub paragraph_breaks : TableValues → Paragraph → List Bool
@@ -40,3 +43,7 @@ pub record IsOneParagraph (tables : TableValues) (text : List ℕ) : Type 0 wher
   pub first : Paragraph
   pub is : slice_get (paragraphs tables text) 0 ≡ Some first
   pub whole : first.text ≡ text
+
+-- the choice makes each difference between the breaks that a line wants and those of its text
+abbrev pub IsByChoice : TableValues → BreakCase → Choice → Type 0
+IsByChoice tables case choice = Explains tables (code_points case.text.bytes.items) case.breaks.items (breaks_of tables case.text.bytes.items) choice

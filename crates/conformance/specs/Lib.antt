@@ -2,3 +2,4 @@ pub mod Counted
 pub mod Agreement
 pub mod Pairs
 pub mod Came
+pub mod Choices

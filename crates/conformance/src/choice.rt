@@ -1,7 +1,12 @@
 //! The choices of this profile of line breaking, by which it differs from the test file.
 
-ghost use Rattle.std.specs.Prelude.{◌≡◌, ◌<◌, ◌≤◌, IsTrue, length};
+ghost use Rattle.std.specs.Prelude.{◌≡◌, ◌≤◌, ◌↔◌, IsTrue, IfOk, IfSome, None, drop, length};
+ghost use Rattle.ucd_files.specs.Tables.{lb_of};
+ghost use Rattle.paragraphs.specs.Text.{code_points};
+ghost use Rattle.line_break.specs.Classes.{one_of};
 ghost use Rattle.conformance.specs.Pairs.{is_pair};
+ghost use Rattle.conformance.specs.Choices.{joins, items_of, begins, ends_digits, in_number, by_pair, is_pictograph, makes, makes_at, explains_at, Explains};
+ghost use Rattle.conformance.specs.declared.tally.Choice.{Choice};
 
 use crate::tally::Choice;
 use bg_types::{Lb, Memory};
@@ -14,8 +19,6 @@ use ucd_files::Tables;
 struct Item {
     first: char,
     class: Lb,
-    /// How many code points of the text stand before its end.
-    end: usize,
 }
 
 /// The choice that alone explains how the breaks of a text that came differ from those wanted.
@@ -25,45 +28,142 @@ pub fn choice_of(
     text: &str,
     wanted: &[bool],
     came: &[bool],
-) -> Result<Option<Choice>, Memory> {
-    let items = items_of(alloc, tables, text)?;
-    let joined = joined_by_numbers(alloc, &items)?;
-    if wanted.len() != came.len() {
+) -> Result<Option<Choice>, Memory>
+    ensures explains { IfOk result (λ found. IfSome found (Explains tables.now (code_points text.now) wanted.now came.now)) }
+    ensures none { IfOk result (λ found. found ≡ None → (choice : Choice) → Explains tables.now (code_points text.now) wanted.now came.now choice → ⊥) }
+{
+    let points = points_of(alloc, text)?;
+    if wanted.len() != points.len() || came.len() != points.len() {
         return Ok(None);
     }
-    let mut choice = None;
+    if explains(alloc, tables, &points, wanted, came, Choice::Pairs)? {
+        return Ok(Some(Choice::Pairs));
+    }
+    if explains(alloc, tables, &points, wanted, came, Choice::Pictographs)? {
+        return Ok(Some(Choice::Pictographs));
+    }
+    Ok(None)
+}
+
+/// The code points of a text.
+fn points_of(alloc: Global, text: &str) -> Result<Vec<char>, Memory>
+    ensures { IfOk result (λ points. points.items ≡ code_points text.now) }
+{
+    Ok(text.chars().collect(alloc)?)
+}
+
+/// Whether a choice makes each difference.
+fn explains(
+    alloc: Global,
+    tables: &Tables,
+    points: &[char],
+    wanted: &[bool],
+    came: &[bool],
+    choice: Choice,
+) -> Result<bool, Memory>
+    requires wanted_len { length wanted.now ≡ length points.now }
+    requires came_len { length came.now ≡ length points.now }
+    ensures { IfOk result (λ made. IsTrue made ↔ Explains tables.now points.now wanted.now came.now choice) }
+{
     for (i, breaks) in wanted.iter().enumerate() {
-        if *breaks != came[i] {
-            let next = choice_at(&items, &joined, i + 1, *breaks);
-            if next.is_none() || choice.is_some() && choice != next {
-                return Ok(None);
-            }
-            choice = next;
+        if !explains_at(alloc, tables, points, choice, i + 1, *breaks, came[i])? {
+            return Ok(false);
         }
     }
-    Ok(choice)
+    Ok(true)
 }
 
-/// The choice that explains a difference at the boundary behind so many code points.
-fn choice_at(items: &[Item], joined: &[bool], end: usize, wanted: bool) -> Option<Choice> {
-    let number = items.iter().position(|item| item.end == end)?;
-    let before = items.get(number)?;
-    let after = items.get(number + 1)?;
-    let in_number = *joined.get(number)?;
-    if wanted && !in_number && is_pair(before.class, after.class) || !wanted && in_number {
-        return Some(Choice::Pairs);
+/// Whether nothing differs at the boundary behind so many code points, or a choice makes the
+/// difference.
+fn explains_at(
+    alloc: Global,
+    tables: &Tables,
+    points: &[char],
+    choice: Choice,
+    end: usize,
+    wanted: bool,
+    came: bool,
+) -> Result<bool, Memory>
+    requires { end ≤ length points.now }
+    ensures { IfOk result (λ made. made ≡ explains_at tables.now points.now choice end wanted came) }
+{
+    if wanted == came {
+        return Ok(true);
     }
-    if !wanted && is_pictograph_and_modifier(before, after) {
-        return Some(Choice::Pictographs);
-    }
-    None
+    makes_at(alloc, tables, points, choice, end, wanted)
 }
 
-/// Whether LB30b of the standard may join two items, and that of this profile doesn't.
-fn is_pictograph_and_modifier(before: &Item, after: &Item) -> bool {
-    matches!(after.class, Lb::Em)
-        && !matches!(before.class, Lb::Eb)
-        && is_extended_pictographic(before.first)
+/// Whether a choice makes a difference at the boundary behind so many code points.
+fn makes_at(
+    alloc: Global,
+    tables: &Tables,
+    points: &[char],
+    choice: Choice,
+    end: usize,
+    wanted: bool,
+) -> Result<bool, Memory>
+    requires { end ≤ length points.now }
+    ensures { IfOk result (λ made. made ≡ makes_at tables.now points.now choice end wanted) }
+{
+    let mut before = items_of(alloc, tables, &points[..end])?;
+    before.reverse();
+    let after = items_of(alloc, tables, &points[end..])?;
+    Ok(makes(choice, &before, &after, wanted))
+}
+
+/// The items of code points (LB9).
+fn items_of(alloc: Global, tables: &Tables, points: &[char]) -> Result<Vec<Item>, Memory>
+    ensures { IfOk result (λ items. items.items ≡ items_of tables.now points.now) }
+{
+    let mut items = Vec::new(alloc);
+    let mut last = None;
+    for first in points {
+        let class = tables.lb(*first);
+        if !joins(last, class) {
+            items.push(Item {
+                first: *first,
+                class,
+            })?;
+        }
+        last = Some(class);
+    }
+    Ok(items)
+}
+
+/// Whether a code point of this class belongs to the item of the one before it (LB9).
+fn joins(last: Option<Lb>, class: Lb) -> bool
+    ensures { result ≡ joins last class }
+{
+    match last {
+        Some(last) => {
+            is_one_of(class, &[Lb::Cm, Lb::Zwj])
+                && !is_one_of(last, &[Lb::Bk, Lb::Cr, Lb::Lf, Lb::Nl, Lb::Sp, Lb::Zw])
+        }
+        None => false,
+    }
+}
+
+/// Whether a choice makes the difference between what is wanted and the opposite: the items before a
+/// boundary, the nearest first, and those behind it.
+fn makes(choice: Choice, before: &[Item], after: &[Item], wanted: bool) -> bool
+    ensures { result ≡ makes choice before.now after.now wanted }
+{
+    match (choice, wanted) {
+        (Choice::Pairs, true) => by_pair(before, after) && !in_number(before, after),
+        (Choice::Pairs, false) => in_number(before, after),
+        (Choice::Pictographs, true) => false,
+        (Choice::Pictographs, false) => is_pictograph(before) && begins(after, &[Lb::Em]),
+    }
+}
+
+/// Whether LB25 of this profile joins the items at a boundary.
+fn by_pair(before: &[Item], after: &[Item]) -> bool
+    ensures { result ≡ by_pair before.now after.now }
+{
+    match (before.first(), after.first()) {
+        (Some(before), Some(after)) => is_pair(before.class, after.class),
+        _ => false,
+    }
 }
 
 /// Whether LB25 of this profile joins two classes.
@@ -79,109 +179,69 @@ fn is_pair(before: Lb, after: Lb) -> bool
     )
 }
 
-/// The items of a text (LB9).
-fn items_of(alloc: Global, tables: &Tables, text: &str) -> Result<Vec<Item>, Memory> {
-    let mut items: Vec<Item> = Vec::new(alloc);
-    for (i, c) in text.chars().enumerate() {
-        let class = tables.lb(c);
-        let end = i + 1;
-        match items.pop() {
-            Some(last) if joins(last.class, class) => items.push(Item { end, ..last })?,
-            Some(last) => {
-                items.push(last)?;
-                items.push(Item {
-                    first: c,
-                    class,
-                    end,
-                })?;
-            }
-            None => items.push(Item {
-                first: c,
-                class,
-                end,
-            })?,
-        }
-    }
-    Ok(items)
-}
-
-/// Whether a code point of the second class belongs to an item of the first (LB9).
-fn joins(base: Lb, class: Lb) -> bool {
-    matches!(class, Lb::Cm | Lb::Zwj)
-        && !matches!(base, Lb::Bk | Lb::Cr | Lb::Lf | Lb::Nl | Lb::Sp | Lb::Zw)
-}
-
-/// Whether the test file's expression for numbers covers an item and the next one:
-/// `(PR | PO)? (OP | HY)? NU (NU | SY | IS)* (CL | CP)? (PR | PO)?`.
-fn joined_by_numbers(alloc: Global, items: &[Item]) -> Result<Vec<bool>, Memory> {
-    let mut joined = vec![in alloc; false; items.len()]?;
-    for i in 0..items.len() {
-        if matches!(items[i].class, Lb::Nu) {
-            let first = number_start(items, i);
-            let last = number_end(items, i);
-            for k in first..last {
-                if let Some(place) = joined.get_mut(k) {
-                    *place = true;
-                }
-            }
-        }
-    }
-    Ok(joined)
-}
-
-/// Whether there is an item of this number, and it is of one of the classes.
-fn is_one_of(items: &[Item], number: usize, classes: &[Lb]) -> bool
-    ensures { IsTrue result → number < length items.now }
+/// Whether one of the test file's rules for numbers joins the items at a boundary.
+fn in_number(before: &[Item], after: &[Item]) -> bool
+    ensures { result ≡ in_number before.now after.now }
 {
-    match items.get(number) {
-        Some(item) => classes.contains(&item.class),
+    // (PR | PO) × (OP | HY)? NU
+    begins(before, &[Lb::Pr, Lb::Po])
+        && (begins(after, &[Lb::Nu])
+            || begins(after, &[Lb::Op, Lb::Hy]) && begins(farther(after), &[Lb::Nu]))
+        // (OP | HY) × NU
+        || begins(before, &[Lb::Op, Lb::Hy]) && begins(after, &[Lb::Nu])
+        // NU (NU | SY | IS)* × (NU | SY | IS | CL | CP)
+        || ends_digits(before) && begins(after, &[Lb::Nu, Lb::Sy, Lb::Is, Lb::Cl, Lb::Cp])
+        // NU (NU | SY | IS)* (CL | CP)? × (PO | PR)
+        || (ends_digits(before)
+            || begins(before, &[Lb::Cl, Lb::Cp]) && ends_digits(farther(before)))
+            && begins(after, &[Lb::Po, Lb::Pr])
+}
+
+/// Whether the first of these items is of one of the classes.
+fn begins(items: &[Item], classes: &[Lb]) -> bool
+    ensures { result ≡ begins classes.now items.now }
+{
+    match items.first() {
+        Some(item) => is_one_of(item.class, classes),
         None => false,
     }
 }
 
-/// The item before this one where it is of one of the classes, else this one.
-fn back(items: &[Item], number: usize, classes: &[Lb]) -> usize
-    ensures { result ≤ number }
+/// The items without the first.
+fn farther(items: &[Item]) -> &[Item]
+    ensures { result.now ≡ drop 1 items.now }
 {
-    if number > 0 && is_one_of(items, number - 1, classes) {
-        number - 1
-    } else {
-        number
+    if items.is_empty() { items } else { &items[1..] }
+}
+
+/// Whether `NU (NU | SY | IS)*` ends with the first of these items, the nearest first.
+fn ends_digits(items: &[Item]) -> bool
+    ensures { result ≡ ends_digits items.now }
+{
+    for item in items {
+        if is_one_of(item.class, &[Lb::Nu]) {
+            return true;
+        }
+        if !is_one_of(item.class, &[Lb::Sy, Lb::Is]) {
+            return false;
+        }
+    }
+    false
+}
+
+/// Whether the first of these items is an extended pictograph that isn't of class EB.
+fn is_pictograph(items: &[Item]) -> bool
+    ensures { result ≡ is_pictograph items.now }
+{
+    match items.first() {
+        Some(item) => is_extended_pictographic(item.first) && !is_one_of(item.class, &[Lb::Eb]),
+        None => false,
     }
 }
 
-/// The item behind this one where it is of one of the classes, else this one.
-fn onward(items: &[Item], number: usize, classes: &[Lb]) -> usize
-    requires { number < length items.now }
-    ensures { result < length items.now }
+/// Whether the class is one of these.
+fn is_one_of(class: Lb, classes: &[Lb]) -> bool
+    ensures { result ≡ one_of classes.now class }
 {
-    if is_one_of(items, number + 1, classes) {
-        number + 1
-    } else {
-        number
-    }
-}
-
-/// The first item that belongs to the number whose digit stands at `digit`.
-fn number_start(items: &[Item], digit: usize) -> usize
-    ensures { result ≤ digit }
-{
-    let first = back(items, digit, &[Lb::Op, Lb::Hy]);
-    back(items, first, &[Lb::Pr, Lb::Po])
-}
-
-/// The last item that belongs to the number whose digit stands at `digit`.
-fn number_end(items: &[Item], digit: usize) -> usize
-    requires { digit < length items.now }
-    ensures { result < length items.now }
-{
-    let rest = &items[digit + 1..];
-    let inner = rest.iter().take_while(|item| is_inner(item.class)).count();
-    let last = onward(items, digit + inner, &[Lb::Cl, Lb::Cp]);
-    onward(items, last, &[Lb::Pr, Lb::Po])
-}
-
-/// Whether the class stands within a number.
-fn is_inner(class: Lb) -> bool {
-    matches!(class, Lb::Nu | Lb::Sy | Lb::Is)
+    classes.contains(&class)
 }

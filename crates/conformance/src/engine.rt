@@ -4,7 +4,7 @@ ghost use Rattle.std.specs.Prelude.{◌≡◌, ◌≢◌, ◌+◌, ◌↔◌, Is
 ghost use Rattle.conformance.specs.Agreement.{IsAsWanted};
 ghost use Rattle.bg_types.specs.declared.class.Base.TheVariants.{Auto};
 ghost use Rattle.bidi_explicit.specs.Embedding.{paragraph_level, classes_of};
-ghost use Rattle.conformance.specs.Came.{breaks_of, CameAsWanted, IsOneParagraph};
+ghost use Rattle.conformance.specs.Came.{breaks_of, CameAsWanted, IsOneParagraph, IsByChoice};
 ghost use Rattle.conformance.specs.Counted.{counted, cases_of, level_of};
 ghost use Rattle.conformance.specs.declared.tally.Choice.{Choice};
 ghost use Rattle.conformance.specs.declared.tally.Verdict.TheVariants.{Agrees, Differs, LeftOut, Chosen};
@@ -291,15 +291,19 @@ fn are_breaks(wanted: &[bool], came: &[bool]) -> bool
 fn compare_breaks(alloc: Global, tables: &Tables, case: &BreakCase) -> Result<Found, RunFault>
     ensures agrees { IfOk result (λ found. found.verdict ≡ Agrees → case.now.breaks.items ≡ breaks_of tables.now case.now.text.bytes.items) }
     ensures as_wanted { IfOk result (λ found. case.now.breaks.items ≡ breaks_of tables.now case.now.text.bytes.items → found.verdict ≡ Agrees) }
+    ensures chosen { IfOk result (λ found. (choice : Choice) → found.verdict ≡ Chosen choice → IsByChoice tables.now case.now choice) }
+    ensures differs { IfOk result (λ found. (choice : Choice) → found.verdict ≡ Differs → IsByChoice tables.now case.now choice → ⊥) }
 {
     let text = case.text.as_str();
     let came = breaks_of(alloc, tables, text)?;
     if are_breaks(&case.breaks, &came) {
         return Ok(Found::of(Verdict::Agrees));
     }
-    if let Some(choice) = choice_of(alloc, tables, text, &case.breaks, &came)? {
-        return Ok(Found::of(Verdict::Chosen(choice)));
+    match choice_of(alloc, tables, text, &case.breaks, &came)? {
+        Some(choice) => Ok(Found::of(Verdict::Chosen(choice))),
+        None => {
+            let told = tell_breaks(alloc, text, &case.breaks, &came)?;
+            Ok(Found::difference(told))
+        }
     }
-    let told = tell_breaks(alloc, text, &case.breaks, &came)?;
-    Ok(Found::difference(told))
 }
