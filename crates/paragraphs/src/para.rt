@@ -29,7 +29,11 @@ impl<'a> Model for Para<'a> {
 impl<'a> Para<'a> {
     /// The paragraph with this text that begins there. `Memory` where a number is above 4,294,967,295.
     #[inline]
-    pub(crate) fn new(text: &'a str, first_byte: usize, first_place: usize) -> Result<Para<'a>, Memory>
+    pub(crate) fn new(
+        text: &'a str,
+        first_byte: usize,
+        first_place: usize,
+    ) -> Result<Para<'a>, Memory>
         ensures { IfOk result (λ p. p ≡ record { text = text.now; first_byte = first_byte; first_place = first_place }) }
     {
         match (u32::try_from(first_byte), u32::try_from(first_place)) {
