@@ -1,4 +1,5 @@
-//! Laws of the definitions: each function's contract is the law, and its body is empty.
+//! Laws of the definitions: each function's contract is the law, and its body is empty or calls the laws of
+//! lower crates that the proof stands on.
 
 ghost use Rattle.std.specs.Prelude.{◌≡◌, ◌⊎◌, ℕ, List};
 ghost use Rattle.std.specs.List.{AllByRecursion};
