@@ -74,7 +74,7 @@ fn put_slow_order(levels: &[u8], order: &mut [u32]) {
 
 #[test]
 fn the_standards_examples_are_shown_in_its_order(rt: HostRuntime) -> Result<(), Fail> {
-    // The examples of UAX #9, section 3.4, L2, with its signs > < = for LRI, RLI and PDI. Levels and
+    // After the examples of UAX #9, section 3.4, L2, from memory, with its signs > < = for LRI, RLI and PDI. Levels and
     // order are what GNU FriBidi 1.0.8 answers for these texts.
     let rows = [
         ("car means CAR.", "00000000001110", "car means RAC."),
