@@ -33,7 +33,6 @@ fn ends_paragraph(tables: &Tables, c: char, rest: &str) -> bool
 
 /// The paragraphs of a text, in order (P1). The last one is empty where the text is empty or ends
 /// with a separator.
-/// `Memory` also where one begins 4 GiB or more behind the text's start.
 pub fn split<'a>(alloc: Global, tables: &Tables, text: &'a str) -> Result<Vec<Para<'a>>, Memory>
     ensures ok { IfOk result (λ v. v.items ≡ paragraphs tables.now text.now) }
     ensures joined { IfOk result (λ v. concat (map (λ p. p.text) v.items) ≡ text.now) }
@@ -49,13 +48,11 @@ pub fn split<'a>(alloc: Global, tables: &Tables, text: &'a str) -> Result<Vec<Pa
         let rest = chars.as_str();
         if ends_paragraph(tables, c, rest) {
             let end = text.len() - rest.len();
-            let para = Para::new(&text[first_byte..end], first_byte, first_place)?;
-            paragraphs.push(para)?;
+            paragraphs.push(Para::new(&text[first_byte..end], first_byte, first_place))?;
             first_byte = end;
             first_place = place;
         }
     }
-    let last = Para::new(&text[first_byte..], first_byte, first_place)?;
-    paragraphs.push(last)?;
+    paragraphs.push(Para::new(&text[first_byte..], first_byte, first_place))?;
     Ok(paragraphs)
 }

@@ -1,21 +1,19 @@
 //! A paragraph.
 
-ghost use Rattle.std.specs.Prelude.{◌≡◌, ◌<◌, IfOk, length};
+ghost use Rattle.std.specs.Prelude.{◌≡◌, ◌<◌, length};
 ghost use Rattle.std.specs.List.{All, concat};
 ghost use Rattle.std.specs.Str.{IsUtf8};
 ghost use Rattle.paragraphs.specs.Clusters.{clusters};
 
 use crate::cluster::Clusters;
-use bg_types::Memory;
 use std::marker::Model;
 
 /// A paragraph of a text.
 #[derive(Debug, Drop)]
 pub struct Para<'a> {
     text: &'a str,
-    // Half as long as a length: a text of line feeds has a paragraph for each byte.
-    first_byte: u32,
-    first_place: u32,
+    first_byte: usize,
+    first_place: usize,
 }
 
 impl<'a> Model for Para<'a> {
@@ -27,22 +25,14 @@ impl<'a> Model for Para<'a> {
 }
 
 impl<'a> Para<'a> {
-    /// The paragraph with this text that begins there. `Memory` where a number is above 4,294,967,295.
     #[inline]
-    pub(crate) fn new(
-        text: &'a str,
-        first_byte: usize,
-        first_place: usize,
-    ) -> Result<Para<'a>, Memory>
-        ensures { IfOk result (λ p. p ≡ record { text = text.now; first_byte = first_byte; first_place = first_place }) }
+    pub(crate) fn new(text: &'a str, first_byte: usize, first_place: usize) -> Para<'a>
+        ensures { result ≡ record { text = text.now; first_byte = first_byte; first_place = first_place } }
     {
-        match (u32::try_from(first_byte), u32::try_from(first_place)) {
-            (Ok(first_byte), Ok(first_place)) => Ok(Para {
-                text,
-                first_byte,
-                first_place,
-            }),
-            _ => Err(Memory),
+        Para {
+            text,
+            first_byte,
+            first_place,
         }
     }
 
@@ -59,7 +49,7 @@ impl<'a> Para<'a> {
     pub fn first_byte(&self) -> usize
         ensures { result ≡ self.now.first_byte }
     {
-        self.first_byte as usize
+        self.first_byte
     }
 
     /// How many code points of the text stand before it.
@@ -67,7 +57,7 @@ impl<'a> Para<'a> {
     pub fn first_place(&self) -> usize
         ensures { result ≡ self.now.first_place }
     {
-        self.first_place as usize
+        self.first_place
     }
 
     /// Its extended grapheme clusters, in order. The other paragraphs have no part in them.

@@ -33,7 +33,7 @@ loop-c-preserved-then-ends_paragraph c =
     rw c.as_str-rest.ensures
     (IsSplitTo-cut _ _ _ _ _ _ _ c.utf8.text c.loop-c.invariant c.in-Some.c _ c.in-Some.ensures.steps.0 c.range.result.now _
     (rw c.as_str-rest.ensures at c.if-ends_paragraph.ensures) (rw c.as_str-rest.ensures at c.range.ensures.value)
-    (c.in_ok-push.ensures.items ∙ ap (λ p. c.loop-c.paragraphs.items ++ p ∷ []) c.in_ok-para.ensures))
+    (c.in_ok-push.ensures.items ∙ ap (λ p. c.loop-c.paragraphs.items ++ p ∷ []) c.new.ensures))
 
 pub loop-c-preserved : goal.loop-c-preserved
 loop-c-preserved c =
@@ -45,7 +45,7 @@ range_from-requires c = λ _. first_boundary _ _ _ _ _ _ _ c.utf8.text c.loop-c.
 pub returns-clause-ok : goal.returns-clause-ok
 returns-clause-ok c =
     paragraphs-end _ _ _ _ _ _ _ c.utf8.text c.loop-c.invariant c.range_from.result.now _ c.in_default.ensures.steps.0.0 c.range_from.ensures.value
-    (c.in_ok-push-2.ensures.items ∙ ap (λ p. c.loop-c.paragraphs.items ++ p ∷ []) c.in_ok-last.ensures)
+    (c.in_ok-push-2.ensures.items ∙ ap (λ p. c.loop-c.paragraphs.items ++ p ∷ []) c.new-2.ensures)
 
 pub returns-clause-joined : goal.returns-clause-joined
 returns-clause-joined c = ap joined (returns-clause-ok c) ∙ joined-paragraphs c.args.tables.now c.args.text.now c.utf8.text
