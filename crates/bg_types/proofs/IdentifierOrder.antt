@@ -1,5 +1,5 @@
 -- The order of identifiers is total, and only equal identifiers tie.
-use Rattle.std.proofs.Common.{◌≡◌, ℕ, Bool, true, false, ap, refl}
+use Rattle.std.proofs.Common.{◌≡◌, ℕ, true, ap, refl}
 use Rattle.std.specs.Ordering.{nat_cmp, is_eq}
 use Rattle.std.specs.declared.cmp.Ordering.{Ordering}
 use Rattle.std.specs.declared.cmp.Ordering.TheVariants.{Less, Equal, Greater}

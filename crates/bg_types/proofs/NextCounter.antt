@@ -1,5 +1,5 @@
 -- The next counter is the least above 0 and above each counter that an operation of the set names.
-use Rattle.std.proofs.Common.{◌≡◌, ℕ, ◌+◌, ◌<◌, ◌≤◌, Bool, true, false, cond, List, [], ◌∷◌, ◌++◌, Some, refl, sym, ap, subst, ◌∙◌, arith, inl, inr}
+use Rattle.std.proofs.Common.{◌≡◌, ℕ, ◌+◌, ◌<◌, ◌≤◌, Bool, true, false, cond, List, [], ◌∷◌, ◌++◌, Some, refl, sym, ap, subst, ◌∙◌, arith}
 use Rattle.std.specs.Prelude.{◌||◌, All, max, map as each}
 use Rattle.std.specs.List.{AllByRecursion, flat_map, list_any}
 use Rattle.std.specs.FinMap as map
@@ -8,10 +8,10 @@ use Rattle.std.specs.FinMap.Entries.{find}
 use Rattle.std.proofs.lemmas.List.Elements.{All-nil, All-cons, recursion_from_All}
 use Rattle.std.proofs.lemmas.Grind.{flat_map-append}
 use Rattle.bg_types.specs.Identifier.{Identifier, id_cmp, same_id}
-use Rattle.bg_types.specs.OperationSet.{Node, OperationSet, Holds, operations, named_counters, greatest, next}
+use Rattle.bg_types.specs.OperationSet.{Node, OperationSet, Holds, named_counters, greatest, next}
 use Rattle.bg_types.specs.declared.op.OpView.{OpView}
 use Rattle.bg_types.specs.declared.op.OpView.TheVariants.{Insert, Erase}
-use Rattle.bg_types.proofs.IdentifierOrder.{id_cmp-total, same_id-is, same_id-itself}
+use Rattle.bg_types.proofs.IdentifierOrder.{same_id-is, same_id-itself}
 use Rattle.bg_types.proofs.OperationSets.{some_is}
 use Rattle.bg_types.proofs.Entries.{all_weaker, entries-found}
 

@@ -1,30 +1,61 @@
 //! Identifiers.
 
-ghost use Rattle.std.specs.Prelude.{◌≡◌, ◌<◌, ◌↔◌, IsSome, IfSome, refl};
-ghost use Rattle.std.specs.Cmp.{nat_cmp_total, on_total, then_total, then_agrees, both_tied, unsigned_ties};
+ghost use Rattle.std.specs.Prelude.{◌≡◌, ◌<◌, ◌↔◌, ◌==◌, ◌&&◌, ◌*◌, ◌+◌, ◌/◌, ◌%◌, ◌++◌, IsSome, IfSome, refl};
+ghost use Rattle.std.proofs.Common.{rules};
+ghost use Rattle.std.specs.Cmp.{nat_cmp_total, on_total, then_total, both_tied, unsigned_ties, partial_order_from_own_ties};
+ghost use Rattle.std.specs.Cmp.Rules.{comparing, hashing};
+ghost use Rattle.std.specs.Hash as fed;
+ghost use Rattle.std.specs.Ordering.{as_partial_cmp};
 ghost use Rattle.bg_types.specs.Identifier.{Identifier, IsIdentifier, id_cmp};
 
 use std::cmp::Ordering;
+use std::fmt;
+use std::hash::{Hash, Hasher};
 use std::marker::Model;
 
 /// Names one insertion: a counter (1 to 4,294,967,295) and the site that drew it (1 to 65,535).
 /// Identifiers are ordered by counter, and at equal counters by site.
-#[derive(Clone, Copy, Debug, PartialEq, Eq, PartialOrd, Hash)]
+// The counter stands in two halves, so that an identifier has 6 bytes and not 8.
+#[derive(Clone, Copy)]
 pub struct Id {
-    counter: u32,
+    high: u16,
+    low: u16,
     site: u16,
 }
 
-impl Model for Id {
-    ghost use Rattle.bg_types.specs.Identifier.{Identifier, IsIdentifier};
+const _: () = prove!(size_of::<Id>() == 6);
 
+impl Model for Id {
     ghost Value = { Identifier };
 
-    ghost view = { λ a. record { counter = a.counter; site = a.site } };
+    ghost view = { λ a. record { counter = a.high * 65_536 + a.low; site = a.site } };
 
-    ghost invariant = { λ a. IsIdentifier (record { counter = a.counter; site = a.site }) };
+    ghost invariant = { λ a. (a.low < 65_536) × IsIdentifier (record { counter = a.high * 65_536 + a.low; site = a.site }) };
 
-    ghost inverse = { λ v. record { counter = v.counter; site = v.site } };
+    ghost inverse = { λ v. record { high = v.counter / 65_536; low = v.counter % 65_536; site = v.site } };
+}
+
+impl fmt::Debug for Id {
+    fn fmt<W: fmt::Write>(&self, f: &mut fmt::Formatter<W>) -> fmt::Result {
+        f.debug_struct("Id")
+            .field("counter", &self.counter())
+            .field("site", &self.site())
+            .finish()
+    }
+}
+
+impl PartialEq for Id {
+    ghost eq = { λ a b. (a.counter == b.counter) && (a.site == b.site) };
+
+    ghost laws = { Prim.search (comparing, rules) };
+
+    fn eq(&self, other: &Id) -> bool {
+        self.counter() == other.counter() && self.site() == other.site()
+    }
+}
+
+impl Eq for Id {
+    ghost laws = { Prim.search (comparing, rules) };
 }
 
 impl Ord for Id {
@@ -32,18 +63,42 @@ impl Ord for Id {
 
     ghost total = { then_total (on_total (λ a. a.counter) nat_cmp_total) (on_total (λ a. a.site) nat_cmp_total) };
 
-    ghost matches_partial_cmp = { then_agrees (λ a b. refl) (λ a b. refl) };
+    ghost matches_partial_cmp = { λ a b. refl };
 
     ghost matches_eq = { λ a b. both_tied _ _ _ _ (unsigned_ties a.counter b.counter) (unsigned_ties a.site b.site) };
 
     fn cmp(&self, other: &Id) -> Ordering {
-        let counters = self.counter.cmp(&other.counter);
+        let counters = self.counter().cmp(&other.counter());
         let sites = self.site.cmp(&other.site);
         counters.then(sites)
     }
 }
 
+impl PartialOrd for Id {
+    ghost partial_cmp = { as_partial_cmp id_cmp };
+
+    ghost laws = { partial_order_from_own_ties (Prim.search (comparing, rules))
+        (Prim.search (comparing, rules)) };
+
+    fn partial_cmp(&self, other: &Id) -> Option<Ordering> {
+        Some(self.cmp(other))
+    }
+}
+
+impl Hash for Id {
+    ghost hash_input = { λ a. fed.u32 a.counter ++ fed.u16 a.site };
+
+    ghost respects_eq = { Prim.search (hashing, rules) };
+
+    fn hash<H: Hasher>(&self, state: &mut H) {
+        self.counter().hash(state);
+        self.site().hash(state);
+    }
+}
+
 impl Id {
+    const HALF: u32 = 0x1_0000;
+
     /// The identifier of this counter and this site, or `None` where one of them is 0.
     pub fn new(counter: u32, site: u16) -> Option<Id>
         ensures valid { IsSome result ↔ ((0 < counter) × (0 < site)) }
@@ -52,7 +107,8 @@ impl Id {
         if counter == 0 || site == 0 {
             return None;
         }
-        Some(Id { counter, site })
+        let (high, low) = ((counter / Self::HALF) as u16, (counter % Self::HALF) as u16);
+        Some(Id { high, low, site })
     }
 
     pub fn counter(self) -> u32
@@ -60,7 +116,7 @@ impl Id {
         // What every identifier is, for the caller's proof.
         ensures identifier { IsIdentifier self }
     {
-        self.counter
+        u32::from(self.high) * Self::HALF + u32::from(self.low)
     }
 
     pub fn site(self) -> u16

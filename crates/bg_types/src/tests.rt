@@ -15,9 +15,13 @@ fn identifiers_have_no_zero(rt: HostRuntime) {
         (0, 1, false),
         (1, 0, false),
         (4_294_967_295, 0, false),
+        (65_536, 0, false),
         (0, 65_535, false),
         (1, 1, true),
         (1, 65_535, true),
+        (65_535, 1, true),
+        (65_536, 1, true),
+        (0x1234_5678, 0x9abc, true),
         (4_294_967_295, 1, true),
         (4_294_967_295, 65_535, true),
     ] {
@@ -35,6 +39,11 @@ fn identifiers_are_ordered_by_counter_and_then_by_site(rt: HostRuntime) -> Resul
         (1, 65_535),
         (2, 1),
         (2, 2),
+        (65_535, 2),
+        (65_536, 1),
+        (65_537, 1),
+        (131_071, 1),
+        (131_072, 1),
         (4_294_967_295, 1),
         (4_294_967_295, 65_535),
     ];
@@ -43,6 +52,7 @@ fn identifiers_are_ordered_by_counter_and_then_by_site(rt: HostRuntime) -> Resul
             let id = Id::new(*counter, *site).ok_or("a zero")?;
             let other = Id::new(*other_counter, *other_site).ok_or("a zero")?;
             assert_eq!(rt; id.cmp(&other), i.cmp(&j), "rows {i} and {j}");
+            assert_eq!(rt; id == other, i == j, "rows {i} and {j}");
         }
     }
     Ok(())
@@ -84,6 +94,16 @@ fn a_parent_has_a_smaller_counter(rt: HostRuntime) -> Result<(), Fail> {
 fn an_erasure_names_its_target(rt: HostRuntime) -> Result<(), Fail> {
     let target = Id::new(7, 3).ok_or("a zero")?;
     assert_eq!(rt; Op::erase(target).view(), OpView::Erase { target });
+    Ok(())
+}
+
+#[test]
+fn an_identifier_prints_its_counter_and_its_site(rt: HostRuntime) -> Result<(), Fail> {
+    let id = Id::new(65_537, 3).ok_or("a zero")?;
+    assert_eq!(rt;
+        format!(in rt.alloc(); "{id:?}")?.as_str(),
+        "Id { counter: 65537, site: 3 }"
+    );
     Ok(())
 }
 
