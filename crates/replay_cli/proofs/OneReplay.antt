@@ -2,7 +2,6 @@
 use Rattle.std.proofs.Common.{◌≡◌, ℕ, suc, ◌+◌, List, [], ◌∷◌, ◌++◌, ◌⊎◌, inl, inr, length, Option, Some, None, Result, Ok, Err, refl, sym, ap, subst, ◌∙◌}
 use Rattle.std.specs.Prelude.{Bool, OnOk, IfErr, MatchResult}
 use Rattle.std.specs.List.{AllZip, AllByRecursion}
-use Rattle.std.specs.Str.Lines.{lines}
 use Rattle.std.specs.Io.KnownBytes.{Appends}
 use Rattle.bg_types.specs.OperationSet.{OperationSet, Agree}
 use Rattle.bg_types.specs.declared.op.OpView.{OpView}
@@ -22,7 +21,7 @@ use Rattle.replay_cli.specs.declared.schedule.step.Numbered.{Numbered}
 use Rattle.replay_cli.specs.Files.{IsFaultyFile}
 use Rattle.replay_cli.specs.Schedule.{line_says, fault_said, IsFaultless, Schedules, IsFaultyStep}
 use Rattle.replay_cli.specs.DeskSets.{set_at, operation_at, sets_after_step, sets_after, IsTakeRefused, IsMergeRefusal, IsStepRefused, NoneRefused, FirstRefused, desk_of, empty_desks}
-use Rattle.replay_cli.specs.Replayed.{Given, print_of, IsPlan, PlanRan, IsFaultyPlan, IsReady, IsUnrefused, shows_of, WritesShows, IsRefused, EndsInSteps, IsFaultySchedule, IsReplayEnd}
+use Rattle.replay_cli.specs.Replayed.{Given, IsPlan, IsFaultyPlan, IsUnrefused, shows_of, WritesShows, IsRefused, IsFaultySchedule, IsReplayEnd}
 use Rattle.replay_cli.proofs.Refusals.{same_refusal}
 use Rattle.replay_cli.specs.Outcome.{HaveOneOutcome}
 

@@ -1,8 +1,7 @@
 -- Runs of a plan, and what they are for the data that a run is given.
-use Rattle.std.proofs.Common.{◌≡◌, ℕ, List, ◌⊎◌, inl, inr, length, Option, Some, None, Result, Ok, Err, refl, sym, ap, subst, ◌∙◌}
-use Rattle.std.specs.Prelude.{Bool, OnOk, IfErr}
+use Rattle.std.proofs.Common.{◌≡◌, ℕ, List, inl, inr, length, Option, Some, None, refl, sym, subst}
+use Rattle.std.specs.Prelude.{Bool}
 use Rattle.std.specs.List.{AllZip}
-use Rattle.std.specs.Io.KnownBytes.{Keeps}
 use Rattle.std.proofs.KnownBytes.{Keeps-refl}
 use Rattle.bg_types.specs.OperationSet.{OperationSet}
 use Rattle.bg_types.specs.declared.op.OpView.{OpView}
@@ -14,7 +13,7 @@ use Rattle.replay_cli.specs.declared.schedule.step.Numbered.{Numbered}
 use Rattle.replay_cli.specs.Cause.{IsReadCaused}
 use Rattle.replay_cli.specs.TablesCause.{IsTablesCaused}
 use Rattle.replay_cli.specs.ScheduleCause.{IsScheduleCaused}
-use Rattle.replay_cli.specs.DeskSets.{empty_desks, NoneRefused}
+use Rattle.replay_cli.specs.DeskSets.{empty_desks}
 use Rattle.replay_cli.specs.Shows.{Ran, IsStepsEnd}
 use Rattle.replay_cli.specs.Replayed.{Given, print_of, IsPlan, PlanRan, PlanEnds, IsPlanEnd, WritesShows, IsReplayEnd}
 

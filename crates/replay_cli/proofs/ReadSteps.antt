@@ -1,11 +1,10 @@
 -- Reading the lines of a schedule one after the other.
-use Rattle.std.proofs.Common.{◌≡◌, ℕ, ◌+◌, List, [], ◌∷◌, ◌++◌, length, Option, Some, None, Result, Ok, Err, refl, sym, ap, ◌∙◌, append_assoc, arith, subst}
+use Rattle.std.proofs.Common.{◌≡◌, ℕ, ◌+◌, List, [], ◌∷◌, ◌++◌, length, Some, None, refl, sym, ap, ◌∙◌, append_assoc, arith, subst}
 use Rattle.std.specs.List.{AllByRecursion}
 use Rattle.std.specs.Str.Lines.{lines}
 use Rattle.std.proofs.lemmas.List.{append-nil, length-append}
 use Rattle.bg_types.specs.declared.op.OpView.{OpView}
 use Rattle.replay_cli.specs.declared.fault.ScheduleFault.{ScheduleFault}
-use Rattle.replay_cli.specs.declared.schedule.step.Step.{Step}
 use Rattle.replay_cli.specs.declared.schedule.step.Numbered.{Numbered}
 use Rattle.replay_cli.specs.Schedule.{line_says, fault_said, step_said, with_line, steps_from, IsFaultless, IsStepOf, Schedules, IsFaultyStep}
 

@@ -14,11 +14,9 @@ use Rattle.desk_replica.specs.declared.answer.TakeFault.{TakeFault}
 use Rattle.desk_replica.specs.declared.answer.TakeFault.TheVariants.{IdentifierReused, Full, Memory}
 use Rattle.replay_cli.specs.declared.fault.RunFault.{RunFault}
 use Rattle.replay_cli.specs.declared.fault.RunFault.TheVariants as run
-use Rattle.replay_cli.specs.declared.schedule.step.Step.{Step}
-use Rattle.replay_cli.specs.declared.schedule.step.Step.TheVariants.{Take, Merge, Show}
 use Rattle.replay_cli.specs.declared.schedule.step.Numbered.{Numbered}
-use Rattle.replay_cli.specs.DeskSets.{sets_after_step, sets_after, IsStepRefused, NoneRefused, FirstRefused, desk_of}
-use Rattle.replay_cli.specs.Shows.{shown, shows, Ran, RanInPart, RanToRefusal, RanToFailure, IsStepsEnd, IsShowEnd}
+use Rattle.replay_cli.specs.DeskSets.{sets_after_step, sets_after, IsStepRefused, NoneRefused, desk_of}
+use Rattle.replay_cli.specs.Shows.{shown, shows, Ran, IsStepsEnd, IsShowEnd}
 use Rattle.replay_cli.specs.Answer.{answer_of}
 use Rattle.replay_cli.proofs.Spelled.{take-push, split-at}
 

@@ -1,9 +1,9 @@
 -- What follows for a run that writes the lines of a walk, or tells a fault only where its cause is present.
-use Rattle.std.proofs.Common.{◌≡◌, ℕ, ◌<◌, ◌≤◌, ◌⊎◌, inl, inr, Bool, false, true, List, length, Option, Some, None, Result, Ok, Err, refl, sym, ap, subst, ◌∙◌, arith}
-use Rattle.std.specs.Prelude.{OnOk, IfOk, IfErr, IsErrAnd, MatchResult}
+use Rattle.std.proofs.Common.{◌≡◌, ℕ, ◌<◌, ◌≤◌, ◌⊎◌, inl, inr, Bool, false, List, length, Option, Some, None, Result, Ok, Err, refl, ap, subst, ◌∙◌, arith}
+use Rattle.std.specs.Prelude.{OnOk, IfOk, IfErr, MatchResult}
 use Rattle.std.specs.Str.{chars}
 use Rattle.std.specs.Io.KnownBytes.{Appends}
-use Rattle.bg_types.specs.OperationSet.{OperationSet, size}
+use Rattle.bg_types.specs.OperationSet.{OperationSet}
 use Rattle.bg_types.specs.Sink.{AppendsBeginning}
 use Rattle.ucd_files.specs.declared.fault.UcdFault.{UcdFault}
 use Rattle.ucd_files.specs.Tables.{TableValues}
@@ -13,10 +13,10 @@ use Rattle.op_codec.specs.declared.fault.CodecFault.TheVariants as codec
 use Rattle.desk_replica.specs.declared.answer.TakeFault.{TakeFault}
 use Rattle.replay_cli.specs.declared.fault.RunFault.{RunFault}
 use Rattle.replay_cli.specs.declared.fault.RunFault.TheVariants.{Tables, File, Schedule, Step, Listing, PastEnd, Device, ReadFailed, Memory}
-use Rattle.replay_cli.specs.Files.{IsSetOfFiles, IsFaultyFile, AreRefused}
+use Rattle.replay_cli.specs.Files.{IsFaultyFile, AreRefused}
 use Rattle.replay_cli.specs.Cause.{IsCaused}
 use Rattle.replay_cli.specs.TablesCause.{IsTablesCaused}
-use Rattle.replay_cli.specs.Carets.{Asked, text_bytes, walk_lines, lines_over, IsTextOfFiles, IsRead, IsWalked, WritesLines, WritesLinesBeginning, IsBeyondText, IsWalkCaused, IsUnwalked}
+use Rattle.replay_cli.specs.Carets.{Asked, text_bytes, walk_lines, lines_over, IsTextOfFiles, IsRead, IsWalked, WritesLines, WritesLinesBeginning, IsWalkCaused, IsUnwalked}
 use Rattle.replay_cli.specs.Outcome.{HaveOneOutcome}
 
 module _ (a : Asked) where

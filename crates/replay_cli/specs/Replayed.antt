@@ -1,5 +1,5 @@
 -- What a run is given, what it writes, and why it ends early: the headline.
-use Rattle.std.specs.Prelude.{◌≡◌, ◌⊎◌, true, Bool, ℕ, List, length, Option, Some, None}
+use Rattle.std.specs.Prelude.{◌≡◌, ◌⊎◌, Bool, ℕ, List, length, Option, Some, None}
 use Rattle.std.specs.List.{AllZip}
 use Rattle.std.specs.Io.KnownBytes.{Appends, Keeps}
 use Rattle.bg_types.specs.declared.class.Base.{Base}
@@ -20,7 +20,7 @@ use Rattle.replay_cli.specs.Files.{bytes_of, IsFaultyFile}
 use Rattle.replay_cli.specs.Schedule.{Schedules, IsFaultyStep}
 use Rattle.replay_cli.specs.Round.{round}
 use Rattle.replay_cli.specs.DeskSets.{empty_desks, NoneRefused, FirstRefused}
-use Rattle.replay_cli.specs.Shows.{Ran, shows, IsStepsEnd}
+use Rattle.replay_cli.specs.Shows.{shows, IsStepsEnd}
 use Rattle.replay_cli.specs.Printed.{printed}
 
 -- what a run is given: the first fault of its data files, if any, what they say of each code point, the width in columns,

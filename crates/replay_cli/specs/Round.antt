@@ -1,5 +1,5 @@
 -- The steps of a run without a schedule.
-use Rattle.std.specs.Prelude.{ℕ, ◌+◌, ◌-◌, ◌%◌, List, [], ◌∷◌, ◌++◌, length, map as each}
+use Rattle.std.specs.Prelude.{ℕ, ◌+◌, ◌-◌, ◌%◌, List, ◌++◌, length, map as each}
 use Rattle.std.specs.List.{flat_map, range_with_len}
 use Rattle.bg_types.specs.declared.op.OpView.{OpView}
 use Rattle.replay_cli.specs.declared.schedule.step.Step.{Step}

@@ -1,6 +1,6 @@
 -- What a schedule's lines say, in a run over files of these operations. There are as many desks as files.
-use Rattle.std.specs.Prelude.{◌≡◌, ◌≤◌, ◌==◌, ◌||◌, ◌&&◌, ◌+◌, ◌-◌, not, true, false, Bool, ℕ, List, [], ◌∷◌, ◌++◌, length, Option, Some, None, Result, Ok, Err, nat_le, bytes_eq, codes, slice_get, slice_index_or, option_to_list, if◌then◌else◌}
-use Rattle.std.specs.List.{flat_map, AllByRecursion, enumerate_from}
+use Rattle.std.specs.Prelude.{◌≡◌, ◌≤◌, ◌==◌, ◌||◌, ◌&&◌, ◌+◌, ◌-◌, not, false, Bool, ℕ, List, [], ◌∷◌, ◌++◌, length, Option, Some, None, Result, Ok, Err, nat_le, bytes_eq, codes, slice_index_or, if◌then◌else◌}
+use Rattle.std.specs.List.{AllByRecursion}
 use Rattle.std.specs.Str.Lines.{lines}
 use Rattle.bg_types.specs.declared.op.OpView.{OpView}
 use Rattle.replay_cli.specs.declared.fault.ScheduleFault.{ScheduleFault}

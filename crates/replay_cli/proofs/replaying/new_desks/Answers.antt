@@ -1,8 +1,7 @@
-use Rattle.std.proofs.Common.{◌≡◌, ◌+◌, ◌-◌, ◌∷◌, ◌++◌, [], List, length, ap, sym, ◌∙◌, arith, length-append}
+use Rattle.std.proofs.Common.{◌≡◌, ◌+◌, ◌-◌, ◌∷◌, ◌++◌, [], List, length, ap, ◌∙◌, arith, length-append}
 use Rattle.std.proofs.lemmas.List.{map-append, replicate-append-replicate}
-use Rattle.std.specs.Prelude.{replicate}
-use Rattle.bg_types.specs.OperationSet.{OperationSet, no_operations}
-use Rattle.desk_replica.specs.Desk.{Desk, fresh}
+use Rattle.bg_types.specs.OperationSet.{no_operations}
+use Rattle.desk_replica.specs.Desk.{Desk}
 use Rattle.replay_cli.specs.Desks.{sets_of}
 use Rattle.replay_cli.specs.DeskSets.{empty_desks}
 use Rattle.replay_cli.proofs.replaying.new_desks.Goals as goal

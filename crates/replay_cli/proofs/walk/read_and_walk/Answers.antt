@@ -1,4 +1,4 @@
-use Rattle.std.proofs.Common.{◌≡◌, List, ℕ, string_bytes, subst, sym}
+use Rattle.std.proofs.Common.{string_bytes, subst, sym}
 use Rattle.replay_cli.specs.Files.{bytes_of}
 use Rattle.replay_cli.specs.Carets.{asked, IsWalkCaused, IsTextOfFiles}
 use Rattle.replay_cli.proofs.Running.{err_handed}

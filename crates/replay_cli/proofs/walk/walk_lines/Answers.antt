@@ -1,5 +1,5 @@
 -- One more move, and one more line.
-use Rattle.std.proofs.Common.{◌≡◌, get_or, string_bytes}
+use Rattle.std.proofs.Common.{get_or, string_bytes}
 use Rattle.std.proofs.lemmas.List.{take_more}
 use Rattle.replay_cli.specs.declared.walk.Move.TheVariants.{Left}
 use Rattle.replay_cli.proofs.Walks.{after-more, lines-more}

@@ -1,4 +1,4 @@
-use Rattle.std.proofs.Common.{◌≡◌, subst, sym}
+use Rattle.std.proofs.Common.{subst}
 use Rattle.std.specs.Io.KnownBytes.{Appends}
 use Rattle.bg_types.specs.Sink.{AppendsBeginning}
 use Rattle.replay_cli.specs.Carets.{asked}

@@ -1,18 +1,15 @@
-use Rattle.std.proofs.Common.{◌≡◌, ◌+◌, ◌-◌, ◌<◌, ◌∷◌, ℕ, List, [], length, get_or, refl, sym, ap, subst, ◌∙◌, arith}
+use Rattle.std.proofs.Common.{◌≡◌, ◌+◌, ◌-◌, ◌<◌, ℕ, List, length, refl, ap, subst, ◌∙◌, arith}
 use Rattle.std.specs.Global.{Vec}
 use Rattle.std.specs.List.{flat_map, range_with_len}
 use Rattle.std.proofs.lemmas.List.{length-map}
 use Rattle.bg_types.specs.declared.op.OpView.{OpView}
-use Rattle.replay_cli.specs.declared.schedule.step.Step.TheVariants.{Take, Show}
 use Rattle.replay_cli.specs.declared.schedule.step.Numbered.{Numbered}
 use Rattle.replay_cli.specs.Files.{lists_of}
-use Rattle.replay_cli.specs.Schedule.{file_at}
 use Rattle.replay_cli.specs.Desks.{sets_of}
-use Rattle.replay_cli.specs.Round.{unnumbered, file_takes, files_takes, turn, nth_turn, all_takes, all_shows}
+use Rattle.replay_cli.specs.Round.{files_takes, turn, all_takes}
 use Rattle.replay_cli.specs.Printed.{printed}
 use Rattle.replay_cli.specs.Shows.{Ran, IsStepsEnd}
-use Rattle.replay_cli.proofs.Running.{piece_ran, piece_end, each-flat, flat-each, err_handed, still_working}
-use Rattle.replay_cli.proofs.StepAnswers.{file_there}
+use Rattle.replay_cli.proofs.Running.{piece_ran, piece_end, err_handed, still_working}
 use Rattle.replay_cli.proofs.replaying.round.take_everywhere.Goals as goal
 
 pub loop-desk-preserved : goal.loop-desk-preserved

@@ -1,9 +1,8 @@
-use Rattle.std.proofs.Common.{◌≡◌, ◌-◌, ◌∷◌, [], length, false}
+use Rattle.std.proofs.Common.{◌≡◌, length, false}
 use Rattle.std.specs.List.{flat_map, range_with_len}
-use Rattle.replay_cli.specs.declared.schedule.step.Step.TheVariants.{Take, Show}
 use Rattle.replay_cli.specs.Files.{lists_of}
 use Rattle.replay_cli.specs.Desks.{sets_of}
-use Rattle.replay_cli.specs.Round.{unnumbered, file_takes, files_takes, turn, nth_turn}
+use Rattle.replay_cli.specs.Round.{file_takes, nth_turn}
 use Rattle.replay_cli.specs.Printed.{printed}
 use Rattle.replay_cli.specs.Shows.{Ran}
 use Rattle.replay_cli.proofs.replaying.round.take_files.Given as goal

@@ -1,4 +1,4 @@
-use Rattle.std.proofs.Common.{◌≡◌, ◌<◌, ◌-◌, ◌∷◌, ℕ, List, [], Result, length, get_or, sym, ap, subst, ◌∙◌, arith}
+use Rattle.std.proofs.Common.{◌≡◌, ◌<◌, ◌-◌, ◌∷◌, [], Result, length, get_or, sym, ap, subst, ◌∙◌, arith}
 use Rattle.std.specs.Prelude.{IfErr}
 use Rattle.std.specs.Global.{Vec}
 use Rattle.std.proofs.lemmas.List.{length-map}
@@ -8,7 +8,6 @@ use Rattle.rga_tree.specs.TextOf.{text}
 use Rattle.desk_replica.specs.Desk.{Desk}
 use Rattle.bg_types.specs.OperationSet.{OperationSet}
 use Rattle.replay_cli.specs.declared.fault.RunFault.{RunFault}
-use Rattle.replay_cli.specs.declared.schedule.step.Step.{Step}
 use Rattle.replay_cli.specs.Files.{lists_of}
 use Rattle.replay_cli.specs.Schedule.{IsStepOf}
 use Rattle.replay_cli.specs.Desks.{sets_of}

@@ -1,4 +1,4 @@
-use Rattle.std.proofs.Common.{◌≡◌, take, length, false}
+use Rattle.std.proofs.Common.{◌≡◌, take, false}
 use Rattle.replay_cli.specs.Files.{lists_of}
 use Rattle.replay_cli.specs.Desks.{sets_of}
 use Rattle.replay_cli.specs.Printed.{printed}

@@ -1,5 +1,5 @@
-use Rattle.std.proofs.Common.{◌-◌, ◌<◌, get_or, length, sym, ap, ◌∙◌, arith}
-use Rattle.bg_types.specs.OperationSet.{OperationSet, with_operation, no_operations}
+use Rattle.std.proofs.Common.{◌-◌, ◌<◌, length, sym, ap, ◌∙◌, arith}
+use Rattle.bg_types.specs.OperationSet.{OperationSet, with_operation}
 use Rattle.desk_replica.specs.Desk.{Desk}
 use Rattle.replay_cli.specs.Desks.{sets_of}
 use Rattle.replay_cli.specs.DeskSets.{with_set}
