@@ -15,11 +15,12 @@ use std::marker::Model;
 
 /// Names one insertion: a counter (1 to 4,294,967,295) and the site that drew it (1 to 65,535).
 /// Identifiers are ordered by counter, and at equal counters by site.
-// The counter stands in two halves, so that an identifier has 6 bytes and not 8.
+// The counter stands in two halves, so that an identifier has 6 bytes and not 8. The low one is first,
+// so that compiled code reads both at once.
 #[derive(Clone, Copy)]
 pub struct Id {
-    high: u16,
     low: u16,
+    high: u16,
     site: u16,
 }
 
