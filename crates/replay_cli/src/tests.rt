@@ -43,21 +43,55 @@ fn outcome(alloc: Global, words: &[String]) -> Result<usize, &'static str> {
 
 #[test]
 fn a_run_has_one_to_64_files(rt: HostRuntime) -> Result<(), Fail> {
-    for (count, wanted) in [
-        (0, Err("usage")),
-        (1, Ok(1)),
-        (64, Ok(64)),
-        (65, Err("usage")),
+    for (first, second, wanted) in [
+        (0, 0, Err("usage")),
+        (1, 0, Ok(1)),
+        (0, 1, Ok(1)),
+        (64, 0, Ok(64)),
+        (30, 34, Ok(64)),
+        (65, 0, Err("usage")),
+        (40, 25, Err("usage")),
     ] {
-        let mut words = line(rt.alloc(), &["bidigrid", "text"])?;
-        for _ in 0..count {
-            words.push(String::from_str(rt.alloc(), "file")?)?;
+        for options in [
+            ["replay", "--ucd=D", "--width=4"].as_slice(),
+            &["replay", "--ucd=D", "--width=4", "--schedule=S"],
+            &["caret", "--ucd=D", "--width=4", "--at=0", "--moves=l"],
+        ] {
+            let words = files_between(rt.alloc(), options, first, second)?;
+            assert_eq!(rt;
+                outcome(rt.alloc(), words.as_slice()),
+                wanted,
+                "{first} and {second} files, {options:?}"
+            );
         }
-        assert_eq!(rt;
-            outcome(rt.alloc(), words.as_slice()),
-            wanted,
-            "{count} files"
-        );
+        let words = files_between(rt.alloc(), &["text"], first + second, 0)?;
+        assert_eq!(rt; outcome(rt.alloc(), words.as_slice()), wanted);
+    }
+    Ok(())
+}
+
+/// A command line with files before its last option and behind it.
+fn files_between(
+    alloc: Global,
+    options: &[&str],
+    first: usize,
+    second: usize,
+) -> Result<Vec<String>, Fail> {
+    let mut words = line(alloc, &["bidigrid"])?;
+    for (number, option) in options.iter().enumerate() {
+        if number + 1 == options.len() && number > 0 {
+            put_files(alloc, &mut words, first)?;
+        }
+        words.push(String::from_str(alloc, option)?)?;
+    }
+    let behind = if options.len() == 1 { first } else { second };
+    put_files(alloc, &mut words, behind)?;
+    Ok(words)
+}
+
+fn put_files(alloc: Global, words: &mut Vec<String>, count: usize) -> Result<(), Fail> {
+    for _ in 0..count {
+        words.push(String::from_str(alloc, "file")?)?;
     }
     Ok(())
 }

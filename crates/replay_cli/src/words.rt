@@ -108,58 +108,59 @@ pub fn job<'a>(alloc: Global, words: &'a [String]) -> Result<Job<'a>, Stop> {
         Ok(matches) => matches,
         Err(error) => return Err(stop(alloc, &error)),
     };
-    let mut files = Vec::new(alloc);
     match matches.subcommand() {
-        Some(("dump", dump)) => {
-            if let Some(file) = dump.get_str("FILE") {
-                return Ok(Job::Dump { file });
-            }
-        }
-        Some(("pack", pack)) => {
-            if let Some(listing) = pack.get_str("FILE") {
-                return Ok(Job::Pack { listing });
-            }
-        }
-        Some(("replay", replay)) => return replay_job(alloc, replay),
-        Some(("caret", caret)) => return caret_job(alloc, caret),
-        Some(("text", text)) => {
-            if let Some(paths) = text.get_strs("FILE") {
-                files.extend_from_slice(paths)?;
-            }
-        }
-        _ => {}
+        Some(("dump", dump)) => Ok(Job::Dump {
+            file: dump.get_str("FILE").unwrap_or(""),
+        }),
+        Some(("pack", pack)) => Ok(Job::Pack {
+            listing: pack.get_str("FILE").unwrap_or(""),
+        }),
+        Some(("replay", replay)) => replay_job(alloc, replay),
+        Some(("caret", caret)) => caret_job(alloc, caret),
+        Some(("text", text)) => Ok(Job::Text {
+            files: files(alloc, text)?,
+        }),
+        _ => Ok(Job::Text {
+            files: Vec::new(alloc),
+        }),
     }
-    Ok(Job::Text { files })
 }
 
 fn replay_job<'a>(alloc: Global, replay: &ArgMatches<'a>) -> Result<Job<'a>, Stop> {
-    let width = width(alloc, replay)?;
-    let mut files = Vec::new(alloc);
-    if let Some(paths) = replay.get_strs("FILE") {
-        files.extend_from_slice(paths)?;
-    }
     Ok(Job::Replay(Replay {
         folder: replay.get_str("UCD").unwrap_or(""),
-        width,
+        width: width(alloc, replay)?,
         schedule: replay.get_str("SCHEDULE"),
-        files,
+        files: files(alloc, replay)?,
     }))
 }
 
 fn caret_job<'a>(alloc: Global, caret: &ArgMatches<'a>) -> Result<Job<'a>, Stop> {
-    let width = width(alloc, caret)?;
-    let moves = moves(alloc, caret.get_str("MOVES").unwrap_or(""))?;
-    let mut files = Vec::new(alloc);
-    if let Some(paths) = caret.get_strs("FILE") {
-        files.extend_from_slice(paths)?;
-    }
     Ok(Job::Caret(Walk {
         folder: caret.get_str("UCD").unwrap_or(""),
-        width,
+        width: width(alloc, caret)?,
         place: caret.get_one::<u32>("AT").unwrap_or(0),
-        moves,
-        files,
+        moves: moves(alloc, caret.get_str("MOVES").unwrap_or(""))?,
+        files: files(alloc, caret)?,
     }))
+}
+
+/// The operation files, 1 to 64 of them in all: options may stand between them.
+fn files<'a>(alloc: Global, matches: &ArgMatches<'a>) -> Result<Vec<&'a str>, Stop>
+    ensures some { IfOk result (λ files. 1 ≤ vec_len files) }
+    ensures at_most { IfOk result (λ files. vec_len files ≤ 64) }
+{
+    let mut files = Vec::new(alloc);
+    if let Some(paths) = matches.get_strs("FILE") {
+        files.extend_from_slice(paths)?;
+    }
+    if files.is_empty() || files.len() > 64 {
+        let count = files.len();
+        return Err(Stop::Usage(format!(in alloc;
+            "error: {count} values for '[FILE]...': 1 to 64 are asked for\n"
+        )?));
+    }
+    Ok(files)
 }
 
 /// The width is one that the grid has.
