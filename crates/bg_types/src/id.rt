@@ -15,8 +15,8 @@ use std::marker::Model;
 
 /// Names one insertion: a counter (1 to 4,294,967,295) and the site that drew it (1 to 65,535).
 /// Identifiers are ordered by counter, and at equal counters by site.
-// The counter stands in two halves, so that an identifier has 6 bytes and not 8. The low one is first,
-// so that compiled code reads both at once.
+// The counter stands in two halves, so that an identifier has 6 bytes and not 8. The low one is first:
+// on this machine the compiled code then reads both at once.
 #[derive(Clone, Copy)]
 pub struct Id {
     low: u16,
@@ -31,6 +31,7 @@ impl Model for Id {
 
     ghost view = { λ a. record { counter = a.high * 65_536 + a.low; site = a.site } };
 
+    // What the type of `low` says is said again, since a view sees plain numbers.
     ghost invariant = { λ a. (a.low < 65_536) × IsIdentifier (record { counter = a.high * 65_536 + a.low; site = a.site }) };
 
     ghost inverse = { λ v. record { high = v.counter / 65_536; low = v.counter % 65_536; site = v.site } };
@@ -70,7 +71,7 @@ impl Ord for Id {
 
     fn cmp(&self, other: &Id) -> Ordering {
         let counters = self.counter().cmp(&other.counter());
-        let sites = self.site.cmp(&other.site);
+        let sites = self.site().cmp(&other.site());
         counters.then(sites)
     }
 }
@@ -98,7 +99,8 @@ impl Hash for Id {
 }
 
 impl Id {
-    const HALF: u32 = 0x1_0000;
+    /// How many values a half of a counter has.
+    const HALF_VALUES: u32 = 65_536;
 
     /// The identifier of this counter and this site, or `None` where one of them is 0.
     pub fn new(counter: u32, site: u16) -> Option<Id>
@@ -108,18 +110,23 @@ impl Id {
         if counter == 0 || site == 0 {
             return None;
         }
-        let (high, low) = ((counter / Self::HALF) as u16, (counter % Self::HALF) as u16);
+        let (high, low) = (
+            (counter / Self::HALF_VALUES) as u16,
+            (counter % Self::HALF_VALUES) as u16,
+        );
         Some(Id { high, low, site })
     }
 
+    /// The counter, 1 to 4,294,967,295.
     pub fn counter(self) -> u32
         ensures value { result ≡ self.counter }
         // What every identifier is, for the caller's proof.
         ensures identifier { IsIdentifier self }
     {
-        u32::from(self.high) * Self::HALF + u32::from(self.low)
+        u32::from(self.high) * Self::HALF_VALUES + u32::from(self.low)
     }
 
+    /// The site that drew the counter, 1 to 65,535.
     pub fn site(self) -> u16
         ensures value { result ≡ self.site }
         ensures identifier { IsIdentifier self }

@@ -41,6 +41,8 @@ pub struct Op {
     parts: OpView,
 }
 
+const _: () = prove!(size_of::<Op>() == 20);
+
 impl Model for Op {
     ghost use Rattle.bg_types.specs.declared.op.OpView.{OpView};
     ghost use Rattle.bg_types.specs.WellFormed.{IsWellFormed};

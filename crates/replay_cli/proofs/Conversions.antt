@@ -17,6 +17,7 @@ use Rattle.replay_cli.specs.Listing.{listing_of}
 use Rattle.replay_cli.specs.Listed.{IsFaultless, line_operations, Lists, IsFaultyLine}
 use Rattle.replay_cli.proofs.LowerLaws.{FileLaws}
 use Rattle.replay_cli.specs.Conversion.{WritesListing, WritesListingBeginning, IsDumpCaused, WritesFile, WritesFileBeginning, IsPackCaused}
+use Rattle.replay_cli.proofs.FirstFault.{first_fault}
 
 -- ---- a listing lists one list of operations, or has one first faulty line, and never both
 
@@ -111,31 +112,8 @@ module _ (bytes : List ℕ) (old new : Option (List ℕ)) (failed : Bool) where
 
 -- ---- and always one of the two
 
-fault_or_none : (o : Option LineFault) → ((fault : LineFault) × (o ≡ Some fault)) ⊎ (o ≡ None)
-fault_or_none (Some fault) = inl (fault, refl)
-fault_or_none None = inr refl
-
-record FirstFault (all : List (List ℕ)) : Type 0 where
-  before : List (List ℕ)
-  line : List ℕ
-  after : List (List ℕ)
-  fault : LineFault
-  in_order : all ≡ before ++ line ∷ after
-  faultless : AllByRecursion IsFaultless before
-  shown : line_fault line ≡ Some fault
-
-first_fault : (all : List (List ℕ)) → AllByRecursion IsFaultless all ⊎ FirstFault all
-first_fault [] = inl tt
-first_fault (l ∷ all) = elim (fault_or_none (line_fault l)) [
-  | inl shown ↦ inr (record { before = []; line = l; after = all; fault = shown.0; in_order = refl; faultless = tt; shown = shown.1 })
-  | inr none ↦ elim (first_fault all) [
-    | inl rest ↦ inl (none, rest)
-    | inr h ↦ inr (record { before = l ∷ h.before; line = h.line; after = h.after; fault = h.fault; in_order = ap (λ (ls : List (List ℕ)). l ∷ ls) h.in_order; faultless = (none, h.faultless); shown = h.shown })
-  ]
-]
-
 pub told : (bytes : List ℕ) → ((ops : List OpView) × Lists bytes ops) ⊎ ((n : ℕ) × (fault : LineFault) × IsFaultyLine bytes n fault)
-told bytes = elim (first_fault (lines bytes)) [
+told bytes = elim (first_fault line_fault (lines bytes)) [
   | inl all ↦ inl (flat_map line_operations (lines bytes), record { faultless = all; written = refl })
   | inr h ↦ inr (length h.before + 1, h.fault, record { before = h.before; line = h.line; after = h.after; in_order = h.in_order; number = refl; faultless = h.faultless; shown = h.shown })
 ]

@@ -16,6 +16,7 @@ pub mod DeskLists
 pub mod Running
 pub mod StepAnswers
 pub mod Plans
+pub mod FirstFault
 pub mod OneReplay
 pub mod Walks
 pub mod WalkAnswers

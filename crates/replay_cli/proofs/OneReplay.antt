@@ -19,9 +19,11 @@ use Rattle.replay_cli.specs.declared.schedule.step.Step.{Step as OneStep}
 use Rattle.replay_cli.specs.declared.schedule.step.Step.TheVariants.{Take, Merge, Show}
 use Rattle.replay_cli.specs.declared.schedule.step.Numbered.{Numbered}
 use Rattle.replay_cli.specs.Files.{IsFaultyFile}
-use Rattle.replay_cli.specs.Schedule.{line_says, fault_said, IsFaultless, Schedules, IsFaultyStep}
+use Rattle.std.specs.Str.Lines.{lines}
+use Rattle.replay_cli.specs.Schedule.{line_says, fault_said, steps_from, IsFaultless, Schedules, IsFaultyStep}
 use Rattle.replay_cli.specs.DeskSets.{set_at, operation_at, sets_after_step, sets_after, IsTakeRefused, IsMergeRefusal, IsStepRefused, NoneRefused, FirstRefused, desk_of, empty_desks}
 use Rattle.replay_cli.specs.Replayed.{Given, IsPlan, IsFaultyPlan, IsUnrefused, shows_of, WritesShows, IsRefused, IsFaultySchedule, IsReplayEnd}
+use Rattle.replay_cli.proofs.FirstFault.{first_fault}
 use Rattle.replay_cli.proofs.Refusals.{same_refusal}
 use Rattle.replay_cli.specs.Outcome.{HaveOneOutcome}
 
@@ -34,7 +36,7 @@ never_in : (files : List (List OpView)) (before after : List (List ℕ)) (line :
 never_in files [] after line fault all shown = some_apart (fault_said (line_says files line)) fault all.0 shown
 never_in files (x ∷ before) after line fault all shown = never_in files before after line fault all.1 shown
 
-schedule_apart : (files : List (List OpView)) (bytes : List ℕ) (steps : List Numbered) (n : ℕ) (fault : ScheduleFault) → Schedules files bytes steps → IsFaultyStep files bytes n fault → ⊥
+pub schedule_apart : (files : List (List OpView)) (bytes : List ℕ) (steps : List Numbered) (n : ℕ) (fault : ScheduleFault) → Schedules files bytes steps → IsFaultyStep files bytes n fault → ⊥
 schedule_apart files bytes steps n fault a h = never_in files h.before h.after h.line fault (subst (AllByRecursion (IsFaultless files)) h.in_order a.faultless) h.shown
 
 first_of_two : (files : List (List OpView)) (before before' after after' : List (List ℕ)) (line line' : List ℕ) (fault fault' : ScheduleFault) → before ++ line ∷ after ≡ before' ++ line' ∷ after'
@@ -50,10 +52,20 @@ first_of_two files (x ∷ before) (y ∷ before') after after' line line' fault 
     let one = first_of_two files before before' after after' line line' fault fault' rest a.1 b.1 p q in
     (ap suc one.0, one.1)
 
-one_faulty_step : (files : List (List OpView)) (bytes : List ℕ) (m n : ℕ) (f g : ScheduleFault) → IsFaultyStep files bytes m f → IsFaultyStep files bytes n g → (m ≡ n) × (f ≡ g)
+pub one_faulty_step : (files : List (List OpView)) (bytes : List ℕ) (m n : ℕ) (f g : ScheduleFault) → IsFaultyStep files bytes m f → IsFaultyStep files bytes n g → (m ≡ n) × (f ≡ g)
 one_faulty_step files bytes m n f g a b =
     let one = first_of_two files a.before b.before a.after b.after a.line b.line f g (sym a.in_order ∙ b.in_order) a.faultless b.faultless a.shown b.shown in
     (a.number ∙ ap (λ (k : ℕ). k + 1) one.0 ∙ sym b.number, one.1)
+
+pub one_schedule : (files : List (List OpView)) (bytes : List ℕ) (a b : List Numbered) → Schedules files bytes a → Schedules files bytes b → a ≡ b
+one_schedule files bytes a b p q = p.said ∙ sym q.said
+
+-- a schedule says steps, or a line of it is the first faulty one
+pub scheduled : (files : List (List OpView)) (bytes : List ℕ) → ((steps : List Numbered) × Schedules files bytes steps) ⊎ ((n : ℕ) × (fault : ScheduleFault) × IsFaultyStep files bytes n fault)
+scheduled files bytes = elim (first_fault (λ (line : List ℕ). fault_said (line_says files line)) (lines bytes)) [
+  | inl all ↦ inl (steps_from files 1 (lines bytes), record { faultless = all; said = refl })
+  | inr h ↦ inr (length h.before + 1, h.fault, record { before = h.before; line = h.line; after = h.after; in_order = h.in_order; number = refl; faultless = h.faultless; shown = h.shown })
+]
 
 one_plan : (files : List (List OpView)) (schedule : Option (List ℕ)) (xs ys : List Numbered) → IsPlan files schedule xs → IsPlan files schedule ys → xs ≡ ys
 one_plan files None xs ys a b = a ∙ sym b

@@ -1,5 +1,7 @@
 //! Files, read whole.
 
+ghost use Rattle.std.specs.Prelude.{◌≡◌, IfOk, length, vec_len};
+
 use crate::fault::RunFault;
 use crate::replaying::Ucd;
 use std::alloc::Global;
@@ -89,7 +91,9 @@ pub struct Unread<'a> {
 pub fn read_all<'a, R: Runtime<A = Global>>(
     rt: &R,
     paths: &[&'a str],
-) -> Result<Vec<Vec<u8>>, Unread<'a>> {
+) -> Result<Vec<Vec<u8>>, Unread<'a>>
+    ensures { IfOk result (λ files. vec_len files ≡ length paths.now) }
+{
     let mut files = Vec::new(rt.alloc());
     for path in paths {
         let file = match read(rt, path) {

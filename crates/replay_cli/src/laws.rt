@@ -10,6 +10,9 @@ ghost use Rattle.replay_cli.specs.declared.fault.LineFault.{LineFault};
 ghost use Rattle.replay_cli.specs.Listing.{listing_of};
 ghost use Rattle.replay_cli.specs.Listed.{Lists, IsFaultyLine};
 ghost use Rattle.replay_cli.specs.Outcome.{HaveOneOutcome};
+ghost use Rattle.replay_cli.specs.Schedule.{Schedules, IsFaultyStep};
+ghost use Rattle.replay_cli.specs.declared.fault.ScheduleFault.{ScheduleFault};
+ghost use Rattle.replay_cli.specs.declared.schedule.step.Numbered.{Numbered};
 
 use bg_types::laws as sets;
 use desk_replica::laws as desks;
@@ -31,6 +34,19 @@ pub fn listed_or_faulty()
         → Lists bytes ops → IsFaultyLine bytes n fault → ⊥ }
     ensures one_fault { (bytes : List ℕ) (m n : ℕ) (f g : LineFault)
         → IsFaultyLine bytes m f → IsFaultyLine bytes n g → (m ≡ n) × (f ≡ g) }
+{}
+
+/// In a run over files of these operations, a schedule says one list of steps or has one first faulty
+/// line, never both.
+pub fn scheduled_or_faulty()
+    ensures either { (files : List (List OpView)) (bytes : List ℕ)
+        → ((steps : List Numbered) × Schedules files bytes steps) ⊎ ((n : ℕ) × (fault : ScheduleFault) × IsFaultyStep files bytes n fault) }
+    ensures one_list { (files : List (List OpView)) (bytes : List ℕ) (a b : List Numbered)
+        → Schedules files bytes a → Schedules files bytes b → a ≡ b }
+    ensures never_both { (files : List (List OpView)) (bytes : List ℕ) (steps : List Numbered) (n : ℕ) (fault : ScheduleFault)
+        → Schedules files bytes steps → IsFaultyStep files bytes n fault → ⊥ }
+    ensures one_fault { (files : List (List OpView)) (bytes : List ℕ) (m n : ℕ) (f g : ScheduleFault)
+        → IsFaultyStep files bytes m f → IsFaultyStep files bytes n g → (m ≡ n) × (f ≡ g) }
 {}
 
 /// Operation files have one outcome: the set of their operations, the first faulty one, or the first

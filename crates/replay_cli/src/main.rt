@@ -1,4 +1,5 @@
-//! The program `bidigrid`: operation files become text and listings, and listings become files.
+//! The program `bidigrid`: operation files become text, drawn grids, walks of a caret and listings, and
+//! listings become files.
 #![tactic(auto)]
 
 mod convert;
@@ -84,10 +85,6 @@ fn run_replay(rt: &HostRuntime, job: &Replay) -> ExitCode {
     let Ok(mut buffered) = BufWriter::new(rt.alloc(), io::writer(rt)) else {
         return refuse(rt, &RunFault::Memory, "");
     };
-    // The command line has 1 to 64 files.
-    if files.is_empty() || files.len() > 64 {
-        return ExitCode::from(2);
-    }
     let done = replay(
         rt.alloc(),
         key::draw_key(rt),

@@ -1,6 +1,6 @@
 //! What a command line asks for.
 
-ghost use Rattle.std.specs.Prelude.{◌≤◌};
+ghost use Rattle.std.specs.Prelude.{◌≤◌, vec_len};
 
 use crate::walk::Move;
 use std::alloc::{AllocError, AllocFailed};
@@ -29,9 +29,12 @@ pub struct Replay<'a> {
     pub width: u16,
     /// The schedule, if there is one.
     pub schedule: Option<&'a str>,
+    /// The operation files, 1 to 64 of them.
     pub files: Vec<&'a str>,
     ghost at_least: { 2 ≤ width },
     ghost at_most: { width ≤ 500 },
+    ghost files_at_least: { 1 ≤ vec_len files },
+    ghost files_at_most: { vec_len files ≤ 64 },
 }
 
 /// A walk of a caret over a text that is drawn.
@@ -44,9 +47,12 @@ pub struct Walk<'a> {
     /// Where the walk begins, in code points of the text.
     pub place: u32,
     pub moves: Vec<Move>,
+    /// The operation files, 1 to 64 of them.
     pub files: Vec<&'a str>,
     ghost at_least: { 2 ≤ width },
     ghost at_most: { width ≤ 500 },
+    ghost files_at_least: { 1 ≤ vec_len files },
+    ghost files_at_most: { vec_len files ≤ 64 },
 }
 
 /// Why there is no work to do.

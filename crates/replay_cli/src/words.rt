@@ -1,6 +1,6 @@
 //! The command line, read by `clap`.
 
-ghost use Rattle.std.specs.Prelude.{◌≤◌, IfOk};
+ghost use Rattle.std.specs.Prelude.{◌≤◌, IfOk, vec_len};
 
 use crate::request::{Job, Replay, Stop, Walk};
 use crate::walk::Move;
