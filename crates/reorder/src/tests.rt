@@ -107,7 +107,7 @@ fn the_standards_examples_are_shown_in_its_order(rt: HostRuntime) -> Result<(), 
 }
 
 /// The orders that Unicode's own BidiCharacterTest.txt of version 15.0 gives for levels: the lines
-/// under its heading "Examples from UAX #9", then those with the most levels.
+/// under its heading "Examples from UAX #9", then six with four or five levels.
 #[test]
 fn the_standards_test_file_gives_these_orders(rt: HostRuntime) -> Result<(), Fail> {
     let rows: [(&str, &[u32]); 18] = [
@@ -186,7 +186,7 @@ fn the_standards_test_file_gives_these_orders(rt: HostRuntime) -> Result<(), Fai
 
 #[test]
 fn levels_give_an_order(rt: HostRuntime) -> Result<(), Fail> {
-    let rows: [(&[u8], &[u32]); 13] = [
+    let rows: [(&[u8], &[u32]); 14] = [
         (&[], &[]),
         (&[0], &[0]),
         (&[1], &[0]),
@@ -195,6 +195,7 @@ fn levels_give_an_order(rt: HostRuntime) -> Result<(), Fail> {
         (&[0, 0, 0, 1, 1, 1], &[0, 1, 2, 5, 4, 3]),
         (&[1, 1, 1, 2, 2], &[3, 4, 2, 1, 0]),
         (&[1, 1, 2, 1], &[3, 2, 1, 0]),
+        (&[1, 2, 2], &[1, 2, 0]),
         // A line with an isolate, and the two lines of a wrapped paragraph.
         (&[0, 0, 2, 1, 0, 0], &[0, 1, 3, 2, 4, 5]),
         (&[0, 0, 1, 1, 0], &[0, 1, 3, 2, 4]),
@@ -254,7 +255,7 @@ fn all_short_lists_are_as_by_passes(rt: HostRuntime) -> Result<(), Fail> {
 fn long_lines_of_many_levels_are_as_by_passes(rt: HostRuntime) -> Result<(), Fail> {
     let mut levels = [0u8; 20_000];
     for (i, level) in (0..20_000u32).zip(levels.iter_mut()) {
-        *level = (i.wrapping_mul(i) % 127) as u8;
+        *level = ((i.wrapping_mul(2_654_435_761) >> 8) % 127) as u8;
     }
     assert_order(&rt, &levels, &mut [0; 20_000])?;
     Ok(())
@@ -309,6 +310,7 @@ fn l1_resets_what_stands_before_a_separator_or_the_lines_end(rt: HostRuntime) ->
         ("a b", "111", 0, "111"),
         ("a\tb", "111", 0, "101"),
         ("a\u{2029}b", "111", 0, "101"),
+        ("a \u{2029}b", "1111", 0, "1001"),
         ("a \t", "222", 1, "211"),
         ("   ", "111", 0, "000"),
         (
