@@ -154,6 +154,7 @@ fn columns_by_cases(rt: HostRuntime) -> Result<(), Fail> {
         ("\n", 0),
         ("\u{85}", 0),
         ("\u{2029}", 0),
+        ("\u{1C}", 0),
         ("\u{B}", 0),
         ("\u{C}", 0),
         ("\u{2028}", 0),
@@ -172,10 +173,28 @@ fn columns_by_cases(rt: HostRuntime) -> Result<(), Fail> {
         ("\u{5D0}", 1),
     ];
     for (cluster, want) in rows {
-        assert!(rt; !cluster.is_empty());
-        assert_eq!(rt; columns(&tables, cluster), want, "of {cluster:?}");
+        assert_columns(&rt, &tables, cluster, want);
     }
+    // An isolate control is one by its class, and a wide character by its width.
+    let isolating = tables_of(rt.alloc(), b"0061;RLI")?;
+    assert_columns(&rt, &isolating, "a", 0);
+    assert_columns(&rt, &isolating, "\u{2067}", 1);
+    let fullwidth = wide_tables(rt.alloc(), b"0061;F")?;
+    assert_columns(&rt, &fullwidth, "a", 2);
+    assert_columns(&rt, &fullwidth, "b", 1);
     Ok(())
+}
+
+fn assert_columns(rt: &impl std::process::Abort, tables: &Tables, cluster: &str, want: u8) {
+    assert!(rt; !cluster.is_empty());
+    assert_eq!(rt; columns(tables, cluster), want, "of {cluster:?}");
+}
+
+fn wide_tables(alloc: Global, ea: &[u8]) -> Result<Tables, UcdFault> {
+    match Tables::load(alloc, vectors::BIDI, b"", b"", vectors::LB, ea) {
+        Err(UcdFault::Memory) => Tables::load(alloc, vectors::BIDI, b"", b"", vectors::LB, ea),
+        answer => answer,
+    }
 }
 
 #[test]
