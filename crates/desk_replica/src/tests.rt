@@ -9,6 +9,7 @@ ghost use Rattle.bg_types.specs.OperationSet.{no_operations};
 use super::{Replica, TakeFault, Taken, TypeFault};
 use Row::{Erase, Insert};
 use bg_types::{Id, Memory, Op, Place};
+use rga_sequence::Blocks;
 use rga_tree::{Plain, Sequence};
 use std::alloc::Global;
 
@@ -21,6 +22,12 @@ trait Fresh: Sequence + Drop {
 impl Fresh for Plain {
     fn fresh(alloc: Global) -> Plain {
         Plain::new(alloc)
+    }
+}
+
+impl Fresh for Blocks {
+    fn fresh(alloc: Global) -> Blocks {
+        Blocks::new(alloc)
     }
 }
 
@@ -378,27 +385,37 @@ fn fills(alloc: Global) -> bool {
 
 #[test]
 fn answers_and_reads(rt: HostRuntime) {
+    assert!(rt; plays_in_order::<Blocks>(rt.alloc()));
     assert!(rt; plays_in_order::<Plain>(rt.alloc()));
+    assert!(rt; plays_a_branch::<Blocks>(rt.alloc()));
     assert!(rt; plays_a_branch::<Plain>(rt.alloc()));
+    assert!(rt; plays_erasures::<Blocks>(rt.alloc()));
     assert!(rt; plays_erasures::<Plain>(rt.alloc()));
+    assert!(rt; plays_again::<Blocks>(rt.alloc()));
     assert!(rt; plays_again::<Plain>(rt.alloc()));
 }
 
 #[test]
 fn merges_and_counts(rt: HostRuntime) {
+    assert!(rt; merges_what_waits::<Blocks>(rt.alloc()));
     assert!(rt; merges_what_waits::<Plain>(rt.alloc()));
+    assert!(rt; merges_what_is_known::<Blocks>(rt.alloc()));
     assert!(rt; merges_what_is_known::<Plain>(rt.alloc()));
+    assert!(rt; merges_none_of_a_reused_one::<Blocks>(rt.alloc()));
     assert!(rt; merges_none_of_a_reused_one::<Plain>(rt.alloc()));
 }
 
 #[test]
 fn types_and_erases(rt: HostRuntime) {
+    assert!(rt; types::<Blocks>(rt.alloc()));
     assert!(rt; types::<Plain>(rt.alloc()));
+    assert!(rt; spends::<Blocks>(rt.alloc()));
     assert!(rt; spends::<Plain>(rt.alloc()));
 }
 
 #[test]
 fn a_refused_take_leaves_the_next_counter(rt: HostRuntime) {
+    assert!(rt; counts::<Blocks>(rt.alloc()));
     assert!(rt; counts::<Plain>(rt.alloc()));
 }
 
