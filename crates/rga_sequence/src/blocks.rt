@@ -118,6 +118,7 @@ impl Sequence for Blocks {
     }
 
     fn place(&mut self, id: Id, parent: Place, ch: char, hidden: bool) {
+        // The identifier is known to be well formed where it is read.
         let _known = id.counter();
         put(&mut self.row, id, parent, ch, hidden);
         self.placed = self.row.index.len();

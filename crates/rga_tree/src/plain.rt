@@ -58,6 +58,7 @@ impl Sequence for Plain {
     }
 
     fn place(&mut self, id: Id, parent: Place, ch: char, hidden: bool) {
+        // The identifier is known to be well formed where it is read.
         let _known = id.counter();
         let at = place_for(&self.row, id, &parent);
         self.row

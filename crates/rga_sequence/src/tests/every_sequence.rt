@@ -168,10 +168,7 @@ impl<S: Fresh> Tried<S> {
     }
 
     fn reads(&self, text: &str) -> bool {
-        match self.text() {
-            Ok(read) => read.as_str() == text,
-            Err(Memory) => false,
-        }
+        self.text().is_ok_and(|read| read.as_str() == text)
     }
 
     /// Whether an element stands at place j, by each call that tells it.
@@ -187,22 +184,10 @@ impl<S: Fresh> Tried<S> {
         right
     }
 
-    /// Whether visible element k is the one of a row.
-    fn is_at(&mut self, k: usize, row: Row) -> bool {
-        match (self.at(k), id(row.0)) {
-            (Some((found, ch)), Some(id)) => found == id && ch == row.2,
-            _ => false,
-        }
-    }
-
     fn shows_visible(&mut self, rows: &[Row]) -> bool {
         let mut right = true;
-        let mut k = 0usize;
-        for row in rows {
-            if !row.3 {
-                right = self.is_at(k, *row) && right;
-                k = k.saturating_add(1);
-            }
+        for (k, row) in rows.iter().filter(|row| !row.3).enumerate() {
+            right = self.at(k) == id(row.0).map(|id| (id, row.2)) && right;
         }
         right
     }
