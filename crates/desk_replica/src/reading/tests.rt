@@ -1,7 +1,11 @@
 //! What no clause says: that the calls answer for real desks.
 
-use crate::Replica;
+ghost use Rattle.std.specs.Prelude.{◌≡◌};
+ghost use Rattle.bg_types.specs.OperationSet.{no_operations};
+
+use crate::{Replica, TakeFault};
 use bg_types::{Id, Op, Place};
+use rga_sequence::Blocks;
 use rga_tree::{Plain, Sequence};
 use std::alloc::Global;
 
@@ -29,10 +33,16 @@ fn operations() -> Option<[Op; 7]> {
     ])
 }
 
-fn desk(alloc: Global) -> Option<Replica<Plain>> {
-    let mut desk = Replica::new(alloc, 1, Plain::new(alloc), 7);
+/// A desk that took them. A call that memory was refused to left the desk as it was, and is made again.
+fn desk<S: Sequence + Drop>(alloc: Global, seq: S) -> Option<Replica<S>>
+    requires { S.content seq ≡ no_operations }
+{
+    let mut desk = Replica::new(alloc, 1, seq, 7);
     for op in operations()? {
-        desk.take(&op).ok()?;
+        match desk.take(&op) {
+            Err(TakeFault::Memory) => desk.take(&op).ok()?,
+            answer => answer.ok()?,
+        };
     }
     Some(desk)
 }
@@ -69,10 +79,18 @@ fn lists<S: Sequence>(desk: &Replica<S>) -> Option<bool> {
 
 #[test]
 fn finds_places(rt: HostRuntime) {
-    assert!(rt; desk(rt.alloc()).and_then(|desk| places(&desk)) == Some(true));
+    let alloc = rt.alloc();
+    let blocks = desk(alloc, Blocks::new(alloc)).and_then(|desk| places(&desk));
+    assert_eq!(rt; blocks, Some(true));
+    let plain = desk(alloc, Plain::new(alloc)).and_then(|desk| places(&desk));
+    assert_eq!(rt; plain, Some(true));
 }
 
 #[test]
 fn tells_each_operation(rt: HostRuntime) {
-    assert!(rt; desk(rt.alloc()).and_then(|desk| lists(&desk)) == Some(true));
+    let alloc = rt.alloc();
+    let blocks = desk(alloc, Blocks::new(alloc)).and_then(|desk| lists(&desk));
+    assert_eq!(rt; blocks, Some(true));
+    let plain = desk(alloc, Plain::new(alloc)).and_then(|desk| lists(&desk));
+    assert_eq!(rt; plain, Some(true));
 }
