@@ -21,7 +21,7 @@ use Rattle.rga_tree.proofs.RowPlaces.{AreDistinct, among-insert}
 use Rattle.rga_tree.proofs.Listed.{is_listed}
 use Rattle.rga_tree.proofs.AttachedWalk.{listed-attached}
 use Rattle.rga_tree.proofs.WalkDistinct.{AreDistinct-walk}
-use Rattle.rga_sequence.specs.Leaf.{IsParent, StandsAttached}
+use Rattle.rga_tree.specs.Leaf.{IsParent, StandsAttached}
 
 childless : (s : OperationSet) (id : Identifier) → (IsParent s id → ⊥) → IsChildless id (entries_of s)
 childless s id none = all_entries s (λ e. same_place e.1.parent (After id) ≡ false) (λ e held. by_test e held (same_place e.1.parent (After id)) refl) where

@@ -2,4 +2,3 @@ pub mod Blocks
 pub mod BlockRows
 pub mod Indexed
 pub mod Few
-pub mod Leaf

@@ -10,7 +10,7 @@ ghost use Rattle.bg_types.specs.declared.op.Place.TheVariants.{Root};
 ghost use Rattle.rga_tree.specs.Walk.{walk};
 ghost use Rattle.rga_tree.specs.Elements.{elements};
 ghost use Rattle.rga_tree.specs.Row.{place_of};
-ghost use Rattle.rga_sequence.specs.Leaf.{IsParent, StandsAttached};
+ghost use Rattle.rga_tree.specs.Leaf.{IsParent, StandsAttached};
 
 /// The skipping law. A new insertion that is no parent, below the root or an attached parent, is
 /// put into the old walk behind its parent (the root: at the front), and behind all greater

@@ -6,3 +6,4 @@ pub mod AllWellFormed
 pub mod Elements
 pub mod Row
 pub mod Examples
+pub mod Leaf
