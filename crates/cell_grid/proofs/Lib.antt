@@ -4,6 +4,7 @@ pub mod Entries
 pub mod Celled
 pub mod Writing
 pub mod Extents
+pub mod Boundaries
 pub mod Outlining
 pub mod Standing
 pub mod Sides

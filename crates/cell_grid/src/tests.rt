@@ -331,6 +331,7 @@ fn a_failing_sink_keeps_a_beginning(rt: HostRuntime) -> Result<(), Fail> {
 
 #[test]
 fn the_laws_are_called() {
+    laws::clusters_end_at_boundaries();
     laws::clusters_once();
     laws::cells_once();
     laws::rows_at_their_edge();
