@@ -102,6 +102,8 @@ impl Sequence for Blocks {
 
     ghost parts = { λ s. blocks_in s.row };
 
+    ghost looked = { λ s. s.looks };
+
     fn reserve(&mut self, n: usize) -> Result<(), Memory> {
         if n <= self.room {
             return Ok(());

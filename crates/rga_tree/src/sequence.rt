@@ -30,6 +30,10 @@ pub trait Sequence {
     /// The elements in parts, each in one piece of memory.
     ghost parts: { Self → List (List Element) };
 
+    /// How often it was looked at for a visible element, where that is counted. Only `id_at` and
+    /// `char_at` change it.
+    ghost looked: { Self → ℕ } = { λ _. 0 };
+
     /// Makes room for n placings (at most 4,000,000). Where memory is refused, content and room
     /// stay as they were.
     fn reserve(&mut self, n: usize) -> Result<(), Memory>
@@ -38,7 +42,8 @@ pub trait Sequence {
         ensures ok { OnOk result (n ≤ free self.new) }
         ensures kept { free self.old ≤ free self.new }
         ensures err { OnErr result (free self.new ≡ free self.old) }
-        ensures enough { n ≤ free self.old → IsOk result };
+        ensures enough { n ≤ free self.old → IsOk result }
+        ensures looked { looked self.new ≡ looked self.old };
 
     /// How many placings take no memory.
     fn room(&self) -> usize
@@ -53,13 +58,15 @@ pub trait Sequence {
         requires room { 1 ≤ free self.old }
         ensures content { content self.new ≡ with_element (content self.old)
             (record { id = id; parent = parent; ch = ch; hidden = hidden }) }
-        ensures room { free self.new + 1 ≡ free self.old };
+        ensures room { free self.new + 1 ≡ free self.old }
+        ensures looked { looked self.new ≡ looked self.old };
 
     /// Hides a placed element, which may be hidden already. It stays where it stands.
     fn hide(&mut self, id: Id)
         requires { map.contains_key (content self.old).ins id ≡ true }
         ensures content { content self.new ≡ with_operation (content self.old) (OpView.Erase id) }
-        ensures room { free self.new ≡ free self.old };
+        ensures room { free self.new ≡ free self.old }
+        ensures looked { looked self.new ≡ looked self.old };
 
     /// How many elements are visible.
     fn len(&self) -> usize
