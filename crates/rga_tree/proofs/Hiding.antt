@@ -17,11 +17,12 @@ use Rattle.rga_tree.specs.TextOf.{is_erased}
 use Rattle.rga_tree.specs.Tree.{IsTree, OnlyErasesPlaced}
 use Rattle.rga_tree.specs.Elements.{element_of, elements}
 use Rattle.rga_tree.specs.Row.{entry_of, hidden_ids, operations_of, ids_of, is_distinct}
+use Rattle.rga_tree.specs.KeepsWalk.{KeepsWalk}
 use Rattle.rga_tree.proofs.WalkAmong.{Entry}
 use Rattle.rga_tree.proofs.Entries.{IsAbsent, and_parts}
 use Rattle.rga_tree.proofs.SetSteps.{AllWellFormed-with, OnlyErasesPlaced-erase, same_id-swap}
 use Rattle.rga_tree.proofs.RowSets.{has_row}
-use Rattle.rga_tree.proofs.Placing.{Keeps, present_before}
+use Rattle.rga_tree.proofs.Placing.{present_before}
 
 -- the element hidden, if it has the identifier
 abbrev pub marked : Identifier → Element → Element
@@ -134,18 +135,18 @@ identifier_of s id well stands = by_look (map.get s.ins id) refl stands where
   by_look None is h = absurd cc
   by_look (Some node) is h = (well (Insert id node.parent node.ch) is).0
 
-pub hiding : (row : List Element) (id : Identifier) (at : ℕ) (e : Element) → Keeps row → map.contains_key (operations_of row).ins id ≡ true → at ≡ prefix_len (λ x. not (same_id id x.id)) row → e ≡ get_or row at e
-    → Keeps (set row at (record e { hidden = true })) × (operations_of (set row at (record e { hidden = true })) ≡ with_operation (operations_of row) (Erase id))
+pub hiding : (row : List Element) (id : Identifier) (at : ℕ) (e : Element) → KeepsWalk row → map.contains_key (operations_of row).ins id ≡ true → at ≡ prefix_len (λ x. not (same_id id x.id)) row → e ≡ get_or row at e
+    → KeepsWalk (set row at (record e { hidden = true })) × (operations_of (set row at (record e { hidden = true })) ≡ with_operation (operations_of row) (Erase id))
 hiding row id at e keeps stands at_is e_is =
     let k = prefix_len (λ x. not (same_id id x.id)) row in
     let new_is : set row at (record e { hidden = true }) ≡ each (marked id) row =
     ap (λ n. set row n (record e { hidden = true })) at_is ∙ set_marked id row e keeps.distinct (present_before id row stands) (e_is ∙ ap (λ n. get_or row n e) at_is) in
     let ops = ops-marked id row stands in
-    let kept : Keeps (each (marked id) row) = record {
+    let kept : KeepsWalk (each (marked id) row) = record {
       in_order = ap (each (marked id)) keeps.in_order ∙ elements-erased (operations_of row) id ∙ ap elements (sym ops);
       distinct = ap is_distinct (same_ids id row) ∙ keeps.distinct;
       tree = subst IsTree (sym ops) (λ q node found. keeps.tree q node found);
       only_placed = subst OnlyErasesPlaced (sym ops) (OnlyErasesPlaced-erase (operations_of row) id keeps.only_placed stands);
       well_formed = subst AllWellFormed (sym ops) (AllWellFormed-with (operations_of row) (Erase id) keeps.well_formed (identifier_of (operations_of row) id keeps.well_formed stands));
     } in
-    (subst Keeps (sym new_is) kept, ap operations_of new_is ∙ ops)
+    (subst KeepsWalk (sym new_is) kept, ap operations_of new_is ∙ ops)

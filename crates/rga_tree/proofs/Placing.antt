@@ -13,11 +13,13 @@ use Rattle.bg_types.specs.declared.op.Place.{Place}
 use Rattle.bg_types.specs.declared.op.Place.TheVariants.{Root, After}
 use Rattle.bg_types.specs.declared.op.OpView.TheVariants.{Insert, Erase}
 use Rattle.bg_types.proofs.IdentifierOrder.{id_cmp-total}
+use Rattle.bg_types.proofs.OperationSets.{Holds-no_operations}
 use Rattle.rga_tree.specs.declared.element.Element.{Element}
 use Rattle.rga_tree.specs.Walk.{walk_to, walk}
 use Rattle.rga_tree.specs.Tree.{stands_in, IsTree, OnlyErasesPlaced}
 use Rattle.rga_tree.specs.Elements.{element_of, elements, with_element}
 use Rattle.rga_tree.specs.Row.{entry_of, hidden_ids, operations_of, ids_of, is_distinct, start_of, place_of}
+use Rattle.rga_tree.specs.KeepsWalk.{KeepsWalk}
 use Rattle.rga_tree.proofs.WalkAmong.{Entry}
 use Rattle.rga_tree.proofs.Entries.{IsAbsent}
 use Rattle.rga_tree.proofs.SetSteps.{node_of, grown, with_element-grown, AllWellFormed-element, IsTree-grown, OnlyErasesPlaced-grown, walk-leaf, same_id-swap, mark_kept, mark_new}
@@ -79,30 +81,18 @@ distinct-insert row i n distinct new =
 
 -- ---- the whole step
 
--- what the row of a sequence keeps
-pub record Keeps (row : List Element) : Type 0 where
-  pub in_order : row ≡ elements (operations_of row)
-  pub distinct : is_distinct (ids_of row) ≡ true
-  pub tree : IsTree (operations_of row)
-  pub only_placed : OnlyErasesPlaced (operations_of row)
-  pub well_formed : AllWellFormed (operations_of row)
-
-nothing_held : AllWellFormed no_operations
-nothing_held (Insert id parent ch) held = let none = map.get-empty {X = Node} id_cmp id in absurd cc
-nothing_held (Erase id) held = let none = set.contains-empty id_cmp id in absurd cc
-
-pub Keeps-nothing : (row : List Element) → row ≡ [] → Keeps row
-Keeps-nothing row e = subst Keeps (sym e) (record {
+pub KeepsWalk-nothing : (row : List Element) → row ≡ [] → KeepsWalk row
+KeepsWalk-nothing row e = subst KeepsWalk (sym e) (record {
   in_order = sym (ap (λ d. each (element_of no_operations) (walk_to d map.empty Root)) (map.len-empty id_cmp Node));
   distinct = refl;
   tree = λ id node found. let none = map.get-empty {X = Node} id_cmp id in absurd cc;
   only_placed = λ id held. let none = set.contains-empty id_cmp id in absurd cc;
-  well_formed = nothing_held;
+  well_formed = λ op held. absurd (Holds-no_operations op held);
 })
 
-pub placing : (row new : List Element) (n : Element) (at : ℕ) → Keeps row → stands_in (operations_of row) n.parent ≡ true → IsWellFormed (Insert n.id n.parent n.ch)
+pub placing : (row new : List Element) (n : Element) (at : ℕ) → KeepsWalk row → stands_in (operations_of row) n.parent ≡ true → IsWellFormed (Insert n.id n.parent n.ch)
     → map.contains_key (operations_of row).ins n.id ≡ false → start_of n.parent row ≤ length row
-    → at ≡ place_of n.parent n.id row → new ≡ insert row at n → Keeps new × (operations_of new ≡ with_element (operations_of row) n)
+    → at ≡ place_of n.parent n.id row → new ≡ insert row at n → KeepsWalk new × (operations_of new ≡ with_element (operations_of row) n)
 placing row new n at keeps stands is fresh within at_is new_is =
     let s = operations_of row in
     let i = place_of n.parent n.id row in

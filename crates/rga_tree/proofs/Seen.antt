@@ -14,12 +14,12 @@ use Rattle.rga_tree.specs.Walk.{walk}
 use Rattle.rga_tree.specs.TextOf.{is_erased, visible, visible_ids, text}
 use Rattle.rga_tree.specs.Elements.{element_of, elements}
 use Rattle.rga_tree.specs.Row.{entry_of, operations_of}
+use Rattle.rga_tree.specs.KeepsWalk.{KeepsWalk}
 use Rattle.rga_tree.proofs.WalkAmong.{Entry}
 use Rattle.rga_tree.proofs.RowSets.{get_row}
-use Rattle.rga_tree.proofs.Placing.{Keeps}
 
 -- the element with an identifier
-pub element_row : (row : List Element) (id : Identifier) → Keeps row → find_in (λ e. same_id id e.id) row ≡ option_map (λ node. element_of (operations_of row) (id, node)) (map.get (operations_of row).ins id)
+pub element_row : (row : List Element) (id : Identifier) → KeepsWalk row → find_in (λ e. same_id id e.id) row ≡ option_map (λ node. element_of (operations_of row) (id, node)) (map.get (operations_of row).ins id)
 element_row row id keeps =
     let s = operations_of row in
     let w = walk s Root in

@@ -5,5 +5,6 @@ pub mod Tree
 pub mod AllWellFormed
 pub mod Elements
 pub mod Row
+pub mod KeepsWalk
 pub mod Examples
 pub mod Leaf

@@ -1,16 +1,15 @@
 //! The plain sequence: one row, searched from the front.
 
-ghost use Rattle.std.specs.Prelude.{◌≡◌, ◌-◌, ◌+◌, ◌≤◌, ◌<◌, ◌∷◌, [], true, not, length, filter, slice_get, vec_len, vec_capacity};
+ghost use Rattle.std.specs.Prelude.{◌≡◌, ◌-◌, ◌+◌, ◌≤◌, ◌<◌, ◌∷◌, [], Some, not, length, filter, insert, slice_get, vec_len, vec_capacity};
 ghost use Rattle.std.proofs.Common.{◌∙◌};
 ghost use Rattle.std.proofs.lemmas.List.{append-nil};
 ghost use Rattle.std.specs.Ordering.{is_lt};
 ghost use Rattle.std.specs.List.{find as find_in, prefix_len, list_any};
 ghost use Rattle.bg_types.specs.Identifier.{id_cmp, same_id};
-ghost use Rattle.bg_types.specs.OperationSet.{no_operations, AllWellFormed};
-ghost use Rattle.rga_tree.specs.Tree.{IsTree, OnlyErasesPlaced};
-ghost use Rattle.rga_tree.specs.AllWellFormed.{AllWellFormed-prop};
-ghost use Rattle.rga_tree.specs.Elements.{elements};
-ghost use Rattle.rga_tree.specs.Row.{operations_of, ids_of, is_distinct, start_of, place_of};
+ghost use Rattle.bg_types.specs.OperationSet.{no_operations};
+ghost use Rattle.rga_tree.specs.TextOf.{visible, visible_ids, text};
+ghost use Rattle.rga_tree.specs.Row.{operations_of, start_of, place_of};
+ghost use Rattle.rga_tree.specs.KeepsWalk.{KeepsWalk, KeepsWalk-prop};
 
 use crate::element::Element;
 use crate::sequence::Sequence;
@@ -22,11 +21,7 @@ use std::alloc::Global;
 #[derive(Drop)]
 pub struct Plain {
     row: Vec<Element>,
-    ghost in_order: { row.items ≡ elements (operations_of row.items) },
-    ghost distinct: { is_distinct (ids_of row.items) ≡ true },
-    ghost tree: { IsTree (operations_of row.items) },
-    ghost only_placed: { OnlyErasesPlaced (operations_of row.items) },
-    ghost well_formed: { AllWellFormed (operations_of row.items) } by { AllWellFormed-prop (operations_of row.items) },
+    ghost keeps_walk: { KeepsWalk row.items } by { KeepsWalk-prop row.items },
 }
 
 impl Plain {
@@ -38,6 +33,15 @@ impl Plain {
         Plain {
             row: Vec::new(alloc),
         }
+    }
+
+    /// Visible element k.
+    fn shown(&self, k: usize) -> Element
+        requires { k < length (visible (operations_of self.now.row.items)) }
+        ensures id { slice_get (visible_ids (operations_of self.now.row.items)) k ≡ Some result.id }
+        ensures ch { slice_get (text (operations_of self.now.row.items)) k ≡ Some result.ch }
+    {
+        visible_at(&self.row, k).unwrap()
     }
 }
 
@@ -61,17 +65,7 @@ impl Sequence for Plain {
         // The identifier is known to be well formed where it is read.
         let _known = id.counter();
         let at = place_for(&self.row, id, &parent);
-        self.row
-            .insert(
-                at,
-                Element {
-                    id,
-                    parent,
-                    ch,
-                    hidden,
-                },
-            )
-            .unwrap();
+        put_in(&mut self.row, at, id, parent, ch, hidden);
     }
 
     fn hide(&mut self, id: Id) {
@@ -84,11 +78,11 @@ impl Sequence for Plain {
     }
 
     fn id_at(&mut self, k: usize) -> Id {
-        visible_at(&self.row, k).unwrap().id
+        self.shown(k).id
     }
 
     fn char_at(&mut self, k: usize) -> char {
-        visible_at(&self.row, k).unwrap().ch
+        self.shown(k).ch
     }
 
     fn placed(&self) -> usize {
@@ -115,13 +109,34 @@ impl Sequence for Plain {
         find(&self.row, id)
     }
 
-    ghost whole = { λ p. append-nil p.row.items ∙ p.in_order };
+    ghost whole = { λ p. append-nil p.row.items ∙ p.keeps_walk.in_order };
 
-    ghost is_tree = { λ p. p.tree };
+    ghost is_tree = { λ p. p.keeps_walk.tree };
 
-    ghost only_placed = { λ p. p.only_placed };
+    ghost only_placed = { λ p. p.keeps_walk.only_placed };
 
-    ghost well_formed = { λ p. p.well_formed };
+    ghost well_formed = { λ p. p.keeps_walk.well_formed };
+}
+
+/// Puts an element in at a place. There is room for it.
+fn put_in(row: &mut Vec<Element>, at: usize, id: Id, parent: Place, ch: char, hidden: bool)
+    requires within { at ≤ vec_len row.old }
+    requires room { vec_len row.old < vec_capacity row.old }
+    ensures items { row.new.items ≡ insert row.old.items at
+        (record { id = id; parent = parent; ch = ch; hidden = hidden }) }
+    ensures len { vec_len row.new ≡ vec_len row.old + 1 }
+    ensures capacity { vec_capacity row.new ≡ vec_capacity row.old }
+{
+    row.insert(
+        at,
+        Element {
+            id,
+            parent,
+            ch,
+            hidden,
+        },
+    )
+    .unwrap();
 }
 
 /// Where a new element goes: behind its parent, and behind all greater elements that follow there.
