@@ -1,13 +1,12 @@
 //! The sequence in blocks.
 
 ghost use Rattle.std.specs.Prelude.{◌≡◌, ◌+◌, ◌*◌, ◌/◌, ◌-◌, ◌<◌, ◌≤◌, ℕ, true, length, get_or, slice_get, Some, [], vec_len, vec_capacity};
-ghost use Rattle.bg_types.specs.OperationSet.{no_operations, AllWellFormed};
-ghost use Rattle.rga_tree.specs.Tree.{IsTree, OnlyErasesPlaced};
-ghost use Rattle.rga_tree.specs.AllWellFormed.{AllWellFormed-prop};
+ghost use Rattle.bg_types.specs.OperationSet.{no_operations};
 ghost use Rattle.rga_tree.specs.declared.element.Element.{Element};
 ghost use Rattle.rga_tree.specs.TextOf.{visible, visible_ids, text};
 ghost use Rattle.rga_tree.specs.Elements.{elements};
-ghost use Rattle.rga_tree.specs.Row.{operations_of, ids_of, is_distinct};
+ghost use Rattle.rga_tree.specs.Row.{operations_of};
+ghost use Rattle.rga_tree.specs.KeepsWalk.{KeepsWalk, KeepsWalk-prop};
 ghost use Rattle.rga_sequence.specs.Blocks.{seen, FindsBy};
 ghost use Rattle.rga_sequence.specs.Few.{few_items};
 ghost use Rattle.rga_sequence.specs.Indexed.{blocks_in, elements_in, IsIndexed, IsIndexed-prop, HasRoom, HasRoom-prop};
@@ -29,11 +28,7 @@ pub struct Blocks {
     visible: usize,
     room: usize,
     looks: u64,
-    ghost in_order: { elements_in row ≡ elements (operations_of (elements_in row)) },
-    ghost distinct: { is_distinct (ids_of (elements_in row)) ≡ true },
-    ghost tree: { IsTree (operations_of (elements_in row)) },
-    ghost only_placed: { OnlyErasesPlaced (operations_of (elements_in row)) },
-    ghost well_formed: { AllWellFormed (operations_of (elements_in row)) } by { AllWellFormed-prop (operations_of (elements_in row)) },
+    ghost keeps_walk: { KeepsWalk (elements_in row) } by { KeepsWalk-prop (elements_in row) },
     ghost indexed: { IsIndexed ⟦<Id as Eq>⟧.eq row } by { IsIndexed-prop ⟦<Id as Eq>⟧.eq row },
     ghost enough: { HasRoom row room } by { HasRoom-prop row room },
     ghost placed_are: { placed ≡ length (elements_in row) },
@@ -68,6 +63,19 @@ impl Blocks {
         ensures few { result ≤ 1 + length (elements (⟦<Blocks as Sequence>⟧.content self.now)) / 256 }
     {
         self.row.blocks.len()
+    }
+
+    /// Visible element k, with the looks counted from 0.
+    fn shown(&mut self, k: usize) -> Element
+        requires { k < length (visible (⟦<Blocks as Sequence>⟧.content self.old)) }
+        ensures id { slice_get (visible_ids (⟦<Blocks as Sequence>⟧.content self.old)) k ≡ Some result.id }
+        ensures ch { slice_get (text (⟦<Blocks as Sequence>⟧.content self.old)) k ≡ Some result.ch }
+        ensures content { ⟦<Blocks as Sequence>⟧.content self.new ≡ ⟦<Blocks as Sequence>⟧.content self.old }
+        ensures room { ⟦<Blocks as Sequence>⟧.free self.new ≡ ⟦<Blocks as Sequence>⟧.free self.old }
+        ensures looks { FindsBy (⟦<Blocks as Look>⟧.blocks self.old) k result (⟦<Blocks as Look>⟧.looked self.new) }
+    {
+        self.looks = 0;
+        find(self, k)
     }
 }
 
@@ -143,8 +151,7 @@ impl Sequence for Blocks {
         ensures room { ⟦<Blocks as Sequence>⟧.free self.new ≡ ⟦<Blocks as Sequence>⟧.free self.old }
         ensures looks { (e : Element) × FindsBy (⟦<Blocks as Look>⟧.blocks self.old) k e (⟦<Blocks as Look>⟧.looked self.new) }
     {
-        self.looks = 0;
-        find(self, k).id
+        self.shown(k).id
     }
 
     fn char_at(&mut self, k: usize) -> char
@@ -154,8 +161,7 @@ impl Sequence for Blocks {
         ensures room { ⟦<Blocks as Sequence>⟧.free self.new ≡ ⟦<Blocks as Sequence>⟧.free self.old }
         ensures looks { (e : Element) × FindsBy (⟦<Blocks as Look>⟧.blocks self.old) k e (⟦<Blocks as Look>⟧.looked self.new) }
     {
-        self.looks = 0;
-        find(self, k).ch
+        self.shown(k).ch
     }
 
     fn placed(&self) -> usize {
@@ -184,11 +190,11 @@ impl Sequence for Blocks {
         Some(self.row.blocks[b].elements[at])
     }
 
-    ghost whole = { λ s. s.in_order };
+    ghost whole = { λ s. s.keeps_walk.in_order };
 
-    ghost is_tree = { λ s. s.tree };
+    ghost is_tree = { λ s. s.keeps_walk.tree };
 
-    ghost only_placed = { λ s. s.only_placed };
+    ghost only_placed = { λ s. s.keeps_walk.only_placed };
 
-    ghost well_formed = { λ s. s.well_formed };
+    ghost well_formed = { λ s. s.keeps_walk.well_formed };
 }

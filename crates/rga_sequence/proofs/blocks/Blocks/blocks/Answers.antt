@@ -10,5 +10,5 @@ returns-clause-few c =
     let bs = c.args.self.now.row.blocks.items in
     let len_xs : length (items_of bs) ≡ length bs = length-map bs (λ (b : Block). b.elements.items) in
     let few = few_blocks (items_of bs) c.args.self.now.indexed.halves in
-    let placed = ap length c.args.self.now.in_order in
+    let placed = ap length c.args.self.now.keeps_walk.in_order in
     omega (arith, c.len.ensures, c.args.self.now.row.blocks.ok, len_xs, few, placed)

@@ -1,6 +1,6 @@
 use Rattle.std.proofs.Common.{◌∙◌, sym, ap, length, arith}
 use Rattle.std.specs.Map.{lookup}
-use Rattle.rga_tree.proofs.Placing.{Keeps-nothing}
+use Rattle.rga_tree.proofs.Placing.{KeepsWalk-nothing}
 use Rattle.rga_sequence.specs.Blocks.{joined, seen}
 use Rattle.rga_sequence.specs.BlockRows.{items_of, numbers_of, home_of}
 use Rattle.rga_sequence.proofs.Homes.{id_eq}
@@ -11,13 +11,8 @@ invariant_of-result c =
     let e = c.new.ensures.items in
     let none = ap length e in
     let row = ap (λ bs. joined (items_of bs)) e in
-    let k = Keeps-nothing (joined (items_of c.new.result.items)) row in
     record {
-      in_order = k.in_order;
-      distinct = k.distinct;
-      tree = k.tree;
-      only_placed = k.only_placed;
-      well_formed = k.well_formed;
+      keeps_walk = KeepsWalk-nothing (joined (items_of c.new.result.items)) row;
       indexed = record {
         homes = λ q. ap (lookup (id_eq q)) c.new-3.ensures.empty ∙ sym (ap (λ bs. home_of (items_of bs) (numbers_of bs) q) e);
         places = λ p h. absurd (omega (arith, none, h));

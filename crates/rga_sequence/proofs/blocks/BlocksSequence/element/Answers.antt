@@ -1,7 +1,6 @@
 use Rattle.std.proofs.Common.{◌≡◌, ◌<◌, ◌∙◌, [], true, false, Bool, ap, sym, refl, length, get_or, arith}
 use Rattle.std.specs.Prelude.{slice_get}
 use Rattle.std.proofs.lemmas.List.{length-map}
-use Rattle.rga_tree.proofs.Placing.{Keeps}
 use Rattle.rga_tree.proofs.Seen.{element_row}
 use Rattle.rga_sequence.specs.declared.block.Block.{Block}
 use Rattle.rga_sequence.specs.Blocks.{offset}
@@ -15,13 +14,11 @@ use Rattle.rga_sequence.proofs.blocks.BlocksSequence.element.Goals as goal
 pub returns-in_err-b : goal.returns-in_err-b
 returns-in_err-b c =
     let row = elements_in c.args.self.now.row in
-    let keeps : Keeps row = record { in_order = c.args.self.now.in_order; distinct = c.args.self.now.distinct; tree = c.args.self.now.tree; only_placed = c.args.self.now.only_placed; well_formed = c.args.self.now.well_formed } in
-    c.from_residual.ensures ∙ sym (find_none c.args.id row c.in_err-b.ensures.absent) ∙ element_row row c.args.id keeps
+    c.from_residual.ensures ∙ sym (find_none c.args.id row c.in_err-b.ensures.absent) ∙ element_row row c.args.id c.args.self.now.keeps_walk
 
 pub returns : goal.returns
 returns c =
     let row = elements_in c.args.self.now.row in
-    let keeps : Keeps row = record { in_order = c.args.self.now.in_order; distinct = c.args.self.now.distinct; tree = c.args.self.now.tree; only_placed = c.args.self.now.only_placed; well_formed = c.args.self.now.well_formed } in
     let bs = c.args.self.now.row.blocks.items in
     let xs = items_of bs in
     let b = c.in_ok-b.b in
@@ -32,7 +29,7 @@ returns c =
     let place : offset xs b at ≡ until c.args.id row = c.in_ok-b.ensures.place in
     let stands : has c.args.id row ≡ true = by_test (has c.args.id row) refl (λ absent. omega (arith, until_none c.args.id row absent, place, offset_less xs b at there within)) in
     sym (element_is bs b at c.index.result.now c.index-2.result.now within c.index.ensures c.index-2.ensures) ∙ sym (slice_get_joined xs b at there within)
-    ∙ ap (slice_get row) place ∙ sym (find-until c.args.id row stands) ∙ element_row row c.args.id keeps where
+    ∙ ap (slice_get row) place ∙ sym (find-until c.args.id row stands) ∙ element_row row c.args.id c.args.self.now.keeps_walk where
       by_test : (b : Bool) → has c.args.id (elements_in c.args.self.now.row) ≡ b → (has c.args.id (elements_in c.args.self.now.row) ≡ false → ⊥) → has c.args.id (elements_in c.args.self.now.row) ≡ true
       by_test true is never = is
       by_test false is never = absurd (never is)

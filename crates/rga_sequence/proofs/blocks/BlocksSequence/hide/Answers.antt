@@ -4,7 +4,7 @@ use Rattle.bg_types.specs.declared.op.Place.TheVariants.{Root}
 use Rattle.rga_tree.specs.declared.element.Element.{Element}
 use Rattle.rga_tree.specs.Row.{operations_of}
 use Rattle.rga_tree.proofs.Hiding.{hiding}
-use Rattle.rga_tree.proofs.Placing.{Keeps}
+use Rattle.rga_tree.specs.KeepsWalk.{KeepsWalk}
 use Rattle.rga_tree.proofs.RowSets.{has_row}
 use Rattle.rga_sequence.specs.Indexed.{elements_in}
 use Rattle.rga_sequence.proofs.Members.{until, until_some}
@@ -17,21 +17,16 @@ hide-requires-clause-stands c = sym (has_row (elements_in c.args.self.now.row) c
 pub invariant_of-self : goal.invariant_of-self
 invariant_of-self c =
     let row = elements_in c.args.self.now.row in
-    let keeps : Keeps row = record { in_order = c.args.self.now.in_order; distinct = c.args.self.now.distinct; tree = c.args.self.now.tree; only_placed = c.args.self.now.only_placed; well_formed = c.args.self.now.well_formed } in
     let stands = sym (has_row row c.args.id) ∙ c.requires in
     let at = until c.args.id row in
     let none : Element = record { id = c.args.id; parent = Root; ch = 0; hidden = false } in
     let e = get_or row at none in
     let e_is : e ≡ get_or row at e = any_default row at none (until_some c.args.id row stands) in
-    let step = hiding row c.args.id at e keeps c.requires refl e_is in
+    let step = hiding row c.args.id at e c.args.self.now.keeps_walk c.requires refl e_is in
     let same : elements_in c.hide.new.row ≡ set row at (record e { hidden = true }) = c.hide.ensures.elements none in
-    let kept : Keeps (elements_in c.hide.new.row) = subst Keeps (sym same) step.0 in
+    let kept : KeepsWalk (elements_in c.hide.new.row) = subst KeepsWalk (sym same) step.0 in
     record {
-      in_order = kept.in_order;
-      distinct = kept.distinct;
-      tree = kept.tree;
-      only_placed = kept.only_placed;
-      well_formed = kept.well_formed;
+      keeps_walk = kept;
       indexed = c.hide.ensures.indexed;
       enough = c.hide.ensures.room c.args.self.now.room c.args.self.now.enough;
       placed_are = c.args.self.now.placed_are ∙ sym (ap length same ∙ length-set row at (record e { hidden = true }));
@@ -41,12 +36,11 @@ invariant_of-self c =
 pub returns-clause-content : goal.returns-clause-content
 returns-clause-content c =
     let row = elements_in c.args.self.now.row in
-    let keeps : Keeps row = record { in_order = c.args.self.now.in_order; distinct = c.args.self.now.distinct; tree = c.args.self.now.tree; only_placed = c.args.self.now.only_placed; well_formed = c.args.self.now.well_formed } in
     let stands = sym (has_row row c.args.id) ∙ c.requires in
     let at = until c.args.id row in
     let none : Element = record { id = c.args.id; parent = Root; ch = 0; hidden = false } in
     let e = get_or row at none in
     let e_is : e ≡ get_or row at e = any_default row at none (until_some c.args.id row stands) in
-    let step = hiding row c.args.id at e keeps c.requires refl e_is in
+    let step = hiding row c.args.id at e c.args.self.now.keeps_walk c.requires refl e_is in
     let same : elements_in c.hide.new.row ≡ set row at (record e { hidden = true }) = c.hide.ensures.elements none in
     ap operations_of same ∙ step.1

@@ -20,5 +20,5 @@ returns c =
     let there : b < length xs = omega (arith, len_xs, c.block_at-b.ensures.block, ap length same) in
     let within : at < length (get_or xs b []) = omega (arith, c.block_at-b.ensures.within, ap (λ d. length (get_or (items_of d) b [])) same) in
     let place : offset xs b at ≡ c.args.j = ap (λ d. offset (items_of d) b at) (sym same) ∙ c.block_at-b.ensures.place in
-    ap (λ r. slice_get r c.args.j) (sym c.args.self.now.in_order) ∙ ap (slice_get (elements_in c.args.self.now.row)) (sym place)
+    ap (λ r. slice_get r c.args.j) (sym c.args.self.now.keeps_walk.in_order) ∙ ap (slice_get (elements_in c.args.self.now.row)) (sym place)
     ∙ slice_get_joined xs b at there within ∙ element_is bs b at c.index.result.now c.index-2.result.now within c.index.ensures c.index-2.ensures

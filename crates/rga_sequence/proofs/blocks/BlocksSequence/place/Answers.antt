@@ -2,7 +2,7 @@ use Rattle.std.proofs.Common.{◌≡◌, ◌+◌, ◌-◌, ◌∙◌, sym, ap, s
 use Rattle.std.proofs.lemmas.List.Edits.{length-insert}
 use Rattle.rga_tree.specs.declared.element.Element.{Element}
 use Rattle.rga_tree.specs.Row.{place_of}
-use Rattle.rga_tree.proofs.Placing.{Keeps, placing, start_within}
+use Rattle.rga_tree.proofs.Placing.{placing, start_within}
 use Rattle.rga_tree.proofs.RowSets.{has_row}
 use Rattle.rga_sequence.specs.Blocks.{seen}
 use Rattle.rga_sequence.specs.Indexed.{elements_in, HasRoom}
@@ -31,20 +31,15 @@ overflow_add-self c =
 pub invariant_of-self : goal.invariant_of-self
 invariant_of-self c =
     let row = elements_in c.args.self.now.row in
-    let keeps : Keeps row = record { in_order = c.args.self.now.in_order; distinct = c.args.self.now.distinct; tree = c.args.self.now.tree; only_placed = c.args.self.now.only_placed; well_formed = c.args.self.now.well_formed } in
     let n : Element = record { id = c.args.id; parent = c.args.parent; ch = c.args.ch; hidden = c.args.hidden } in
     let start = start_within row c.args.parent c.requires.parent in
     let at = place_of c.args.parent c.args.id row in
-    let step = placing row (elements_in c.put.new.row) n at keeps c.requires.parent (c.counter-known.ensures.identifier, c.requires.before, c.ranges.ch.0) c.requires.new start refl c.put.ensures.elements in
+    let step = placing row (elements_in c.put.new.row) n at c.args.self.now.keeps_walk c.requires.parent (c.counter-known.ensures.identifier, c.requires.before, c.ranges.ch.0) c.requires.new start refl c.put.ensures.elements in
     let counted : c.args.self.now.visible + c.weight.result ≡ seen (elements_in c.put.new.row) =
     (λ i. c.args.self.now.visible_are i + c.weight.ensures i) ∙ sym (seen-insert row at n) ∙ ap seen (sym c.put.ensures.elements) in
     let some : c.args.self.now.room ≡ c.args.self.now.room - 1 + 1 = omega (arith, c.requires.room) in
     record {
-      in_order = step.0.in_order;
-      distinct = step.0.distinct;
-      tree = step.0.tree;
-      only_placed = step.0.only_placed;
-      well_formed = step.0.well_formed;
+      keeps_walk = step.0;
       indexed = c.put.ensures.indexed;
       enough = c.put.ensures.room (c.args.self.now.room - 1) (subst (HasRoom c.args.self.now.row) some c.args.self.now.enough);
       placed_are = c.len-self.ensures.len ∙ c.put.ensures.indexed.counted;
@@ -54,9 +49,8 @@ invariant_of-self c =
 pub returns-clause-content : goal.returns-clause-content
 returns-clause-content c =
     let row = elements_in c.args.self.now.row in
-    let keeps : Keeps row = record { in_order = c.args.self.now.in_order; distinct = c.args.self.now.distinct; tree = c.args.self.now.tree; only_placed = c.args.self.now.only_placed; well_formed = c.args.self.now.well_formed } in
     let n : Element = record { id = c.args.id; parent = c.args.parent; ch = c.args.ch; hidden = c.args.hidden } in
     let start = start_within row c.args.parent c.requires.parent in
     let at = place_of c.args.parent c.args.id row in
-    let step = placing row (elements_in c.put.new.row) n at keeps c.requires.parent (c.counter-known.ensures.identifier, c.requires.before, c.ranges.ch.0) c.requires.new start refl c.put.ensures.elements in
+    let step = placing row (elements_in c.put.new.row) n at c.args.self.now.keeps_walk c.requires.parent (c.counter-known.ensures.identifier, c.requires.before, c.ranges.ch.0) c.requires.new start refl c.put.ensures.elements in
     step.1

@@ -1,5 +1,5 @@
 use Rattle.std.proofs.Common.{◌≡◌, ◌+◌, ◌*◌, ◌∙◌, sym, ap, subst, length, arith}
-use Rattle.rga_tree.proofs.Placing.{Keeps}
+use Rattle.rga_tree.specs.KeepsWalk.{KeepsWalk}
 use Rattle.rga_sequence.specs.Blocks.{seen, joined}
 use Rattle.rga_sequence.specs.BlockRows.{items_of}
 use Rattle.rga_sequence.specs.Indexed.{elements_in, HasRoom}
@@ -8,15 +8,10 @@ use Rattle.rga_sequence.proofs.blocks.BlocksSequence.reserve.Goals as goal
 pub invariant_of-self : goal.invariant_of-self
 invariant_of-self c =
     let row = elements_in c.args.self.now.row in
-    let keeps : Keeps row = record { in_order = c.args.self.now.in_order; distinct = c.args.self.now.distinct; tree = c.args.self.now.tree; only_placed = c.args.self.now.only_placed; well_formed = c.args.self.now.well_formed } in
     let same : elements_in c.make_memory.new.row ≡ row = ap (λ bs. joined (items_of bs)) c.make_memory.ensures.blocks in
-    let kept : Keeps (elements_in c.make_memory.new.row) = subst Keeps (sym same) keeps in
+    let kept : KeepsWalk (elements_in c.make_memory.new.row) = subst KeepsWalk (sym same) c.args.self.now.keeps_walk in
     record {
-      in_order = kept.in_order;
-      distinct = kept.distinct;
-      tree = kept.tree;
-      only_placed = kept.only_placed;
-      well_formed = kept.well_formed;
+      keeps_walk = kept;
       indexed = c.make_memory.ensures.indexed;
       enough = c.make_memory.ensures.kept c.args.self.now.room c.args.self.now.enough;
       placed_are = c.args.self.now.placed_are ∙ sym (ap length same);
@@ -26,16 +21,11 @@ invariant_of-self c =
 pub invariant_of-self-2 : goal.invariant_of-self-2
 invariant_of-self-2 c =
     let row = elements_in c.args.self.now.row in
-    let keeps : Keeps row = record { in_order = c.args.self.now.in_order; distinct = c.args.self.now.distinct; tree = c.args.self.now.tree; only_placed = c.args.self.now.only_placed; well_formed = c.args.self.now.well_formed } in
     let same : elements_in c.make_memory.new.row ≡ row = ap (λ bs. joined (items_of bs)) c.make_memory.ensures.blocks in
-    let kept : Keeps (elements_in c.make_memory.new.row) = subst Keeps (sym same) keeps in
+    let kept : KeepsWalk (elements_in c.make_memory.new.row) = subst KeepsWalk (sym same) c.args.self.now.keeps_walk in
     let swap : c.args.self.now.room + 256 * c.div_ceil-more.result ≡ c.args.self.now.room + c.div_ceil-more.result * 256 = omega arith in
     record {
-      in_order = kept.in_order;
-      distinct = kept.distinct;
-      tree = kept.tree;
-      only_placed = kept.only_placed;
-      well_formed = kept.well_formed;
+      keeps_walk = kept;
       indexed = c.make_memory.ensures.indexed;
       enough = subst (HasRoom c.make_memory.new.row) swap (c.in_ok-make_memory.ensures.ok c.args.self.now.room c.args.self.now.enough (omega arith));
       placed_are = c.args.self.now.placed_are ∙ sym (ap length same);
