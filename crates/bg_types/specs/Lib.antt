@@ -3,3 +3,4 @@ pub mod WellFormed
 pub mod OperationSet
 pub mod Sink
 pub mod Classes
+pub mod Hashing

@@ -1,9 +1,11 @@
-//! Identifiers and operations of a replicated text, character classes, and where bytes go.
+//! Identifiers and operations of a replicated text, how tables hash them, character classes, and where
+//! bytes go.
 #![tactic(auto)]
 
 mod class;
 mod fault;
 mod id;
+mod keyed;
 pub mod laws;
 mod op;
 mod out;
@@ -13,6 +15,7 @@ mod stops;
 pub use class::{Base, Bidi, Ea, Lb};
 pub use fault::{Device, Memory};
 pub use id::Id;
+pub use keyed::{Keyed, KeyedHasher};
 pub use op::{Op, OpView, Place};
 pub use out::Out;
 pub use sink::{Sink, put_all};

@@ -9,7 +9,8 @@ use crate::sink::Sink;
 /// the put after it has taken all `left` bytes.
 #[derive(Drop)]
 pub struct Stops<S> {
-    sink: S,
+    /// The sink that it writes to.
+    pub sink: S,
     /// The greatest number of bytes that one put takes.
     pub piece: usize,
     /// How many bytes it still takes.
@@ -54,6 +55,8 @@ impl<S: Sink> Sink for Stops<S> {
         ensures failed { ⟦<Stops<S> as Sink>⟧.has_failed self.new ≡ is_none result }
         ensures counted { IfSome result (λ n. (n ≤ self.old.piece) × (self.new.left + n ≡ self.old.left)) }
         ensures piece { self.new.piece ≡ self.old.piece }
+        // It fails only where nothing is left, or where the sink that it writes to fails.
+        ensures used_up { IfNone result ((self.old.left ≡ 0) ⊎ (S.has_failed self.new.sink ≡ true)) }
     {
         if self.left == 0 {
             self.stopped = true;

@@ -3,4 +3,3 @@ pub mod Below
 pub mod Releasing
 pub mod Code
 pub mod Chains
-pub mod Hashing

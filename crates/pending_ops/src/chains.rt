@@ -11,8 +11,7 @@ ghost use Rattle.pending_ops.specs.declared.chains.Slot.{Slot};
 ghost use Rattle.pending_ops.specs.Waiting.{is_after};
 ghost use Rattle.pending_ops.specs.Chains.{AreLinked, Links, first_in, is_in, slot_in};
 
-use crate::keyed::Keyed;
-use bg_types::{Id, Memory, Op, Place};
+use bg_types::{Id, Keyed, Memory, Op, Place};
 use indexmap::{IndexMap, IndexSet};
 
 /// A table by identifier. Its memory can be paid in advance, and a removal gives none back.

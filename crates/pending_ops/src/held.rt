@@ -19,8 +19,7 @@ ghost use Rattle.pending_ops.specs.declared.chains.Slot.{Slot};
 use crate::chains::{
     Names, Slot, Table, append_chain, first_of, first_ready, insertion_in, link, unlink,
 };
-use crate::keyed::Keyed;
-use bg_types::{Id, Memory, Op, OpView, Place};
+use bg_types::{Id, Keyed, Memory, Op, OpView, Place};
 use indexmap::{IndexMap, IndexSet};
 use std::alloc::Global;
 use std::marker::Model;

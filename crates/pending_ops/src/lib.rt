@@ -3,7 +3,6 @@
 
 mod chains;
 mod held;
-mod keyed;
 pub mod laws;
 
 pub use held::Held;

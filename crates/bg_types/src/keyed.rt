@@ -1,7 +1,7 @@
-//! The hasher of the tables, with a key for each store.
+//! The hasher of tables by identifier, with a key.
 
 ghost use Rattle.std.specs.Prelude.{◌≡◌, ◌+◌, ◌*◌, ◌/◌, ◌%◌, ◌^◌, ◌<◌, get_or};
-ghost use Rattle.pending_ops.specs.Hashing.{word};
+ghost use Rattle.bg_types.specs.Hashing.{word, keyed};
 
 use std::hash::{BuildHasher, Hasher};
 
@@ -17,17 +17,16 @@ const NEXT: u64 = 0x2545_f491_4f6c_dd1d;
 /// that no choice of identifiers makes the calls slow.
 #[derive(Clone, Copy)]
 pub struct Keyed {
-    start: Sum,
+    start: KeyedHasher,
 }
 
 impl Keyed {
+    /// The hasher with this key.
     pub fn new(key: u128) -> Keyed
-        ensures sum { result.start.sum ≡ 0 }
-        ensures first { result.start.factor ≡ (key % 2 ^ 64 + 0x9e37_79b9_7f4a_7c15) % 2 ^ 64 }
-        ensures next { result.start.next ≡ (key / 2 ^ 64 + 0x2545_f491_4f6c_dd1d) % 2 ^ 64 }
+        ensures { result ≡ keyed key }
     {
         Keyed {
-            start: Sum {
+            start: KeyedHasher {
                 sum: 0,
                 factor: ((key % WORD) as u64).wrapping_add(FIRST),
                 next: ((key / WORD) as u64).wrapping_add(NEXT),
@@ -37,11 +36,11 @@ impl Keyed {
 }
 
 impl BuildHasher for Keyed {
-    type Hasher = Sum;
+    type Hasher = KeyedHasher;
 
-    ghost build_hasher = { λ keyed. keyed.start };
+    ghost build_hasher = { λ k. k.start };
 
-    fn build_hasher(&self) -> Sum {
+    fn build_hasher(&self) -> KeyedHasher {
         self.start
     }
 }
@@ -49,14 +48,14 @@ impl BuildHasher for Keyed {
 /// The sum of the numbers that were written, each times its factor. An identifier writes two: its
 /// counter and its site.
 #[derive(Clone, Copy)]
-pub struct Sum {
+pub struct KeyedHasher {
     sum: u64,
     factor: u64,
     /// The factor of each number behind the first.
     next: u64,
 }
 
-impl Hasher for Sum {
+impl Hasher for KeyedHasher {
     ghost write = { λ h bytes. record { sum = (h.sum + h.factor * word bytes % 2 ^ 64) % 2 ^ 64; factor = h.next; next = h.next } };
 
     ghost finish = { λ h. h.sum / 2 ^ 32 };
