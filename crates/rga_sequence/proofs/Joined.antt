@@ -1,7 +1,7 @@
 -- Blocks joined to a row.
-use Rattle.std.proofs.Common.{◌≡◌, ℕ, zero, suc, ◌<◌, ◌≤◌, ◌+◌, ◌-◌, List, [], ◌∷◌, ◌++◌, length, take, drop, get_or, refl, sym, ap, ◌∙◌, zero-add, length-append, append_assoc, arith}
+use Rattle.std.proofs.Common.{◌≡◌, ℕ, zero, suc, ◌<◌, ◌≤◌, ◌+◌, ◌-◌, List, [], ◌∷◌, ◌++◌, length, take, drop, get_or, refl, sym, ap, ◌∙◌, zero-add, length-append, append_assoc, length-drop, length-take-le, arith}
 use Rattle.std.specs.Prelude.{insert, set}
-use Rattle.std.proofs.lemmas.List.{drop-append-le, drop-drop, drop_at}
+use Rattle.std.proofs.lemmas.List.{drop-append-le, drop-drop, drop_at, take-append-drop}
 use Rattle.std.proofs.lemmas.List.Edits.{insert-append_left, insert-append_right}
 use Rattle.rga_tree.specs.declared.element.Element.{Element}
 use Rattle.rga_sequence.specs.Blocks.{joined, offset}
@@ -94,3 +94,31 @@ pub offset_within : (xs : List (List Element)) (q at : ℕ) → q < length xs �
 offset_within [] q at there within = absurd (omega arith)
 offset_within (x ∷ xs) zero at there within = omega (arith, length-append x (joined xs))
 offset_within (x ∷ xs) (suc q) at there within = omega (arith, offset_within xs q at (omega arith) within, length-append x (joined xs), length-append x (joined (take q xs)))
+
+-- what the row is where a full block stands in two halves
+pub record IsHalved (xs ys : List (List Element)) (q : ℕ) : Type 0 where
+  pub low : length (get_or ys q []) ≡ 256
+  pub high : length (get_or ys (q + 1) []) ≡ 256
+  pub longer : length ys ≡ length xs + 1
+  pub same : joined ys ≡ joined xs
+  pub place_low : (at : ℕ) → offset ys q at ≡ offset xs q at
+  pub place_high : (at : ℕ) → 256 ≤ at → offset ys (q + 1) (at - 256) ≡ offset xs q at
+
+pub halved : (xs ys : List (List Element)) (q : ℕ) → q < length xs → length (get_or xs q []) ≡ 512
+    → ys ≡ insert (set xs q (take 256 (get_or xs q []))) (q + 1) (drop 256 (get_or xs q [])) → IsHalved xs ys q
+halved xs ys q there full is =
+    let x = get_or xs q [] in
+    let low = take 256 x in
+    let high = drop 256 x in
+    let few : length low ≡ 256 = length-take-le 256 x (omega (arith, full)) in
+    let rest : length high ≡ 256 = omega (arith, length-drop 256 x, full) in
+    record {
+      low = ap (λ r. length (get_or r q [])) is ∙ ap length (split_low xs q low high there) ∙ few;
+      high = ap (λ r. length (get_or r (q + 1) [])) is ∙ ap length (split_high xs q low high there) ∙ rest;
+      longer = ap length is ∙ split_long xs q low high there;
+      same = ap joined is ∙ split_joined xs q low high there (sym (take-append-drop 256 x));
+      place_low = λ at. ap (λ r. offset r q at) is ∙ offset_low xs q at low high there;
+      place_high = λ at more.
+          let sum : length low + (at - 256) ≡ at = omega (arith, few, more) in
+          ap (λ r. offset r (q + 1) (at - 256)) is ∙ offset_high xs q (at - 256) low high there ∙ ap (offset xs q) sum;
+    }

@@ -1,9 +1,15 @@
 -- The numbers of blocks.
 use Rattle.std.proofs.Common.{◌≡◌, ℕ, zero, suc, ◌<◌, List, [], ◌∷◌, ◌++◌, length, take, drop, get_or, refl, sym, ap, ◌∙◌, arith}
 use Rattle.std.specs.Prelude.{insert, set}
-use Rattle.std.proofs.lemmas.List.{drop-map, map-append, take-map}
+use Rattle.std.proofs.lemmas.List.{length-map, drop-map, map-append, take-map}
 use Rattle.rga_sequence.specs.declared.block.Block.{Block}
 use Rattle.rga_sequence.specs.BlockRows.{items_of, numbers_of}
+
+pub length-items : (bs : List Block) → length (items_of bs) ≡ length bs
+length-items bs = length-map bs (λ b. b.elements.items)
+
+pub length-numbers : (bs : List Block) → length (numbers_of bs) ≡ length bs
+length-numbers bs = length-map bs (λ b. b.number)
 
 -- a block that keeps its number
 pub numbers-set : (bs : List Block) (q : ℕ) (d new : Block) → q < length bs → new.number ≡ (get_or bs q d).number → numbers_of (set bs q new) ≡ numbers_of bs

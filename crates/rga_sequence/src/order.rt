@@ -9,6 +9,15 @@ use crate::block::Block;
 use bg_types::{Id, Place};
 use rga_tree::Element;
 
+/// How many elements block q has.
+pub fn count_in(blocks: &[Block], q: usize) -> usize
+    requires { q < length blocks.now }
+    ensures count { result ≡ length (get_or (items_of blocks.now) q []) }
+    ensures most { result ≤ 512 }
+{
+    blocks[q].elements.len()
+}
+
 /// Puts an element into block q, which has room.
 pub fn put_at(
     blocks: &mut Vec<Block>,

@@ -11,7 +11,7 @@ ghost use Rattle.rga_sequence.specs.Indexed.{blocks_in, elements_in, IsIndexed, 
 
 use crate::block::{Block, FULL, HALF, Spare};
 use crate::index::{rehome, renumber};
-use crate::order::{hide_at, put_at, split_at};
+use crate::order::{count_in, hide_at, put_at, split_at};
 use crate::skip::place_from;
 use bg_types::{Id, Memory, Place};
 use rga_tree::Element;
@@ -134,7 +134,7 @@ fn make_room(row: &mut Row, q: usize, at: usize) -> (usize, usize)
     ensures indexed { IsIndexed ⟦<Id as Eq>⟧.eq row.new }
     ensures room { (n : ℕ) → HasRoom row.old n → HasRoom row.new n }
 {
-    if row.blocks[q].elements.len() < FULL {
+    if count_in(&row.blocks, q) < FULL {
         return (q, at);
     }
     split(row, q);

@@ -1,11 +1,11 @@
 use Rattle.std.proofs.Common.{◌≡◌, ◌+◌, ◌-◌, [], suc, ap, length, take, get_or, arith}
-use Rattle.std.proofs.lemmas.List.{length-map}
 use Rattle.rga_sequence.specs.declared.block.Block.{Block}
 use Rattle.rga_sequence.specs.Blocks.{joined, offset}
 use Rattle.rga_sequence.specs.BlockRows.{items_of}
 use Rattle.rga_sequence.proofs.Joined.{joined-suc}
 use Rattle.rga_sequence.proofs.Passing.{items_there}
 use Rattle.rga_sequence.proofs.Spots.{more_blocks}
+use Rattle.rga_sequence.proofs.Numbers.{length-items}
 use Rattle.rga_sequence.proofs.row.block_at.Goals as goal
 
 pub loop-left-preserved : goal.loop-left-preserved
@@ -14,7 +14,7 @@ loop-left-preserved c =
     let xs = items_of bs in
     let i = c.loop-left.invariant in
     let b = c.loop-left.b in
-    let len_xs : length xs ≡ length bs = length-map bs (λ (b : Block). b.elements.items) in
+    let len_xs : length xs ≡ length bs = length-items bs in
     let s : b + 1 ≡ suc b = omega arith in
     let here = items_there bs b c.index-blocks-b.result i.there in
     let again = items_there bs b c.index-blocks-b-in-loop-left.result i.there in

@@ -1,10 +1,8 @@
 use Rattle.std.proofs.Common.{◌≡◌, ◌<◌, ◌∙◌, [], true, false, sym, ap, subst, length, get_or, length-set, arith}
 use Rattle.std.specs.Prelude.{set, slice_get}
-use Rattle.std.proofs.lemmas.List.{length-map}
 use Rattle.bg_types.specs.Identifier.{same_id}
 use Rattle.bg_types.specs.declared.op.Place.TheVariants.{Root}
 use Rattle.rga_tree.specs.declared.element.Element.{Element}
-use Rattle.rga_sequence.specs.declared.block.Block.{Block}
 use Rattle.rga_sequence.specs.Blocks.{seen, joined, offset}
 use Rattle.rga_sequence.specs.BlockRows.{items_of, numbers_of, home_of, AreHalfFull}
 use Rattle.rga_sequence.proofs.Halves.{AreHalfFull-set}
@@ -12,41 +10,21 @@ use Rattle.rga_sequence.proofs.Members.{until}
 use Rattle.rga_sequence.proofs.Put.{home_kept}
 use Rattle.rga_sequence.proofs.Shown.{hidden_at, any-hide}
 use Rattle.rga_sequence.proofs.Spots.{get_or_joined, set_joined, there_set, seen_set}
+use Rattle.rga_sequence.proofs.Numbers.{length-items}
 use Rattle.rga_sequence.proofs.row.hide.Goals as goal
 
-pub returns-clause-elements : goal.returns-clause-elements
-returns-clause-elements c = λ d.
-    let bs = c.args.row.now.blocks.items in
-    let xs = items_of bs in
-    let ns = numbers_of bs in
-    let len_xs : length xs ≡ length bs = length-map bs (λ (b : Block). b.elements.items) in
+pub returns : goal.returns
+returns c =
+    let bs = c.args.row.now.blocks in
+    let xs = items_of bs.items in
+    let ns = numbers_of bs.items in
+    let len_xs : length xs ≡ length bs.items = length-items bs.items in
     let p = c.unwrap-p.result.0 in
     let j = c.unwrap-p.result.1 in
     let x = get_or xs p [] in
-    let there : p < length xs = let h = rw c.unwrap-p.ensures at c.spot.ensures.block in omega (arith, h, len_xs, c.args.row.now.blocks.ok) in
+    let there : p < length xs = let h = rw c.unwrap-p.ensures at c.spot.ensures.block in omega (arith, h, len_xs, bs.ok) in
     let within : j < length x = rw c.unwrap-p.ensures at c.spot.ensures.within in
-    let none : Element = record { id = c.args.id; parent = Root; ch = 0; hidden = false } in
-    let y = set x j (hidden_at x j none) in
-    let items : items_of c.hide_at.new.blocks.items ≡ set xs p y = c.hide_at.ensures.items none in
-    let as_long : length y ≡ length x = length-set x j (hidden_at x j none) in
-    let long : length (joined (items_of c.hide_at.new.blocks.items)) ≡ length (joined xs) =
-    ap length (ap joined items ∙ set_joined xs p j (hidden_at x j none) there within) ∙ length-set (joined xs) (offset xs p j) (hidden_at x j none) in
     let place : offset xs p j ≡ until c.args.id (joined xs) = rw c.unwrap-p.ensures at c.spot.ensures.place in
-    ap joined (c.hide_at.ensures.items d) ∙ set_joined xs p j (hidden_at x j d) there within
-    ∙ ap (λ (e : Element). set (joined xs) (offset xs p j) (record e { hidden = true })) (sym (get_or_joined xs p j d there within))
-    ∙ ap (λ n. set (joined xs) n (hidden_at (joined xs) n d)) place
-
-pub returns-clause-seen : goal.returns-clause-seen
-returns-clause-seen c =
-    let bs = c.args.row.now.blocks.items in
-    let xs = items_of bs in
-    let ns = numbers_of bs in
-    let len_xs : length xs ≡ length bs = length-map bs (λ (b : Block). b.elements.items) in
-    let p = c.unwrap-p.result.0 in
-    let j = c.unwrap-p.result.1 in
-    let x = get_or xs p [] in
-    let there : p < length xs = let h = rw c.unwrap-p.ensures at c.spot.ensures.block in omega (arith, h, len_xs, c.args.row.now.blocks.ok) in
-    let within : j < length x = rw c.unwrap-p.ensures at c.spot.ensures.within in
     let none : Element = record { id = c.args.id; parent = Root; ch = 0; hidden = false } in
     let y = set x j (hidden_at x j none) in
     let items : items_of c.hide_at.new.blocks.items ≡ set xs p y = c.hide_at.ensures.items none in
@@ -54,54 +32,23 @@ returns-clause-seen c =
     let long : length (joined (items_of c.hide_at.new.blocks.items)) ≡ length (joined xs) =
     ap length (ap joined items ∙ set_joined xs p j (hidden_at x j none) there within) ∙ length-set (joined xs) (offset xs p j) (hidden_at x j none) in
     let now = ap (λ r. seen (get_or r p [])) items ∙ ap seen (there_set xs p y there) in
-    omega (arith, c.hide_at.ensures.seen, now, ap (λ r. seen (joined r)) items, seen_set xs p y there)
-
-pub returns-clause-indexed : goal.returns-clause-indexed
-returns-clause-indexed c =
-    let bs = c.args.row.now.blocks.items in
-    let xs = items_of bs in
-    let ns = numbers_of bs in
-    let len_xs : length xs ≡ length bs = length-map bs (λ (b : Block). b.elements.items) in
-    let p = c.unwrap-p.result.0 in
-    let j = c.unwrap-p.result.1 in
-    let x = get_or xs p [] in
-    let there : p < length xs = let h = rw c.unwrap-p.ensures at c.spot.ensures.block in omega (arith, h, len_xs, c.args.row.now.blocks.ok) in
-    let within : j < length x = rw c.unwrap-p.ensures at c.spot.ensures.within in
-    let none : Element = record { id = c.args.id; parent = Root; ch = 0; hidden = false } in
-    let y = set x j (hidden_at x j none) in
-    let items : items_of c.hide_at.new.blocks.items ≡ set xs p y = c.hide_at.ensures.items none in
-    let as_long : length y ≡ length x = length-set x j (hidden_at x j none) in
-    let long : length (joined (items_of c.hide_at.new.blocks.items)) ≡ length (joined xs) =
-    ap length (ap joined items ∙ set_joined xs p j (hidden_at x j none) there within) ∙ length-set (joined xs) (offset xs p j) (hidden_at x j none) in
     record {
-      homes = λ k. c.requires.indexed.homes k ∙ sym (home_kept xs ns p y k (λ m. any-hide (same_id m) x j none) there) ∙ (λ i. home_of (sym items i) (sym c.hide_at.ensures.numbers i) k);
-      places = λ k less. ap (λ r. slice_get c.args.row.now.places.items (get_or r k 0)) c.hide_at.ensures.numbers
-          ∙ c.requires.indexed.places k (omega (arith, less, c.hide_at.ensures.len, c.hide_at.new.blocks.ok, c.args.row.now.blocks.ok));
-      as_many = omega (arith, c.hide_at.ensures.len, c.requires.indexed.as_many);
-      counted = c.requires.indexed.counted ∙ sym long;
-      halves = subst AreHalfFull (sym items) (AreHalfFull-set xs p y c.requires.indexed.halves (omega (arith, as_long)));
-    }
-
-pub returns-clause-room : goal.returns-clause-room
-returns-clause-room c = λ n room.
-    let bs = c.args.row.now.blocks.items in
-    let xs = items_of bs in
-    let ns = numbers_of bs in
-    let len_xs : length xs ≡ length bs = length-map bs (λ (b : Block). b.elements.items) in
-    let p = c.unwrap-p.result.0 in
-    let j = c.unwrap-p.result.1 in
-    let x = get_or xs p [] in
-    let there : p < length xs = let h = rw c.unwrap-p.ensures at c.spot.ensures.block in omega (arith, h, len_xs, c.args.row.now.blocks.ok) in
-    let within : j < length x = rw c.unwrap-p.ensures at c.spot.ensures.within in
-    let none : Element = record { id = c.args.id; parent = Root; ch = 0; hidden = false } in
-    let y = set x j (hidden_at x j none) in
-    let items : items_of c.hide_at.new.blocks.items ≡ set xs p y = c.hide_at.ensures.items none in
-    let as_long : length y ≡ length x = length-set x j (hidden_at x j none) in
-    let long : length (joined (items_of c.hide_at.new.blocks.items)) ≡ length (joined xs) =
-    ap length (ap joined items ∙ set_joined xs p j (hidden_at x j none) there within) ∙ length-set (joined xs) (offset xs p j) (hidden_at x j none) in
-    record {
-      paid = omega (arith, room.paid, long, c.hide_at.ensures.len);
-      index = room.index;
-      blocks = omega (arith, room.blocks, c.hide_at.ensures.len, c.hide_at.ensures.capacity);
-      places = omega (arith, room.places, c.hide_at.ensures.len);
+      elements = λ d. ap joined (c.hide_at.ensures.items d) ∙ set_joined xs p j (hidden_at x j d) there within
+          ∙ ap (λ (e : Element). set (joined xs) (offset xs p j) (record e { hidden = true })) (sym (get_or_joined xs p j d there within))
+          ∙ ap (λ n. set (joined xs) n (hidden_at (joined xs) n d)) place;
+      seen = omega (arith, c.hide_at.ensures.seen, now, ap (λ r. seen (joined r)) items, seen_set xs p y there);
+      indexed = record {
+        homes = λ k. c.requires.indexed.homes k ∙ sym (home_kept xs ns p y k (λ m. any-hide (same_id m) x j none) there) ∙ (λ i. home_of (sym items i) (sym c.hide_at.ensures.numbers i) k);
+        places = λ k less. ap (λ r. slice_get c.args.row.now.places.items (get_or r k 0)) c.hide_at.ensures.numbers
+            ∙ c.requires.indexed.places k (omega (arith, less, c.hide_at.ensures.len, c.hide_at.new.blocks.ok, bs.ok));
+        as_many = omega (arith, c.hide_at.ensures.len, c.requires.indexed.as_many);
+        counted = c.requires.indexed.counted ∙ sym long;
+        halves = subst AreHalfFull (sym items) (AreHalfFull-set xs p y c.requires.indexed.halves (omega (arith, as_long)));
+      };
+      room = λ n room. record {
+        paid = omega (arith, room.paid, long, c.hide_at.ensures.len);
+        index = room.index;
+        blocks = omega (arith, room.blocks, c.hide_at.ensures.len, c.hide_at.ensures.capacity);
+        places = omega (arith, room.places, c.hide_at.ensures.len);
+      };
     }

@@ -11,18 +11,8 @@ use Rattle.rga_sequence.proofs.Homes.{id_eq, put_home, or_false}
 use Rattle.rga_sequence.proofs.Numbers.{length_none}
 use Rattle.rga_sequence.proofs.row.put_first.Goals as goal
 
-pub returns-clause-elements : goal.returns-clause-elements
-returns-clause-elements c =
-    let e : Element = record { id = c.args.id; parent = c.args.parent; ch = c.args.ch; hidden = c.args.hidden } in
-    let none : c.args.row.now.blocks.items ≡ [] = length_none c.args.row.now.blocks.items (omega (arith, c.requires.none, c.args.row.now.blocks.ok)) in
-    let block = c.lone-block.result in
-    let ok : is_ok c.push.result ≡ true = ap is_ok c.unwrap.ensures in
-    let blocks : c.push.new.self.items ≡ block ∷ [] = c.push.ensures.items ∙ (λ i. cond (ok i) (none i ++ block ∷ []) (none i)) in
-    let items : items_of c.push.new.self.items ≡ (e ∷ []) ∷ [] = ap items_of blocks ∙ ap (λ r. r ∷ []) c.lone-block.ensures.items in
-    ap joined items
-
-pub returns-clause-indexed : goal.returns-clause-indexed
-returns-clause-indexed c =
+pub returns : goal.returns
+returns c =
     let e : Element = record { id = c.args.id; parent = c.args.parent; ch = c.args.ch; hidden = c.args.hidden } in
     let none : c.args.row.now.blocks.items ≡ [] = length_none c.args.row.now.blocks.items (omega (arith, c.requires.none, c.args.row.now.blocks.ok)) in
     let block = c.lone-block.result in
@@ -39,33 +29,27 @@ returns-clause-indexed c =
     let gone : (k : _) → get id_eq c.args.row.now.index k ≡ None = λ k. c.requires.indexed.homes k ∙ ap (λ (bs : List Block). home_of (items_of bs) (numbers_of bs) k) none in
     let new_one : is_some c.unwrap-3.result ≡ false = ap is_some (old ∙ gone c.args.id) in
     let empty : hash_map_len c.args.row.now.index ≡ 0 = c.requires.indexed.counted ∙ ap (λ (bs : List Block). length (joined (items_of bs))) none in
+    let fewer : vec_len c.pop.new.self + 1 ≡ vec_len c.args.row.now.spares = omega (arith, c.pop.ensures.len, ap (λ o. length (option_to_list o)) c.unwrap-elements.ensures) in
+    let before = ap (λ (bs : List Block). length (joined (items_of bs))) none in
+    let after = ap (λ xs. length (joined xs)) items in
+    let one : vec_len c.push.new.self ≡ 1 = omega (arith, ap length blocks, c.push.new.self.ok) in
     record {
-      homes = λ k. updates.0 k ∙ put_home c.args.id k 0 (get id_eq c.args.row.now.index k) ∙ ap (cond (same_id k c.args.id) (Some 0)) (gone k)
-          ∙ ap (λ b. cond b (Some 0) None) (sym (or_false (same_id k c.args.id))) ∙ (λ i. home_of (sym items i) (sym numbers i) k);
-      places = λ p less. (λ i. slice_get (places i) (get_or (numbers i) p 0)) ∙ lone p (omega (arith, less, ap length blocks));
-      as_many = omega (arith, ap length places, ap length blocks, c.push.new.self.ok, c.push-2.new.self.ok);
-      counted = len ∙ (λ i. empty i + cond (new_one i) 0 1) ∙ ap (λ xs. length (joined xs)) (sym items);
-      halves = subst AreHalfFull (sym items) (λ many. absurd (omega (arith, many)));
+      elements = ap joined items;
+      indexed = record {
+        homes = λ k. updates.0 k ∙ put_home c.args.id k 0 (get id_eq c.args.row.now.index k) ∙ ap (cond (same_id k c.args.id) (Some 0)) (gone k)
+            ∙ ap (λ b. cond b (Some 0) None) (sym (or_false (same_id k c.args.id))) ∙ (λ i. home_of (sym items i) (sym numbers i) k);
+        places = λ p less. (λ i. slice_get (places i) (get_or (numbers i) p 0)) ∙ lone p (omega (arith, less, ap length blocks));
+        as_many = omega (arith, ap length places, ap length blocks, c.push.new.self.ok, c.push-2.new.self.ok);
+        counted = len ∙ (λ i. empty i + cond (new_one i) 0 1) ∙ ap (λ xs. length (joined xs)) (sym items);
+        halves = subst AreHalfFull (sym items) (λ many. absurd (omega (arith, many)));
+      };
+      room = λ n room. record {
+        paid = omega (arith, room.paid, before, after, one, fewer, c.requires.none);
+        index = omega (arith, room.index, c.insert-kept.ensures.spare);
+        blocks = omega (arith, room.blocks, c.push.ensures.capacity, one, fewer, c.requires.none);
+        places = omega (arith, room.places, c.push-2.ensures.capacity, one, fewer, c.requires.none);
+      };
     } where
       lone : (p : ℕ) → p < 1 → slice_get (0 ∷ []) (get_or (0 ∷ []) p 0) ≡ Some p
       lone zero h = refl
       lone (suc p) h = absurd (omega arith)
-
-pub returns-clause-room : goal.returns-clause-room
-returns-clause-room c = λ n room.
-    let e : Element = record { id = c.args.id; parent = c.args.parent; ch = c.args.ch; hidden = c.args.hidden } in
-    let none : c.args.row.now.blocks.items ≡ [] = length_none c.args.row.now.blocks.items (omega (arith, c.requires.none, c.args.row.now.blocks.ok)) in
-    let block = c.lone-block.result in
-    let ok : is_ok c.push.result ≡ true = ap is_ok c.unwrap.ensures in
-    let blocks : c.push.new.self.items ≡ block ∷ [] = c.push.ensures.items ∙ (λ i. cond (ok i) (none i ++ block ∷ []) (none i)) in
-    let items : items_of c.push.new.self.items ≡ (e ∷ []) ∷ [] = ap items_of blocks ∙ ap (λ r. r ∷ []) c.lone-block.ensures.items in
-    let fewer : vec_len c.pop.new.self + 1 ≡ vec_len c.args.row.now.spares = omega (arith, c.pop.ensures.len, ap (λ o. length (option_to_list o)) c.unwrap-elements.ensures) in
-    let before = ap (λ (bs : List Block). length (joined (items_of bs))) none in
-    let after = ap (λ xs. length (joined xs)) items in
-    let lone : vec_len c.push.new.self ≡ 1 = omega (arith, ap length blocks, c.push.new.self.ok) in
-    record {
-      paid = omega (arith, room.paid, before, after, lone, fewer, c.requires.none);
-      index = omega (arith, room.index, c.insert-kept.ensures.spare);
-      blocks = omega (arith, room.blocks, c.push.ensures.capacity, lone, fewer, c.requires.none);
-      places = omega (arith, room.places, c.push-2.ensures.capacity, lone, fewer, c.requires.none);
-    }

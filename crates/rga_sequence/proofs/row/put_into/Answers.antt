@@ -2,7 +2,6 @@ use Rattle.std.proofs.Common.{◌≡◌, ◌<◌, ◌+◌, ◌∙◌, [], Some, 
 use Rattle.std.specs.Prelude.{insert, slice_get, is_some}
 use Rattle.std.specs.HashMap.{get, hash_map_len}
 use Rattle.bg_types.specs.Identifier.{same_id}
-use Rattle.std.proofs.lemmas.List.{length-map}
 use Rattle.std.proofs.lemmas.List.Edits.{length-insert}
 use Rattle.rga_tree.specs.declared.element.Element.{Element}
 use Rattle.rga_sequence.specs.declared.block.Block.{Block}
@@ -12,36 +11,20 @@ use Rattle.rga_sequence.proofs.Halves.{AreHalfFull-set}
 use Rattle.rga_sequence.proofs.Homes.{id_eq, put_home}
 use Rattle.rga_sequence.proofs.Joined.{insert_joined, offset_within}
 use Rattle.rga_sequence.proofs.Members.{is_some-home}
-use Rattle.rga_sequence.proofs.Numbers.{number_there}
+use Rattle.rga_sequence.proofs.Numbers.{length-items, length-numbers, number_there}
 use Rattle.rga_sequence.proofs.Put.{home_put}
 use Rattle.rga_sequence.proofs.row.put_into.Goals as goal
 
-pub returns-clause-elements : goal.returns-clause-elements
-returns-clause-elements c =
+pub returns : goal.returns
+returns c =
     let bs = c.args.row.now.blocks.items in
     let xs = items_of bs in
     let ns = numbers_of bs in
     let q = c.args.q in
     let x = get_or xs q [] in
     let n : Element = record { id = c.args.id; parent = c.args.parent; ch = c.args.ch; hidden = c.args.hidden } in
-    let len_xs : length xs ≡ length bs = length-map bs (λ (b : Block). b.elements.items) in
-    let len_ns : length ns ≡ length bs = length-map bs (λ (b : Block). b.number) in
-    let there : q < length xs = omega (arith, len_xs, c.args.row.now.blocks.ok, c.requires.block) in
-    let elements : joined (items_of c.put_at.new.blocks.items) ≡ insert (joined xs) (offset xs q c.args.at) n =
-    ap joined c.put_at.ensures.items ∙ insert_joined xs q c.args.at n there c.requires.within in
-    let long : length (joined (items_of c.put_at.new.blocks.items)) ≡ length (joined xs) + 1 = ap length elements ∙ length-insert (joined xs) (offset xs q c.args.at) n (offset_within xs q c.args.at there c.requires.within) in
-    elements
-
-pub returns-clause-indexed : goal.returns-clause-indexed
-returns-clause-indexed c =
-    let bs = c.args.row.now.blocks.items in
-    let xs = items_of bs in
-    let ns = numbers_of bs in
-    let q = c.args.q in
-    let x = get_or xs q [] in
-    let n : Element = record { id = c.args.id; parent = c.args.parent; ch = c.args.ch; hidden = c.args.hidden } in
-    let len_xs : length xs ≡ length bs = length-map bs (λ (b : Block). b.elements.items) in
-    let len_ns : length ns ≡ length bs = length-map bs (λ (b : Block). b.number) in
+    let len_xs : length xs ≡ length bs = length-items bs in
+    let len_ns : length ns ≡ length bs = length-numbers bs in
     let there : q < length xs = omega (arith, len_xs, c.args.row.now.blocks.ok, c.requires.block) in
     let elements : joined (items_of c.put_at.new.blocks.items) ≡ insert (joined xs) (offset xs q c.args.at) n =
     ap joined c.put_at.ensures.items ∙ insert_joined xs q c.args.at n there c.requires.within in
@@ -55,34 +38,22 @@ returns-clause-indexed c =
     let len = rw c.unwrap.ensures at c.insert-kept.ensures.len in
     let new_one : is_some c.unwrap.result ≡ false = ap is_some old ∙ none in
     record {
-      homes = λ k. updates.0 k ∙ put_home c.args.id k (c.index.result.now).number (get id_eq c.args.row.now.index k)
-          ∙ (λ i. cond (same_id k c.args.id) (Some (number_is i)) (c.requires.indexed.homes k i))
-          ∙ sym (home_put xs ns q c.args.at n k there many c.requires.new)
-          ∙ (λ i. home_of (sym c.put_at.ensures.items i) (sym c.put_at.ensures.numbers i) k);
-      places = λ p less. ap (λ r. slice_get c.args.row.now.places.items (get_or r p 0)) c.put_at.ensures.numbers
-          ∙ c.requires.indexed.places p (omega (arith, less, c.put_at.ensures.len, c.put_at.new.blocks.ok, c.args.row.now.blocks.ok));
-      as_many = omega (arith, c.put_at.ensures.len, c.requires.indexed.as_many);
-      counted = len ∙ ap (λ b. hash_map_len c.args.row.now.index + cond b 0 1) new_one ∙ ap (λ k. k + 1) c.requires.indexed.counted ∙ sym long;
-      halves = subst AreHalfFull (sym c.put_at.ensures.items) (AreHalfFull-set xs q (insert x c.args.at n) c.requires.indexed.halves (omega (arith, length-insert x c.args.at n c.requires.within)));
-    }
-
-pub returns-clause-room : goal.returns-clause-room
-returns-clause-room c = λ m room.
-    let bs = c.args.row.now.blocks.items in
-    let xs = items_of bs in
-    let ns = numbers_of bs in
-    let q = c.args.q in
-    let x = get_or xs q [] in
-    let n : Element = record { id = c.args.id; parent = c.args.parent; ch = c.args.ch; hidden = c.args.hidden } in
-    let len_xs : length xs ≡ length bs = length-map bs (λ (b : Block). b.elements.items) in
-    let len_ns : length ns ≡ length bs = length-map bs (λ (b : Block). b.number) in
-    let there : q < length xs = omega (arith, len_xs, c.args.row.now.blocks.ok, c.requires.block) in
-    let elements : joined (items_of c.put_at.new.blocks.items) ≡ insert (joined xs) (offset xs q c.args.at) n =
-    ap joined c.put_at.ensures.items ∙ insert_joined xs q c.args.at n there c.requires.within in
-    let long : length (joined (items_of c.put_at.new.blocks.items)) ≡ length (joined xs) + 1 = ap length elements ∙ length-insert (joined xs) (offset xs q c.args.at) n (offset_within xs q c.args.at there c.requires.within) in
-    record {
-      paid = omega (arith, room.paid, long, c.put_at.ensures.len);
-      index = omega (arith, room.index, c.insert-kept.ensures.spare);
-      blocks = omega (arith, room.blocks, c.put_at.ensures.len, c.put_at.ensures.capacity);
-      places = omega (arith, room.places, c.put_at.ensures.len);
+      elements = elements;
+      indexed = record {
+        homes = λ k. updates.0 k ∙ put_home c.args.id k (c.index.result.now).number (get id_eq c.args.row.now.index k)
+            ∙ (λ i. cond (same_id k c.args.id) (Some (number_is i)) (c.requires.indexed.homes k i))
+            ∙ sym (home_put xs ns q c.args.at n k there many c.requires.new)
+            ∙ (λ i. home_of (sym c.put_at.ensures.items i) (sym c.put_at.ensures.numbers i) k);
+        places = λ p less. ap (λ r. slice_get c.args.row.now.places.items (get_or r p 0)) c.put_at.ensures.numbers
+            ∙ c.requires.indexed.places p (omega (arith, less, c.put_at.ensures.len, c.put_at.new.blocks.ok, c.args.row.now.blocks.ok));
+        as_many = omega (arith, c.put_at.ensures.len, c.requires.indexed.as_many);
+        counted = len ∙ ap (λ b. hash_map_len c.args.row.now.index + cond b 0 1) new_one ∙ ap (λ k. k + 1) c.requires.indexed.counted ∙ sym long;
+        halves = subst AreHalfFull (sym c.put_at.ensures.items) (AreHalfFull-set xs q (insert x c.args.at n) c.requires.indexed.halves (omega (arith, length-insert x c.args.at n c.requires.within)));
+      };
+      room = λ m room. record {
+        paid = omega (arith, room.paid, long, c.put_at.ensures.len);
+        index = omega (arith, room.index, c.insert-kept.ensures.spare);
+        blocks = omega (arith, room.blocks, c.put_at.ensures.len, c.put_at.ensures.capacity);
+        places = omega (arith, room.places, c.put_at.ensures.len);
+      };
     }

@@ -3,7 +3,7 @@ use Rattle.std.specs.Prelude.{insert, slice_get, IsSome, is_ok, is_some, vec_len
 use Rattle.std.specs.List.{AllByRecursion}
 use Rattle.std.specs.Option.{option_to_list}
 use Rattle.std.specs.HashMap.{get}
-use Rattle.std.proofs.lemmas.List.{length-map, take-append-drop, take_at}
+use Rattle.std.proofs.lemmas.List.{take-append-drop, take_at}
 use Rattle.bg_types.specs.Identifier.{Identifier}
 use Rattle.rga_tree.specs.declared.element.Element.{Element}
 use Rattle.rga_sequence.specs.declared.block.Block.{Block}
@@ -16,6 +16,7 @@ use Rattle.rga_sequence.proofs.Members.{all_have, has_drop, is_some-home, all_ap
 use Rattle.rga_sequence.proofs.Passing.{items_there}
 use Rattle.rga_sequence.proofs.Places.{Inverts, inserted_known, inserted_apart, inserted_before}
 use Rattle.rga_sequence.proofs.Split.{has_joined, home_split-at}
+use Rattle.rga_sequence.proofs.Numbers.{length-items, length-numbers}
 use Rattle.rga_sequence.proofs.row.split.Goals as goal
 
 pub unwrap-upper-requires : goal.unwrap-upper-requires
@@ -27,8 +28,8 @@ unwrap-upper-requires c =
     let x = get_or xs q [] in
     let low = take 256 x in
     let high = drop 256 x in
-    let len_xs : length xs ≡ length bs = length-map bs (λ (b : Block). b.elements.items) in
-    let len_ns : length ns ≡ length bs = length-map bs (λ (b : Block). b.number) in
+    let len_xs : length xs ≡ length bs = length-items bs in
+    let len_ns : length ns ≡ length bs = length-numbers bs in
     let there : q < length xs = omega (arith, len_xs, c.args.row.now.blocks.ok, c.requires.block) in
     let paid = full_paid xs q c.requires.indexed.halves there c.requires.full in
     c.pop.ensures.variant.1 (omega (arith, paid, c.requires.room.paid, len_xs, c.args.row.now.blocks.ok))
@@ -42,8 +43,8 @@ rehome-requires c =
     let x = get_or xs q [] in
     let low = take 256 x in
     let high = drop 256 x in
-    let len_xs : length xs ≡ length bs = length-map bs (λ (b : Block). b.elements.items) in
-    let len_ns : length ns ≡ length bs = length-map bs (λ (b : Block). b.number) in
+    let len_xs : length xs ≡ length bs = length-items bs in
+    let len_ns : length ns ≡ length bs = length-numbers bs in
     let there : q < length xs = omega (arith, len_xs, c.args.row.now.blocks.ok, c.requires.block) in
     let new = c.split_at.new.blocks.items in
     let longer : q + 1 < length new = omega (arith, c.split_at.new.blocks.ok, c.split_at.ensures.len, c.requires.block) in
@@ -55,8 +56,8 @@ rehome-requires c =
     ap is_some (c.requires.indexed.homes k) ∙ is_some-home xs ns k (omega (arith, len_xs, len_ns)) ∙ has_joined xs q k there (has_drop 256 x k inside)) in
     subst (λ es. AllByRecursion (λ (e : Element). at_home e.id) es) (sym moved_is) all
 
-pub renumber-requires-clause-known : goal.renumber-requires-clause-known
-renumber-requires-clause-known c = λ p few.
+pub renumber-requires : goal.renumber-requires
+renumber-requires c =
     let bs = c.args.row.now.blocks.items in
     let xs = items_of bs in
     let ns = numbers_of bs in
@@ -64,8 +65,8 @@ renumber-requires-clause-known c = λ p few.
     let x = get_or xs q [] in
     let low = take 256 x in
     let high = drop 256 x in
-    let len_xs : length xs ≡ length bs = length-map bs (λ (b : Block). b.elements.items) in
-    let len_ns : length ns ≡ length bs = length-map bs (λ (b : Block). b.number) in
+    let len_xs : length xs ≡ length bs = length-items bs in
+    let len_ns : length ns ≡ length bs = length-numbers bs in
     let there : q < length xs = omega (arith, len_xs, c.args.row.now.blocks.ok, c.requires.block) in
     let places = c.args.row.now.places.items in
     let many : length places ≡ length ns = omega (arith, len_ns, c.args.row.now.blocks.ok, c.args.row.now.places.ok, c.requires.indexed.as_many) in
@@ -77,11 +78,20 @@ renumber-requires-clause-known c = λ p few.
     let places_is : c.deref_mut.result.now ≡ places ++ c.len-number.result ∷ [] =
     c.deref_mut.ensures.value ∙ c.push.ensures.items ∙ ap (λ b. cond b (places ++ c.len-number.result ∷ []) places) ok in
     let longer : length c.deref-2.result.now ≡ length ns + 1 = omega (arith, ap length c.deref-2.ensures.value, c.split_at.new.blocks.ok, c.split_at.ensures.len, c.args.row.now.blocks.ok, len_ns) in
-    let less = inserted_known ns places (q + 1) p inverts many within (omega (arith, longer, few)) in
-    omega (arith, less, ap (λ r. get_or r p 0) numbers_is, ap length places_is, length-append places (c.len-number.result ∷ []), many)
+    record {
+      known = λ p few.
+          let less = inserted_known ns places (q + 1) p inverts many within (omega (arith, longer, few)) in
+          omega (arith, less, ap (λ r. get_or r p 0) numbers_is, ap length places_is, length-append places (c.len-number.result ∷ []), many);
+      apart = λ p r few less same.
+          inserted_apart ns places (q + 1) p r inverts many within (omega (arith, longer, few)) (omega (arith, longer, less))
+          (sym (ap (λ n. get_or n p 0) numbers_is) ∙ same ∙ ap (λ n. get_or n r 0) numbers_is);
+      before = λ p less.
+          (λ i. slice_get (places_is i) (get_or (numbers_is i) p 0)) ∙ inserted_before ns places (q + 1) p (length ns) c.len-number.result inverts within less;
+      from = omega (arith, longer, within);
+    }
 
-pub renumber-requires-clause-apart : goal.renumber-requires-clause-apart
-renumber-requires-clause-apart c = λ p r few less same.
+pub returns : goal.returns
+returns c =
     let bs = c.args.row.now.blocks.items in
     let xs = items_of bs in
     let ns = numbers_of bs in
@@ -89,57 +99,8 @@ renumber-requires-clause-apart c = λ p r few less same.
     let x = get_or xs q [] in
     let low = take 256 x in
     let high = drop 256 x in
-    let len_xs : length xs ≡ length bs = length-map bs (λ (b : Block). b.elements.items) in
-    let len_ns : length ns ≡ length bs = length-map bs (λ (b : Block). b.number) in
-    let there : q < length xs = omega (arith, len_xs, c.args.row.now.blocks.ok, c.requires.block) in
-    let places = c.args.row.now.places.items in
-    let many : length places ≡ length ns = omega (arith, len_ns, c.args.row.now.blocks.ok, c.args.row.now.places.ok, c.requires.indexed.as_many) in
-    let inverts : Inverts ns places = λ p h. c.requires.indexed.places p (omega (arith, len_ns, h)) in
-    let within : q + 1 ≤ length ns = omega (arith, len_ns, len_xs, there) in
-    let count : c.len-number.result ≡ length ns = omega (arith, c.len-number.ensures, c.args.row.now.blocks.ok, len_ns) in
-    let numbers_is : numbers_of c.deref-2.result.now ≡ insert ns (q + 1) (length ns) = ap numbers_of c.deref-2.ensures.value ∙ c.split_at.ensures.numbers ∙ ap (insert ns (q + 1)) count in
-    let ok : is_ok c.push.result ≡ true = ap is_ok c.unwrap.ensures in
-    let places_is : c.deref_mut.result.now ≡ places ++ c.len-number.result ∷ [] =
-    c.deref_mut.ensures.value ∙ c.push.ensures.items ∙ ap (λ b. cond b (places ++ c.len-number.result ∷ []) places) ok in
-    let longer : length c.deref-2.result.now ≡ length ns + 1 = omega (arith, ap length c.deref-2.ensures.value, c.split_at.new.blocks.ok, c.split_at.ensures.len, c.args.row.now.blocks.ok, len_ns) in
-    inserted_apart ns places (q + 1) p r inverts many within (omega (arith, longer, few)) (omega (arith, longer, less))
-    (sym (ap (λ n. get_or n p 0) numbers_is) ∙ same ∙ ap (λ n. get_or n r 0) numbers_is)
-
-pub renumber-requires-clause-before : goal.renumber-requires-clause-before
-renumber-requires-clause-before c = λ p less.
-    let bs = c.args.row.now.blocks.items in
-    let xs = items_of bs in
-    let ns = numbers_of bs in
-    let q = c.args.q in
-    let x = get_or xs q [] in
-    let low = take 256 x in
-    let high = drop 256 x in
-    let len_xs : length xs ≡ length bs = length-map bs (λ (b : Block). b.elements.items) in
-    let len_ns : length ns ≡ length bs = length-map bs (λ (b : Block). b.number) in
-    let there : q < length xs = omega (arith, len_xs, c.args.row.now.blocks.ok, c.requires.block) in
-    let places = c.args.row.now.places.items in
-    let many : length places ≡ length ns = omega (arith, len_ns, c.args.row.now.blocks.ok, c.args.row.now.places.ok, c.requires.indexed.as_many) in
-    let inverts : Inverts ns places = λ p h. c.requires.indexed.places p (omega (arith, len_ns, h)) in
-    let within : q + 1 ≤ length ns = omega (arith, len_ns, len_xs, there) in
-    let count : c.len-number.result ≡ length ns = omega (arith, c.len-number.ensures, c.args.row.now.blocks.ok, len_ns) in
-    let numbers_is : numbers_of c.deref-2.result.now ≡ insert ns (q + 1) (length ns) = ap numbers_of c.deref-2.ensures.value ∙ c.split_at.ensures.numbers ∙ ap (insert ns (q + 1)) count in
-    let ok : is_ok c.push.result ≡ true = ap is_ok c.unwrap.ensures in
-    let places_is : c.deref_mut.result.now ≡ places ++ c.len-number.result ∷ [] =
-    c.deref_mut.ensures.value ∙ c.push.ensures.items ∙ ap (λ b. cond b (places ++ c.len-number.result ∷ []) places) ok in
-    let longer : length c.deref-2.result.now ≡ length ns + 1 = omega (arith, ap length c.deref-2.ensures.value, c.split_at.new.blocks.ok, c.split_at.ensures.len, c.args.row.now.blocks.ok, len_ns) in
-    (λ i. slice_get (places_is i) (get_or (numbers_is i) p 0)) ∙ inserted_before ns places (q + 1) p (length ns) c.len-number.result inverts within less
-
-pub returns-clause-indexed : goal.returns-clause-indexed
-returns-clause-indexed c =
-    let bs = c.args.row.now.blocks.items in
-    let xs = items_of bs in
-    let ns = numbers_of bs in
-    let q = c.args.q in
-    let x = get_or xs q [] in
-    let low = take 256 x in
-    let high = drop 256 x in
-    let len_xs : length xs ≡ length bs = length-map bs (λ (b : Block). b.elements.items) in
-    let len_ns : length ns ≡ length bs = length-map bs (λ (b : Block). b.number) in
+    let len_xs : length xs ≡ length bs = length-items bs in
+    let len_ns : length ns ≡ length bs = length-numbers bs in
     let there : q < length xs = omega (arith, len_xs, c.args.row.now.blocks.ok, c.requires.block) in
     let new = c.split_at.new.blocks.items in
     let longer : q + 1 < length new = omega (arith, c.split_at.new.blocks.ok, c.split_at.ensures.len, c.requires.block) in
@@ -157,34 +118,23 @@ returns-clause-indexed c =
     let written = c.renumber.new.places in
     let rest = drop (length written) c.push.new.self.items in
     let kept : take c.push.new.self.len (written ++ rest) ≡ written = take_at written rest c.push.new.self.len (omega (arith, c.renumber.auto.places, c.deref_mut.ensures.len)) in
-    record {
-      homes = λ k. c.rehome.ensures.home k ∙ (λ i. cond (has k (moved_is i)) (Some number) (c.requires.indexed.homes k i))
-          ∙ sym (home_split-at xs ns q number low high k there numbered halved (halves_apart xs q 256 there c.requires.distinct) (all_apart xs c.requires.distinct))
-          ∙ (λ i. home_of (sym items i) (sym c.split_at.ensures.numbers i) k);
-      places = λ p less. (λ i. slice_get (kept i) (get_or (numbers_of (sym c.deref-2.ensures.value i)) p 0)) ∙ c.renumber.ensures p (omega (arith, less, ap length c.deref-2.ensures.value));
-      as_many = omega (arith, pushed, c.split_at.ensures.len, c.requires.indexed.as_many);
-      counted = c.rehome.ensures.len ∙ c.requires.indexed.counted ∙ ap length (sym (ap joined items ∙ split_joined xs q low high there halved));
-      halves = subst AreHalfFull (sym items) (AreHalfFull-split xs q low high c.requires.indexed.halves there (omega (arith, l)) (omega (arith, h)));
-    }
-
-pub returns-clause-room : goal.returns-clause-room
-returns-clause-room c = λ n room.
-    let bs = c.args.row.now.blocks.items in
-    let xs = items_of bs in
-    let ns = numbers_of bs in
-    let q = c.args.q in
-    let x = get_or xs q [] in
-    let low = take 256 x in
-    let high = drop 256 x in
-    let len_xs : length xs ≡ length bs = length-map bs (λ (b : Block). b.elements.items) in
-    let len_ns : length ns ≡ length bs = length-map bs (λ (b : Block). b.number) in
-    let there : q < length xs = omega (arith, len_xs, c.args.row.now.blocks.ok, c.requires.block) in
-    let halved : x ≡ low ++ high = sym (take-append-drop 256 x) in
     let same = ap length (ap joined c.split_at.ensures.items ∙ split_joined xs q low high there halved) in
     let fewer : vec_len c.pop.new.self + 1 ≡ vec_len c.args.row.now.spares = omega (arith, c.pop.ensures.len, ap (λ o. length (option_to_list o)) c.unwrap-upper.ensures) in
     record {
-      paid = omega (arith, room.paid, same, c.split_at.ensures.len, fewer);
-      index = omega (arith, room.index, c.rehome.ensures.spare);
-      blocks = omega (arith, room.blocks, c.split_at.ensures.len, c.split_at.ensures.capacity, fewer);
-      places = omega (arith, room.places, c.push.ensures.capacity, c.split_at.ensures.len, fewer);
+      blocks = items;
+      indexed = record {
+        homes = λ k. c.rehome.ensures.home k ∙ (λ i. cond (has k (moved_is i)) (Some number) (c.requires.indexed.homes k i))
+            ∙ sym (home_split-at xs ns q number low high k there numbered halved (halves_apart xs q 256 there c.requires.distinct) (all_apart xs c.requires.distinct))
+            ∙ (λ i. home_of (sym items i) (sym c.split_at.ensures.numbers i) k);
+        places = λ p less. (λ i. slice_get (kept i) (get_or (numbers_of (sym c.deref-2.ensures.value i)) p 0)) ∙ c.renumber.ensures p (omega (arith, less, ap length c.deref-2.ensures.value));
+        as_many = omega (arith, pushed, c.split_at.ensures.len, c.requires.indexed.as_many);
+        counted = c.rehome.ensures.len ∙ c.requires.indexed.counted ∙ ap length (sym (ap joined items ∙ split_joined xs q low high there halved));
+        halves = subst AreHalfFull (sym items) (AreHalfFull-split xs q low high c.requires.indexed.halves there (omega (arith, l)) (omega (arith, h)));
+      };
+      room = λ n room. record {
+        paid = omega (arith, room.paid, same, c.split_at.ensures.len, fewer);
+        index = omega (arith, room.index, c.rehome.ensures.spare);
+        blocks = omega (arith, room.blocks, c.split_at.ensures.len, c.split_at.ensures.capacity, fewer);
+        places = omega (arith, room.places, c.push.ensures.capacity, c.split_at.ensures.len, fewer);
+      };
     }

@@ -1,6 +1,5 @@
 use Rattle.std.proofs.Common.{◌≡◌, ◌<◌, ◌∙◌, [], true, false, Bool, ap, sym, refl, length, get_or, arith}
 use Rattle.std.specs.Prelude.{slice_get}
-use Rattle.std.proofs.lemmas.List.{length-map}
 use Rattle.rga_tree.proofs.Seen.{element_row}
 use Rattle.rga_sequence.specs.declared.block.Block.{Block}
 use Rattle.rga_sequence.specs.Blocks.{offset}
@@ -9,6 +8,7 @@ use Rattle.rga_sequence.specs.Indexed.{elements_in}
 use Rattle.rga_sequence.proofs.Members.{until, until_none, find-until, find_none}
 use Rattle.rga_sequence.proofs.Spots.{slice_get_joined, offset_less}
 use Rattle.rga_sequence.proofs.Whole.{element_is}
+use Rattle.rga_sequence.proofs.Numbers.{length-items}
 use Rattle.rga_sequence.proofs.blocks.BlocksSequence.element.Goals as goal
 
 pub returns-in_err-b : goal.returns-in_err-b
@@ -23,7 +23,7 @@ returns c =
     let xs = items_of bs in
     let b = c.in_ok-b.b in
     let at = c.in_ok-b.at in
-    let len_xs : length xs ≡ length bs = length-map bs (λ (b : Block). b.elements.items) in
+    let len_xs : length xs ≡ length bs = length-items bs in
     let there : b < length xs = omega (arith, len_xs, c.in_ok-b.ensures.block, c.args.self.now.row.blocks.ok) in
     let within : at < length (get_or xs b []) = c.in_ok-b.ensures.within in
     let place : offset xs b at ≡ until c.args.id row = c.in_ok-b.ensures.place in

@@ -1,12 +1,12 @@
 use Rattle.std.proofs.Common.{◌≡◌, ◌<◌, ◌∙◌, [], ap, sym, length, get_or, arith}
 use Rattle.std.specs.Prelude.{slice_get}
-use Rattle.std.proofs.lemmas.List.{length-map}
 use Rattle.rga_sequence.specs.declared.block.Block.{Block}
 use Rattle.rga_sequence.specs.Blocks.{offset}
 use Rattle.rga_sequence.specs.BlockRows.{items_of}
 use Rattle.rga_sequence.specs.Indexed.{elements_in}
 use Rattle.rga_sequence.proofs.Spots.{slice_get_joined}
 use Rattle.rga_sequence.proofs.Whole.{element_is}
+use Rattle.rga_sequence.proofs.Numbers.{length-items}
 use Rattle.rga_sequence.proofs.blocks.BlocksSequence.nth.Goals as goal
 
 pub returns : goal.returns
@@ -15,7 +15,7 @@ returns c =
     let xs = items_of bs in
     let b = c.block_at-b.result.0 in
     let at = c.block_at-b.result.1 in
-    let len_xs : length xs ≡ length bs = length-map bs (λ (b : Block). b.elements.items) in
+    let len_xs : length xs ≡ length bs = length-items bs in
     let same = c.deref.ensures.value in
     let there : b < length xs = omega (arith, len_xs, c.block_at-b.ensures.block, ap length same) in
     let within : at < length (get_or xs b []) = omega (arith, c.block_at-b.ensures.within, ap (λ d. length (get_or (items_of d) b [])) same) in
