@@ -2,6 +2,7 @@
 
 ghost use Rattle.std.specs.Prelude.{◌≡◌, ◌+◌, ◌*◌, ◌/◌, ◌%◌, ◌^◌, ◌<◌, get_or};
 ghost use Rattle.bg_types.specs.Hashing.{word, keyed};
+ghost use Rattle.bg_types.specs.declared.keyed.Keyed.{Keyed};
 
 use std::hash::{BuildHasher, Hasher};
 
@@ -33,6 +34,12 @@ impl Keyed {
             },
         }
     }
+}
+
+/// What has tables by identifier, hashed with a key.
+pub trait Hashed {
+    /// The hasher of the tables.
+    ghost hasher: { Self → Keyed };
 }
 
 impl BuildHasher for Keyed {

@@ -15,7 +15,7 @@ mod stops;
 pub use class::{Base, Bidi, Ea, Lb};
 pub use fault::{Device, Memory};
 pub use id::Id;
-pub use keyed::{Keyed, KeyedHasher};
+pub use keyed::{Hashed, Keyed, KeyedHasher};
 pub use op::{Op, OpView, Place};
 pub use out::Out;
 pub use sink::{Sink, put_all};

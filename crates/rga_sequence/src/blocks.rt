@@ -1,6 +1,8 @@
 //! The sequence in blocks.
 
 ghost use Rattle.std.specs.Prelude.{◌≡◌, ◌+◌, ◌*◌, ◌/◌, ◌-◌, ◌<◌, ◌≤◌, ℕ, true, length, get_or, slice_get, Some, [], vec_len, vec_capacity};
+ghost use Rattle.std.specs.HashMap.{hasher_of};
+ghost use Rattle.bg_types.specs.Hashing.{keyed};
 ghost use Rattle.bg_types.specs.OperationSet.{no_operations};
 ghost use Rattle.rga_tree.specs.declared.element.Element.{Element};
 ghost use Rattle.rga_tree.specs.TextOf.{visible, visible_ids, text};
@@ -14,7 +16,7 @@ ghost use Rattle.rga_sequence.specs.Indexed.{blocks_in, elements_in, IsIndexed, 
 use crate::block::{HALF, weight};
 use crate::look::{Look, find};
 use crate::row::{Row, block_at, hide, make_memory, put, spot};
-use bg_types::{Id, Memory, Place};
+use bg_types::{Hashed, Id, Keyed, Memory, Place};
 use rga_tree::{Element, Sequence};
 use std::alloc::Global;
 use std::collections::HashMap;
@@ -36,17 +38,31 @@ pub struct Blocks {
 }
 
 impl Blocks {
-    /// An empty sequence, which takes no memory.
+    /// An empty sequence, which takes no memory. Its index is hashed with the key 0: a sequence of
+    /// what strangers sent is made by `keyed`.
     pub fn new(alloc: Global) -> Blocks
         ensures content { ⟦<Blocks as Sequence>⟧.content result ≡ no_operations }
         ensures room { ⟦<Blocks as Sequence>⟧.free result ≡ 0 }
         ensures looks { ⟦<Blocks as Look>⟧.looked result ≡ 0 }
+        ensures hasher { ⟦<Blocks as Hashed>⟧.hasher result ≡ keyed 0 }
     {
+        Blocks::keyed(alloc, 0)
+    }
+
+    /// An empty sequence, which takes no memory and whose index is hashed with this key. Who does
+    /// not know the key cannot choose identifiers that make the calls slow.
+    pub fn keyed(alloc: Global, key: u128) -> Blocks
+        ensures content { ⟦<Blocks as Sequence>⟧.content result ≡ no_operations }
+        ensures room { ⟦<Blocks as Sequence>⟧.free result ≡ 0 }
+        ensures looks { ⟦<Blocks as Look>⟧.looked result ≡ 0 }
+        ensures hasher { ⟦<Blocks as Hashed>⟧.hasher result ≡ keyed key }
+    {
+        let hasher = Keyed::new(key);
         Blocks {
             row: Row {
                 blocks: Vec::new(alloc),
                 spares: Vec::new(alloc),
-                index: HashMap::new(alloc),
+                index: HashMap::with_hasher(alloc, hasher),
                 places: Vec::new(alloc),
             },
             alloc,
@@ -77,6 +93,10 @@ impl Blocks {
         self.looks = 0;
         find(self, k)
     }
+}
+
+impl Hashed for Blocks {
+    ghost hasher = { λ s. hasher_of s.row.index };
 }
 
 impl Look for Blocks {

@@ -7,12 +7,15 @@ ghost use Rattle.bg_types.specs.Identifier.{Identifier};
 ghost use Rattle.rga_sequence.specs.BlockRows.{has, numbers_of};
 
 use crate::block::Block;
-use bg_types::Id;
+use bg_types::{Id, Keyed};
 use rga_tree::Element;
 use std::collections::HashMap;
 
+/// The number of the block of each identifier.
+pub type Index = HashMap<Id, usize, Keyed>;
+
 /// The elements stand in another block now.
-pub fn rehome(index: &mut HashMap<Id, usize>, moved: &[Element], number: usize)
+pub fn rehome(index: &mut Index, moved: &[Element], number: usize)
     requires { AllByRecursion (λ e. IsSome (get ⟦<Id as Eq>⟧.eq index.old e.id)) moved.now }
     ensures home { (q : Identifier) → get ⟦<Id as Eq>⟧.eq index.new q
         ≡ (if has q moved.now then Some number else get ⟦<Id as Eq>⟧.eq index.old q) }

@@ -10,13 +10,12 @@ ghost use Rattle.rga_sequence.specs.BlockRows.{has, items_of};
 ghost use Rattle.rga_sequence.specs.Indexed.{blocks_in, elements_in, IsIndexed, HasRoom};
 
 use crate::block::{Block, FULL, HALF, Spare};
-use crate::index::{rehome, renumber};
+use crate::index::{Index, rehome, renumber};
 use crate::order::{count_in, hide_at, put_at, split_at};
 use crate::skip::place_from;
 use bg_types::{Id, Memory, Place};
 use rga_tree::Element;
 use std::alloc::Global;
-use std::collections::HashMap;
 
 /// Blocks in order, memory for more, the number of the block of each identifier, and the place of
 /// the block of each number.
@@ -24,7 +23,7 @@ use std::collections::HashMap;
 pub struct Row {
     pub blocks: Vec<Block>,
     pub spares: Vec<Spare>,
-    pub index: HashMap<Id, usize>,
+    pub index: Index,
     pub places: Vec<usize>,
 }
 

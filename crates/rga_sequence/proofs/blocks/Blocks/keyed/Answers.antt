@@ -4,7 +4,7 @@ use Rattle.rga_tree.proofs.Placing.{KeepsWalk-nothing}
 use Rattle.rga_sequence.specs.Blocks.{joined, seen}
 use Rattle.rga_sequence.specs.BlockRows.{items_of, numbers_of, home_of}
 use Rattle.rga_sequence.proofs.Homes.{id_eq}
-use Rattle.rga_sequence.proofs.blocks.Blocks.new.Goals as goal
+use Rattle.rga_sequence.proofs.blocks.Blocks.keyed.Goals as goal
 
 pub invariant_of-result : goal.invariant_of-result
 invariant_of-result c =
@@ -14,10 +14,10 @@ invariant_of-result c =
     record {
       keeps_walk = KeepsWalk-nothing (joined (items_of c.new.result.items)) row;
       indexed = record {
-        homes = λ q. ap (lookup (id_eq q)) c.new-3.ensures.empty ∙ sym (ap (λ bs. home_of (items_of bs) (numbers_of bs) q) e);
+        homes = λ q. ap (lookup (id_eq q)) c.with_hasher.ensures.empty ∙ sym (ap (λ bs. home_of (items_of bs) (numbers_of bs) q) e);
         places = λ p h. absurd (omega (arith, none, h));
-        as_many = omega (arith, c.new.ensures.len, c.new-4.ensures.len);
-        counted = c.new-3.ensures.len ∙ sym (ap length row);
+        as_many = omega (arith, c.new.ensures.len, c.new-3.ensures.len);
+        counted = c.with_hasher.ensures.len ∙ sym (ap length row);
         halves = λ h. absurd (omega (arith, ap (λ bs. length (items_of bs)) e, h));
       };
       enough = record {
