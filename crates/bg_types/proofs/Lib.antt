@@ -4,3 +4,4 @@ pub mod IdentifierOrder
 pub mod NextCounter
 pub mod OperationSets
 pub mod PutAll
+pub mod Interface

@@ -11,7 +11,7 @@ use Rattle.bg_types.specs.OperationSet.{OperationSet}
 use Rattle.bg_types.specs.WellFormed.{MayFollow}
 use Rattle.bg_types.specs.declared.op.Place.{Place}
 use Rattle.bg_types.specs.declared.op.Place.TheVariants.{Root, After}
-use Rattle.bg_types.proofs.IdentifierOrder.{same_id-is}
+use Rattle.bg_types.proofs.Interface.{same_id-is}
 use Rattle.pending_ops.specs.declared.chains.Slot.{Slot}
 use Rattle.pending_ops.specs.Waiting.{is_after}
 use Rattle.pending_ops.specs.Below.{CountsBelow, IsChain}

@@ -6,7 +6,7 @@ use Rattle.bg_types.specs.Identifier.{Identifier, same_id}
 use Rattle.bg_types.specs.OperationSet.{Node}
 use Rattle.bg_types.specs.declared.op.Place.{Place}
 use Rattle.bg_types.specs.declared.op.Place.TheVariants.{Root, After}
-use Rattle.bg_types.proofs.IdentifierOrder.{same_id-is}
+use Rattle.bg_types.proofs.Interface.{same_id-is}
 use Rattle.pending_ops.specs.declared.chains.Slot.{Slot}
 use Rattle.pending_ops.specs.Waiting.{Releases, is_after, is_ready, is_released}
 use Rattle.pending_ops.specs.Chains.{AreApart, AreLinked, IsChainOf, Links, first_in, is_in, names, slot_in, waiting_of}

@@ -7,7 +7,7 @@ use Rattle.bg_types.specs.Identifier.{Identifier, same_id}
 use Rattle.bg_types.specs.OperationSet.{Node}
 use Rattle.bg_types.specs.declared.op.Place.{Place}
 use Rattle.bg_types.specs.declared.op.Place.TheVariants.{Root, After}
-use Rattle.bg_types.proofs.IdentifierOrder.{same_id-is, same_id-itself}
+use Rattle.bg_types.proofs.Interface.{same_id-is, same_id-itself}
 use Rattle.pending_ops.specs.declared.chains.Slot.{Slot}
 use Rattle.pending_ops.specs.Waiting.{Waiting, HandsOut, NoneReady, is_after, is_ready, is_released}
 use Rattle.pending_ops.specs.Chains.{AreApart, AreLinked, IsChainOf, Links, first_in, is_in, names, node_in, slot_in, waiting_of}
@@ -21,10 +21,6 @@ use Rattle.pending_ops.proofs.Holding.{Links-kept, chain_kept}
 pub is_after-one : (a : Place) (p q : Identifier) → is_after a p ≡ true → is_after a q ≡ same_id p q
 is_after-one Root p q h = absurd (true≢false (sym h))
 is_after-one (After a) p q h = ap (λ x. same_id x q) (same_id-is a p h)
-
-both_true : (a b : Bool) → (a && b) ≡ true → (a ≡ true) × (b ≡ true)
-both_true true b h = (refl, h)
-both_true false b h = absurd (true≢false (sym h))
 
 not_true : (b : Bool) → not b ≡ true → b ≡ false
 not_true true h = absurd (true≢false (sym h))

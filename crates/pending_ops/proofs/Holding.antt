@@ -3,7 +3,7 @@ use Rattle.std.proofs.Common.{◌≡◌, Bool, true, false, cond, ◌||◌, List
 use Rattle.std.specs.Option.{option_map_or}
 use Rattle.bg_types.specs.Identifier.{Identifier, same_id}
 use Rattle.bg_types.specs.WellFormed.{MayFollow}
-use Rattle.bg_types.proofs.IdentifierOrder.{same_id-is, same_id-itself}
+use Rattle.bg_types.proofs.Interface.{same_id-is, same_id-itself}
 use Rattle.pending_ops.specs.declared.chains.Slot.{Slot}
 use Rattle.pending_ops.specs.Waiting.{is_after}
 use Rattle.pending_ops.specs.Chains.{AreLinked, IsChainOf, Links, first_in, is_in, names, slot_in}

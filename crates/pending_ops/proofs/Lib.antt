@@ -9,3 +9,4 @@ pub mod Counting
 pub mod OneStep
 pub mod Placed
 pub mod Loop
+pub mod Interface

@@ -11,7 +11,7 @@ use Rattle.bg_types.specs.OperationSet.{Holds, Node}
 use Rattle.bg_types.specs.declared.op.Place.{Place}
 use Rattle.bg_types.specs.declared.op.OpView.{OpView}
 use Rattle.bg_types.specs.declared.op.OpView.TheVariants.{Insert, Erase}
-use Rattle.bg_types.proofs.IdentifierOrder.{id_cmp-total, same_id-is}
+use Rattle.bg_types.proofs.Interface.{id_cmp-total, same_id-is}
 use Rattle.pending_ops.specs.declared.chains.Slot.{Slot}
 use Rattle.pending_ops.specs.Waiting.{ListsOnce}
 use Rattle.pending_ops.specs.Chains.{AreApart, insertion_of, insertions_of, is_in, node_in, slot_in, waiting_of}

@@ -7,7 +7,7 @@ use Rattle.std.specs.FinSet as set
 use Rattle.bg_types.specs.Identifier.{Identifier, id_cmp, same_id}
 use Rattle.bg_types.specs.OperationSet.{Node, OperationSet}
 use Rattle.bg_types.specs.declared.op.OpView.{OpView}
-use Rattle.bg_types.proofs.IdentifierOrder.{id_cmp-total, id_cmp-exact, same_id-is}
+use Rattle.bg_types.proofs.Interface.{id_cmp-total, id_cmp-exact, same_id-is, and_parts, or_left}
 use Rattle.pending_ops.specs.Waiting.{NoneReady, Releases, Waiting, follows, is_after, is_ready}
 use Rattle.pending_ops.specs.Below.{CountsBelow, IsBelow, IsChain}
 use Rattle.pending_ops.specs.Chains.{AreApart}
@@ -15,7 +15,7 @@ use Rattle.pending_ops.specs.Releasing.{PlacesBelow, PlacesEach, PlacesOne, is_p
 use Rattle.pending_ops.proofs.Tables.{AreApart-distinct, one_of}
 use Rattle.pending_ops.proofs.Views.{contains-from_list}
 use Rattle.pending_ops.proofs.Listing.{len-from_list}
-use Rattle.pending_ops.proofs.OneStep.{after_cut, both_true, by_false, or_left}
+use Rattle.pending_ops.proofs.OneStep.{after_cut, by_false}
 use Rattle.pending_ops.proofs.Placed.{after_parents, apart, followers_placed, ids, placed_below, ready_placed, rest_of, were_held}
 
 -- one more at the end of the loop
@@ -74,7 +74,7 @@ module _ (old start new : Waiting) (id : Identifier) (ops : List OpView) (none :
 
   follows_new : (p q : Identifier) → follows new.held p q ≡ true → (is_placed (ids ops) q ≡ false) × (follows old.held p q ≡ true)
   follows_new p q f =
-      let b = both_true (not (is_placed (ids ops) q)) (follows old.held p q)
+      let b = and_parts (not (is_placed (ids ops) q)) (follows old.held p q)
       (sym (ap (λ o. option_map_or (λ (n : Node). is_after n.parent p) o false) (rest q) ∙ after_cut (is_placed (ids ops) q) (map.get old.held.ins q) p) ∙ f) in
       (by_false (is_placed (ids ops) q) (λ m. true≢false (sym b.0 ∙ ap not m)), b.1)
 

@@ -9,7 +9,7 @@ use Rattle.bg_types.specs.OperationSet.{Node, OperationSet}
 use Rattle.bg_types.specs.declared.op.Place.{Place}
 use Rattle.bg_types.specs.declared.op.Place.TheVariants.{Root, After}
 use Rattle.bg_types.specs.declared.op.OpView.TheVariants.{Insert, Erase}
-use Rattle.bg_types.proofs.IdentifierOrder.{id_cmp-total}
+use Rattle.bg_types.proofs.Interface.{id_cmp-total, and_parts}
 use Rattle.pending_ops.specs.Waiting.{Waiting, follows, is_after, is_ready, is_released}
 use Rattle.pending_ops.specs.Releasing.{PlacesOne}
 use Rattle.pending_ops.proofs.Tables.{one_of}
@@ -75,28 +75,17 @@ by_false false h = refl
 pub not_and : (a b : Bool) → a ≡ false → b ≡ true → (not a && b) ≡ true
 not_and a b f g = (λ i. not (f i) && g i)
 
-pub or_left : (a b : Bool) → a ≡ true → (a || b) ≡ true
-or_left a b h = ap (λ c. c || b) h
-
-pub or_right : (a b : Bool) → b ≡ true → (a || b) ≡ true
-or_right true b h = refl
-or_right false b h = h
-
 -- a test that is true, or false, as it is
 pub decided : (b : Bool) (P : Type 0) → (b ≡ true → P) → (b ≡ false → P) → P
 decided true P f g = f refl
 decided false P f g = g refl
 
-pub both_true : (a b : Bool) → (a && b) ≡ true → (a ≡ true) × (b ≡ true)
-both_true true b h = (refl, h)
-both_true false b h = absurd (true≢false (sym h))
-
 -- what follows after a step followed before it
 pub follows_back : (old new : Waiting) (id : Identifier) (node : Node) → Steps old id node new → (p q : Identifier) → follows new.held p q ≡ true → follows old.held p q ≡ true
 follows_back old new id node s p q h =
-    (both_true (not (same_id q id)) (follows old.held p q)
+    (and_parts (not (same_id q id)) (follows old.held p q)
     (sym (ap (λ o. option_map_or (λ (n : Node). is_after n.parent p) o false) (s.ins q) ∙ after_cut (same_id q id) (map.get old.held.ins q) p) ∙ h)).1
 
 pub ready_back : (old new : Waiting) (id : Identifier) (node : Node) → Steps old id node new → (q : Identifier) (P : Type 0) → is_ready new q ≡ true
     → (is_ready old q ≡ true → P) → (follows old.held id q ≡ true → P) → P
-ready_back old new id node s q P r = one_of (is_ready old q) (follows old.held id q) P (both_true (not (same_id q id)) (is_ready old q || follows old.held id q) (sym (s.ready_then q) ∙ r)).1
+ready_back old new id node s q P r = one_of (is_ready old q) (follows old.held id q) P (and_parts (not (same_id q id)) (is_ready old q || follows old.held id q) (sym (s.ready_then q) ∙ r)).1

@@ -10,8 +10,9 @@ use Rattle.std.specs.Map.{lookup}
 use Rattle.std.proofs.lemmas.List.Folds.{list_any-append}
 use Rattle.std.proofs.lemmas.Map.Made.{length-le_from_is_member}
 use Rattle.bg_types.specs.Identifier.{Identifier, same_id}
-use Rattle.bg_types.proofs.IdentifierOrder.{id_cmp-total, same_id-itself}
+use Rattle.bg_types.proofs.Interface.{id_cmp-total, same_id-itself}
 use Rattle.pending_ops.specs.Chains.{AreApart, is_in}
+pub use Rattle.bg_types.proofs.Interface.{neither, one_of}
 
 pub same_id-equivalence : IsEquivalence same_id
 same_id-equivalence = eq_by_cmp_equiv id_cmp-total
@@ -59,14 +60,6 @@ is_in-later q x xs m = ap (λ b. same_id q x || b) m ∙ or-true (same_id q x)
 
 pub is_in-here : (x : Identifier) (xs : List Identifier) → is_in (x ∷ xs) x ≡ true
 is_in-here x xs = ap (λ b. b || is_in xs x) (same_id-itself x)
-
-pub neither : (a b : Bool) → (a || b) ≡ false → (a ≡ false) × (b ≡ false)
-neither true b h = absurd (true≢false h)
-neither false b h = (refl, h)
-
-pub one_of : (a b : Bool) (P : Type 0) → (a || b) ≡ true → (a ≡ true → P) → (b ≡ true → P) → P
-one_of true b P e f g = f refl
-one_of false b P e f g = g e
 
 -- each stands once in both together
 pub AreApart-append : (xs ys : List Identifier) → AreApart xs → AreApart ys → ((q : Identifier) → is_in xs q ≡ true → is_in ys q ≡ false) → AreApart (xs ++ ys)

@@ -6,7 +6,7 @@ use Rattle.std.specs.FinSet as set
 use Rattle.bg_types.specs.Identifier.{Identifier, id_cmp, same_id}
 use Rattle.bg_types.specs.OperationSet.{Node, OperationSet}
 use Rattle.bg_types.specs.declared.op.OpView.TheVariants.{Insert}
-use Rattle.bg_types.proofs.IdentifierOrder.{id_cmp-total, id_cmp-exact}
+use Rattle.bg_types.proofs.Interface.{id_cmp-total, id_cmp-exact}
 use Rattle.pending_ops.specs.declared.chains.Slot.{Slot}
 use Rattle.pending_ops.specs.Waiting.{follows, is_after}
 use Rattle.pending_ops.specs.Chains.{AreLinked, IsChainOf, Links, first_in, insertions_of, is_in, names, node_in, nodes_of, slot_in, waiting_of}

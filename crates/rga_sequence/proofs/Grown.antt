@@ -5,8 +5,8 @@ use Rattle.std.specs.Ordering.{is_lt}
 use Rattle.std.specs.List.{list_all, list_any}
 use Rattle.std.proofs.lemmas.List.{take-append-drop}
 use Rattle.bg_types.specs.Identifier.{Identifier, id_cmp, same_id}
+use Rattle.bg_types.proofs.Interface.{and_parts}
 use Rattle.rga_tree.specs.declared.element.Element.{Element}
-use Rattle.rga_tree.proofs.Entries.{and_parts}
 use Rattle.rga_sequence.specs.Blocks.{seen, is_least}
 use Rattle.rga_sequence.proofs.Least.{none_below, lower, itself, not_itself}
 

@@ -2,8 +2,8 @@
 use Rattle.std.proofs.Common.{◌≡◌, ℕ, zero, suc, ◌<◌, ◌≤◌, ◌+◌, ◌*◌, ◌&&◌, Bool, true, List, [], ◌∷◌, length, get_or, refl, ap, ◌∙◌, length-append, arith}
 use Rattle.std.specs.Prelude.{insert, set, nat_lt}
 use Rattle.std.proofs.lemmas.Bool.{ltb-true, lt-ltb}
+use Rattle.bg_types.proofs.Interface.{and_parts}
 use Rattle.rga_tree.specs.declared.element.Element.{Element}
-use Rattle.rga_tree.proofs.Entries.{and_parts}
 use Rattle.rga_sequence.specs.Blocks.{joined}
 use Rattle.rga_sequence.specs.BlockRows.{are_halves, AreHalfFull}
 

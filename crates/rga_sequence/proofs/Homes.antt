@@ -5,7 +5,7 @@ use Rattle.std.specs.List.{list_any, AllByRecursion}
 use Rattle.std.proofs.lemmas.List.Folds.{list_any_more}
 use Rattle.bg_types.specs.Identifier.{Identifier, same_id}
 use Rattle.rga_tree.specs.declared.element.Element.{Element}
-use Rattle.bg_types.proofs.IdentifierOrder.{id_cmp-total}
+use Rattle.bg_types.proofs.Interface.{id_cmp-total}
 use Rattle.std.specs.Cmp.{eq_by_cmp_equiv}
 use Rattle.std.specs.Option.{option_copied_mut}
 use Rattle.std.proofs.Common.{rules, MutBor}
@@ -56,3 +56,8 @@ put_home a b n o = ap (λ t. cond t (Some n) o) (eq_same a b ∙ (eq_by_cmp_equi
 pub or_false : (b : Bool) → (b || false) ≡ b
 or_false true = refl
 or_false false = refl
+
+pub swap : (a b : Bool) (m n : ℕ) (o : Option ℕ) → (a ≡ true → b ≡ true → ⊥) → cond a (Some m) (cond b (Some n) o) ≡ cond b (Some n) (cond a (Some m) o)
+swap true true m n o apart = absurd (apart refl refl)
+swap true false m n o apart = refl
+swap false b m n o apart = refl

@@ -12,5 +12,4 @@ pub mod Members
 pub mod Halves
 pub mod Put
 pub mod Spots
-pub mod Skipping
 pub mod Whole

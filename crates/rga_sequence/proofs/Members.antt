@@ -5,17 +5,12 @@ use Rattle.std.specs.List.{list_any, prefix_len, AllByRecursion, find as find_in
 use Rattle.std.proofs.lemmas.List.{take-append-drop}
 use Rattle.std.proofs.lemmas.List.Folds.{list_any-append}
 use Rattle.bg_types.specs.Identifier.{Identifier, same_id}
-use Rattle.bg_types.proofs.IdentifierOrder.{same_id-is, same_id-itself}
+use Rattle.bg_types.proofs.Interface.{same_id-is, same_id-itself, and_parts, neither, or_left, or_right}
 use Rattle.rga_tree.specs.declared.element.Element.{Element}
 use Rattle.rga_tree.specs.Row.{ids_of, is_distinct}
-use Rattle.rga_tree.proofs.Entries.{and_parts}
 use Rattle.rga_sequence.specs.Blocks.{joined, offset}
 use Rattle.rga_sequence.specs.BlockRows.{has, home_of}
-use Rattle.rga_sequence.proofs.Split.{or_left, or_right, AreApart, AreAllApart}
-
-neither : (a b : Bool) → (a || b) ≡ false → (a ≡ false) × (b ≡ false)
-neither true b h = absurd cc
-neither false b h = (refl, h)
+use Rattle.rga_sequence.proofs.Split.{AreApart, AreAllApart}
 
 -- ---- distinct rows
 

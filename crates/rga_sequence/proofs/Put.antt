@@ -3,24 +3,16 @@ use Rattle.std.proofs.Common.{◌≡◌, ℕ, zero, suc, ◌<◌, ◌||◌, Bool
 use Rattle.std.specs.Prelude.{insert, set}
 use Rattle.std.proofs.lemmas.List.Folds.{list_any-append}
 use Rattle.bg_types.specs.Identifier.{Identifier, same_id}
-use Rattle.bg_types.proofs.IdentifierOrder.{same_id-is}
+use Rattle.bg_types.proofs.Interface.{same_id-is, neither}
 use Rattle.rga_tree.specs.declared.element.Element.{Element}
 use Rattle.rga_sequence.specs.Blocks.{joined}
 use Rattle.rga_sequence.specs.BlockRows.{has, home_of}
+use Rattle.rga_sequence.proofs.Homes.{swap}
 use Rattle.rga_sequence.proofs.Members.{has-inserted}
 
 or_else : (a b : Bool) (n : ℕ) (o : Option ℕ) → cond (a || b) (Some n) o ≡ cond a (Some n) (cond b (Some n) o)
 or_else true b n o = refl
 or_else false b n o = refl
-
-swap : (a b : Bool) (m n : ℕ) (o : Option ℕ) → (a ≡ true → b ≡ true → ⊥) → cond a (Some m) (cond b (Some n) o) ≡ cond b (Some n) (cond a (Some m) o)
-swap true true m n o apart = absurd (apart refl refl)
-swap true false m n o apart = refl
-swap false b m n o apart = refl
-
-or_parts : (a b : Bool) → (a || b) ≡ false → (a ≡ false) × (b ≡ false)
-or_parts true b h = absurd cc
-or_parts false b h = (refl, h)
 
 pub home_put : (xs : List (List Element)) (ns : List ℕ) (i at : ℕ) (n : Element) (q : Identifier) → i < length xs → length xs ≡ length ns → has n.id (joined xs) ≡ false
     → home_of (set xs i (insert (get_or xs i []) at n)) ns q ≡ cond (same_id q n.id) (Some (get_or ns i 0)) (home_of xs ns q)
@@ -29,7 +21,7 @@ home_put (x ∷ xs) [] i at n q there many new = absurd (omega arith)
 home_put (x ∷ xs) (m ∷ ns) zero at n q there many new =
     ap (λ b. cond b (Some m) (home_of xs ns q)) (has-inserted x at n q) ∙ or_else (same_id q n.id) (has q x) m (home_of xs ns q)
 home_put (x ∷ xs) (m ∷ ns) (suc i) at n q there many new =
-    let parts = or_parts (has n.id x) (has n.id (joined xs)) (sym (list_any-append (λ e. same_id n.id e.id) x (joined xs)) ∙ new) in
+    let parts = neither (has n.id x) (has n.id (joined xs)) (sym (list_any-append (λ e. same_id n.id e.id) x (joined xs)) ∙ new) in
     ap (cond (has q x) (Some m)) (home_put xs ns i at n q (omega arith) (omega arith) parts.1)
     ∙ swap (has q x) (same_id q n.id) m (get_or ns i 0) (home_of xs ns q)
     (λ inside same. let out : has q x ≡ false = subst (λ k. has k x ≡ false) (sym (same_id-is q n.id same)) parts.0 in absurd cc)

@@ -3,9 +3,11 @@ use Rattle.std.proofs.Common.{◌≡◌, ℕ, zero, suc, ◌<◌, ◌+◌, ◌||
 use Rattle.std.specs.Prelude.{insert, set}
 use Rattle.std.proofs.lemmas.List.Folds.{list_any-append}
 use Rattle.bg_types.specs.Identifier.{Identifier, same_id}
+use Rattle.bg_types.proofs.Interface.{or_left, or_right}
 use Rattle.rga_tree.specs.declared.element.Element.{Element}
 use Rattle.rga_sequence.specs.BlockRows.{has, home_of}
 use Rattle.rga_sequence.specs.Blocks.{joined}
+use Rattle.rga_sequence.proofs.Homes.{swap}
 
 -- no identifier is in both
 abbrev pub AreApart : List Element → List Element → Type 0
@@ -15,23 +17,10 @@ abbrev pub AreAllApart : List (List Element) → Type 0
 AreAllApart [] = Unit {0}
 AreAllApart (x ∷ xs) = AreApart x (joined xs) × AreAllApart xs
 
-pub or_left : (a b : Bool) → a ≡ true → (a || b) ≡ true
-or_left true b h = refl
-or_left false b h = absurd cc
-
-pub or_right : (a b : Bool) → b ≡ true → (a || b) ≡ true
-or_right true b h = refl
-or_right false b h = h
-
 pub has_joined : (xs : List (List Element)) (i : ℕ) (q : Identifier) → i < length xs → has q (get_or xs i []) ≡ true → has q (joined xs) ≡ true
 has_joined [] i q there h = absurd (omega arith)
 has_joined (x ∷ xs) zero q there h = list_any-append (λ e. same_id q e.id) x (joined xs) ∙ or_left (has q x) (has q (joined xs)) h
 has_joined (x ∷ xs) (suc i) q there h = list_any-append (λ e. same_id q e.id) x (joined xs) ∙ or_right (has q x) (has q (joined xs)) (has_joined xs i q (omega arith) h)
-
-swap : (a b : Bool) (m n : ℕ) (o : Option ℕ) → (a ≡ true → b ≡ true → ⊥) → cond a (Some m) (cond b (Some n) o) ≡ cond b (Some n) (cond a (Some m) o)
-swap true true m n o apart = absurd (apart refl refl)
-swap true false m n o apart = refl
-swap false b m n o apart = refl
 
 -- its lower half stays where it was
 halved : (a b : Bool) (m n : ℕ) (o : Option ℕ) → (a ≡ true → b ≡ true → ⊥) → cond a (Some m) (cond b (Some n) o) ≡ cond b (Some n) (cond (a || b) (Some m) o)

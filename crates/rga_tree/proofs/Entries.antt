@@ -13,7 +13,7 @@ use Rattle.bg_types.specs.OperationSet.{OperationSet, AllWellFormed}
 use Rattle.bg_types.specs.declared.op.Place.{Place}
 use Rattle.bg_types.specs.declared.op.Place.TheVariants.{Root, After}
 use Rattle.bg_types.specs.declared.op.OpView.TheVariants.{Insert}
-use Rattle.bg_types.proofs.IdentifierOrder.{id_cmp-total, same_id-is, same_id-itself}
+use Rattle.bg_types.proofs.Interface.{id_cmp-total, same_id-is, same_id-itself, and_parts}
 use Rattle.rga_tree.specs.Walk.{same_place}
 use Rattle.rga_tree.specs.Tree.{stands_in, IsTree}
 use Rattle.rga_tree.proofs.WalkAmong.{Entry, Rises, AreAbove, AreWellFounded, IsLow, IsChildless}
@@ -37,10 +37,6 @@ all_weaker P Q f (e ∷ es) h = (f e h.0, all_weaker P Q f es h.1)
 pub both_all : (P Q : Entry → Type 0) (es : List Entry) → AllByRecursion P es → AllByRecursion Q es → AllByRecursion (λ e. P e × Q e) es
 both_all P Q [] p q = tt
 both_all P Q (e ∷ es) p q = ((p.0, q.0), both_all P Q es p.1 q.1)
-
-pub and_parts : (a b : Bool) → (a && b) ≡ true → (a ≡ true) × (b ≡ true)
-and_parts true b h = (refl, h)
-and_parts false b h = absurd cc
 
 less_of : (o : Ordering) → T (is_lt o) → o ≡ Less
 less_of Less h = refl

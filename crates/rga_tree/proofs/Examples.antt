@@ -11,7 +11,7 @@ use Rattle.bg_types.specs.Identifier.{Identifier, id_cmp}
 use Rattle.bg_types.specs.OperationSet.{Node, OperationSet, Holds}
 use Rattle.bg_types.specs.declared.op.Place.TheVariants.{Root, After}
 use Rattle.bg_types.specs.declared.op.OpView.{OpView}
-use Rattle.bg_types.proofs.IdentifierOrder.{id_cmp-total}
+use Rattle.bg_types.proofs.Interface.{id_cmp-total}
 use Rattle.rga_tree.specs.TextOf.{text}
 use Rattle.rga_tree.specs.Examples.{set_of, HaveSameOperations, two_in_line, two_at_root, four_in_tree, one_erased}
 use Rattle.rga_tree.proofs.WalkAmong.{Entry}

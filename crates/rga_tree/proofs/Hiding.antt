@@ -10,7 +10,7 @@ use Rattle.bg_types.specs.Identifier.{Identifier, IsIdentifier, id_cmp, same_id}
 use Rattle.bg_types.specs.OperationSet.{Node, OperationSet, AllWellFormed, with_operation}
 use Rattle.bg_types.specs.declared.op.Place.TheVariants.{Root}
 use Rattle.bg_types.specs.declared.op.OpView.TheVariants.{Insert, Erase}
-use Rattle.bg_types.proofs.IdentifierOrder.{id_cmp-total, id_cmp-exact, same_id-is}
+use Rattle.bg_types.proofs.Interface.{id_cmp-total, id_cmp-exact, same_id-is, and_parts, or_swap}
 use Rattle.rga_tree.specs.declared.element.Element.{Element}
 use Rattle.rga_tree.specs.Walk.{walk}
 use Rattle.rga_tree.specs.TextOf.{is_erased}
@@ -19,7 +19,7 @@ use Rattle.rga_tree.specs.Elements.{element_of, elements}
 use Rattle.rga_tree.specs.Row.{entry_of, hidden_ids, operations_of, ids_of, is_distinct}
 use Rattle.rga_tree.specs.KeepsWalk.{KeepsWalk}
 use Rattle.rga_tree.proofs.WalkAmong.{Entry}
-use Rattle.rga_tree.proofs.Entries.{IsAbsent, and_parts}
+use Rattle.rga_tree.proofs.Entries.{IsAbsent}
 use Rattle.rga_tree.proofs.SetSteps.{AllWellFormed-with, OnlyErasesPlaced-erase, same_id-swap}
 use Rattle.rga_tree.proofs.RowSets.{has_row}
 use Rattle.rga_tree.proofs.Placing.{present_before}
@@ -67,11 +67,6 @@ both_hidden false true l true = refl
 both_hidden false true l false = refl
 both_hidden false false l true = refl
 both_hidden false false l false = refl
-
-or_swap : (a b c : Bool) → (a || (b || c)) ≡ (b || (a || c))
-or_swap true true c = refl
-or_swap true false c = refl
-or_swap false b c = refl
 
 other_hidden : (q a b l h : Bool) → cond h (q || ((a && b) || l)) ((a && b) || l) ≡ ((a && b) || cond h (q || l) l)
 other_hidden q a b l true = or_swap q (a && b) l

@@ -19,3 +19,4 @@ pub mod TreeAttached
 pub mod LeafWalk
 pub mod Taken
 pub mod Examples
+pub mod Interface

@@ -6,7 +6,7 @@ use Rattle.std.proofs.lemmas.List.{reverse-append}
 use Rattle.std.specs.FinMap.Entries.{find}
 use Rattle.bg_types.specs.Identifier.{Identifier, id_cmp, same_id}
 use Rattle.bg_types.specs.OperationSet.{Node}
-use Rattle.bg_types.proofs.IdentifierOrder.{same_id-is, same_id-itself}
+use Rattle.bg_types.proofs.Interface.{same_id-is, same_id-itself, or_left, or_right}
 use Rattle.rga_tree.proofs.WalkAmong.{Entry}
 
 -- the entry stands in the list
@@ -60,13 +60,6 @@ listed-append a (x ∷ xs) ys = ap (λ b. same_id a x.0 || b) (listed-append a x
 pub or_cases : (a b : Bool) → (a || b) ≡ true → (a ≡ true) ⊎ (b ≡ true)
 or_cases true b h = inl refl
 or_cases false b h = inr h
-
-pub or_left : (a b : Bool) → a ≡ true → (a || b) ≡ true
-or_left a b h = ap (λ c. c || b) h
-
-pub or_right : (a b : Bool) → b ≡ true → (a || b) ≡ true
-or_right true b h = refl
-or_right false b h = h
 
 -- listed in what one of them gives
 pub listed-flat_map : (a : Identifier) (f : Entry → List Entry) (e : Entry) (xs : List Entry) → IsIn e xs → is_listed a (f e) ≡ true → is_listed a (flat_map f xs) ≡ true

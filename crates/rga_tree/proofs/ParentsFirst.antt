@@ -7,10 +7,10 @@ use Rattle.bg_types.specs.Identifier.{Identifier, same_id}
 use Rattle.bg_types.specs.OperationSet.{OperationSet}
 use Rattle.bg_types.specs.declared.op.Place.{Place}
 use Rattle.bg_types.specs.declared.op.Place.TheVariants.{Root, After}
-use Rattle.bg_types.proofs.IdentifierOrder.{same_id-itself}
+use Rattle.bg_types.proofs.Interface.{same_id-itself, or_left, or_right}
 use Rattle.rga_tree.specs.Walk.{children, walk_to, walk, StandsAmong}
 use Rattle.rga_tree.proofs.WalkAmong.{Entry}
-use Rattle.rga_tree.proofs.Listed.{is_listed, listed-append, or_left, or_right, Contains-listed}
+use Rattle.rga_tree.proofs.Listed.{is_listed, listed-append, Contains-listed}
 use Rattle.rga_tree.proofs.AttachedWalk.{all_children}
 
 abbrev IsListed : Place → List Entry → Type 0

@@ -9,7 +9,7 @@ use Rattle.std.specs.FinMap.Entries.{find}
 use Rattle.std.proofs.lemmas.List.{take-append-drop, map-append}
 use Rattle.bg_types.specs.Identifier.{Identifier, id_cmp, same_id}
 use Rattle.bg_types.specs.OperationSet.{Node}
-use Rattle.bg_types.proofs.IdentifierOrder.{id_cmp-total, id_cmp-exact, same_id-is}
+use Rattle.bg_types.proofs.Interface.{id_cmp-total, id_cmp-exact, same_id-is, or_swap}
 use Rattle.rga_tree.specs.declared.element.Element.{Element}
 use Rattle.rga_tree.specs.Row.{entry_of, hidden_ids, operations_of}
 use Rattle.rga_tree.proofs.WalkAmong.{Entry}
@@ -37,11 +37,6 @@ map_with l r n absent = map.same_map id_cmp-total id_cmp-exact _ _ (λ q.
     ∙ ap (λ es. cond (eq_by_cmp id_cmp q n.id) (Some (node_of n)) (find id_cmp q es)) (sym (map-append entry_of l r))
     ∙ sym (map.get-insert id_cmp-total (map.from_entries (each entry_of (l ++ r))) n.id (node_of n) q
     ∙ ap (cond (eq_by_cmp id_cmp q n.id) (Some (node_of n))) (map.get-from_entries id_cmp-total (each entry_of (l ++ r)) q)))
-
-or_swap : (a b c : Bool) → (a || (b || c)) ≡ (b || (a || c))
-or_swap true true c = refl
-or_swap true false c = refl
-or_swap false b c = refl
 
 hidden_with : (p : Identifier → Bool) (l r : List Element) (n : Element) → list_any p (hidden_ids (l ++ n ∷ r)) ≡ (cond n.hidden (p n.id) false || list_any p (hidden_ids (l ++ r)))
 hidden_with p [] r n = elim n.hidden as (λ b. list_any p (each (λ e. e.id) (cond b (n ∷ filter (λ e. e.hidden) r) (filter (λ e. e.hidden) r))) ≡ (cond b (p n.id) false || list_any p (hidden_ids r))) [ true ↦ refl | false ↦ refl ]

@@ -8,7 +8,7 @@ use Rattle.std.specs.FinMap.Entries.{find}
 use Rattle.bg_types.specs.Identifier.{Identifier, id_cmp, same_id}
 use Rattle.bg_types.specs.OperationSet.{OperationSet}
 use Rattle.bg_types.specs.declared.op.Place.TheVariants.{Root}
-use Rattle.bg_types.proofs.IdentifierOrder.{same_id-is}
+use Rattle.bg_types.proofs.Interface.{same_id-is}
 use Rattle.rga_tree.specs.declared.element.Element.{Element}
 use Rattle.rga_tree.specs.Walk.{walk}
 use Rattle.rga_tree.specs.TextOf.{is_erased, visible, visible_ids, text}

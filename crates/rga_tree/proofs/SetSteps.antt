@@ -12,7 +12,7 @@ use Rattle.bg_types.specs.declared.op.Place.{Place}
 use Rattle.bg_types.specs.declared.op.Place.TheVariants.{Root, After}
 use Rattle.bg_types.specs.declared.op.OpView.{OpView}
 use Rattle.bg_types.specs.declared.op.OpView.TheVariants.{Insert, Erase}
-use Rattle.bg_types.proofs.IdentifierOrder.{id_cmp-total, same_id-is, same_id-itself}
+use Rattle.bg_types.proofs.Interface.{id_cmp-total, same_id-is, same_id-itself}
 use Rattle.rga_tree.specs.declared.element.Element.{Element}
 use Rattle.rga_tree.specs.Walk.{walk}
 use Rattle.rga_tree.specs.TextOf.{is_erased}

@@ -9,7 +9,7 @@ use Rattle.bg_types.specs.Identifier.{Identifier, id_cmp}
 use Rattle.bg_types.specs.OperationSet.{Node, OperationSet, Holds, no_operations, with_operation}
 use Rattle.bg_types.specs.declared.op.OpView.{OpView}
 use Rattle.bg_types.specs.declared.op.OpView.TheVariants.{Insert, Erase}
-use Rattle.bg_types.proofs.IdentifierOrder.{id_cmp-total, id_cmp-exact, same_id-is, same_id-itself}
+use Rattle.bg_types.proofs.Interface.{id_cmp-total, id_cmp-exact, same_id-is, same_id-itself}
 use Rattle.rga_tree.specs.Examples.{set_of, HaveSameOperations}
 
 -- ---- sets by what they hold

@@ -9,7 +9,7 @@ use Rattle.bg_types.specs.Identifier.{Identifier, id_cmp}
 use Rattle.bg_types.specs.OperationSet.{Node, OperationSet, AllWellFormed}
 use Rattle.bg_types.specs.declared.op.Place.{Place}
 use Rattle.bg_types.specs.declared.op.Place.TheVariants.{Root, After}
-use Rattle.bg_types.proofs.IdentifierOrder.{id_cmp-total}
+use Rattle.bg_types.proofs.Interface.{id_cmp-total}
 use Rattle.rga_tree.specs.Walk.{Insertions}
 use Rattle.rga_tree.specs.Attached.{IsAttached}
 use Rattle.rga_tree.specs.Attached.IsAttached.{below_root, below}

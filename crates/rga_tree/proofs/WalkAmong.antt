@@ -10,7 +10,7 @@ use Rattle.bg_types.specs.Identifier.{Identifier, id_cmp, same_id}
 use Rattle.bg_types.specs.OperationSet.{Node}
 use Rattle.bg_types.specs.declared.op.Place.{Place}
 use Rattle.bg_types.specs.declared.op.Place.TheVariants.{Root, After}
-use Rattle.bg_types.proofs.IdentifierOrder.{id_cmp-total, same_id-is}
+use Rattle.bg_types.proofs.Interface.{id_cmp-total, same_id-is}
 use Rattle.rga_tree.specs.Walk.{same_place}
 
 abbrev pub Entry : Type 0

@@ -8,7 +8,7 @@ use Rattle.bg_types.specs.Identifier.{id_cmp, same_id}
 use Rattle.bg_types.specs.OperationSet.{OperationSet, AllWellFormed}
 use Rattle.bg_types.specs.declared.op.Place.{Place}
 use Rattle.bg_types.specs.declared.op.Place.TheVariants.{Root, After}
-use Rattle.bg_types.proofs.IdentifierOrder.{id_cmp-total, same_id-is, same_id-itself}
+use Rattle.bg_types.proofs.Interface.{id_cmp-total, same_id-is, same_id-itself}
 use Rattle.rga_tree.specs.Walk.{same_place, walk, walked_ids}
 use Rattle.rga_tree.proofs.WalkAmong.{Entry, walk_among, Rises, AreWellFounded, IsLow, all_append, low_all, not_at, walk_all, same_is}
 use Rattle.rga_tree.proofs.Entries.{IsAbsent, all_weaker, both_all, entries_of, Rises-entries, AreWellFounded-entries}

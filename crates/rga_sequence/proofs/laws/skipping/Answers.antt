@@ -1,4 +1,4 @@
-use Rattle.rga_sequence.proofs.Skipping.{walk-leaf_attached}
+use Rattle.rga_tree.proofs.Interface.{walk-leaf_attached}
 use Rattle.rga_sequence.proofs.laws.skipping.Goals as goal
 
 pub returns : goal.returns

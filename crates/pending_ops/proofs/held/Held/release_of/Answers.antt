@@ -1,6 +1,6 @@
 use Rattle.std.proofs.Common.{◌≡◌, List, true, false, cond, sym, ap, subst, ◌∙◌, refl, length, arith, rules, is_some}
 use Rattle.bg_types.specs.Identifier.{Identifier, same_id}
-use Rattle.bg_types.proofs.IdentifierOrder.{same_id-is}
+use Rattle.bg_types.proofs.Interface.{same_id-is}
 use Rattle.pending_ops.specs.Waiting.{Releases}
 use Rattle.pending_ops.specs.Chains.{AreApart, first_in, is_in, waiting_of}
 use Rattle.pending_ops.proofs.Tables.{IsDistinct-id_eq, added_one, from_ok, is_in-updated, list_any-id_eq, none_there, ok_if, ok_is}

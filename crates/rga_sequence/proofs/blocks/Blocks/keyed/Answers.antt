@@ -1,6 +1,6 @@
 use Rattle.std.proofs.Common.{◌∙◌, sym, ap, length, arith}
 use Rattle.std.specs.Map.{lookup}
-use Rattle.rga_tree.proofs.Placing.{KeepsWalk-nothing}
+use Rattle.rga_tree.proofs.Interface.{KeepsWalk-nothing}
 use Rattle.rga_sequence.specs.Blocks.{joined, seen}
 use Rattle.rga_sequence.specs.BlockRows.{items_of, numbers_of, home_of}
 use Rattle.rga_sequence.proofs.Homes.{id_eq}

@@ -1,5 +1,5 @@
 use Rattle.std.proofs.Common.{arith}
-use Rattle.rga_tree.proofs.Seen.{seen_at, visible_row}
+use Rattle.rga_tree.proofs.Interface.{seen_at, visible_row}
 use Rattle.rga_sequence.specs.Indexed.{blocks_in, elements_in}
 use Rattle.rga_sequence.proofs.Whole.{seen_all-joined}
 use Rattle.rga_sequence.proofs.blocks.Blocks.shown.Goals as goal

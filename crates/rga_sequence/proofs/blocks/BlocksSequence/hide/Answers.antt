@@ -3,9 +3,8 @@ use Rattle.std.specs.Prelude.{set}
 use Rattle.bg_types.specs.declared.op.Place.TheVariants.{Root}
 use Rattle.rga_tree.specs.declared.element.Element.{Element}
 use Rattle.rga_tree.specs.Row.{operations_of}
-use Rattle.rga_tree.proofs.Hiding.{hiding}
+use Rattle.rga_tree.proofs.Interface.{hiding, has_row}
 use Rattle.rga_tree.specs.KeepsWalk.{KeepsWalk}
-use Rattle.rga_tree.proofs.RowSets.{has_row}
 use Rattle.rga_sequence.specs.Indexed.{elements_in}
 use Rattle.rga_sequence.proofs.Members.{until, until_some}
 use Rattle.rga_sequence.proofs.Whole.{any_default}

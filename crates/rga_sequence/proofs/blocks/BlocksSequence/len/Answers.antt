@@ -1,5 +1,5 @@
 use Rattle.std.proofs.Common.{◌∙◌}
-use Rattle.rga_tree.proofs.Seen.{visible_row}
+use Rattle.rga_tree.proofs.Interface.{visible_row}
 use Rattle.rga_sequence.specs.Indexed.{elements_in}
 use Rattle.rga_sequence.proofs.blocks.BlocksSequence.len.Goals as goal
 

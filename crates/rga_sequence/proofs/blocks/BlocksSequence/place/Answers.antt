@@ -2,8 +2,7 @@ use Rattle.std.proofs.Common.{◌≡◌, ◌+◌, ◌-◌, ◌∙◌, sym, ap, s
 use Rattle.std.proofs.lemmas.List.Edits.{length-insert}
 use Rattle.rga_tree.specs.declared.element.Element.{Element}
 use Rattle.rga_tree.specs.Row.{place_of}
-use Rattle.rga_tree.proofs.Placing.{placing, start_within}
-use Rattle.rga_tree.proofs.RowSets.{has_row}
+use Rattle.rga_tree.proofs.Interface.{placing, start_within, has_row}
 use Rattle.rga_sequence.specs.Blocks.{seen}
 use Rattle.rga_sequence.specs.Indexed.{elements_in, HasRoom}
 use Rattle.rga_sequence.proofs.Grown.{seen-insert, seen_le, weight_le}

@@ -1,0 +1,16 @@
+-- What proofs of the crates above may import of this crate's proofs. They import nothing else of them.
+pub use Rattle.rga_tree.proofs.WalkAmong.{Entry}
+pub use Rattle.rga_tree.proofs.Entries.{IsAbsent, entries_of, Rises-entries, AreWellFounded-entries}
+pub use Rattle.rga_tree.proofs.Depth.{walk-among}
+pub use Rattle.rga_tree.proofs.SetSteps.{AllWellFormed-with, IsTree-grown, OnlyErasesPlaced-grown, same_id-swap}
+pub use Rattle.rga_tree.proofs.RowPlaces.{AreDistinct}
+pub use Rattle.rga_tree.proofs.RowSets.{has_row}
+pub use Rattle.rga_tree.proofs.Placing.{KeepsWalk-nothing, placing, start_within}
+pub use Rattle.rga_tree.proofs.Hiding.{hiding}
+pub use Rattle.rga_tree.proofs.Seen.{element_row, visible_row, seen_at}
+pub use Rattle.rga_tree.proofs.Listed.{is_listed, all_listed}
+pub use Rattle.rga_tree.proofs.AttachedWalk.{IsReached, IsAttached-child, all_passing, all_weaker_by, all_attached, all_held, listed-attached}
+pub use Rattle.rga_tree.proofs.WalkDistinct.{AreDistinct-walk, IsDistinct-walked}
+pub use Rattle.rga_tree.proofs.AttachedPart.{walk-part}
+pub use Rattle.rga_tree.proofs.TreeAttached.{IsAttached-more, IsAttached-tree}
+pub use Rattle.rga_tree.proofs.LeafWalk.{walk-leaf_attached, walk-leaf_at}
