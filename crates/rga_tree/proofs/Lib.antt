@@ -14,8 +14,11 @@ pub mod Listed
 pub mod AttachedWalk
 pub mod WalkDistinct
 pub mod ParentsFirst
-pub mod AttachedPart
 pub mod TreeAttached
+pub mod SubWalk
+pub mod AttachedPart
+pub mod Lines
+pub mod OneOrder
 pub mod LeafWalk
 pub mod Taken
 pub mod Examples

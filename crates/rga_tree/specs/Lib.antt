@@ -7,3 +7,6 @@ pub mod Elements
 pub mod Row
 pub mod Examples
 pub mod Leaf
+pub mod Parts
+pub mod Order
+pub mod Stretch

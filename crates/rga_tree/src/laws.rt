@@ -1,18 +1,21 @@
 //! Laws of the definitions: each function's contract is the law, and its body is empty.
 
-ghost use Rattle.std.specs.Prelude.{◌≡◌, ◌↔◌, ◌∷◌, ◌++◌, List, Some, true, Contains, insert, false, codes};
+ghost use Rattle.std.specs.Prelude.{◌≡◌, ◌≢◌, ◌↔◌, ◌⊎◌, ◌∷◌, ◌++◌, List, Some, true, Contains, filter, insert, false, codes};
+ghost use Rattle.std.specs.declared.cmp.Ordering.TheVariants.{Less};
 ghost use Rattle.std.specs.List.{flat_map, IsDistinct};
 ghost use Rattle.std.specs.FinMap as map;
 ghost use Rattle.std.specs.FinSet as set;
-ghost use Rattle.bg_types.specs.Identifier.{Identifier, same_id};
-ghost use Rattle.bg_types.specs.OperationSet.{Node, OperationSet, AllWellFormed, with_operation};
+ghost use Rattle.bg_types.specs.Identifier.{Identifier, id_cmp, same_id};
+ghost use Rattle.bg_types.specs.OperationSet.{Node, OperationSet, Agree, AllWellFormed, with_operation};
 ghost use Rattle.bg_types.specs.WellFormed.{IsWellFormed};
 ghost use Rattle.bg_types.specs.declared.op.OpView.{OpView};
 ghost use Rattle.bg_types.specs.declared.op.OpView.TheVariants.{Insert};
 ghost use Rattle.bg_types.specs.declared.op.Place.{Place};
 ghost use Rattle.bg_types.specs.declared.op.Place.TheVariants.{Root, After};
 ghost use Rattle.rga_tree.specs.Walk.{walk, children, walked_ids, StandsAmong};
-ghost use Rattle.rga_tree.specs.Attached.{IsAttached, IsAttachedPart};
+ghost use Rattle.rga_tree.specs.Attached.{IsAttached, IsAttachedPart, is_attached};
+ghost use Rattle.rga_tree.specs.Parts.{IsPartOf};
+ghost use Rattle.rga_tree.specs.Order.{Precedes, StandsBetween};
 ghost use Rattle.rga_tree.specs.TextOf.{text};
 ghost use Rattle.rga_tree.specs.Tree.{stands_in, IsTree};
 ghost use Rattle.rga_tree.specs.Elements.{elements};
@@ -65,6 +68,50 @@ pub fn one_more_leaf()
         → map.contains_key s.ins id ≡ false
         → walk (with_operation s (Insert id node.parent node.ch)) Root
         ≡ insert (walk s Root) (place_of node.parent id (elements s)) (id, node) }
+{}
+
+/// The sub-walk law: the walk of a part of a set is the walk of the set with all left out that is
+/// not attached in the part.
+pub fn sub_walk()
+    ensures walk { (s t : OperationSet) → AllWellFormed t → IsPartOf s t
+        → walk s Root ≡ filter (λ e. is_attached s e.0) (walk t Root) }
+    ensures test { (s : OperationSet) → AllWellFormed s → (id : Identifier)
+        → (is_attached s id ≡ true) ↔ IsAttached s.ins id }
+    ensures stays { (s t : OperationSet) → IsPartOf s t → (id : Identifier)
+        → IsAttached s.ins id → IsAttached t.ins id }
+{}
+
+/// The walk puts the attached identifiers, and no others, into one line: of two that differ one
+/// precedes the other, and never each the other.
+pub fn walk_order()
+    ensures attached { (s : OperationSet) → AllWellFormed s → (a b : Identifier)
+        → Precedes s a b → IsAttached s.ins a × IsAttached s.ins b }
+    ensures either { (s : OperationSet) → AllWellFormed s → (a b : Identifier)
+        → IsAttached s.ins a → IsAttached s.ins b → a ≢ b → Precedes s a b ⊎ Precedes s b a }
+    ensures never_both { (s : OperationSet) → AllWellFormed s → (a b : Identifier)
+        → Precedes s a b → Precedes s b a → ⊥ }
+    ensures in_turn { (s : OperationSet) → AllWellFormed s → (a b c : Identifier)
+        → Precedes s a b → Precedes s b c → Precedes s a c }
+{}
+
+/// Sets that agree read all characters that both have attached, erased ones too, in one order. So
+/// a character that stands between two others stands between them wherever the three are.
+pub fn one_order()
+    ensures agree { (s t : OperationSet) → AllWellFormed s → AllWellFormed t → Agree s t
+        → (a b : Identifier) → IsAttached s.ins a → IsAttached s.ins b
+        → IsAttached t.ins a → IsAttached t.ins b → Precedes s a b ↔ Precedes t a b }
+    ensures between { (s t : OperationSet) → AllWellFormed s → AllWellFormed t → Agree s t
+        → (a x b : Identifier) → StandsBetween s a x b
+        → IsAttached t.ins a → IsAttached t.ins x → IsAttached t.ins b → StandsBetween t a x b }
+    ensures more { (s t : OperationSet) → AllWellFormed t → IsPartOf s t → (a b : Identifier)
+        → Precedes s a b → Precedes t a b }
+{}
+
+/// Sets with equal insertions have one walk, and sets with the same operations read as one text.
+pub fn same_sets()
+    ensures walk { (s t : OperationSet)
+        → ((id : Identifier) → map.get s.ins id ≡ map.get t.ins id) → (p : Place) → walk s p ≡ walk t p }
+    ensures text { (s t : OperationSet) → IsPartOf s t → IsPartOf t s → text s ≡ text t }
 {}
 
 /// What small sets of operations read as, in whatever order they are taken.
