@@ -19,6 +19,8 @@ pub mod SubWalk
 pub mod AttachedPart
 pub mod Lines
 pub mod OneOrder
+pub mod Below
+pub mod Chains
 pub mod LeafWalk
 pub mod Taken
 pub mod Examples

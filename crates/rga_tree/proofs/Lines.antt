@@ -1,6 +1,6 @@
 -- Which identifier stands before which in a list.
-use Rattle.std.proofs.Common.{◌≡◌, ◌⊎◌, inl, inr, Bool, true, false, cond, ◌||◌, List, [], ◌∷◌, ◌++◌, refl, sym, ap, subst, ◌∙◌, append_assoc}
-use Rattle.std.specs.Prelude.{filter}
+use Rattle.std.proofs.Common.{◌≡◌, ℕ, zero, suc, ◌<◌, ◌⊎◌, inl, inr, Bool, true, false, cond, ◌||◌, List, [], ◌∷◌, ◌++◌, length, refl, sym, ap, subst, ◌∙◌, append_assoc, arith}
+use Rattle.std.specs.Prelude.{filter, Contains, slice_index_or}
 use Rattle.std.specs.List.{AllByRecursion, IsDistinct, list_any}
 use Rattle.std.proofs.lemmas.List.Elements.{filter-append}
 use Rattle.std.proofs.lemmas.List.Folds.{list_any-append}
@@ -26,6 +26,13 @@ among_first a xs = or_left (same_id a a) (is_among a xs) (same_id-itself a)
 
 pub among_here : (a : Identifier) (xs ys : Ids) → is_among a (xs ++ a ∷ ys) ≡ true
 among_here a xs ys = among_right a xs (a ∷ ys) (among_first a ys)
+
+pub among-contains : (a : Identifier) (ids : Ids) → Contains ids a → is_among a ids ≡ true
+among-contains a ids c = by_place ids c.0 c.1 c.2 where
+  by_place : (ids : Ids) (k : ℕ) → k < length ids → slice_index_or ids k a ≡ a → is_among a ids ≡ true
+  by_place [] k within is = absurd (omega arith)
+  by_place (x ∷ ids) zero within is = or_left (same_id a x) (is_among a ids) (ap (same_id a) is ∙ same_id-itself a)
+  by_place (x ∷ ids) (suc k) within is = or_right (same_id a x) (is_among a ids) (by_place ids k (omega arith) is)
 
 pub StandsBefore-behind : (x a b : Identifier) (ids : Ids) → StandsBefore ids a b → StandsBefore (x ∷ ids) a b
 StandsBefore-behind x a b ids h = record { front = x ∷ h.front; between = h.between; back = h.back; in_order = ap (λ r. x ∷ r) h.in_order }
@@ -68,11 +75,10 @@ not_among x a (y ∷ ids) apart at is = by_test (same_id a y) refl at (λ h. not
   by_test true here h later = let itself : same_id x y ≡ true = ap (λ z. same_id z y) is ∙ here in let other = apart.0 in absurd cc
   by_test false here h later = later h
 
--- the list behind the first, where one stands in it
-tail_is : (x y : Identifier) (xs ys : Ids) → x ∷ xs ≡ y ∷ ys → xs ≡ ys
+pub tail_is : (x y : Identifier) (xs ys : Ids) → x ∷ xs ≡ y ∷ ys → xs ≡ ys
 tail_is x y xs ys e = cc
 
-head_is : (x y : Identifier) (xs ys : Ids) → x ∷ xs ≡ y ∷ ys → x ≡ y
+pub head_is : (x y : Identifier) (xs ys : Ids) → x ∷ xs ≡ y ∷ ys → x ≡ y
 head_is x y xs ys e = cc
 
 twice : (x a : Identifier) (ids front back : Ids) → IsDistinct same_id (x ∷ ids) → ids ≡ front ++ a ∷ back → x ≡ a → ⊥

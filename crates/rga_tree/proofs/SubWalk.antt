@@ -116,7 +116,7 @@ is_had ins (below_root id ch is) = ap is_some is
 is_had ins (below id parent ch is up) = ap is_some is
 
 -- where t names p as the parent, s that has it attached has p attached
-attached_parent : (s t : OperationSet) (p q : Identifier) (node : Node) → IsInsertedPart s t → map.get t.ins q ≡ Some node → node.parent ≡ After p → IsAttached s.ins q → IsAttached s.ins p
+pub attached_parent : (s t : OperationSet) (p q : Identifier) (node : Node) → IsInsertedPart s t → map.get t.ins q ≡ Some node → node.parent ≡ After p → IsAttached s.ins q → IsAttached s.ins p
 attached_parent s t p q node part held at (below_root id ch is) =
     let same : Some node ≡ Some (record { parent = Root; ch = ch }) = sym held ∙ part q (record { parent = Root; ch = ch }) is in absurd cc
 attached_parent s t p q node part held at (below id parent ch is up) =
@@ -167,7 +167,7 @@ module _ (s t : OperationSet) (part : IsInsertedPart s t) (keep : Identifier →
 
 -- ---- the test of being attached
 
-listed_ids : (a : Identifier) (es : List Entry) → list_any (same_id a) (each (λ e. e.0) es) ≡ is_listed a es
+pub listed_ids : (a : Identifier) (es : List Entry) → list_any (same_id a) (each (λ e. e.0) es) ≡ is_listed a es
 listed_ids a [] = refl
 listed_ids a (e ∷ es) = ap (λ b. same_id a e.0 || b) (listed_ids a es)
 

@@ -40,7 +40,7 @@ in_front [] r x e lt above (inr there) = absurd (later r above there) where
 in_front (y ∷ l) r x e lt above (inl here) = inl here
 in_front (y ∷ l) r x e lt above (inr there) = inr (in_front l r x e lt above there)
 
-all_in : (P : Entry → Type 0) (es : List Entry) (x : Entry) → AllByRecursion P es → IsIn x es → P x
+pub all_in : (P : Entry → Type 0) (es : List Entry) (x : Entry) → AllByRecursion P es → IsIn x es → P x
 all_in P [] x h at = absurd at
 all_in P (e ∷ es) x h (inl here) = subst P here h.0
 all_in P (e ∷ es) x h (inr there) = all_in P es x h.1 there

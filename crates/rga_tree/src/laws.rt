@@ -16,6 +16,7 @@ ghost use Rattle.rga_tree.specs.Walk.{walk, children, walked_ids, StandsAmong};
 ghost use Rattle.rga_tree.specs.Attached.{IsAttached, IsAttachedPart, is_attached};
 ghost use Rattle.rga_tree.specs.Parts.{IsPartOf};
 ghost use Rattle.rga_tree.specs.Order.{Precedes, StandsBetween};
+ghost use Rattle.rga_tree.specs.Stretch.{IsChild, IsBelow, IsStretch, IsChain, IsLeftOf};
 ghost use Rattle.rga_tree.specs.TextOf.{text};
 ghost use Rattle.rga_tree.specs.Tree.{stands_in, IsTree};
 ghost use Rattle.rga_tree.specs.Elements.{elements};
@@ -105,6 +106,23 @@ pub fn one_order()
         → IsAttached t.ins a → IsAttached t.ins x → IsAttached t.ins b → StandsBetween t a x b }
     ensures more { (s t : OperationSet) → AllWellFormed t → IsPartOf s t → (a b : Identifier)
         → Precedes s a b → Precedes t a b }
+{}
+
+/// The unbroken-stretch law: an attached identifier and all below it stand in one unbroken stretch
+/// of the walk. So two runs whose first ones stand apart never mix; of two runs behind one place,
+/// the one whose first identifier is greater is wholly left of the other.
+pub fn unbroken_stretch()
+    ensures stretch { (s : OperationSet) → AllWellFormed s → (top : Identifier)
+        → IsAttached s.ins top → IsStretch s top }
+    ensures chains { (s : OperationSet) → AllWellFormed s → (a b : Identifier) (xs ys : List Identifier)
+        → IsAttached s.ins a → IsAttached s.ins b → IsChain s.ins (a ∷ xs) → IsChain s.ins (b ∷ ys)
+        → a ≢ b → (IsBelow s.ins a b → ⊥) → (IsBelow s.ins b a → ⊥)
+        → IsLeftOf s (a ∷ xs) (b ∷ ys) ⊎ IsLeftOf s (b ∷ ys) (a ∷ xs) }
+    ensures one_place { (s : OperationSet) → AllWellFormed s → (place : Place)
+        → (a b : Identifier) (xs ys : List Identifier) → IsAttached s.ins a → IsAttached s.ins b
+        → IsChild s.ins place a → IsChild s.ins place b
+        → IsChain s.ins (a ∷ xs) → IsChain s.ins (b ∷ ys)
+        → id_cmp b a ≡ Less → IsLeftOf s (a ∷ xs) (b ∷ ys) }
 {}
 
 /// Sets with equal insertions have one walk, and sets with the same operations read as one text.
