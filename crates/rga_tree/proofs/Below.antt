@@ -13,8 +13,8 @@ use Rattle.bg_types.specs.declared.op.Place.TheVariants.{Root, After}
 use Rattle.rga_tree.specs.Walk.{Insertions, children, walk_to, walk, walked_ids}
 use Rattle.rga_tree.specs.Attached.{IsAttached}
 use Rattle.rga_tree.specs.Attached.IsAttached.{below_root, below}
-use Rattle.rga_tree.specs.Stretch.{IsChild, IsBelow, IsStretch}
-use Rattle.rga_tree.specs.Stretch.IsBelow.{child, deeper}
+use Rattle.rga_tree.specs.Stretch.{IsChild, StandsBelow, IsStretch}
+use Rattle.rga_tree.specs.Stretch.StandsBelow.{child, deeper}
 use Rattle.rga_tree.proofs.WalkAmong.{Entry}
 use Rattle.rga_tree.proofs.PreorderLaw.{walk-preorder}
 use Rattle.rga_tree.proofs.Listed.{IsIn, is_listed, all_listed, Contains-listed, listed-contains}
@@ -71,26 +71,26 @@ reads_attached s well (below id parent ch is up) =
 
 -- ---- what stands in it
 
-below_step : (ins : Insertions) (top q id : Identifier) → (q ≡ top) ⊎ IsBelow ins top q → IsChild ins (After q) id → IsBelow ins top id
+below_step : (ins : Insertions) (top q id : Identifier) → (q ≡ top) ⊎ StandsBelow ins top q → IsChild ins (After q) id → StandsBelow ins top id
 below_step ins top q id (inl same) c = child id (subst (λ x. IsChild ins (After x) id) same c)
 below_step ins top q id (inr on) c = deeper id q c on
 
-all_below : (s : OperationSet) (top : Identifier) (depth : ℕ) (q : Identifier) → (q ≡ top) ⊎ IsBelow s.ins top q → AllByRecursion (λ e. IsBelow s.ins top e.0) (walk_to depth s.ins (After q))
+all_below : (s : OperationSet) (top : Identifier) (depth : ℕ) (q : Identifier) → (q ≡ top) ⊎ StandsBelow s.ins top q → AllByRecursion (λ e. StandsBelow s.ins top e.0) (walk_to depth s.ins (After q))
 all_below s top zero q on = tt
 all_below s top (suc depth) q on =
-    let P : Entry → Type 0 = λ e. IsBelow s.ins top e.0 in
+    let P : Entry → Type 0 = λ e. StandsBelow s.ins top e.0 in
     all_flat_map P (λ e. e ∷ walk_to depth s.ins (After e.0)) (children s.ins (After q))
     (all_children s (After q) (λ e. AllByRecursion P (e ∷ walk_to depth s.ins (After e.0)))
     (λ e held at. let here = below_step s.ins top q e.0 on (e.1, held, at) in (here, all_below s top depth e.0 (inr here))))
 
-pub listed_below : (s : OperationSet) → AllWellFormed s → (top : Identifier) {id : Identifier} → IsBelow s.ins top id → is_listed id (walk s (After top)) ≡ true
+pub listed_below : (s : OperationSet) → AllWellFormed s → (top : Identifier) {id : Identifier} → StandsBelow s.ins top id → is_listed id (walk s (After top)) ≡ true
 listed_below s well top (child id c) =
     ap (is_listed id) (walk-preorder s well (After top)) ∙ listed-child (map.len s.ins) s.ins (After top) (id, c.0) (child_entry s (After top) id c)
 listed_below s well top (deeper id parent c up) =
     ap (is_listed id) (walk-preorder s well (After top)) ∙ listed-below (map.len s.ins) s.ins (After top) parent (id, c.0) (listed_below s well top up) (child_entry s (After parent) id c)
 
-pub below_listed : (s : OperationSet) (top id : Identifier) → is_listed id (walk s (After top)) ≡ true → IsBelow s.ins top id
-below_listed s top id h = all_listed (IsBelow s.ins top) (walk s (After top)) id (all_below s top (map.len s.ins) top (inl refl)) h
+pub below_listed : (s : OperationSet) (top id : Identifier) → is_listed id (walk s (After top)) ≡ true → StandsBelow s.ins top id
+below_listed s top id h = all_listed (StandsBelow s.ins top) (walk s (After top)) id (all_below s top (map.len s.ins) top (inl refl)) h
 
 pub reads_ids : (s : OperationSet) (top : Identifier) (r : ReadsBelow s Root top) → walked_ids s ≡ each (λ e. e.0) r.0 ++ (top ∷ each (λ e. e.0) (walk s (After top))) ++ each (λ e. e.0) r.2
 reads_ids s top r =

@@ -20,7 +20,9 @@ pub mod AttachedPart
 pub mod Lines
 pub mod OneOrder
 pub mod Below
-pub mod Chains
+pub mod Runs
+pub mod TypedPlace
 pub mod LeafWalk
 pub mod Taken
 pub mod Examples
+pub mod OrderExamples

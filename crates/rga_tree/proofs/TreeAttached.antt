@@ -45,7 +45,7 @@ all_in P [] x h at = absurd at
 all_in P (e ∷ es) x h (inl here) = subst P here h.0
 all_in P (e ∷ es) x h (inr there) = all_in P es x h.1 there
 
-all_last : (P : Entry → Type 0) (l r : List Entry) → AllByRecursion P (l ++ r) → AllByRecursion P r
+pub all_last : (P : Entry → Type 0) (l r : List Entry) → AllByRecursion P (l ++ r) → AllByRecursion P r
 all_last P [] r h = h
 all_last P (x ∷ l) r h = all_last P l r h.1
 

@@ -13,9 +13,9 @@ abbrev pub IsChild : Insertions → Place → Identifier → Type 0
 IsChild ins place id = (node : Node) × (map.get ins id ≡ Some node) × (node.parent ≡ place)
 
 -- the chain of parents from the identifier meets top
-pub data IsBelow (ins : Insertions) (top : Identifier) : Identifier → Type 0 where
-  child : (id : Identifier) → IsChild ins (After top) id → IsBelow ins top id
-  deeper : (id parent : Identifier) → IsChild ins (After parent) id → IsBelow ins top parent → IsBelow ins top id
+pub data StandsBelow (ins : Insertions) (top : Identifier) : Identifier → Type 0 where
+  child : (id : Identifier) → IsChild ins (After top) id → StandsBelow ins top id
+  deeper : (id parent : Identifier) → IsChild ins (After parent) id → StandsBelow ins top parent → StandsBelow ins top id
 
 -- top and all below it, and nothing else, stand in one unbroken stretch of the walk
 pub record IsStretch (s : OperationSet) (top : Identifier) : Type 0 where
@@ -23,13 +23,13 @@ pub record IsStretch (s : OperationSet) (top : Identifier) : Type 0 where
   pub below : List Identifier
   pub back : List Identifier
   pub in_order : walked_ids s ≡ front ++ (top ∷ below) ++ back
-  pub all_below : (id : Identifier) → Contains below id ↔ IsBelow s.ins top id
+  pub all_below : (id : Identifier) → Contains below id ↔ StandsBelow s.ins top id
 
 -- each next one is a child of the one before
-abbrev pub IsChain : Insertions → List Identifier → Type 0
-IsChain ins [] = Unit {0}
-IsChain ins (a ∷ []) = Unit {0}
-IsChain ins (a ∷ b ∷ ids) = IsChild ins (After a) b × IsChain ins (b ∷ ids)
+abbrev pub IsRun : Insertions → List Identifier → Type 0
+IsRun ins [] = Unit {0}
+IsRun ins (a ∷ []) = Unit {0}
+IsRun ins (a ∷ b ∷ ids) = IsChild ins (After a) b × IsRun ins (b ∷ ids)
 
 -- each of the first stands before each of the second
 abbrev pub IsLeftOf : OperationSet → List Identifier → List Identifier → Type 0

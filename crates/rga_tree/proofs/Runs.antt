@@ -15,8 +15,8 @@ use Rattle.bg_types.proofs.IdentifierOrder.{id_cmp-total, same_id-is}
 use Rattle.rga_tree.specs.Walk.{Insertions, same_place, children, walk, walked_ids}
 use Rattle.rga_tree.specs.Attached.{IsAttached}
 use Rattle.rga_tree.specs.Order.{StandsBefore}
-use Rattle.rga_tree.specs.Stretch.{IsChild, IsBelow, IsChain, IsLeftOf}
-use Rattle.rga_tree.specs.Stretch.IsBelow.{child, deeper}
+use Rattle.rga_tree.specs.Stretch.{IsChild, StandsBelow, IsRun, IsLeftOf}
+use Rattle.rga_tree.specs.Stretch.StandsBelow.{child, deeper}
 use Rattle.rga_tree.proofs.WalkAmong.{Entry, Rises, AreAbove}
 use Rattle.rga_tree.proofs.PreorderLaw.{walk-preorder}
 use Rattle.rga_tree.proofs.Entries.{entries_of, Rises-entries}
@@ -61,7 +61,7 @@ in_blocks (z ∷ ids) (x ∷ f) k (y ∷ g) l xs ys a b p q out_b out_a =
       further (inr h) = inr (AreBlocks-behind z ids (b ∷ ys) (a ∷ xs) h)
 
 -- each of the first block stands before each of the second
-before_in_blocks : (ids xs ys : Ids) (x y : Identifier) → AreBlocks ids xs ys → is_among x xs ≡ true → is_among y ys ≡ true → StandsBefore ids x y
+pub before_in_blocks : (ids xs ys : Ids) (x y : Identifier) → AreBlocks ids xs ys → is_among x xs ≡ true → is_among y ys ≡ true → StandsBefore ids x y
 before_in_blocks ids xs ys x y h at_x at_y =
     let p = place_in x xs at_x in
     let q = place_in y ys at_y in
@@ -77,37 +77,37 @@ before_in_blocks ids xs ys x y h at_x at_y =
           ∙ sym (append_assoc (h.0 ++ p.0) (x ∷ (p.1 ++ (h.1 ++ q.0))) (y ∷ q.1 ++ h.2));
     }
 
--- ---- chains
+-- ---- runs
 
-through_below : (ins : Insertions) (a b : Identifier) {x : Identifier} → IsBelow ins a b → IsBelow ins b x → IsBelow ins a x
+through_below : (ins : Insertions) (a b : Identifier) {x : Identifier} → StandsBelow ins a b → StandsBelow ins b x → StandsBelow ins a x
 through_below ins a b up (child x c) = deeper x b c up
 through_below ins a b up (deeper x p c more) = deeper x p c (through_below ins a b up more)
 
--- all of a chain but its first one stand below that
-chain_below : (ins : Insertions) (a x : Identifier) (xs : Ids) → IsChain ins (a ∷ xs) → is_among x xs ≡ true → IsBelow ins a x
-chain_below ins a x [] chain at = absurd cc
-chain_below ins a x (b ∷ xs) chain at = by_place (or_cases (same_id x b) (is_among x xs) at) (chain_below ins b x xs chain.1) where
-  by_place : (same_id x b ≡ true) ⊎ (is_among x xs ≡ true) → (is_among x xs ≡ true → IsBelow ins b x) → IsBelow ins a x
-  by_place (inl here) more = subst (IsBelow ins a) (sym (same_id-is x b here)) (child b chain.0)
-  by_place (inr there) more = through_below ins a b (child b chain.0) (more there)
+-- all of a run but its first one stand below that
+run_below : (ins : Insertions) (a x : Identifier) (xs : Ids) → IsRun ins (a ∷ xs) → is_among x xs ≡ true → StandsBelow ins a x
+run_below ins a x [] run at = absurd cc
+run_below ins a x (b ∷ xs) run at = by_place (or_cases (same_id x b) (is_among x xs) at) (run_below ins b x xs run.1) where
+  by_place : (same_id x b ≡ true) ⊎ (is_among x xs ≡ true) → (is_among x xs ≡ true → StandsBelow ins b x) → StandsBelow ins a x
+  by_place (inl here) more = subst (StandsBelow ins a) (sym (same_id-is x b here)) (child b run.0)
+  by_place (inr there) more = through_below ins a b (child b run.0) (more there)
 
 -- the identifiers that the walk reads below one
 abbrev ids_below : OperationSet → Identifier → Ids
 ids_below s a = each (λ e. e.0) (walk s (After a))
 
-chain_in_block : (s : OperationSet) → AllWellFormed s → (a x : Identifier) (xs : Ids) → IsChain s.ins (a ∷ xs) → Contains (a ∷ xs) x → is_among x (a ∷ ids_below s a) ≡ true
-chain_in_block s well a x xs chain at = by_place (or_cases (same_id x a) (is_among x xs) (among-contains x (a ∷ xs) at)) where
+run_in_block : (s : OperationSet) → AllWellFormed s → (a x : Identifier) (xs : Ids) → IsRun s.ins (a ∷ xs) → Contains (a ∷ xs) x → is_among x (a ∷ ids_below s a) ≡ true
+run_in_block s well a x xs run at = by_place (or_cases (same_id x a) (is_among x xs) (among-contains x (a ∷ xs) at)) where
   by_place : (same_id x a ≡ true) ⊎ (is_among x xs ≡ true) → is_among x (a ∷ ids_below s a) ≡ true
   by_place (inl here) = or_left (same_id x a) (is_among x (ids_below s a)) here
-  by_place (inr there) = or_right (same_id x a) (is_among x (ids_below s a)) (listed_ids x (walk s (After a)) ∙ listed_below s well a (chain_below s.ins a x xs chain there))
+  by_place (inr there) = or_right (same_id x a) (is_among x (ids_below s a)) (listed_ids x (walk s (After a)) ∙ listed_below s well a (run_below s.ins a x xs run there))
 
-IsLeftOf-blocks : (s : OperationSet) → AllWellFormed s → (a b : Identifier) (xs ys : Ids) → IsChain s.ins (a ∷ xs) → IsChain s.ins (b ∷ ys)
+IsLeftOf-blocks : (s : OperationSet) → AllWellFormed s → (a b : Identifier) (xs ys : Ids) → IsRun s.ins (a ∷ xs) → IsRun s.ins (b ∷ ys)
     → AreBlocks (walked_ids s) (a ∷ ids_below s a) (b ∷ ids_below s b) → IsLeftOf s (a ∷ xs) (b ∷ ys)
-IsLeftOf-blocks s well a b xs ys chain_a chain_b blocks x y at_x at_y =
-    before_in_blocks (walked_ids s) (a ∷ ids_below s a) (b ∷ ids_below s b) x y blocks (chain_in_block s well a x xs chain_a at_x) (chain_in_block s well b y ys chain_b at_y)
+IsLeftOf-blocks s well a b xs ys run_a run_b blocks x y at_x at_y =
+    before_in_blocks (walked_ids s) (a ∷ ids_below s a) (b ∷ ids_below s b) x y blocks (run_in_block s well a x xs run_a at_x) (run_in_block s well b y ys run_b at_y)
 
 -- what differs from a, and is not below it, stands outside its stretch
-outside : (s : OperationSet) → AllWellFormed s → (a b : Identifier) → (a ≡ b → ⊥) → (IsBelow s.ins a b → ⊥) → is_among b (a ∷ ids_below s a) ≡ true → ⊥
+outside : (s : OperationSet) → AllWellFormed s → (a b : Identifier) → (a ≡ b → ⊥) → (StandsBelow s.ins a b → ⊥) → is_among b (a ∷ ids_below s a) ≡ true → ⊥
 outside s well a b differ apart at = by_place (or_cases (same_id b a) (is_among b (ids_below s a)) at) where
   by_place : (same_id b a ≡ true) ⊎ (is_among b (ids_below s a) ≡ true) → ⊥
   by_place (inl here) = differ (sym (same_id-is b a here))
@@ -118,16 +118,16 @@ block_of s well a at =
     let r = reads_attached s well at in
     (each (λ e. e.0) r.0, each (λ e. e.0) r.2, reads_ids s a r ∙ append_assoc (each (λ e. e.0) r.0) (a ∷ ids_below s a) (each (λ e. e.0) r.2))
 
-pub chains_apart : (s : OperationSet) → AllWellFormed s → (a b : Identifier) (xs ys : Ids) → IsAttached s.ins a → IsAttached s.ins b → IsChain s.ins (a ∷ xs) → IsChain s.ins (b ∷ ys)
-    → (a ≡ b → ⊥) → (IsBelow s.ins a b → ⊥) → (IsBelow s.ins b a → ⊥) → IsLeftOf s (a ∷ xs) (b ∷ ys) ⊎ IsLeftOf s (b ∷ ys) (a ∷ xs)
-chains_apart s well a b xs ys at_a at_b chain_a chain_b differ out_b out_a =
+pub runs_apart : (s : OperationSet) → AllWellFormed s → (a b : Identifier) (xs ys : Ids) → IsAttached s.ins a → IsAttached s.ins b → IsRun s.ins (a ∷ xs) → IsRun s.ins (b ∷ ys)
+    → (a ≡ b → ⊥) → (StandsBelow s.ins a b → ⊥) → (StandsBelow s.ins b a → ⊥) → IsLeftOf s (a ∷ xs) (b ∷ ys) ⊎ IsLeftOf s (b ∷ ys) (a ∷ xs)
+runs_apart s well a b xs ys at_a at_b run_a run_b differ out_b out_a =
     let p = block_of s well a at_a in
     let q = block_of s well b at_b in
     either_left (in_blocks (walked_ids s) p.0 p.1 q.0 q.1 (ids_below s a) (ids_below s b) a b p.2 q.2 (outside s well a b differ out_b) (outside s well b a (λ e. differ (sym e)) out_a)) where
       either_left : AreBlocks (walked_ids s) (a ∷ ids_below s a) (b ∷ ids_below s b) ⊎ AreBlocks (walked_ids s) (b ∷ ids_below s b) (a ∷ ids_below s a)
           → IsLeftOf s (a ∷ xs) (b ∷ ys) ⊎ IsLeftOf s (b ∷ ys) (a ∷ xs)
-      either_left (inl h) = inl (IsLeftOf-blocks s well a b xs ys chain_a chain_b h)
-      either_left (inr h) = inr (IsLeftOf-blocks s well b a ys xs chain_b chain_a h)
+      either_left (inl h) = inl (IsLeftOf-blocks s well a b xs ys run_a run_b h)
+      either_left (inr h) = inr (IsLeftOf-blocks s well b a ys xs run_b run_a h)
 
 -- ---- runs behind one place
 
@@ -205,7 +205,7 @@ place_blocks s well (After q) a b at c d lt =
     let h = block_of s well q (attached_parent s s q a c.0 (λ _ _ h. h) c.1 c.2 at) in
     blocks_within (walked_ids s) h.0 (ids_below s q) h.1 (a ∷ ids_below s a) (b ∷ ids_below s b) q h.2 (children_blocks s well (After q) a b c d lt)
 
-pub chains_at_one_place : (s : OperationSet) → AllWellFormed s → (place : Place) (a b : Identifier) (xs ys : Ids) → IsAttached s.ins a → IsAttached s.ins b
-    → IsChild s.ins place a → IsChild s.ins place b → IsChain s.ins (a ∷ xs) → IsChain s.ins (b ∷ ys) → id_cmp b a ≡ Less → IsLeftOf s (a ∷ xs) (b ∷ ys)
-chains_at_one_place s well place a b xs ys at_a at_b c d chain_a chain_b lt =
-    IsLeftOf-blocks s well a b xs ys chain_a chain_b (place_blocks s well place a b at_a c d lt)
+pub runs_at_one_place : (s : OperationSet) → AllWellFormed s → (place : Place) (a b : Identifier) (xs ys : Ids) → IsAttached s.ins a → IsAttached s.ins b
+    → IsChild s.ins place a → IsChild s.ins place b → IsRun s.ins (a ∷ xs) → IsRun s.ins (b ∷ ys) → id_cmp b a ≡ Less → IsLeftOf s (a ∷ xs) (b ∷ ys)
+runs_at_one_place s well place a b xs ys at_a at_b c d run_a run_b lt =
+    IsLeftOf-blocks s well a b xs ys run_a run_b (place_blocks s well place a b at_a c d lt)
