@@ -84,14 +84,14 @@ pub same_place-itself : (p : Place) → same_place p p ≡ true
 same_place-itself Root = refl
 same_place-itself (After a) = same_id-itself a
 
-IsIn-children : (ins : Insertions) (id : Identifier) (node : Node) → map.get ins id ≡ Some node → IsIn (id, node) (children ins node.parent)
+pub IsIn-children : (ins : Insertions) (id : Identifier) (node : Node) → map.get ins id ≡ Some node → IsIn (id, node) (children ins node.parent)
 IsIn-children ins id node held =
     IsIn-reverse (id, node) (filter (λ e. same_place e.1.parent node.parent) (map.entries ins))
     (IsIn-filter (id, node) (λ e. same_place e.1.parent node.parent) (map.entries ins) (same_place-itself node.parent)
     (IsIn-found id node (map.entries ins) (sym (map.get-entries ins id) ∙ held)))
 
 -- a child is listed below its place
-listed-child : (depth : ℕ) (ins : Insertions) (q : Place) (c : Entry) → IsIn c (children ins q) → is_listed c.0 (walk_to (suc depth) ins q) ≡ true
+pub listed-child : (depth : ℕ) (ins : Insertions) (q : Place) (c : Entry) → IsIn c (children ins q) → is_listed c.0 (walk_to (suc depth) ins q) ≡ true
 listed-child depth ins q c at =
     listed-flat_map c.0 (λ e. e ∷ walk_to depth ins (After e.0)) c (children ins q) at (or_left (same_id c.0 c.0) (is_listed c.0 (walk_to depth ins (After c.0))) (same_id-itself c.0))
 
@@ -112,7 +112,7 @@ either P Q R f g (inl p) = f p
 either P Q R f g (inr q) = g q
 
 -- and the children of what is listed are listed, one step deeper
-listed-below : (depth : ℕ) (ins : Insertions) (q : Place) (a : Identifier) (c : Entry) → is_listed a (walk_to depth ins q) ≡ true → IsIn c (children ins (After a))
+pub listed-below : (depth : ℕ) (ins : Insertions) (q : Place) (a : Identifier) (c : Entry) → is_listed a (walk_to depth ins q) ≡ true → IsIn c (children ins (After a))
     → is_listed c.0 (walk_to (suc depth) ins q) ≡ true
 listed-below zero ins q a c h at = absurd cc
 listed-below (suc depth) ins q a c h at =

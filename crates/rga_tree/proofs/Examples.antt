@@ -19,13 +19,13 @@ use Rattle.rga_tree.proofs.Entries.{entries_of}
 use Rattle.rga_tree.proofs.Depth.{walk_deep, walk-entries}
 use Rattle.rga_tree.proofs.Taken.{set_of-same}
 
-abbrev entry : ℕ → ℕ → Node → Entry
+abbrev pub entry : ℕ → ℕ → Node → Entry
 entry counter site node = (record { counter = counter; site = site }, node)
 
-abbrev at_root : ℕ → Node
+abbrev pub at_root : ℕ → Node
 at_root ch = record { parent = Root; ch = ch }
 
-abbrev behind : ℕ → ℕ → ℕ → Node
+abbrev pub behind : ℕ → ℕ → ℕ → Node
 behind counter site ch = record { parent = After (record { counter = counter; site = site }); ch = ch }
 
 -- the text, where it is known which identifiers are erased
@@ -34,13 +34,13 @@ text-entries : (s : OperationSet) (es : List Entry) (erased : Identifier → Boo
 text-entries s es erased is marks =
     (λ i. each (λ (e : Entry). e.1.ch) (filter (λ e. not (marks e.0 i)) (walk-entries s es Root is i)))
 
-no_entries : map.entries (map.empty {X = Node} {R = id_cmp}) ≡ []
+pub no_entries : map.entries (map.empty {X = Node} {R = id_cmp}) ≡ []
 no_entries = nil_from_length _ (sym (map.len-entries map.empty) ∙ map.len-empty id_cmp Node)
 
-entries-put : (m : map.FinMap id_cmp Node) (e : Entry) (es : List Entry) → map.entries m ≡ es → map.entries (map.insert m e.0 e.1) ≡ put id_cmp e.0 e.1 es
+pub entries-put : (m : map.FinMap id_cmp Node) (e : Entry) (es : List Entry) → map.entries m ≡ es → map.entries (map.insert m e.0 e.1) ≡ put id_cmp e.0 e.1 es
 entries-put m e es is = map.entries-insert id_cmp-total m e.0 e.1 ∙ ap (put id_cmp e.0 e.1) is
 
-held_by : (s : OperationSet) (es : List Entry) (e : Entry) → entries_of s ≡ es → find id_cmp e.0 es ≡ Some e.1 → map.get s.ins e.0 ≡ Some e.1
+pub held_by : (s : OperationSet) (es : List Entry) (e : Entry) → entries_of s ≡ es → find id_cmp e.0 es ≡ Some e.1 → map.get s.ins e.0 ≡ Some e.1
 held_by s es e is found = map.get-entries s.ins e.0 ∙ ap (find id_cmp e.0) is ∙ found
 
 nothing_erased : (q : Identifier) → set.contains (set.empty {R = id_cmp}) q ≡ false

@@ -14,9 +14,16 @@ pub mod Listed
 pub mod AttachedWalk
 pub mod WalkDistinct
 pub mod ParentsFirst
-pub mod AttachedPart
 pub mod TreeAttached
+pub mod SubWalk
+pub mod AttachedPart
+pub mod Lines
+pub mod OneOrder
+pub mod Below
+pub mod Runs
+pub mod TypedPlace
 pub mod LeafWalk
 pub mod Taken
 pub mod Examples
+pub mod OrderExamples
 pub mod Interface

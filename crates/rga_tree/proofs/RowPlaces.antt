@@ -24,7 +24,7 @@ skip-insert n (x ∷ r) =
       | false ↦ refl
     ]
 
-below_absent : (a : Identifier) (n : Entry) (r : List Entry) → IsAbsent a r → below (After a) n r ≡ r
+pub below_absent : (a : Identifier) (n : Entry) (r : List Entry) → IsAbsent a r → below (After a) n r ≡ r
 below_absent a n [] h = refl
 below_absent a n (x ∷ r) h = ap (λ b. cond b (x ∷ skip n (below (After a) n r)) (x ∷ below (After a) n r)) h.0 ∙ ap (λ t. x ∷ t) (below_absent a n r h.1)
 

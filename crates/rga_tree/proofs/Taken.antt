@@ -124,7 +124,7 @@ all_contained : (P : OpView → Type 0) (ops : List OpView) → ((op : OpView) �
 all_contained P [] f = tt
 all_contained P (x ∷ ops) f = (f x (zero, omega arith, refl), all_contained P ops (λ op c. f op (later ops x op c)))
 
-nothing_within : (t : OperationSet) → IsWithin no_operations t
+pub nothing_within : (t : OperationSet) → IsWithin no_operations t
 nothing_within t (Insert id parent ch) h = let none = map.get-empty {X = Node} id_cmp id in absurd cc
 nothing_within t (Erase target) h = let none = set.contains-empty id_cmp target in absurd cc
 

@@ -40,12 +40,12 @@ in_front [] r x e lt above (inr there) = absurd (later r above there) where
 in_front (y ∷ l) r x e lt above (inl here) = inl here
 in_front (y ∷ l) r x e lt above (inr there) = inr (in_front l r x e lt above there)
 
-all_in : (P : Entry → Type 0) (es : List Entry) (x : Entry) → AllByRecursion P es → IsIn x es → P x
+pub all_in : (P : Entry → Type 0) (es : List Entry) (x : Entry) → AllByRecursion P es → IsIn x es → P x
 all_in P [] x h at = absurd at
 all_in P (e ∷ es) x h (inl here) = subst P here h.0
 all_in P (e ∷ es) x h (inr there) = all_in P es x h.1 there
 
-all_last : (P : Entry → Type 0) (l r : List Entry) → AllByRecursion P (l ++ r) → AllByRecursion P r
+pub all_last : (P : Entry → Type 0) (l r : List Entry) → AllByRecursion P (l ++ r) → AllByRecursion P r
 all_last P [] r h = h
 all_last P (x ∷ l) r h = all_last P l r h.1
 

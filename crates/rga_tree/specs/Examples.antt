@@ -14,21 +14,29 @@ set_of ops = fold with_operation no_operations ops
 abbrev pub HaveSameOperations : List OpView → List OpView → Type 0
 HaveSameOperations ops more = (op : OpView) → Contains ops op ↔ Contains more op
 
-abbrev id : ℕ → ℕ → Identifier
-id counter site = record { counter = counter; site = site }
+abbrev pub stamp : ℕ → ℕ → Identifier
+stamp counter site = record { counter = counter; site = site }
 
 -- b after a
 abbrev pub two_in_line : List OpView
-two_in_line = Insert (id 1 1) Root 97 ∷ Insert (id 2 1) (After (id 1 1)) 98 ∷ []
+two_in_line = Insert (stamp 1 1) Root 97 ∷ Insert (stamp 2 1) (After (stamp 1 1)) 98 ∷ []
 
 -- a and b after the root
 abbrev pub two_at_root : List OpView
-two_at_root = Insert (id 1 1) Root 97 ∷ Insert (id 1 2) Root 98 ∷ []
+two_at_root = Insert (stamp 1 1) Root 97 ∷ Insert (stamp 1 2) Root 98 ∷ []
 
 -- x and b after a, and y after x
 abbrev pub four_in_tree : List OpView
-four_in_tree = Insert (id 1 1) Root 97 ∷ Insert (id 2 2) (After (id 1 1)) 120 ∷ Insert (id 3 2) (After (id 2 2)) 121 ∷ Insert (id 2 1) (After (id 1 1)) 98 ∷ []
+four_in_tree = Insert (stamp 1 1) Root 97 ∷ Insert (stamp 2 2) (After (stamp 1 1)) 120 ∷ Insert (stamp 3 2) (After (stamp 2 2)) 121 ∷ Insert (stamp 2 1) (After (stamp 1 1)) 98 ∷ []
 
 -- the deletion of x, and then those four
 abbrev pub one_erased : List OpView
-one_erased = Erase (id 2 2) ∷ four_in_tree
+one_erased = Erase (stamp 2 2) ∷ four_in_tree
+
+-- two runs at the root: b after a, and y after x
+abbrev pub two_runs : List OpView
+two_runs = Insert (stamp 1 1) Root 97 ∷ Insert (stamp 2 1) (After (stamp 1 1)) 98 ∷ Insert (stamp 1 2) Root 120 ∷ Insert (stamp 2 2) (After (stamp 1 2)) 121 ∷ []
+
+-- those without x, for which y waits
+abbrev pub one_waits : List OpView
+one_waits = Insert (stamp 1 1) Root 97 ∷ Insert (stamp 2 1) (After (stamp 1 1)) 98 ∷ Insert (stamp 2 2) (After (stamp 1 2)) 121 ∷ []

@@ -8,3 +8,6 @@ pub mod Row
 pub mod KeepsWalk
 pub mod Examples
 pub mod Leaf
+pub mod Parts
+pub mod Order
+pub mod Stretch

@@ -1,23 +1,27 @@
 //! Laws of the definitions: each function's contract is the law, and its body is empty.
 
-ghost use Rattle.std.specs.Prelude.{◌≡◌, ◌↔◌, ◌∷◌, ◌++◌, List, Some, true, Contains, insert, false, codes};
+ghost use Rattle.std.specs.Prelude.{◌≡◌, ◌≢◌, ◌≤◌, ◌↔◌, ◌⊎◌, [], ◌∷◌, ◌++◌, List, Some, true, Contains, filter, insert, false, codes};
+ghost use Rattle.std.specs.declared.cmp.Ordering.TheVariants.{Less};
 ghost use Rattle.std.specs.List.{flat_map, IsDistinct};
 ghost use Rattle.std.specs.FinMap as map;
 ghost use Rattle.std.specs.FinSet as set;
-ghost use Rattle.bg_types.specs.Identifier.{Identifier, same_id};
-ghost use Rattle.bg_types.specs.OperationSet.{Node, OperationSet, AllWellFormed, with_operation};
+ghost use Rattle.bg_types.specs.Identifier.{Identifier, id_cmp, same_id};
+ghost use Rattle.bg_types.specs.OperationSet.{Node, OperationSet, Agree, AllWellFormed, with_operation, next};
 ghost use Rattle.bg_types.specs.WellFormed.{IsWellFormed};
 ghost use Rattle.bg_types.specs.declared.op.OpView.{OpView};
 ghost use Rattle.bg_types.specs.declared.op.OpView.TheVariants.{Insert};
 ghost use Rattle.bg_types.specs.declared.op.Place.{Place};
 ghost use Rattle.bg_types.specs.declared.op.Place.TheVariants.{Root, After};
 ghost use Rattle.rga_tree.specs.Walk.{walk, children, walked_ids, StandsAmong};
-ghost use Rattle.rga_tree.specs.Attached.{IsAttached, IsAttachedPart};
+ghost use Rattle.rga_tree.specs.Attached.{IsAttached, IsAttachedPart, is_attached};
+ghost use Rattle.rga_tree.specs.Parts.{IsPartOf};
+ghost use Rattle.rga_tree.specs.Order.{Precedes, StandsBetween};
+ghost use Rattle.rga_tree.specs.Stretch.{IsChild, StandsBelow, IsStretch, IsRun, IsLeftOf};
 ghost use Rattle.rga_tree.specs.TextOf.{text};
 ghost use Rattle.rga_tree.specs.Tree.{stands_in, IsTree};
 ghost use Rattle.rga_tree.specs.Elements.{elements};
 ghost use Rattle.rga_tree.specs.Row.{place_of};
-ghost use Rattle.rga_tree.specs.Examples.{set_of, HaveSameOperations, two_in_line, two_at_root, four_in_tree, one_erased};
+ghost use Rattle.rga_tree.specs.Examples.{set_of, HaveSameOperations, stamp, two_in_line, two_at_root, four_in_tree, one_erased, two_runs, one_waits};
 
 /// The walk from a place is, for each child in falling order, the child and then the walk from it.
 pub fn preorder()
@@ -67,6 +71,85 @@ pub fn one_more_leaf()
         ≡ insert (walk s Root) (place_of node.parent id (elements s)) (id, node) }
 {}
 
+/// The sub-walk law: the walk of a part of a set is the walk of the set with all left out that is
+/// not attached in the part.
+pub fn sub_walk()
+    ensures walk { (s t : OperationSet) → AllWellFormed t → IsPartOf s t
+        → walk s Root ≡ filter (λ e. is_attached s e.0) (walk t Root) }
+    ensures test { (s : OperationSet) → AllWellFormed s → (id : Identifier)
+        → (is_attached s id ≡ true) ↔ IsAttached s.ins id }
+    ensures stays { (s t : OperationSet) → IsPartOf s t → (id : Identifier)
+        → IsAttached s.ins id → IsAttached t.ins id }
+{}
+
+/// The walk puts the attached identifiers, and no others, into one line: of two that differ one
+/// precedes the other, and never each the other.
+pub fn walk_order()
+    ensures attached { (s : OperationSet) → AllWellFormed s → (a b : Identifier)
+        → Precedes s a b → IsAttached s.ins a × IsAttached s.ins b }
+    ensures either { (s : OperationSet) → AllWellFormed s → (a b : Identifier)
+        → IsAttached s.ins a → IsAttached s.ins b → a ≢ b → Precedes s a b ⊎ Precedes s b a }
+    ensures never_both { (s : OperationSet) → AllWellFormed s → (a b : Identifier)
+        → Precedes s a b → Precedes s b a → ⊥ }
+    ensures in_turn { (s : OperationSet) → AllWellFormed s → (a b c : Identifier)
+        → Precedes s a b → Precedes s b c → Precedes s a c }
+{}
+
+/// Sets that agree read all characters that both have attached, erased ones too, in one order. So
+/// a character that stands between two others stands between them wherever the three are.
+pub fn one_order()
+    ensures agree { (s t : OperationSet) → AllWellFormed s → AllWellFormed t → Agree s t
+        → (a b : Identifier) → IsAttached s.ins a → IsAttached s.ins b
+        → IsAttached t.ins a → IsAttached t.ins b → Precedes s a b ↔ Precedes t a b }
+    ensures between { (s t : OperationSet) → AllWellFormed s → AllWellFormed t → Agree s t
+        → (a x b : Identifier) → StandsBetween s a x b
+        → IsAttached t.ins a → IsAttached t.ins x → IsAttached t.ins b → StandsBetween t a x b }
+    ensures more { (s t : OperationSet) → AllWellFormed t → IsPartOf s t → (a b : Identifier)
+        → Precedes s a b → Precedes t a b }
+{}
+
+/// The unbroken-stretch law: an attached identifier and all below it stand in one unbroken stretch
+/// of the walk. So two runs whose first ones stand apart never mix; of two runs behind one place,
+/// the one whose first identifier is greater is wholly left of the other.
+pub fn unbroken_stretch()
+    ensures stretch { (s : OperationSet) → AllWellFormed s → (top : Identifier)
+        → IsAttached s.ins top → IsStretch s top }
+    ensures runs { (s : OperationSet) → AllWellFormed s → (a b : Identifier) (xs ys : List Identifier)
+        → IsAttached s.ins a → IsAttached s.ins b → IsRun s.ins (a ∷ xs) → IsRun s.ins (b ∷ ys)
+        → a ≢ b → (StandsBelow s.ins a b → ⊥) → (StandsBelow s.ins b a → ⊥)
+        → IsLeftOf s (a ∷ xs) (b ∷ ys) ⊎ IsLeftOf s (b ∷ ys) (a ∷ xs) }
+    ensures one_place { (s : OperationSet) → AllWellFormed s → (place : Place)
+        → (a b : Identifier) (xs ys : List Identifier) → IsAttached s.ins a → IsAttached s.ins b
+        → IsChild s.ins place a → IsChild s.ins place b
+        → IsRun s.ins (a ∷ xs) → IsRun s.ins (b ∷ ys)
+        → id_cmp b a ≡ Less → IsLeftOf s (a ∷ xs) (b ∷ ys) }
+{}
+
+/// An insertion whose counter is above all that a set names, as each is that is typed, is read
+/// directly behind its parent, and first of all if that is the root. So it stands between its
+/// parent and each character that stood behind that.
+pub fn typed_place()
+    ensures behind { (s : OperationSet) → AllWellFormed s → (id : Identifier) (node : Node)
+        → IsWellFormed (Insert id node.parent node.ch) → next s ≤ id.counter
+        → (front back : List (Identifier × Node)) (parent : Identifier × Node)
+        → node.parent ≡ After parent.0 → walk s Root ≡ front ++ parent ∷ back
+        → walk (with_operation s (Insert id node.parent node.ch)) Root ≡ front ++ parent ∷ (id, node) ∷ back }
+    ensures first { (s : OperationSet) → AllWellFormed s → (id : Identifier) (node : Node)
+        → IsWellFormed (Insert id node.parent node.ch) → next s ≤ id.counter → node.parent ≡ Root
+        → walk (with_operation s (Insert id node.parent node.ch)) Root ≡ (id, node) ∷ walk s Root }
+    ensures between { (s : OperationSet) → AllWellFormed s → (id : Identifier) (node : Node)
+        → IsWellFormed (Insert id node.parent node.ch) → next s ≤ id.counter
+        → (a b : Identifier) → node.parent ≡ After a → Precedes s a b
+        → StandsBetween (with_operation s (Insert id node.parent node.ch)) a id b }
+{}
+
+/// Sets with equal insertions have one walk, and sets with the same operations read as one text.
+pub fn same_sets()
+    ensures walk { (s t : OperationSet)
+        → ((id : Identifier) → map.get s.ins id ≡ map.get t.ins id) → (p : Place) → walk s p ≡ walk t p }
+    ensures text { (s t : OperationSet) → IsPartOf s t → IsPartOf t s → text s ≡ text t }
+{}
+
 /// What small sets of operations read as, in whatever order they are taken.
 pub fn examples()
     ensures in_line { (ops : List OpView) → HaveSameOperations ops two_in_line
@@ -77,4 +160,21 @@ pub fn examples()
         → text (set_of ops) ≡ codes "axyb" }
     ensures erased { (ops : List OpView) → HaveSameOperations ops one_erased
         → text (set_of ops) ≡ codes "ayb" }
+{}
+
+/// What the laws' words say of two runs at the root, `ab` and `xy`, and of a part that has no x.
+pub fn examples_of_order()
+    ensures walk { walked_ids (set_of two_runs) ≡ stamp 1 2 ∷ stamp 2 2 ∷ stamp 1 1 ∷ stamp 2 1 ∷ [] }
+    ensures part { IsPartOf (set_of one_waits) (set_of two_runs) }
+    ensures part_walk { walked_ids (set_of one_waits) ≡ stamp 1 1 ∷ stamp 2 1 ∷ [] }
+    ensures waiting { (map.contains_key (set_of one_waits).ins (stamp 2 2) ≡ true)
+        × (is_attached (set_of one_waits) (stamp 2 2) ≡ false) }
+    ensures order { Precedes (set_of two_runs) (stamp 2 2) (stamp 1 1)
+        × (Precedes (set_of two_runs) (stamp 1 1) (stamp 2 2) → ⊥) }
+    ensures below { StandsBelow (set_of two_runs).ins (stamp 1 1) (stamp 2 1)
+        × (StandsBelow (set_of two_runs).ins (stamp 1 1) (stamp 2 2) → ⊥) }
+    ensures runs { IsRun (set_of two_runs).ins (stamp 1 1 ∷ stamp 2 1 ∷ [])
+        × (IsRun (set_of two_runs).ins (stamp 1 1 ∷ stamp 2 2 ∷ []) → ⊥) }
+    ensures left { IsLeftOf (set_of two_runs) (stamp 1 2 ∷ stamp 2 2 ∷ []) (stamp 1 1 ∷ stamp 2 1 ∷ [])
+        × (IsLeftOf (set_of two_runs) (stamp 1 1 ∷ stamp 2 1 ∷ []) (stamp 1 2 ∷ stamp 2 2 ∷ []) → ⊥) }
 {}
