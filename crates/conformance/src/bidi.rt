@@ -18,7 +18,7 @@ use ucd_files::Tables;
 const LONGEST: usize = 4_000_000;
 
 /// What the crates give for a paragraph that is one line.
-#[derive(Debug, Drop)]
+#[derive(Drop)]
 pub struct BidiLine {
     /// The paragraph's level.
     pub level: u8,

@@ -7,7 +7,7 @@ use crate::tally::Direction;
 use std::alloc::Global;
 
 /// The levels and the order that are wanted of a line of text.
-#[derive(Debug, Drop)]
+#[derive(Drop)]
 pub struct Wanted {
     /// The paragraph's level, where the file gives it.
     pub level: Option<u8>,
@@ -18,7 +18,7 @@ pub struct Wanted {
 }
 
 /// A line of `BidiCharacterTest.txt`.
-#[derive(Debug, Drop)]
+#[derive(Drop)]
 pub struct CharacterCase {
     pub text: String,
     /// The direction that is asked for, `None` for that of the first strong character.
@@ -27,7 +27,7 @@ pub struct CharacterCase {
 }
 
 /// A line of `BidiTest.txt`.
-#[derive(Debug, Drop)]
+#[derive(Drop)]
 pub enum ClassLine {
     Levels(Vec<Option<u8>>),
     Order(Vec<u32>),
@@ -38,7 +38,7 @@ pub enum ClassLine {
 }
 
 /// A line of `LineBreakTest.txt`: a text, and whether a line may end behind each code point.
-#[derive(Debug, Drop)]
+#[derive(Drop)]
 pub struct BreakCase {
     pub text: String,
     pub breaks: Vec<bool>,

@@ -15,7 +15,7 @@ use ucd_emoji::is_extended_pictographic;
 use ucd_files::Tables;
 
 /// A code point with what belongs to it by LB9.
-#[derive(Clone, Copy, Debug)]
+#[derive(Clone, Copy)]
 struct Item {
     first: char,
     class: Lb,

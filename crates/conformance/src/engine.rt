@@ -15,11 +15,11 @@ use crate::case::{
     BreakCase, CharacterCase, ClassLine, Wanted, break_case, character_case, class_line,
 };
 use crate::choice::choice_of;
-use crate::data::TestFile;
 use crate::fault::{LineFault, RunFault};
 use crate::field::content;
 use crate::report::{summary, tell_breaks, tell_levels};
 use crate::tally::{Direction, Tally, Verdict};
+use crate::test_file::TestFile;
 use bg_types::{Device, Sink, put_all};
 use std::alloc::Global;
 use std::io::{BufRead, ErrorKind};

@@ -25,7 +25,7 @@ pub enum LineFault {
 pub enum RunFault {
     /// A data file is faulty.
     Data(UcdFault),
-    /// A data file or the test file can't be read.
+    /// The test file can't be read.
     ReadFailed,
     /// The test file has none of the three names.
     Name,
@@ -55,6 +55,19 @@ impl fmt::Display for RunFault {
 
 impl Error for RunFault {}
 
+/// A fault of a run, with the file or the folder that it came at. It prints as `PATH: FAULT`.
+#[derive(Clone, Copy)]
+pub struct FaultAt<'a> {
+    pub path: &'a str,
+    pub fault: RunFault,
+}
+
+impl fmt::Display for FaultAt<'_> {
+    fn fmt<W: fmt::Write>(&self, f: &mut fmt::Formatter<W>) -> fmt::Result {
+        write!(f, "{}: {}", self.path, self.fault)
+    }
+}
+
 impl From<AllocError> for RunFault {
     fn from(_error: AllocError) -> RunFault {
         RunFault::Memory
@@ -64,6 +77,15 @@ impl From<AllocError> for RunFault {
 impl<T: Drop> From<AllocFailed<T>> for RunFault {
     fn from(_error: AllocFailed<T>) -> RunFault {
         RunFault::Memory
+    }
+}
+
+impl From<UcdFault> for RunFault {
+    fn from(fault: UcdFault) -> RunFault {
+        match fault {
+            UcdFault::Memory => RunFault::Memory,
+            fault => RunFault::Data(fault),
+        }
     }
 }
 

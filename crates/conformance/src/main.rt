@@ -6,48 +6,57 @@ mod breaks;
 mod case;
 mod choice;
 mod class;
-mod data;
 mod engine;
 mod fault;
 mod field;
 mod report;
 mod request;
 mod tally;
+mod test_file;
 mod words;
 
 use bg_types::Out;
-pub use data::TestFile;
+use cli_support::{Stop, end, flush, read_data, tell};
 pub use engine::run;
-pub use fault::{LineFault, RunFault};
-pub use request::{Job, Stop};
+pub use fault::{FaultAt, LineFault, RunFault};
+pub use request::Job;
+use std::fmt::Display;
 use std::fs::File;
-use std::io::{self, BufReader, BufWriter, Write};
+use std::io::{self, BufReader, BufWriter};
 use std::process::ExitCode;
 pub use tally::{Choice, Direction, Tally, Verdict};
+pub use test_file::TestFile;
 use ucd_files::Tables;
 
+/// The name that stands before the line about a fault.
+const NAME: &str = "conformance";
+
 fn main(rt: HostRuntime) -> ExitCode {
-    let words = match words::words(&rt) {
+    let words = match cli_support::words(&rt) {
         Ok(words) => words,
-        Err(stop) => return end(&rt, &stop),
+        Err(stop) => return without_work(&rt, &stop),
     };
     match words::job(rt.alloc(), words.as_slice()) {
         Ok(job) => compare_all(&rt, job.folder, &job.files),
-        Err(stop) => end(&rt, &stop),
+        Err(stop) => without_work(&rt, &stop),
     }
 }
 
 /// Runs test files in order, and gives the status: 0 where no case differs, 1 where some do.
 fn compare_all(rt: &HostRuntime, folder: &str, files: &[&str]) -> ExitCode {
-    let tables = match data::load(rt, folder) {
+    let data = match read_data(rt, folder) {
+        Ok(data) => data,
+        Err(unread) => return refuse(rt, &unread),
+    };
+    let tables = match data.ucd().load(rt.alloc()) {
         Ok(tables) => tables,
-        Err(fault) => return refuse(rt, &fault, folder),
+        Err(fault) => return refuse_at(rt, folder, RunFault::from(fault)),
     };
     let mut differs = false;
-    for file in files {
-        match compare(rt, &tables, file) {
+    for path in files {
+        match compare(rt, &tables, path) {
             Ok(tally) => differs = differs || tally.differ > 0,
-            Err(fault) => return refuse(rt, &fault, file),
+            Err(fault) => return refuse_at(rt, path, fault),
         }
     }
     ExitCode::from(u8::from(differs))
@@ -55,7 +64,7 @@ fn compare_all(rt: &HostRuntime, folder: &str, files: &[&str]) -> ExitCode {
 
 /// Runs a test file, and writes what came of it.
 fn compare(rt: &HostRuntime, tables: &Tables, path: &str) -> Result<Tally, RunFault> {
-    let kind = data::kind(path).ok_or(RunFault::Name)?;
+    let kind = test_file::kind(path).ok_or(RunFault::Name)?;
     let Ok(file) = File::open(rt, path) else {
         return Err(RunFault::ReadFailed);
     };
@@ -67,33 +76,24 @@ fn compare(rt: &HostRuntime, tables: &Tables, path: &str) -> Result<Tally, RunFa
     };
     let mut out = Out::new(&mut buffered);
     let tally = run(rt.alloc(), tables, kind, &mut reader, &mut out)?;
-    // A late failure of the device shows only here.
-    if buffered.flush().is_err() {
-        return Err(RunFault::Device);
-    }
+    flush(&mut buffered)?;
     Ok(tally)
 }
 
-/// Ends a run that has nothing to do: the help is status 0, a wrong command line status 2.
-fn end(rt: &HostRuntime, stop: &Stop) -> ExitCode {
-    match stop {
-        Stop::Help(text) => match rt.print(text) {
-            Ok(()) => ExitCode::SUCCESS,
-            Err(_) => refuse(rt, &RunFault::Device, ""),
-        },
-        Stop::Usage(text) => {
-            let _unheard = rt.eprint(text);
-            ExitCode::from(2)
-        }
-        Stop::Memory => refuse(rt, &RunFault::Memory, ""),
-    }
+/// Ends a run that has nothing to do.
+fn without_work(rt: &HostRuntime, stop: &Stop) -> ExitCode {
+    let mut out = Out::new(io::writer(rt));
+    let mut err = Out::new(rt.stderr());
+    ExitCode::from(end(NAME, stop, &mut out, &mut err))
+}
+
+/// Ends a run at a fault of a file or a folder.
+fn refuse_at(rt: &HostRuntime, path: &str, fault: RunFault) -> ExitCode {
+    refuse(rt, &FaultAt { path, fault })
 }
 
 /// Writes the line about a fault. Where it can't be written, the status tells it alone.
-fn refuse(rt: &HostRuntime, fault: &RunFault, path: &str) -> ExitCode {
-    let _unheard = eprintln!(rt; "conformance: {path}: {fault}");
+fn refuse<F: Display>(rt: &HostRuntime, fault: &F) -> ExitCode {
+    let _unheard = tell(NAME, fault, &mut Out::new(rt.stderr()));
     ExitCode::from(3)
 }
-
-#[cfg(test)]
-mod tests;

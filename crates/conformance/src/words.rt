@@ -1,11 +1,9 @@
 //! The command line, read by `clap`.
 
-use crate::request::{Job, Stop};
-use clap::error::ErrorKind;
-use clap::{Arg, ArgAction, Command, Error};
+use crate::request::Job;
+use clap::{Arg, ArgAction, Command};
+use cli_support::Stop;
 use std::alloc::{AllocError, Global};
-use std::io;
-use std::rt::Env;
 
 const ABOUT: &str = "Runs Unicode's own test files against the layout's crates.\n\n\
     For each file the first 20 cases that differ are written, and then a line that counts.";
@@ -14,22 +12,11 @@ const FOLDER_HELP: &str = "The folder of the five data files of Unicode 15.0";
 
 const FILE_HELP: &str = "Test files: BidiTest.txt, BidiCharacterTest.txt, LineBreakTest.txt";
 
-const NOT_UTF_8: &str = "error: an argument is not valid UTF-8\n";
-
-/// The words of the command line, the program's name among them.
-pub fn words<R: Env + Alloc<A = Global>>(rt: &R) -> Result<Vec<String>, Stop> {
-    match std::env::args(rt) {
-        Ok(words) => Ok(words.collect(rt.alloc())?),
-        Err(error) if error.kind() == io::ErrorKind::OutOfMemory => Err(Stop::Memory),
-        Err(_) => Err(Stop::Usage(String::from_str(rt.alloc(), NOT_UTF_8)?)),
-    }
-}
-
 /// Reads the words of a command line, the program's name among them.
 pub fn job<'a>(alloc: Global, words: &'a [String]) -> Result<Job<'a>, Stop> {
     let matches = match command(alloc)?.try_get_matches_from(words) {
         Ok(matches) => matches,
-        Err(error) => return Err(stop(alloc, &error)),
+        Err(error) => return Err(Stop::of(alloc, &error)),
     };
     let folder = matches.get_str("FOLDER").unwrap_or("");
     let mut files = Vec::new(alloc);
@@ -53,15 +40,4 @@ fn command<'a>(alloc: Global) -> Result<Command<'a>, AllocError> {
         .about(ABOUT)
         .arg(folder)?
         .arg(files)
-}
-
-fn stop(alloc: Global, error: &Error) -> Stop {
-    if error.kind() == ErrorKind::OutOfMemory {
-        return Stop::Memory;
-    }
-    match error.to_string(alloc) {
-        Ok(text) if error.use_stderr() => Stop::Usage(text),
-        Ok(text) => Stop::Help(text),
-        Err(_) => Stop::Memory,
-    }
 }

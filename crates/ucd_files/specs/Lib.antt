@@ -13,3 +13,4 @@ pub mod BracketKind
 pub mod Files
 pub mod Faults
 pub mod Tables
+pub mod Ucd

@@ -5,6 +5,7 @@ mod code;
 mod entry;
 mod fault;
 mod fields;
+mod files;
 pub mod laws;
 mod line;
 mod lines;
@@ -16,6 +17,7 @@ mod values;
 pub mod vectors;
 
 pub use fault::{Cause, UcdFault, UcdFile};
+pub use files::Ucd;
 pub use tables::Tables;
 pub use value::Bracket;
 

@@ -111,7 +111,8 @@ fn fill<V: FileValue>(table: &mut [V], pass: Pass, bytes: &[u8])
         ≡ overlaid pass V.reading (lines_of bytes.now) c (slice_index_or table.old c d) }
     ensures len { length table.new ≡ length table.old }
 {
-    for line in Lines::of(bytes) {
+    let lines = Lines::of(bytes);
+    for line in lines {
         if let Some(entry) = said_in::<V>(pass, line) {
             write(table, entry);
         }

@@ -183,14 +183,7 @@ fn the_first_faulty_file_decides(rt: HostRuntime) {
 
 #[test]
 fn the_small_files_load(rt: HostRuntime) -> Result<(), Fail> {
-    let tables = Tables::load(
-        rt.alloc(),
-        vectors::BIDI,
-        vectors::BRACKETS,
-        vectors::MIRROR,
-        vectors::LB,
-        vectors::EA,
-    )?;
+    let tables = vectors::SMALL.load(rt.alloc())?;
     assert_eq!(rt; tables.bidi('\u{5D0}'), Bidi::R);
     assert_eq!(rt; tables.bidi('\u{627}'), Bidi::Al);
     assert_eq!(rt; tables.bidi('\u{202E}'), Bidi::Rlo);

@@ -1,5 +1,16 @@
 //! Five small data files, for tests. A code point that they do not name has the default.
 
+use crate::files::Ucd;
+
+/// The small files as one value.
+pub const SMALL: Ucd<'static> = Ucd {
+    bidi: BIDI,
+    brackets: BRACKETS,
+    mirror: MIRROR,
+    lb: LB,
+    ea: EA,
+};
+
 /// A small `DerivedBidiClass.txt`.
 pub const BIDI: &[u8] = b"\
 # @missing: 0000..10FFFF; Left_To_Right

@@ -1,0 +1,23 @@
+-- How a run ends that has nothing to do.
+use Rattle.std.specs.Prelude.{◌≡◌, ℕ, Bool, true, false, List, [], Option, string_bytes, if◌then◌else◌}
+use Rattle.std.specs.Io.KnownBytes.{Appends, Keeps}
+use Rattle.cli_support.specs.declared.command_line.Stop.{Stop}
+use Rattle.cli_support.specs.declared.command_line.Stop.TheVariants.{Help, Usage, Memory}
+
+-- the status, where the help was lost or not
+abbrev pub status_of : Stop → Bool → ℕ
+status_of (Help text) lost = if lost then 3 else 0
+status_of (Usage text) lost = 2
+status_of Memory lost = 3
+
+-- what standard output gets
+abbrev pub help_of : Stop → List ℕ
+help_of (Help text) = string_bytes text
+help_of (Usage text) = []
+help_of Memory = []
+
+-- what standard error gets: the text about the command line, unless a write of it fails; nothing beside the whole help
+abbrev pub IsTold : Stop → (out_failed err_failed : Bool) → (old new : Option (List ℕ)) → Type 0
+IsTold (Help text) out_failed err_failed old new = out_failed ≡ false → Keeps old new
+IsTold (Usage text) out_failed err_failed old new = err_failed ≡ false → Appends old new (string_bytes text)
+IsTold Memory out_failed err_failed old new = Unit {0}

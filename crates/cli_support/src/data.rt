@@ -1,0 +1,66 @@
+//! The five data files of a folder.
+
+ghost use Rattle.std.specs.Prelude.{◌≤◌, IfOk, vec_len};
+ghost use Rattle.cli_support.specs.Data.{IsUcdOf, IsWithin};
+
+use crate::reading::{LIMIT, read};
+use crate::unread::Unread;
+use std::alloc::Global;
+use std::rt::Files;
+use ucd_files::Ucd;
+
+/// The five data files in their folder, in the order in which they are read.
+pub const DATA_FILES: [&str; 5] = [
+    "DerivedBidiClass.txt",
+    "BidiBrackets.txt",
+    "BidiMirroring.txt",
+    "LineBreak.txt",
+    "EastAsianWidth.txt",
+];
+
+/// The bytes of the five data files.
+#[derive(Drop)]
+pub struct Data {
+    pub bidi: Vec<u8>,
+    pub brackets: Vec<u8>,
+    pub mirror: Vec<u8>,
+    pub lb: Vec<u8>,
+    pub ea: Vec<u8>,
+}
+
+impl Data {
+    /// The files as one value, to be read.
+    pub fn ucd(&self) -> Ucd<'_>
+        ensures { IsUcdOf self.now result }
+    {
+        Ucd {
+            bidi: self.bidi.as_slice(),
+            brackets: self.brackets.as_slice(),
+            mirror: self.mirror.as_slice(),
+            lb: self.lb.as_slice(),
+            ea: self.ea.as_slice(),
+        }
+    }
+}
+
+/// The bytes of the data files of a folder, or the first that can't be opened or read, or is too
+/// long.
+pub fn read_data<R: Files + AllocGlobal>(rt: &R, folder: &str) -> Result<Data, Unread>
+    ensures { IfOk result (IsWithin LIMIT) }
+{
+    let [bidi, brackets, mirror, lb, ea] = DATA_FILES;
+    Ok(Data {
+        bidi: read_in(rt, folder, bidi)?,
+        brackets: read_in(rt, folder, brackets)?,
+        mirror: read_in(rt, folder, mirror)?,
+        lb: read_in(rt, folder, lb)?,
+        ea: read_in(rt, folder, ea)?,
+    })
+}
+
+fn read_in<R: Files + AllocGlobal>(rt: &R, folder: &str, name: &str) -> Result<Vec<u8>, Unread>
+    ensures { IfOk result (λ bytes. vec_len bytes ≤ LIMIT) }
+{
+    let path = format!(in rt.alloc(); "{folder}/{name}")?;
+    read(rt, path.as_str())
+}

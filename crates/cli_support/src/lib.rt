@@ -1,0 +1,17 @@
+//! What programs do alike: the words of a command line, files read whole, and the end of a run.
+#![tactic(auto)]
+
+mod command_line;
+mod data;
+mod ending;
+mod reading;
+mod unread;
+
+pub use command_line::{Stop, words};
+pub use data::{DATA_FILES, Data, read_data};
+pub use ending::{end, flush, tell};
+pub use reading::{LIMIT, read, read_all, read_whole};
+pub use unread::{CannotRead, Unread};
+
+#[cfg(test)]
+mod tests;

@@ -1,0 +1,56 @@
+//! Files, read whole.
+
+ghost use Rattle.std.specs.Prelude.{◌≡◌, ◌<◌, ◌≤◌, ◌-◌, ◌^◌, All, IfOk, IfSome, IfNone, length, vec_len};
+
+use crate::unread::Unread;
+use std::alloc::Global;
+use std::fs::File;
+use std::io::{self, ErrorKind, Read};
+use std::rt::Files;
+
+/// The greatest length of a file that is read whole, in bytes.
+pub const LIMIT: u64 = 67_108_864;
+
+/// All bytes that a reader gives, or `None` where there are more than the limit.
+pub fn read_whole<F: Read + Drop>(alloc: Global, file: F, limit: u64) -> io::Result<Option<Vec<u8>>>
+    requires { limit < 2 ^ 64 - 1 }
+    ensures whole { IfOk result (λ read. IfSome read (λ bytes. IfSome (F.remaining file) (λ all. bytes.items ≡ all))) }
+    ensures within { IfOk result (λ read. IfSome read (λ bytes. vec_len bytes ≤ limit)) }
+    ensures longer { IfOk result (λ read. IfNone read (IfSome (F.remaining file) (λ all. limit < length all))) }
+{
+    let mut bytes = Vec::new(alloc);
+    let count = file.take(limit + 1).read_to_end(&mut bytes)?;
+    if count as u64 > limit {
+        return Ok(None);
+    }
+    Ok(Some(bytes))
+}
+
+/// The bytes of a file that can be opened and read, and is not longer than the limit.
+pub fn read<R: Files + AllocGlobal>(rt: &R, path: &str) -> Result<Vec<u8>, Unread>
+    ensures { IfOk result (λ bytes. vec_len bytes ≤ LIMIT) }
+{
+    match open_and_read(rt, path) {
+        Ok(Some(bytes)) => Ok(bytes),
+        Err(error) if error.kind() == ErrorKind::OutOfMemory => Err(Unread::Memory),
+        _ => Err(Unread::ReadFailed(String::from_str(rt.alloc(), path)?)),
+    }
+}
+
+fn open_and_read<R: Files + AllocGlobal>(rt: &R, path: &str) -> io::Result<Option<Vec<u8>>>
+    ensures { IfOk result (λ read. IfSome read (λ bytes. vec_len bytes ≤ LIMIT)) }
+{
+    read_whole(rt.alloc(), File::open(rt, path)?, LIMIT)
+}
+
+/// The bytes of the files in order, or the first that can't be opened or read, or is too long.
+pub fn read_all<R: Files + AllocGlobal>(rt: &R, paths: &[&str]) -> Result<Vec<Vec<u8>>, Unread>
+    ensures each { IfOk result (λ files. vec_len files ≡ length paths.now) }
+    ensures within { IfOk result (λ files. All (λ bytes. vec_len bytes ≤ LIMIT) files.items) }
+{
+    let mut files = Vec::new(rt.alloc());
+    for path in paths {
+        files.push(read(rt, path)?)?;
+    }
+    Ok(files)
+}

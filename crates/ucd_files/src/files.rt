@@ -1,0 +1,44 @@
+//! The five data files as one value.
+
+ghost use Rattle.std.specs.Prelude.{◌≡◌, ◌≢◌, None, Some, IfOk, IfErr, OnOk};
+ghost use Rattle.ucd_files.specs.Ucd.{tables_of_ucd, fault_of_ucd};
+
+use crate::fault::UcdFault;
+use crate::tables::Tables;
+use std::alloc::Global;
+
+/// The bytes of the five data files.
+#[derive(Clone, Copy, Debug)]
+pub struct Ucd<'a> {
+    /// DerivedBidiClass.txt.
+    pub bidi: &'a [u8],
+    /// BidiBrackets.txt.
+    pub brackets: &'a [u8],
+    /// BidiMirroring.txt.
+    pub mirror: &'a [u8],
+    /// LineBreak.txt.
+    pub lb: &'a [u8],
+    /// EastAsianWidth.txt.
+    pub ea: &'a [u8],
+}
+
+impl Ucd<'_> {
+    /// Reads the files. The fault is the first of the first faulty file, in the order of the
+    /// fields.
+    pub fn load(&self, alloc: Global) -> Result<Tables, UcdFault>
+        ensures ok { IfOk result (λ tables. tables ≡ tables_of_ucd self.now) }
+
+        // So the call answers Ok exactly where no file is faulty, unless a growth was refused.
+        ensures sound { OnOk result (fault_of_ucd self.now ≡ None) }
+        ensures fault { IfErr result (λ e. e ≢ UcdFault.Memory → fault_of_ucd self.now ≡ Some e) }
+    {
+        Tables::load(
+            alloc,
+            self.bidi,
+            self.brackets,
+            self.mirror,
+            self.lb,
+            self.ea,
+        )
+    }
+}
