@@ -5,9 +5,8 @@ ghost use Rattle.paragraphs.specs.Clusters.{cluster_sizes};
 ghost use Rattle.cell_grid.specs.Spans.{spans};
 ghost use Rattle.cell_grid.specs.Outline.{own_columns};
 
-use crate::span::Span;
 use bg_types::Memory;
-use paragraphs::{Para, columns};
+use paragraphs::{Para, Span, columns};
 use std::alloc::Global;
 use ucd_files::Tables;
 
@@ -37,15 +36,15 @@ pub(crate) fn outline_of(alloc: Global, tables: &Tables, para: &Para) -> Result<
     let mut byte = 0;
     let mut place = 0;
     for cluster in para.clusters() {
-        let size = cluster.chars().count();
+        let size = cluster.chars().count() as u32;
         let span = Span {
             first_byte: byte,
-            end_byte: byte + cluster.len(),
+            end_byte: byte + cluster.len() as u32,
             first_place: place,
             end_place: place + size,
         };
         clusters.spans.push(span)?;
-        clusters.sizes.push(size as u32)?;
+        clusters.sizes.push(size)?;
         clusters.columns.push(columns(tables, cluster))?;
         byte = span.end_byte;
         place = span.end_place;
