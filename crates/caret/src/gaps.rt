@@ -20,9 +20,9 @@ pub(crate) fn left_side(entry: &Entry) -> usize
     ensures { result ≡ left_side entry.now }
 {
     if is_odd(entry.level) {
-        entry.span.end_place
+        entry.span.end_place as usize
     } else {
-        entry.span.first_place
+        entry.span.first_place as usize
     }
 }
 
@@ -31,9 +31,9 @@ pub(crate) fn right_side(entry: &Entry) -> usize
     ensures { result ≡ right_side entry.now }
 {
     if is_odd(entry.level) {
-        entry.span.first_place
+        entry.span.first_place as usize
     } else {
-        entry.span.end_place
+        entry.span.end_place as usize
     }
 }
 

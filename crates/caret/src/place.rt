@@ -14,7 +14,7 @@ use cell_grid::{Entry, Grid, Row, laws};
 fn holds(entry: &Entry, place: usize) -> bool
     ensures { result ≡ holds place entry.now }
 {
-    entry.span.first_place <= place && place < entry.span.end_place
+    entry.span.first_place as usize <= place && place < entry.span.end_place as usize
 }
 
 /// The entry whose cluster holds a place, with its number.
@@ -38,7 +38,7 @@ fn entry_up_to(entries: &[Entry], place: usize) -> Option<(usize, Entry)>
         .iter()
         .copied()
         .enumerate()
-        .find(|(_, entry)| entry.span.end_place == place)
+        .find(|(_, entry)| entry.span.end_place as usize == place)
 }
 
 /// The last row whose first place is at most `place`, by binary search.
@@ -75,7 +75,7 @@ fn at_cluster(row: &Row, number: usize, place: usize) -> Caret
         Some((gap, entry)) => Caret {
             row: number,
             gap: if is_odd(entry.level) { gap + 1 } else { gap },
-            place: entry.span.first_place,
+            place: entry.span.first_place as usize,
         },
         None => gap_zero(number, place),
     }
@@ -93,7 +93,7 @@ fn at_end(row: &Row, number: usize) -> Caret
         Some((gap, entry)) => Caret {
             row: number,
             gap: if is_odd(entry.level) { gap } else { gap + 1 },
-            place: entry.span.end_place,
+            place: entry.span.end_place as usize,
         },
         None => gap_zero(number, row.last_place()),
     }

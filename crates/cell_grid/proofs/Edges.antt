@@ -8,7 +8,7 @@ use Rattle.bidi_explicit.specs.Embedding.{paragraph_level, classes_of}
 use Rattle.bidi_weak_neutral.specs.Levels.{levels_of}
 use Rattle.line_break.specs.declared.line.Line.{Line}
 use Rattle.reorder.specs.VisualList.{visual_list}
-use Rattle.cell_grid.specs.declared.span.Span.{Span}
+use Rattle.paragraphs.specs.declared.span.Span.{Span}
 use Rattle.cell_grid.specs.declared.entry.Entry.{Entry}
 use Rattle.cell_grid.specs.LawsBelow.{LawsBelow}
 use Rattle.cell_grid.specs.Spans.{spans}

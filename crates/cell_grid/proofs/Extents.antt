@@ -1,7 +1,7 @@
 -- Where clusters stand together.
 use Rattle.std.proofs.Common.{◌≡◌, ◌-◌, List, [], ◌∷◌, length, get_or, fold, slice_get, Some, refl, sym, ap, ◌∙◌, arith}
 use Rattle.std.proofs.lemmas.Option.{get_or_from_slice_get}
-use Rattle.cell_grid.specs.declared.span.Span.{Span}
+use Rattle.paragraphs.specs.declared.span.Span.{Span}
 use Rattle.cell_grid.specs.Spans.{up_to, extent}
 
 fold-last : (s : Span) (later : List Span) (d : Span) → fold up_to s later ≡ up_to s (get_or (s ∷ later) (length later) d)

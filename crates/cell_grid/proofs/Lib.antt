@@ -4,7 +4,6 @@ pub mod Entries
 pub mod Celled
 pub mod Writing
 pub mod Extents
-pub mod Boundaries
 pub mod Outlining
 pub mod Standing
 pub mod Sides

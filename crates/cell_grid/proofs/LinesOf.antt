@@ -9,7 +9,7 @@ use Rattle.paragraphs.specs.Clusters.{clusters}
 use Rattle.line_break.specs.declared.line.Line.{Line}
 use Rattle.line_break.specs.LineClusters.{line_clusters}
 use Rattle.line_break.specs.Lines.{fits, lines}
-use Rattle.cell_grid.specs.declared.span.Span.{Span}
+use Rattle.paragraphs.specs.declared.span.Span.{Span}
 use Rattle.cell_grid.specs.LawsBelow.{LawsBelow}
 use Rattle.reorder.specs.LineLevels.{group_firsts}
 use Rattle.cell_grid.specs.Hanging.{hung, line_columns}

@@ -16,7 +16,7 @@ use Rattle.bidi_weak_neutral.specs.Levels.{levels_of}
 use Rattle.line_break.specs.declared.line.Line.{Line}
 use Rattle.line_break.specs.Lines.{lines}
 use Rattle.line_break.specs.Ranges.{Follow}
-use Rattle.cell_grid.specs.declared.span.Span.{Span}
+use Rattle.paragraphs.specs.declared.span.Span.{Span}
 use Rattle.cell_grid.specs.declared.entry.Entry.{Entry}
 use Rattle.cell_grid.specs.LawsBelow.{LawsBelow}
 use Rattle.cell_grid.specs.Spans.{spans, shifted_span}

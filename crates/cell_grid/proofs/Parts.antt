@@ -7,7 +7,7 @@ use Rattle.std.specs.List.{All, concat, take-map, drop-map}
 use Rattle.std.specs.Str.{IsUtf8, IsCharBoundary}
 use Rattle.paragraphs.specs.Text.{code_points}
 use Rattle.paragraphs.specs.Clusters.{clusters, cluster_sizes}
-use Rattle.cell_grid.specs.declared.span.Span.{Span}
+use Rattle.paragraphs.specs.declared.span.Span.{Span}
 use Rattle.cell_grid.specs.LawsBelow.{LawsBelow}
 use Rattle.cell_grid.specs.Spans.{spans_from, spans, extent}
 use Rattle.cell_grid.specs.Outline.{StandIn}

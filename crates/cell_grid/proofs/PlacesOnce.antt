@@ -11,7 +11,7 @@ use Rattle.paragraphs.specs.Clusters.{clusters}
 use Rattle.bidi_explicit.specs.Embedding.{paragraph_level, classes_of}
 use Rattle.bidi_weak_neutral.specs.Levels.{levels_of}
 use Rattle.line_break.specs.declared.line.Line.{Line}
-use Rattle.cell_grid.specs.declared.span.Span.{Span}
+use Rattle.paragraphs.specs.declared.span.Span.{Span}
 use Rattle.cell_grid.specs.declared.entry.Entry.{Entry}
 use Rattle.cell_grid.specs.LawsBelow.{LawsBelow}
 use Rattle.cell_grid.specs.Spans.{span_at, spans_from, spans, extent, shifted_span}

@@ -6,7 +6,7 @@ use Rattle.std.proofs.lemmas.List.Sorted.{All-permutation, sum_by-IsPermutation,
 use Rattle.std.proofs.lemmas.List.Sums.{sum-map, sum_by-cons}
 use Rattle.std.specs.List.{range_with_len}
 use Rattle.reorder.specs.VisualList.{is_odd}
-use Rattle.cell_grid.specs.declared.span.Span.{Span}
+use Rattle.paragraphs.specs.declared.span.Span.{Span}
 use Rattle.cell_grid.specs.declared.entry.Entry.{Entry}
 use Rattle.cell_grid.specs.Spans.{extent}
 use Rattle.cell_grid.specs.Hanging.{hung}

@@ -9,7 +9,7 @@ use Rattle.std.specs.Str.{IsUtf8, IsCharBoundary}
 use Rattle.paragraphs.specs.Text.{code_points}
 use Rattle.paragraphs.specs.Clusters.{clusters}
 use Rattle.paragraphs.specs.Paragraphs.{Paragraph, StandsIn}
-use Rattle.cell_grid.specs.declared.span.Span.{Span}
+use Rattle.paragraphs.specs.declared.span.Span.{Span}
 use Rattle.cell_grid.specs.LawsBelow.{LawsBelow}
 use Rattle.cell_grid.specs.Spans.{span_at, spans_from, spans, shifted_span}
 use Rattle.cell_grid.specs.Printable.{IsSlice}

@@ -7,7 +7,7 @@ use Rattle.std.proofs.lemmas.Str.{chars-nil, chars-append, IsUtf8-append, IsUtf8
 use Rattle.std.specs.List.{All, concat}
 use Rattle.std.specs.Str.{IsUtf8, IsCharBoundary}
 use Rattle.paragraphs.specs.Text.{code_points}
-use Rattle.cell_grid.specs.declared.span.Span.{Span}
+use Rattle.paragraphs.specs.declared.span.Span.{Span}
 use Rattle.cell_grid.specs.Spans.{span_at, spans_from, up_to, extent}
 
 -- how many bytes and how many code points some clusters have

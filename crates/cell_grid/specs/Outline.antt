@@ -8,7 +8,7 @@ use Rattle.paragraphs.specs.Clusters.{clusters, cluster_sizes}
 use Rattle.line_break.specs.declared.line.Line.{Line}
 use Rattle.line_break.specs.LineClusters.{line_clusters}
 use Rattle.line_break.specs.Lines.{fits}
-use Rattle.cell_grid.specs.declared.span.Span.{Span}
+use Rattle.paragraphs.specs.declared.span.Span.{Span}
 use Rattle.cell_grid.specs.Spans.{spans, extent}
 
 -- the columns that each cluster of a paragraph has by itself

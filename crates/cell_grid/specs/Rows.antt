@@ -9,7 +9,7 @@ use Rattle.line_break.specs.declared.line.Line.{Line}
 use Rattle.line_break.specs.Lines.{lines}
 use Rattle.reorder.specs.LineLevels.{line_levels_of}
 use Rattle.reorder.specs.VisualList.{visual_list, is_odd}
-use Rattle.cell_grid.specs.declared.span.Span.{Span}
+use Rattle.paragraphs.specs.declared.span.Span.{Span}
 use Rattle.cell_grid.specs.declared.entry.Entry.{Entry}
 use Rattle.cell_grid.specs.declared.cell.Cell.{Cell}
 use Rattle.cell_grid.specs.Spans.{spans, extent, shifted_span}

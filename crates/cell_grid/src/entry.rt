@@ -4,19 +4,22 @@ ghost use Rattle.std.specs.Prelude.{◌≡◌, ◌+◌, ◌<◌, ◌≤◌, leng
 ghost use Rattle.std.specs.List.{All};
 ghost use Rattle.cell_grid.specs.Rows.{entries_from};
 
-use crate::span::Span;
 use bg_types::Memory;
+use paragraphs::Span;
 use std::alloc::Global;
+use std::mem::size_of;
 
 /// A cluster in a row: where it stands in the text, its level, the column of its first cell,
 /// counted in cells from the row's left edge, and how many columns it has, 0 to 2.
 #[derive(Clone, Copy, Debug, PartialEq, Eq, Hash)]
 pub struct Entry {
     pub span: Span,
-    pub level: u8,
     pub column: u16,
+    pub level: u8,
     pub columns: u8,
 }
+
+const _: () = prove!(size_of::<Entry>() <= 20);
 
 /// The entries of a line's clusters in this order, side by side from column `start` on.
 pub(crate) fn entries_from(
@@ -39,8 +42,8 @@ pub(crate) fn entries_from(
         let k = *number as usize;
         entries.push(Entry {
             span: spans[k],
-            level: levels[k],
             column,
+            level: levels[k],
             columns: columns[k],
         })?;
         column += u16::from(columns[k]);

@@ -107,7 +107,7 @@ fn push_rows(
     drawn.reserve(made.len())?;
     for row in made {
         let mut row = row;
-        row.shift(para.first_byte(), para.first_place());
+        row.shift(para.first_byte() as u32, para.first_place() as u32);
         drawn.push(row)?;
     }
     Ok(())

@@ -1,20 +1,13 @@
 //! Laws of the definitions: each function's contract is the law, and its body does nothing.
 
-ghost use Rattle.std.specs.Prelude.{◌≡◌, ℕ, ◌<◌, ◌≤◌, ◌∷◌, List, length, map, IsPermutation};
+ghost use Rattle.std.specs.Prelude.{ℕ, ◌<◌, length, IsPermutation};
 ghost use Rattle.std.specs.List.{All};
 ghost use Rattle.bg_types.specs.declared.class.Base.{Base};
-ghost use Rattle.paragraphs.specs.Clusters.{cluster_boundaries};
 ghost use Rattle.paragraphs.specs.Text.{code_points};
 ghost use Rattle.cell_grid.specs.Grids.{DrawnGrid, IsDrawn};
-ghost use Rattle.cell_grid.specs.Spans.{spans};
 ghost use Rattle.cell_grid.specs.Laws.{text_spans, entry_spans, RowsFollow, HoldsPlacesOnce, StandsAtItsEdge, CoversCellsOnce};
 
 use crate::laws_below::laws_below;
-
-/// The cluster boundaries of a paragraph are its start and the places where its clusters end.
-pub fn clusters_end_at_boundaries()
-    ensures { (text : List ℕ) → cluster_boundaries text ≡ 0 ∷ map (λ s. s.end_place) (spans text) }
-{}
 
 /// Each cluster of each paragraph is one entry of one row.
 pub fn clusters_once()

@@ -16,9 +16,9 @@ mod span;
 pub use cell::Cell;
 pub use entry::Entry;
 pub use grid::{Grid, draw};
+pub use paragraphs::Span;
 pub use printed::print;
 pub use row::Row;
-pub use span::Span;
 
 #[cfg(test)]
 mod tests;

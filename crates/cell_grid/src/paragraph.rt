@@ -11,12 +11,12 @@ use crate::column::hung;
 use crate::laws_below::laws_below;
 use crate::outline::{Outline, outline_of};
 use crate::row::Row;
-use crate::span::{Span, extent};
+use crate::span::extent;
 use bg_types::{Base, Memory};
 use bidi_explicit::paragraph_level;
 use bidi_weak_neutral::levels;
 use line_break::{Line, lines};
-use paragraphs::Para;
+use paragraphs::{Para, Span};
 use reorder::line_levels;
 use std::alloc::Global;
 use ucd_files::Tables;
@@ -48,8 +48,8 @@ fn levels_in_line(
     line_levels(
         alloc,
         material.tables,
-        &material.text[whole.first_byte..whole.end_byte],
-        &material.levels[whole.first_place..whole.end_place],
+        &material.text[whole.first_byte as usize..whole.end_byte as usize],
+        &material.levels[whole.first_place as usize..whole.end_place as usize],
         sizes,
         material.para_level,
     )

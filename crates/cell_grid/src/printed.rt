@@ -79,7 +79,7 @@ fn print_entry<W: Sink>(
     ensures err { OnErr result (AppendsBeginning (W.written sink.old) (W.written sink.new) (entry_text tables.now text.now (Some entry))) }
     ensures failed { W.has_failed sink.new ≡ is_err result }
 {
-    let cluster = &text[entry.span.first_byte..entry.span.end_byte];
+    let cluster = &text[entry.span.first_byte as usize..entry.span.end_byte as usize];
     if begins_with_tab(tables, cluster) {
         print_spaces(entry.columns, sink)
     } else {

@@ -8,8 +8,9 @@ ghost use Rattle.cell_grid.specs.Shifting.{MayShift, MayShiftRow};
 use crate::cell::{Cell, cells_of};
 use crate::column::start_column;
 use crate::entry::{Entry, entries_from};
-use crate::span::{Span, extent};
+use crate::span::{extent, shifted};
 use bg_types::Memory;
+use paragraphs::Span;
 use reorder::visual;
 use std::alloc::Global;
 use std::marker::Model;
@@ -17,8 +18,8 @@ use std::marker::Model;
 /// A row of a grid: a line with its entries from left to right, and a cell for each column.
 #[derive(Debug, Drop)]
 pub struct Row {
-    first_place: usize,
-    last_place: usize,
+    first_place: u32,
+    last_place: u32,
     para_level: u8,
     entries: Vec<Entry>,
     cells: Vec<Cell>,
@@ -71,7 +72,7 @@ impl Row {
     }
 
     /// Lets the row stand so many bytes and places later.
-    pub(crate) fn shift(&mut self, bytes: usize, places: usize)
+    pub(crate) fn shift(&mut self, bytes: u32, places: u32)
         requires { MayShiftRow bytes places self.old }
         ensures { self.new ≡ shifted bytes places self.old }
     {
@@ -85,7 +86,7 @@ impl Row {
     pub fn first_place(&self) -> usize
         ensures { result ≡ self.now.first_place }
     {
-        self.first_place
+        self.first_place as usize
     }
 
     /// The place behind its last code point, a separator included.
@@ -93,7 +94,7 @@ impl Row {
     pub fn last_place(&self) -> usize
         ensures { result ≡ self.now.last_place }
     {
-        self.last_place
+        self.last_place as usize
     }
 
     /// The level of its paragraph, 0 or 1.
@@ -121,12 +122,12 @@ impl Row {
     }
 }
 
-fn shift_entries(entries: &mut [Entry], bytes: usize, places: usize)
+fn shift_entries(entries: &mut [Entry], bytes: u32, places: u32)
     requires { All (λ e. MayShift bytes places e.span) entries.old }
     ensures { entries.new ≡ map (shifted_entry bytes places) entries.old }
 {
     for entry in entries.iter_mut() {
         let span = entry.span;
-        entry.span = span.shifted(bytes, places);
+        entry.span = shifted(span, bytes, places);
     }
 }

@@ -1,18 +1,10 @@
-//! Where clusters stand in a text.
+//! Where clusters stand together, and where they stand a way further.
 
 ghost use Rattle.std.specs.Prelude.{◌≡◌};
 ghost use Rattle.cell_grid.specs.Spans.{extent, shifted_span};
 ghost use Rattle.cell_grid.specs.Shifting.{MayShift};
 
-/// Where a cluster stands: from its first byte and its first place up to those behind it. Bytes
-/// count bytes, and places count code points, both of the text.
-#[derive(Clone, Copy, Debug, PartialEq, Eq, Hash)]
-pub struct Span {
-    pub first_byte: usize,
-    pub end_byte: usize,
-    pub first_place: usize,
-    pub end_place: usize,
-}
+use paragraphs::Span;
 
 /// Where clusters of a paragraph stand together that follow one another. Where there is none, the
 /// paragraph's start.
@@ -34,18 +26,16 @@ pub(crate) fn extent(spans: &[Span]) -> Span
     }
 }
 
-impl Span {
-    /// So many bytes and places later.
-    #[inline]
-    pub(crate) fn shifted(self, bytes: usize, places: usize) -> Span
-        requires { MayShift bytes places self }
-        ensures { result ≡ shifted_span bytes places self }
-    {
-        Span {
-            first_byte: self.first_byte + bytes,
-            end_byte: self.end_byte + bytes,
-            first_place: self.first_place + places,
-            end_place: self.end_place + places,
-        }
+/// So many bytes and places later.
+#[inline]
+pub(crate) fn shifted(span: Span, bytes: u32, places: u32) -> Span
+    requires { MayShift bytes places span }
+    ensures { result ≡ shifted_span bytes places span }
+{
+    Span {
+        first_byte: span.first_byte + bytes,
+        end_byte: span.end_byte + bytes,
+        first_place: span.first_place + places,
+        end_place: span.end_place + places,
     }
 }

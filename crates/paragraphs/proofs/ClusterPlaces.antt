@@ -1,5 +1,5 @@
--- The clusters of a text, and the places of their boundaries.
-use Rattle.std.proofs.Common.{◌≡◌, ℕ, zero, suc, ◌+◌, ◌<◌, ◌≤◌, true, List, [], ◌∷◌, ◌++◌, map, length, get_or, take, sum, sym, ap, subst, ◌∙◌, arith}
+-- The clusters of a text, and the places where they stand.
+use Rattle.std.proofs.Common.{◌≡◌, ℕ, zero, suc, ◌+◌, ◌<◌, ◌≤◌, true, List, [], ◌∷◌, ◌++◌, map, length, get_or, take, sum, sym, ap, subst, ◌∙◌, arith, add-one}
 use Rattle.std.proofs.lemmas.List.Concat.{concat_is, length-flat_map}
 use Rattle.std.proofs.lemmas.List.Elements.{All-nil, All-cons, All-head, All-tail, All-map, All-weaker, All-same}
 use Rattle.std.proofs.lemmas.List.Sums.{sum-map, sum_by-cons}
@@ -11,7 +11,9 @@ use Rattle.unicode_segmentation.specs.Grapheme.{is_grapheme_break}
 use Rattle.unicode_segmentation.specs.Segments.{with_offsets}
 use Rattle.unicode_segmentation.proofs.SegmentsLemmas.{AllPieces, IsPieceOf, All-IsPieceOf, concat-segments, map-with_offsets, segments_nonempty}
 use Rattle.paragraphs.specs.Text.{code_points}
-use Rattle.paragraphs.specs.Clusters.{clusters, cluster_code_points, cluster_sizes, boundaries_from, cluster_boundaries}
+use Rattle.paragraphs.specs.Clusters.{clusters, cluster_code_points, cluster_sizes}
+use Rattle.paragraphs.specs.declared.span.Span.{Span}
+use Rattle.paragraphs.specs.Spans.{spans_from, spans}
 
 pub concat-clusters : (text : List ℕ) → IsUtf8 text → concat (clusters text) ≡ text
 concat-clusters text u = concat-segments (is_grapheme_break true) text u
@@ -67,16 +69,39 @@ some-cluster_sizes text u =
     All-map (λ size. 0 < size) length (cluster_code_points text)
     (All-map (λ (points : List ℕ). 0 < length points) code_points (clusters text) (some-code_points (clusters text) (clusters-utf8 text u) (some-clusters text)))
 
-boundaries_from-sum : (sizes : List ℕ) (place k : ℕ) → k ≤ length sizes → get_or (boundaries_from place sizes) k 0 ≡ place + sum (take k sizes)
-boundaries_from-sum [] place zero le = omega arith
-boundaries_from-sum [] place (suc k) le = absurd (omega arith)
-boundaries_from-sum (size ∷ sizes) place zero le = omega arith
-boundaries_from-sum (size ∷ sizes) place (suc k) le =
-    let fits : k ≤ length sizes = omega arith in
-    let later = boundaries_from-sum sizes (place + size) k fits in
-    let more = sum_by-cons (λ (x : ℕ). x) size (take k sizes) in
+first_place-spans_from : (byte place k : ℕ) (cs : List (List ℕ)) → k < length (map length (map code_points cs))
+    → get_or (map (λ (s : Span). s.first_place) (spans_from byte place cs)) k 0 ≡ place + sum (take k (map length (map code_points cs)))
+first_place-spans_from byte place k [] lt = absurd (omega arith)
+first_place-spans_from byte place zero (c ∷ cs) lt = omega arith
+first_place-spans_from byte place (suc k) (c ∷ cs) lt =
+    let size = length (code_points c) in
+    let fits : k < length (map length (map code_points cs)) = omega arith in
+    let later = first_place-spans_from (byte + length c) (place + size) k cs fits in
+    let more = sum_by-cons (λ (x : ℕ). x) size (take k (map length (map code_points cs))) in
     omega (arith, later, more)
 
--- a boundary stands behind the code points of all clusters before it
-pub cluster_boundaries-sum : (text : List ℕ) (k : ℕ) → k ≤ length (cluster_sizes text) → get_or (cluster_boundaries text) k 0 ≡ sum (take k (cluster_sizes text))
-cluster_boundaries-sum text k le = let e = boundaries_from-sum (cluster_sizes text) 0 k le in omega (arith, e)
+-- a cluster stands behind the code points of all earlier ones
+pub first_place-spans : (text : List ℕ) (k : ℕ) → k < length (cluster_sizes text)
+    → get_or (map (λ (s : Span). s.first_place) (spans text)) k 0 ≡ sum (take k (cluster_sizes text))
+first_place-spans text k lt = let e = first_place-spans_from 0 0 k (clusters text) lt in omega (arith, e)
+
+end_place-spans_from : (byte place k : ℕ) (cs : List (List ℕ)) → k < length (map length (map code_points cs))
+    → get_or (map (λ (s : Span). s.end_place) (spans_from byte place cs)) k 0 ≡ place + sum (take (suc k) (map length (map code_points cs)))
+end_place-spans_from byte place k [] lt = absurd (omega arith)
+end_place-spans_from byte place zero (c ∷ cs) lt =
+    let size = length (code_points c) in
+    let more = sum_by-cons (λ (x : ℕ). x) size (take 0 (map length (map code_points cs))) in
+    omega (arith, more)
+end_place-spans_from byte place (suc k) (c ∷ cs) lt =
+    let size = length (code_points c) in
+    let fits : k < length (map length (map code_points cs)) = omega arith in
+    let later = end_place-spans_from (byte + length c) (place + size) k cs fits in
+    let more = sum_by-cons (λ (x : ℕ). x) size (take (suc k) (map length (map code_points cs))) in
+    omega (arith, later, more)
+
+-- and it ends behind its own
+pub end_place-spans : (text : List ℕ) (k : ℕ) → k < length (cluster_sizes text)
+    → get_or (map (λ (s : Span). s.end_place) (spans text)) k 0 ≡ sum (take (k + 1) (cluster_sizes text))
+end_place-spans text k lt =
+    let e = end_place-spans_from 0 0 k (clusters text) lt in
+    rw add-one (omega (arith, e))

@@ -1,5 +1,5 @@
--- ClustersAndColumns, its first half: the clusters of a text, and where they stand in it.
-use Rattle.std.specs.Prelude.{ℕ, true, ◌+◌, List, [], ◌∷◌, map, length}
+-- ClustersAndColumns, its first half: the clusters of a text.
+use Rattle.std.specs.Prelude.{ℕ, true, List, map, length}
 use Rattle.unicode_segmentation.specs.Grapheme.{graphemes}
 use Rattle.paragraphs.specs.Text.{code_points}
 
@@ -14,12 +14,3 @@ cluster_code_points text = map code_points (clusters text)
 -- how many code points each has
 abbrev pub cluster_sizes : List ℕ → List ℕ
 cluster_sizes text = map length (cluster_code_points text)
-
--- the places where clusters of these sizes begin, the first of them at `place`, and the place where the last one ends
-abbrev pub boundaries_from : ℕ → List ℕ → List ℕ
-boundaries_from place [] = place ∷ []
-boundaries_from place (size ∷ sizes) = place ∷ boundaries_from (place + size) sizes
-
--- the places of a text's cluster boundaries, from 0 to the number of its code points
-abbrev pub cluster_boundaries : List ℕ → List ℕ
-cluster_boundaries text = boundaries_from 0 (cluster_sizes text)

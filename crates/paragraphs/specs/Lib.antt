@@ -2,4 +2,5 @@ pub mod Text
 pub mod Classes
 pub mod Paragraphs
 pub mod Clusters
+pub mod Spans
 pub mod Columns

@@ -1,7 +1,7 @@
 -- The row of a line that fits.
 use Rattle.std.proofs.Common.{◌≤◌, ℕ, List, sum, length, slice_range, sym, ap, subst, ◌∙◌, arith}
 use Rattle.paragraphs.specs.Clusters.{cluster_sizes}
-use Rattle.cell_grid.specs.declared.span.Span.{Span}
+use Rattle.paragraphs.specs.declared.span.Span.{Span}
 use Rattle.cell_grid.specs.Spans.{spans}
 use Rattle.cell_grid.specs.Hanging.{hung}
 use Rattle.cell_grid.specs.Rows.{row_with, levels_in_line}

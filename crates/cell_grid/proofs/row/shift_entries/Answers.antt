@@ -1,6 +1,6 @@
 -- Each entry is shifted where it stands.
 use Rattle.std.proofs.Common.{[], get_or, set, ap, sym, subst, ◌∙◌}
-use Rattle.cell_grid.specs.declared.span.Span.{Span}
+use Rattle.paragraphs.specs.declared.span.Span.{Span}
 use Rattle.cell_grid.specs.declared.entry.Entry.{Entry}
 use Rattle.cell_grid.specs.Spans.{extent}
 use Rattle.cell_grid.specs.Rows.{shifted_entry}

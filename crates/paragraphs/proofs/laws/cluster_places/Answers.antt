@@ -1,5 +1,5 @@
 -- The laws by their lemmas.
-use Rattle.paragraphs.proofs.ClusterPlaces.{concat-cluster_code_points, sum-cluster_sizes, some-cluster_sizes, cluster_boundaries-sum}
+use Rattle.paragraphs.proofs.ClusterPlaces.{concat-cluster_code_points, sum-cluster_sizes, some-cluster_sizes, first_place-spans, end_place-spans}
 use Rattle.paragraphs.proofs.laws.cluster_places.Goals as goal
 
 pub returns-clause-joined : goal.returns-clause-joined
@@ -11,5 +11,8 @@ returns-clause-sum c = sum-cluster_sizes
 pub returns-clause-some : goal.returns-clause-some
 returns-clause-some c = some-cluster_sizes
 
-pub returns-clause-boundary : goal.returns-clause-boundary
-returns-clause-boundary c = cluster_boundaries-sum
+pub returns-clause-start : goal.returns-clause-start
+returns-clause-start c = first_place-spans
+
+pub returns-clause-end : goal.returns-clause-end
+returns-clause-end c = end_place-spans

@@ -11,7 +11,7 @@ use Rattle.paragraphs.specs.Columns.{columns_of}
 use Rattle.line_break.specs.declared.status.Break.{Break}
 use Rattle.line_break.specs.Statuses.{breaks}
 use Rattle.line_break.specs.LineClusters.{measured_all, line_clusters}
-use Rattle.cell_grid.specs.declared.span.Span.{Span}
+use Rattle.paragraphs.specs.declared.span.Span.{Span}
 use Rattle.cell_grid.specs.Spans.{span_at, spans_from, spans}
 use Rattle.cell_grid.specs.Outline.{own_columns}
 
