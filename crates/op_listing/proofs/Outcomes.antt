@@ -1,5 +1,5 @@
 -- What a file or a listing has decides the answer, memory aside.
-use Rattle.std.proofs.Common.{◌≡◌, ℕ, ◌⊎◌, inl, inr, Bool, true, false, List, Option, Result, Ok, Err, refl, sym, subst, ◌∙◌}
+use Rattle.std.proofs.Common.{◌≡◌, ℕ, ◌⊎◌, inl, inr, Bool, true, List, Option, Result, Ok, Err, refl, subst}
 use Rattle.std.specs.Prelude.{◌↔◌, MatchResult}
 use Rattle.std.specs.Io.KnownBytes.{Appends, Keeps}
 use Rattle.bg_types.specs.Sink.{AppendsBeginning}
