@@ -23,3 +23,4 @@ pub mod Rows
 pub mod OnceEach
 pub mod Told
 pub mod InTurn
+pub mod DeskLists
