@@ -24,3 +24,4 @@ pub mod OnceEach
 pub mod Told
 pub mod InTurn
 pub mod DeskLists
+pub mod Refusals

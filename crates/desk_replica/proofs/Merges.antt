@@ -100,7 +100,7 @@ nothing_refused s t u Full sub r =
     absurd (omega (arith, larger, full, within))
 nothing_refused s t u Memory sub r = r.3.1.1 (r.1.keeps r.3.0 (sub r.3.0 r.3.1.0))
 
-disagree_apart : (s t : OperationSet) → Disagree s t → Agree s t → ⊥
+pub disagree_apart : (s t : OperationSet) → Disagree s t → Agree s t → ⊥
 disagree_apart s t d agree = d.differ (agree d.id d.one d.other d.in_s d.in_t)
 
 -- a merge that made a union within the limit is not refused
