@@ -10,15 +10,12 @@ use Rattle.bg_types.specs.declared.op.Place.{Place}
 use Rattle.bg_types.specs.declared.op.Place.TheVariants.{Root, After}
 use Rattle.bg_types.specs.declared.op.OpView.{OpView}
 use Rattle.bg_types.specs.declared.op.OpView.TheVariants.{Insert, Erase}
-use Rattle.bg_types.proofs.IdentifierOrder.{id_cmp-total, same_id-is, same_id-itself}
-use Rattle.bg_types.proofs.OperationSets.{same_sets}
+use Rattle.bg_types.proofs.Interface.{id_cmp-total, same_id-is, same_id-itself, same_sets}
 use Rattle.rga_tree.specs.Walk.{walk}
 use Rattle.rga_tree.specs.Attached.{IsAttached}
 use Rattle.rga_tree.specs.Tree.{stands_in, IsTree, OnlyErasesPlaced}
 use Rattle.rga_tree.specs.Elements.{elements}
-use Rattle.rga_tree.proofs.TreeAttached.{IsAttached-more}
-use Rattle.rga_tree.proofs.AttachedWalk.{IsReached, IsAttached-child}
-use Rattle.rga_tree.proofs.SetSteps.{AllWellFormed-with}
+use Rattle.rga_tree.proofs.Interface.{IsAttached-more, IsReached, IsAttached-child, AllWellFormed-with}
 use Rattle.pending_ops.specs.Waiting.{Waiting, IsNew}
 use Rattle.desk_replica.specs.Placement.{IsParted, IsSettled, MayPlace, reaches_in, whole}
 use Rattle.desk_replica.specs.Reply.{IsAdmitted, IsPlacing, IsHiding, IsTaken, attached_count}

@@ -11,15 +11,10 @@ use Rattle.bg_types.specs.declared.op.OpView.{OpView}
 use Rattle.bg_types.specs.declared.op.OpView.TheVariants.{Insert, Erase}
 use Rattle.rga_tree.specs.Walk.{walk, walked_ids}
 use Rattle.rga_tree.specs.TextOf.{is_erased, text, visible}
-use Rattle.rga_tree.proofs.WalkAmong.{Entry}
-use Rattle.rga_tree.proofs.Listed.{is_listed, all_listed}
-use Rattle.rga_tree.proofs.AttachedWalk.{all_held, all_weaker_by}
-use Rattle.rga_tree.proofs.WalkDistinct.{IsDistinct-walked}
+use Rattle.rga_tree.proofs.Interface.{Entry, is_listed, all_listed, all_held, all_weaker_by, IsDistinct-walked}
 use Rattle.pending_ops.specs.Waiting.{ListsOnce}
 use Rattle.pending_ops.specs.Chains.{is_in}
-use Rattle.pending_ops.proofs.Tables.{IsDistinct-apart}
-use Rattle.pending_ops.proofs.Views.{contains-from_list}
-use Rattle.pending_ops.proofs.Listing.{len-from_list}
+use Rattle.pending_ops.proofs.Interface.{IsDistinct-apart, contains-from_list, len-from_list}
 use Rattle.desk_replica.proofs.Whole.{some_not}
 use Rattle.desk_replica.proofs.Sizes.{len_set-map}
 use Rattle.desk_replica.proofs.Lists.{length-each}

@@ -7,8 +7,7 @@ use Rattle.bg_types.specs.OperationSet.{OperationSet, Holds, MayJoin, named_coun
 use Rattle.bg_types.specs.declared.op.Place.TheVariants.{Root, After}
 use Rattle.bg_types.specs.declared.op.OpView.{OpView}
 use Rattle.bg_types.specs.declared.op.OpView.TheVariants.{Insert, Erase}
-use Rattle.bg_types.proofs.OperationSets.{Holds-with_operation, size-with_operation}
-use Rattle.bg_types.proofs.NextCounter.{next-above, next-least}
+use Rattle.bg_types.proofs.Interface.{Holds-with_operation, size-with_operation, next-above, next-least}
 use Rattle.pending_ops.specs.Releasing.{subject}
 use Rattle.desk_replica.specs.Placement.{IsCounted}
 

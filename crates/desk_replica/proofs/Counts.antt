@@ -11,7 +11,7 @@ use Rattle.rga_tree.specs.declared.element.Element.{Element}
 use Rattle.rga_tree.specs.Walk.{walk}
 use Rattle.rga_tree.specs.TextOf.{is_erased}
 use Rattle.rga_tree.specs.Elements.{elements, element_of}
-use Rattle.rga_tree.proofs.WalkAmong.{Entry}
+use Rattle.rga_tree.proofs.Interface.{Entry}
 use Rattle.desk_replica.specs.Told.{visible_before, in_front, count_visible}
 use Rattle.desk_replica.proofs.InTurn.{joined, joined_all, joined_push, joined_split, split_at, take_push}
 

@@ -8,8 +8,7 @@ use Rattle.bg_types.specs.WellFormed.{IsWellFormed}
 use Rattle.bg_types.specs.OperationSet.{Node, OperationSet, AllWellFormed, no_operations, with_operation, next, size}
 use Rattle.bg_types.specs.declared.op.Place.TheVariants.{Root}
 use Rattle.bg_types.specs.declared.op.OpView.{OpView}
-use Rattle.bg_types.proofs.OperationSets.{Holds-no_operations}
-use Rattle.bg_types.proofs.NextCounter.{next-least}
+use Rattle.bg_types.proofs.Interface.{Holds-no_operations, next-least}
 use Rattle.pending_ops.specs.Waiting.{Waiting, nothing_waits}
 use Rattle.pending_ops.specs.Releasing.{subject}
 use Rattle.desk_replica.specs.Desk.{Desk, fresh}

@@ -8,11 +8,10 @@ use Rattle.bg_types.specs.WellFormed.{MayFollow}
 use Rattle.bg_types.specs.OperationSet.{OperationSet, AllWellFormed, Agree, Holds, MayJoin, ReusesIdentifier, size}
 use Rattle.bg_types.specs.declared.op.OpView.{OpView}
 use Rattle.bg_types.specs.declared.op.OpView.TheVariants.{Insert}
-use Rattle.bg_types.proofs.OperationSets.{get-union}
+use Rattle.bg_types.proofs.Interface.{get-union}
 use Rattle.rga_tree.specs.declared.element.Element.{Element}
 use Rattle.rga_tree.specs.Elements.{elements, element_of}
-use Rattle.rga_tree.proofs.TreeAttached.{IsAttached-tree}
-use Rattle.rga_tree.proofs.AttachedWalk.{listed-attached}
+use Rattle.rga_tree.proofs.Interface.{IsAttached-tree, listed-attached}
 use Rattle.pending_ops.specs.Waiting.{Waiting, ListsOnce}
 use Rattle.desk_replica.specs.Desk.{insertion_of}
 use Rattle.desk_replica.specs.Placement.{IsSettled, waiting_in, whole}

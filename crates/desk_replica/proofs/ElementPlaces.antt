@@ -6,14 +6,11 @@ use Rattle.bg_types.specs.Identifier.{Identifier, same_id}
 use Rattle.bg_types.specs.OperationSet.{Node, OperationSet, AllWellFormed}
 use Rattle.bg_types.specs.declared.op.Place.TheVariants.{Root}
 use Rattle.bg_types.specs.declared.op.OpView.TheVariants.{Insert}
-use Rattle.bg_types.proofs.IdentifierOrder.{same_id-is}
-use Rattle.bg_types.proofs.OperationSets.{some_is}
+use Rattle.bg_types.proofs.Interface.{same_id-is, some_is}
 use Rattle.rga_tree.specs.declared.element.Element.{Element}
 use Rattle.rga_tree.specs.Walk.{walk}
 use Rattle.rga_tree.specs.Elements.{elements, element_of}
-use Rattle.rga_tree.proofs.WalkAmong.{Entry}
-use Rattle.rga_tree.proofs.Listed.{is_listed}
-use Rattle.rga_tree.proofs.AttachedWalk.{all_held}
+use Rattle.rga_tree.proofs.Interface.{Entry, is_listed, all_held}
 use Rattle.desk_replica.proofs.Lists.{slice_get-from, slice_get-to, all_at}
 use Rattle.bg_types.specs.WellFormed.{MayFollow}
 

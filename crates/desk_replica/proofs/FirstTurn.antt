@@ -8,8 +8,7 @@ use Rattle.bg_types.specs.OperationSet.{Node, OperationSet, AllWellFormed, Holds
 use Rattle.bg_types.specs.declared.op.Place.{Place}
 use Rattle.bg_types.specs.declared.op.OpView.{OpView}
 use Rattle.bg_types.specs.declared.op.OpView.TheVariants.{Insert, Erase}
-use Rattle.bg_types.proofs.IdentifierOrder.{id_cmp-total, same_id-is, same_id-itself}
-use Rattle.bg_types.proofs.OperationSets.{same_sets, get-union, unwrap_first}
+use Rattle.bg_types.proofs.Interface.{id_cmp-total, same_id-is, same_id-itself, same_sets, get-union, unwrap_first}
 use Rattle.rga_tree.specs.Tree.{stands_in}
 use Rattle.pending_ops.specs.Waiting.{Waiting, follows, is_after, is_ready}
 use Rattle.pending_ops.specs.Below.{CountsBelow, IsChain}

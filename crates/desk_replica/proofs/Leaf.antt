@@ -11,7 +11,7 @@ use Rattle.rga_tree.specs.Walk.{walk}
 use Rattle.rga_tree.specs.Tree.{stands_in, IsTree}
 use Rattle.rga_tree.specs.Elements.{elements, with_element}
 use Rattle.rga_tree.specs.Row.{place_of}
-use Rattle.rga_tree.proofs.LeafWalk.{walk-leaf_at}
+use Rattle.rga_tree.proofs.Interface.{walk-leaf_at}
 use Rattle.desk_replica.specs.Reply.{attached_count}
 
 pub length-put : {X : Type 0} (xs : List X) (i : ℕ) (x : X) → length (insert xs i x) ≡ length xs + 1

@@ -10,7 +10,7 @@ use Rattle.bg_types.specs.WellFormed.{MayFollow}
 use Rattle.bg_types.specs.declared.op.Place.{Place}
 use Rattle.bg_types.specs.declared.op.OpView.{OpView}
 use Rattle.bg_types.specs.declared.op.OpView.TheVariants.{Insert}
-use Rattle.bg_types.proofs.OperationSets.{get-union, unwrap_first}
+use Rattle.bg_types.proofs.Interface.{get-union, unwrap_first}
 use Rattle.rga_tree.specs.declared.element.Element.{Element}
 use Rattle.rga_tree.specs.Tree.{OnlyErasesPlaced}
 use Rattle.rga_tree.specs.Elements.{element_of}

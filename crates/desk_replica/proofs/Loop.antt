@@ -10,7 +10,7 @@ use Rattle.bg_types.specs.declared.op.Place.{Place}
 use Rattle.bg_types.specs.declared.op.Place.TheVariants.{Root, After}
 use Rattle.bg_types.specs.declared.op.OpView.{OpView}
 use Rattle.bg_types.specs.declared.op.OpView.TheVariants.{Insert, Erase}
-use Rattle.bg_types.proofs.IdentifierOrder.{id_cmp-total}
+use Rattle.bg_types.proofs.Interface.{id_cmp-total}
 use Rattle.pending_ops.specs.Waiting.{Waiting, HandsOut, TakesOut, NoneReady, follows, is_ready, is_released}
 use Rattle.desk_replica.specs.Placement.{IsParted, IsSettled, AreDue, MayPlace, Places, PlacesIn}
 use Rattle.desk_replica.proofs.Whole.{some_not}

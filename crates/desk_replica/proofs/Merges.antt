@@ -6,7 +6,7 @@ use Rattle.bg_types.specs.Identifier.{Identifier}
 use Rattle.bg_types.specs.OperationSet.{Node, OperationSet, Agree, Holds, MayJoin, ReusesIdentifier, union, with_operation, size}
 use Rattle.bg_types.specs.declared.op.OpView.{OpView}
 use Rattle.bg_types.specs.declared.op.OpView.TheVariants.{Insert, Erase}
-use Rattle.bg_types.proofs.OperationSets.{Holds-union, Holds-with_operation, same_operations, size-with_operation, some_is}
+use Rattle.bg_types.proofs.Interface.{Holds-union, Holds-with_operation, same_operations, size-with_operation, some_is}
 use Rattle.desk_replica.specs.declared.answer.TakeFault.{TakeFault}
 use Rattle.desk_replica.specs.declared.answer.TakeFault.TheVariants.{IdentifierReused, Full, Memory}
 use Rattle.pending_ops.specs.Waiting.{ListsOnce}

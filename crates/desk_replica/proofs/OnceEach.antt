@@ -8,8 +8,7 @@ use Rattle.bg_types.specs.OperationSet.{OperationSet, Holds, size}
 use Rattle.bg_types.specs.declared.op.Place.{Place}
 use Rattle.bg_types.specs.declared.op.OpView.{OpView}
 use Rattle.bg_types.specs.declared.op.OpView.TheVariants.{Insert, Erase}
-use Rattle.bg_types.proofs.IdentifierOrder.{id_cmp-total, same_id-is, same_id-itself}
-use Rattle.bg_types.proofs.OperationSets.{node, some_is}
+use Rattle.bg_types.proofs.Interface.{id_cmp-total, same_id-is, same_id-itself, node, some_is}
 use Rattle.desk_replica.proofs.Settled.{there}
 use Rattle.desk_replica.proofs.Sizes.{map_positive, set_positive, map_pick, set_pick}
 

@@ -6,7 +6,7 @@ use Rattle.std.specs.FinMap as map
 use Rattle.bg_types.specs.OperationSet.{OperationSet, Holds, MayJoin, ReusesIdentifier, with_operation, size}
 use Rattle.bg_types.specs.declared.op.OpView.{OpView}
 use Rattle.bg_types.specs.declared.op.OpView.TheVariants.{Insert, Erase}
-use Rattle.bg_types.proofs.OperationSets.{Holds-with_operation, same_operations, size-with_operation}
+use Rattle.bg_types.proofs.Interface.{Holds-with_operation, same_operations, size-with_operation}
 use Rattle.desk_replica.specs.declared.answer.TakeFault.{TakeFault}
 use Rattle.desk_replica.specs.declared.answer.TakeFault.TheVariants.{IdentifierReused, Full, Memory}
 use Rattle.desk_replica.specs.SetOf.{IsSetOf}

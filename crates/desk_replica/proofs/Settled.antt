@@ -8,18 +8,14 @@ use Rattle.bg_types.specs.Identifier.{Identifier}
 use Rattle.bg_types.specs.OperationSet.{Node, OperationSet, AllWellFormed, union}
 use Rattle.bg_types.specs.declared.op.Place.TheVariants.{Root, After}
 use Rattle.bg_types.specs.declared.op.OpView.TheVariants.{Insert, Erase}
-use Rattle.bg_types.proofs.OperationSets.{get-union}
+use Rattle.bg_types.proofs.Interface.{get-union, one_of}
 use Rattle.rga_tree.specs.Walk.{walk}
 use Rattle.rga_tree.specs.Attached.{IsAttached, IsAttachedPart}
 use Rattle.rga_tree.specs.Attached.IsAttached.{below_root, below}
 use Rattle.rga_tree.specs.TextOf.{text, visible, is_erased}
 use Rattle.rga_tree.specs.Tree.{stands_in, IsTree, OnlyErasesPlaced}
 use Rattle.rga_tree.specs.Elements.{elements, element_of}
-use Rattle.rga_tree.proofs.WalkAmong.{Entry}
-use Rattle.rga_tree.proofs.AttachedWalk.{all_attached, all_weaker_by}
-use Rattle.rga_tree.proofs.AttachedPart.{walk-part}
-use Rattle.rga_tree.proofs.TreeAttached.{IsAttached-tree, IsAttached-more}
-use Rattle.pending_ops.proofs.Tables.{one_of}
+use Rattle.rga_tree.proofs.Interface.{Entry, all_attached, all_weaker_by, walk-part, IsAttached-tree, IsAttached-more}
 use Rattle.desk_replica.specs.Placement.{IsParted}
 use Rattle.desk_replica.proofs.Whole.{contains-union, first_some, which}
 

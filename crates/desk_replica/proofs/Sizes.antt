@@ -5,7 +5,7 @@ use Rattle.std.specs.List.{list_any}
 use Rattle.std.specs.FinMap as map
 use Rattle.std.specs.FinSet as set
 use Rattle.bg_types.specs.Identifier.{Identifier, id_cmp, same_id}
-use Rattle.bg_types.proofs.IdentifierOrder.{id_cmp-total, id_cmp-exact, same_id-itself}
+use Rattle.bg_types.proofs.Interface.{id_cmp-total, id_cmp-exact, same_id-itself}
 
 pub record Counted (A : Type 0) : Type 0 where
   pub has : A → Identifier → Bool

@@ -8,12 +8,10 @@ use Rattle.bg_types.specs.Identifier.{Identifier, same_id}
 use Rattle.bg_types.specs.OperationSet.{Node, OperationSet, union}
 use Rattle.bg_types.specs.declared.op.Place.{Place}
 use Rattle.bg_types.specs.declared.op.Place.TheVariants.{Root, After}
-use Rattle.bg_types.proofs.IdentifierOrder.{id_cmp-total, same_id-is}
-use Rattle.bg_types.proofs.OperationSets.{unwrap_first}
+use Rattle.bg_types.proofs.Interface.{id_cmp-total, same_id-is, unwrap_first, neither}
 use Rattle.rga_tree.specs.Tree.{stands_in}
 use Rattle.rga_tree.specs.Elements.{with_element}
 use Rattle.pending_ops.specs.Waiting.{Waiting, follows, is_after, is_ready}
-use Rattle.pending_ops.proofs.Tables.{neither}
 use Rattle.desk_replica.specs.Placement.{IsParted, PlacesIn}
 use Rattle.desk_replica.proofs.Whole.{some_not, same_unions}
 

@@ -9,18 +9,15 @@ use Rattle.bg_types.specs.declared.op.Place.{Place}
 use Rattle.bg_types.specs.declared.op.Place.TheVariants.{Root}
 use Rattle.bg_types.specs.declared.op.OpView.{OpView}
 use Rattle.bg_types.specs.declared.op.OpView.TheVariants.{Insert, Erase}
-use Rattle.bg_types.proofs.OperationSets.{get-union}
+use Rattle.bg_types.proofs.Interface.{get-union, one_of}
 use Rattle.rga_tree.specs.declared.element.Element.{Element}
 use Rattle.rga_tree.specs.Walk.{walk, walked_ids}
 use Rattle.rga_tree.specs.Elements.{elements, element_of}
 use Rattle.rga_tree.specs.Row.{hidden_ids, ids_of}
-use Rattle.rga_tree.proofs.WalkAmong.{Entry}
-use Rattle.rga_tree.proofs.WalkDistinct.{IsDistinct-walked}
-use Rattle.rga_tree.proofs.TreeAttached.{IsAttached-tree}
-use Rattle.rga_tree.proofs.AttachedWalk.{listed-attached}
+use Rattle.rga_tree.proofs.Interface.{Entry, IsDistinct-walked, IsAttached-tree, listed-attached}
 use Rattle.pending_ops.specs.Chains.{AreApart, is_in}
 use Rattle.pending_ops.specs.Waiting.{Waiting, ListsOnce}
-use Rattle.pending_ops.proofs.Tables.{IsDistinct-apart, is_in-slice_get, one_of}
+use Rattle.pending_ops.proofs.Interface.{IsDistinct-apart, is_in-slice_get}
 use Rattle.desk_replica.specs.Desk.{Desk, insertion_of}
 use Rattle.desk_replica.specs.Told.{told}
 use Rattle.desk_replica.specs.Placement.{IsSettled, waiting_in, whole}

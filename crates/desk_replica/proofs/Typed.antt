@@ -7,13 +7,9 @@ use Rattle.std.specs.declared.cmp.Ordering.TheVariants.{Greater}
 use Rattle.std.specs.Cmp.{nat_cmp_is}
 use Rattle.bg_types.specs.Identifier.{Identifier, id_cmp, same_id}
 use Rattle.bg_types.specs.OperationSet.{OperationSet}
-use Rattle.bg_types.proofs.IdentifierOrder.{same_id-is, same_id-itself}
+use Rattle.bg_types.proofs.Interface.{same_id-is, same_id-itself}
 use Rattle.rga_tree.specs.Elements.{element_of}
-use Rattle.rga_tree.proofs.WalkAmong.{Entry}
-use Rattle.rga_tree.proofs.Entries.{IsAbsent}
-use Rattle.rga_tree.proofs.RowPlaces.{AreDistinct}
-use Rattle.rga_tree.proofs.SetSteps.{same_id-swap}
-use Rattle.rga_tree.proofs.AttachedWalk.{all_passing, all_weaker_by}
+use Rattle.rga_tree.proofs.Interface.{Entry, IsAbsent, AreDistinct, same_id-swap, all_passing, all_weaker_by}
 use Rattle.desk_replica.proofs.Lists.{all_at, within-slice_get}
 
 -- none of the absent identifier passes

@@ -13,23 +13,14 @@ use Rattle.bg_types.specs.OperationSet.{Node, OperationSet, AllWellFormed, next,
 use Rattle.bg_types.specs.declared.op.Place.{Place}
 use Rattle.bg_types.specs.declared.op.Place.TheVariants.{Root, After}
 use Rattle.bg_types.specs.declared.op.OpView.TheVariants.{Insert, Erase}
-use Rattle.bg_types.proofs.IdentifierOrder.{id_cmp-total, same_id-is}
-use Rattle.bg_types.proofs.NextCounter.{next-above}
-use Rattle.bg_types.proofs.OperationSets.{same_sets, get-union, unwrap_first}
+use Rattle.bg_types.proofs.Interface.{id_cmp-total, same_id-is, next-above, same_sets, get-union, unwrap_first}
 use Rattle.rga_tree.specs.Walk.{walk}
 use Rattle.rga_tree.specs.Attached.{IsAttached}
 use Rattle.rga_tree.specs.TextOf.{text, visible, visible_ids, is_erased}
 use Rattle.rga_tree.specs.Tree.{stands_in}
 use Rattle.rga_tree.specs.Elements.{elements}
 use Rattle.rga_tree.specs.Row.{start_of, place_of}
-use Rattle.rga_tree.proofs.WalkAmong.{Entry}
-use Rattle.rga_tree.proofs.Entries.{entries_of, Rises-entries, AreWellFounded-entries}
-use Rattle.rga_tree.proofs.Depth.{walk-among}
-use Rattle.rga_tree.proofs.RowPlaces.{AreDistinct}
-use Rattle.rga_tree.proofs.WalkDistinct.{AreDistinct-walk}
-use Rattle.rga_tree.proofs.AttachedWalk.{all_attached, all_held, all_passing, all_weaker_by}
-use Rattle.rga_tree.proofs.LeafWalk.{walk-leaf_at}
-use Rattle.rga_tree.proofs.SetSteps.{AllWellFormed-with, IsTree-grown, OnlyErasesPlaced-grown}
+use Rattle.rga_tree.proofs.Interface.{Entry, entries_of, Rises-entries, AreWellFounded-entries, walk-among, AreDistinct, AreDistinct-walk, all_attached, all_held, all_passing, all_weaker_by, walk-leaf_at, AllWellFormed-with, IsTree-grown, OnlyErasesPlaced-grown}
 use Rattle.rga_tree.specs.declared.element.Element.{Element}
 use Rattle.pending_ops.specs.Waiting.{Waiting}
 use Rattle.desk_replica.specs.declared.answer.TakeFault.{TakeFault}

@@ -4,7 +4,7 @@ use Rattle.std.specs.Prelude.{◌||◌}
 use Rattle.std.specs.FinMap as map
 use Rattle.std.specs.FinSet as set
 use Rattle.bg_types.specs.OperationSet.{Node, OperationSet, Agree, union}
-use Rattle.bg_types.proofs.OperationSets.{same_sets, get-union, unwrap_first}
+use Rattle.bg_types.proofs.Interface.{same_sets, get-union, unwrap_first}
 use Rattle.desk_replica.proofs.Whole.{contains-union, same_unions}
 
 swap_first : (a b : Option Node) → ((x y : Node) → a ≡ Some x → b ≡ Some y → x ≡ y) → unwrap_first a b ≡ unwrap_first b a

@@ -5,8 +5,7 @@ use Rattle.std.specs.FinMap as map
 use Rattle.std.specs.FinSet as set
 use Rattle.bg_types.specs.Identifier.{Identifier}
 use Rattle.bg_types.specs.OperationSet.{Node, OperationSet, union}
-use Rattle.bg_types.proofs.IdentifierOrder.{id_cmp-total}
-use Rattle.bg_types.proofs.OperationSets.{same_sets, get-union, unwrap_first}
+use Rattle.bg_types.proofs.Interface.{id_cmp-total, same_sets, get-union, unwrap_first}
 
 pub contains-union : (t h : OperationSet) (q : Identifier) → set.contains (union t h).del q ≡ (set.contains t.del q || set.contains h.del q)
 contains-union t h q = set.contains-union id_cmp-total t.del h.del q

@@ -7,7 +7,7 @@ use Rattle.bg_types.specs.Identifier.{Identifier, same_id}
 use Rattle.bg_types.specs.OperationSet.{Node, OperationSet, AllWellFormed}
 use Rattle.bg_types.specs.declared.op.Place.{Place}
 use Rattle.bg_types.specs.declared.op.Place.TheVariants.{Root, After}
-use Rattle.bg_types.proofs.Interface.{same_id-is, same_id-itself, or_left, or_right}
+use Rattle.bg_types.proofs.Interface.{or_left, or_right, same_id-is, same_id-itself}
 use Rattle.rga_tree.specs.Walk.{Insertions, same_place, children, walk_to, walk}
 use Rattle.rga_tree.specs.Attached.{IsAttached}
 use Rattle.rga_tree.specs.Attached.IsAttached.{below_root, below}

@@ -10,7 +10,7 @@ use Rattle.bg_types.specs.Identifier.{Identifier, IsIdentifier, id_cmp, same_id}
 use Rattle.bg_types.specs.OperationSet.{Node, OperationSet, AllWellFormed, with_operation}
 use Rattle.bg_types.specs.declared.op.Place.TheVariants.{Root}
 use Rattle.bg_types.specs.declared.op.OpView.TheVariants.{Insert, Erase}
-use Rattle.bg_types.proofs.Interface.{id_cmp-total, id_cmp-exact, same_id-is, and_parts, or_swap}
+use Rattle.bg_types.proofs.Interface.{and_parts, or_swap, id_cmp-total, id_cmp-exact, same_id-is}
 use Rattle.rga_tree.specs.declared.element.Element.{Element}
 use Rattle.rga_tree.specs.Walk.{walk}
 use Rattle.rga_tree.specs.TextOf.{is_erased}

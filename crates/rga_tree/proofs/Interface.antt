@@ -11,6 +11,6 @@ pub use Rattle.rga_tree.proofs.Seen.{element_row, visible_row, seen_at}
 pub use Rattle.rga_tree.proofs.Listed.{is_listed, all_listed}
 pub use Rattle.rga_tree.proofs.AttachedWalk.{IsReached, IsAttached-child, all_passing, all_weaker_by, all_attached, all_held, listed-attached}
 pub use Rattle.rga_tree.proofs.WalkDistinct.{AreDistinct-walk, IsDistinct-walked}
-pub use Rattle.rga_tree.proofs.AttachedPart.{walk-part}
 pub use Rattle.rga_tree.proofs.TreeAttached.{IsAttached-more, IsAttached-tree}
+pub use Rattle.rga_tree.proofs.AttachedPart.{walk-part}
 pub use Rattle.rga_tree.proofs.LeafWalk.{walk-leaf_attached, walk-leaf_at}

@@ -7,8 +7,7 @@ use Rattle.bg_types.specs.OperationSet.{OperationSet, Holds, Agree, AllWellForme
 use Rattle.bg_types.specs.declared.op.OpView.{OpView}
 use Rattle.bg_types.specs.declared.op.Place.{Place}
 use Rattle.bg_types.specs.declared.op.Place.TheVariants.{Root}
-use Rattle.bg_types.proofs.IdentifierOrder.{id_cmp-total, id_cmp-exact}
-use Rattle.bg_types.proofs.OperationSets.{Holds-union, same_operations}
+use Rattle.bg_types.proofs.Interface.{id_cmp-total, id_cmp-exact, Holds-union, same_operations}
 use Rattle.rga_tree.specs.Walk.{walk_to, walk, walked_ids}
 use Rattle.rga_tree.specs.TextOf.{text}
 use Rattle.rga_tree.specs.Attached.{IsAttached, is_attached}

@@ -8,7 +8,7 @@ use Rattle.bg_types.specs.Identifier.{Identifier, id_cmp, same_id}
 use Rattle.bg_types.specs.OperationSet.{OperationSet}
 use Rattle.bg_types.specs.declared.op.Place.{Place}
 use Rattle.bg_types.specs.declared.op.Place.TheVariants.{Root, After}
-use Rattle.bg_types.proofs.Interface.{same_id-is, and_parts}
+use Rattle.bg_types.proofs.Interface.{and_parts, same_id-is}
 use Rattle.rga_tree.specs.Walk.{same_place}
 use Rattle.rga_tree.specs.Elements.{element_of}
 use Rattle.rga_tree.specs.Row.{ids_of, is_distinct, start_of, place_of}

@@ -9,7 +9,7 @@ use Rattle.std.specs.FinMap.Entries.{find}
 use Rattle.std.proofs.lemmas.List.{take-append-drop, map-append}
 use Rattle.bg_types.specs.Identifier.{Identifier, id_cmp, same_id}
 use Rattle.bg_types.specs.OperationSet.{Node}
-use Rattle.bg_types.proofs.Interface.{id_cmp-total, id_cmp-exact, same_id-is, or_swap}
+use Rattle.bg_types.proofs.Interface.{or_swap, id_cmp-total, id_cmp-exact, same_id-is}
 use Rattle.rga_tree.specs.declared.element.Element.{Element}
 use Rattle.rga_tree.specs.Row.{entry_of, hidden_ids, operations_of}
 use Rattle.rga_tree.proofs.WalkAmong.{Entry}

@@ -12,7 +12,7 @@ use Rattle.bg_types.specs.OperationSet.{Node, OperationSet, AllWellFormed}
 use Rattle.bg_types.specs.declared.op.Place.{Place}
 use Rattle.bg_types.specs.declared.op.Place.TheVariants.{Root, After}
 use Rattle.bg_types.specs.declared.op.OpView.TheVariants.{Insert}
-use Rattle.bg_types.proofs.IdentifierOrder.{id_cmp-total, id_cmp-exact}
+use Rattle.bg_types.proofs.Interface.{id_cmp-total, id_cmp-exact}
 use Rattle.rga_tree.specs.Walk.{same_place, children, walk_to, walk}
 use Rattle.rga_tree.specs.Attached.{IsAttached, is_attached}
 use Rattle.rga_tree.specs.Attached.IsAttached.{below_root, below}

@@ -14,8 +14,7 @@ use Rattle.bg_types.specs.OperationSet.{Node, OperationSet, AllWellFormed, with_
 use Rattle.bg_types.specs.declared.op.Place.{Place}
 use Rattle.bg_types.specs.declared.op.Place.TheVariants.{Root, After}
 use Rattle.bg_types.specs.declared.op.OpView.TheVariants.{Insert}
-use Rattle.bg_types.proofs.IdentifierOrder.{id_cmp-total, same_id-is, same_id-itself}
-use Rattle.bg_types.proofs.NextCounter.{next-above}
+use Rattle.bg_types.proofs.Interface.{id_cmp-total, same_id-is, same_id-itself, next-above}
 use Rattle.rga_tree.specs.Walk.{same_place, walk, walked_ids}
 use Rattle.rga_tree.specs.Order.{Precedes, StandsBetween}
 use Rattle.rga_tree.proofs.WalkAmong.{Entry, IsChildless, walk_among, skip, below, among, walk-with_new}

@@ -1,7 +1,7 @@
 use Rattle.std.proofs.Common.{◌≡◌, ◌<◌, ◌+◌, sym, ap, subst, arith}
 use Rattle.std.specs.Prelude.{max}
 use Rattle.bg_types.specs.OperationSet.{Holds, size}
-use Rattle.bg_types.proofs.OperationSets.{with_operation-known, size-with_operation}
+use Rattle.bg_types.proofs.Interface.{with_operation-known, size-with_operation}
 use Rattle.pending_ops.specs.Releasing.{subject}
 use Rattle.desk_replica.specs.Desk.{Desk}
 use Rattle.desk_replica.specs.Placement.{IsDesk, whole}
