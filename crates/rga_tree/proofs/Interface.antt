@@ -14,3 +14,9 @@ pub use Rattle.rga_tree.proofs.WalkDistinct.{AreDistinct-walk, IsDistinct-walked
 pub use Rattle.rga_tree.proofs.TreeAttached.{IsAttached-more, IsAttached-tree}
 pub use Rattle.rga_tree.proofs.AttachedPart.{walk-part}
 pub use Rattle.rga_tree.proofs.LeafWalk.{walk-leaf_attached, walk-leaf_at}
+pub use Rattle.rga_tree.proofs.SubWalk.{walk-sub_walk, is_attached-test, inserted_part, AllWellFormed-part}
+pub use Rattle.rga_tree.proofs.Lines.{either_way, never_both_ways, in_turn, StandsBefore-filtered, StandsBefore-unfiltered}
+pub use Rattle.rga_tree.proofs.OneOrder.{walked_ids-sub_walk, Precedes-attached, Precedes-either, Precedes-never_both, Precedes-in_turn, Precedes-more, Precedes-part, Precedes-agree, StandsBetween-agree, walk-same, text-same_operations}
+pub use Rattle.rga_tree.proofs.Below.{reads_attached, below_listed, listed_below, stretch_of}
+pub use Rattle.rga_tree.proofs.Runs.{runs_apart, runs_at_one_place, IsRun-more}
+pub use Rattle.rga_tree.proofs.TypedPlace.{walk-typed_behind, walk-typed_first, StandsBetween-typed}

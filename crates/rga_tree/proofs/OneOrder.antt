@@ -15,8 +15,7 @@ use Rattle.rga_tree.specs.Parts.{IsPartOf}
 use Rattle.rga_tree.specs.Order.{StandsBefore, Precedes, StandsBetween}
 use Rattle.rga_tree.proofs.WalkAmong.{Entry}
 use Rattle.rga_tree.proofs.WalkDistinct.{IsDistinct-walked}
-use Rattle.rga_tree.proofs.TreeAttached.{IsAttached-more}
-use Rattle.rga_tree.proofs.SubWalk.{walk-sub_walk, is_attached-test, inserted_part, AllWellFormed-part}
+use Rattle.rga_tree.proofs.SubWalk.{walk-sub_walk, is_attached-test, AllWellFormed-part}
 use Rattle.rga_tree.proofs.Lines.{is_among, among_here, among_left, either_way, never_both_ways, in_turn, StandsBefore-filtered, StandsBefore-unfiltered}
 
 filter_ids : (p : Identifier → Bool) (es : List Entry) → each (λ e. e.0) (filter (λ e. p e.0) es) ≡ filter p (each (λ e. e.0) es)

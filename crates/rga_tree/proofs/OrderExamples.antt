@@ -1,18 +1,17 @@
 -- The words of the laws of order, computed on the examples.
-use Rattle.std.proofs.Common.{◌≡◌, ℕ, true, false, List, [], ◌∷◌, ◌++◌, length, Some, refl, sym, ap, subst, ◌∙◌, arith}
+use Rattle.std.proofs.Common.{◌≡◌, ℕ, true, false, List, [], ◌∷◌, length, Some, refl, sym, ap, subst, ◌∙◌, arith}
 use Rattle.std.specs.Prelude.{map as each, Contains, is_some}
-use Rattle.std.specs.List.{AllByRecursion, IsDistinct, list_any}
+use Rattle.std.specs.List.{IsDistinct, list_any}
 use Rattle.std.specs.FinMap as map
 use Rattle.std.specs.FinMap.Entries.{find}
 use Rattle.bg_types.specs.Identifier.{Identifier, id_cmp, same_id}
-use Rattle.bg_types.specs.OperationSet.{Node, OperationSet, Holds}
+use Rattle.bg_types.specs.OperationSet.{Node, OperationSet}
 use Rattle.bg_types.specs.declared.op.Place.{Place}
 use Rattle.bg_types.specs.declared.op.Place.TheVariants.{Root, After}
-use Rattle.bg_types.specs.declared.op.OpView.{OpView}
 use Rattle.rga_tree.specs.Walk.{walked_ids}
 use Rattle.rga_tree.specs.Attached.{is_attached}
 use Rattle.rga_tree.specs.Parts.{IsPartOf}
-use Rattle.rga_tree.specs.Order.{StandsBefore, Precedes}
+use Rattle.rga_tree.specs.Order.{Precedes}
 use Rattle.rga_tree.specs.Stretch.{IsChild, StandsBelow, IsRun, IsLeftOf}
 use Rattle.rga_tree.specs.Stretch.StandsBelow.{child, deeper}
 use Rattle.rga_tree.specs.Examples.{stamp, set_of, two_runs, one_waits}

@@ -1,9 +1,8 @@
 -- Runs of characters that never mix.
-use Rattle.std.proofs.Common.{◌≡◌, ◌⊎◌, inl, inr, Bool, true, false, ◌||◌, List, [], ◌∷◌, ◌++◌, Some, refl, sym, ap, subst, ◌∙◌, append_assoc}
+use Rattle.std.proofs.Common.{◌≡◌, ◌⊎◌, inl, inr, true, List, [], ◌∷◌, ◌++◌, Some, sym, ap, subst, ◌∙◌, append_assoc}
 use Rattle.std.specs.Prelude.{map as each, filter, reverse, Contains}
 use Rattle.std.specs.List.{flat_map}
 use Rattle.std.specs.declared.cmp.Ordering.TheVariants.{Less}
-use Rattle.std.specs.Ordering.{ordering_reverse}
 use Rattle.std.specs.Cmp.{tied_itself}
 use Rattle.std.proofs.lemmas.List.{map-append, reverse-append}
 use Rattle.std.specs.FinMap as map
@@ -14,18 +13,19 @@ use Rattle.bg_types.specs.declared.op.Place.TheVariants.{Root, After}
 use Rattle.bg_types.proofs.Interface.{id_cmp-total, same_id-is, or_left, or_right}
 use Rattle.rga_tree.specs.Walk.{Insertions, same_place, children, walk, walked_ids}
 use Rattle.rga_tree.specs.Attached.{IsAttached}
+use Rattle.rga_tree.specs.Parts.{IsPartOf}
 use Rattle.rga_tree.specs.Order.{StandsBefore}
 use Rattle.rga_tree.specs.Stretch.{IsChild, StandsBelow, IsRun, IsLeftOf}
 use Rattle.rga_tree.specs.Stretch.StandsBelow.{child, deeper}
-use Rattle.rga_tree.proofs.WalkAmong.{Entry, Rises, AreAbove}
+use Rattle.rga_tree.proofs.WalkAmong.{Entry, Rises}
 use Rattle.rga_tree.proofs.PreorderLaw.{walk-preorder}
 use Rattle.rga_tree.proofs.Entries.{entries_of, Rises-entries}
 use Rattle.rga_tree.proofs.Listed.{IsIn, IsIn-found, or_cases}
 use Rattle.rga_tree.proofs.AttachedWalk.{same_place-itself}
 use Rattle.rga_tree.proofs.TreeAttached.{all_in}
-use Rattle.rga_tree.proofs.SubWalk.{listed_ids, attached_parent}
+use Rattle.rga_tree.proofs.SubWalk.{listed_ids, attached_parent, inserted_part}
 use Rattle.rga_tree.proofs.Lines.{Ids, is_among, among_right, among_first, among-contains, place_in, head_is, tail_is, filter_at}
-use Rattle.rga_tree.proofs.Below.{child_walk, flat_map_at, split_in, child_entry, listed_below, below_listed, reads_attached, reads_ids}
+use Rattle.rga_tree.proofs.Below.{child_walk, flat_map_at, split_in, listed_below, below_listed, reads_attached, reads_ids}
 
 -- ---- blocks of a list
 
@@ -209,3 +209,13 @@ pub runs_at_one_place : (s : OperationSet) → AllWellFormed s → (place : Plac
     → IsChild s.ins place a → IsChild s.ins place b → IsRun s.ins (a ∷ xs) → IsRun s.ins (b ∷ ys) → id_cmp b a ≡ Less → IsLeftOf s (a ∷ xs) (b ∷ ys)
 runs_at_one_place s well place a b xs ys at_a at_b c d run_a run_b lt =
     IsLeftOf-blocks s well a b xs ys run_a run_b (place_blocks s well place a b at_a c d lt)
+
+-- ---- runs of a part
+
+IsChild-more : (s t : OperationSet) → IsPartOf s t → (p : Place) (id : Identifier) → IsChild s.ins p id → IsChild t.ins p id
+IsChild-more s t part p id c = (c.0, inserted_part s t part id c.0 c.1, c.2)
+
+pub IsRun-more : (s t : OperationSet) → IsPartOf s t → (ids : Ids) → IsRun s.ins ids → IsRun t.ins ids
+IsRun-more s t part [] run = tt
+IsRun-more s t part (a ∷ []) run = tt
+IsRun-more s t part (a ∷ b ∷ ids) run = (IsChild-more s t part (After a) b run.0, IsRun-more s t part (b ∷ ids) run.1)

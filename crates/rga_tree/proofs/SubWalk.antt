@@ -22,7 +22,7 @@ use Rattle.rga_tree.proofs.Entries.{entries_of, AreWellFounded-entries}
 use Rattle.rga_tree.proofs.Preorder.{all_filter}
 use Rattle.rga_tree.proofs.Depth.{walk_to-among}
 use Rattle.rga_tree.proofs.Listed.{is_listed}
-use Rattle.rga_tree.proofs.AttachedWalk.{IsReached, IsAttached-child, all_children, all_flat_map, all_weaker_by, listed-attached, attached-listed}
+use Rattle.rga_tree.proofs.AttachedWalk.{IsReached, IsAttached-child, all_children, all_flat_map, listed-attached, attached-listed}
 
 -- ---- filters
 

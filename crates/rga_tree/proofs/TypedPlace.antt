@@ -1,5 +1,5 @@
 -- Where an insertion stands whose counter is above all that the set names.
-use Rattle.std.proofs.Common.{◌≡◌, ℕ, ◌≤◌, ◌<◌, true, false, cond, List, [], ◌∷◌, ◌++◌, Some, refl, sym, ap, subst, ◌∙◌, append_assoc, arith}
+use Rattle.std.proofs.Common.{◌≡◌, ℕ, ◌≤◌, ◌<◌, false, cond, List, [], ◌∷◌, ◌++◌, Some, refl, sym, ap, subst, ◌∙◌, append_assoc, arith}
 use Rattle.std.specs.Prelude.{All, map as each}
 use Rattle.std.specs.List.{AllByRecursion}
 use Rattle.std.proofs.lemmas.List.{map-append}
@@ -14,13 +14,13 @@ use Rattle.bg_types.specs.OperationSet.{Node, OperationSet, AllWellFormed, with_
 use Rattle.bg_types.specs.declared.op.Place.{Place}
 use Rattle.bg_types.specs.declared.op.Place.TheVariants.{Root, After}
 use Rattle.bg_types.specs.declared.op.OpView.TheVariants.{Insert}
-use Rattle.bg_types.proofs.Interface.{id_cmp-total, same_id-is, same_id-itself, next-above}
+use Rattle.bg_types.proofs.Interface.{id_cmp-total, same_id-itself, next-above}
 use Rattle.rga_tree.specs.Walk.{same_place, walk, walked_ids}
 use Rattle.rga_tree.specs.Order.{Precedes, StandsBetween}
 use Rattle.rga_tree.proofs.WalkAmong.{Entry, IsChildless, walk_among, skip, below, among, walk-with_new}
 use Rattle.rga_tree.proofs.Entries.{IsAbsent, entries_of, all_entries, low_of, Rises-entries, AreWellFounded-entries}
 use Rattle.rga_tree.proofs.Depth.{walk-among}
-use Rattle.rga_tree.proofs.SetSteps.{AllWellFormed-with}
+use Rattle.rga_tree.proofs.SetSteps.{AllWellFormed-with, same_id-swap}
 use Rattle.rga_tree.proofs.RowPlaces.{AreDistinct, below_absent}
 use Rattle.rga_tree.proofs.AttachedWalk.{all_held, all_weaker_by}
 use Rattle.rga_tree.proofs.WalkDistinct.{AreDistinct-walk}
@@ -33,19 +33,13 @@ absent_there : (a : Identifier) (front back : List Entry) (x : Entry) → IsAbse
 absent_there a [] back x h = h.0
 absent_there a (y ∷ front) back x h = absent_there a front back x h.1
 
-other_way : (a b : Identifier) → same_id a b ≡ false → same_id b a ≡ false
-other_way a b h = elim (same_id b a) as (λ c. same_id b a ≡ c → c ≡ false) [
-  | true ↦ λ same. let one : same_id a a ≡ false = ap (same_id a) (sym (same_id-is b a same)) ∙ h in let itself = same_id-itself a in absurd cc
-  | false ↦ λ _. refl
-] refl
-
 -- what is put behind one that stands once
 below_at : (n x : Entry) (front back : List Entry) → AreDistinct (front ++ x ∷ back) → below (After x.0) n (front ++ x ∷ back) ≡ front ++ x ∷ skip n back
 below_at n x [] back distinct =
     ap (λ b. cond b (x ∷ skip n (below (After x.0) n back)) (x ∷ below (After x.0) n back)) (same_id-itself x.0) ∙ ap (λ r. x ∷ skip n r) (below_absent x.0 n back distinct.0)
 below_at n x (y ∷ front) back distinct =
     let rest = below (After x.0) n (front ++ x ∷ back) in
-    ap (λ b. cond b (y ∷ skip n rest) (y ∷ rest)) (other_way y.0 x.0 (absent_there y.0 front back x distinct.0)) ∙ ap (λ r. y ∷ r) (below_at n x front back distinct.1)
+    ap (λ b. cond b (y ∷ skip n rest) (y ∷ rest)) (same_id-swap x.0 y.0 ∙ absent_there y.0 front back x distinct.0) ∙ ap (λ r. y ∷ r) (below_at n x front back distinct.1)
 
 -- none of them is greater than the new one
 abbrev AreLower : Identifier → List Entry → Type 0
@@ -73,7 +67,7 @@ above a b h = id_cmp-total.antisymm b a ∙ ap ordering_reverse (ap (λ o. order
 
 not_parent : (p : Place) (k : Identifier) (n : ℕ) → n ≤ k.counter → All (λ c. c < n) (parent_counters p) → same_place p (After k) ≡ false
 not_parent Root k n le h = refl
-not_parent (After a) k n le h = let lt = All-head (λ c. c < n) a.counter [] h in other_way k a (ap is_eq (above a k (omega arith)))
+not_parent (After a) k n le h = let lt = All-head (λ c. c < n) a.counter [] h in same_id-swap a k ∙ ap is_eq (above a k (omega arith))
 
 module _ (s : OperationSet) (well : AllWellFormed s) (id : Identifier) (node : Node) (formed : IsWellFormed (Insert id node.parent node.ch)) (newest : next s ≤ id.counter) where
   abbrev t : OperationSet

@@ -110,7 +110,8 @@ pub fn one_order()
 
 /// The unbroken-stretch law: an attached identifier and all below it stand in one unbroken stretch
 /// of the walk. So two runs whose first ones stand apart never mix; of two runs behind one place,
-/// the one whose first identifier is greater is wholly left of the other.
+/// the one whose first identifier is greater is wholly left of the other. A run of a part is a run
+/// of the set, so all this holds of it wherever it comes to.
 pub fn unbroken_stretch()
     ensures stretch { (s : OperationSet) → AllWellFormed s → (top : Identifier)
         → IsAttached s.ins top → IsStretch s top }
@@ -123,6 +124,8 @@ pub fn unbroken_stretch()
         → IsChild s.ins place a → IsChild s.ins place b
         → IsRun s.ins (a ∷ xs) → IsRun s.ins (b ∷ ys)
         → id_cmp b a ≡ Less → IsLeftOf s (a ∷ xs) (b ∷ ys) }
+    ensures stays { (s t : OperationSet) → IsPartOf s t → (ids : List Identifier)
+        → IsRun s.ins ids → IsRun t.ins ids }
 {}
 
 /// An insertion whose counter is above all that a set names, as each is that is typed, is read

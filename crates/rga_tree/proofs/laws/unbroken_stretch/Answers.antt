@@ -1,5 +1,5 @@
 use Rattle.rga_tree.proofs.Below.{stretch_of}
-use Rattle.rga_tree.proofs.Runs.{runs_apart, runs_at_one_place}
+use Rattle.rga_tree.proofs.Runs.{runs_apart, runs_at_one_place, IsRun-more}
 use Rattle.rga_tree.proofs.laws.unbroken_stretch.Goals as goal
 
 pub returns-clause-stretch : goal.returns-clause-stretch
@@ -10,3 +10,6 @@ returns-clause-runs c = runs_apart
 
 pub returns-clause-one_place : goal.returns-clause-one_place
 returns-clause-one_place c = runs_at_one_place
+
+pub returns-clause-stays : goal.returns-clause-stays
+returns-clause-stays c = IsRun-more
