@@ -6,7 +6,8 @@ use Rattle.std.proofs.lemmas.List.{reverse-append}
 use Rattle.std.specs.FinMap.Entries.{find}
 use Rattle.bg_types.specs.Identifier.{Identifier, id_cmp, same_id}
 use Rattle.bg_types.specs.OperationSet.{Node}
-use Rattle.bg_types.proofs.Interface.{same_id-is, same_id-itself, or_left, or_right}
+use Rattle.bg_types.proofs.Interface.{same_id-is, same_id-itself}
+pub use Rattle.bg_types.proofs.Interface.{or_left, or_right}
 use Rattle.rga_tree.proofs.WalkAmong.{Entry}
 
 -- the entry stands in the list
