@@ -13,7 +13,7 @@ impl Fresh for Plain {
 
 impl Fresh for Blocks {
     fn fresh(alloc: Global) -> Blocks {
-        Blocks::new(alloc)
+        Blocks::keyed(alloc, 7)
     }
 }
 

@@ -13,7 +13,7 @@ use Rattle.bg_types.specs.OperationSet.{OperationSet, AllWellFormed}
 use Rattle.bg_types.specs.declared.op.Place.{Place}
 use Rattle.bg_types.specs.declared.op.Place.TheVariants.{Root, After}
 use Rattle.bg_types.specs.declared.op.OpView.TheVariants.{Insert}
-use Rattle.bg_types.proofs.Interface.{and_parts, id_cmp-total, same_id-is, same_id-itself}
+use Rattle.bg_types.proofs.Interface.{id_cmp-total, same_id-is, same_id-itself}
 use Rattle.rga_tree.specs.Walk.{same_place}
 use Rattle.rga_tree.specs.Tree.{stands_in, IsTree}
 use Rattle.rga_tree.proofs.WalkAmong.{Entry, Rises, AreAbove, AreWellFounded, IsLow, IsChildless}

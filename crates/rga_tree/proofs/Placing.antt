@@ -11,7 +11,7 @@ use Rattle.bg_types.specs.WellFormed.{IsWellFormed}
 use Rattle.bg_types.specs.OperationSet.{Node, OperationSet, AllWellFormed, no_operations}
 use Rattle.bg_types.specs.declared.op.Place.{Place}
 use Rattle.bg_types.specs.declared.op.Place.TheVariants.{Root, After}
-use Rattle.bg_types.specs.declared.op.OpView.TheVariants.{Insert, Erase}
+use Rattle.bg_types.specs.declared.op.OpView.TheVariants.{Insert}
 use Rattle.bg_types.proofs.Interface.{id_cmp-total, Holds-no_operations}
 use Rattle.rga_tree.specs.declared.element.Element.{Element}
 use Rattle.rga_tree.specs.Walk.{walk_to, walk}

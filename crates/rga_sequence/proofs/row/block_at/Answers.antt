@@ -1,5 +1,4 @@
 use Rattle.std.proofs.Common.{◌≡◌, ◌+◌, ◌-◌, [], suc, ap, length, take, get_or, arith}
-use Rattle.rga_sequence.specs.declared.block.Block.{Block}
 use Rattle.rga_sequence.specs.Blocks.{joined, offset}
 use Rattle.rga_sequence.specs.BlockRows.{items_of}
 use Rattle.rga_sequence.proofs.Joined.{joined-suc}

@@ -1,5 +1,4 @@
 use Rattle.std.proofs.Common.{◌≡◌, length, ap, arith}
-use Rattle.rga_sequence.specs.declared.block.Block.{Block}
 use Rattle.rga_sequence.specs.BlockRows.{items_of}
 use Rattle.rga_sequence.proofs.Halves.{few_blocks}
 use Rattle.rga_sequence.proofs.Numbers.{length-items}

@@ -1,7 +1,6 @@
 use Rattle.std.proofs.Common.{◌≡◌, ◌<◌, ◌∙◌, [], true, false, Bool, ap, sym, refl, length, get_or, arith}
 use Rattle.std.specs.Prelude.{slice_get}
 use Rattle.rga_tree.proofs.Interface.{element_row}
-use Rattle.rga_sequence.specs.declared.block.Block.{Block}
 use Rattle.rga_sequence.specs.Blocks.{offset}
 use Rattle.rga_sequence.specs.BlockRows.{items_of, has}
 use Rattle.rga_sequence.specs.Indexed.{elements_in}

@@ -1,7 +1,6 @@
 use Rattle.std.proofs.Common.{◌≡◌, ◌∙◌, length, ap, sym, arith}
 use Rattle.std.specs.Prelude.{is_some}
 use Rattle.rga_tree.proofs.Interface.{has_row}
-use Rattle.rga_sequence.specs.declared.block.Block.{Block}
 use Rattle.rga_sequence.specs.BlockRows.{items_of, numbers_of}
 use Rattle.rga_sequence.specs.Indexed.{elements_in}
 use Rattle.rga_sequence.proofs.Members.{is_some-home}

@@ -1,4 +1,4 @@
-use Rattle.std.proofs.Common.{ap, ◌∙◌, arith}
+use Rattle.std.proofs.Common.{ap, ◌∙◌}
 use Rattle.rga_tree.specs.Row.{place_of}
 use Rattle.rga_tree.proofs.Placing.{placing, start_within}
 use Rattle.rga_tree.proofs.plain.PlainSequence.place.Goals as goal
