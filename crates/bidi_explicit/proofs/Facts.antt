@@ -24,7 +24,7 @@ use Rattle.bidi_explicit.specs.Embedding.{IsWithinDepth}
 use Rattle.bidi_explicit.specs.Controls.{control, controls_from}
 use Rattle.bidi_explicit.specs.Links.{pdi_at, linked, is_unclosed, is_unclosed_at, opens, AreMatched, AreKept}
 use Rattle.bidi_explicit.proofs.FlatLemmas.{nested-classes, split-classes}
-use Rattle.bidi_explicit.proofs.Matching.{length-controls}
+use Rattle.bidi_explicit.proofs.Matching.{length-controls, before_first}
 
 -- a class that X9 keeps
 abbrev pub stays : Bidi → Bool
@@ -170,10 +170,7 @@ slice_get-drop (suc k) n (x ∷ xs) =
     let e : suc k + n ≡ suc (k + n) = omega arith in
     slice_get-drop k n xs ∙ ap (slice_get (x ∷ xs)) (sym e)
 
-abbrev counted : Option (Nodes × Nodes) → Option ℕ
-counted o = elim o [ Some p ↦ Some (length (flattened p.0)) | None ↦ None ]
-
-counted-pdi : (rest : List Bidi) (o : Option (Nodes × Nodes)) → split_at_pdi (nest rest) ≡ o → (n : ℕ) → counted o ≡ Some n → slice_get rest n ≡ Some Pdi
+counted-pdi : (rest : List Bidi) (o : Option (Nodes × Nodes)) → split_at_pdi (nest rest) ≡ o → (n : ℕ) → before_first o ≡ Some n → slice_get rest n ≡ Some Pdi
 counted-pdi rest (Some p) e n h =
     let at : length (flattened p.0) ≡ n = cc in
     ap₂ slice_get (split-classes rest p e) (sym at) ∙ slice_get-append (flattened p.0) Pdi (flattened p.1)

@@ -48,10 +48,11 @@ pdi-facts i (unclosed c held) = refl
 abbrev first : Nodes → Option (Nodes × Nodes) → Nodes
 first ns o = elim o [ Some p ↦ p.0 | None ↦ ns ]
 
-abbrev behind_isolate : Bidi → Nodes → Option (Nodes × Nodes) → Option (Nodes × Nodes)
+-- the split of a list behind an isolate, and behind a character
+abbrev pub behind_isolate : Bidi → Nodes → Option (Nodes × Nodes) → Option (Nodes × Nodes)
 behind_isolate i held o = elim o [ Some p ↦ Some (isolate i held p.0, p.1) | None ↦ None ]
 
-abbrev behind_char : Bidi → Option (Nodes × Nodes) → Option (Nodes × Nodes)
+abbrev pub behind_char : Bidi → Option (Nodes × Nodes) → Option (Nodes × Nodes)
 behind_char c o = elim o [ Some p ↦ Some (char c p.0, p.1) | None ↦ None ]
 
 -- what stands up to the first PDI, behind an isolate and behind a character
@@ -101,7 +102,7 @@ behind-step i Al cs = behind_eq _ _ _ _ (is_odd _ _ (first-strong Al (nest cs) (
 behind-step i c cs = behind_eq _ _ _ _ (is_odd _ _ (first-weak c (nest cs) (split_at_pdi (nest cs)) (λ m. refl))) refl
 
 -- how many characters stand before a list's first PDI, and its place
-abbrev before_first : Option (Nodes × Nodes) → Option ℕ
+abbrev pub before_first : Option (Nodes × Nodes) → Option ℕ
 before_first o = elim o [ Some p ↦ Some (length (flattened p.0)) | None ↦ None ]
 
 abbrev placed : ℕ → Option ℕ → Option ℕ

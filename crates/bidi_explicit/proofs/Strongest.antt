@@ -8,9 +8,10 @@ use Rattle.bg_types.specs.declared.class.Bidi.{Bidi}
 use Rattle.bg_types.specs.declared.class.Bidi.TheVariants.{L, R, Al, Lri, Rli, Fsi, Pdi}
 use Rattle.ucd_files.specs.Tables.{TableValues, bidi_of}
 use Rattle.paragraphs.specs.Text.{code_points}
-use Rattle.bidi_explicit.specs.Nesting.{Nodes, end, char, isolate, unclosed, nest, split_at_pdi, base, enclose}
+use Rattle.bidi_explicit.specs.Nesting.{Nodes, end, isolate, unclosed, nest, split_at_pdi, base, enclose}
 use Rattle.bidi_explicit.specs.Strong.{strong_level, depth_behind}
 use Rattle.bidi_explicit.specs.Embedding.{classes_of}
+use Rattle.bidi_explicit.proofs.Matching.{behind_isolate, behind_char}
 
 abbrev pub scan : ℕ → List Bidi → ℕ
 scan d [] = 0
@@ -32,13 +33,6 @@ skip-unclosed (suc d) i held = refl
 
 abbrev second : ℕ → Option (Nodes × Nodes) → Nodes
 second d o = elim o [ Some p ↦ skip d p.1 | None ↦ end ]
-
--- the split of a list behind an isolate, and behind a character
-abbrev behind_isolate : Bidi → Nodes → Option (Nodes × Nodes) → Option (Nodes × Nodes)
-behind_isolate i held o = elim o [ Some p ↦ Some (isolate i held p.0, p.1) | None ↦ None ]
-
-abbrev behind_char : Bidi → Option (Nodes × Nodes) → Option (Nodes × Nodes)
-behind_char c o = elim o [ Some p ↦ Some (char c p.0, p.1) | None ↦ None ]
 
 second-isolate : (d : ℕ) (i : Bidi) (held : Nodes) (o : Option (Nodes × Nodes)) → base (second d (behind_isolate i held o)) ≡ base (second d o)
 second-isolate d i held (Some p) = refl

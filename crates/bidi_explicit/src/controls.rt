@@ -11,7 +11,7 @@ use std::alloc::Global;
 use std::marker::Model;
 
 /// What a character does to the levels, and the place of the PDI that matches it.
-#[derive(Clone, Copy, Debug, Default)]
+#[derive(Clone, Copy, Default)]
 pub(crate) struct Control {
     pub(crate) kind: Kind,
     pub(crate) pdi: Option<usize>,
@@ -19,7 +19,7 @@ pub(crate) struct Control {
 
 /// A PDI that no initiator behind it has matched, and whether what stands behind it, up to the next such
 /// one, is right to left.
-#[derive(Clone, Copy, Debug, Default)]
+#[derive(Clone, Copy, Default)]
 struct OpenPdi {
     place: usize,
     odd: bool,

@@ -3,21 +3,21 @@
 use bg_types::Bidi;
 
 /// A level, and the class that an override gives to what stands there.
-#[derive(Clone, Copy, Debug, Default)]
+#[derive(Clone, Copy, Default)]
 pub(crate) struct Direction {
     pub(crate) level: u8,
     pub(crate) forced: Option<Bidi>,
 }
 
 /// An entry of the stack: a direction, and whether an isolate opened it.
-#[derive(Clone, Copy, Debug, Default)]
+#[derive(Clone, Copy, Default)]
 pub(crate) struct Entry {
     pub(crate) direction: Direction,
     pub(crate) of_isolate: bool,
 }
 
 /// What a class does to the levels.
-#[derive(Clone, Copy, Debug, Default)]
+#[derive(Clone, Copy, Default)]
 pub(crate) enum Kind {
     /// Whether an odd level is wanted, and the override.
     Embedding(bool, Option<Bidi>),

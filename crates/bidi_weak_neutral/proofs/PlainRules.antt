@@ -2,6 +2,7 @@
 use Rattle.std.proofs.Common.{ℕ, suc, ◌+◌, ◌≡◌, refl, ap, sym, subst, ◌∙◌, List, [], ◌∷◌, map, fold, take, drop, slice_range, Bool, true, false, Some, None}
 use Rattle.std.specs.Prelude.{not, ◌&&◌, ◌||◌, if◌then◌else◌}
 use Rattle.std.specs.List.{All}
+use Rattle.std.proofs.Math.Bool.{and-false}
 use Rattle.std.proofs.lemmas.Bool.{false≢true}
 use Rattle.std.proofs.lemmas.List.Elements.{All-nil, All-cons, All-head, All-tail, All-map, All-append, All-take, All-drop, All-weaker}
 use Rattle.bg_types.specs.declared.class.Bidi.{Bidi}
@@ -9,7 +10,8 @@ use Rattle.bg_types.specs.declared.class.Bidi.TheVariants.{L, R, Al, En, Es, Et,
 use Rattle.ucd_files.specs.Tables.{TableValues}
 use Rattle.bracket_pairs.specs.Pairs.{Pair, roles, pairs_in_order}
 use Rattle.bracket_pairs.specs.N0.{direction_of_level, direction_of, opposite, is_direction, has_strong, pair_direction, is_nonspacing, marks_set, bracket_set, pair_set, pair_resolved, last_strong, n0}
-use Rattle.bidi_weak_neutral.specs.Classes.{is, is_strong, is_isolate_control, is_number, is_neutral, direction, is_plain}
+use Rattle.bg_types.specs.Classes.{is_isolate_control}
+use Rattle.bidi_weak_neutral.specs.Classes.{is, is_strong, is_number, is_neutral, direction, is_plain}
 use Rattle.bidi_weak_neutral.specs.Context.{in_context_from, nearest}
 use Rattle.bidi_weak_neutral.specs.Weak.{mark_type, first_type, past_terminators, is_joined, w1, w2, w3, w4, w5, w6, w7, weak_types}
 use Rattle.bidi_weak_neutral.specs.Neutral.{side, n1, n2, implicit_level}
@@ -52,10 +54,6 @@ nearest-all P passes d (x ∷ xs) p a =
 if-all : {A : Type 0} (P : A → Type 0) (b : Bool) (x y : A) → P x → P y → P (if b then x else y)
 if-all P true x y p q = p
 if-all P false x y p q = q
-
-and-false : (b : Bool) → (b && false) ≡ false
-and-false true = refl
-and-false false = refl
 
 plain-L : Plain L
 unfolding is_plain

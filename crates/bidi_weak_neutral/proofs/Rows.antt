@@ -1,7 +1,8 @@
 -- The standard's own examples of each rule, computed.
 use Rattle.std.proofs.Common.{◌≡◌, refl, [], ◌∷◌, map}
 use Rattle.bg_types.specs.declared.class.Bidi.TheVariants.{L, R, Al, En, Es, Et, An, Cs, Nsm, B, S, Ws, On, Lri, Pdi}
-use Rattle.bidi_weak_neutral.specs.Classes.{is_strong, is_isolate_control, is_number, is_neutral}
+use Rattle.bg_types.specs.Classes.{is_isolate_control}
+use Rattle.bidi_weak_neutral.specs.Classes.{is_strong, is_number, is_neutral}
 use Rattle.bidi_weak_neutral.specs.Weak.{w1, w2, w3, w4, w5, w6, w7, weak_types}
 use Rattle.bidi_weak_neutral.specs.Neutral.{n1, n2, implicit_level}
 

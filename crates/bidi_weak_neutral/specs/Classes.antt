@@ -16,14 +16,6 @@ is_strong R = true
 is_strong Al = true
 is_strong _ = false
 
--- the types of an isolate's initiators and of PDI
-unfoldable pub is_isolate_control : Bidi → Bool
-is_isolate_control Lri = true
-is_isolate_control Rli = true
-is_isolate_control Fsi = true
-is_isolate_control Pdi = true
-is_isolate_control _ = false
-
 -- the types of numbers, behind W2
 unfoldable pub is_number : Bidi → Bool
 is_number En = true

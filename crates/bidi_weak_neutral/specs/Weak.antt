@@ -2,7 +2,8 @@
 use Rattle.std.specs.Prelude.{Bool, true, not, ◌&&◌, ◌||◌, List, map, if◌then◌else◌}
 use Rattle.bg_types.specs.declared.class.Bidi.{Bidi}
 use Rattle.bg_types.specs.declared.class.Bidi.TheVariants.{L, R, Al, En, Es, Et, An, Cs, Nsm, On}
-use Rattle.bidi_weak_neutral.specs.Classes.{is, is_strong, is_isolate_control}
+use Rattle.bg_types.specs.Classes.{is_isolate_control}
+use Rattle.bidi_weak_neutral.specs.Classes.{is, is_strong}
 use Rattle.bidi_weak_neutral.specs.Context.{in_context, nearest}
 
 -- what a mark takes from the nearest earlier type that isn't NSM

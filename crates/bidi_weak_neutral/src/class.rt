@@ -1,7 +1,8 @@
 //! Sets of types, and the directions of types and levels.
 
 ghost use Rattle.std.specs.Prelude.{◌≡◌, slice_index_or};
-ghost use Rattle.bidi_weak_neutral.specs.Classes.{is_strong, is_isolate_control, is_number, is_neutral, is_plain, direction, embedding_direction};
+ghost use Rattle.bg_types.specs.Classes.{is_isolate_control};
+ghost use Rattle.bidi_weak_neutral.specs.Classes.{is_strong, is_number, is_neutral, is_plain, direction, embedding_direction};
 
 use bg_types::Bidi;
 
@@ -16,7 +17,7 @@ pub(crate) fn is_strong(class: Bidi) -> bool
 
 /// Whether a type is that of an isolate's initiator or of a PDI.
 #[inline]
-#[tactic(auto, unfolding(crate::specs::Classes::is_isolate_control))]
+#[tactic(auto, unfolding(bg_types::specs::Classes::is_isolate_control))]
 pub(crate) fn is_isolate_control(class: Bidi) -> bool
     ensures { result ≡ is_isolate_control class }
 {

@@ -3,4 +3,5 @@ pub mod SearchSteps
 pub mod SearchEnd
 pub mod SetBracket
 pub mod PairSteps
+pub mod Remembered
 pub mod NoBrackets

@@ -23,7 +23,7 @@ pub resolved-none : (embedding : Direction) (sos : Option Direction) (closings :
 resolved-none embedding sos closings before_w1 first = record { resolved = refl; strong = refl }
 
 -- a bracket changes nothing before it
-bracket-before : (t : Bidi) (before_w1 types : List Bidi) (i place : ℕ) → i ≤ place → place < length types → take i (bracket_set t before_w1 types place) ≡ take i types
+pub bracket-before : (t : Bidi) (before_w1 types : List Bidi) (i place : ℕ) → i ≤ place → place < length types → take i (bracket_set t before_w1 types place) ≡ take i types
 unfolding bracket_set
 bracket-before t before_w1 types i place le h =
     let len : i ≤ length (take place types) = rw (length-take-le place types (omega arith)) le in

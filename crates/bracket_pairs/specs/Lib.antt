@@ -1,4 +1,5 @@
 pub mod Pairs
 pub mod N0
 pub mod Found
+pub mod Runs
 pub mod Examples

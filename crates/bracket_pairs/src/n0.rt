@@ -1,9 +1,10 @@
 //! What pairs do to the types of a sequence: N0.
 
-ghost use Rattle.std.specs.Prelude.{◌≡◌, ◌+◌, ◌<◌, false, length, fold, slice_range, OnOk, OnErr, IsOk};
+ghost use Rattle.std.specs.Prelude.{◌≡◌, ◌+◌, ◌<◌, ◌≤◌, true, false, length, fold, slice_range, OnOk, OnErr, IsOk};
 ghost use Rattle.std.specs.List.{list_any};
 ghost use Rattle.bracket_pairs.specs.Pairs.{opens, pair_of, roles};
 ghost use Rattle.bracket_pairs.specs.Found.{pairs_told, AreBehind};
+ghost use Rattle.bracket_pairs.specs.Runs.{IsRun, Has};
 ghost use Rattle.bracket_pairs.specs.N0.{is_nonspacing, has_strong, pair_direction, bracket_set, pair_set, pair_resolved, n0};
 
 use crate::direction::Direction;
@@ -22,19 +23,72 @@ fn is_nonspacing(class: Bidi) -> bool
     }
 }
 
+/// A bracket and the nonspacing marks behind it, all of one type: the places from `start` to `end`.
+#[derive(Clone, Copy)]
+struct Run {
+    start: usize,
+    end: usize,
+    class: Bidi,
+}
+
+impl Run {
+    /// Whether a bracket there has this type already, and the marks behind it too.
+    fn has(self, place: usize, class: Bidi) -> bool
+        ensures { result ≡ true → Has self place class }
+    {
+        self.start <= place && place < self.end && self.class == class
+    }
+}
+
 /// Gives a bracket a type, and the nonspacing marks behind it too.
-fn set_bracket(class: Bidi, place: usize, before_w1: &[Bidi], types: &mut [Bidi])
+fn set_bracket(class: Bidi, place: usize, before_w1: &[Bidi], types: &mut [Bidi]) -> Run
     requires same { length before_w1.now ≡ length types.old }
     requires within { place < length types.old }
-    ensures { types.new ≡ bracket_set class before_w1.now types.old place }
+    ensures types { types.new ≡ bracket_set class before_w1.now types.old place }
+    ensures run { IsRun before_w1.now types.new result }
+    ensures has { Has result place class }
 {
     types[place] = class;
+    let start = place;
     for mark in place + 1..types.len() {
         if !is_nonspacing(before_w1[mark]) {
-            return;
+            let end = mark;
+            return Run { start, end, class };
         }
         types[mark] = class;
     }
+    let end = types.len();
+    Run { start, end, class }
+}
+
+/// Gives a pair's opening bracket a type, with its marks, unless the run before has them. Answers the run that does.
+fn set_opening(run: Run, class: Bidi, place: usize, before_w1: &[Bidi], types: &mut [Bidi]) -> Run
+    requires same { length before_w1.now ≡ length types.old }
+    requires within { place < length types.old }
+    requires run { IsRun before_w1.now types.old run }
+    ensures types { types.new ≡ bracket_set class before_w1.now types.old place }
+    ensures run { IsRun before_w1.now types.new result }
+    ensures has { Has result place class }
+{
+    if run.has(place, class) {
+        return run;
+    }
+    set_bracket(class, place, before_w1, types)
+}
+
+/// Gives a pair's closing bracket a type, with its marks, unless the run of its opening bracket has them.
+fn set_closing(run: Run, place: usize, before_w1: &[Bidi], types: &mut [Bidi])
+    requires same { length before_w1.now ≡ length types.old }
+    requires within { place < length types.old }
+    requires run { IsRun before_w1.now types.old run }
+    requires behind { run.start ≤ place }
+    ensures types { types.new ≡ bracket_set run.class before_w1.now types.old place }
+    ensures run { IsRun before_w1.now types.new run }
+{
+    if place < run.end {
+        return;
+    }
+    set_bracket(run.class, place, before_w1, types);
 }
 
 /// Whether a strong type of a direction is among these.
@@ -77,20 +131,27 @@ fn resolve_pair(
     closing: usize,
     before_w1: &[Bidi],
     types: &mut [Bidi],
+    run: &mut Run,
 )
     requires same { length before_w1.now ≡ length types.old }
     requires order { opening < closing }
     requires within { closing < length types.old }
-    ensures { types.new ≡ pair_set (pair_direction embedding before (slice_range types.old (opening + 1) closing)) before_w1.now types.old (pair_of opening closing) }
+    requires run { IsRun before_w1.now types.old run.old }
+    ensures types { types.new ≡ pair_set (pair_direction embedding before (slice_range types.old (opening + 1) closing)) before_w1.now types.old (pair_of opening closing) }
+    ensures run { IsRun before_w1.now types.new run.new }
 {
     let inside = &types[opening + 1..closing];
     if let Some(direction) = pair_direction(embedding, before, inside) {
-        set_bracket(direction.class(), opening, before_w1, types);
-        set_bracket(direction.class(), closing, before_w1, types);
+        let first = set_opening(*run, direction.class(), opening, before_w1, types);
+        set_closing(first, closing, before_w1, types);
+        *run = first;
     }
 }
 
 /// Takes the pairs in the order of their opening brackets. `closings` tells for each place where its closing bracket is.
+///
+/// Where a table makes brackets nonspacing marks, pairs may stand among the marks of a pair before. The run of the last
+/// opening bracket is remembered, so that those marks are not walked again for each of them.
 fn resolve_pairs(
     embedding: Direction,
     sos: Option<Direction>,
@@ -104,9 +165,17 @@ fn resolve_pairs(
     ensures { types.new ≡ fold (pair_resolved embedding sos before_w1.now) types.old (pairs_told closings.now (length types.old)) }
 {
     let mut before = sos;
+    // No bracket has set marks yet.
+    let mut run = Run {
+        start: types.len(),
+        end: types.len(),
+        class: Bidi::On,
+    };
     for opening in 0..types.len() {
         if let Some(closing) = closings[opening] {
-            resolve_pair(embedding, before, opening, closing, before_w1, types);
+            resolve_pair(
+                embedding, before, opening, closing, before_w1, types, &mut run,
+            );
         }
         before = Direction::of(types[opening]).or(before);
     }

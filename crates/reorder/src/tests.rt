@@ -1,4 +1,4 @@
-//! What no clause says: rows of the standard, all short lists by a slow second way, and calls that succeed.
+//! What no clause says: rows of the standard, and calls that succeed.
 //!
 //! A call that memory was refused to is made again: so each test also passes with any one allocation
 //! refused (`rt try --test --fail-alloc N`).
@@ -48,216 +48,105 @@ fn order_of(rt: &impl Abort, alloc: Global, levels: &[u8]) -> Result<Vec<u32>, M
     }
 }
 
-/// L2 as the standard says it: one pass over the line for each level. As many numbers as levels.
-fn put_slow_order(levels: &[u8], order: &mut [u32]) {
-    for (number, place) in (0..u32::MAX).zip(order.iter_mut()) {
-        *place = number;
+/// Compares what stands in a line, a byte a cluster, with what is shown of it.
+fn assert_shown(
+    rt: &(impl Abort + AllocGlobal),
+    stored: &str,
+    digits: &str,
+    shown: &str,
+) -> Result<(), Fail> {
+    let mut buffer = [0; 64];
+    let order = order_of(rt, rt.alloc(), levels_of(digits, &mut buffer))?;
+    assert_eq!(rt; order.len(), shown.len(), "{shown}");
+    for (number, place) in order.iter().zip(shown.bytes()) {
+        let found = stored.as_bytes().get(*number as usize);
+        assert_eq!(rt; found, Some(&place), "{shown}");
     }
-    let lowest_odd = levels.iter().copied().filter(|l| *l % 2 == 1).min();
-    let greatest = levels.iter().copied().max().unwrap_or(0);
-    for level in (lowest_odd.unwrap_or(u8::MAX)..=greatest).rev() {
-        let mut begin = 0;
-        for end in 0..=order.len() {
-            let high = match order.get(end) {
-                Some(number) => levels.get(*number as usize).is_some_and(|l| *l >= level),
-                None => false,
-            };
-            if !high {
-                if begin <= end && end <= order.len() {
-                    order[begin..end].reverse();
-                }
-                begin = end.saturating_add(1);
-            }
-        }
-    }
+    Ok(())
 }
 
+/// A row has what stands in a line, the levels, and what is shown.
+fn assert_lines(rt: &(impl Abort + AllocGlobal), rows: &str) -> Result<(), Fail> {
+    for row in rows.split('\n') {
+        let mut fields = row.split('|');
+        let stored = fields.next().unwrap_or("");
+        let digits = fields.next().unwrap_or("");
+        assert_shown(rt, stored, digits, fields.next().unwrap_or(""))?;
+    }
+    Ok(())
+}
+
+/// After the examples of UAX #9, section 3.4, L2, from memory, with its signs > < = for LRI, RLI and PDI. Levels and order
+/// are what GNU FriBidi 1.0.8 answers for these texts.
 #[test]
 fn the_standards_examples_are_shown_in_its_order(rt: HostRuntime) -> Result<(), Fail> {
-    // After the examples of UAX #9, section 3.4, L2, from memory, with its signs > < = for LRI, RLI and PDI. Levels and
-    // order are what GNU FriBidi 1.0.8 answers for these texts.
-    let rows = [
-        ("car means CAR.", "00000000001110", "car means RAC."),
-        ("<car MEANS CAR.=", "0222111111111110", "<.RAC SNAEM car="),
-        (
-            "he said \"<car MEANS CAR=.\" \"<IT DOES=,\" she agreed.",
-            "000000000022211111111110000001111111000000000000000",
-            "he said \"<RAC SNAEM car=.\" \"<SEOD TI=,\" she agreed.",
-        ),
-        (
-            "DID YOU SAY '>he said \"<car MEANS CAR=\"='?",
-            "111111111111112222222222444333333333322111",
-            "?'=he said \"<RAC SNAEM car=\">' YAS UOY DID",
-        ),
-    ];
-    for (stored, digits, shown) in rows {
-        let mut buffer = [0; 64];
-        let levels = levels_of(digits, &mut buffer);
-        let order = order_of(&rt, rt.alloc(), levels)?;
-        assert_eq!(rt; order.len(), shown.len());
-        for (number, place) in order.iter().zip(shown.bytes()) {
-            assert_eq!(rt;
-                stored.as_bytes().get(*number as usize),
-                Some(&place),
-                "{stored}"
-            );
-        }
+    assert_lines(
+        &rt,
+        "\
+car means CAR.|00000000001110|car means RAC.
+<car MEANS CAR.=|0222111111111110|<.RAC SNAEM car=
+he said \"<car MEANS CAR=.\" \"<IT DOES=,\" she agreed.|000000000022211111111110000001111111000000000000000|he said \"<RAC SNAEM car=.\" \"<SEOD TI=,\" she agreed.
+DID YOU SAY '>he said \"<car MEANS CAR=\"='?|111111111111112222222222444333333333322111|?'=he said \"<RAC SNAEM car=\">' YAS UOY DID",
+    )
+}
+
+/// A row has levels, and the order that they give, in which `a` stands for cluster 0.
+fn assert_orders(rt: &(impl Abort + AllocGlobal), rows: &str) -> Result<(), Fail> {
+    for row in rows.split('\n') {
+        let (digits, shown) = row.split_once('|').unwrap_or((row, ""));
+        assert_shown(rt, "abcdefghijklmnopqr", digits, shown)?;
     }
     Ok(())
 }
 
-/// The orders that Unicode's own BidiCharacterTest.txt of version 15.0 gives for levels: the lines
-/// under its heading "Examples from UAX #9", then six with four or five levels.
-#[test]
-fn the_standards_test_file_gives_these_orders(rt: HostRuntime) -> Result<(), Fail> {
-    let rows: [(&str, &[u32]); 18] = [
-        (
-            "11011000000000",
-            &[1, 0, 2, 4, 3, 5, 6, 7, 8, 9, 10, 11, 12, 13],
-        ),
-        (
-            "11111112211122",
-            &[12, 13, 11, 10, 9, 7, 8, 6, 5, 4, 3, 2, 1, 0],
-        ),
-        (
-            "00000000011100111",
-            &[0, 1, 2, 3, 4, 5, 6, 7, 8, 11, 10, 9, 12, 13, 16, 15, 14],
-        ),
-        (
-            "22211222111111111",
-            &[16, 15, 14, 13, 12, 11, 10, 9, 8, 5, 6, 7, 4, 3, 0, 1, 2],
-        ),
-        (
-            "11100000011100000",
-            &[2, 1, 0, 3, 4, 5, 6, 7, 8, 11, 10, 9, 12, 13, 14, 15, 16],
-        ),
-        (
-            "11111222111111222",
-            &[14, 15, 16, 13, 12, 11, 10, 9, 8, 5, 6, 7, 4, 3, 2, 1, 0],
-        ),
-        (
-            "00000111000000111",
-            &[0, 1, 2, 3, 4, 7, 6, 5, 8, 9, 10, 11, 12, 13, 16, 15, 14],
-        ),
-        (
-            "22211111122211111",
-            &[16, 15, 14, 13, 12, 9, 10, 11, 8, 7, 6, 5, 4, 3, 0, 1, 2],
-        ),
-        (
-            "11100111000000000",
-            &[2, 1, 0, 3, 4, 7, 6, 5, 8, 9, 10, 11, 12, 13, 14, 15, 16],
-        ),
-        (
-            "11111111122211222",
-            &[14, 15, 16, 13, 12, 9, 10, 11, 8, 7, 6, 5, 4, 3, 2, 1, 0],
-        ),
-        ("11100000000", &[2, 1, 0, 3, 4, 5, 6, 7, 8, 9, 10]),
-        ("11112222222", &[4, 5, 6, 7, 8, 9, 10, 3, 2, 1, 0]),
-        ("2121341111", &[9, 8, 7, 6, 5, 4, 3, 2, 1, 0]),
-        (
-            "000011112312120101",
-            &[0, 1, 2, 3, 13, 12, 11, 10, 8, 9, 7, 6, 5, 4, 14, 15, 16, 17],
-        ),
-        (
-            "212133334534341111",
-            &[17, 16, 15, 14, 13, 12, 11, 10, 8, 9, 7, 6, 5, 4, 3, 2, 1, 0],
-        ),
-        ("1010230000", &[0, 1, 2, 3, 4, 5, 6, 7, 8, 9]),
-        (
-            "101022223423230000",
-            &[0, 1, 2, 3, 4, 5, 6, 7, 9, 8, 10, 11, 12, 13, 14, 15, 16, 17],
-        ),
-        (
-            "111122223423231212",
-            &[17, 16, 15, 14, 4, 5, 6, 7, 9, 8, 10, 11, 12, 13, 3, 2, 1, 0],
-        ),
-    ];
-    for (digits, order) in rows {
-        let mut buffer = [0; 64];
-        let levels = levels_of(digits, &mut buffer);
-        assert_eq!(rt;
-            order_of(&rt, rt.alloc(), levels)?.as_slice(),
-            order,
-            "{digits}"
-        );
-    }
-    Ok(())
-}
-
+/// First those of Unicode's own BidiCharacterTest.txt of version 15.0: the 12 lines under its heading "Examples from
+/// UAX #9", then six with four or five levels. Then small ones, among them a line with an isolate, and the two lines of a
+/// wrapped paragraph.
 #[test]
 fn levels_give_an_order(rt: HostRuntime) -> Result<(), Fail> {
-    let rows: [(&[u8], &[u32]); 14] = [
-        (&[], &[]),
-        (&[0], &[0]),
-        (&[1], &[0]),
-        (&[1, 1, 1], &[2, 1, 0]),
-        (&[2, 2, 2], &[0, 1, 2]),
-        (&[0, 0, 0, 1, 1, 1], &[0, 1, 2, 5, 4, 3]),
-        (&[1, 1, 1, 2, 2], &[3, 4, 2, 1, 0]),
-        (&[1, 1, 2, 1], &[3, 2, 1, 0]),
-        (&[1, 2, 2], &[1, 2, 0]),
-        // A line with an isolate, and the two lines of a wrapped paragraph.
-        (&[0, 0, 2, 1, 0, 0], &[0, 1, 3, 2, 4, 5]),
-        (&[0, 0, 1, 1, 0], &[0, 1, 3, 2, 4]),
-        (&[1, 1], &[1, 0]),
-        (&[255, 255, 254, 253, 0], &[3, 1, 0, 2, 4]),
-        // Only the round of 255 is asked for: no lower level is odd.
-        (&[255, 254, 255, 0, 255], &[0, 1, 2, 3, 4]),
-    ];
-    for (levels, order) in rows {
-        assert_eq!(rt;
-            order_of(&rt, rt.alloc(), levels)?.as_slice(),
-            order,
-            "{levels:?}"
-        );
-    }
-    Ok(())
-}
-
-/// Compares the order of a line with that by a slow second way.
-fn assert_order(
-    rt: &(impl Abort + AllocGlobal),
-    levels: &[u8],
-    slow: &mut [u32],
-) -> Result<(), Memory> {
-    put_slow_order(levels, slow);
-    let order = order_of(rt, rt.alloc(), levels)?;
-    assert!(rt; order.as_slice() == slow);
-    Ok(())
+    assert_orders(
+        &rt,
+        "\
+11011000000000|bacedfghijklmn
+11111112211122|mnlkjhigfedcba
+00000000011100111|abcdefghilkjmnqpo
+22211222111111111|qponmlkjifghedabc
+11100000011100000|cbadefghilkjmnopq
+11111222111111222|opqnmlkjifghedcba
+00000111000000111|abcdehgfijklmnqpo
+22211111122211111|qponmjklihgfedabc
+11100111000000000|cbadehgfijklmnopq
+11111111122211222|opqnmjklihgfedcba
+11100000000|cbadefghijk
+11112222222|efghijkdcba
+2121341111|jihgfedcba
+000011112312120101|abcdnmlkijhgfeopqr
+212133334534341111|rqponmlkijhgfedcba
+1010230000|abcdefghij
+101022223423230000|abcdefghjiklmnopqr
+111122223423231212|rqpoefghjiklmndcba
+|
+0|a
+1|a
+111|cba
+222|abc
+000111|abcfed
+11122|decba
+1121|dcba
+122|bca
+002100|abdcef
+00110|abdce
+11|ba",
+    )
 }
 
 #[test]
-fn all_short_lists_are_as_by_passes(rt: HostRuntime) -> Result<(), Fail> {
-    for (len, count) in [
-        (0, 1),
-        (1, 4),
-        (2, 16),
-        (3, 64),
-        (4, 256),
-        (5, 1024),
-        (6, 4096),
-    ] {
-        for code in 0..count {
-            let mut rest: u32 = code;
-            let (mut levels, mut slow) = ([0u8; 6], [0u32; 6]);
-            for level in levels.iter_mut() {
-                *level = (rest % 4) as u8;
-                rest /= 4;
-            }
-            let levels = levels.get(..len).unwrap_or(&[]);
-            assert_order(&rt, levels, slow.get_mut(..len).unwrap_or(&mut []))?;
-        }
-    }
-    Ok(())
-}
-
-#[test]
-fn long_lines_of_many_levels_are_as_by_passes(rt: HostRuntime) -> Result<(), Fail> {
-    let mut levels = [0u8; 20_000];
-    for (i, level) in (0..20_000u32).zip(levels.iter_mut()) {
-        *level = ((i.wrapping_mul(2_654_435_761) >> 8) % 127) as u8;
-    }
-    assert_order(&rt, &levels, &mut [0; 20_000])?;
+fn levels_go_up_to_255(rt: HostRuntime) -> Result<(), Fail> {
+    // Only the round of 255 is asked for: no lower level is odd.
+    let order = order_of(&rt, rt.alloc(), &[255, 254, 255, 0, 255])?;
+    assert_eq!(rt; order.as_slice(), [0, 1, 2, 3, 4].as_slice());
+    let order = order_of(&rt, rt.alloc(), &[255, 255, 254, 253, 0])?;
+    assert_eq!(rt; order.as_slice(), [3, 1, 0, 2, 4].as_slice());
     Ok(())
 }
 
@@ -300,50 +189,59 @@ fn cluster_levels(
     }
 }
 
-#[test]
-fn l1_resets_what_stands_before_a_separator_or_the_lines_end(rt: HostRuntime) -> Result<(), Fail> {
+/// Compares the levels of a line's code points after L1, each a cluster.
+fn assert_reset(
+    rt: &(impl Abort + AllocGlobal),
+    tables: &Tables,
+    (line, before, para_level, after): (&str, &str, u8, &str),
+) -> Result<(), Fail> {
+    let (mut stored, mut reset) = ([0; 64], [0; 64]);
+    let before = levels_of(before, &mut stored);
+    let sizes = [1; 64].get(..before.len()).unwrap_or(&[]);
+    let levels = cluster_levels(rt, rt.alloc(), tables, line, before, sizes, para_level)?;
+    assert_eq!(rt; levels.as_slice(), levels_of(after, &mut reset), "{line:?}");
+    Ok(())
+}
+
+/// A row has a line, its levels before, the paragraph's level, and the levels after.
+fn assert_l1(rt: &(impl Abort + AllocGlobal), rows: &str) -> Result<(), Fail> {
     let tables = tables(rt.alloc())?;
-    let rows = [
-        ("", "", 0, ""),
-        ("a  \tb", "11111", 0, "10001"),
-        ("ab  ", "1111", 0, "1100"),
-        ("a b", "111", 0, "111"),
-        ("a\tb", "111", 0, "101"),
-        ("a\u{2029}b", "111", 0, "101"),
-        ("a \u{2029}b", "1111", 0, "1001"),
-        ("a \t", "222", 1, "211"),
-        ("   ", "111", 0, "000"),
-        (
-            "a \u{2066} \u{2067}\u{2068}\u{2069} ",
-            "11111111",
-            0,
-            "10000000",
-        ),
-        (
-            "a \u{202A}\u{202B}\u{202C}\u{202D}\u{202E}\u{200B} ",
-            "111111111",
-            0,
-            "100000000",
-        ),
-        ("a \u{202B}\u{2069}\t\u{200B}b", "1111111", 0, "1000011"),
-        ("a \u{300}", "111", 0, "111"),
-        ("\u{3000} !", "111", 0, "111"),
-        // A line with an isolate, and the two lines of a wrapped paragraph; then digits behind an
-        // Arabic letter.
-        ("a\u{2067}b!\u{2069}c", "002100", 0, "002100"),
-        ("a \u{5D0}\u{5D1} ", "00111", 0, "00110"),
-        ("\u{5D2}\u{5D3}", "11", 0, "11"),
-        ("\u{627}12", "122", 1, "122"),
-    ];
-    for (line, before, para_level, after) in rows {
-        let (mut stored, mut reset) = ([0; 64], [0; 64]);
-        let before = levels_of(before, &mut stored);
-        let after = levels_of(after, &mut reset);
-        let sizes = [1; 64].get(..before.len()).unwrap_or(&[]);
-        let levels = cluster_levels(&rt, rt.alloc(), &tables, line, before, sizes, para_level)?;
-        assert_eq!(rt; levels.as_slice(), after, "{line:?}");
+    for row in rows.split('\n') {
+        let mut fields = row.split('|');
+        let line = fields.next().unwrap_or("");
+        let before = fields.next().unwrap_or("");
+        let para_level = u8::from(fields.next() == Some("1"));
+        let after = fields.next().unwrap_or("0");
+        assert_reset(rt, &tables, (line, before, para_level, after))?;
     }
     Ok(())
+}
+
+/// The last four are a line with an isolate, the two lines of a wrapped paragraph, and digits behind an Arabic letter.
+#[test]
+fn l1_resets_what_stands_before_a_separator_or_the_lines_end(rt: HostRuntime) -> Result<(), Fail> {
+    assert_l1(
+        &rt,
+        "\
+||0|
+a  \tb|11111|0|10001
+ab  |1111|0|1100
+a b|111|0|111
+a\tb|111|0|101
+a\u{2029}b|111|0|101
+a \u{2029}b|1111|0|1001
+a \t|222|1|211
+   |111|0|000
+a \u{2066} \u{2067}\u{2068}\u{2069} |11111111|0|10000000
+a \u{202A}\u{202B}\u{202C}\u{202D}\u{202E}\u{200B} |111111111|0|100000000
+a \u{202B}\u{2069}\t\u{200B}b|1111111|0|1000011
+a \u{300}|111|0|111
+\u{3000} !|111|0|111
+a\u{2067}b!\u{2069}c|002100|0|002100
+a \u{5D0}\u{5D1} |00111|0|00110
+\u{5D2}\u{5D3}|11|0|11
+\u{627}12|122|1|122",
+    )
 }
 
 #[test]
@@ -365,22 +263,25 @@ fn a_cluster_has_the_level_of_its_first_code_point(rt: HostRuntime) -> Result<()
     Ok(())
 }
 
-#[test]
-fn odd_levels_are_mirrored(rt: HostRuntime) -> Result<(), Fail> {
+/// A row has a character, a level, and the character that is shown there.
+fn assert_mirrors(rt: &(impl Abort + AllocGlobal), rows: &str) -> Result<(), Fail> {
     let tables = tables(rt.alloc())?;
-    for (c, level, shown) in [
-        ('(', 0, '('),
-        ('(', 1, ')'),
-        ('(', 2, '('),
-        ('(', 125, ')'),
-        ('<', 1, '>'),
-        ('a', 1, 'a'),
-        ('\u{3009}', 1, '\u{3008}'),
-        ('\u{2329}', 3, '\u{232A}'),
-    ] {
-        assert_eq!(rt; mirrored(&tables, c, level), shown, "{c} at {level}");
+    for row in rows.split(' ') {
+        let mut chars = row.chars();
+        let c = chars.next().unwrap_or('\0');
+        let level = chars.next().unwrap_or('\0');
+        let shown = mirrored(&tables, c, (u32::from(level) % 16) as u8);
+        assert_eq!(rt; chars.next(), Some(shown), "{row}");
     }
     Ok(())
+}
+
+#[test]
+fn odd_levels_are_mirrored(rt: HostRuntime) -> Result<(), Fail> {
+    assert_mirrors(
+        &rt,
+        "(0( (1) (2( (9) <1> a1a \u{3009}1\u{3008} \u{2329}3\u{232A}",
+    )
 }
 
 #[test]

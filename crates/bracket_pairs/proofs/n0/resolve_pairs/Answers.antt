@@ -8,11 +8,17 @@ loop-opening-preserved c =
     elim c.match-closings-opening.branch [
       | in-Some w ↦
           let behind = c.requires.behind c.loop-opening.opening w.in-Some.closing (omega arith) w.in-Some.is in
-          resolved-is _ _ _ _ _ _ _ _ _ _ _ _ c.or-before.ensures c.of.ensures w.types-is
-          (resolved-more c.args.embedding c.args.sos c.args.closings.now c.args.before_w1.now c.args.types.now c.loop-opening.opening w.in-Some.closing
-          c.loop-opening.before c.loop-opening.types w.resolve_pair.new.types _ c.loop-opening.invariant behind.0 (omega (arith, behind.1)) w.in-Some.is (omega arith) w.resolve_pair.ensures)
-      | in_default w ↦
-          resolved-is _ _ _ _ _ _ _ _ _ _ _ _ c.or-before.ensures c.of.ensures w.types-is
-          (resolved-same c.args.embedding c.args.sos c.args.closings.now c.args.before_w1.now c.args.types.now c.loop-opening.opening
-          c.loop-opening.before c.loop-opening.types _ c.loop-opening.invariant (omega arith) w.in_default.is)
+          record {
+            pairs = resolved-is _ _ _ _ _ _ _ _ _ _ _ _ c.or-before.ensures c.of.ensures w.types-is
+                (resolved-more c.args.embedding c.args.sos c.args.closings.now c.args.before_w1.now c.args.types.now c.loop-opening.opening w.in-Some.closing
+                c.loop-opening.before c.loop-opening.types w.resolve_pair.new.types _ c.loop-opening.invariant.pairs behind.0 (omega (arith, behind.1)) w.in-Some.is (omega arith)
+                w.resolve_pair.ensures.types);
+            run = rw (w.types-is, w.run-is) w.resolve_pair.ensures.run;
+          }
+      | in_default w ↦ record {
+        pairs = resolved-is _ _ _ _ _ _ _ _ _ _ _ _ c.or-before.ensures c.of.ensures w.types-is
+            (resolved-same c.args.embedding c.args.sos c.args.closings.now c.args.before_w1.now c.args.types.now c.loop-opening.opening
+            c.loop-opening.before c.loop-opening.types _ c.loop-opening.invariant.pairs (omega arith) w.in_default.is);
+        run = rw (w.types-is, w.run-is) c.loop-opening.invariant.run;
+      }
     ]

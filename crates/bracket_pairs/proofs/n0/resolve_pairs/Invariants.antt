@@ -1,5 +1,9 @@
+use Rattle.bracket_pairs.specs.Runs.{IsRun}
 use Rattle.bracket_pairs.proofs.PairSteps.{IsResolved}
 use Rattle.bracket_pairs.proofs.n0.resolve_pairs.Given as goal
 
 abbrev pub invariant-loop-opening : goal.invariant-loop-opening
-invariant-loop-opening l = IsResolved l.embedding l.fn.sos l.closings l.before_w1 l.fn.types l.opening l.before l.types
+invariant-loop-opening l = record {
+  pairs : IsResolved l.embedding l.fn.sos l.closings l.before_w1 l.fn.types l.opening l.before l.types;
+  run : IsRun l.before_w1 l.types l.run;
+}
