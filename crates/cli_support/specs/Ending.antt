@@ -1,5 +1,5 @@
 -- How a run ends that has nothing to do.
-use Rattle.std.specs.Prelude.{◌≡◌, ℕ, Bool, true, false, List, [], Option, string_bytes, if◌then◌else◌}
+use Rattle.std.specs.Prelude.{◌≡◌, ℕ, Bool, false, List, [], Option, string_bytes, if◌then◌else◌}
 use Rattle.std.specs.Io.KnownBytes.{Appends, Keeps}
 use Rattle.cli_support.specs.declared.command_line.Stop.{Stop}
 use Rattle.cli_support.specs.declared.command_line.Stop.TheVariants.{Help, Usage, Memory}

@@ -1,7 +1,6 @@
 //! The words of a command line, and why they ask for no work.
 
-ghost use Rattle.std.specs.Prelude.{◌≡◌, ◌⊎◌, Ok, IfOk};
-ghost use Rattle.clap.specs.declared.error.kind.ErrorKind.{ErrorKind as Kind};
+ghost use Rattle.std.specs.Prelude.{◌≡◌};
 ghost use Rattle.cli_support.specs.declared.command_line.Stop.TheVariants.{Memory as stop_memory};
 
 use clap::Error;

@@ -1,12 +1,12 @@
 //! The end of a run: the help, what is wrong with the command line, and the line about a fault.
 
-ghost use Rattle.std.specs.Prelude.{◌≡◌, false, is_err, List, ℕ};
-ghost use Rattle.std.specs.Io.KnownBytes.{Appends, Keeps};
+ghost use Rattle.std.specs.Prelude.{◌≡◌, false, is_err};
+ghost use Rattle.std.specs.Io.KnownBytes.{Appends};
 ghost use Rattle.bg_types.specs.Sink.{AppendsBeginning};
 ghost use Rattle.cli_support.specs.Ending.{status_of, help_of, IsTold};
 
 use crate::command_line::Stop;
-use bg_types::{Device, Memory, Sink, put_all};
+use bg_types::{Device, Sink, put_all};
 use std::fmt::{self, Display, Write as _};
 use std::io;
 
@@ -54,19 +54,23 @@ pub fn end<O: Sink, E: Sink>(program: &str, stop: &Stop, out: &mut O, err: &mut 
     ensures lost { AppendsBeginning (O.written out.old) (O.written out.new) (help_of stop.now) }
     ensures err { IsTold stop.now (O.has_failed out.new) (E.has_failed err.new) (E.written err.old) (E.written err.new) }
 {
-    let lost = match stop {
+    match stop {
         Stop::Help(text) => match put_all(out, text.as_bytes()) {
-            Ok(()) => return 0,
-            Err(Device) => tell(program, &"device", err),
+            Ok(()) => 0,
+            Err(Device) => {
+                let _unheard = tell(program, &"device", err);
+                LOST
+            }
         },
         Stop::Usage(text) => {
             let _unheard = put_all(err, text.as_bytes());
-            return USAGE;
+            USAGE
         }
-        Stop::Memory => tell(program, &"memory", err),
-    };
-    let _unheard = lost;
-    LOST
+        Stop::Memory => {
+            let _unheard = tell(program, &"memory", err);
+            LOST
+        }
+    }
 }
 
 /// Flushes what a run wrote: a late failure of the device shows only here.

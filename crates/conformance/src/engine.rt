@@ -148,6 +148,7 @@ impl<'a> Comparison<'a> {
 
     /// Counts a case, and keeps what is told of it unless enough were told.
     fn keep(&mut self, found: Found) -> Result<(), RunFault>
+        ensures counted { OnOk result (self.new.tally ≡ counted found.verdict self.old.tally) }
         ensures once { OnOk result (cases_of self.new.tally ≡ cases_of self.old.tally + 1) }
     {
         let Found { verdict, told } = found;

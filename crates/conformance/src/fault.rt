@@ -7,7 +7,7 @@ use std::fmt;
 use ucd_files::UcdFault;
 
 /// What is wrong with a line of a test file. Each prints its bare name.
-#[derive(Clone, Copy, Debug, PartialEq, Eq, thiserror::Error)]
+#[derive(Clone, Copy, Debug, thiserror::Error)]
 pub enum LineFault {
     /// The line is longer than 65,536 bytes.
     #[error("TooLong")]
@@ -21,7 +21,7 @@ pub enum LineFault {
 }
 
 /// Why a run ended early.
-#[derive(Clone, Copy, Debug, PartialEq, Eq)]
+#[derive(Clone, Copy, Debug)]
 pub enum RunFault {
     /// A data file is faulty.
     Data(UcdFault),

@@ -4,7 +4,7 @@ ghost use Rattle.std.specs.Prelude.{◌≡◌, ◌+◌, ◌<◌, ◌^◌, IfSome
 ghost use Rattle.conformance.specs.Counted.{level_of, number_of, counted, cases_of};
 
 /// A paragraph direction that a case asks for.
-#[derive(Clone, Copy, Debug, PartialEq, Eq)]
+#[derive(Clone, Copy)]
 pub enum Direction {
     LeftToRight,
     RightToLeft,
@@ -23,7 +23,7 @@ impl Direction {
 }
 
 /// A choice of this profile of line breaking.
-#[derive(Clone, Copy, Debug, PartialEq, Eq)]
+#[derive(Clone, Copy)]
 pub enum Choice {
     /// LB25 joins the pairs of its list, where the test file joins what its expression for numbers
     /// covers.
@@ -33,7 +33,7 @@ pub enum Choice {
 }
 
 /// What came of a case.
-#[derive(Clone, Copy, Debug, PartialEq, Eq)]
+#[derive(Clone, Copy)]
 pub enum Verdict {
     Agrees,
     Differs,
@@ -44,7 +44,7 @@ pub enum Verdict {
 }
 
 /// How many cases came to what.
-#[derive(Clone, Copy, Debug, Default, PartialEq, Eq)]
+#[derive(Clone, Copy, Default)]
 pub struct Tally {
     pub agree: u64,
     pub differ: u64,

@@ -1,7 +1,7 @@
 //! The three test files.
 
 /// One of Unicode's test files.
-#[derive(Clone, Copy, Debug, PartialEq, Eq)]
+#[derive(Clone, Copy)]
 pub enum TestFile {
     BidiCharacter,
     Bidi,
