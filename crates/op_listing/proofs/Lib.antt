@@ -1,0 +1,9 @@
+pub mod Parting
+pub mod Numerals
+pub mod Shapes
+pub mod Padding
+pub mod FirstFault
+pub mod ReadLines
+pub mod Listings
+pub mod Outcomes
+pub mod ListedAgain

@@ -1,0 +1,156 @@
+-- Numbers that were read from a word are those that the word writes.
+use Rattle.std.proofs.Common.{◌≡◌, ℕ, ◌+◌, ◌*◌, ◌^◌, ◌<◌, ◌≤◌, Bool, true, false, cond, ◌&&◌, ltb, leb, List, [], ◌∷◌, length, get_or, take, Option, Some, None, refl, sym, ap, ◌∙◌, inl, inr, ◌⊎◌, arith, subst, suc, zero, lit<}
+use Rattle.std.proofs.Math.Nat.{pow-le-pow_right}
+use Rattle.std.specs.Prelude.{SomeIff}
+use Rattle.std.specs.Char.{digit_value}
+use Rattle.std.specs.Str.Parse.{AllDigits, digits_value}
+use Rattle.std.proofs.lemmas.Bool.{cases_lt}
+use Rattle.std.proofs.lemmas.Int.Digits.{digits_value-lt, digits_value_more, digits_more}
+use Rattle.std.proofs.lemmas.Str.Parse.{digits_value-take-le}
+use borrow.Author.Tests.{ltb-true, lt-ltb, le-leb, lt-leb}
+use Rattle.op_listing.specs.Number.{is_digits, number_in, up_to}
+use Rattle.op_listing.specs.Line.{counter_in, scalar_in}
+
+-- ---- digits
+
+and-true : (a b : Bool) → (a && b) ≡ true → (a ≡ true) × (b ≡ true)
+and-true true b e = (refl, e)
+and-true false b e = absurd cc
+
+none_of : (a b c : Bool) → (b ≡ false) ⊎ (c ≡ false) → (a && b && c) ≡ false
+none_of true true true (inl e) = e
+none_of true true true (inr e) = e
+none_of true true false e = refl
+none_of true false c e = refl
+none_of false b c e = refl
+
+pub AllDigits-from : (base : ℕ) (word : List ℕ) → is_digits base word ≡ true → AllDigits base word
+AllDigits-from base [] e = tt
+AllDigits-from base (c ∷ cs) e = let both = and-true (ltb (digit_value c) base) (is_digits base cs) e in (ltb-true (digit_value c) base both.0, AllDigits-from base cs both.1)
+
+pub is_digits-from : (base : ℕ) (word : List ℕ) → AllDigits base word → is_digits base word ≡ true
+is_digits-from base [] h = refl
+is_digits-from base (c ∷ cs) h = λ i. lt-ltb (digit_value c) base h.0 i && is_digits-from base cs h.1 i
+
+all_at : (base : ℕ) (word : List ℕ) (i : ℕ) → AllDigits base word → i < length word → digit_value (get_or word i 0) < base
+all_at base [] i h lt = absurd (omega (arith, lt))
+all_at base (c ∷ cs) zero h lt = h.0
+all_at base (c ∷ cs) (suc i) h lt = all_at base cs i h.1 (omega (arith, lt))
+
+-- ---- the loop over the digits
+
+pub more_digits : (base : ℕ) (word : List ℕ) (i value byte digit : ℕ) → i < length word → AllDigits base (take i word) → value ≡ digits_value base (take i word) → byte ≡ get_or word i 0
+    → digit_value byte < base → digit ≡ digit_value byte → AllDigits base (take (i + 1) word) × (value * base + digit ≡ digits_value base (take (i + 1) word))
+more_digits base word i value byte digit within all is read small digit_is = (
+  digits_more base word i within all (subst (λ (b : ℕ). digit_value b < base) read small),
+  (λ k. is k * base + (digit_is ∙ ap digit_value read) k) ∙ sym (digits_value_more base word i within),
+)
+
+pub no_digit : (base : ℕ) (word : List ℕ) (i byte : ℕ) → i < length word → byte ≡ get_or word i 0 → ¬ (digit_value byte < base) → ¬ (AllDigits base word × (digits_value base word < 2 ^ 32))
+no_digit base word i byte within read large h = large (subst (λ (b : ℕ). digit_value b < base) (sym read) (all_at base word i h.0 within))
+
+pub too_large : (base : ℕ) (word : List ℕ) (i value digit : ℕ) → 1 ≤ base → value * base + digit ≡ digits_value base (take (i + 1) word) → ¬ (value * base + digit < 2 ^ 32)
+    → ¬ (AllDigits base word × (digits_value base word < 2 ^ 32))
+too_large base word i value digit some is large h =
+    let part = digits_value-take-le base word (i + 1) some in
+    let small = h.1 in
+    large (let n = value * base + digit in omega (arith, is, part, small))
+
+-- ---- words of a right or a wrong length
+
+pub number_in-some : (base least most : ℕ) (word : List ℕ) → AllDigits base word → least ≤ length word → length word ≤ most → number_in base least most word ≡ Some (digits_value base word)
+number_in-some base least most word all long short =
+    let d = is_digits-from base word all in
+    let a = le-leb least (length word) long in
+    let b = le-leb (length word) most short in
+    λ i. cond (d i && a i && b i) (Some (digits_value base word)) None
+
+pub number_in-none : (base least most : ℕ) (word : List ℕ) → is_digits base word ≡ false → number_in base least most word ≡ None
+number_in-none base least most word e = λ i. cond (e i && leb least (length word) && leb (length word) most) (Some (digits_value base word)) None
+
+pub number_in-wrong : (base least most : ℕ) (word : List ℕ) → (length word < least) ⊎ (most < length word) → number_in base least most word ≡ None
+number_in-wrong base least most word (inl short) =
+    ap (λ t. cond t (Some (digits_value base word)) None) (none_of (is_digits base word) (leb least (length word)) (leb (length word) most) (inl (lt-leb least (length word) short)))
+number_in-wrong base least most word (inr long) =
+    ap (λ t. cond t (Some (digits_value base word)) None) (none_of (is_digits base word) (leb least (length word)) (leb (length word) most) (inr (lt-leb (length word) most long)))
+
+pub up_to-some : (limit n : ℕ) → n ≤ limit → up_to limit (Some n) ≡ Some n
+up_to-some limit n le = ap (λ t. cond t (Some n) None) (le-leb n limit le)
+
+pub up_to-above : (limit n : ℕ) → limit < n → up_to limit (Some n) ≡ None
+up_to-above limit n lt = ap (λ t. cond t (Some n) None) (lt-leb n limit lt)
+
+-- ---- counters and characters
+
+-- what was read of a word of a right length
+read_number_is : (base least most : ℕ) (word : List ℕ) (r : Option ℕ) → SomeIff r (AllDigits base word × (digits_value base word < 2 ^ 32)) (digits_value base word) → least ≤ length word → length word ≤ most
+    → r ≡ up_to 4_294_967_295 (number_in base least most word)
+read_number_is base least most word (Some x) h long short =
+    let v = digits_value base word in
+    ap Some h.1 ∙ sym (up_to-some 4_294_967_295 v (omega (arith, h.0.1))) ∙ sym (ap (up_to 4_294_967_295) (number_in-some base least most word h.0.0 long short))
+read_number_is base least most word None h long short = by_digits (is_digits base word) refl where
+  v : ℕ
+  v = digits_value base word
+
+  by_digits : (t : Bool) → is_digits base word ≡ t → None ≡ up_to 4_294_967_295 (number_in base least most word)
+  by_digits false e = sym (ap (up_to 4_294_967_295) (number_in-none base least most word e))
+  by_digits true e =
+      let all = AllDigits-from base word e in
+      let large : 4_294_967_295 < digits_value base word = elim (cases_lt 4_294_967_295 (digits_value base word)) [ inl lt ↦ lt | inr le ↦ absurd (h (all, omega (arith, le))) ] in
+      sym (ap (up_to 4_294_967_295) (number_in-some base least most word all long short) ∙ up_to-above 4_294_967_295 (digits_value base word) large)
+
+pub counter_read : (word : List ℕ) (r : Option ℕ) → SomeIff r (AllDigits 10 word × (digits_value 10 word < 2 ^ 32)) (digits_value 10 word) → 1 ≤ length word → length word ≤ 10 → r ≡ counter_in word
+counter_read word r h long short = read_number_is 10 1 10 word r h long short
+
+pub counter_wrong : (word : List ℕ) → (length word < 1) ⊎ (10 < length word) → counter_in word ≡ None
+counter_wrong word wrong = ap (up_to 4_294_967_295) (number_in-wrong 10 1 10 word wrong)
+
+pub scalar_read : (word : List ℕ) (r : Option ℕ) → SomeIff r (AllDigits 16 word × (digits_value 16 word < 2 ^ 32)) (digits_value 16 word) → 4 ≤ length word → length word ≤ 6 → r ≡ scalar_in word
+scalar_read word (Some x) h long short = ap Some h.1 ∙ sym (number_in-some 16 4 6 word h.0.0 long short)
+scalar_read word None h long short = by_digits (is_digits 16 word) refl where
+  by_digits : (t : Bool) → is_digits 16 word ≡ t → None ≡ scalar_in word
+  by_digits false e = sym (number_in-none 16 4 6 word e)
+  by_digits true e =
+      let all = AllDigits-from 16 word e in
+      let small = digits_value-lt 16 word all in
+      let most = pow-le-pow_right {n = 16} (lit< tt) {i = length word} {j = 6} short in
+      absurd (h (all, omega (arith, small, most)))
+
+pub decimal_read : (most : ℕ) (word : List ℕ) (r : Option ℕ) → most ≤ 9 → SomeIff r (AllDigits 10 word × (digits_value 10 word < 2 ^ 32)) (digits_value 10 word)
+    → 1 ≤ length word → length word ≤ most → r ≡ number_in 10 1 most word
+decimal_read most word (Some x) few h long short = ap Some h.1 ∙ sym (number_in-some 10 1 most word h.0.0 long short)
+decimal_read most word None few h long short = by_digits (is_digits 10 word) refl where
+  by_digits : (t : Bool) → is_digits 10 word ≡ t → None ≡ number_in 10 1 most word
+  by_digits false e = sym (number_in-none 10 1 most word e)
+  by_digits true e =
+      let all = AllDigits-from 10 word e in
+      let small = digits_value-lt 10 word all in
+      let largest = pow-le-pow_right {n = 10} (lit< tt) {i = length word} {j = 9} (omega (arith, short, few)) in
+      absurd (h (all, omega (arith, small, largest)))
+
+pub decimal_wrong : (most : ℕ) (word : List ℕ) → (length word < 1) ⊎ (most < length word) → number_in 10 1 most word ≡ None
+decimal_wrong most word wrong = number_in-wrong 10 1 most word wrong
+
+pub scalar_wrong : (word : List ℕ) → (length word < 4) ⊎ (6 < length word) → scalar_in word ≡ None
+scalar_wrong word wrong = number_in-wrong 16 4 6 word wrong
+
+-- ---- sites
+
+pub site_none : (n : Option ℕ) → None ≡ up_to 4_294_967_295 n → None ≡ up_to 65_535 n
+site_none None h = refl
+site_none (Some n) h = elim (cases_lt 4_294_967_295 n) [
+  | inl lt ↦ sym (up_to-above 65_535 n (omega (arith, lt)))
+  | inr le ↦ let some = up_to-some 4_294_967_295 n le in absurd cc
+]
+
+pub site_some : (n : Option ℕ) (x : ℕ) → Some x ≡ up_to 4_294_967_295 n → up_to 65_535 n ≡ up_to 65_535 (Some x)
+site_some None x h = absurd cc
+site_some (Some n) x h = elim (cases_lt 4_294_967_295 n) [
+  | inl lt ↦ let none = up_to-above 4_294_967_295 n lt in absurd cc
+  | inr le ↦ let some = up_to-some 4_294_967_295 n le in let same : n ≡ x = cc in ap (λ (m : ℕ). up_to 65_535 (Some m)) same
+]
+
+-- ---- an answer that was given
+
+pub none_given : (r : Option ℕ) (P : Type 0) (v : ℕ) → r ≡ None → ¬ P → SomeIff r P v
+none_given r P v e h = subst (λ (o : Option ℕ). SomeIff o P v) (sym e) h

@@ -1,0 +1,6 @@
+use Rattle.std.proofs.Common.{◌≡◌, take, string_bytes}
+use Rattle.op_listing.specs.Listing.{listing_of}
+use Rattle.op_listing.proofs.listing.write_listing.Given as goal
+
+abbrev pub invariant-loop-op : goal.invariant-loop-op
+invariant-loop-op l = string_bytes l.text ≡ listing_of (take l.op-index l.ops)

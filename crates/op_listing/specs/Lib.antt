@@ -1,0 +1,9 @@
+pub mod Words
+pub mod Number
+pub mod FirstFault
+pub mod Listing
+pub mod Line
+pub mod Listed
+pub mod Field
+pub mod Code
+pub mod Outcome

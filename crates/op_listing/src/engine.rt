@@ -1,0 +1,4 @@
+//! The engines: each reads one file whole, and writes what it was converted into.
+
+pub mod dump;
+pub mod pack;

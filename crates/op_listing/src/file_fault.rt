@@ -1,0 +1,65 @@
+//! Why an operation file was not converted.
+
+ghost use Rattle.std.specs.Prelude.{◌≡◌};
+ghost use Rattle.op_listing.specs.declared.file_fault.FileFault.TheVariants.{Device as device, Memory as memory};
+ghost use Rattle.op_listing.specs.Code.{file_code, file_fault_of};
+
+use bg_types::{Device, Memory};
+use op_codec::{Cause, CodecFault};
+use thiserror::Error;
+
+/// Why an operation file was not converted. Each prints as the line on standard error says it,
+/// without the program's name; the file has number 1.
+#[derive(Clone, Copy, Debug, PartialEq, Eq, Hash, Error)]
+pub enum FileFault {
+    /// The file is faulty: this is the first cause that it shows. Frame 0 is the header, frames
+    /// count from 1.
+    #[error("file 1 frame {frame}: {cause}")]
+    Malformed { frame: usize, cause: Cause },
+    /// A write failed.
+    #[error("device")]
+    Device,
+    /// A growth was refused.
+    #[error("memory")]
+    Memory,
+}
+
+impl FileFault {
+    /// The number of this fault among those of a run: 2, 7 or 9.
+    pub fn code(self) -> u8
+        ensures { result ≡ file_code self }
+    {
+        match self {
+            FileFault::Malformed { .. } => 2,
+            FileFault::Device => 7,
+            FileFault::Memory => 9,
+        }
+    }
+}
+
+impl From<CodecFault> for FileFault {
+    ghost from_gives = { λ error e. e ≡ file_fault_of error };
+
+    fn from(error: CodecFault) -> FileFault {
+        match error {
+            CodecFault::Malformed { frame, cause } => FileFault::Malformed { frame, cause },
+            CodecFault::Memory => FileFault::Memory,
+        }
+    }
+}
+
+impl From<Memory> for FileFault {
+    ghost from_gives = { λ _ e. e ≡ memory };
+
+    fn from(_error: Memory) -> FileFault {
+        FileFault::Memory
+    }
+}
+
+impl From<Device> for FileFault {
+    ghost from_gives = { λ _ e. e ≡ device };
+
+    fn from(_error: Device) -> FileFault {
+        FileFault::Device
+    }
+}

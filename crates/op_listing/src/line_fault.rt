@@ -1,0 +1,38 @@
+//! What can be wrong with a line of a listing.
+
+ghost use Rattle.std.specs.Prelude.{◌≡◌};
+ghost use Rattle.op_listing.specs.Code.{line_code};
+
+use thiserror::Error;
+
+/// What is wrong with a line of a listing. Each prints its bare name.
+#[derive(Clone, Copy, Debug, PartialEq, Eq, Hash, Error)]
+pub enum LineFault {
+    /// Another shape than that of an operation, a counter above 4,294,967,295 or a site above
+    /// 65,535.
+    #[error("BadLine")]
+    BadLine,
+    /// A counter or a site is 0, also one of a parent.
+    #[error("ZeroField")]
+    ZeroField,
+    /// The parent's counter isn't below the insertion's.
+    #[error("ParentNotBefore")]
+    ParentNotBefore,
+    /// The character is above 10FFFF or a surrogate.
+    #[error("NotAScalar")]
+    NotAScalar,
+}
+
+impl LineFault {
+    /// The number of this fault, 1 to 4.
+    pub fn code(self) -> u8
+        ensures { result ≡ line_code self }
+    {
+        match self {
+            LineFault::BadLine => 1,
+            LineFault::ZeroField => 2,
+            LineFault::ParentNotBefore => 3,
+            LineFault::NotAScalar => 4,
+        }
+    }
+}

@@ -1,0 +1,56 @@
+//! Whole listings, written and read.
+
+ghost use Rattle.std.specs.Prelude.{◌≡◌, string_bytes, IfOk, IfErr};
+ghost use Rattle.op_listing.specs.Listing.{listing_of};
+ghost use Rattle.op_listing.specs.Listed.{Lists};
+ghost use Rattle.op_listing.specs.Outcome.{TellsLine};
+
+use crate::line::{push_line, read_line};
+use crate::lines::split_line;
+use crate::listing_fault::ListingFault;
+use bg_types::{Memory, Op};
+use std::alloc::Global;
+
+/// How many bytes the longest line has: `i 4294967295.65535 4294967294.65535 10FFFF` and its LF.
+const LONGEST_LINE: usize = 43;
+
+/// How many bytes the shortest line of an insertion has: `i 1.1 root 0061` and its LF.
+const INSERTION_LINE: usize = 16;
+
+/// The listing of the operations. Memory is asked for once.
+pub fn write_listing(alloc: Global, ops: &[Op]) -> Result<String, Memory>
+    ensures { IfOk result (λ text. string_bytes text ≡ listing_of ops.now) }
+{
+    let mut text = String::with_capacity(alloc, ops.len().saturating_mul(LONGEST_LINE))?;
+    for op in ops {
+        push_line(op, &mut text)?;
+    }
+    Ok(text)
+}
+
+/// The operations of a listing, or its first fault.
+pub fn read_listing(alloc: Global, listing: &[u8]) -> Result<Vec<Op>, ListingFault>
+    ensures ok { IfOk result (λ ops. Lists listing.now ops.items) }
+    ensures fault { IfErr result (TellsLine listing.now) }
+{
+    // One growth where all are insertions, and at most two more where many are deletions.
+    let mut ops = Vec::with_capacity(alloc, listing.len() / INSERTION_LINE)?;
+    let mut number = 0;
+    let mut rest = listing;
+    while !rest.is_empty() {
+        let (line, after) = split_line(rest);
+        number += 1;
+        match read_line(line) {
+            Ok(Some(op)) => ops.push(op)?,
+            Ok(None) => {}
+            Err(fault) => {
+                return Err(ListingFault::Malformed {
+                    line: number,
+                    fault,
+                });
+            }
+        }
+        rest = after;
+    }
+    Ok(ops)
+}
