@@ -23,3 +23,5 @@ pub mod Rows
 pub mod OnceEach
 pub mod Told
 pub mod InTurn
+pub mod DeskLists
+pub mod Refusals

@@ -1,17 +1,17 @@
 -- A merge takes all operations of the other desk.
-use Rattle.std.proofs.Common.{◌≡◌, ◌≤◌, ◌++◌, ℕ, zero, suc, true, List, [], ◌∷◌, length, Option, None, Some, sym, ap, subst, ◌∙◌, refl, true≢false, is_some, arith, inl, inr}
+use Rattle.std.proofs.Common.{◌≡◌, ◌<◌, ◌≤◌, ◌++◌, ℕ, zero, suc, true, List, [], ◌∷◌, length, Option, None, Some, sym, ap, subst, ◌∙◌, refl, true≢false, is_some, arith, inl, inr}
 use Rattle.std.specs.Prelude.{slice_get}
 use Rattle.std.specs.FinMap as map
 use Rattle.bg_types.specs.Identifier.{Identifier}
 use Rattle.bg_types.specs.OperationSet.{Node, OperationSet, Agree, Holds, MayJoin, ReusesIdentifier, union, with_operation, size}
 use Rattle.bg_types.specs.declared.op.OpView.{OpView}
 use Rattle.bg_types.specs.declared.op.OpView.TheVariants.{Insert, Erase}
-use Rattle.bg_types.proofs.OperationSets.{Holds-union, Holds-with_operation, same_operations, some_is}
+use Rattle.bg_types.proofs.OperationSets.{Holds-union, Holds-with_operation, same_operations, size-with_operation, some_is}
 use Rattle.desk_replica.specs.declared.answer.TakeFault.{TakeFault}
 use Rattle.desk_replica.specs.declared.answer.TakeFault.TheVariants.{IdentifierReused, Full, Memory}
 use Rattle.pending_ops.specs.Waiting.{ListsOnce}
 use Rattle.desk_replica.specs.Reply.{IsRefused}
-use Rattle.desk_replica.specs.Merging.{Disagree, IsBetween, IsMergeRefused, IsStopped, with_operations}
+use Rattle.desk_replica.specs.Merging.{Disagree, IsBetween, IsMergeRefusal, IsMergeRefused, IsStopped, with_operations}
 use Rattle.desk_replica.proofs.Sizes.{len_map-map, len_set-set}
 use Rattle.desk_replica.proofs.Lists.{slice_get-left, slice_get-right}
 
@@ -48,22 +48,6 @@ between_more s t u v op agree between h e =
       (subst (λ (y : OperationSet). Holds y op) (sym e) ((joined op).1 (inl refl)), keeps),
     )
 
-pub merge_refused : (s t u : OperationSet) (op : OpView) (fault : TakeFault) → Agree s t → IsBetween s t u → Holds t op → IsRefused u op fault → IsMergeRefused s t u fault
-merge_refused s t u op IdentifierReused agree between h r = absurd (reused op h r)
-  where
-    reused : (op : OpView) → Holds t op → ReusesIdentifier u op → ⊥
-    reused (Insert id parent ch) h r = r.2 (may_join s t u (Insert id parent ch) agree between h r.0 r.1)
-    reused (Erase target) h r = r
-merge_refused s t u op Full agree between h r = (agree, between, r.2, (op, (h, r.1)))
-merge_refused s t u op Memory agree between h r = (agree, between, r.0.room, (op, (h, r.0.is_new)))
-
-pub united : (s t u : OperationSet) → Agree s t → IsBetween s t u → ((op : OpView) → Holds t op → Holds u op) → u ≡ union s t
-united s t u agree between all = same_operations u (union s t) (λ op.
-    let both = Holds-union s t agree op in (
-      (λ h. both.1 (between.of_both op h)),
-      (λ h. elim (both.0 h) [ inl a ↦ between.keeps op a | inr b ↦ all op b ]),
-    ))
-
 node_there : (s : OperationSet) (q : Identifier) → map.contains_key s.ins q ≡ true → (n : Node) × (map.get s.ins q ≡ Some n)
 node_there s q h = by (map.get s.ins q) refl h
   where
@@ -77,13 +61,59 @@ size_more s u keeps =
     let b = len_set-set s.del u.del (λ q e. keeps (Erase q) e) in
     omega (arith, a, b)
 
+-- where an operation of t is left out, the union has more
+union_larger : (s t u : OperationSet) (op : OpView) → Agree s t → IsBetween s t u → Holds t op → ¬ (Holds u op) → size u < size (union s t)
+union_larger s t u op agree between h missing =
+    let more = between_more s t u (with_operation u op) op agree between h refl in
+    let grown = size-with_operation u op (may_join s t u op agree between h) missing in
+    let within = size_more (with_operation u op) (union s t) (λ x k. (Holds-union s t agree x).1 (more.0.of_both x k)) in
+    omega (arith, grown, within)
+
+pub merge_refused : (s t u : OperationSet) (op : OpView) (fault : TakeFault) → Agree s t → IsBetween s t u → Holds t op → IsRefused u op fault → IsMergeRefused s t u fault
+merge_refused s t u op IdentifierReused agree between h r = absurd (reused op h r)
+  where
+    reused : (op : OpView) → Holds t op → ReusesIdentifier u op → ⊥
+    reused (Insert id parent ch) h r = r.2 (may_join s t u (Insert id parent ch) agree between h r.0 r.1)
+    reused (Erase target) h r = r
+merge_refused s t u op Full agree between h r =
+    let larger = union_larger s t u op agree between h r.1 in
+    let full = r.2 in
+    ((agree, omega (arith, larger, full)), between, r.2)
+merge_refused s t u op Memory agree between h r = (agree, between, r.0.room, (op, (h, r.0.is_new)))
+
+pub united : (s t u : OperationSet) → Agree s t → IsBetween s t u → ((op : OpView) → Holds t op → Holds u op) → u ≡ union s t
+united s t u agree between all = same_operations u (union s t) (λ op.
+    let both = Holds-union s t agree op in (
+      (λ h. both.1 (between.of_both op h)),
+      (λ h. elim (both.0 h) [ inl a ↦ between.keeps op a | inr b ↦ all op b ]),
+    ))
+
 -- where the other holds nothing new, only a reuse is refused
 pub nothing_refused : (s t u : OperationSet) (fault : TakeFault) → ((op : OpView) → Holds t op → Holds s op) → IsMergeRefused s t u fault → ⊥
 nothing_refused s t u IdentifierReused sub r =
     let d = r.0 in
     d.differ (some_is d.one d.other (sym d.in_s ∙ sub (Insert d.id d.other.parent d.other.ch) d.in_t))
-nothing_refused s t u Full sub r = r.3.1.1 (r.1.keeps r.3.0 (sub r.3.0 r.3.1.0))
+nothing_refused s t u Full sub r =
+    let larger = r.0.1 in
+    let full = r.2 in
+    let within = size_more (union s t) u (λ op h. r.1.keeps op (elim ((Holds-union s t r.0.0 op).0 h) [ inl in_s ↦ in_s | inr in_t ↦ sub op in_t ])) in
+    absurd (omega (arith, larger, full, within))
 nothing_refused s t u Memory sub r = r.3.1.1 (r.1.keeps r.3.0 (sub r.3.0 r.3.1.0))
+
+pub disagree_apart : (s t : OperationSet) → Disagree s t → Agree s t → ⊥
+disagree_apart s t d agree = d.differ (agree d.id d.one d.other d.in_s d.in_t)
+
+-- a merge that made a union within the limit is not refused
+pub merge_accepted : (s t : OperationSet) → Agree s t → size (union s t) ≤ 1_000_000 → (fault : TakeFault) → ¬ (IsMergeRefusal s t fault)
+merge_accepted s t agree limited IdentifierReused h = disagree_apart s t h agree
+merge_accepted s t agree limited Full h = let above = h.1 in omega (arith, above, limited)
+merge_accepted s t agree limited Memory h = h
+
+-- a merge of sets that agree is not refused for a reuse
+pub refused_otherwise : (s t u : OperationSet) (fault : TakeFault) (A : Type 0) → Agree s t → IsMergeRefused s t u fault → fault ≡ IdentifierReused → A
+refused_otherwise s t u IdentifierReused A agree r is = absurd (disagree_apart s t r.0 agree)
+refused_otherwise s t u Full A agree r is = cc
+refused_otherwise s t u Memory A agree r is = cc
 
 -- what operations of t make of a set between S and S with t
 pub record Joins (s t u v : OperationSet) (ops : List OpView) : Type 0 where

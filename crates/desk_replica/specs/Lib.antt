@@ -6,3 +6,6 @@ pub mod Standing
 pub mod Typing
 pub mod Merging
 pub mod Told
+pub mod SetOf
+pub mod Refusal
+pub mod DeskSets

@@ -1,11 +1,11 @@
 -- What a merge takes, and what one that ends early leaves.
-use Rattle.std.specs.Prelude.{◌≡◌, ◌≢◌, ◌⊎◌, ◌<◌, ◌++◌, Some, List, [], ◌∷◌, Contains}
+use Rattle.std.specs.Prelude.{◌≡◌, ◌≢◌, ◌⊎◌, ◌<◌, ◌+◌, ◌++◌, ℕ, Some, List, [], ◌∷◌, Contains, Result, OnOk, IfOk, IfErr}
 use Rattle.std.specs.FinMap as map
 use Rattle.bg_types.specs.Identifier.{Identifier}
-use Rattle.bg_types.specs.OperationSet.{Node, OperationSet, Holds, Agree, ReusesIdentifier, with_operation, size}
+use Rattle.bg_types.specs.OperationSet.{Node, OperationSet, Holds, Agree, ReusesIdentifier, with_operation, union, size}
 use Rattle.bg_types.specs.declared.op.OpView.{OpView}
 use Rattle.rga_tree.specs.declared.element.Element.{Element}
-use Rattle.desk_replica.specs.Desk.{insertion_of}
+use Rattle.desk_replica.specs.Desk.{Desk, insertion_of}
 use Rattle.desk_replica.specs.Reply.{IsRefused}
 use Rattle.desk_replica.specs.declared.answer.TakeFault.{TakeFault}
 use Rattle.desk_replica.specs.declared.answer.TakeFault.TheVariants.{IdentifierReused, Full, Memory}
@@ -42,8 +42,23 @@ pub record IsBetween (s t u : OperationSet) : Type 0 where
   pub keeps : (op : OpView) → Holds s op → Holds u op
   pub of_both : (op : OpView) → Holds u op → Holds s op ⊎ Holds t op
 
--- s met t, ended with the fault, and is u now
+-- S refuses to meet t: an identifier is kept by both, with another parent or character; or the union has more than
+-- 1,000,000 operations. Want of memory is of no merge
+abbrev pub IsMergeRefusal : OperationSet → OperationSet → TakeFault → Type 0
+IsMergeRefusal s t IdentifierReused = Disagree s t
+IsMergeRefusal s t Full = Agree s t × (1_000_000 < size (union s t))
+IsMergeRefusal s t Memory = ⊥
+
+-- s met t, ended with the fault, and is u now. Want of memory leaves out an operation of t
 abbrev pub IsMergeRefused : OperationSet → OperationSet → OperationSet → TakeFault → Type 0
-IsMergeRefused s t u IdentifierReused = Disagree s t × (u ≡ s)
-IsMergeRefused s t u Full = Agree s t × IsBetween s t u × (size u ≡ 1_000_000) × ((op : OpView) × (Holds t op × (¬ (Holds u op))))
+IsMergeRefused s t u IdentifierReused = IsMergeRefusal s t IdentifierReused × (u ≡ s)
+IsMergeRefused s t u Full = IsMergeRefusal s t Full × IsBetween s t u × (size u ≡ 1_000_000)
 IsMergeRefused s t u Memory = Agree s t × IsBetween s t u × (size u < 1_000_000) × ((op : OpView) × (Holds t op × (¬ (Holds u op))))
+
+-- a desk met another one, answered, and is after now
+pub record IsMerge (desk other after : Desk) (answer : Result ℕ TakeFault) : Type 0 where
+  pub ok : OnOk answer (after.set ≡ union desk.set other.set)
+  pub count : IfOk answer (λ n. size after.set ≡ size desk.set + n)
+  pub accepted : OnOk answer ((fault : TakeFault) → ¬ (IsMergeRefusal desk.set other.set fault))
+  pub fault : IfErr answer (IsMergeRefused desk.set other.set after.set)
+  pub site : after.site ≡ desk.site

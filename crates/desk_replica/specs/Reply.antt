@@ -38,8 +38,15 @@ IsTaken s op (Placed n) = IsAdmitted s op × IsPlacing s op × (attached_count (
 IsTaken s op Hidden = IsAdmitted s op × IsHiding s op
 IsTaken s op Held = IsAdmitted s op × (¬ (IsPlacing s op)) × (¬ (IsHiding s op))
 
--- the faults; want of memory meets only what is to be placed or held
+-- S refuses the operation: it inserts a kept identifier with another parent or character, or is new where 1,000,000 are
+-- kept. Want of memory is of no operation
+abbrev pub IsRefusal : OperationSet → OpView → TakeFault → Type 0
+IsRefusal s op IdentifierReused = ReusesIdentifier s op
+IsRefusal s op Full = MayJoin s op × (¬ (Holds s op)) × (size s ≡ 1_000_000)
+IsRefusal s op Memory = ⊥
+
+-- the faults: those refusals, and want of memory, which meets only what is to be placed or held
 abbrev pub IsRefused : OperationSet → OpView → TakeFault → Type 0
-IsRefused s op IdentifierReused = ReusesIdentifier s op
-IsRefused s op Full = MayJoin s op × (¬ (Holds s op)) × (size s ≡ 1_000_000)
+IsRefused s op IdentifierReused = IsRefusal s op IdentifierReused
+IsRefused s op Full = IsRefusal s op Full
 IsRefused s op Memory = IsAdmitted s op × (¬ (IsHiding s op))

@@ -6,9 +6,11 @@ pub mod laws;
 mod placing;
 mod reading;
 mod replica;
+mod taking;
 
 pub use answer::{TakeFault, Taken, TypeFault};
 pub use replica::Replica;
+pub use taking::{merge_at, take_at};
 
 #[cfg(test)]
 mod tests;

@@ -7,7 +7,8 @@ ghost use Rattle.rga_tree.specs.Attached.{IsAttached};
 ghost use Rattle.rga_tree.specs.TextOf.{text, visible, visible_ids};
 ghost use Rattle.pending_ops.specs.Waiting.{ListsOnce};
 ghost use Rattle.desk_replica.specs.Desk.{fresh};
-ghost use Rattle.desk_replica.specs.Reply.{IsTaken, IsRefused};
+ghost use Rattle.desk_replica.specs.Reply.{IsTaken, IsRefused, IsRefusal};
+ghost use Rattle.desk_replica.specs.declared.answer.TakeFault.{TakeFault as Fault};
 ghost use Rattle.desk_replica.specs.Told.{told, visible_before};
 ghost use Rattle.desk_replica.specs.Typing.{typed, insertion, parent_at, IsTypedAt, IsTypeRefused, IsErasedAt};
 
@@ -75,7 +76,9 @@ impl<S: Sequence> Replica<S> {
     /// Takes an operation, and answers what became of it. A fault changes nothing.
     pub fn take(&mut self, op: &Op) -> Result<Taken, TakeFault>
         ensures answer { MatchResult result (IsTaken self.old.set op.now) (IsRefused self.old.set op.now) }
+        ensures accepted { OnOk result ((fault : Fault) → ¬ (IsRefusal self.old.set op.now fault)) }
         ensures ok { OnOk result (self.new.set ≡ with_operation self.old.set op.now) }
+        ensures limited { size self.new.set ≤ 1_000_000 }
         ensures err { OnErr result (self.new ≡ self.old) }
         ensures site { self.new.site ≡ self.old.site }
     {
@@ -129,9 +132,18 @@ impl<S: Sequence> Replica<S> {
         ensures well_formed { IsWellFormed result }
         ensures unchanged { self.new ≡ self.old }
     {
+        let counter = self.next_counter();
         let parent = self.parent_for(place);
-        let id = Id::new(self.greatest + 1, self.site).unwrap();
+        let id = Id::new(counter, self.site).unwrap();
         Op::insert(id, parent, ch).unwrap()
+    }
+
+    /// The counter of the next insertion.
+    fn next_counter(&self) -> u32
+        requires { next self.now.set < 2 ^ 32 }
+        ensures { result ≡ next self.now.set }
+    {
+        self.greatest + 1
     }
 
     /// What a character that is typed at a place goes behind.

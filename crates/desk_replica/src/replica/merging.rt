@@ -7,10 +7,11 @@ ghost use Rattle.bg_types.specs.WellFormed.{MayFollow};
 ghost use Rattle.bg_types.specs.declared.op.OpView.{OpView};
 ghost use Rattle.rga_tree.specs.Elements.{elements};
 ghost use Rattle.pending_ops.specs.Waiting.{ListsOnce};
+ghost use Rattle.desk_replica.specs.declared.answer.TakeFault.{TakeFault as Fault};
 ghost use Rattle.desk_replica.specs.Desk.{insertion_of as made_by};
 ghost use Rattle.desk_replica.specs.Told.{told, insertions_in, deletions_in};
 ghost use Rattle.desk_replica.specs.Placement.{waiting_in};
-ghost use Rattle.desk_replica.specs.Merging.{Disagree, IsMergeRefused, IsStopped, ReusesIn, with_operations};
+ghost use Rattle.desk_replica.specs.Merging.{Disagree, IsMergeRefusal, IsMergeRefused, IsStopped, ReusesIn, with_operations};
 
 use super::Replica;
 use crate::answer::TakeFault;
@@ -26,9 +27,12 @@ impl<S: Sequence> Replica<S> {
     pub fn merge(&mut self, other: &Replica<S>) -> Result<u32, TakeFault>
         ensures ok { OnOk result (self.new.set ≡ union self.old.set other.now.set) }
         ensures agree { OnOk result (Agree self.old.set other.now.set) }
+        ensures accepted { OnOk result ((fault : Fault) → ¬ (IsMergeRefusal self.old.set other.now.set fault)) }
         ensures count { IfOk result (λ n. size self.new.set ≡ size self.old.set + n) }
         ensures limited { OnOk result (size self.new.set ≤ 1_000_000) }
         ensures fault { IfErr result (IsMergeRefused self.old.set other.now.set self.new.set) }
+        // What waits keeps its order too.
+        ensures reused { IfErr result (λ fault. fault ≡ TakeFault.IdentifierReused → self.new ≡ self.old) }
         ensures nothing_new { ((op : OpView) → Holds other.now.set op → Holds self.old.set op) → IsOk result }
         ensures site { self.new.site ≡ self.old.site }
     {

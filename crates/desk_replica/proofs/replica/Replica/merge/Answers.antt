@@ -1,10 +1,10 @@
-use Rattle.std.proofs.Common.{ap, ◌∙◌, refl, arith}
+use Rattle.std.proofs.Common.{◌≡◌, ap, ◌∙◌, refl, arith}
 use Rattle.std.proofs.lemmas.Result.{err_from_is_err_and}
 use Rattle.bg_types.specs.OperationSet.{size}
 use Rattle.desk_replica.specs.declared.answer.TakeFault.TheVariants.{IdentifierReused}
 use Rattle.desk_replica.specs.Desk.{Desk}
 use Rattle.desk_replica.specs.Told.{told}
-use Rattle.desk_replica.proofs.Merges.{nothing_refused, size_more, stopped_refused, taken_united}
+use Rattle.desk_replica.proofs.Merges.{merge_accepted, nothing_refused, refused_otherwise, size_more, stopped_refused, taken_united}
 use Rattle.desk_replica.proofs.replica.Replica.merge.Goals as goal
 
 pub returns-then-disagrees-clause-nothing_new : goal.returns-then-disagrees-clause-nothing_new
@@ -48,3 +48,21 @@ returns-clause-count g c =
     let a = c.self.invariant.counted.kept_is ∙ ap (λ (d : Desk). size d.set) c.self.view_is in
     let b = c.self-2.invariant.counted.kept_is ∙ ap (λ (d : Desk). size d.set) c.self-2.view_is in
     omega (arith, le, a, b)
+
+pub returns-clause-accepted : goal.returns-clause-accepted
+returns-clause-accepted g c =
+    let s = c.args.self.now.set in
+    let t = c.args.other.now.set in
+    let more = taken_united s t c.take_told.new.self.set (told c.args.other.now) c.if-disagrees.ensures.no c.in_ok-take_told.ensures.all c.in_ok-take_told.ensures.ok in
+    let limited = c.self-2.invariant.counted.limited in
+    let kept = c.self-2.invariant.counted.kept_is ∙ ap (λ (d : Desk). size d.set) c.self-2.view_is ∙ ap size more.0 in
+    merge_accepted s t c.if-disagrees.ensures.no (omega (arith, limited, kept))
+
+pub returns-in_err-take_told-clause-reused : goal.returns-in_err-take_told-clause-reused
+returns-in_err-take_told-clause-reused g c =
+    let s = c.args.self.now.set in
+    let other = c.args.other.now in
+    let u = c.take_told.new.self.set in
+    let fault = c.in_err-take_told.field-0.0 in
+    let p = err_from_is_err_and c.from_residual.result c.from_residual.ensures.1 in
+    rw (p.1, p.2) (refused_otherwise s other.set u fault (c.take_told.new.self ≡ c.args.self.now) c.if-disagrees.ensures.no (stopped_refused s other.set u (told other) fault c.if-disagrees.ensures.no c.in_err-take_told.ensures.all c.in_err-take_told.ensures.fault))

@@ -1,7 +1,7 @@
-use Rattle.std.proofs.Common.{◌≡◌, ◌<◌, ◌+◌, sym, subst, arith}
+use Rattle.std.proofs.Common.{◌≡◌, ◌<◌, ◌+◌, sym, ap, subst, arith}
 use Rattle.std.specs.Prelude.{max}
-use Rattle.bg_types.specs.OperationSet.{Holds}
-use Rattle.bg_types.proofs.OperationSets.{with_operation-known}
+use Rattle.bg_types.specs.OperationSet.{Holds, size}
+use Rattle.bg_types.proofs.OperationSets.{with_operation-known, size-with_operation}
 use Rattle.pending_ops.specs.Releasing.{subject}
 use Rattle.desk_replica.specs.Desk.{Desk}
 use Rattle.desk_replica.specs.Placement.{IsDesk, whole}
@@ -26,3 +26,12 @@ invariant_of-self g c =
     let m : c.max-self-inside.result ≡ max c.self.inside.greatest (subject op).counter = let ct = c.counter_of.ensures.counter in let mx = c.max-self-inside.ensures in omega (arith, ct, mx) in
     subst (λ n. IsDesk (g.S.Sequence.content c.admit.new.seq) c.admit.new.held c.self.inside.site (c.self.inside.kept + 1) n) (sym m)
     (IsDesk-more t (g.S.Sequence.content c.admit.new.seq) w c.admit.new.held c.self.inside.site c.self.inside.kept c.self.inside.greatest op c.self.invariant a c.counter_of.ensures.well_formed room c.in-Ok.ensures.settled c.in-Ok.ensures.ok)
+
+pub returns-in-Ok-clause-limited : goal.returns-in-Ok-clause-limited
+returns-in-Ok-clause-limited g c =
+    let before = whole (g.S.Sequence.content c.self.inside.seq) c.self.inside.held in
+    let grown = size-with_operation before c.args.op.now c.in-New.ensures.0 c.in-New.ensures.1 in
+    let new = ap size c.in-Ok.ensures.ok in
+    let kept = c.self.invariant.counted.kept_is in
+    let room = c.if-self-ge-LIMIT.false in
+    omega (arith, grown, new, kept, room)

@@ -1,0 +1,5 @@
+use Rattle.desk_replica.proofs.Refusals.{IsSetOf-unique}
+use Rattle.desk_replica.proofs.laws.one_set.Goals as goal
+
+pub returns : goal.returns
+returns c = IsSetOf-unique

@@ -1,0 +1,19 @@
+use Rattle.std.proofs.Common.{sym, arith}
+use Rattle.desk_replica.proofs.DeskLists.{met_behind, met_before}
+use Rattle.desk_replica.proofs.taking.meet_another.Goals as goal
+
+pub returns-then-desk-from : goal.returns-then-desk-from
+returns-then-desk-from g c =
+    let long = c.split_at_mut-front.ensures.front_len in
+    let rest = c.split_at_mut-front.ensures.back_len in
+    met_behind c.split_at_mut-front.result.0.now c.split_at_mut-front.result.1.now c.args.desks.now (sym c.split_at_mut-front.ensures.value) c.meet.new.desk c.meet.result (omega arith)
+    c.args.desk c.args.from c.index-front-desk.result c.index-back-0.result long (omega arith) c.meet.ensures
+
+pub returns : goal.returns
+returns g c =
+    let long = c.split_at_mut-front-2.ensures.front_len in
+    let rest = c.split_at_mut-front-2.ensures.back_len in
+    let apart = c.requires.apart in
+    let above = c.if-desk-from.false in
+    met_before c.split_at_mut-front-2.result.0.now c.split_at_mut-front-2.result.1.now c.args.desks.now (sym c.split_at_mut-front-2.ensures.value) c.meet-2.new.desk c.meet-2.result (omega arith)
+    c.args.desk c.args.from c.index-back-0-2.result c.index-front-from.result long (omega arith) c.meet-2.ensures

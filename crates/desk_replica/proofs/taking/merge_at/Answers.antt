@@ -1,0 +1,20 @@
+use Rattle.desk_replica.specs.DeskSets.{sets_of}
+use Rattle.desk_replica.proofs.DeskLists.{merged_sets, merged_accepted, merged_left, merged_sites, left_refused}
+use Rattle.desk_replica.proofs.taking.merge_at.Goals as goal
+
+pub returns-clause-ok : goal.returns-clause-ok
+returns-clause-ok g c = merged_sets c.args.desks.now c.meet_another.new.desks c.args.desk c.args.from c.requires.desk c.requires.from c.meet_another.result c.meet_another.ensures
+
+pub returns-clause-accepted : goal.returns-clause-accepted
+returns-clause-accepted g c = merged_accepted c.args.desks.now c.meet_another.new.desks c.args.desk c.args.from c.requires.desk c.requires.from c.meet_another.result c.meet_another.ensures
+
+pub returns-clause-left : goal.returns-clause-left
+returns-clause-left g c = merged_left c.args.desks.now c.meet_another.new.desks c.args.desk c.args.from c.requires.desk c.requires.from c.meet_another.result c.meet_another.ensures
+
+pub returns-clause-fault : goal.returns-clause-fault
+returns-clause-fault g c =
+    left_refused (sets_of c.args.desks.now) (sets_of c.meet_another.new.desks) c.args.desk c.args.from c.meet_another.result
+    (merged_left c.args.desks.now c.meet_another.new.desks c.args.desk c.args.from c.requires.desk c.requires.from c.meet_another.result c.meet_another.ensures)
+
+pub returns-clause-sites : goal.returns-clause-sites
+returns-clause-sites g c = merged_sites c.args.desks.now c.meet_another.new.desks c.args.desk c.args.from c.requires.desk c.requires.from c.meet_another.result c.meet_another.ensures

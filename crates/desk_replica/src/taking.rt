@@ -1,0 +1,87 @@
+//! Desks of a list, which take operations and what the others hold. They count from 0.
+
+ghost use Rattle.std.specs.Prelude.{◌≡◌, ◌≢◌, ◌⊎◌, ◌<◌, OnOk, OnErr, IfErr, length};
+ghost use Rattle.desk_replica.specs.declared.answer.TakeFault.{TakeFault as Fault};
+ghost use Rattle.desk_replica.specs.Merging.{IsMerge};
+ghost use Rattle.desk_replica.specs.DeskSets.{takes, merges, sets_of, sites_of, sets_after_step, IsStepRefused, IsMergeAt, LeavesMerged};
+
+use crate::answer::{TakeFault, Taken};
+use crate::laws;
+use crate::replica::Replica;
+use bg_types::Op;
+use rga_tree::Sequence;
+
+/// Lets a desk take an operation, and answers what became of it. A fault changes nothing.
+pub fn take_at<S: Sequence>(
+    desks: &mut [Replica<S>],
+    desk: usize,
+    op: &Op,
+) -> Result<Taken, TakeFault>
+    requires { desk < length desks.old }
+    ensures ok { OnOk result (sets_of desks.new ≡ sets_after_step (sets_of desks.old) (takes desk op.now)) }
+    ensures accepted { OnOk result ((fault : Fault) → ¬ (IsStepRefused (sets_of desks.old) (takes desk op.now) fault)) }
+    ensures fault { IfErr result (λ fault. (fault ≡ TakeFault.Memory) ⊎ IsStepRefused (sets_of desks.old) (takes desk op.now) fault) }
+    ensures err { OnErr result (desks.new ≡ desks.old) }
+    ensures sites { sites_of desks.new ≡ sites_of desks.old }
+{
+    desks[desk].take(op)
+}
+
+/// Lets a desk take all that another one holds, and answers how many operations were new. A desk
+/// that meets itself stays as it is. After `IdentifierReused` nothing has changed; after `Full` or
+/// `Memory` some of them are taken.
+pub fn merge_at<S: Sequence>(
+    desks: &mut [Replica<S>],
+    desk: usize,
+    from: usize,
+) -> Result<u32, TakeFault>
+    requires desk { desk < length desks.old }
+    requires from { from < length desks.old }
+    ensures ok { OnOk result (sets_of desks.new ≡ sets_after_step (sets_of desks.old) (merges desk from)) }
+    ensures accepted { OnOk result ((fault : Fault) → ¬ (IsStepRefused (sets_of desks.old) (merges desk from) fault)) }
+    ensures fault { IfErr result (λ fault. (fault ≡ TakeFault.Memory) ⊎ IsStepRefused (sets_of desks.old) (merges desk from) fault) }
+    ensures left { IfErr result (LeavesMerged (sets_of desks.old) (sets_of desks.new) desk from) }
+    ensures sites { sites_of desks.new ≡ sites_of desks.old }
+{
+    if desk == from {
+        return Ok(meet_itself(&desks[desk]));
+    }
+    meet_another(desks, desk, from)
+}
+
+/// A desk that meets itself takes nothing new.
+fn meet_itself<S: Sequence>(desk: &Replica<S>) -> u32
+    ensures none { result ≡ 0 }
+    ensures meets { IsMerge desk.now desk.now desk.now (Ok result) }
+{
+    laws::union_law();
+    // The count tells that the desk keeps its limit.
+    let _kept = desk.op_count();
+    0
+}
+
+/// A desk meets another one of the list.
+fn meet_another<S: Sequence>(
+    desks: &mut [Replica<S>],
+    desk: usize,
+    from: usize,
+) -> Result<u32, TakeFault>
+    requires desk { desk < length desks.old }
+    requires from { from < length desks.old }
+    requires apart { desk ≢ from }
+    ensures { IsMergeAt desks.old desks.new desk from result }
+{
+    if desk < from {
+        let (front, back) = desks.split_at_mut(from);
+        return meet(&mut front[desk], &back[0]);
+    }
+    let (front, back) = desks.split_at_mut(desk);
+    meet(&mut back[0], &front[from])
+}
+
+/// A desk takes all that another one holds.
+fn meet<S: Sequence>(desk: &mut Replica<S>, other: &Replica<S>) -> Result<u32, TakeFault>
+    ensures { IsMerge desk.old other.now desk.new result }
+{
+    desk.merge(other)
+}
