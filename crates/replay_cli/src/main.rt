@@ -2,41 +2,28 @@
 //! listings become files.
 #![tactic(auto)]
 
-mod convert;
-mod desk;
-mod engine;
-mod fault;
-mod field;
-mod files;
 mod key;
-pub mod laws;
-mod line;
-mod listing;
-mod replaying;
 mod report;
 mod request;
-mod schedule;
-mod walk;
 mod words;
 
-use bg_types::{Base, Out};
-pub use convert::{dump, pack};
-pub use desk_replica::TakeFault;
-pub use engine::text;
-pub use fault::{LineFault, RunFault, ScheduleFault, status};
-use files::{Unread, UnreadData};
-pub use replaying::{Ucd, replay};
+use bg_types::{Base, Device, Out};
+pub use cli_support::Stop;
+use cli_support::{Unread, end, flush, read, read_all, read_data};
+pub use desk_runs::{Move, RunFault, ScheduleFault, TakeFault, Ucd, carets, replay, status, text};
+use key::draw_key;
+pub use op_listing::{LineFault, dump, pack};
+use report::PROGRAM;
 pub use report::report;
-pub use request::{Job, Replay, Stop, Walk};
+pub use request::{Job, Replay, Walk};
 use std::io::{self, BufWriter, Write};
 use std::process::ExitCode;
-pub use walk::{Move, carets};
 pub use words::job;
 
 fn main(rt: HostRuntime) -> ExitCode {
-    let words = match words::words(&rt) {
+    let words = match cli_support::words(&rt) {
         Ok(words) => words,
-        Err(stop) => return end(&rt, &stop),
+        Err(stop) => return stop_at(&rt, &stop),
     };
     match job(rt.alloc(), words.as_slice()) {
         Ok(Job::Text { files }) => run_text(&rt, files.as_slice()),
@@ -44,41 +31,37 @@ fn main(rt: HostRuntime) -> ExitCode {
         Ok(Job::Caret(job)) => run_caret(&rt, &job),
         Ok(Job::Dump { file }) => run_dump(&rt, file),
         Ok(Job::Pack { listing }) => run_pack(&rt, listing),
-        Err(stop) => end(&rt, &stop),
+        Err(stop) => stop_at(&rt, &stop),
     }
 }
 
 fn run_text(rt: &HostRuntime, paths: &[&str]) -> ExitCode {
-    let files = match files::read_all(rt, paths) {
+    let files = match read_all(rt, paths) {
         Ok(files) => files,
-        Err(Unread { fault, path }) => return refuse(rt, &fault, path),
+        Err(unread) => return lose(rt, &unread),
     };
     let Ok(mut buffered) = BufWriter::new(rt.alloc(), io::writer(rt)) else {
         return refuse(rt, &RunFault::Memory, "");
     };
-    let key = key::draw_key(rt);
-    let done = text(
-        rt.alloc(),
-        key,
-        files.as_slice(),
-        &mut Out::new(&mut buffered),
-    );
+    let key = draw_key(rt);
+    let out = &mut Out::new(&mut buffered);
+    let done = text(rt.alloc(), key, files.as_slice(), out);
     finish(rt, done, &mut buffered)
 }
 
 fn run_replay(rt: &HostRuntime, job: &Replay) -> ExitCode {
-    let data = match files::read_data(rt, job.folder) {
+    let data = match read_data(rt, job.folder) {
         Ok(data) => data,
-        Err(UnreadData { fault, path }) => return refuse(rt, &fault, path.as_str()),
+        Err(unread) => return lose(rt, &unread),
     };
-    let files = match files::read_all(rt, job.files.as_slice()) {
+    let files = match read_all(rt, job.files.as_slice()) {
         Ok(files) => files,
-        Err(Unread { fault, path }) => return refuse(rt, &fault, path),
+        Err(unread) => return lose(rt, &unread),
     };
     let schedule = match job.schedule {
-        Some(path) => match files::read(rt, path) {
+        Some(path) => match read(rt, path) {
             Ok(bytes) => Some(bytes),
-            Err(fault) => return refuse(rt, &fault, path),
+            Err(unread) => return lose(rt, &unread),
         },
         None => None,
     };
@@ -87,7 +70,7 @@ fn run_replay(rt: &HostRuntime, job: &Replay) -> ExitCode {
     };
     let done = replay(
         rt.alloc(),
-        key::draw_key(rt),
+        draw_key(rt),
         &data.ucd(),
         job.width,
         Base::Auto,
@@ -99,20 +82,20 @@ fn run_replay(rt: &HostRuntime, job: &Replay) -> ExitCode {
 }
 
 fn run_caret(rt: &HostRuntime, job: &Walk) -> ExitCode {
-    let data = match files::read_data(rt, job.folder) {
+    let data = match read_data(rt, job.folder) {
         Ok(data) => data,
-        Err(UnreadData { fault, path }) => return refuse(rt, &fault, path.as_str()),
+        Err(unread) => return lose(rt, &unread),
     };
-    let files = match files::read_all(rt, job.files.as_slice()) {
+    let files = match read_all(rt, job.files.as_slice()) {
         Ok(files) => files,
-        Err(Unread { fault, path }) => return refuse(rt, &fault, path),
+        Err(unread) => return lose(rt, &unread),
     };
     let Ok(mut buffered) = BufWriter::new(rt.alloc(), io::writer(rt)) else {
         return refuse(rt, &RunFault::Memory, "");
     };
     let done = carets(
         rt.alloc(),
-        key::draw_key(rt),
+        draw_key(rt),
         &data.ucd(),
         job.width,
         Base::Auto,
@@ -125,27 +108,35 @@ fn run_caret(rt: &HostRuntime, job: &Walk) -> ExitCode {
 }
 
 fn run_dump(rt: &HostRuntime, path: &str) -> ExitCode {
-    let file = match files::read(rt, path) {
+    let file = match read(rt, path) {
         Ok(bytes) => bytes,
-        Err(fault) => return refuse(rt, &fault, path),
+        Err(unread) => return lose(rt, &unread),
     };
     let Ok(mut buffered) = BufWriter::new(rt.alloc(), io::writer(rt)) else {
         return refuse(rt, &RunFault::Memory, "");
     };
     let done = dump(rt.alloc(), file.as_slice(), &mut Out::new(&mut buffered));
-    finish(rt, done, &mut buffered)
+    finish(
+        rt,
+        done.map_err(|fault| RunFault::from(fault)),
+        &mut buffered,
+    )
 }
 
 fn run_pack(rt: &HostRuntime, path: &str) -> ExitCode {
-    let listing = match files::read(rt, path) {
+    let listing = match read(rt, path) {
         Ok(bytes) => bytes,
-        Err(fault) => return refuse(rt, &fault, path),
+        Err(unread) => return lose(rt, &unread),
     };
     let Ok(mut buffered) = BufWriter::new(rt.alloc(), io::writer(rt)) else {
         return refuse(rt, &RunFault::Memory, "");
     };
     let done = pack(rt.alloc(), listing.as_slice(), &mut Out::new(&mut buffered));
-    finish(rt, done, &mut buffered)
+    finish(
+        rt,
+        done.map_err(|fault| RunFault::from(fault)),
+        &mut buffered,
+    )
 }
 
 /// Ends a run of an engine that wrote to this writer.
@@ -153,25 +144,24 @@ fn finish<W: Write>(rt: &HostRuntime, done: Result<(), RunFault>, out: &mut W) -
     if let Err(fault) = done {
         return refuse(rt, &fault, "");
     }
-    // A late failure of the device shows only here.
-    if out.flush().is_err() {
-        return refuse(rt, &RunFault::Device, "");
+    match flush(out) {
+        Ok(()) => ExitCode::SUCCESS,
+        Err(Device) => refuse(rt, &RunFault::Device, ""),
     }
-    ExitCode::SUCCESS
 }
 
-/// Ends a run that has nothing to do: the help is status 0, a wrong command line status 2.
-fn end(rt: &HostRuntime, stop: &Stop) -> ExitCode {
-    match stop {
-        Stop::Help(text) => match rt.print(text) {
-            Ok(()) => ExitCode::SUCCESS,
-            Err(_) => refuse(rt, &RunFault::Device, ""),
-        },
-        Stop::Usage(text) => {
-            let _unheard = rt.eprint(text);
-            ExitCode::from(2)
-        }
-        Stop::Memory => refuse(rt, &RunFault::Memory, ""),
+/// Ends a run that has nothing to do.
+fn stop_at(rt: &HostRuntime, stop: &Stop) -> ExitCode {
+    let mut out = Out::new(io::writer(rt));
+    let mut err = Out::new(rt.stderr());
+    ExitCode::from(end(PROGRAM, stop, &mut out, &mut err))
+}
+
+/// Ends a run whose files can't be read.
+fn lose(rt: &HostRuntime, unread: &Unread) -> ExitCode {
+    match unread {
+        Unread::ReadFailed(path) => refuse(rt, &RunFault::ReadFailed(0), path.as_str()),
+        Unread::Memory => refuse(rt, &RunFault::Memory, ""),
     }
 }
 

@@ -2,8 +2,7 @@
 
 ghost use Rattle.std.specs.Prelude.{◌≤◌, vec_len};
 
-use crate::walk::Move;
-use std::alloc::{AllocError, AllocFailed};
+use desk_runs::Move;
 
 /// The work to be done.
 #[derive(Debug, Drop)]
@@ -53,27 +52,4 @@ pub struct Walk<'a> {
     ghost at_most: { width ≤ 500 },
     ghost files_at_least: { 1 ≤ vec_len files },
     ghost files_at_most: { vec_len files ≤ 64 },
-}
-
-/// Why there is no work to do.
-#[derive(Debug, Drop)]
-pub enum Stop {
-    /// The help that was asked for, for standard output.
-    Help(String),
-    /// What is wrong with the command line, for standard error.
-    Usage(String),
-    /// A growth was refused.
-    Memory,
-}
-
-impl From<AllocError> for Stop {
-    fn from(_error: AllocError) -> Stop {
-        Stop::Memory
-    }
-}
-
-impl<T: Drop> From<AllocFailed<T>> for Stop {
-    fn from(_error: AllocFailed<T>) -> Stop {
-        Stop::Memory
-    }
 }

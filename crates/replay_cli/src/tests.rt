@@ -205,23 +205,6 @@ fn replay_takes_a_folder_a_width_and_a_schedule(rt: HostRuntime) -> Result<(), F
 }
 
 #[test]
-fn faults_of_schedules_have_numbers_and_names(rt: HostRuntime) -> Result<(), Fail> {
-    let rows = [
-        (ScheduleFault::UnknownStep, 1, "UnknownStep"),
-        (ScheduleFault::WrongWords, 2, "WrongWords"),
-        (ScheduleFault::BadNumber, 3, "BadNumber"),
-        (ScheduleFault::NoSuchDesk, 4, "NoSuchDesk"),
-        (ScheduleFault::NoSuchFile, 5, "NoSuchFile"),
-        (ScheduleFault::NoSuchOperation, 6, "NoSuchOperation"),
-    ];
-    for (fault, code, name) in rows {
-        assert_eq!(rt; fault.code(), code);
-        assert_eq!(rt; format!(in rt.alloc(); "{fault}")?.as_str(), name);
-    }
-    Ok(())
-}
-
-#[test]
 fn dump_and_pack_take_one_file(rt: HostRuntime) -> Result<(), Fail> {
     let words = line(rt.alloc(), &["bidigrid", "dump", "a"])?;
     let Ok(Job::Dump { file }) = job(rt.alloc(), words.as_slice()) else {
@@ -343,30 +326,4 @@ fn a_line_that_can_not_be_written_is_a_device_fault(rt: HostRuntime) {
             assert_eq!(rt; written.as_slice(), &line.as_bytes()[..taken], "{line}");
         }
     }
-}
-
-#[test]
-fn refusals_have_their_numbers(rt: HostRuntime) {
-    let codes = [
-        TakeFault::IdentifierReused,
-        TakeFault::Full,
-        TakeFault::Memory,
-    ]
-    .map(|f| f.code());
-    assert_eq!(rt; codes, [1, 2, 9]);
-}
-
-#[test]
-fn faults_of_lines_have_numbers_and_names(rt: HostRuntime) -> Result<(), Fail> {
-    let rows = [
-        (LineFault::BadLine, 1, "BadLine"),
-        (LineFault::ZeroField, 2, "ZeroField"),
-        (LineFault::ParentNotBefore, 3, "ParentNotBefore"),
-        (LineFault::NotAScalar, 4, "NotAScalar"),
-    ];
-    for (fault, code, name) in rows {
-        assert_eq!(rt; fault.code(), code);
-        assert_eq!(rt; format!(in rt.alloc(); "{fault}")?.as_str(), name);
-    }
-    Ok(())
 }

@@ -2,13 +2,11 @@
 
 ghost use Rattle.std.specs.Prelude.{◌≤◌, IfOk, vec_len};
 
-use crate::request::{Job, Replay, Stop, Walk};
-use crate::walk::Move;
-use clap::error::ErrorKind;
-use clap::{Arg, ArgAction, ArgMatches, Command, Error, value_parser};
+use crate::request::{Job, Replay, Walk};
+use clap::{Arg, ArgAction, ArgMatches, Command, value_parser};
+use cli_support::Stop;
+use desk_runs::Move;
 use std::alloc::{AllocError, Global};
-use std::io;
-use std::rt::Env;
 
 const ABOUT: &str = "Replays the editing operations of several desks.\n\n\
     Several desks edit one text, and each keeps what it did in operation files. Desks that hold\n\
@@ -85,28 +83,17 @@ const PACK_LONG_ABOUT: &str = "Writes the operation file of a listing to standar
 
 const PACK_EXAMPLE: &str = "Example:\n  bidigrid pack examples/hello/hebrew.txt >hebrew.bgop";
 
-const NOT_UTF_8: &str = "error: an argument is not valid UTF-8\n";
-
 const FILE_HELP: &str = "Operation files, 1 to 64 of them";
 
 const DUMP_HELP: &str = "An operation file";
 
 const PACK_HELP: &str = "A listing";
 
-/// The words of the command line, the program's name among them.
-pub fn words<R: Env + Alloc<A = Global>>(rt: &R) -> Result<Vec<String>, Stop> {
-    match std::env::args(rt) {
-        Ok(words) => Ok(words.collect(rt.alloc())?),
-        Err(error) if error.kind() == io::ErrorKind::OutOfMemory => Err(Stop::Memory),
-        Err(_) => Err(Stop::Usage(String::from_str(rt.alloc(), NOT_UTF_8)?)),
-    }
-}
-
 /// Reads the words of a command line, the program's name among them.
 pub fn job<'a>(alloc: Global, words: &'a [String]) -> Result<Job<'a>, Stop> {
     let matches = match command(alloc)?.try_get_matches_from(words) {
         Ok(matches) => matches,
-        Err(error) => return Err(stop(alloc, &error)),
+        Err(error) => return Err(Stop::of(alloc, &error)),
     };
     match matches.subcommand() {
         Some(("dump", dump)) => Ok(Job::Dump {
@@ -310,15 +297,4 @@ fn one_file<'a>(alloc: Global, help: &'a str) -> Arg<'a> {
         .help(help)
         .required(true)
         .action(ArgAction::Set)
-}
-
-fn stop(alloc: Global, error: &Error) -> Stop {
-    if error.kind() == ErrorKind::OutOfMemory {
-        return Stop::Memory;
-    }
-    match error.to_string(alloc) {
-        Ok(text) if error.use_stderr() => Stop::Usage(text),
-        Ok(text) => Stop::Help(text),
-        Err(_) => Stop::Memory,
-    }
 }

@@ -1,0 +1,11 @@
+use Rattle.std.proofs.Common.{◌-◌, ◌∷◌, []}
+use Rattle.desk_replica.specs.DeskSets.{sets_of}
+use Rattle.desk_runs.specs.Setting.{print_in, files_in}
+use Rattle.desk_runs.specs.declared.schedule.step.Step.TheVariants.{Take}
+use Rattle.desk_runs.specs.Round.{unnumbered}
+use Rattle.desk_runs.proofs.Pieces.{IsDoneTo}
+use Rattle.desk_runs.proofs.engine.replay.round.take_file.Given as goal
+
+abbrev pub invariant-loop-op : goal.invariant-loop-op
+invariant-loop-op g l =
+    IsDoneTo (print_in l.setting) (files_in l.setting) (sets_of l.fn.desks) (λ op. unnumbered (Take l.desk l.file op) ∷ []) 1 (l.op - 1) (sets_of l.desks) (g.S.Sink.written l.fn.out) (g.S.Sink.written l.out) (g.S.Sink.has_failed l.out)

@@ -1,0 +1,16 @@
+use Rattle.desk_runs.proofs.LowerLaws.{FileLaws, ListLaws}
+use Rattle.desk_runs.proofs.OneCause.{one_lists, one_set, faulty_apart, one_faulty, refusal_apart, one_refused}
+use Rattle.desk_runs.proofs.laws.one_outcome.Goals as goal
+
+pub returns : goal.returns
+returns c = λ files.
+    let codec : FileLaws = record { one_list = c.one_spelling.ensures.one_list; never_both = c.spelled_or_faulty.ensures.never_both; one_fault = c.spelled_or_faulty.ensures.one_fault } in
+    let lists : ListLaws = record { one_set = c.one_set.ensures; one_refusal = c.one_refusal.ensures.first; none_refused = c.none_refused.ensures } in
+    record {
+      one_list = one_lists codec files;
+      one_set = one_set codec lists files;
+      one_faulty = one_faulty codec files;
+      one_refusal = one_refused codec lists files;
+      spelled_or_faulty = faulty_apart codec files;
+      set_or_refusal = refusal_apart codec lists files;
+    }

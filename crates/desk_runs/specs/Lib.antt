@@ -1,0 +1,16 @@
+pub mod Fault
+pub mod Files
+pub mod OneOutcome
+pub mod Schedule
+pub mod Cause
+pub mod Desks
+pub mod Steps
+pub mod Shows
+pub mod Round
+pub mod Printed
+pub mod Written
+pub mod TextOutcome
+pub mod ReplayOutcome
+pub mod Carets
+pub mod CaretsOutcome
+pub mod Setting

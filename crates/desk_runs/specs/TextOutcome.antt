@@ -1,0 +1,44 @@
+-- What a run of `text` writes and answers.
+use Rattle.std.specs.Prelude.{◌≡◌, ◌≤◌, ◌⊎◌, ◌↔◌, true, false, Bool, ℕ, List, Option, Result, Ok, Err, MatchResult, encode_utf8_all}
+use Rattle.std.specs.Io.KnownBytes.{Appends}
+use Rattle.bg_types.specs.OperationSet.{OperationSet, size}
+use Rattle.bg_types.specs.Sink.{AppendsBeginning}
+use Rattle.op_codec.specs.declared.fault.Cause.{Cause}
+use Rattle.op_codec.specs.declared.fault.CodecFault.TheVariants as codec
+use Rattle.rga_tree.specs.TextOf.{text}
+use Rattle.desk_replica.specs.declared.answer.TakeFault.{TakeFault}
+use Rattle.desk_runs.specs.declared.run_fault.RunFault.{RunFault}
+use Rattle.desk_runs.specs.declared.run_fault.RunFault.TheVariants.{File, Step, Device, Memory}
+use Rattle.desk_runs.specs.Files.{IsSetOfFiles, IsFaultyFile, AreRefused}
+use Rattle.desk_runs.specs.Cause.{IsTakingCaused}
+use Rattle.desk_runs.specs.Written.{IsSilent}
+
+-- the written bytes grew by the text of all operations of the files, at most 1,000,000
+pub record WritesText (files : List (List ℕ)) (old new : Option (List ℕ)) : Type 0 where
+  pub set : OperationSet
+  pub of_files : IsSetOfFiles files set
+  pub limited : size set ≤ 1_000_000
+  pub written : Appends old new (encode_utf8_all (text set))
+
+-- the written bytes grew by a beginning of that text
+pub record WritesTextBeginning (files : List (List ℕ)) (old new : Option (List ℕ)) : Type 0 where
+  pub set : OperationSet
+  pub of_files : IsSetOfFiles files set
+  pub limited : size set ≤ 1_000_000
+  pub written : AppendsBeginning old new (encode_utf8_all (text set))
+
+-- the outcome of a run over files of these bytes, by its answer: the text is written; or nothing, for a faulty file, a refused
+-- operation or want of memory; or a beginning of the text, for a failed write
+abbrev pub IsTextOutcome : (files : List (List ℕ)) (old new : Option (List ℕ)) (failed : Bool) → Result (Unit {0}) RunFault → Type 0
+IsTextOutcome files old new failed (Ok done) = (failed ≡ false) × WritesText files old new
+IsTextOutcome files old new failed (Err fault) =
+    (IsTakingCaused files fault × IsSilent old new failed) ⊎ ((fault ≡ Device) × (failed ≡ true) × WritesTextBeginning files old new)
+
+-- which answer the files have, unless memory runs out, or a write of the text fails
+pub record IsTextDecided (files : List (List ℕ)) (old new : Option (List ℕ)) (failed : Bool) (result : Result (Unit {0}) RunFault) : Type 0 where
+  pub device : (failed ≡ true) ↔ (result ≡ Err Device)
+  pub joined : (s : OperationSet) → IsSetOfFiles files s → size s ≤ 1_000_000
+      → MatchResult result (λ _. Appends old new (encode_utf8_all (text s))) (λ fault. (fault ≡ Device) ⊎ (fault ≡ Memory))
+  pub faulty : (n frame : ℕ) (cause : Cause) → IsFaultyFile files n frame cause
+      → (result ≡ Err (File n (codec.Malformed frame cause))) ⊎ (result ≡ Err Memory)
+  pub refused : (fault : TakeFault) → AreRefused files fault → (result ≡ Err (Step 0 1 fault)) ⊎ (result ≡ Err Memory)

@@ -1,0 +1,164 @@
+//! The engine `carets`: one desk takes the operations of all files, its text is drawn, and a caret
+//! walks over the grid.
+
+ghost use Rattle.std.specs.Prelude.{◌≡◌, ◌≤◌, ◌++◌, false, length, string_bytes, OnOk, IfOk, IfErr};
+ghost use Rattle.std.specs.Str.{chars};
+ghost use Rattle.std.specs.List.{flat_map};
+ghost use Rattle.cell_grid.specs.Grids.{grid_of};
+ghost use Rattle.caret.specs.Gaps.{IsCaretOf};
+ghost use Rattle.desk_runs.specs.Files.{bytes_of};
+ghost use Rattle.desk_runs.specs.Cause.{IsTakingCaused, IsUnwalked};
+ghost use Rattle.desk_runs.specs.Carets.{moved, walk, caret_line, walk_lines};
+ghost use Rattle.desk_runs.specs.CaretsOutcome.{asked, IsTextOfFiles, IsWalked, IsWalkCaused, IsCaretsOutcome};
+
+use crate::desks::read_text;
+use crate::one_desk::desk_of;
+use crate::reading::load;
+use crate::run_fault::RunFault;
+use bg_types::{Base, Memory, Sink, put_all};
+use caret::{Caret, at_place, down, left, right, up};
+use cell_grid::{Grid, draw};
+use std::alloc::{AllocError, Global};
+use ucd_files::{Tables, Ucd};
+
+/// A move of a caret.
+#[derive(Clone, Copy, Debug, PartialEq, Eq)]
+pub enum Move {
+    Left,
+    Right,
+    Up,
+    Down,
+}
+
+/// Writes the caret at a place of the text of all operations of the files, which one desk takes in
+/// order, and the caret after each move: a line `row gap place` each, over the grid of the text at a
+/// width in columns. All data is read and the place is tested before anything is written. The place
+/// counts code points. The key keeps who does not know it from writing files that make the run slow.
+///
+/// Which answer the data has is `laws::carets_are_decided`.
+pub fn carets<S: Sink>(
+    alloc: Global,
+    key: u128,
+    ucd: &Ucd,
+    width: u16,
+    base: Base,
+    files: &[Vec<u8>],
+    place: u32,
+    moves: &[Move],
+    out: &mut S,
+) -> Result<(), RunFault>
+    requires narrow { 2 ≤ width }
+    requires wide { width ≤ 500 }
+    requires working { S.has_failed out.old ≡ false }
+    ensures { IsCaretsOutcome (asked ucd.now width base files.now place moves.now)
+        (S.written out.old) (S.written out.new) (S.has_failed out.new) result }
+{
+    let lines = read_and_walk(alloc, key, ucd, width, base, files, place, moves)?;
+    put_all(out, lines.as_bytes())?;
+    Ok(())
+}
+
+/// The lines of a run, all data read before the place is tested.
+fn read_and_walk(
+    alloc: Global,
+    key: u128,
+    ucd: &Ucd,
+    width: u16,
+    base: Base,
+    files: &[Vec<u8>],
+    place: u32,
+    moves: &[Move],
+) -> Result<String, RunFault>
+    requires narrow { 2 ≤ width }
+    requires wide { width ≤ 500 }
+    ensures ok { IfOk result (λ lines. IsWalked (asked ucd.now width base files.now place moves.now) (string_bytes lines)) }
+    ensures fault { IfErr result (IsWalkCaused (asked ucd.now width base files.now place moves.now)) }
+{
+    let tables = load(alloc, ucd)?;
+    let text = joined_text(alloc, key, files)?;
+    lines_over(alloc, &tables, width, base, text.as_str(), place, moves)
+}
+
+/// The text of all operations of the files, which one desk takes in order: at most 4,000,000 bytes.
+fn joined_text(alloc: Global, key: u128, files: &[Vec<u8>]) -> Result<String, RunFault>
+    ensures ok { IfOk result (λ text. IsTextOfFiles (bytes_of files.now) (string_bytes text)) }
+    ensures size { IfOk result (λ text. length (string_bytes text) ≤ 4_000_000) }
+    ensures fault { IfErr result (IsTakingCaused (bytes_of files.now)) }
+{
+    let desk = desk_of(alloc, key, files)?;
+    let text = read_text(&desk)?;
+    Ok(text)
+}
+
+/// The lines of a walk over the grid of a text of at most 4,000,000 bytes.
+fn lines_over(
+    alloc: Global,
+    tables: &Tables,
+    width: u16,
+    base: Base,
+    text: &str,
+    place: u32,
+    moves: &[Move],
+) -> Result<String, RunFault>
+    requires narrow { 2 ≤ width }
+    requires wide { width ≤ 500 }
+    requires size { length text.now ≤ 4_000_000 }
+    ensures within { OnOk result (place ≤ length (chars text.now)) }
+    ensures lines { IfOk result (λ lines. string_bytes lines ≡ walk_lines (grid_of tables.now width base text.now) place moves.now) }
+    ensures fault { IfErr result (IsUnwalked text.now place) }
+{
+    if code_points(text) < place as usize {
+        return Err(RunFault::PastEnd(place));
+    }
+    let grid = draw(alloc, tables, width, base, text)?;
+    let start = at_place(&grid, place as usize);
+    let lines = walk_lines(alloc, &grid, start, moves)?;
+    Ok(lines)
+}
+
+/// How many code points a text has.
+fn code_points(text: &str) -> usize
+    ensures { result ≡ length (chars text.now) }
+{
+    text.chars().count()
+}
+
+/// The caret after a move.
+fn moved(grid: &Grid, caret: Caret, step: Move) -> Caret
+    requires { IsCaretOf grid.now.rows caret }
+    ensures caret { result ≡ moved grid.now.rows caret step }
+    ensures within { IsCaretOf grid.now.rows result }
+{
+    match step {
+        Move::Left => left(grid, caret),
+        Move::Right => right(grid, caret),
+        Move::Up => up(grid, caret),
+        Move::Down => down(grid, caret),
+    }
+}
+
+/// Writes a caret's line at the end: `row gap place`.
+fn push_line(caret: Caret, lines: &mut String) -> Result<(), AllocError>
+    ensures { OnOk result (string_bytes lines.new ≡ string_bytes lines.old ++ caret_line caret) }
+{
+    let Caret { row, gap, place } = caret;
+    writeln!(lines, "{} {} {}", row, gap, place)
+}
+
+/// The lines of a walk: one for the caret, and one after each move.
+fn walk_lines(alloc: Global, grid: &Grid, start: Caret, moves: &[Move]) -> Result<String, Memory>
+    requires { IsCaretOf grid.now.rows start }
+    ensures { IfOk result (λ lines. string_bytes lines ≡ flat_map caret_line (walk grid.now.rows start moves.now)) }
+{
+    let mut lines = String::new(alloc);
+    let mut caret = start;
+    push_line(caret, &mut lines)?;
+    for step in moves {
+        caret = moved(grid, caret, *step);
+        push_line(caret, &mut lines)?;
+    }
+    Ok(lines)
+}
+
+#[cfg(test)]
+mod tests;

@@ -1,0 +1,105 @@
+//! The engine `replay`: desks take and merge operations by a schedule, and their texts are drawn.
+
+ghost use Rattle.std.specs.Prelude.{◌≡◌, ◌≤◌, Some, None, false, length};
+ghost use Rattle.std.specs.Option.{option_copied};
+ghost use Rattle.desk_runs.specs.Setting.{print_in, files_in};
+ghost use Rattle.desk_runs.specs.ReplayOutcome.{given, IsReplayOutcome, IsPlanOutcome};
+
+mod round;
+mod setting;
+mod show;
+mod steps;
+
+use crate::desks::new_desks;
+use crate::reading::{decode_all, load};
+use crate::run_fault::RunFault;
+use crate::schedule::read_schedule;
+use bg_types::{Base, Sink};
+use round::run_round;
+use setting::Setting;
+use std::alloc::Global;
+use steps::run_steps;
+use ucd_files::Ucd;
+
+/// Does the steps of a schedule, or without one lets each desk take all files and shows it. There
+/// are as many desks as files, and desk k has site k. For each show, in order, the print of the
+/// grid of the desk's text is written, at a width in columns. All data is read before the first
+/// step is taken. The key keeps who does not know it from writing files that make the run slow.
+///
+/// Which answer the data has is `laws::replay_is_decided`.
+pub fn replay<S: Sink>(
+    alloc: Global,
+    key: u128,
+    ucd: &Ucd,
+    width: u16,
+    base: Base,
+    files: &[Vec<u8>],
+    schedule: Option<&[u8]>,
+    out: &mut S,
+) -> Result<(), RunFault>
+    requires narrow { 2 ≤ width }
+    requires wide { width ≤ 500 }
+    requires some { 1 ≤ length files.now }
+    requires many { length files.now ≤ 64 }
+    requires working { S.has_failed out.old ≡ false }
+    ensures { IsReplayOutcome (given ucd.now width base files.now (option_copied schedule.entry))
+        (S.written out.old) (S.written out.new) (S.has_failed out.new) result }
+{
+    let tables = load(alloc, ucd)?;
+    let lists = decode_all(alloc, files)?;
+    let setting = Setting {
+        alloc,
+        tables: &tables,
+        width,
+        base,
+        files: &lists,
+    };
+    run(key, &setting, schedule, out)
+}
+
+/// Does the steps of a schedule, or those of a run without one.
+fn run<S: Sink>(
+    key: u128,
+    setting: &Setting,
+    schedule: Option<&[u8]>,
+    out: &mut S,
+) -> Result<(), RunFault>
+    requires many { length setting.now.files.now ≤ 64 }
+    requires working { S.has_failed out.old ≡ false }
+    ensures { IsPlanOutcome (print_in setting.now) (files_in setting.now) (option_copied schedule.entry)
+        (S.written out.old) (S.written out.new) (S.has_failed out.new) result }
+{
+    match schedule {
+        Some(bytes) => run_schedule(key, setting, bytes, out),
+        None => run_files(key, setting, out),
+    }
+}
+
+fn run_schedule<S: Sink>(
+    key: u128,
+    setting: &Setting,
+    schedule: &[u8],
+    out: &mut S,
+) -> Result<(), RunFault>
+    requires many { length setting.now.files.now ≤ 64 }
+    requires working { S.has_failed out.old ≡ false }
+    ensures { IsPlanOutcome (print_in setting.now) (files_in setting.now) (Some schedule.now)
+        (S.written out.old) (S.written out.new) (S.has_failed out.new) result }
+{
+    let steps = read_schedule(setting.alloc, schedule, setting.files)?;
+    let mut desks = new_desks(setting.alloc, key, setting.files.len())?;
+    run_steps(setting, &mut desks, &steps, out)
+}
+
+fn run_files<S: Sink>(key: u128, setting: &Setting, out: &mut S) -> Result<(), RunFault>
+    requires many { length setting.now.files.now ≤ 64 }
+    requires working { S.has_failed out.old ≡ false }
+    ensures { IsPlanOutcome (print_in setting.now) (files_in setting.now) None
+        (S.written out.old) (S.written out.new) (S.has_failed out.new) result }
+{
+    let mut desks = new_desks(setting.alloc, key, setting.files.len())?;
+    run_round(setting, &mut desks, out)
+}
+
+#[cfg(test)]
+mod tests;

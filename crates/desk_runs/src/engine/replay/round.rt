@@ -1,0 +1,106 @@
+//! A run without a schedule.
+
+ghost use Rattle.std.specs.Prelude.{◌≡◌, ◌≤◌, false, length};
+ghost use Rattle.desk_replica.specs.DeskSets.{sets_of};
+ghost use Rattle.desk_runs.specs.Setting.{print_in, files_in};
+ghost use Rattle.desk_runs.specs.Round.{file_takes, files_takes, turn, all_takes, all_shows, round};
+ghost use Rattle.desk_runs.specs.Shows.{IsStepsOutcome};
+
+use super::setting::Setting;
+use super::steps::run_step;
+use crate::desks::Desk;
+use crate::run_fault::RunFault;
+use crate::schedule::{Numbered, Step};
+use bg_types::Sink;
+
+/// Each desk takes all files, beginning with that of its own number, and then each is shown.
+pub fn run_round<S: Sink>(
+    setting: &Setting,
+    desks: &mut [Desk],
+    out: &mut S,
+) -> Result<(), RunFault>
+    requires desks { length desks.old ≡ length setting.now.files.now }
+    requires working { S.has_failed out.old ≡ false }
+    ensures { IsStepsOutcome (print_in setting.now) (files_in setting.now) (sets_of desks.old) (round (files_in setting.now))
+        (sets_of desks.new) (S.written out.old) (S.written out.new) (S.has_failed out.new) result }
+{
+    take_everywhere(setting, desks, out)?;
+    show_all(setting, desks, out)
+}
+
+/// Each desk takes all files, one desk after the other.
+fn take_everywhere<S: Sink>(
+    setting: &Setting,
+    desks: &mut [Desk],
+    out: &mut S,
+) -> Result<(), RunFault>
+    requires desks { length desks.old ≡ length setting.now.files.now }
+    requires working { S.has_failed out.old ≡ false }
+    ensures { IsStepsOutcome (print_in setting.now) (files_in setting.now) (sets_of desks.old) (all_takes (files_in setting.now))
+        (sets_of desks.new) (S.written out.old) (S.written out.new) (S.has_failed out.new) result }
+{
+    for desk in 1..setting.files.len() + 1 {
+        take_files(setting, desks, desk, out)?;
+    }
+    Ok(())
+}
+
+/// A desk takes all files, from that of its own number on, wrapping round.
+fn take_files<S: Sink>(
+    setting: &Setting,
+    desks: &mut [Desk],
+    desk: usize,
+    out: &mut S,
+) -> Result<(), RunFault>
+    requires first { 1 ≤ desk }
+    requires desk { desk ≤ length setting.now.files.now }
+    requires desks { length desks.old ≡ length setting.now.files.now }
+    requires working { S.has_failed out.old ≡ false }
+    ensures { IsStepsOutcome (print_in setting.now) (files_in setting.now) (sets_of desks.old)
+        (files_takes (files_in setting.now) desk (turn (length (files_in setting.now)) desk))
+        (sets_of desks.new) (S.written out.old) (S.written out.new) (S.has_failed out.new) result }
+{
+    let count = setting.files.len();
+    for behind in 0..count {
+        take_file(setting, desks, desk, (desk - 1 + behind) % count + 1, out)?;
+    }
+    Ok(())
+}
+
+/// A desk takes all operations of a file, in order.
+fn take_file<S: Sink>(
+    setting: &Setting,
+    desks: &mut [Desk],
+    desk: usize,
+    file: usize,
+    out: &mut S,
+) -> Result<(), RunFault>
+    requires first { 1 ≤ desk }
+    requires desk { desk ≤ length setting.now.files.now }
+    requires first_file { 1 ≤ file }
+    requires file { file ≤ length setting.now.files.now }
+    requires desks { length desks.old ≡ length setting.now.files.now }
+    requires working { S.has_failed out.old ≡ false }
+    ensures { IsStepsOutcome (print_in setting.now) (files_in setting.now) (sets_of desks.old) (file_takes (files_in setting.now) desk file)
+        (sets_of desks.new) (S.written out.old) (S.written out.new) (S.has_failed out.new) result }
+{
+    for op in 1..setting.files[file - 1].len() + 1 {
+        let step = Step::Take { desk, file, op };
+        run_step(setting, desks, &Numbered { line: 0, step }, out)?;
+    }
+    Ok(())
+}
+
+/// Each desk is shown.
+fn show_all<S: Sink>(setting: &Setting, desks: &mut [Desk], out: &mut S) -> Result<(), RunFault>
+    requires desks { length desks.old ≡ length setting.now.files.now }
+    requires working { S.has_failed out.old ≡ false }
+    ensures { IsStepsOutcome (print_in setting.now) (files_in setting.now) (sets_of desks.old) (all_shows (files_in setting.now))
+        (sets_of desks.new) (S.written out.old) (S.written out.new) (S.has_failed out.new) result }
+{
+    for desk in 1..setting.files.len() + 1 {
+        let step = Step::Show { desk };
+        run_step(setting, desks, &Numbered { line: 0, step }, out)?;
+    }
+    Ok(())
+}

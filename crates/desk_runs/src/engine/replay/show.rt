@@ -1,0 +1,29 @@
+//! The print of a desk's text.
+
+ghost use Rattle.std.specs.Prelude.{◌≡◌, false};
+ghost use Rattle.rga_tree.specs.TextOf.{text};
+ghost use Rattle.desk_runs.specs.Setting.{print_in};
+ghost use Rattle.desk_runs.specs.Shows.{IsShowOutcome};
+
+use super::setting::Setting;
+use crate::desks::{Desk, read_text};
+use crate::run_fault::RunFault;
+use bg_types::Sink;
+use cell_grid::{draw, print};
+
+/// Writes the print of the grid of a desk's text.
+pub fn show<S: Sink>(setting: &Setting, desk: &Desk, out: &mut S) -> Result<(), RunFault>
+    requires working { S.has_failed out.old ≡ false }
+    ensures { IsShowOutcome (print_in setting.now (text desk.now.set)) (S.written out.old) (S.written out.new) (S.has_failed out.new) result }
+{
+    let text = read_text(desk)?;
+    let grid = draw(
+        setting.alloc,
+        setting.tables,
+        setting.width,
+        setting.base,
+        text.as_str(),
+    )?;
+    print(&grid, out)?;
+    Ok(())
+}

@@ -1,0 +1,73 @@
+//! The steps of a run, done one after the other.
+
+ghost use Rattle.std.specs.Prelude.{◌≡◌, ◌∷◌, [], false, length};
+ghost use Rattle.std.specs.List.{AllByRecursion};
+ghost use Rattle.desk_replica.specs.DeskSets.{sets_of};
+ghost use Rattle.desk_runs.specs.Setting.{print_in, files_in};
+ghost use Rattle.desk_runs.specs.Schedule.{IsStepOf};
+ghost use Rattle.desk_runs.specs.Shows.{IsStepsOutcome};
+ghost use Rattle.desk_runs.specs.Cause.{answer_of};
+
+use super::setting::Setting;
+use super::show::show;
+use crate::desks::Desk;
+use crate::one_desk::step_fault;
+use crate::run_fault::RunFault;
+use crate::schedule::{Numbered, Step};
+use bg_types::Sink;
+use desk_replica::{TakeFault, merge_at, take_at};
+
+/// Does steps in order. A fault ends them.
+pub fn run_steps<S: Sink>(
+    setting: &Setting,
+    desks: &mut [Desk],
+    steps: &[Numbered],
+    out: &mut S,
+) -> Result<(), RunFault>
+    requires desks { length desks.old ≡ length setting.now.files.now }
+    requires steps { AllByRecursion (λ s. IsStepOf (files_in setting.now) s.step) steps.now }
+    requires working { S.has_failed out.old ≡ false }
+    ensures { IsStepsOutcome (print_in setting.now) (files_in setting.now) (sets_of desks.old) steps.now
+        (sets_of desks.new) (S.written out.old) (S.written out.new) (S.has_failed out.new) result }
+{
+    for at in steps {
+        run_step(setting, desks, at, out)?;
+    }
+    Ok(())
+}
+
+/// Does one step.
+pub fn run_step<S: Sink>(
+    setting: &Setting,
+    desks: &mut [Desk],
+    at: &Numbered,
+    out: &mut S,
+) -> Result<(), RunFault>
+    requires desks { length desks.old ≡ length setting.now.files.now }
+    requires step { IsStepOf (files_in setting.now) at.now.step }
+    requires working { S.has_failed out.old ≡ false }
+    ensures { IsStepsOutcome (print_in setting.now) (files_in setting.now) (sets_of desks.old) (at.now ∷ [])
+        (sets_of desks.new) (S.written out.old) (S.written out.new) (S.has_failed out.new) result }
+{
+    match at.step {
+        Step::Take { desk, file, op } => {
+            let taken = take_at(desks, desk - 1, &setting.files[file - 1][op - 1]);
+            answer(at.line, desk, taken)
+        }
+        Step::Merge { desk, from } => {
+            let merged = merge_at(desks, desk - 1, from - 1);
+            answer(at.line, desk, merged)
+        }
+        Step::Show { desk } => show(setting, &desks[desk - 1], out),
+    }
+}
+
+/// The answer of a run to what a desk answered to the step of a line.
+fn answer<T: Drop>(line: usize, desk: usize, done: Result<T, TakeFault>) -> Result<(), RunFault>
+    ensures { result ≡ answer_of line desk done }
+{
+    match done {
+        Ok(_) => Ok(()),
+        Err(fault) => Err(step_fault(line, desk, fault)),
+    }
+}

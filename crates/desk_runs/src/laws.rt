@@ -1,0 +1,80 @@
+//! Laws of the definitions: each function's contract is the law, and its body is empty or calls the laws
+//! that the proof stands on.
+
+ghost use Rattle.std.specs.Prelude.{◌≡◌, ◌<◌, ◌+◌, ◌⊎◌, ℕ, Bool, List, Option, Some, Result, length, slice_get};
+ghost use Rattle.bg_types.specs.declared.op.OpView.{OpView};
+ghost use Rattle.desk_replica.specs.Desk.{fresh};
+ghost use Rattle.desk_replica.specs.DeskSets.{sets_of, empty_desks};
+ghost use Rattle.desk_runs.specs.declared.run_fault.RunFault.{RunFault};
+ghost use Rattle.desk_runs.specs.declared.schedule_fault.ScheduleFault.{ScheduleFault};
+ghost use Rattle.desk_runs.specs.declared.schedule.step.Numbered.{Numbered};
+ghost use Rattle.desk_runs.specs.OneOutcome.{HaveOneOutcome};
+ghost use Rattle.desk_runs.specs.Schedule.{Schedules, IsFaultyStep};
+ghost use Rattle.desk_runs.specs.Desks.{fresh_desks};
+ghost use Rattle.desk_runs.specs.TextOutcome.{IsTextOutcome, IsTextDecided};
+ghost use Rattle.desk_runs.specs.ReplayOutcome.{Given, IsReplayOutcome, IsReplayDecided};
+ghost use Rattle.desk_runs.specs.CaretsOutcome.{Asked, IsCaretsOutcome, IsCaretsDecided};
+
+use desk_replica::laws as desks;
+use op_codec::laws as codec;
+use op_listing::laws as lines;
+
+/// In a run over files of these operations, a schedule says one list of steps or has one first faulty
+/// line, never both.
+pub fn scheduled_or_faulty()
+    ensures either { (files : List (List OpView)) (bytes : List ℕ)
+        → ((steps : List Numbered) × Schedules files bytes steps) ⊎ ((n : ℕ) × (fault : ScheduleFault) × IsFaultyStep files bytes n fault) }
+    ensures one_list { (files : List (List OpView)) (bytes : List ℕ) (a b : List Numbered)
+        → Schedules files bytes a → Schedules files bytes b → a ≡ b }
+    ensures never_both { (files : List (List OpView)) (bytes : List ℕ) (steps : List Numbered) (n : ℕ) (fault : ScheduleFault)
+        → Schedules files bytes steps → IsFaultyStep files bytes n fault → ⊥ }
+    ensures one_fault { (files : List (List OpView)) (bytes : List ℕ) (m n : ℕ) (f g : ScheduleFault)
+        → IsFaultyStep files bytes m f → IsFaultyStep files bytes n g → (m ≡ n) × (f ≡ g) }
+{
+    lines::first_fault::<crate::ScheduleFault>();
+}
+
+/// Operation files have one outcome: the set of their operations, the first faulty one, or the first
+/// refusal of a desk that takes their operations in order.
+pub fn one_outcome()
+    ensures { (files : List (List ℕ)) → HaveOneOutcome files }
+{
+    desks::one_set();
+    desks::one_refusal();
+    desks::none_refused();
+    codec::one_spelling();
+    codec::spelled_or_faulty();
+}
+
+/// Of the desks of a run, desk k, from 1, has site k, and all begin with nothing.
+pub fn desks_of_a_run()
+    ensures count { (count : ℕ) → length (fresh_desks count) ≡ count }
+    ensures desk { (count k : ℕ) → k < count → slice_get (fresh_desks count) k ≡ Some (fresh (k + 1)) }
+    ensures empty { (count : ℕ) → sets_of (fresh_desks count) ≡ empty_desks count }
+{}
+
+/// A run of `text` has the answer of its files, unless memory runs out or a write fails.
+pub fn text_is_decided()
+    ensures { (files : List (List ℕ)) (old new : Option (List ℕ)) (failed : Bool) (result : Result (Unit {0}) RunFault)
+        → IsTextOutcome files old new failed result → IsTextDecided files old new failed result }
+{
+    one_outcome();
+}
+
+/// A run of `replay` has the answer of its data, unless memory runs out or a write fails.
+pub fn replay_is_decided()
+    ensures { (g : Given) (old new : Option (List ℕ)) (failed : Bool) (result : Result (Unit {0}) RunFault)
+        → IsReplayOutcome g old new failed result → IsReplayDecided g old new failed result }
+{
+    one_outcome();
+    scheduled_or_faulty();
+    desks::one_refusal();
+}
+
+/// A run of `carets` has the answer of its data, unless memory runs out or a write fails.
+pub fn carets_are_decided()
+    ensures { (a : Asked) (old new : Option (List ℕ)) (failed : Bool) (result : Result (Unit {0}) RunFault)
+        → IsCaretsOutcome a old new failed result → IsCaretsDecided a old new failed result }
+{
+    one_outcome();
+}

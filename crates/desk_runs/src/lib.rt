@@ -1,0 +1,23 @@
+//! Runs over operation files: desks take and merge operations, by a schedule or without one, and their
+//! texts are written, drawn, or walked over by a caret.
+#![tactic(auto)]
+
+mod desks;
+mod engine;
+pub mod laws;
+mod one_desk;
+mod reading;
+mod run_fault;
+mod schedule;
+mod schedule_fault;
+
+pub use desk_replica::TakeFault;
+pub use engine::carets::{Move, carets};
+pub use engine::replay::replay;
+pub use engine::text::text;
+pub use run_fault::{RunFault, status};
+pub use schedule_fault::ScheduleFault;
+pub use ucd_files::Ucd;
+
+#[cfg(test)]
+mod tests;

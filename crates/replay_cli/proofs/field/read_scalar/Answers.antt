@@ -1,5 +1,0 @@
-use Rattle.replay_cli.proofs.Numerals.{scalar_read}
-use Rattle.replay_cli.proofs.field.read_scalar.Goals as goal
-
-pub returns : goal.returns
-returns c = scalar_read c.args.word.now c.read_number.result c.read_number.ensures c.if-word-lt-FEWEST_DIGITS.false c.if-word-gt-MOST_DIGITS.false

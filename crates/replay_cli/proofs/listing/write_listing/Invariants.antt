@@ -1,6 +1,0 @@
-use Rattle.std.proofs.Common.{◌≡◌, take, string_bytes}
-use Rattle.replay_cli.specs.Listing.{listing_of}
-use Rattle.replay_cli.proofs.listing.write_listing.Given as goal
-
-abbrev pub invariant-loop-op : goal.invariant-loop-op
-invariant-loop-op l = string_bytes l.text ≡ listing_of (take l.op-index l.ops)
