@@ -6,7 +6,7 @@ use Rattle.std.specs.FinMap as map
 use Rattle.std.specs.FinSet as set
 use Rattle.bg_types.specs.Identifier.{Identifier, same_id}
 use Rattle.bg_types.specs.OperationSet.{Node, OperationSet}
-use Rattle.bg_types.proofs.Interface.{id_cmp-total, one_of}
+use Rattle.bg_types.proofs.Interface.{one_of, id_cmp-total}
 use Rattle.pending_ops.specs.Waiting.{Waiting, follows, is_after, is_ready}
 use Rattle.pending_ops.specs.Below.{CountsBelow}
 use Rattle.desk_replica.specs.Placement.{AreDue}

@@ -8,7 +8,7 @@ use Rattle.bg_types.specs.Identifier.{Identifier}
 use Rattle.bg_types.specs.OperationSet.{Node, OperationSet, AllWellFormed, union}
 use Rattle.bg_types.specs.declared.op.Place.TheVariants.{Root, After}
 use Rattle.bg_types.specs.declared.op.OpView.TheVariants.{Insert, Erase}
-use Rattle.bg_types.proofs.Interface.{get-union, one_of}
+use Rattle.bg_types.proofs.Interface.{one_of, get-union}
 use Rattle.rga_tree.specs.Walk.{walk}
 use Rattle.rga_tree.specs.Attached.{IsAttached, IsAttachedPart}
 use Rattle.rga_tree.specs.Attached.IsAttached.{below_root, below}

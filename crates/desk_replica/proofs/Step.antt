@@ -8,7 +8,7 @@ use Rattle.bg_types.specs.Identifier.{Identifier, same_id}
 use Rattle.bg_types.specs.OperationSet.{Node, OperationSet, union}
 use Rattle.bg_types.specs.declared.op.Place.{Place}
 use Rattle.bg_types.specs.declared.op.Place.TheVariants.{Root, After}
-use Rattle.bg_types.proofs.Interface.{id_cmp-total, same_id-is, unwrap_first, neither}
+use Rattle.bg_types.proofs.Interface.{neither, id_cmp-total, same_id-is, unwrap_first}
 use Rattle.rga_tree.specs.Tree.{stands_in}
 use Rattle.rga_tree.specs.Elements.{with_element}
 use Rattle.pending_ops.specs.Waiting.{Waiting, follows, is_after, is_ready}

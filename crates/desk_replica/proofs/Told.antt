@@ -9,7 +9,7 @@ use Rattle.bg_types.specs.declared.op.Place.{Place}
 use Rattle.bg_types.specs.declared.op.Place.TheVariants.{Root}
 use Rattle.bg_types.specs.declared.op.OpView.{OpView}
 use Rattle.bg_types.specs.declared.op.OpView.TheVariants.{Insert, Erase}
-use Rattle.bg_types.proofs.Interface.{get-union, one_of}
+use Rattle.bg_types.proofs.Interface.{one_of, get-union}
 use Rattle.rga_tree.specs.declared.element.Element.{Element}
 use Rattle.rga_tree.specs.Walk.{walk, walked_ids}
 use Rattle.rga_tree.specs.Elements.{elements, element_of}

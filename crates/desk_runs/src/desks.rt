@@ -32,7 +32,7 @@ pub fn new_desk(alloc: Global, site: u16, key: u128) -> Desk
     requires { 0 < site }
     ensures { result ≡ fresh site }
 {
-    Replica::new(alloc, site, Elements::new(alloc), key)
+    Replica::new(alloc, site, Elements::keyed(alloc, key), key)
 }
 
 /// A desk's text. It has at most 1,000,000 characters, of at most 4 bytes each.

@@ -8,7 +8,7 @@ use Rattle.std.specs.List.{list_all, list_any}
 use Rattle.std.proofs.lemmas.List.Folds.{list_all_more, list_any_at}
 use Rattle.bg_types.specs.Identifier.{Identifier, id_cmp, same_id}
 use Rattle.rga_tree.specs.declared.element.Element.{Element}
-use Rattle.bg_types.proofs.Interface.{id_cmp-total, and_parts}
+use Rattle.bg_types.proofs.Interface.{and_parts, id_cmp-total}
 
 pub is_Less : (o : Ordering) → is_lt o ≡ true → o ≡ Less
 is_Less Less h = refl

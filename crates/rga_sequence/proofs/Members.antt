@@ -5,7 +5,7 @@ use Rattle.std.specs.List.{list_any, prefix_len, AllByRecursion, find as find_in
 use Rattle.std.proofs.lemmas.List.{take-append-drop}
 use Rattle.std.proofs.lemmas.List.Folds.{list_any-append}
 use Rattle.bg_types.specs.Identifier.{Identifier, same_id}
-use Rattle.bg_types.proofs.Interface.{same_id-is, same_id-itself, and_parts, neither, or_left, or_right}
+use Rattle.bg_types.proofs.Interface.{and_parts, neither, or_left, or_right, same_id-is, same_id-itself}
 use Rattle.rga_tree.specs.declared.element.Element.{Element}
 use Rattle.rga_tree.specs.Row.{ids_of, is_distinct}
 use Rattle.rga_sequence.specs.Blocks.{joined, offset}

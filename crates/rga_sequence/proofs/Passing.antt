@@ -9,7 +9,7 @@ use Rattle.std.specs.Ordering.{is_lt, ordering_reverse}
 use Rattle.std.specs.List.{list_all, list_any, prefix_len}
 use Rattle.bg_types.specs.Identifier.{Identifier, id_cmp, same_id}
 use Rattle.rga_tree.specs.declared.element.Element.{Element}
-use Rattle.bg_types.proofs.Interface.{id_cmp-total, id_cmp-exact, same_id-is, and_parts}
+use Rattle.bg_types.proofs.Interface.{and_parts, id_cmp-total, id_cmp-exact, same_id-is}
 use Rattle.rga_sequence.specs.declared.block.Block.{Block}
 use Rattle.rga_sequence.specs.BlockRows.{items_of}
 use Rattle.rga_sequence.specs.Blocks.{joined, offset}

@@ -5,7 +5,7 @@ use Rattle.std.specs.List.{AllByRecursion, IsDistinct, list_any}
 use Rattle.std.proofs.lemmas.List.Elements.{filter-append}
 use Rattle.std.proofs.lemmas.List.Folds.{list_any-append}
 use Rattle.bg_types.specs.Identifier.{Identifier, same_id}
-use Rattle.bg_types.proofs.Interface.{same_id-is, same_id-itself, or_left, or_right}
+use Rattle.bg_types.proofs.Interface.{or_left, or_right, same_id-is, same_id-itself}
 use Rattle.rga_tree.specs.Order.{StandsBefore}
 
 abbrev pub Ids : Type 0

@@ -10,7 +10,7 @@ use Rattle.bg_types.specs.Identifier.{Identifier, id_cmp, same_id}
 use Rattle.bg_types.specs.OperationSet.{Node, OperationSet, AllWellFormed}
 use Rattle.bg_types.specs.declared.op.Place.{Place}
 use Rattle.bg_types.specs.declared.op.Place.TheVariants.{Root, After}
-use Rattle.bg_types.proofs.Interface.{id_cmp-total, same_id-is, or_left, or_right}
+use Rattle.bg_types.proofs.Interface.{or_left, or_right, id_cmp-total, same_id-is}
 use Rattle.rga_tree.specs.Walk.{Insertions, same_place, children, walk, walked_ids}
 use Rattle.rga_tree.specs.Attached.{IsAttached}
 use Rattle.rga_tree.specs.Parts.{IsPartOf}
