@@ -121,82 +121,106 @@ fn bidi_classes(rt: HostRuntime) -> Result<(), Fail> {
 }
 
 #[test]
-fn break_classes_and_widths(rt: HostRuntime) -> Result<(), Fail> {
-    let lines = load(
-        rt.alloc(),
-        UcdFile::Lb,
-        b"# @missing: 4E00..9FFF; Ideographic",
-    )?;
-    assert_eq!(rt; lines.lb('\u{4E16}'), Lb::Id);
-    assert_eq!(rt; lines.lb('a'), Lb::Xx);
+fn break_classes(rt: HostRuntime) -> Result<(), Fail> {
     let long: &[u8] = b"0000..10FFFF;AL\n# @missing: 20A0..20CF; Prefix_Numeric\n20AC;ZWJ";
-    let lines = load(rt.alloc(), UcdFile::Lb, long)?;
-    assert_eq!(rt; lines.lb('\u{20A0}'), Lb::Al);
-    assert_eq!(rt; lines.lb('\u{20AC}'), Lb::Zwj);
-    let other: &[u8] =
+    let missing: &[u8] =
         b"# @missing: 20A0..20CF; Prefix_Numeric\n# @missing: 0041..0041; Alphabetic";
-    let lines = load(rt.alloc(), UcdFile::Lb, other)?;
-    assert_eq!(rt; lines.lb('\u{20CF}'), Lb::Pr);
-    assert_eq!(rt; lines.lb('A'), Lb::Xx);
-    let widths = load(rt.alloc(), UcdFile::Ea, b"# x\r\n\r\n0041 ; Na # y\r\n")?;
-    assert_eq!(rt; widths.ea('A'), Ea::Na);
-    assert_eq!(rt; widths.ea('B'), Ea::N);
+    let ideographs: &[u8] = b"# @missing: 4E00..9FFF; Ideographic";
+    let rows: [(&[u8], char, Lb); 6] = [
+        (ideographs, '\u{4E16}', Lb::Id),
+        (ideographs, 'a', Lb::Xx),
+        (long, '\u{20A0}', Lb::Al),
+        (long, '\u{20AC}', Lb::Zwj),
+        (missing, '\u{20CF}', Lb::Pr),
+        (missing, 'A', Lb::Xx),
+    ];
+    for (bytes, c, want) in rows {
+        let tables = load(rt.alloc(), UcdFile::Lb, bytes)?;
+        assert_eq!(rt; tables.lb(c), want, "at {c:?} in {bytes:?}");
+    }
+    Ok(())
+}
+
+#[test]
+fn widths(rt: HostRuntime) -> Result<(), Fail> {
+    let narrow: &[u8] = b"# x\r\n\r\n0041 ; Na # y\r\n";
     let wide: &[u8] = b"# @missing: 3400..4DBF; Wide\n3400;A";
-    let widths = load(rt.alloc(), UcdFile::Ea, wide)?;
-    assert_eq!(rt; widths.ea('\u{4DBF}'), Ea::W);
-    assert_eq!(rt; widths.ea('\u{3400}'), Ea::A);
+    let rows: [(&[u8], char, Ea); 4] = [
+        (narrow, 'A', Ea::Na),
+        (narrow, 'B', Ea::N),
+        (wide, '\u{4DBF}', Ea::W),
+        (wide, '\u{3400}', Ea::A),
+    ];
+    for (bytes, c, want) in rows {
+        let tables = load(rt.alloc(), UcdFile::Ea, bytes)?;
+        assert_eq!(rt; tables.ea(c), want, "at {c:?} in {bytes:?}");
+    }
     Ok(())
 }
 
 #[test]
 fn brackets_and_mirrors(rt: HostRuntime) -> Result<(), Fail> {
-    let small: &[u8] = b"0028; 0029; o # LEFT\n0029;0028;c;x\n# @missing: 0041..0042; o";
-    let tables = load(rt.alloc(), UcdFile::Brackets, small)?;
-    assert_eq!(rt; tables.bracket('('), Bracket::Open(')'));
-    assert_eq!(rt; tables.bracket(')'), Bracket::Close('('));
-    assert_eq!(rt; tables.bracket('A'), Bracket::None);
-    let small: &[u8] = b"0028; 0029\r\nd800; 0041\n003C; 10FFFF # x";
-    let tables = load(rt.alloc(), UcdFile::Mirror, small)?;
-    assert_eq!(rt; tables.mirror('('), Some(')'));
-    assert_eq!(rt; tables.mirror('<'), Some('\u{10FFFF}'));
-    assert_eq!(rt; tables.mirror(')'), None);
+    let brackets: &[u8] = b"0028; 0029; o # LEFT\n0029;0028;c;x\n# @missing: 0041..0042; o";
+    let mirror: &[u8] = b"0028; 0029\r\nd800; 0041\n003C; 10FFFF # x";
+    let tables = Tables::load(rt.alloc(), b"", brackets, mirror, b"", b"")?;
+    for (c, bracket, mirror) in [
+        ('(', Bracket::Open(')'), Some(')')),
+        (')', Bracket::Close('('), None),
+        ('A', Bracket::None, None),
+        ('<', Bracket::None, Some('\u{10FFFF}')),
+    ] {
+        assert_eq!(rt; tables.bracket(c), bracket, "at {c:?}");
+        assert_eq!(rt; tables.mirror(c), mirror, "at {c:?}");
+    }
     Ok(())
 }
 
 #[test]
 fn the_first_faulty_file_decides(rt: HostRuntime) {
-    let both = Tables::load(rt.alloc(), b"", b"", b"0028", b"\xFF", b"");
-    let want = UcdFault::At {
-        file: UcdFile::Mirror,
-        line: 1,
-        cause: Cause::MissingField,
+    let none = Ucd {
+        bidi: b"",
+        brackets: b"",
+        mirror: b"",
+        lb: b"",
+        ea: b"",
     };
-    assert_eq!(rt; both.err(), Some(want));
-    let both = Tables::load(rt.alloc(), b"\n41;L", b"\xFF", b"", b"", b"");
-    let want = UcdFault::At {
-        file: UcdFile::Bidi,
-        line: 2,
-        cause: Cause::BadCode,
+    let mirror_and_lb = Ucd {
+        mirror: b"0028",
+        lb: b"\xFF",
+        ..none
     };
-    assert_eq!(rt; both.err(), Some(want));
+    let bidi_and_brackets = Ucd {
+        bidi: b"\n41;L",
+        brackets: b"\xFF",
+        ..none
+    };
+    for (files, file, line, cause) in [
+        (mirror_and_lb, UcdFile::Mirror, 1, Cause::MissingField),
+        (bidi_and_brackets, UcdFile::Bidi, 2, Cause::BadCode),
+    ] {
+        let want = UcdFault::At { file, line, cause };
+        assert_eq!(rt; files.load(rt.alloc()).err(), Some(want));
+    }
 }
 
 #[test]
 fn the_small_files_load(rt: HostRuntime) -> Result<(), Fail> {
     let tables = vectors::SMALL.load(rt.alloc())?;
-    assert_eq!(rt; tables.bidi('\u{5D0}'), Bidi::R);
-    assert_eq!(rt; tables.bidi('\u{627}'), Bidi::Al);
-    assert_eq!(rt; tables.bidi('\u{202E}'), Bidi::Rlo);
-    assert_eq!(rt; tables.bidi('\u{10FFFF}'), Bidi::L);
+    for (c, bidi, lb, ea) in [
+        ('\u{5D0}', Bidi::R, Lb::Hl, Ea::N),
+        ('\u{5FF}', Bidi::R, Lb::Xx, Ea::N),
+        ('\u{627}', Bidi::Al, Lb::Al, Ea::N),
+        ('\u{202E}', Bidi::Rlo, Lb::Cm, Ea::N),
+        ('\u{3B1}', Bidi::L, Lb::Xx, Ea::A),
+        ('\u{4E16}', Bidi::L, Lb::Id, Ea::W),
+        ('\u{10FFFF}', Bidi::L, Lb::Xx, Ea::N),
+    ] {
+        let came = (tables.bidi(c), tables.lb(c), tables.ea(c));
+        assert_eq!(rt; came, (bidi, lb, ea), "at {c:?}");
+    }
     assert_eq!(rt; tables.bracket('\u{2329}'), Bracket::Open('\u{232A}'));
     assert_eq!(rt; tables.bracket('}'), Bracket::Close('{'));
     assert_eq!(rt; tables.mirror('<'), Some('>'));
-    assert_eq!(rt; tables.lb('\u{5D0}'), Lb::Hl);
-    assert_eq!(rt; tables.lb('\u{4E16}'), Lb::Id);
-    assert_eq!(rt; tables.lb('\u{5FF}'), Lb::Xx);
-    assert_eq!(rt; tables.ea('\u{3B1}'), Ea::A);
-    assert_eq!(rt; tables.ea('\u{4E16}'), Ea::W);
-    assert_eq!(rt; tables.ea('\u{5D0}'), Ea::N);
     Ok(())
 }
 
