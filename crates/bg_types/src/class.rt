@@ -96,4 +96,8 @@ pub enum Base {
     /// By the first strong character (UAX #9, P2 and P3).
     #[default]
     Auto,
+    /// Level 0, left to right (UAX #9, HL1).
+    Left,
+    /// Level 1, right to left (UAX #9, HL1).
+    Right,
 }

@@ -2,7 +2,7 @@
 use Rattle.std.specs.Prelude.{ℕ, ◌≤◌, List, map, Option, Some, None}
 use Rattle.bg_types.specs.declared.class.Bidi.{Bidi}
 use Rattle.bg_types.specs.declared.class.Base.{Base}
-use Rattle.bg_types.specs.declared.class.Base.TheVariants.{Auto}
+use Rattle.bg_types.specs.declared.class.Base.TheVariants.{Auto, Left, Right}
 use Rattle.ucd_files.specs.Tables.{TableValues, bidi_of}
 use Rattle.paragraphs.specs.Text.{code_points}
 use Rattle.bidi_explicit.specs.declared.kept.Kept.{Kept}
@@ -14,9 +14,11 @@ use Rattle.bidi_explicit.specs.Sequences.{RunSequence, sequences_of}
 abbrev pub classes_of : TableValues → List ℕ → List Bidi
 classes_of tables text = map (bidi_of tables) (code_points text)
 
--- P2 and P3, or the choice of another base
+-- P2 and P3, or the choice of another base (HL1)
 abbrev pub paragraph_level : Base → List Bidi → ℕ
 paragraph_level Auto cs = base (nest cs)
+paragraph_level Left cs = 0
+paragraph_level Right cs = 1
 
 -- the paragraph's level; what is kept at each place, none where X9 removes it; and the isolating run sequences
 pub record Embedding : Type 0 where

@@ -8,14 +8,16 @@ use bg_types::{Base, Bidi};
 use paragraphs::Para;
 use ucd_files::Tables;
 
-/// A paragraph's level, 0 or 1: by its first strong character outside isolates (P2, P3). Takes no
-/// memory.
+/// A paragraph's level, 0 or 1: by its first strong character outside isolates (P2, P3), or as the base says (HL1).
+/// Takes no memory.
 pub fn paragraph_level(tables: &Tables, para: &Para, base: Base) -> u8
     ensures level { result ≡ paragraph_level base (classes_of tables.now para.now.text) }
     ensures bound { result ≤ 1 }
 {
     match base {
         Base::Auto => first_strong_level(tables, para.text()),
+        Base::Left => 0,
+        Base::Right => 1,
     }
 }
 

@@ -19,10 +19,15 @@ fn small_tables(alloc: Global) -> Result<Tables, UcdFault> {
 }
 
 /// What the explicit rules make of a text's first paragraph.
-fn first_embedded(alloc: Global, tables: &Tables, text: &str) -> Result<Embedded, Fail> {
+fn first_embedded(
+    alloc: Global,
+    tables: &Tables,
+    base: Base,
+    text: &str,
+) -> Result<Embedded, Fail> {
     let paragraphs = split(alloc, tables, text)?;
     match paragraphs.first() {
-        Some(para) => Ok(explicit(alloc, tables, para, Base::Auto)?),
+        Some(para) => Ok(explicit(alloc, tables, para, base)?),
         None => Err(Fail::from("no paragraph")),
     }
 }
@@ -54,12 +59,12 @@ fn sequence_told(alloc: Global, sequence: &Sequence) -> Result<String, Fail> {
     Ok(text)
 }
 
-/// A row has a text of one paragraph, and what is told of it.
-fn assert_rows(rt: &(impl Abort + AllocGlobal), rows: &str) -> Result<(), Fail> {
+/// A row has a text, and what is told of its first paragraph.
+fn assert_rows(rt: &(impl Abort + AllocGlobal), base: Base, rows: &str) -> Result<(), Fail> {
     let tables = small_tables(rt.alloc())?;
     for row in rows.split(";\n") {
         let (text, wanted) = row.split_once('|').unwrap_or((row, ""));
-        let embedded = first_embedded(rt.alloc(), &tables, text)?;
+        let embedded = first_embedded(rt.alloc(), &tables, base, text)?;
         assert_eq!(rt;
             told(rt.alloc(), &embedded)?.as_str(),
             wanted,
@@ -73,6 +78,7 @@ fn assert_rows(rt: &(impl Abort + AllocGlobal), rows: &str) -> Result<(), Fail> 
 fn embeddings_isolates_and_removed_places(rt: HostRuntime) -> Result<(), Fail> {
     assert_rows(
         &rt,
+        Base::Auto,
         "\
 a\u{202E}b\u{202C}c|0 L0 - R1 - L0| 0 at 0 L R| 2 at 1 R R| 4 at 0 R L;
 a\u{2067}b!\u{2069}c|0 L0 Rli0 L1 On1 Pdi0 L0| 0 1 4 5 at 0 L L| 2 3 at 1 R R;
@@ -99,6 +105,33 @@ a\u{2067}\u{200B}\u{2069}b|0 L0 Rli0 - Pdi0 L0| 0 1 3 4 at 0 L L",
     )
 }
 
+/// An FSI goes by what it holds, whatever the base is.
+#[test]
+fn a_base_gives_the_level_of_each_paragraph(rt: HostRuntime) -> Result<(), Fail> {
+    assert_rows(
+        &rt,
+        Base::Right,
+        "\
+|1;
+a!|1 L1 On1| 0 1 at 1 R R;
+\n|1 B1| 0 at 1 R R;
+\u{202B}\u{202C}|1 - -;
+\u{202A}a|1 - L2| 1 at 2 L L;
+\u{2068}\u{5D0}\u{2069}a|1 Fsi1 R3 Pdi1 L1| 0 2 3 at 1 R R| 1 at 3 R R;
+\u{2068}a\u{2069}|1 Fsi1 L2 Pdi1| 0 2 at 1 R R| 1 at 2 L L",
+    )?;
+    assert_rows(
+        &rt,
+        Base::Left,
+        "\
+|0;
+\u{5D0}!|0 R0 On0| 0 1 at 0 L L;
+\n|0 B0| 0 at 0 L L;
+\u{202B}\u{202C}|0 - -;
+\u{5D0}\u{2068}\u{5D0}\u{2069}|0 R0 Fsi0 R1 Pdi0| 0 1 3 at 0 L L| 2 at 1 R R",
+    )
+}
+
 /// So many times a part, then an end.
 fn repeated(alloc: Global, part: &str, count: usize, end: &str) -> Result<String, Fail> {
     let mut text = part.repeat(alloc, count)?;
@@ -114,7 +147,7 @@ fn assert_deep(
 ) -> Result<(), Fail> {
     let tables = small_tables(rt.alloc())?;
     let text = repeated(rt.alloc(), part, count, end)?;
-    let embedded = first_embedded(rt.alloc(), &tables, &text)?;
+    let embedded = first_embedded(rt.alloc(), &tables, Base::Auto, &text)?;
     let told = told(rt.alloc(), &embedded)?;
     assert!(rt; told.as_str().ends_with(wanted), "{wanted} of {count}");
     Ok(())
@@ -135,7 +168,7 @@ fn assert_isolates(rt: &(impl Abort + AllocGlobal), count: usize) -> Result<(), 
     let closed = repeated(rt.alloc(), "\u{2069}", count, "")?;
     let text = repeated(rt.alloc(), "\u{2067}", count, "a")?;
     let text = repeated(rt.alloc(), &text, 1, &closed)?;
-    let embedded = first_embedded(rt.alloc(), &tables, &text)?;
+    let embedded = first_embedded(rt.alloc(), &tables, Base::Auto, &text)?;
     let letter = embedded.places().get(count).copied().flatten();
     assert_eq!(rt; letter.map(|kept| (kept.level, kept.class)), Some((125, L)));
     assert_eq!(rt; embedded.sequence_count(), 64);
@@ -152,7 +185,7 @@ fn isolates_beyond_the_greatest_depth(rt: HostRuntime) -> Result<(), Fail> {
     assert_isolates(&rt, 130)
 }
 
-/// A row has a level and a text of that level.
+/// A row has a level and a text, which has that level by itself.
 fn assert_levels(rt: &(impl Abort + AllocGlobal), rows: &str) -> Result<(), Fail> {
     let tables = small_tables(rt.alloc())?;
     for row in rows.split('\n') {
@@ -160,6 +193,8 @@ fn assert_levels(rt: &(impl Abort + AllocGlobal), rows: &str) -> Result<(), Fail
         for para in split(rt.alloc(), &tables, text)? {
             let found = paragraph_level(&tables, &para, Base::Auto);
             assert_eq!(rt; found, u8::from(level == "1"), "in {text:?}");
+            assert_eq!(rt; paragraph_level(&tables, &para, Base::Left), 0);
+            assert_eq!(rt; paragraph_level(&tables, &para, Base::Right), 1);
         }
     }
     Ok(())

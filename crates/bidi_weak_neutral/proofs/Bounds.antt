@@ -6,7 +6,7 @@ use Rattle.std.proofs.lemmas.List.Elements.{All-map, All-weaker}
 use Rattle.bg_types.specs.declared.class.Bidi.{Bidi}
 use Rattle.bg_types.specs.declared.class.Bidi.TheVariants.{L, R, Al}
 use Rattle.bg_types.specs.declared.class.Base.{Base}
-use Rattle.bg_types.specs.declared.class.Base.TheVariants.{Auto}
+use Rattle.bg_types.specs.declared.class.Base.TheVariants.{Auto, Left, Right}
 use Rattle.ucd_files.specs.Tables.{TableValues}
 use Rattle.bidi_explicit.specs.Embedding.{Embedding, paragraph_level}
 use Rattle.bidi_explicit.specs.Nesting.{Nodes, end, char, isolate, unclosed, base, nest}
@@ -51,3 +51,5 @@ base-le (unclosed i held) = omega arith
 
 pub paragraph_level-le : (b : Base) (cs : List Bidi) → paragraph_level b cs ≤ 1
 paragraph_level-le Auto cs = base-le (nest cs)
+paragraph_level-le Left cs = omega arith
+paragraph_level-le Right cs = omega arith

@@ -9,12 +9,12 @@ use Rattle.std.proofs.lemmas.List.Elements.{All-nil, All-cons, All-head, All-tai
 use Rattle.bg_types.specs.declared.class.Bidi.{Bidi}
 use Rattle.bg_types.specs.declared.class.Bidi.TheVariants.{L, En, Es, Et, Cs, Nsm, B, S, Ws, On}
 use Rattle.bg_types.specs.declared.class.Base.{Base}
-use Rattle.bg_types.specs.declared.class.Base.TheVariants.{Auto}
+use Rattle.bg_types.specs.declared.class.Base.TheVariants.{Auto, Left, Right}
 use Rattle.ucd_files.specs.Tables.{TableValues, bidi_of}
 use Rattle.paragraphs.specs.Text.{code_points}
 use Rattle.paragraphs.specs.Classes.{is_separator, is_removed}
 use Rattle.bidi_explicit.specs.declared.kept.Kept.{Kept}
-use Rattle.bidi_explicit.specs.Embedding.{Embedding, embedding}
+use Rattle.bidi_explicit.specs.Embedding.{Embedding, embedding, paragraph_level}
 use Rattle.bidi_explicit.specs.Levels.{descend, explicit_places, none_open, plain}
 use Rattle.bidi_explicit.specs.Nesting.{base, nest}
 use Rattle.bidi_explicit.specs.Sequences.{kept_at, kept_before, kept_after, level_or, sos_of, eos_of, is_unmatched, direction_between, last_or, chain, next, begins, below, sequence_from, sequences_of}
@@ -48,6 +48,12 @@ base-plain c cs p r = absurd (false≢true p)
 base-zero : (cs : List Bidi) → All Plain cs → base (nest cs) ≡ 0
 base-zero [] a = refl
 base-zero (c ∷ cs) a = base-plain c cs (All-head Plain c cs a) (base-zero cs (All-tail Plain c cs a))
+
+-- the level of a plain paragraph, unless the base says right to left
+level-zero : (b : Base) (cs : List Bidi) → (b ≡ Right → ⊥) → All Plain cs → paragraph_level b cs ≡ 0
+level-zero Auto cs free a = base-zero cs a
+level-zero Left cs free a = refl
+level-zero Right cs free a = absurd (free refl)
 
 -- X1 to X9
 descend-plain : (c : Bidi) (cs : List Bidi) → Plain c
@@ -134,14 +140,14 @@ module _ (cs : List Bidi) (a : All Plain cs) where
       All-map (λ s. All (λ l. l ≡ 0) (sequence_levels tables points places s)) (sequence_from 0 (next cs places) (is_unmatched cs) places) (filter (begins (next cs places) places) (below (length places)))
       (λ k d lt. sequence-zero tables points _)
 
-  pub plain-resolved : (tables : TableValues) (points : List ℕ) → length cs ≡ length points
-      → resolved_levels tables points (embedding Auto cs) ≡ replicate (length points) 0
+  pub plain-resolved : (b : Base) (tables : TableValues) (points : List ℕ) → (b ≡ Right → ⊥) → length cs ≡ length points
+      → resolved_levels tables points (embedding b cs) ≡ replicate (length points) 0
   unfolding places
-  plain-resolved tables points n =
+  plain-resolved b tables points free n =
       let ps : explicit_places 0 cs ≡ map at_zero cs = places-plain cs a in
       let flat : Embedding = record { level = 0; places = map at_zero cs; sequences = sequences_of 0 cs (map at_zero cs) } in
-      let is : embedding Auto cs ≡ flat =
-      ap (λ p. let e : Embedding = record { level = p; places = explicit_places p cs; sequences = sequences_of p cs (explicit_places p cs) } in e) (base-zero cs a)
+      let is : embedding b cs ≡ flat =
+      ap (λ p. let e : Embedding = record { level = p; places = explicit_places p cs; sequences = sequences_of p cs (explicit_places p cs) } in e) (level-zero b cs free a)
       ∙ ap (λ q. let e : Embedding = record { level = 0; places = q; sequences = sequences_of 0 cs q } in e) ps in
       let zeros = resolved_levels-all (λ l. l ≡ 0) tables points flat refl (sequences-zero tables points) in
       ap (resolved_levels tables points) is
@@ -165,14 +171,14 @@ all-plain tables (c ∷ cs) e =
     (all-plain tables cs (and-right _ _ e))
 
 -- a text that was counted to its end
-pub plain-levels_of : (tables : TableValues) (base : Base) (text : List ℕ) (n : ℕ)
+pub plain-levels_of : (tables : TableValues) (base : Base) (text : List ℕ) (n : ℕ) → (base ≡ Right → ⊥)
     → Some n ≡ (if is_plain_text tables text then Some (length (code_points text)) else None) → replicate n 0 ≡ levels_of tables base text
-plain-levels_of tables Auto text n e = counted (is_plain_text tables text) refl
+plain-levels_of tables base text n free e = counted (is_plain_text tables text) refl
   where
-    counted : (b : Bool) → is_plain_text tables text ≡ b → replicate n 0 ≡ levels_of tables Auto text
+    counted : (b : Bool) → is_plain_text tables text ≡ b → replicate n 0 ≡ levels_of tables base text
     counted true p =
         let points = code_points text in
         let same : n ≡ length (code_points text) = let q = e ∙ ap (λ b. if b then Some (length (code_points text)) else None) p in cc in
         ap (λ k. replicate k 0) same
-        ∙ sym (plain-resolved (map (bidi_of tables) points) (all-plain tables points p) tables points (length-map points (bidi_of tables)))
+        ∙ sym (plain-resolved (map (bidi_of tables) points) (all-plain tables points p) base tables points free (length-map points (bidi_of tables)))
     counted false p = absurd (none-some n (sym (e ∙ ap (λ b. if b then Some (length (code_points text)) else None) p)))

@@ -164,16 +164,17 @@ fn plain_count(tables: &Tables, text: &str) -> Option<usize>
 /// The resolved level of each code point of a paragraph, 0 to 126 (UAX #9, 3.3.4 to 3.3.6).
 ///
 /// A code point that X9 removes has the level of the one before it, else the paragraph level (own).
-/// A text that goes left to right by itself costs one look at each code point.
+/// A text that goes left to right by itself costs one look at each code point, unless the base says right to left.
 pub fn levels(alloc: Global, tables: &Tables, para: &Para, base: Base) -> Result<Vec<u8>, Memory>
     ensures levels { IfOk result (λ levels. levels.items ≡ levels_of tables.now base para.now.text) }
     ensures one_each { IfOk result (λ levels. length levels.items ≡ length (code_points para.now.text)) }
     ensures bound { IfOk result (λ levels. All (λ level. level ≤ 126) levels.items) }
 {
-    let plain = match base {
-        Base::Auto => plain_count(tables, para.text()),
-    };
-    match plain {
+    // Under a base of level 1 no paragraph is at level 0.
+    if let Base::Right = base {
+        return levels_by_sequences(alloc, tables, para, base);
+    }
+    match plain_count(tables, para.text()) {
         Some(count) => Ok(vec![in alloc; 0; count]?),
         None => levels_by_sequences(alloc, tables, para, base),
     }

@@ -23,12 +23,13 @@ fn small_tables(alloc: Global) -> Result<Tables, UcdFault> {
 fn assert_levels(
     rt: &(impl Abort + AllocGlobal),
     tables: &Tables,
+    base: Base,
     text: &str,
     want: &[u8],
 ) -> Result<(), Fail> {
     let mut found = Vec::new(rt.alloc());
     for para in split(rt.alloc(), tables, text)? {
-        for level in levels(rt.alloc(), tables, &para, Base::Auto)? {
+        for level in levels(rt.alloc(), tables, &para, base)? {
             found.push(level)?;
         }
     }
@@ -37,7 +38,7 @@ fn assert_levels(
 }
 
 /// A row has the rule that it tries, a text and its levels, a digit a code point.
-fn assert_rows(rt: &(impl Abort + AllocGlobal), rows: &str) -> Result<(), Fail> {
+fn assert_rows(rt: &(impl Abort + AllocGlobal), base: Base, rows: &str) -> Result<(), Fail> {
     let tables = small_tables(rt.alloc())?;
     for row in rows.split(";\n") {
         let mut fields = row.split('|').skip(1);
@@ -46,7 +47,7 @@ fn assert_rows(rt: &(impl Abort + AllocGlobal), rows: &str) -> Result<(), Fail> 
         for digit in fields.next().unwrap_or("-").bytes() {
             want.push(digit.wrapping_sub(b'0'))?;
         }
-        assert_levels(rt, &tables, text, &want)?;
+        assert_levels(rt, &tables, base, text, &want)?;
     }
     Ok(())
 }
@@ -55,6 +56,7 @@ fn assert_rows(rt: &(impl Abort + AllocGlobal), rows: &str) -> Result<(), Fail> 
 fn levels_of_some_paragraphs(rt: HostRuntime) -> Result<(), Fail> {
     assert_rows(
         &rt,
+        Base::Auto,
         "\
 -|ab \u{5D0}\u{5D1}\u{5D2}|000111;
 -|\u{5D0}\u{5D1} 12|11122;
@@ -109,6 +111,37 @@ X9|\u{202A}a\u{202C}\u{5D0}|0221",
 }
 
 #[test]
+fn levels_under_a_base(rt: HostRuntime) -> Result<(), Fail> {
+    assert_rows(
+        &rt,
+        Base::Right,
+        "\
+-||;
+-|ab|22;
+-|a!|21;
+-|!|1;
+-|\n|1;
+-|\u{202A}\u{202C}|11;
+-|\u{2068}\u{5D0}\u{2069}a|1312;
+-|a b\n1 2|2221212;
+-|1+2|222",
+    )?;
+    assert_rows(
+        &rt,
+        Base::Left,
+        "\
+-||;
+-|ab|00;
+-|\u{5D0}!|10;
+-|\n|0;
+-|\u{202B}\u{202C}|00;
+-|\u{2068}\u{5D0}\u{2069}a|0100;
+-|\u{5D0} \u{5D0}\n!\u{5D0}|111001",
+    )?;
+    assert_rows(&rt, Base::Auto, "-|\u{5D0}!|11")
+}
+
+#[test]
 fn the_greatest_level_is_126(rt: HostRuntime) -> Result<(), Fail> {
     let tables = small_tables(rt.alloc())?;
     let mut text = String::new(rt.alloc());
@@ -119,5 +152,5 @@ fn the_greatest_level_is_126(rt: HostRuntime) -> Result<(), Fail> {
     }
     text.push('a')?;
     want.push(126)?;
-    assert_levels(&rt, &tables, &text, &want)
+    assert_levels(&rt, &tables, Base::Auto, &text, &want)
 }

@@ -8,5 +8,5 @@ use Rattle.bidi_weak_neutral.proofs.paragraph.levels.Goals as goal
 pub returns-in_ok-vec-in-Some-clause-levels : goal.returns-in_ok-vec-in-Some-clause-levels
 returns-in_ok-vec-in-Some-clause-levels c =
     let zeros : c.in_ok-vec-in-Some.field-0.items ≡ replicate c.in-Some.count 0 = search rules in
-    zeros ∙ plain-levels_of c.args.tables.now c.args.base c.args.para.now.text c.in-Some.count
+    zeros ∙ plain-levels_of c.args.tables.now c.args.base c.args.para.now.text c.in-Some.count c.in_default.not-Right
     (c.in-Some.ensures ∙ ap (λ text. if is_plain_text c.args.tables.now text then Some (length (code_points text)) else None) c.text.ensures)
