@@ -29,8 +29,10 @@ pub(crate) fn cell_in(entries: &[Entry], column: usize) -> Cell
     }
     // Of the entries that begin by this column only the last one can reach it.
     let entry = entries[count - 1];
-    let first = usize::from(entry.column);
-    let end = first + usize::from(entry.columns);
+    let begin = entry.column;
+    let columns = entry.columns;
+    let first = begin as usize;
+    let end = first + columns as usize;
     if column >= end {
         Cell::Blank
     } else if column == first {

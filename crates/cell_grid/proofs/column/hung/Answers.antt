@@ -2,7 +2,7 @@
 use Rattle.std.proofs.Common.{◌≡◌, ◌≤◌, ◌<◌, ◌-◌, ◌+◌, ◌++◌, ◌∷◌, [], false, map, length, drop, get_or, refl, sym, ap, ◌∙◌, arith, append-nil}
 use Rattle.std.proofs.lemmas.List.{length-map, get_or-map}
 use Rattle.line_break.specs.declared.cluster.Cluster.{Cluster}
-use Rattle.line_break.specs.declared.status.Break.TheVariants.{No}
+use Rattle.line_break.specs.declared.status.Break.TheVariants.{Must}
 use Rattle.cell_grid.specs.Hanging.{hung}
 use Rattle.cell_grid.proofs.Steps.{drop-none}
 use Rattle.cell_grid.proofs.Hung.{hung-on, hung-over}
@@ -17,7 +17,7 @@ loop-cluster-preserved c =
     let clusters = c.args.clusters.now in
     let columns = map (λ (x : Cluster). x.columns) clusters in
     let i = c.loop-cluster.cluster-index in
-    let d : Cluster = record { columns = 0; is_space = false; after = No } in
+    let d : Cluster = record { columns = 0; is_space = false; after = Must } in
     let n = (get_or clusters i d).columns in
     let is : n ≡ get_or columns i 0 = sym (get_or-map (λ (x : Cluster). x.columns) clusters i d 0 c.loop-cluster-test.true) in
     let same = length-map clusters (λ (x : Cluster). x.columns) in

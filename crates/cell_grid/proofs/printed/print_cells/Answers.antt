@@ -11,10 +11,10 @@ text_over-some : (columns : ℕ) (shown : List ℕ) → 0 < columns → shown �
 text_over-some zero shown some = absurd (omega arith)
 text_over-some (suc n) shown some = refl
 
-pub returns-then-columns-eq0-clause-ok : goal.returns-then-columns-eq0-clause-ok
-returns-then-columns-eq0-clause-ok g c =
+pub returns-then-entry-eq0-clause-ok : goal.returns-then-entry-eq0-clause-ok
+returns-then-entry-eq0-clause-ok g c =
     let old = g.W.Sink.written c.args.sink.now in
-    let none = ap (λ n. text_over n (entry_text c.args.tables.now c.args.text.now (Some c.args.entry))) c.if-columns-eq0.true in
+    let none = ap (λ n. text_over n (entry_text c.args.tables.now c.args.text.now (Some c.args.entry))) c.if-entry-eq0.true in
     subst (Appends old old) (sym none) (Appends-nil old)
 
 pub returns-clause-ok : goal.returns-clause-ok

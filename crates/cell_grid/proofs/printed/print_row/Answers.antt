@@ -32,8 +32,8 @@ returns-in_err-print_spaces-clause-err g c =
     let text = c.args.text.now in
     let row = c.args.row.now in
     on_err c.from_residual.result
-    (Begins-on old old _ [] (replicate c.blanks.left 32) _ _ (Appends-nil old) c.in_err-print_spaces.ensures.err
-    (in_pieces tables text row c.blanks.left c.blanks.right c.blanks.ensures))
+    (Begins-on old old _ [] (replicate c.blanks-left.result.0 32) _ _ (Appends-nil old) c.in_err-print_spaces.ensures.err
+    (in_pieces tables text row c.blanks-left.result.0 c.blanks-left.result.1 c.blanks-left.ensures))
 
 pub returns-in_err-print_entries-clause-err : goal.returns-in_err-print_entries-clause-err
 returns-in_err-print_entries-clause-err g c =
@@ -43,9 +43,9 @@ returns-in_err-print_entries-clause-err g c =
     let mid = g.W.Sink.written c.print_spaces.new.sink in
     let new = g.W.Sink.written c.print_entries.new.sink in
     let piece = subst (λ (es : List Entry). AppendsBeginning mid new (flat_map (own_text tables text) es)) c.entries.ensures c.in_err-print_entries.ensures.err in
-    on_err c.from_residual.result
-    (Begins-on (g.W.Sink.written c.args.sink.now) mid new (replicate c.blanks.left 32) (flat_map (own_text tables text) row.entries) (replicate c.blanks.right 32 ++ 10 ∷ []) _
-    c.in_ok-print_spaces.ensures.ok piece (in_pieces tables text row c.blanks.left c.blanks.right c.blanks.ensures))
+    on_err c.from_residual-in_err-print_entries.result
+    (Begins-on (g.W.Sink.written c.args.sink.now) mid new (replicate c.blanks-left.result.0 32) (flat_map (own_text tables text) row.entries) (replicate c.blanks-left.result.1 32 ++ 10 ∷ []) _
+    c.in_ok-print_spaces.ensures.ok piece (in_pieces tables text row c.blanks-left.result.0 c.blanks-left.result.1 c.blanks-left.ensures))
 
 pub returns-clause-ok : goal.returns-clause-ok
 returns-clause-ok g c =
@@ -55,14 +55,14 @@ returns-clause-ok g c =
     let old = g.W.Sink.written c.args.sink.now in
     let mid = g.W.Sink.written c.print_entries.new.sink in
     let last = g.W.Sink.written c.print_spaces-2.new.sink in
-    let a = replicate c.blanks.left 32 in
+    let a = replicate c.blanks-left.result.0 32 in
     let b = flat_map (own_text tables text) row.entries in
-    let d = replicate c.blanks.right 32 in
+    let d = replicate c.blanks-left.result.1 32 in
     let piece = subst (λ (es : List Entry). Appends (g.W.Sink.written c.print_spaces.new.sink) mid (flat_map (own_text tables text) es)) c.entries.ensures c.in_ok-print_entries.ensures.ok in
     let so_far = Appends-on old mid last (a ++ b) d ((a ++ b) ++ d) (Appends-on old _ mid a b (a ++ b) c.in_ok-print_spaces.ensures.ok piece refl) c.in_ok-print_spaces-2.ensures.ok refl in
     on_ok_by c.put_all.result
     (λ end. Appends-on old last (g.W.Sink.written c.put_all.new.sink) ((a ++ b) ++ d) (10 ∷ []) (row_text tables text row) so_far end
-    (in_pieces tables text row c.blanks.left c.blanks.right c.blanks.ensures ∙ sym (append_assoc a b (d ++ 10 ∷ [])) ∙ sym (append_assoc (a ++ b) d (10 ∷ []))))
+    (in_pieces tables text row c.blanks-left.result.0 c.blanks-left.result.1 c.blanks-left.ensures ∙ sym (append_assoc a b (d ++ 10 ∷ [])) ∙ sym (append_assoc (a ++ b) d (10 ∷ []))))
     c.put_all.ensures.ok
 
 pub returns-clause-err : goal.returns-clause-err
@@ -73,14 +73,14 @@ returns-clause-err g c =
     let old = g.W.Sink.written c.args.sink.now in
     let mid = g.W.Sink.written c.print_entries.new.sink in
     let last = g.W.Sink.written c.print_spaces-2.new.sink in
-    let a = replicate c.blanks.left 32 in
+    let a = replicate c.blanks-left.result.0 32 in
     let b = flat_map (own_text tables text) row.entries in
-    let d = replicate c.blanks.right 32 in
+    let d = replicate c.blanks-left.result.1 32 in
     let piece = subst (λ (es : List Entry). Appends (g.W.Sink.written c.print_spaces.new.sink) mid (flat_map (own_text tables text) es)) c.entries.ensures c.in_ok-print_entries.ensures.ok in
     let so_far = Appends-on old mid last (a ++ b) d ((a ++ b) ++ d) (Appends-on old _ mid a b (a ++ b) c.in_ok-print_spaces.ensures.ok piece refl) c.in_ok-print_spaces-2.ensures.ok refl in
     on_err_by c.put_all.result
     (λ end. Begins-on old last (g.W.Sink.written c.put_all.new.sink) ((a ++ b) ++ d) (10 ∷ []) [] (row_text tables text row) so_far end
-    (in_pieces tables text row c.blanks.left c.blanks.right c.blanks.ensures ∙ sym (append_assoc a b (d ++ 10 ∷ [])) ∙ sym (append_assoc (a ++ b) d (10 ∷ []))))
+    (in_pieces tables text row c.blanks-left.result.0 c.blanks-left.result.1 c.blanks-left.ensures ∙ sym (append_assoc a b (d ++ 10 ∷ [])) ∙ sym (append_assoc (a ++ b) d (10 ∷ []))))
     c.put_all.ensures.err
 
 pub returns-in_err-print_spaces-2-clause-err : goal.returns-in_err-print_spaces-2-clause-err
@@ -90,11 +90,11 @@ returns-in_err-print_spaces-2-clause-err g c =
     let row = c.args.row.now in
     let old = g.W.Sink.written c.args.sink.now in
     let mid = g.W.Sink.written c.print_entries.new.sink in
-    let a = replicate c.blanks.left 32 in
+    let a = replicate c.blanks-left.result.0 32 in
     let b = flat_map (own_text tables text) row.entries in
-    let d = replicate c.blanks.right 32 in
+    let d = replicate c.blanks-left.result.1 32 in
     let piece = subst (λ (es : List Entry). Appends (g.W.Sink.written c.print_spaces.new.sink) mid (flat_map (own_text tables text) es)) c.entries.ensures c.in_ok-print_entries.ensures.ok in
-    on_err c.from_residual.result
+    on_err c.from_residual-in_err-print_spaces-2.result
     (Begins-on old mid (g.W.Sink.written c.print_spaces-2.new.sink) (a ++ b) d (10 ∷ []) (row_text tables text row)
     (Appends-on old _ mid a b (a ++ b) c.in_ok-print_spaces.ensures.ok piece refl) c.in_err-print_spaces-2.ensures.err
-    (in_pieces tables text row c.blanks.left c.blanks.right c.blanks.ensures ∙ sym (append_assoc a b (d ++ 10 ∷ []))))
+    (in_pieces tables text row c.blanks-left.result.0 c.blanks-left.result.1 c.blanks-left.ensures ∙ sym (append_assoc a b (d ++ 10 ∷ []))))

@@ -7,13 +7,13 @@ use Rattle.cell_grid.specs.Rows.{DrawnRow}
 use Rattle.cell_grid.proofs.Sides.{length-entries_cells}
 use Rattle.cell_grid.proofs.row.Row.blanks.Goals as goal
 
-pub end_column-requires-clause-follow : goal.end_column-requires-clause-follow
-end_column-requires-clause-follow c =
+pub end_column-end-requires-clause-follow : goal.end_column-end-requires-clause-follow
+end_column-end-requires-clause-follow c =
     let inside = c.self.inside in
     subst (λ (es : List Entry). ColumnsFollow inside.start es (inside.start + total es)) (sym c.deref.ensures.value) c.self.invariant.follow
 
-pub end_column-requires-clause-fits : goal.end_column-requires-clause-fits
-end_column-requires-clause-fits c =
+pub end_column-end-requires-clause-fits : goal.end_column-end-requires-clause-fits
+end_column-end-requires-clause-fits c =
     let all = ap total c.deref.ensures.value in
     let fits = c.self.invariant.fits in
     omega arith
