@@ -3,7 +3,7 @@ use Rattle.std.proofs.Common.{◌≡◌, ℕ, ◌+◌, ◌<◌, ◌≤◌, List,
 use Rattle.std.proofs.lemmas.List.{length-map, get_or-map}
 use Rattle.std.proofs.lemmas.List.Folds.{drop_split}
 use Rattle.std.proofs.lemmas.List.Elements.{All-nil, All-cons, All-head, All-tail, All-append}
-use Rattle.std.proofs.lemmas.Str.{IsUtf8-append, IsUtf8-drop, IsUtf8-take, IsUtf8-between, IsCharBoundary-at_seam}
+use Rattle.std.proofs.lemmas.Str.{length-le-encodes, encodes-chars, IsUtf8-append, IsUtf8-drop, IsUtf8-take, IsUtf8-between, IsCharBoundary-at_seam}
 use Rattle.std.specs.List.{All, concat}
 use Rattle.std.specs.Str.{IsUtf8, IsCharBoundary}
 use Rattle.paragraphs.specs.Text.{code_points}
