@@ -28,11 +28,8 @@ pub(crate) fn cell_in(entries: &[Entry], column: usize) -> Cell
         return Cell::Blank;
     }
     // Of the entries that begin by this column only the last one can reach it.
-    let entry = entries[count - 1];
-    let begin = entry.column;
-    let columns = entry.columns;
-    let first = begin as usize;
-    let end = first + columns as usize;
+    let first = entries[count - 1].column as usize;
+    let end = first + entries[count - 1].columns as usize;
     if column >= end {
         Cell::Blank
     } else if column == first {

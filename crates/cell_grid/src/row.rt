@@ -178,8 +178,9 @@ impl Row {
         ensures { self.now.cells
             ≡ replicate result.0 Blank ++ (entries_cells 0 self.now.entries ++ replicate result.1 Blank) }
     {
+        let width = self.width;
         let end = end_column(&self.entries, self.start);
-        (self.start, self.width - end)
+        (self.start, width - end)
     }
 }
 
