@@ -1,5 +1,5 @@
 -- Entries stand side by side, at the row's edge.
-use Rattle.std.proofs.Common.{◌≡◌, ℕ, ◌+◌, ◌-◌, ◌≤◌, cond, List, [], ◌∷◌, map, length, get_or, sum, sum_by, slice_range, refl, sym, ap, subst, ◌∙◌, arith}
+use Rattle.std.proofs.Common.{◌≡◌, ℕ, ◌+◌, ◌-◌, ◌≤◌, cond, List, map, length, get_or, sum, sum_by, slice_range, sym, ap, subst, ◌∙◌, arith}
 use Rattle.std.specs.List.{All}
 use Rattle.ucd_files.specs.Tables.{TableValues}
 use Rattle.paragraphs.specs.Clusters.{cluster_sizes}
@@ -7,7 +7,6 @@ use Rattle.bidi_explicit.specs.Embedding.{paragraph_level, classes_of}
 use Rattle.bidi_weak_neutral.specs.Levels.{levels_of}
 use Rattle.line_break.specs.declared.line.Line.{Line}
 use Rattle.reorder.specs.VisualList.{visual_list}
-use Rattle.cell_grid.specs.declared.entry.Entry.{Entry}
 use Rattle.cell_grid.specs.LawsBelow.{LawsBelow}
 use Rattle.cell_grid.specs.Spans.{spans}
 use Rattle.cell_grid.specs.Hanging.{line_columns}

@@ -1,5 +1,5 @@
 -- Of the entries that begin by the column only the last one can reach it.
-use Rattle.std.proofs.Common.{[], ◌≡◌, ◌<◌, ◌-◌, ℕ, length, get_or, slice_get, Some, rules, arith}
+use Rattle.std.proofs.Common.{[], ◌<◌, ◌-◌, length, get_or, rules, arith}
 use Rattle.std.specs.Prelude.{nat_le}
 use Rattle.std.proofs.lemmas.List.Sorted.{IsPartitionPoint-from_clause, IsPartitionedBy-leb}
 use Rattle.std.proofs.lemmas.Option.{slice_get-get_or}

@@ -1,5 +1,5 @@
 -- Each row is shifted to where its paragraph stands.
-use Rattle.std.proofs.Common.{◌<◌, ◌∷◌, [], ◌++◌, List, length, map, map-id, get_or, sym, ap, subst, ◌∙◌, append-nil, append_assoc}
+use Rattle.std.proofs.Common.{◌∷◌, [], ◌++◌, length, map, map-id, sym, ap, subst, ◌∙◌, append-nil, append_assoc}
 use Rattle.std.proofs.lemmas.List.{map-append}
 use Rattle.std.proofs.lemmas.Iterator.Adapters.{YieldsList-from_vec}
 use Rattle.std.proofs.lemmas.Iterator.Consumers.{YieldsList-turn, YieldsList-end}

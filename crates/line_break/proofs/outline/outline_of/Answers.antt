@@ -8,7 +8,6 @@ use Rattle.std.specs.Str.{IsUtf8}
 use Rattle.paragraphs.specs.Text.{code_points}
 use Rattle.line_break.specs.declared.cluster.Cluster.{Cluster}
 use Rattle.line_break.specs.Statuses.{breaks}
-use Rattle.line_break.specs.LineClusters.{line_clusters}
 use Rattle.line_break.proofs.Measuring.{IsMeasuredTo-start, line_clusters-end, IsMeasuredTo-on, measured-is, two-line_clusters}
 use Rattle.line_break.proofs.Measuring.{cluster-some as points-some, cluster-fits as points-within}
 use Rattle.line_break.proofs.Outlining.{IsUtf8-concat, IsOutlinedTo-start, spans-end, sizes-end, cluster-utf8, cluster-some, cluster-fits, cluster-points, IsOutlinedTo-on}

@@ -1,5 +1,5 @@
 -- The cells from a column on begin with the one in it.
-use Rattle.std.proofs.Common.{◌≡◌, Some, slice_get, sym, ap, ◌∙◌}
+use Rattle.std.proofs.Common.{slice_get, sym, ap, ◌∙◌}
 use Rattle.cell_grid.proofs.Celled.{drop-get}
 use Rattle.cell_grid.proofs.cell.CellsIterator.next.Goals as goal
 

@@ -1,5 +1,5 @@
 -- Blanks stand before the entries' cells and behind them.
-use Rattle.std.proofs.Common.{◌≡◌, ◌<◌, ◌≤◌, ◌+◌, ◌-◌, ◌++◌, ℕ, List, length, replicate, sym, ap, subst, ◌∙◌, arith}
+use Rattle.std.proofs.Common.{◌≡◌, ◌+◌, ◌-◌, ◌++◌, List, length, replicate, sym, ap, subst, ◌∙◌, arith}
 use Rattle.cell_grid.specs.declared.entry.Entry.{Entry}
 use Rattle.cell_grid.specs.declared.cell.Cell.TheVariants.{Blank}
 use Rattle.cell_grid.specs.Cells.{entries_cells, ColumnsFollow, total}

@@ -1,5 +1,5 @@
 -- What is seen in a column is its cell.
-use Rattle.std.proofs.Common.{◌≡◌, ◌<◌, ◌≤◌, ◌+◌, List, Some, length, slice_get, sym, ap, subst, ◌∙◌, arith}
+use Rattle.std.proofs.Common.{◌<◌, ◌+◌, List, length, slice_get, sym, ap, subst, ◌∙◌, arith}
 use Rattle.cell_grid.specs.declared.entry.Entry.{Entry}
 use Rattle.cell_grid.specs.Cells.{ColumnsFollow, total, IsSeenAt}
 use Rattle.cell_grid.specs.Rows.{DrawnRow}

@@ -1,6 +1,5 @@
 -- Shifted entries stand in the same columns.
-use Rattle.std.proofs.Common.{◌≡◌, ◌+◌, ◌++◌, List, length, map, take, drop, sym, ap, subst, ◌∙◌, arith}
-use Rattle.cell_grid.specs.declared.entry.Entry.{Entry}
+use Rattle.std.proofs.Common.{◌+◌, length, map, sym, ap, subst, ◌∙◌, arith}
 use Rattle.cell_grid.specs.Cells.{StandWithin}
 use Rattle.cell_grid.specs.Rows.{shifted, shifted_entry}
 use Rattle.cell_grid.proofs.Steps.{written}

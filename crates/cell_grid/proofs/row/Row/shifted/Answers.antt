@@ -1,5 +1,5 @@
 -- A copy, shifted.
-use Rattle.std.proofs.Common.{◌≡◌, List, sym, ap, subst, ◌∙◌}
+use Rattle.std.proofs.Common.{List, sym, ap, subst, ◌∙◌}
 use Rattle.cell_grid.specs.declared.entry.Entry.{Entry}
 use Rattle.cell_grid.specs.Cells.{StandWithin}
 use Rattle.cell_grid.specs.Rows.{shifted}
