@@ -52,7 +52,7 @@ fn row_end(row: &Row) -> usize
 {
     match row.entries().last() {
         Some(entry) => end_column(entry),
-        None if is_odd(row.para_level()) => row.cells().len(),
+        None if is_odd(row.para_level()) => usize::from(row.width()),
         None => 0,
     }
 }

@@ -1,44 +1,277 @@
--- Cells, entry by entry.
-use Rattle.std.proofs.Common.{◌≡◌, ℕ, ◌+◌, ◌-◌, ◌<◌, ◌≤◌, List, [], ◌++◌, length, take, drop, get_or, replicate, sym, ap, ◌∙◌, arith, append_assoc, append-nil, length-append}
-use Rattle.std.proofs.lemmas.List.{length-replicate}
+-- The cells of a row by its entries.
+use Rattle.std.proofs.Common.{◌≡◌, ℕ, true, false, zero, suc, ◌+◌, ◌-◌, ◌<◌, ◌≤◌, List, [], ◌∷◌, ◌++◌, map, length, drop, get_or, replicate, slice_get, Some, None, refl, sym, ap, subst, ◌∙◌, arith, inl, inr, length-append}
+use Rattle.std.proofs.lemmas.List.{length-replicate, length-map}
+use Rattle.std.proofs.lemmas.Bool.Decides.{leb_tells}
+use Rattle.std.proofs.lemmas.Bool.{le-leb, leb-true}
+use Rattle.std.proofs.lemmas.Option.{slice_get-get_or, get_or_from_slice_get}
+use Rattle.std.specs.List.Sorted.{IsNonDecreasingBy, IsPartitionPoint}
+use Rattle.std.specs.Prelude.{nat_le}
 use Rattle.cell_grid.specs.declared.entry.Entry.{Entry}
 use Rattle.cell_grid.specs.declared.cell.Cell.{Cell}
-use Rattle.cell_grid.specs.declared.cell.Cell.TheVariants.{Blank}
-use Rattle.cell_grid.specs.Cells.{entry_cells, entries_cells, cells_of}
-use Rattle.cell_grid.proofs.Steps.{drop-next, drop-none, take-whole}
+use Rattle.cell_grid.specs.declared.cell.Cell.TheVariants.{Blank, Head, Tail}
+use Rattle.cell_grid.specs.Cells.{entry_cells, entries_cells, cells_of, ColumnsFollow, total, StandWithin, IsSeenAt}
+use Rattle.cell_grid.specs.Rows.{DrawnRow, shifted, shifted_entry}
+use Rattle.cell_grid.specs.Laws.{IsCellOf}
+use Rattle.cell_grid.proofs.Steps.{drop-next}
+use Rattle.cell_grid.proofs.Sides.{length-entries_cells, same_follow, follow-shifted, total-shifted}
+use Rattle.cell_grid.proofs.Lookups.{get-left, get-right, get-inside, get-replicate}
+use Rattle.cell_grid.proofs.Covering.{HasCell, IsSeenFrom, covered-from, seen-from}
 
--- the cells up to the entries' end
-abbrev pub filled : ℕ → List Entry → List Cell
-filled start entries = replicate start Blank ++ entries_cells 0 entries
+get-some : {X : Type 0} (xs : List X) (k : ℕ) → k < length xs → (x : X) × (slice_get xs k ≡ Some x)
+get-some [] k lt = absurd (omega arith)
+get-some (x ∷ xs) zero lt = (x, refl)
+get-some (x ∷ xs) (suc k) lt = get-some xs k (omega arith)
 
-pub length-filled : (start : ℕ) (entries : List Entry) → length (filled start entries) ≡ start + length (entries_cells 0 entries)
-length-filled start entries =
-    let a = length-append (replicate start Blank) (entries_cells 0 entries) in let b = length-replicate start Blank in omega arith
+-- ---- entries by their columns
 
-module _ (entries : List Entry) (done whole : List Cell) (i : ℕ) (e d : Entry) (lt : i < length entries) (is : e ≡ get_or entries i d) where
-  pub entries_cells-on : done ++ entries_cells i (drop i entries) ≡ whole → (done ++ entry_cells i e.columns) ++ entries_cells (i + 1) (drop (i + 1) entries) ≡ whole
-  entries_cells-on so_far =
-      append_assoc done (entry_cells i e.columns) (entries_cells (i + 1) (drop (i + 1) entries))
-      ∙ ap (λ l. done ++ l) (sym (ap (entries_cells i) (drop-next entries i e d lt is))) ∙ so_far
+from-at : (from to : ℕ) (es : List Entry) → ColumnsFollow from es to → (n : ℕ) (e : Entry) → slice_get es n ≡ Some e → from ≤ e.column
+from-at from to [] f n e is = cc
+from-at from to (x ∷ es) f zero e is = let same : x ≡ e = cc in let at = ap (λ (y : Entry). y.column) same in let first = f.0 in omega arith
+from-at from to (x ∷ es) f (suc n) e is = let later = from-at (x.column + x.columns) to es f.1 n e is in let first = f.0 in omega arith
 
--- the cells so far are no more than all
-pub cells-within : (done rest whole : List Cell) → done ++ rest ≡ whole → length done ≤ length whole
-cells-within done rest whole e = let a = length-append done rest in let b = ap length e in omega arith
+-- a later entry begins where an earlier one ends, or behind it
+pub later-at : (from to : ℕ) (es : List Entry) → ColumnsFollow from es to → (m n : ℕ) (d e : Entry) → slice_get es m ≡ Some d → slice_get es n ≡ Some e → m < n → d.column + d.columns ≤ e.column
+later-at from to [] f m n d e a b lt = cc
+later-at from to (x ∷ es) f m zero d e a b lt = absurd (omega arith)
+later-at from to (x ∷ es) f zero (suc n) d e a b lt =
+    let same : x ≡ d = cc in
+    let at = ap (λ (y : Entry). y.column) same in
+    let wide = ap (λ (y : Entry). y.columns) same in
+    let later = from-at (x.column + x.columns) to es f.1 n e b in
+    omega arith
+later-at from to (x ∷ es) f (suc m) (suc n) d e a b lt = later-at (x.column + x.columns) to es f.1 m n d e a b (omega arith)
 
--- the first blanks
-pub blanks-first : (start n k : ℕ) (cells new : List Cell) → cells ≡ [] → k ≡ 0 → n ≡ start → new ≡ take n cells ++ replicate (n - k) Blank → new ≡ replicate start Blank
-blanks-first start n k cells new none zero_long is put =
-    let same : n - k ≡ start = omega arith in
-    put ∙ ap (λ l. take n l ++ replicate (n - k) Blank) none ∙ ap (λ l. l ++ replicate (n - k) Blank) (take-whole [] n (omega arith)) ∙ ap (λ m. replicate m Blank) same
+pub column-rises : (from to : ℕ) (es : List Entry) → ColumnsFollow from es to → IsNonDecreasingBy (λ (e : Entry). e.column) es
+column-rises from to [] f i j d le within = absurd (omega arith)
+column-rises from to (x ∷ es) f zero j d le within = let least = from-at from to (x ∷ es) f j (get_or (x ∷ es) j d) (slice_get-get_or (x ∷ es) j d within) in let first = f.0 in omega arith
+column-rises from to (x ∷ es) f (suc i) zero d le within = absurd (omega arith)
+column-rises from to (x ∷ es) f (suc i) (suc j) d le within = column-rises (x.column + x.columns) to es f.1 i j d (omega arith) (omega arith)
 
--- filled up with blanks to the width
-pub cells_of-end : (width start i n m k : ℕ) (entries : List Entry) (done new : List Cell) → done ++ entries_cells n (drop i entries) ≡ filled start entries → length entries ≤ i
-    → start + length (entries_cells 0 entries) ≤ width → k ≡ length done → m ≡ width → new ≡ take m done ++ replicate (m - k) Blank → new ≡ cells_of width start entries
-cells_of-end width start i n m k entries done new so_far all room long wide put =
-    let is : done ≡ filled start entries = sym (append-nil done) ∙ ap (λ l. done ++ entries_cells n l) (sym (drop-none entries i all)) ∙ so_far in
-    let len = length-filled start entries in
-    let few = ap length is in
-    let left : m - k ≡ width - (start + length (entries_cells 0 entries)) = omega arith in
-    put ∙ ap (λ l. l ++ replicate (m - k) Blank) (take-whole done m (omega arith) ∙ is)
-    ∙ append_assoc (replicate start Blank) (entries_cells 0 entries) (replicate (m - k) Blank)
-    ∙ ap (λ j. replicate start Blank ++ (entries_cells 0 entries ++ replicate j Blank)) left
+-- the last entry ends with all
+pub last-ends : (from to : ℕ) (es : List Entry) → ColumnsFollow from es to → (e : Entry) → slice_get es (length es - 1) ≡ Some e → e.column + e.columns ≡ to
+last-ends from to [] f e is = cc
+last-ends from to (x ∷ []) f e is =
+    let same : x ≡ e = cc in
+    let at = ap (λ (y : Entry). y.column) same in
+    let wide = ap (λ (y : Entry). y.columns) same in
+    let end = f.1 in
+    omega arith
+last-ends from to (x ∷ y ∷ es) f e is =
+    let k : length (x ∷ y ∷ es) - 1 ≡ suc (length (y ∷ es) - 1) = omega arith in
+    last-ends (x.column + x.columns) to (y ∷ es) f.1 e (sym (ap (slice_get (x ∷ y ∷ es)) k) ∙ is)
+
+-- where there is no last entry there are no columns
+pub none-total : (es : List Entry) → None ≡ slice_get es (length es - 1) → total es ≡ 0
+none-total [] is = refl
+none-total (x ∷ es) is = let last = get-some (x ∷ es) (length (x ∷ es) - 1) (omega arith) in let own = last.1 in cc
+
+-- so many entries begin by this column, and the others behind it
+abbrev pub BeginBy : List Entry → (column count : ℕ) → Type 0
+BeginBy entries column count = IsPartitionPoint (λ (e : Entry). nat_le e.column column ≡ true) (λ (e : Entry). nat_le e.column column ≡ false) entries count
+
+module _ (entries : List Entry) (column count : ℕ) (by : BeginBy entries column count) where
+  begin-before : (n : ℕ) (e : Entry) → slice_get entries n ≡ Some e → e.column ≤ column → n < count
+  begin-before n e is le = elim (leb_tells (suc n) count) [
+    | inl before ↦ before.1
+    | inr past ↦
+        let over = past.1 in
+        let no = by.1 n e (omega arith) (get-inside entries n e is) in
+        let same = get_or_from_slice_get entries n e e is in
+        let yes = le-leb e.column column le in
+        absurd (false-is (sym no ∙ ap (λ (x : Entry). nat_le x.column column) same ∙ yes))
+  ]
+    where
+      false-is : false ≡ true → ⊥
+      false-is e = cc
+
+  -- where none begins by the column, none is seen there
+  pub none-begins : count ≡ 0 → IsSeenAt entries column Blank
+  none-begins z = λ n e is low high. let lt = begin-before n e is low in absurd (omega arith)
+
+  module _ (last : Entry) (is_last : slice_get entries (count - 1) ≡ Some last) (some : 0 < count) where
+    -- the last one that begins by the column does so
+    pub last-begins : last.column ≤ column
+    last-begins =
+        let yes = by.0 (count - 1) last (omega arith) (omega arith) in
+        let same = get_or_from_slice_get entries (count - 1) last last is_last in
+        leb-true last.column column (sym (ap (λ (x : Entry). nat_le x.column column) same) ∙ yes)
+
+    -- where it ends before the column, none is seen there
+    pub none-reaches : (from to : ℕ) → ColumnsFollow from entries to → last.column + last.columns ≤ column → IsSeenAt entries column Blank
+    none-reaches from to f short = λ n e is low high.
+        let lt = begin-before n e is low in
+        elim (leb_tells (suc n) (count - 1)) [
+          | inl earlier ↦
+              let le = earlier.1 in
+              let apart = later-at from to entries f n (count - 1) e last is is_last (omega arith) in
+              absurd (omega arith)
+          | inr same ↦
+              let ge = same.1 in
+              let at : n ≡ count - 1 = omega arith in
+              let there = sym is ∙ ap (slice_get entries) at ∙ is_last in
+              let one : e ≡ last = cc in
+              let place = ap (λ (x : Entry). x.column) one in
+              let wide = ap (λ (x : Entry). x.columns) one in
+              absurd (omega arith)
+        ]
+
+-- ---- cells
+
+module _ (entries : List Entry) (start width : ℕ) (f : ColumnsFollow start entries (start + total entries)) (fits : start + total entries ≤ width) where
+  pub length-cells : length (cells_of width start entries) ≡ width
+  length-cells =
+      let E = entries_cells 0 entries in
+      let B = replicate (width - (start + length E)) Blank in
+      let a = length-append (replicate start Blank) (E ++ B) in
+      let b = length-append E B in
+      let c = length-replicate start Blank in
+      let d = length-replicate (width - (start + length E)) Blank in
+      let t = length-entries_cells 0 entries in
+      omega arith
+
+  pub covered : (n column : ℕ) (e : Entry) → slice_get entries n ≡ Some e → e.column ≤ column → column < e.column + e.columns → HasCell (cells_of width start entries) column n
+  covered n column e is low high =
+      let E = entries_cells 0 entries in
+      let B = replicate (width - (start + length E)) Blank in
+      let h = covered-from 0 start entries (start + total entries) f n column e is low high in
+      let le = h.0 in
+      let k : start + (column - start) ≡ column = omega arith in
+      let inside = get-inside E (column - start) h.1.0 h.1.1 in
+      let m : 0 + n ≡ n = omega arith in (
+        h.1.0,
+        ap (slice_get (replicate start Blank ++ (E ++ B))) (sym k)
+            ∙ get-right (replicate start Blank) (E ++ B) start (column - start) (length-replicate start Blank)
+            ∙ get-left E B (column - start) inside ∙ h.1.1,
+        subst (λ j. IsCellOf j h.1.0) m h.1.2,
+      )
+
+  blank-free : (column : ℕ) → slice_get (cells_of width start entries) column ≡ Some Blank → IsSeenAt entries column Blank
+  blank-free column is n e at low high = let h = covered n column e at low high in let c : h.0 ≡ Blank = cc in subst (IsCellOf n) c h.2
+
+  found : (column : ℕ) (c : Cell) → slice_get (cells_of width start entries) column ≡ Some c → IsSeenFrom entries 0 column c → IsSeenAt entries column c
+  found column Blank is h = absurd h
+  found column (Head m) is h = let n : h.0 ≡ m = (let e = h.2 in omega arith) in (h.1, ap (slice_get entries) (sym n) ∙ h.3, h.4, h.5)
+  found column (Tail m) is h = let n : h.0 ≡ m = (let e = h.2 in omega arith) in (h.1, ap (slice_get entries) (sym n) ∙ h.3, h.4, h.5)
+
+  blank : (column : ℕ) (c : Cell) → slice_get (cells_of width start entries) column ≡ Some c → c ≡ Blank → IsSeenAt entries column c
+  blank column c is e = subst (IsSeenAt entries column) (sym e) (blank-free column (is ∙ ap Some e))
+
+  pub seen : (column : ℕ) (c : Cell) → slice_get (cells_of width start entries) column ≡ Some c → IsSeenAt entries column c
+  seen column c is =
+      let E = entries_cells 0 entries in
+      let B = replicate (width - (start + length E)) Blank in
+      let S = replicate start Blank in
+      let ls = length-replicate start Blank in
+      elim (leb_tells (suc column) start) [
+        | inl before ↦
+            let lt = before.1 in
+            let at = sym (get-left S (E ++ B) column (omega arith)) ∙ is in
+            let put = get-replicate start column Blank (omega arith) in
+            let same : c ≡ Blank = cc in
+            blank column c is same
+        | inr behind ↦
+            let ge = behind.1 in
+            let split : start + (column - start) ≡ column = omega arith in
+            let at = sym (get-right S (E ++ B) start (column - start) ls) ∙ ap (slice_get (S ++ (E ++ B))) split ∙ is in
+            elim (leb_tells (suc (column - start)) (length E)) [
+              | inl within ↦
+                  let lt = within.1 in
+                  let own = sym (get-left E B (column - start) (omega arith)) ∙ at in
+                  found column c is (subst (λ j. IsSeenFrom entries 0 j c) split (seen-from 0 start entries (start + total entries) f (column - start) c own))
+              | inr past ↦
+                  let le = past.1 in
+                  let part : length E + (column - start - length E) ≡ column - start = omega arith in
+                  let last = sym (get-right E B (length E) (column - start - length E) refl) ∙ ap (slice_get (E ++ B)) part ∙ at in
+                  let inside = get-inside B (column - start - length E) c last in
+                  let lb = length-replicate (width - (start + length E)) Blank in
+                  let put = get-replicate (width - (start + length E)) (column - start - length E) Blank (omega arith) in
+                  let same : c ≡ Blank = cc in
+                  blank column c is same
+            ]
+      ]
+
+pub cells-shifted : (i j number : ℕ) (es : List Entry) → entries_cells number (map (shifted_entry i j) es) ≡ entries_cells number es
+cells-shifted i j number [] = refl
+cells-shifted i j number (e ∷ es) = ap (λ l. entry_cells number e.columns ++ l) (cells-shifted i j (number + 1) es)
+
+pub cells_of-shifted : (width start i j : ℕ) (es : List Entry) → cells_of width start (map (shifted_entry i j) es) ≡ cells_of width start es
+cells_of-shifted width start i j es =
+    ap (λ taken. replicate start Blank ++ (taken ++ replicate (width - (start + length taken)) Blank)) (cells-shifted i j 0 es)
+
+module _ (entries : List Entry) (start width : ℕ) (f : ColumnsFollow start entries (start + total entries)) (fits : start + total entries ≤ width) where
+  blank-is : (column : ℕ) (c : Cell) → slice_get (cells_of width start entries) column ≡ Some c → IsSeenAt entries column c → IsSeenAt entries column Blank → c ≡ Blank
+  blank-is column Blank is at free = refl
+  blank-is column (Head n) is at free = let here = at.2 in let some = at.3 in absurd (free n at.0 at.1 (omega arith) (omega arith))
+  blank-is column (Tail n) is at free = let behind = at.2 in absurd (free n at.0 at.1 (omega arith) at.3)
+
+  head-is : (column n : ℕ) (e : Entry) (c : Cell) → IsSeenAt entries column c → IsCellOf n c → slice_get entries n ≡ Some e → e.column ≡ column → c ≡ Head n
+  head-is column n e Blank at own is here = absurd own
+  head-is column n e (Head m) at own is here = ap Head own
+  head-is column n e (Tail m) at own is here =
+      let there : slice_get entries n ≡ Some at.0 = ap (slice_get entries) (sym own) ∙ at.1 in
+      let same : e ≡ at.0 = cc in
+      let place = ap (λ (x : Entry). x.column) same in
+      let behind = at.2 in
+      absurd (omega arith)
+
+  tail-is : (column n : ℕ) (e : Entry) (c : Cell) → IsSeenAt entries column c → IsCellOf n c → slice_get entries n ≡ Some e → e.column < column → c ≡ Tail n
+  tail-is column n e Blank at own is here = absurd own
+  tail-is column n e (Tail m) at own is here = ap Tail own
+  tail-is column n e (Head m) at own is here =
+      let there : slice_get entries n ≡ Some at.0 = ap (slice_get entries) (sym own) ∙ at.1 in
+      let same : e ≡ at.0 = cc in
+      let place = ap (λ (x : Entry). x.column) same in
+      let first = at.2 in
+      absurd (omega arith)
+
+  -- what is seen in a column is its cell
+  pub seen-is : (column : ℕ) (c : Cell) → column < width → IsSeenAt entries column c → Some c ≡ slice_get (cells_of width start entries) column
+  seen-is column Blank lt at =
+      let cells = cells_of width start entries in
+      let len = length-cells entries start width f fits in
+      let own = get-some cells column (omega arith) in
+      sym (own.1 ∙ ap Some (blank-is column own.0 own.1 (seen entries start width f fits column own.0 own.1) at))
+  seen-is column (Head n) lt at =
+      let here = at.2 in
+      let some = at.3 in
+      let h = covered entries start width f fits n column at.0 at.1 (omega arith) (omega arith) in
+      sym (h.1 ∙ ap Some (head-is column n at.0 h.0 (seen entries start width f fits column h.0 h.1) h.2 at.1 here))
+  seen-is column (Tail n) lt at =
+      let behind = at.2 in
+      let h = covered entries start width f fits n column at.0 at.1 (omega arith) at.3 in
+      sym (h.1 ∙ ap Some (tail-is column n at.0 h.0 (seen entries start width f fits column h.0 h.1) h.2 at.1 behind))
+
+-- the rest from an element on begins with it
+pub drop-get : {X : Type 0} (xs : List X) (k : ℕ) (x : X) → slice_get xs k ≡ Some x → drop k xs ≡ x ∷ drop (k + 1) xs
+drop-get xs k x is = drop-next xs k x x (get-inside xs k x is) (sym (get_or_from_slice_get xs k x x is))
+
+-- no cell stands behind the width
+pub none-behind : {X : Type 0} (xs : List X) (k : ℕ) → length xs ≤ k → None ≡ slice_get xs k
+none-behind [] k le = refl
+none-behind (x ∷ xs) zero le = absurd (omega arith)
+none-behind (x ∷ xs) (suc k) le = none-behind xs k (omega arith)
+
+-- ---- rows that are shifted
+
+-- a row by what it keeps
+abbrev pub row_by : (width start first last level : ℕ) → List Entry → DrawnRow
+row_by width start first last level es = record { first_place = first; last_place = last; para_level = level; entries = es; cells = cells_of width start es }
+
+pub row_by-shifted : (width start first last level i j : ℕ) (es : List Entry)
+    → row_by width start (first + j) (last + j) level (map (shifted_entry i j) es) ≡ shifted i j (row_by width start first last level es)
+row_by-shifted width start first last level i j es =
+    ap (λ (cells : List Cell). record { first_place = first + j; last_place = last + j; para_level = level; entries = map (shifted_entry i j) es; cells = cells })
+    (cells_of-shifted width start i j es)
+
+pub StandWithin-shifted : (width start i j : ℕ) (es : List Entry) → StandWithin width start es → StandWithin width start (map (shifted_entry i j) es)
+StandWithin-shifted width start i j es h =
+    let wide = total-shifted i j es in
+    let n = length-map es (shifted_entry i j) in
+    let fits = h.fits in
+    let few = h.count in
+    let end : start + total es ≡ start + total (map (shifted_entry i j) es) = omega arith in
+    record {
+      follow = same_follow start (map (shifted_entry i j) es) _ _ end (follow-shifted i j es start (start + total es) h.follow);
+      fits = omega arith;
+      count = omega arith;
+    }

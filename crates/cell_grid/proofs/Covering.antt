@@ -4,8 +4,8 @@ use Rattle.std.proofs.lemmas.Bool.Decides.{leb_tells}
 use Rattle.cell_grid.specs.declared.entry.Entry.{Entry}
 use Rattle.cell_grid.specs.declared.cell.Cell.{Cell}
 use Rattle.cell_grid.specs.declared.cell.Cell.TheVariants.{Blank, Head, Tail}
-use Rattle.cell_grid.specs.Cells.{entry_cells, entries_cells}
-use Rattle.cell_grid.specs.Laws.{ColumnsFollow, IsCellOf}
+use Rattle.cell_grid.specs.Cells.{entry_cells, entries_cells, ColumnsFollow}
+use Rattle.cell_grid.specs.Laws.{IsCellOf}
 use Rattle.cell_grid.proofs.Sides.{length-entry_cells}
 use Rattle.cell_grid.proofs.Lookups.{get-left, get-right, get-replicate}
 

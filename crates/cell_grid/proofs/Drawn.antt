@@ -1,8 +1,7 @@
 -- The rows of a paragraph: their entries are the clusters of its lines.
-use Rattle.std.proofs.Common.{◌≡◌, ℕ, zero, suc, ◌+◌, ◌-◌, ◌<◌, ◌≤◌, List, [], ◌∷◌, ◌++◌, map, length, drop, get_or, replicate, flat_map, slice_range, IsPermutation, sym, subst, arith}
-use Rattle.std.proofs.lemmas.List.{length-map}
+use Rattle.std.proofs.Common.{◌≡◌, ℕ, ◌+◌, ◌-◌, ◌≤◌, List, [], ◌∷◌, map, length, drop, get_or, flat_map, slice_range, IsPermutation, sym, subst, arith}
 use Rattle.std.proofs.lemmas.List.Concat.{flat_map-cons}
-use Rattle.std.proofs.lemmas.List.Elements.{All-nil, All-cons, All-head, All-tail, All-append, All-map, All-take, All-drop, All-weaker}
+use Rattle.std.proofs.lemmas.List.Elements.{All-nil, All-head, All-tail, All-append, All-map, All-take, All-drop, All-weaker}
 use Rattle.std.proofs.lemmas.List.Sorted.{IsPermutation-map, All-permutation}
 use Rattle.std.specs.List.{All, range_with_len}
 use Rattle.std.specs.Str.{IsUtf8}
@@ -18,17 +17,14 @@ use Rattle.line_break.specs.Lines.{lines}
 use Rattle.reorder.specs.VisualList.{visual_list}
 use Rattle.paragraphs.specs.declared.span.Span.{Span}
 use Rattle.cell_grid.specs.declared.entry.Entry.{Entry}
-use Rattle.cell_grid.specs.declared.cell.Cell.{Cell}
-use Rattle.cell_grid.specs.declared.cell.Cell.TheVariants.{Blank, Head, Tail}
 use Rattle.cell_grid.specs.LawsBelow.{LawsBelow}
 use Rattle.cell_grid.specs.Spans.{spans, extent, shifted_span}
 use Rattle.cell_grid.specs.Hanging.{line_columns}
-use Rattle.cell_grid.specs.Cells.{entry_cells, entries_cells, cells_of}
 use Rattle.cell_grid.specs.Rows.{DrawnRow, entries_from, start_column, levels_in_line, row_of, rows_of, shifted, shifted_entry}
 use Rattle.cell_grid.specs.Shifting.{MayShift, MayShiftRow}
 use Rattle.cell_grid.specs.Outline.{IsLine}
 use Rattle.cell_grid.specs.Grids.{DrawnGrid, paragraph_rows, grid_rows, IsDrawn}
-use Rattle.cell_grid.specs.Printable.{IsSlice, IsOneOf, IsPrintable}
+use Rattle.cell_grid.specs.Printable.{IsSlice}
 use Rattle.cell_grid.proofs.Sides.{map-numbers, spans-entries_from}
 use Rattle.cell_grid.proofs.Parts.{length-slice}
 use Rattle.cell_grid.proofs.LinesOf.{length-levels, IsLine-lines}
@@ -105,29 +101,6 @@ module _ (below : LawsBelow) (tables : TableValues) (width : ℕ) (wide : 2 ≤ 
 
 -- ---- rows that can be printed
 
-heads-replicate : (count n : ℕ) (c : Cell) → IsOneOf count c → All (IsOneOf count) (replicate n c)
-heads-replicate count zero c h = All-nil (IsOneOf count)
-heads-replicate count (suc n) c h = All-cons (IsOneOf count) c (replicate n c) h (heads-replicate count n c h)
-
-heads-entry_cells : (count number n : ℕ) → number < count → All (IsOneOf count) (entry_cells number n)
-heads-entry_cells count number zero lt = All-nil (IsOneOf count)
-heads-entry_cells count number (suc n) lt = All-cons (IsOneOf count) (Head number) (replicate n (Tail number)) lt (heads-replicate count n (Tail number) tt)
-
-heads-entries_cells : (count number : ℕ) (entries : List Entry) → number + length entries ≤ count → All (IsOneOf count) (entries_cells number entries)
-heads-entries_cells count number [] le = All-nil (IsOneOf count)
-heads-entries_cells count number (e ∷ later) le =
-    All-append (IsOneOf count) (entry_cells number e.columns) (entries_cells (number + 1) later) (heads-entry_cells count number e.columns (omega arith))
-    (heads-entries_cells count (number + 1) later (omega arith))
-
--- the heads are the entries'
-pub heads-cells_of : (width start : ℕ) (entries : List Entry) → All (IsOneOf (length entries)) (cells_of width start entries)
-heads-cells_of width start entries =
-    let count = length entries in
-    let taken = entries_cells 0 entries in
-    let rest = replicate (width - (start + length taken)) Blank in
-    All-append (IsOneOf count) (replicate start Blank) (taken ++ rest) (heads-replicate count start Blank tt)
-    (All-append (IsOneOf count) taken rest (heads-entries_cells count 0 entries (omega arith)) (heads-replicate count (width - (start + length taken)) Blank tt))
-
 pub All-flat_map : {X Y : Type 0} (P : Y → Type 0) (f : X → List Y) (xs : List X) → All (λ x. All P (f x)) xs → All P (flat_map f xs)
 All-flat_map P f [] h = All-nil P
 All-flat_map P f (x ∷ xs) h =
@@ -142,19 +115,17 @@ each-row below tables width base text u P f =
     (All-weaker (StandsIn text) (λ p. All P (paragraph_rows tables width base p)) (λ p h. All-map P (shifted p.first_byte p.first_place) (rows_of tables width base p.text) (f p h))
     (paragraphs tables text) (below.paragraphs_stand tables text u))
 
--- each row of a grid can be printed
-pub IsPrintable-rows : (below : LawsBelow) (g : DrawnGrid) → IsDrawn g → All (IsPrintable g.text) g.rows
-IsPrintable-rows below g d =
-    subst (All (IsPrintable g.text)) (sym d.rows)
-    (each-row below g.tables d.width d.base g.text d.utf8 (IsPrintable g.text) (λ p h.
-    rows-each below g.tables d.width d.at_least d.base p.text (paragraph-utf8 g.text d.utf8 p h) (λ r. IsPrintable g.text (shifted p.first_byte p.first_place r)) (λ line l.
+-- the entries of a grid are slices of its text
+pub slices-rows : (below : LawsBelow) (g : DrawnGrid) → IsDrawn g → All (λ (r : DrawnRow). All (λ (e : Entry). IsSlice g.text e.span) r.entries) g.rows
+slices-rows below g d =
+    let Q : DrawnRow → Type 0 = λ r. All (λ (e : Entry). IsSlice g.text e.span) r.entries in
+    subst (All Q) (sym d.rows)
+    (each-row below g.tables d.width d.base g.text d.utf8 Q (λ p h.
+    rows-each below g.tables d.width d.at_least d.base p.text (paragraph-utf8 g.text d.utf8 p h) (λ r. Q (shifted p.first_byte p.first_place r)) (λ line l.
     let para = paragraph_level d.base (classes_of g.tables p.text) in
     let levels = levels_of g.tables d.base p.text in
     let r = row_of g.tables d.width para p.text levels line in
-    record {
-      entries = All-map (λ (e : Entry). IsSlice g.text e.span) (shifted_entry p.first_byte p.first_place) r.entries
-          (each-entry below g.tables d.width para p.text levels line l (λ s. IsSlice g.text (shifted_span p.first_byte p.first_place s))
-          (All-weaker (IsSpan p.text) (λ s. IsSlice g.text (shifted_span p.first_byte p.first_place s)) (slice-in g.text d.utf8 p h) (spans p.text)
-          (spans-slices below p.text (paragraph-utf8 g.text d.utf8 p h))));
-      cells = subst (λ n. All (IsOneOf n) r.cells) (sym (length-map r.entries (shifted_entry p.first_byte p.first_place))) (heads-cells_of d.width _ r.entries);
-    })))
+    All-map (λ (e : Entry). IsSlice g.text e.span) (shifted_entry p.first_byte p.first_place) r.entries
+    (each-entry below g.tables d.width para p.text levels line l (λ s. IsSlice g.text (shifted_span p.first_byte p.first_place s))
+    (All-weaker (IsSpan p.text) (λ s. IsSlice g.text (shifted_span p.first_byte p.first_place s)) (slice-in g.text d.utf8 p h) (spans p.text)
+    (spans-slices below p.text (paragraph-utf8 g.text d.utf8 p h)))))))

@@ -1,6 +1,5 @@
 -- Entries stand side by side, at the row's edge.
-use Rattle.std.proofs.Common.{◌≡◌, ℕ, ◌+◌, ◌-◌, ◌≤◌, cond, List, [], ◌∷◌, map, length, get_or, sum, sum_by, slice_range, refl, sym, ap, subst, ◌∙◌, arith}
-use Rattle.std.proofs.lemmas.List.Sums.{sum_by-cons}
+use Rattle.std.proofs.Common.{◌≡◌, ℕ, ◌+◌, ◌-◌, ◌≤◌, cond, List, map, length, get_or, sum, sum_by, slice_range, sym, ap, subst, ◌∙◌, arith}
 use Rattle.std.specs.List.{All}
 use Rattle.ucd_files.specs.Tables.{TableValues}
 use Rattle.paragraphs.specs.Clusters.{cluster_sizes}
@@ -8,45 +7,20 @@ use Rattle.bidi_explicit.specs.Embedding.{paragraph_level, classes_of}
 use Rattle.bidi_weak_neutral.specs.Levels.{levels_of}
 use Rattle.line_break.specs.declared.line.Line.{Line}
 use Rattle.reorder.specs.VisualList.{visual_list}
-use Rattle.paragraphs.specs.declared.span.Span.{Span}
-use Rattle.cell_grid.specs.declared.entry.Entry.{Entry}
 use Rattle.cell_grid.specs.LawsBelow.{LawsBelow}
 use Rattle.cell_grid.specs.Spans.{spans}
 use Rattle.cell_grid.specs.Hanging.{line_columns}
-use Rattle.cell_grid.specs.Rows.{entries_from, start_column, levels_in_line, row_of, shifted, shifted_entry}
+use Rattle.cell_grid.specs.Rows.{start_column, levels_in_line, row_of, shifted, shifted_entry}
 use Rattle.cell_grid.specs.Outline.{own_columns, IsLine}
 use Rattle.cell_grid.specs.Grids.{DrawnGrid, IsDrawn}
-use Rattle.cell_grid.specs.Laws.{ColumnsFollow, total, StandsAtItsEdge}
-use Rattle.cell_grid.proofs.Sides.{sum-order, length-hung, sum-hung, start-fits, total-entries_from}
+use Rattle.cell_grid.specs.Cells.{ColumnsFollow, total}
+use Rattle.cell_grid.specs.Laws.{StandsAtItsEdge}
+use Rattle.cell_grid.proofs.Sides.{sum-order, length-hung, sum-hung, start-fits, total-entries_from, same_follow, follow-entries, follow-shifted, total-shifted}
 use Rattle.cell_grid.proofs.Parts.{length-slice}
 use Rattle.cell_grid.proofs.LinesOf.{length-levels, hung-columns}
 use Rattle.cell_grid.proofs.Counting.{length-own_columns, length-sizes_of}
 use Rattle.cell_grid.proofs.Slicing.{paragraph-utf8}
 use Rattle.cell_grid.proofs.Drawn.{rows-each, each-row}
-
-same_follow : (from : ℕ) (es : List Entry) (a b : ℕ) → a ≡ b → ColumnsFollow from es a → ColumnsFollow from es b
-same_follow from es a b e h = subst (ColumnsFollow from es) e h
-
-module _ (spans : List Span) (levels columns : List ℕ) where
-  follow-entries : (column : ℕ) (order : List ℕ) → ColumnsFollow column (entries_from spans levels columns column order) (column + sum_by (λ k. get_or columns k 0) order)
-  follow-entries column [] = omega arith
-  follow-entries column (k ∷ order) =
-      let e = sum_by-cons (λ k. get_or columns k 0) k order in (
-        refl,
-        same_follow (column + get_or columns k 0) (entries_from spans levels columns (column + get_or columns k 0) order)
-            (column + get_or columns k 0 + sum_by (λ k. get_or columns k 0) order) (column + sum_by (λ k. get_or columns k 0) (k ∷ order)) (omega arith)
-            (follow-entries (column + get_or columns k 0) order),
-      )
-
-follow-shifted : (i j : ℕ) (es : List Entry) (from to : ℕ) → ColumnsFollow from es to → ColumnsFollow from (map (shifted_entry i j) es) to
-follow-shifted i j [] from to h = h
-follow-shifted i j (e ∷ es) from to h = (h.0, follow-shifted i j es (e.column + e.columns) to h.1)
-
-total-shifted : (i j : ℕ) (es : List Entry) → total (map (shifted_entry i j) es) ≡ total es
-total-shifted i j [] = refl
-total-shifted i j (e ∷ es) =
-    sum_by-cons (λ (x : Entry). x.columns) (shifted_entry i j e) (map (shifted_entry i j) es)
-    ∙ ap (λ n. e.columns + n) (total-shifted i j es) ∙ sym (sum_by-cons (λ (x : Entry). x.columns) e es)
 
 -- the columns of a line that fits are within the width, one for each cluster
 pub line_columns-fit : (tables : TableValues) (width : ℕ) (text : List ℕ) (line : Line) → IsLine tables width text line → sum (line_columns tables width text line) ≤ width

@@ -1,12 +1,14 @@
 pub mod Steps
 pub mod Hung
 pub mod Entries
-pub mod Celled
 pub mod Writing
 pub mod Extents
-pub mod Outlining
 pub mod Standing
 pub mod Sides
+pub mod Lookups
+pub mod Covering
+pub mod Celled
+pub mod Printing
 pub mod Fitting
 pub mod Parts
 pub mod LineBounds
@@ -17,8 +19,6 @@ pub mod Drawn
 pub mod Edges
 pub mod Once
 pub mod Following
-pub mod Lookups
-pub mod Covering
 pub mod CellsOnce
 pub mod Holding
 pub mod PlacesOnce

@@ -1,5 +1,5 @@
 -- Entries in visual order: how many there are, and how wide they are.
-use Rattle.std.proofs.Common.{◌≡◌, ℕ, zero, suc, ◌+◌, ◌-◌, ◌<◌, ◌≤◌, true, false, cond, List, [], ◌∷◌, ◌++◌, map, length, get_or, sum, sum_by, IsPermutation, All, refl, sym, ap, ◌∙◌, arith, length-append, inl, inr}
+use Rattle.std.proofs.Common.{◌≡◌, ℕ, zero, suc, ◌+◌, ◌-◌, ◌<◌, ◌≤◌, true, false, cond, List, [], ◌∷◌, ◌++◌, map, length, get_or, sum, sum_by, IsPermutation, All, refl, sym, ap, subst, ◌∙◌, arith, length-append, inl, inr}
 use Rattle.std.proofs.lemmas.List.{ext_get_or, length-replicate}
 use Rattle.std.proofs.lemmas.List.FromFn.{length-map-range_with_len, get_or-map-range_with_len, get_or-range_with_len, length-range_with_len}
 use Rattle.std.proofs.lemmas.List.Sorted.{All-permutation, sum_by-IsPermutation, length_permutation}
@@ -10,8 +10,8 @@ use Rattle.paragraphs.specs.declared.span.Span.{Span}
 use Rattle.cell_grid.specs.declared.entry.Entry.{Entry}
 use Rattle.cell_grid.specs.Spans.{extent}
 use Rattle.cell_grid.specs.Hanging.{hung}
-use Rattle.cell_grid.specs.Cells.{entry_cells, entries_cells}
-use Rattle.cell_grid.specs.Rows.{entries_from, start_column}
+use Rattle.cell_grid.specs.Cells.{entry_cells, entries_cells, ColumnsFollow, total}
+use Rattle.cell_grid.specs.Rows.{entries_from, start_column, shifted_entry}
 use Rattle.cell_grid.proofs.Hung.{hung-fits, hung-full}
 use Rattle.std.proofs.lemmas.Bool.Decides.{leb_tells}
 
@@ -62,6 +62,31 @@ module _ (spans : List Span) (levels columns : List ℕ) where
   pub spans-entries_from : (column : ℕ) (order : List ℕ) → map (λ (e : Entry). e.span) (entries_from spans levels columns column order) ≡ map (λ k. get_or spans k (extent [])) order
   spans-entries_from column [] = refl
   spans-entries_from column (k ∷ order) = ap (λ l. get_or spans k (extent []) ∷ l) (spans-entries_from (column + get_or columns k 0) order)
+
+pub same_follow : (from : ℕ) (es : List Entry) (a b : ℕ) → a ≡ b → ColumnsFollow from es a → ColumnsFollow from es b
+same_follow from es a b e h = subst (ColumnsFollow from es) e h
+
+-- they stand side by side
+module _ (spans : List Span) (levels columns : List ℕ) where
+  pub follow-entries : (column : ℕ) (order : List ℕ) → ColumnsFollow column (entries_from spans levels columns column order) (column + sum_by (λ k. get_or columns k 0) order)
+  follow-entries column [] = omega arith
+  follow-entries column (k ∷ order) =
+      let e = sum_by-cons (λ k. get_or columns k 0) k order in (
+        refl,
+        same_follow (column + get_or columns k 0) (entries_from spans levels columns (column + get_or columns k 0) order)
+            (column + get_or columns k 0 + sum_by (λ k. get_or columns k 0) order) (column + sum_by (λ k. get_or columns k 0) (k ∷ order)) (omega arith)
+            (follow-entries (column + get_or columns k 0) order),
+      )
+
+pub follow-shifted : (i j : ℕ) (es : List Entry) (from to : ℕ) → ColumnsFollow from es to → ColumnsFollow from (map (shifted_entry i j) es) to
+follow-shifted i j [] from to h = h
+follow-shifted i j (e ∷ es) from to h = (h.0, follow-shifted i j es (e.column + e.columns) to h.1)
+
+pub total-shifted : (i j : ℕ) (es : List Entry) → total (map (shifted_entry i j) es) ≡ total es
+total-shifted i j [] = refl
+total-shifted i j (e ∷ es) =
+    sum_by-cons (λ (x : Entry). x.columns) (shifted_entry i j e) (map (shifted_entry i j) es)
+    ∙ ap (λ n. e.columns + n) (total-shifted i j es) ∙ sym (sum_by-cons (λ (x : Entry). x.columns) e es)
 
 -- an entry has as many cells as columns
 pub length-entry_cells : (number n : ℕ) → length (entry_cells number n) ≡ n

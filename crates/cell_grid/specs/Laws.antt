@@ -1,5 +1,5 @@
 -- Words of the laws of rows and grids.
-use Rattle.std.specs.Prelude.{◌≡◌, ℕ, ◌+◌, ◌<◌, ◌≤◌, List, [], ◌∷◌, map, length, sum_by, slice_get, Some, true, false}
+use Rattle.std.specs.Prelude.{◌≡◌, ℕ, ◌+◌, ◌<◌, ◌≤◌, List, [], ◌∷◌, map, length, slice_get, Some, true, false}
 use Rattle.std.specs.List.{All, flat_map}
 use Rattle.ucd_files.specs.Tables.{TableValues}
 use Rattle.paragraphs.specs.Paragraphs.{Paragraph, paragraphs}
@@ -9,6 +9,7 @@ use Rattle.cell_grid.specs.declared.entry.Entry.{Entry}
 use Rattle.cell_grid.specs.declared.cell.Cell.{Cell}
 use Rattle.cell_grid.specs.declared.cell.Cell.TheVariants.{Blank, Head, Tail}
 use Rattle.cell_grid.specs.Spans.{spans, shifted_span}
+use Rattle.cell_grid.specs.Cells.{ColumnsFollow, total, IsSeenAt}
 use Rattle.cell_grid.specs.Rows.{DrawnRow}
 
 -- where the clusters of all paragraphs stand in a text, in order
@@ -43,15 +44,6 @@ pub record HoldsPlacesOnce (r : DrawnRow) : Type 0 where
   pub each : (place : ℕ) → r.first_place ≤ place → place < r.last_place → (n : ℕ) × Holds r n place
   pub once : (place m n : ℕ) → Holds r m place → Holds r n place → m ≡ n
 
--- the first entry stands at this column, each other one where the one before it ends, and the last ends there
-abbrev pub ColumnsFollow : (from : ℕ) → List Entry → (to : ℕ) → Type 0
-ColumnsFollow from [] to = from ≡ to
-ColumnsFollow from (e ∷ later) to = (e.column ≡ from) × ColumnsFollow (e.column + e.columns) later to
-
--- the columns of some entries
-abbrev pub total : List Entry → ℕ
-total entries = sum_by (λ (e : Entry). e.columns) entries
-
 -- the entries follow one another; in a paragraph of even level the first stands at column 0, in one of odd level the last ends at the width
 pub record StandsAtItsEdge (width : ℕ) (r : DrawnRow) : Type 0 where
   pub start : ℕ
@@ -59,12 +51,6 @@ pub record StandsAtItsEdge (width : ℕ) (r : DrawnRow) : Type 0 where
   pub fits : start + total r.entries ≤ width
   pub left : is_odd r.para_level ≡ false → start ≡ 0
   pub right : is_odd r.para_level ≡ true → start + total r.entries ≡ width
-
--- entry n is seen in this cell: in its head, or behind it in its tail
-abbrev pub IsSeenAt : List Entry → (column : ℕ) → Cell → Type 0
-IsSeenAt entries column Blank = (n : ℕ) (e : Entry) → slice_get entries n ≡ Some e → e.column ≤ column → column < e.column + e.columns → ⊥
-IsSeenAt entries column (Head n) = (e : Entry) × (slice_get entries n ≡ Some e) × (e.column ≡ column) × (0 < e.columns)
-IsSeenAt entries column (Tail n) = (e : Entry) × (slice_get entries n ≡ Some e) × (e.column < column) × (column < e.column + e.columns)
 
 -- a cell of entry n is its head or its tail
 abbrev pub IsCellOf : (n : ℕ) → Cell → Type 0

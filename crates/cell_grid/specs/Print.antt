@@ -1,5 +1,5 @@
 -- Print of a grid: the cells' texts, each row ended by one LF.
-use Rattle.std.specs.Prelude.{ℕ, Bool, true, false, List, [], ◌∷◌, ◌++◌, map, replicate, slice_get, slice_range, Option, Some, None, encode_utf8_all, if◌then◌else◌}
+use Rattle.std.specs.Prelude.{ℕ, zero, suc, Bool, true, false, List, [], ◌∷◌, ◌++◌, map, replicate, slice_get, slice_range, Option, Some, None, encode_utf8_all, if◌then◌else◌}
 use Rattle.std.specs.List.{flat_map}
 use Rattle.bg_types.specs.declared.class.Base.{Base}
 use Rattle.bg_types.specs.declared.class.Bidi.{Bidi}
@@ -39,6 +39,15 @@ cluster_of text e = code_points (slice_range text e.span.first_byte e.span.end_b
 abbrev pub entry_text : TableValues → (text : List ℕ) → Option Entry → List ℕ
 entry_text tables text None = []
 entry_text tables text (Some e) = cluster_text tables e.level e.columns (cluster_of text e)
+
+-- a text over so many columns: none where there is no column
+abbrev pub text_over : (columns : ℕ) → List ℕ → List ℕ
+text_over zero shown = []
+text_over (suc n) shown = shown
+
+-- what the cells of an entry print together
+abbrev pub own_text : TableValues → (text : List ℕ) → Entry → List ℕ
+own_text tables text e = text_over e.columns (entry_text tables text (Some e))
 
 -- what a cell prints: a head its cluster, a tail nothing, a blank one space
 abbrev pub cell_text : TableValues → (text : List ℕ) → List Entry → Cell → List ℕ

@@ -1,11 +1,11 @@
 //! The cells of a row.
 
-ghost use Rattle.std.specs.Prelude.{◌≡◌, ◌++◌, ◌+◌, ◌≤◌, ◌<◌, ◌^◌, length, IfOk, OnOk};
-ghost use Rattle.cell_grid.specs.Cells.{entry_cells, entries_cells, cells_of};
+ghost use Rattle.std.specs.Prelude.{◌≡◌, ℕ, ◌≤◌, length};
+ghost use Rattle.cell_grid.specs.Cells.{ColumnsFollow, IsSeenAt};
 
 use crate::entry::Entry;
-use bg_types::Memory;
-use std::alloc::Global;
+use crate::row::Row;
+use std::marker::Model;
 
 /// A cell: blank, or the first (a head) or a further one (a tail) of the entry with this number,
 /// which counts the row's entries from the left, from 0.
@@ -16,37 +16,74 @@ pub enum Cell {
     Tail(u32),
 }
 
-/// Puts the cells of an entry behind the others: its head, and behind it its tail.
-fn push_cells(cells: &mut Vec<Cell>, number: u32, columns: u8) -> Result<(), Memory>
-    requires { length cells.old.items < 2 ^ 32 }
-    ensures { OnOk result (cells.new.items ≡ cells.old.items ++ entry_cells number columns) }
+/// The cell that is seen in a column, where these entries stand side by side. The entry is found by
+/// binary search.
+pub(crate) fn cell_in(entries: &[Entry], column: usize) -> Cell
+    requires follow { (from : ℕ) × (to : ℕ) × ColumnsFollow from entries.now to }
+    requires count { length entries.now ≤ 4_000_000 }
+    ensures { IsSeenAt entries.now column result }
 {
-    if columns > 0 {
-        cells.push(Cell::Head(number))?;
-        let end = cells.len() + usize::from(columns - 1);
-        cells.resize(end, Cell::Tail(number))?;
+    let count = entries.partition_point(|entry| usize::from(entry.column) <= column);
+    if count == 0 {
+        return Cell::Blank;
     }
-    Ok(())
+    // Of the entries that begin by this column only the last one can reach it.
+    let first = entries[count - 1].column as usize;
+    let end = first + entries[count - 1].columns as usize;
+    if column >= end {
+        Cell::Blank
+    } else if column == first {
+        Cell::Head((count - 1) as u32)
+    } else {
+        Cell::Tail((count - 1) as u32)
+    }
 }
 
-/// The cells of a row of this width, whose entries stand side by side from column `start` on.
-pub(crate) fn cells_of(
-    alloc: Global,
-    width: u16,
-    start: u16,
-    entries: &[Entry],
-) -> Result<Vec<Cell>, Memory>
-    requires room { start + length (entries_cells 0 entries.now) ≤ width }
-    requires count { length entries.now ≤ 4_000_000 }
-    ensures { IfOk result (λ cells. cells.items ≡ cells_of width start entries.now) }
-{
-    let mut cells = Vec::with_capacity(alloc, usize::from(width))?;
-    cells.resize(usize::from(start), Cell::Blank)?;
-    let mut number = 0;
-    for entry in entries {
-        push_cells(&mut cells, number, entry.columns)?;
-        number += 1;
+/// Iterates over the cells of a row, from left to right. Takes no memory.
+#[derive(Drop)]
+pub struct Cells<'a> {
+    row: &'a Row,
+    column: u16,
+}
+
+impl<'a> Model for Cells<'a> {
+    ghost use Rattle.std.specs.Prelude.{List, drop};
+    ghost use Rattle.cell_grid.specs.declared.cell.Cell.{Cell};
+
+    // The cells that are still to come.
+    ghost Value = { List Cell };
+
+    ghost view = { λ s. drop s.column s.row.now.cells };
+}
+
+impl<'a> Cells<'a> {
+    /// All cells of a row.
+    #[inline]
+    pub(crate) fn of(row: &'a Row) -> Cells<'a>
+        ensures { result ≡ row.now.cells }
+    {
+        Cells { row, column: 0 }
     }
-    cells.resize(usize::from(width), Cell::Blank)?;
-    Ok(cells)
+}
+
+impl<'a> Iterator for Cells<'a> {
+    ghost use Rattle.std.specs.Iterator.{YieldsFirst, item_count};
+
+    type Item = Cell;
+
+    ghost next_gives = { YieldsFirst (λ left. left) };
+
+    ghost remaining = { item_count (λ left. left) };
+
+    #[inline]
+    fn next(&mut self) -> Option<Cell> {
+        let row = self.row;
+        let column = self.column;
+        if column >= row.width() {
+            return None;
+        }
+        let cell = row.cell_at(usize::from(column));
+        self.column = column + 1;
+        Some(cell)
+    }
 }

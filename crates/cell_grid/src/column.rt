@@ -1,21 +1,24 @@
 //! The columns of a line's clusters.
 
-ghost use Rattle.std.specs.Prelude.{◌≡◌, ◌≤◌, sum, IfOk};
+ghost use Rattle.std.specs.Prelude.{◌≡◌, ◌+◌, ◌^◌, ◌<◌, ◌≤◌, map, sum, IfOk};
+ghost use Rattle.cell_grid.specs.Cells.{ColumnsFollow, total};
 ghost use Rattle.cell_grid.specs.Hanging.{hung};
 ghost use Rattle.cell_grid.specs.Rows.{start_column};
 
+use crate::entry::Entry;
 use bg_types::Memory;
+use line_break::Cluster;
 use std::alloc::Global;
 
 /// Each cluster takes its columns while there is room: the first that does not fit and all later
 /// ones take 0. In a line that fits these are spaces at its end.
-pub(crate) fn hung(alloc: Global, width: u16, columns: &[u8]) -> Result<Vec<u8>, Memory>
-    ensures { IfOk result (λ hanging. hanging.items ≡ hung width columns.now) }
+pub(crate) fn hung(alloc: Global, width: u16, clusters: &[Cluster]) -> Result<Vec<u8>, Memory>
+    ensures { IfOk result (λ hanging. hanging.items ≡ hung width (map (λ c. c.columns) clusters.now)) }
 {
-    let mut hanging = Vec::with_capacity(alloc, columns.len())?;
+    let mut hanging = Vec::with_capacity(alloc, clusters.len())?;
     let mut room = width;
-    for own in columns {
-        let own = *own;
+    for cluster in clusters {
+        let own = cluster.columns;
         if u16::from(own) <= room {
             room -= u16::from(own);
             hanging.push(own)?;
@@ -28,7 +31,7 @@ pub(crate) fn hung(alloc: Global, width: u16, columns: &[u8]) -> Result<Vec<u8>,
 }
 
 /// The columns of some clusters together.
-fn total(columns: &[u8]) -> u16
+fn total_columns(columns: &[u8]) -> u16
     requires { sum columns.now ≤ 500 }
     ensures { result ≡ sum columns.now }
 {
@@ -43,8 +46,20 @@ pub(crate) fn start_column(width: u16, para_level: u8, columns: &[u8]) -> u16
     ensures { result ≡ start_column width para_level columns.now }
 {
     if para_level % 2 == 1 {
-        width - total(columns)
+        width - total_columns(columns)
     } else {
         0
+    }
+}
+
+/// The column where entries end that stand side by side from column `start` on.
+pub(crate) fn end_column(entries: &[Entry], start: u16) -> u16
+    requires follow { ColumnsFollow start entries.now (start + total entries.now) }
+    requires fits { start + total entries.now < 2 ^ 16 }
+    ensures { result ≡ start + total entries.now }
+{
+    match entries.last() {
+        Some(entry) => entry.column + u16::from(entry.columns),
+        None => start,
     }
 }

@@ -34,6 +34,15 @@ impl<'a> Model for Grid<'a> {
 }
 
 impl<'a> Grid<'a> {
+    /// The grid of these rows, which are the text's at one width and base. Takes no memory.
+    #[inline]
+    pub fn of(tables: &'a Tables, text: &'a str, rows: Vec<Row>) -> Grid<'a>
+        requires { IsDrawn (record { tables = tables.now; text = text.now; rows = rows.items }) }
+        ensures { result ≡ record { tables = tables.now; text = text.now; rows = rows.items } }
+    {
+        Grid { tables, text, rows }
+    }
+
     /// Its tables.
     #[inline]
     pub fn tables(&self) -> &'a Tables
@@ -63,7 +72,7 @@ impl<'a> Grid<'a> {
 
 /// Draws a text on a grid of a width in columns: a row for each line of each paragraph.
 ///
-/// Memory is taken in proportion to the text and the cells.
+/// Memory is taken in proportion to the text.
 pub fn draw<'a>(
     alloc: Global,
     tables: &'a Tables,
@@ -83,7 +92,7 @@ pub fn draw<'a>(
     for para in &paragraphs {
         push_rows(alloc, tables, width, base, para, &mut rows)?;
     }
-    Ok(Grid { tables, text, rows })
+    Ok(Grid::of(tables, text, rows))
 }
 
 /// Puts the rows of a paragraph behind the others, where they stand in the text.

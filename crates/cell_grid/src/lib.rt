@@ -7,15 +7,15 @@ mod entry;
 mod grid;
 pub mod laws;
 mod laws_below;
-mod outline;
 mod paragraph;
 mod printed;
 mod row;
 mod span;
 
-pub use cell::Cell;
+pub use cell::{Cell, Cells};
 pub use entry::Entry;
 pub use grid::{Grid, draw};
+pub use paragraph::rows;
 pub use paragraphs::Span;
 pub use printed::print;
 pub use row::Row;

@@ -1,21 +1,23 @@
 //! The rows of a paragraph.
 
-ghost use Rattle.std.specs.Prelude.{◌≡◌, ◌≤◌, length, slice_range, IfOk};
+ghost use Rattle.std.specs.Prelude.{◌≡◌, ℕ, ◌+◌, ◌≤◌, length, slice_range, IfOk};
+ghost use Rattle.std.specs.List.{All};
 ghost use Rattle.paragraphs.specs.Text.{code_points};
 ghost use Rattle.paragraphs.specs.Clusters.{clusters, cluster_sizes};
-ghost use Rattle.cell_grid.specs.Spans.{spans};
+ghost use Rattle.paragraphs.specs.Spans.{spans};
+ghost use Rattle.line_break.specs.LineClusters.{line_clusters};
 ghost use Rattle.cell_grid.specs.Rows.{levels_in_line, row_of, rows_of};
-ghost use Rattle.cell_grid.specs.Outline.{own_columns, StandIn, IsLine};
+ghost use Rattle.cell_grid.specs.Shifting.{MayShiftRow};
+ghost use Rattle.cell_grid.specs.Outline.{StandIn, IsLine};
 
 use crate::column::hung;
 use crate::laws_below::laws_below;
-use crate::outline::{Outline, outline_of};
 use crate::row::Row;
 use crate::span::extent;
 use bg_types::{Base, Memory};
 use bidi_explicit::paragraph_level;
 use bidi_weak_neutral::levels;
-use line_break::{Line, lines};
+use line_break::{Line, Outline, lines_of, outline_of};
 use paragraphs::{Para, Span};
 use reorder::line_levels;
 use std::alloc::Global;
@@ -72,7 +74,7 @@ fn row_of(alloc: Global, material: &Material, width: u16, line: Line) -> Result<
     requires levels { length material.now.levels.items ≡ length (code_points material.now.text.now) }
     requires spans { material.now.clusters.spans.items ≡ spans material.now.text.now }
     requires sizes { material.now.clusters.sizes.items ≡ cluster_sizes material.now.text.now }
-    requires columns { material.now.clusters.columns.items ≡ own_columns material.now.tables.now material.now.text.now }
+    requires clusters { material.now.clusters.clusters.items ≡ line_clusters material.now.tables.now material.now.text.now }
     requires line { IsLine material.now.tables.now width material.now.text.now line }
     ensures { IfOk result (λ row. row
         ≡ row_of material.now.tables.now width material.now.para_level material.now.text.now material.now.levels.items line) }
@@ -80,15 +82,15 @@ fn row_of(alloc: Global, material: &Material, width: u16, line: Line) -> Result<
     laws_below();
     let spans = part(&material.clusters.spans, line);
     let sizes = part(&material.clusters.sizes, line);
-    let own = part(&material.clusters.columns, line);
+    let clusters = part(&material.clusters.clusters, line);
     let levels = levels_in_line(alloc, material, spans, sizes)?;
-    let columns = hung(alloc, width, own)?;
+    let columns = hung(alloc, width, clusters)?;
     Row::with(alloc, width, material.para_level, spans, &levels, &columns)
 }
 
-/// The rows of a paragraph at a width in columns, bytes and places counted from the paragraph's
-/// start.
-pub(crate) fn rows(
+/// The rows of a paragraph of at most 4,000,000 bytes at a width in columns, from the top, bytes and
+/// places counted from the paragraph's start.
+pub fn rows(
     alloc: Global,
     tables: &Tables,
     width: u16,
@@ -98,7 +100,10 @@ pub(crate) fn rows(
     requires at_least { 2 ≤ width }
     requires at_most { width ≤ 500 }
     requires size { length para.now.text ≤ 4_000_000 }
-    ensures { IfOk result (λ rows. rows.items ≡ rows_of tables.now width base para.now.text) }
+    ensures rows { IfOk result (λ rows. rows.items ≡ rows_of tables.now width base para.now.text) }
+    // They may be shifted to where the paragraph stands.
+    ensures may_shift { IfOk result (λ rows. (bytes places : ℕ) → bytes + length para.now.text ≤ 4_000_000
+        → places + length (code_points para.now.text) ≤ 4_000_000 → All (MayShiftRow bytes places) rows.items) }
 {
     laws_below();
     let material = Material {
@@ -108,7 +113,7 @@ pub(crate) fn rows(
         levels: levels(alloc, tables, para, base)?,
         clusters: outline_of(alloc, tables, para)?,
     };
-    let lines = lines(alloc, tables, para, width)?;
+    let lines = lines_of(alloc, &material.clusters.clusters, width)?;
     let mut rows = Vec::with_capacity(alloc, lines.len())?;
     for line in &lines {
         rows.push(row_of(alloc, &material, width, *line)?)?;

@@ -1,14 +1,13 @@
 //! The print of a grid.
 
-ghost use Rattle.std.specs.Prelude.{◌≡◌, ◌≤◌, ◌<◌, length, false, replicate, is_err, OnOk, OnErr, Some, None};
-ghost use Rattle.std.specs.List.{All};
+ghost use Rattle.std.specs.Prelude.{◌≡◌, false, replicate, is_err, OnOk, OnErr, Some};
+ghost use Rattle.std.specs.List.{All, flat_map};
 ghost use Rattle.std.specs.Io.KnownBytes.{Appends};
 ghost use Rattle.bg_types.specs.Sink.{AppendsBeginning};
 ghost use Rattle.paragraphs.specs.Text.{code_points};
-ghost use Rattle.cell_grid.specs.Print.{is_segment_separator, begins_with_tab, mirrored_text, entry_text, cell_text, row_text, printed};
-ghost use Rattle.cell_grid.specs.Printable.{IsSlice, IsOneOf, IsPrintable};
+ghost use Rattle.cell_grid.specs.Print.{is_segment_separator, begins_with_tab, mirrored_text, entry_text, own_text, row_text, printed};
+ghost use Rattle.cell_grid.specs.Printable.{IsSlice};
 
-use crate::cell::Cell;
 use crate::entry::Entry;
 use crate::grid::Grid;
 use crate::laws_below::laws_below;
@@ -35,38 +34,57 @@ pub fn print<W: Sink>(grid: &Grid, sink: &mut W) -> Result<(), Device>
 
 fn print_row<W: Sink>(tables: &Tables, text: &str, row: &Row, sink: &mut W) -> Result<(), Device>
     requires working { W.has_failed sink.old ≡ false }
-    requires row { IsPrintable text.now row.now }
+    requires entries { All (λ e. IsSlice text.now e.span) row.now.entries }
     ensures ok { OnOk result (Appends (W.written sink.old) (W.written sink.new) (row_text tables.now text.now row.now)) }
     ensures err { OnErr result (AppendsBeginning (W.written sink.old) (W.written sink.new) (row_text tables.now text.now row.now)) }
     ensures failed { W.has_failed sink.new ≡ is_err result }
 {
-    for cell in row.cells() {
-        print_cell(tables, text, row.entries(), *cell, sink)?;
-    }
+    let (left, right) = row.blanks();
+    print_spaces(left, sink)?;
+    print_entries(tables, text, row.entries(), sink)?;
+    print_spaces(right, sink)?;
     put_all(sink, b"\n")
 }
 
-fn print_cell<W: Sink>(
+/// Writes the cells of entries that stand side by side.
+fn print_entries<W: Sink>(
     tables: &Tables,
     text: &str,
     entries: &[Entry],
-    cell: Cell,
     sink: &mut W,
 ) -> Result<(), Device>
     requires working { W.has_failed sink.old ≡ false }
     requires entries { All (λ e. IsSlice text.now e.span) entries.now }
-    requires cell { IsOneOf (length entries.now) cell }
-    ensures ok { OnOk result (Appends (W.written sink.old) (W.written sink.new) (cell_text tables.now text.now entries.now cell)) }
-    ensures err { OnErr result (AppendsBeginning (W.written sink.old) (W.written sink.new) (cell_text tables.now text.now entries.now cell)) }
+    ensures ok { OnOk result (Appends (W.written sink.old) (W.written sink.new) (flat_map (own_text tables.now text.now) entries.now)) }
+    ensures err { OnErr result (AppendsBeginning (W.written sink.old) (W.written sink.new) (flat_map (own_text tables.now text.now) entries.now)) }
     ensures failed { W.has_failed sink.new ≡ is_err result }
 {
-    match cell {
-        Cell::Blank => put_all(sink, b" "),
-        Cell::Head(number) => print_entry(tables, text, entries[number as usize], sink),
-        Cell::Tail(_) => Ok(()),
+    for entry in entries {
+        print_cells(tables, text, *entry, sink)?;
     }
+    Ok(())
 }
 
+/// Writes the cells of an entry, if it has any.
+fn print_cells<W: Sink>(
+    tables: &Tables,
+    text: &str,
+    entry: Entry,
+    sink: &mut W,
+) -> Result<(), Device>
+    requires working { W.has_failed sink.old ≡ false }
+    requires entry { IsSlice text.now entry.span }
+    ensures ok { OnOk result (Appends (W.written sink.old) (W.written sink.new) (own_text tables.now text.now entry)) }
+    ensures err { OnErr result (AppendsBeginning (W.written sink.old) (W.written sink.new) (own_text tables.now text.now entry)) }
+    ensures failed { W.has_failed sink.new ≡ is_err result }
+{
+    if entry.columns == 0 {
+        return Ok(());
+    }
+    print_entry(tables, text, entry, sink)
+}
+
+/// Writes an entry as it is shown.
 fn print_entry<W: Sink>(
     tables: &Tables,
     text: &str,
@@ -81,7 +99,7 @@ fn print_entry<W: Sink>(
 {
     let cluster = &text[entry.span.first_byte as usize..entry.span.end_byte as usize];
     if begins_with_tab(tables, cluster) {
-        print_spaces(entry.columns, sink)
+        print_spaces(u16::from(entry.columns), sink)
     } else {
         print_mirrored(tables, cluster, entry.level, sink)
     }
@@ -105,7 +123,7 @@ fn is_segment_separator(class: Bidi) -> bool
     matches!(class, Bidi::S)
 }
 
-fn print_spaces<W: Sink>(columns: u8, sink: &mut W) -> Result<(), Device>
+fn print_spaces<W: Sink>(columns: u16, sink: &mut W) -> Result<(), Device>
     requires working { W.has_failed sink.old ≡ false }
     ensures ok { OnOk result (Appends (W.written sink.old) (W.written sink.new) (replicate columns 32)) }
     ensures err { OnErr result (AppendsBeginning (W.written sink.old) (W.written sink.new) (replicate columns 32)) }

@@ -1,12 +1,14 @@
 //! A row of a grid.
 
-ghost use Rattle.std.specs.Prelude.{◌≡◌, ◌≤◌, length, map, sum, IfOk};
+ghost use Rattle.std.specs.Prelude.{◌≡◌, ◌++◌, ◌<◌, ◌≤◌, length, map, replicate, slice_get, sum, IfOk, Some};
 ghost use Rattle.std.specs.List.{All};
+ghost use Rattle.cell_grid.specs.declared.cell.Cell.TheVariants.{Blank};
+ghost use Rattle.cell_grid.specs.Cells.{entries_cells};
 ghost use Rattle.cell_grid.specs.Rows.{row_with, shifted, shifted_entry};
 ghost use Rattle.cell_grid.specs.Shifting.{MayShift, MayShiftRow};
 
-use crate::cell::{Cell, cells_of};
-use crate::column::start_column;
+use crate::cell::{Cell, Cells, cell_in};
+use crate::column::{end_column, start_column};
 use crate::entry::{Entry, entries_from};
 use crate::span::{extent, shifted};
 use bg_types::Memory;
@@ -15,17 +17,20 @@ use reorder::visual;
 use std::alloc::Global;
 use std::marker::Model;
 
-/// A row of a grid: a line with its entries from left to right, and a cell for each column.
+/// A row of a grid: a line with its entries from left to right. It keeps no cells: they follow from
+/// the width, the column where the entries begin and the entries.
 #[derive(Debug, Drop)]
 pub struct Row {
+    width: u16,
+    start: u16,
     first_place: u32,
     last_place: u32,
     para_level: u8,
     entries: Vec<Entry>,
-    cells: Vec<Cell>,
 }
 
 impl Model for Row {
+    ghost use Rattle.cell_grid.specs.Cells.{cells_of, StandWithin};
     ghost use Rattle.cell_grid.specs.Rows.{DrawnRow};
 
     ghost Value = { DrawnRow };
@@ -35,8 +40,10 @@ impl Model for Row {
       last_place = r.last_place;
       para_level = r.para_level;
       entries = r.entries.items;
-      cells = r.cells.items;
+      cells = cells_of r.width r.start r.entries.items;
     } };
+
+    ghost invariant = { λ r. StandWithin r.width r.start r.entries.items };
 }
 
 impl Row {
@@ -60,15 +67,32 @@ impl Row {
         let start = start_column(width, para_level, columns);
         let order = visual(alloc, levels)?;
         let entries = entries_from(alloc, spans, levels, columns, start, &order)?;
-        let cells = cells_of(alloc, width, start, &entries)?;
         let whole = extent(spans);
         Ok(Row {
+            width,
+            start,
             first_place: whole.first_place,
             last_place: whole.end_place,
             para_level,
             entries,
-            cells,
         })
+    }
+
+    /// A copy that stands so many bytes and places later. Nothing of it may pass 4,000,000.
+    pub fn shifted(&self, alloc: Global, bytes: u32, places: u32) -> Result<Row, Memory>
+        requires { MayShiftRow bytes places self.now }
+        ensures { IfOk result (λ row. row ≡ shifted bytes places self.now) }
+    {
+        let mut row = Row {
+            width: self.width,
+            start: self.start,
+            first_place: self.first_place,
+            last_place: self.last_place,
+            para_level: self.para_level,
+            entries: Vec::from_slice(alloc, &self.entries)?,
+        };
+        row.shift(bytes, places);
+        Ok(row)
     }
 
     /// Lets the row stand so many bytes and places later.
@@ -113,12 +137,50 @@ impl Row {
         &self.entries
     }
 
+    /// How many columns it has, each with a cell.
+    #[inline]
+    pub fn width(&self) -> u16
+        ensures { result ≡ length self.now.cells }
+    {
+        self.width
+    }
+
     /// Its cells from left to right, one for each column.
     #[inline]
-    pub fn cells(&self) -> &[Cell]
-        ensures { result.now ≡ self.now.cells }
+    pub fn cells(&self) -> Cells<'_>
+        ensures { result ≡ self.now.cells }
     {
-        &self.cells
+        Cells::of(self)
+    }
+
+    /// The cell in a column, counted from 0 at the left edge; none behind the right edge.
+    pub fn cell(&self, column: usize) -> Option<Cell>
+        ensures { result ≡ slice_get self.now.cells column }
+    {
+        let width = usize::from(self.width());
+        if column < width {
+            Some(self.cell_at(column))
+        } else {
+            None
+        }
+    }
+
+    /// The cell in a column that it has.
+    pub(crate) fn cell_at(&self, column: usize) -> Cell
+        requires { column < length self.now.cells }
+        ensures { slice_get self.now.cells column ≡ Some result }
+    {
+        cell_in(&self.entries, column)
+    }
+
+    /// How many blanks stand left of the entries' cells, and how many right of them.
+    pub(crate) fn blanks(&self) -> (u16, u16)
+        ensures { self.now.cells
+            ≡ replicate result.0 Blank ++ (entries_cells 0 self.now.entries ++ replicate result.1 Blank) }
+    {
+        let width = self.width;
+        let end = end_column(&self.entries, self.start);
+        (self.start, width - end)
     }
 }
 

@@ -8,5 +8,6 @@ pub mod LinesLeft
 pub mod Breaking
 pub mod Joining
 pub mod Measuring
+pub mod Outlining
 pub mod Following
 pub mod Fitting

@@ -1,60 +1,45 @@
 -- The clusters of a paragraph, outlined up to one of them.
-use Rattle.std.proofs.Common.{◌≡◌, ℕ, ◌+◌, ◌<◌, ◌≤◌, List, [], ◌∷◌, ◌++◌, map, length, drop, refl, sym, ap, subst, ◌∙◌, arith, append-nil, append_assoc, length-append}
+use Rattle.std.proofs.Common.{◌≡◌, ℕ, ◌+◌, ◌<◌, ◌≤◌, List, [], ◌∷◌, ◌++◌, map, length, sym, ap, subst, ◌∙◌, arith, append-nil, append_assoc, length-append}
 use Rattle.std.proofs.lemmas.List.Elements.{All-head, All-tail}
-use Rattle.std.proofs.lemmas.Str.{length-le-encodes, encodes-chars}
+use Rattle.std.proofs.lemmas.Str.{IsUtf8-nil, IsUtf8-append, length-le-encodes, encodes-chars}
 use Rattle.std.specs.List.{All, concat}
 use Rattle.std.specs.Str.{IsUtf8}
-use Rattle.ucd_files.specs.Tables.{TableValues}
 use Rattle.paragraphs.specs.Text.{code_points}
 use Rattle.paragraphs.specs.Clusters.{clusters, cluster_sizes}
-use Rattle.paragraphs.specs.Columns.{columns_of}
-use Rattle.line_break.specs.declared.status.Break.{Break}
-use Rattle.line_break.specs.Statuses.{breaks}
-use Rattle.line_break.specs.LineClusters.{measured_all, line_clusters}
 use Rattle.paragraphs.specs.declared.span.Span.{Span}
-use Rattle.cell_grid.specs.Spans.{span_at, spans_from, spans}
-use Rattle.cell_grid.specs.Outline.{own_columns}
+use Rattle.paragraphs.specs.Spans.{span_at, spans_from, spans}
 
--- the columns of these clusters
-abbrev pub columns_each : TableValues → List (List ℕ) → List ℕ
-columns_each tables left = map (columns_of tables) (map code_points left)
-
-own-measured : (tables : TableValues) (cs : List (List ℕ)) (statuses : List Break) → map (λ c. c.columns) (measured_all tables cs statuses) ≡ map (columns_of tables) cs
-own-measured tables [] statuses = refl
-own-measured tables (c ∷ cs) statuses = ap (λ l. columns_of tables c ∷ l) (own-measured tables cs (drop (length c) statuses))
-
-pub own_columns-each : (tables : TableValues) (text : List ℕ) → own_columns tables text ≡ columns_each tables (clusters text)
-unfolding line_clusters
-own_columns-each tables text = own-measured tables (map code_points (clusters text)) (breaks tables text)
+-- text that is joined is text
+pub IsUtf8-concat : (cs : List (List ℕ)) → All IsUtf8 cs → IsUtf8 (concat cs)
+IsUtf8-concat [] all = IsUtf8-nil
+IsUtf8-concat (c ∷ cs) all = IsUtf8-append c (concat cs) (All-head IsUtf8 c cs all) (IsUtf8-concat cs (All-tail IsUtf8 c cs all))
 
 -- the clusters before `left` are outlined, and have `byte` bytes and `place` code points
-pub record IsOutlinedTo (tables : TableValues) (text : List ℕ) (left : List (List ℕ)) (done : List Span) (sizes columns : List ℕ) (byte place : ℕ) : Type 0 where
+pub record IsOutlinedTo (text : List ℕ) (left : List (List ℕ)) (done : List Span) (sizes : List ℕ) (byte place : ℕ) : Type 0 where
   pub utf8 : All IsUtf8 left
   pub some : All (λ (cluster : List ℕ). 0 < length cluster) left
   pub bytes : byte + length (concat left) ≡ length text
   pub places : place ≤ byte
   pub all_spans : done ++ spans_from byte place left ≡ spans text
   pub all_sizes : sizes ++ map length (map code_points left) ≡ cluster_sizes text
-  pub all_columns : columns ++ columns_each tables left ≡ own_columns tables text
 
 -- a text has no more code points than bytes
 pub points-fit : (c : List ℕ) → IsUtf8 c → length (code_points c) ≤ length c
 points-fit c u = let a = length-le-encodes (code_points c) in let b = ap length (encodes-chars c u) in omega arith
 
-module _ (tables : TableValues) (text : List ℕ) where
-  pub IsOutlinedTo-start : (left : List (List ℕ)) (done : List Span) (sizes columns : List ℕ) → left ≡ clusters text → All IsUtf8 left → All (λ (cluster : List ℕ). 0 < length cluster) left
-      → concat left ≡ text → done ≡ [] → sizes ≡ [] → columns ≡ [] → IsOutlinedTo tables text left done sizes columns 0 0
-  IsOutlinedTo-start left done sizes columns all u some joined no_spans no_sizes no_columns = record {
+module _ (text : List ℕ) where
+  pub IsOutlinedTo-start : (left : List (List ℕ)) (done : List Span) (sizes : List ℕ) → left ≡ clusters text → All IsUtf8 left → All (λ (cluster : List ℕ). 0 < length cluster) left
+      → concat left ≡ text → done ≡ [] → sizes ≡ [] → IsOutlinedTo text left done sizes 0 0
+  IsOutlinedTo-start left done sizes all u some joined no_spans no_sizes = record {
     utf8 = u;
     some = some;
     bytes = let n = ap length joined in omega arith;
     places = omega arith;
     all_spans = ap (λ l. l ++ spans_from 0 0 left) no_spans ∙ ap (spans_from 0 0) all;
     all_sizes = ap (λ l. l ++ map length (map code_points left)) no_sizes ∙ ap (λ (l : List (List ℕ)). map length (map code_points l)) all;
-    all_columns = ap (λ l. l ++ columns_each tables left) no_columns ∙ ap (columns_each tables) all ∙ sym (own_columns-each tables text);
   }
 
-  module _ (left : List (List ℕ)) (done : List Span) (sizes columns : List ℕ) (byte place : ℕ) (m : IsOutlinedTo tables text left done sizes columns byte place) where
+  module _ (left : List (List ℕ)) (done : List Span) (sizes : List ℕ) (byte place : ℕ) (m : IsOutlinedTo text left done sizes byte place) where
     -- all clusters are outlined
     pub spans-end : left ≡ [] → done ≡ spans text
     spans-end none = sym (append-nil done) ∙ ap (λ l. done ++ spans_from byte place l) (sym none) ∙ m.all_spans
@@ -62,13 +47,10 @@ module _ (tables : TableValues) (text : List ℕ) where
     pub sizes-end : left ≡ [] → sizes ≡ cluster_sizes text
     sizes-end none = sym (append-nil sizes) ∙ ap (λ (l : List (List ℕ)). sizes ++ map length (map code_points l)) (sym none) ∙ m.all_sizes
 
-    pub columns-end : left ≡ [] → columns ≡ own_columns tables text
-    columns-end none = sym (append-nil columns) ∙ ap (λ l. columns ++ columns_each tables l) (sym none) ∙ m.all_columns
-
     -- one more cluster
     module _ (c : List ℕ) (later : List (List ℕ)) (e : left ≡ c ∷ later) where
-      at_cluster : IsOutlinedTo tables text (c ∷ later) done sizes columns byte place
-      at_cluster = subst (λ (l : List (List ℕ)). IsOutlinedTo tables text l done sizes columns byte place) e m
+      at_cluster : IsOutlinedTo text (c ∷ later) done sizes byte place
+      at_cluster = subst (λ (l : List (List ℕ)). IsOutlinedTo text l done sizes byte place) e m
 
       pub cluster-utf8 : IsUtf8 c
       cluster-utf8 = All-head IsUtf8 c later at_cluster.utf8
@@ -82,11 +64,11 @@ module _ (tables : TableValues) (text : List ℕ) where
       pub cluster-points : length (code_points c) ≤ length c
       cluster-points = points-fit c cluster-utf8
 
-      pub IsOutlinedTo-on : (new : Span) (size n : ℕ) (done' : List Span) (sizes' columns' : List ℕ) → size ≡ length (code_points c)
-          → new ≡ record { first_byte = byte; end_byte = byte + length c; first_place = place; end_place = place + size } → n ≡ columns_of tables (code_points c)
-          → done' ≡ done ++ new ∷ [] → sizes' ≡ sizes ++ size ∷ [] → columns' ≡ columns ++ n ∷ []
-          → IsOutlinedTo tables text later done' sizes' columns' (byte + length c) (place + size)
-      IsOutlinedTo-on new size n done' sizes' columns' count is wide put_span put_size put_columns = record {
+      pub IsOutlinedTo-on : (new : Span) (size : ℕ) (done' : List Span) (sizes' : List ℕ) → size ≡ length (code_points c)
+          → new ≡ record { first_byte = byte; end_byte = byte + length c; first_place = place; end_place = place + size }
+          → done' ≡ done ++ new ∷ [] → sizes' ≡ sizes ++ size ∷ []
+          → IsOutlinedTo text later done' sizes' (byte + length c) (place + size)
+      IsOutlinedTo-on new size done' sizes' count is put_span put_size = record {
         utf8 = All-tail IsUtf8 c later at_cluster.utf8;
         some = All-tail (λ (x : List ℕ). 0 < length x) c later at_cluster.some;
         bytes = let all = at_cluster.bytes in let more = length-append c (concat later) in omega arith;
@@ -98,7 +80,4 @@ module _ (tables : TableValues) (text : List ℕ) where
         all_sizes =
             ap (λ l. l ++ map length (map code_points later)) (put_size ∙ ap (λ k. sizes ++ k ∷ []) count)
             ∙ append_assoc sizes (length (code_points c) ∷ []) (map length (map code_points later)) ∙ at_cluster.all_sizes;
-        all_columns =
-            ap (λ l. l ++ columns_each tables later) (put_columns ∙ ap (λ k. columns ++ k ∷ []) wide)
-            ∙ append_assoc columns (columns_of tables (code_points c) ∷ []) (columns_each tables later) ∙ at_cluster.all_columns;
       }

@@ -8,11 +8,13 @@ mod item;
 pub mod laws;
 mod line;
 mod open;
+mod outline;
 mod rules;
 mod status;
 
-pub use cluster::is_space;
-pub use line::{Line, lines};
+pub use cluster::{Cluster, is_space};
+pub use line::{Line, lines, lines_of};
+pub use outline::{Outline, outline_of};
 pub use status::{Break, opportunities};
 
 #[cfg(test)]

@@ -5,8 +5,9 @@ ghost use Rattle.std.specs.List.{All, flat_map};
 ghost use Rattle.paragraphs.specs.Clusters.{clusters};
 ghost use Rattle.line_break.specs.Lines.{lines, lines_of};
 
-use crate::cluster::{Cluster, line_clusters};
+use crate::cluster::Cluster;
 use crate::open::Open;
+use crate::outline::outline_of;
 use bg_types::Memory;
 use paragraphs::Para;
 use std::alloc::Global;
@@ -20,53 +21,36 @@ pub struct Line {
     pub end: usize,
 }
 
-/// The lines of a paragraph at a width in columns, in order. Each ends at the greatest break
-/// opportunity up to which it fits, spaces at its end not counted, else at the greatest cluster
-/// boundary. An empty paragraph has one empty line.
+/// The lines of a paragraph of at most 4,000,000 bytes at a width in columns, in order. Each ends at
+/// the greatest break opportunity up to which it fits, spaces at its end not counted, else at the
+/// greatest cluster boundary. An empty paragraph has one empty line.
 pub fn lines(alloc: Global, tables: &Tables, para: &Para, width: u16) -> Result<Vec<Line>, Memory>
     requires at_least { 2 ≤ width }
     requires at_most { width ≤ 500 }
+    requires size { length para.now.text ≤ 4_000_000 }
     ensures lines { IfOk result (λ v. v.items ≡ lines tables.now para.now.text width) }
     ensures joined { IfOk result (λ v. flat_map (λ line. slice_range (clusters para.now.text) line.start line.end) v.items
         ≡ clusters para.now.text) }
 {
-    let clusters = line_clusters(alloc, tables, para)?;
-    lines_of(alloc, &clusters, width as usize)
+    let outline = outline_of(alloc, tables, para)?;
+    lines_of(alloc, &outline.clusters, width)
 }
 
-/// The lines of a paragraph of these clusters.
-fn lines_of(alloc: Global, clusters: &[Cluster], width: usize) -> Result<Vec<Line>, Memory>
+/// The lines of a paragraph of these clusters, as `lines` gives them.
+pub fn lines_of(alloc: Global, clusters: &[Cluster], width: u16) -> Result<Vec<Line>, Memory>
     requires columns { All (λ c. c.columns ≤ 2) clusters.now }
     requires length { length clusters.now < 2 ^ 63 }
     requires width { 2 ≤ width }
     ensures { IfOk result (λ v. v.items ≡ lines_of width clusters.now) }
 {
-    let mut lines = Vec::with_capacity(alloc, line_count(clusters, width))?;
+    let mut lines = Vec::new(alloc);
     if clusters.is_empty() {
         lines.push(Line { start: 0, end: 0 })?;
         return Ok(lines);
     }
     let mut open = Open::first();
-    while let Some(line) = open.next_line(clusters, width) {
+    while let Some(line) = open.next_line(clusters, width as usize) {
         lines.push(line)?;
     }
     Ok(lines)
-}
-
-/// How many lines these clusters have.
-fn line_count(clusters: &[Cluster], width: usize) -> usize
-    requires columns { All (λ c. c.columns ≤ 2) clusters.now }
-    requires length { length clusters.now < 2 ^ 63 }
-    requires width { 2 ≤ width }
-    ensures { result ≡ length (lines_of width clusters.now) }
-{
-    if clusters.is_empty() {
-        return 1;
-    }
-    let mut open = Open::first();
-    let mut count = 0;
-    while open.next_line(clusters, width).is_some() {
-        count += 1;
-    }
-    count
 }

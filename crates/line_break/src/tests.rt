@@ -327,6 +327,7 @@ fn assert_lines(
     assert!(rt; width <= 500);
     let paragraphs = split(rt.alloc(), tables, text)?;
     assert!(rt; !paragraphs.is_empty());
+    assert!(rt; paragraphs[0].text().len() <= 4_000_000);
     let found = lines(rt.alloc(), tables, &paragraphs[0], width)?;
     assert_eq!(rt; found.len(), want.len(), "in {text:?} at {width}");
     for (line, (start, end)) in found.iter().zip(want) {

@@ -57,8 +57,8 @@ drawn_with : (tables : TableValues) (width : ℕ) (base : Base) (text : List ℕ
     → rows ≡ grid_rows tables width base text → IsDrawn (grid_with tables text rows)
 drawn_with tables width base text rows low high utf8 size made = record { width = width; base = base; at_least = low; at_most = high; utf8 = utf8; size = size; rows = made }
 
-pub invariant_of-result : goal.invariant_of-result
-invariant_of-result c =
+pub of-requires : goal.of-requires
+of-requires c =
     let f = paragraph_rows c.args.tables.now c.args.width c.args.base in
     let made = c.loop-para.invariant ∙ ap (flat_map f) (take-whole c.deref-para-items.result.now c.loop-para.para-index c.loop-para-test.false ∙ c.deref-para-items.ensures.value ∙ c.in_ok-paragraphs.ensures.ok) in
     drawn_with c.args.tables.now c.args.width c.args.base c.args.text.now _ c.requires.at_least c.requires.at_most c.utf8.text c.requires.size made
@@ -67,10 +67,10 @@ pub returns-clause-grid : goal.returns-clause-grid
 returns-clause-grid c =
     let f = paragraph_rows c.args.tables.now c.args.width c.args.base in
     let made = c.loop-para.invariant ∙ ap (flat_map f) (take-whole c.deref-para-items.result.now c.loop-para.para-index c.loop-para-test.false ∙ c.deref-para-items.ensures.value ∙ c.in_ok-paragraphs.ensures.ok) in
-    ap (grid_with c.args.tables.now c.args.text.now) made
+    c.of.ensures ∙ ap (grid_with c.args.tables.now c.args.text.now) made
 
 pub returns-clause-drawn : goal.returns-clause-drawn
 returns-clause-drawn c =
     let f = paragraph_rows c.args.tables.now c.args.width c.args.base in
     let made = c.loop-para.invariant ∙ ap (flat_map f) (take-whole c.deref-para-items.result.now c.loop-para.para-index c.loop-para-test.false ∙ c.deref-para-items.ensures.value ∙ c.in_ok-paragraphs.ensures.ok) in
-    drawn_with c.args.tables.now c.args.width c.args.base c.args.text.now _ c.requires.at_least c.requires.at_most c.utf8.text c.requires.size made
+    subst IsDrawn (sym c.of.ensures) (drawn_with c.args.tables.now c.args.width c.args.base c.args.text.now _ c.requires.at_least c.requires.at_most c.utf8.text c.requires.size made)

@@ -1,12 +1,10 @@
 -- Each row is shifted to where its paragraph stands.
-use Rattle.std.proofs.Common.{◌<◌, ◌∷◌, [], ◌++◌, List, length, map, map-id, get_or, sym, ap, subst, ◌∙◌, append-nil, append_assoc}
+use Rattle.std.proofs.Common.{◌∷◌, [], ◌++◌, length, map, map-id, sym, ap, subst, ◌∙◌, append-nil, append_assoc}
 use Rattle.std.proofs.lemmas.List.{map-append}
 use Rattle.std.proofs.lemmas.Iterator.Adapters.{YieldsList-from_vec}
 use Rattle.std.proofs.lemmas.Iterator.Consumers.{YieldsList-turn, YieldsList-end}
-use Rattle.std.specs.List.{All}
-use Rattle.cell_grid.specs.Rows.{DrawnRow, rows_of, shifted}
+use Rattle.cell_grid.specs.Rows.{shifted}
 use Rattle.cell_grid.specs.Shifting.{MayShiftRow}
-use Rattle.cell_grid.proofs.Drawn.{rows-shift}
 use Rattle.cell_grid.proofs.grid.push_rows.Goals as goal
 
 pub loop-row-init : goal.loop-row-init
@@ -18,11 +16,8 @@ shift-requires c =
     let list = YieldsList-from_vec {s = c.into_iter-row-iterator.result} c.in_ok-made.made.items into.0 (into.1 ∙ c.in_ok-made.made.ok.0) in
     let turn = YieldsList-turn list c.loop-row.yielded c.loop-row.row-iterator c.loop-row.yielded_by c.next.result c.next.new.self c.in-Some.row c.in-Some.is c.next.ensures.steps in
     let p = c.args.para.now in
-    let drawn = c.in_ok-made.ensures in
-    let rows = rows_of c.args.tables.now c.args.width c.args.base p.text in
-    let may : All (MayShiftRow p.first_byte p.first_place) rows = rows-shift c.laws_below.ensures c.args.tables.now c.args.width c.requires.at_least c.args.base p.text c.requires.text p.first_byte p.first_place c.requires.bytes c.requires.places in
-    let lt = subst (λ (l : List DrawnRow). length c.loop-row.yielded < length l) drawn turn.0 in
-    let here = subst (MayShiftRow p.first_byte p.first_place) (sym (turn.1 ∙ ap (λ (l : List DrawnRow). get_or l (length c.loop-row.yielded) c.in-Some.row) drawn)) (may (length c.loop-row.yielded) c.in-Some.row lt) in
+    let may = c.in_ok-made.ensures.may_shift p.first_byte p.first_place c.requires.bytes c.requires.places in
+    let here = subst (MayShiftRow p.first_byte p.first_place) (sym turn.1) (may (length c.loop-row.yielded) c.in-Some.row turn.0) in
     subst (λ n. MayShiftRow n c.first_place.result c.in-Some.row) (sym c.first_byte.ensures) (subst (λ n. MayShiftRow p.first_byte n c.in-Some.row) (sym c.first_place.ensures) here)
 
 pub loop-row-preserved : goal.loop-row-preserved
@@ -43,4 +38,4 @@ returns c =
     let into = c.into_iter-row-iterator.ensures.into_iter_gives in
     let list = YieldsList-from_vec {s = c.into_iter-row-iterator.result} c.in_ok-made.made.items into.0 (into.1 ∙ c.in_ok-made.made.ok.0) in
     let end = YieldsList-end list c.loop-row.yielded c.loop-row.row-iterator c.loop-row.yielded_by c.next.result c.next.new.self c.in-None.is c.next.ensures.steps in
-    c.loop-row.invariant ∙ ap (λ l. c.args.drawn.now.items ++ map f l) (sym (map-id c.loop-row.yielded) ∙ end.0 ∙ c.in_ok-made.ensures)
+    c.loop-row.invariant ∙ ap (λ l. c.args.drawn.now.items ++ map f l) (sym (map-id c.loop-row.yielded) ∙ end.0 ∙ c.in_ok-made.ensures.rows)

@@ -1,16 +1,42 @@
 -- A row for each line.
-use Rattle.std.proofs.Common.{◌<◌, ◌∷◌, [], ◌++◌, List, length, map, take, get_or, refl, sym, ap, subst, ◌∙◌, arith}
+use Rattle.std.proofs.Common.{◌≡◌, ℕ, ◌<◌, ◌≤◌, ◌∷◌, [], ◌++◌, List, length, map, take, get_or, refl, sym, ap, subst, ◌∙◌, arith}
 use Rattle.std.proofs.lemmas.List.{map-append}
+use Rattle.std.proofs.lemmas.List.Elements.{All-same}
+use Rattle.std.specs.List.{All}
 use Rattle.std.specs.Str.{IsUtf8}
+use Rattle.ucd_files.specs.Tables.{TableValues}
+use Rattle.paragraphs.specs.Clusters.{clusters}
 use Rattle.bidi_explicit.specs.Embedding.{paragraph_level, classes_of}
 use Rattle.bidi_weak_neutral.specs.Levels.{levels_of}
+use Rattle.line_break.specs.declared.cluster.Cluster.{Cluster}
 use Rattle.line_break.specs.declared.line.Line.{Line}
+use Rattle.line_break.specs.LineClusters.{line_clusters}
+use Rattle.line_break.specs.Lines.{lines, lines_of}
 use Rattle.cell_grid.specs.Rows.{DrawnRow, row_of}
 use Rattle.cell_grid.specs.Outline.{IsLine}
+use Rattle.cell_grid.specs.Shifting.{MayShiftRow}
 use Rattle.cell_grid.proofs.Steps.{take-next, take-whole}
 use Rattle.cell_grid.proofs.Counting.{few-clusters}
 use Rattle.cell_grid.proofs.LinesOf.{IsLine-lines}
+use Rattle.cell_grid.proofs.Drawn.{rows-shift}
 use Rattle.cell_grid.proofs.paragraph.rows.Goals as goal
+
+-- the lines of the clusters are those of the text
+lines-are : (tables : TableValues) (text : List ℕ) (width : ℕ) (found : List Line) (lent own : List Cluster) → found ≡ lines_of width lent → lent ≡ own → own ≡ line_clusters tables text
+    → found ≡ lines tables text width
+lines-are tables text width found lent own a b d = a ∙ ap (lines_of width) (b ∙ d)
+
+pub lines_of-requires-clause-columns : goal.lines_of-requires-clause-columns
+lines_of-requires-clause-columns c = All-same (λ (x : Cluster). x.columns ≤ 2) _ _ c.deref.ensures.value c.in_ok-outline_of.ensures.columns
+
+pub lines_of-requires-clause-length : goal.lines_of-requires-clause-length
+lines_of-requires-clause-length c =
+    let few = few-clusters c.laws_below.ensures c.text.result.now c.text.utf8 in
+    let same = ap length c.text.ensures in
+    let text = ap length (ap clusters c.text.ensures) in
+    let n = ap length (c.deref.ensures.value ∙ c.in_ok-outline_of.ensures.clusters) ∙ c.laws_below.ensures.each_measured c.args.tables.now c.args.para.now.text in
+    let all = c.requires.size in
+    omega arith
 
 pub loop-line-init : goal.loop-line-init
 loop-line-init c = c.in_ok-rows.ensures.items
@@ -27,7 +53,7 @@ row_of-requires-clause-line c =
     let i = c.loop-line.line-index in
     let d : Line = record { start = 0; end = 0 } in
     let text = c.args.para.now.text in
-    let items = c.deref-line-items.ensures.value ∙ c.in_ok-lines.ensures.lines in
+    let items = c.deref-line-items.ensures.value ∙ lines-are c.args.tables.now text c.args.width _ _ _ c.in_ok-lines.ensures c.deref.ensures.value c.in_ok-outline_of.ensures.clusters in
     let lt = subst (λ (l : List Line). i < length l) items c.loop-line-test.true in
     subst (λ t. IsLine c.args.tables.now c.args.width t (get_or c.deref-line-items.result.now i d)) (sym c.text.ensures)
     (subst (λ (l : List Line). IsLine c.args.tables.now c.args.width text (get_or l i d)) (sym items)
@@ -54,10 +80,21 @@ loop-line-preserved c =
     ∙ sym (map-append f (take i items) (line ∷ []))
     ∙ sym (ap (map f) (take-next items i line (record { start = 0; end = 0 }) c.loop-line-test.true refl))
 
-pub returns : goal.returns
-returns c =
+pub returns-clause-rows : goal.returns-clause-rows
+returns-clause-rows c =
     let tables = c.args.tables.now in
     let text = c.args.para.now.text in
     let f : Line → DrawnRow = row_of tables c.args.width (paragraph_level c.args.base (classes_of tables text)) text (levels_of tables c.args.base text) in
+    let items = c.deref-line-items.ensures.value ∙ lines-are tables text c.args.width _ _ _ c.in_ok-lines.ensures c.deref.ensures.value c.in_ok-outline_of.ensures.clusters in
     c.loop-line.invariant
-    ∙ ap (map f) (take-whole c.deref-line-items.result.now c.loop-line.line-index c.loop-line-test.false ∙ c.deref-line-items.ensures.value ∙ c.in_ok-lines.ensures.lines)
+    ∙ ap (map f) (take-whole c.deref-line-items.result.now c.loop-line.line-index c.loop-line-test.false ∙ items)
+
+pub returns-clause-may_shift : goal.returns-clause-may_shift
+returns-clause-may_shift c = λ bytes places fit_bytes fit_places.
+    let tables = c.args.tables.now in
+    let text = c.args.para.now.text in
+    let f : Line → DrawnRow = row_of tables c.args.width (paragraph_level c.args.base (classes_of tables text)) text (levels_of tables c.args.base text) in
+    let items = c.deref-line-items.ensures.value ∙ lines-are tables text c.args.width _ _ _ c.in_ok-lines.ensures c.deref.ensures.value c.in_ok-outline_of.ensures.clusters in
+    let all = c.loop-line.invariant ∙ ap (map f) (take-whole c.deref-line-items.result.now c.loop-line.line-index c.loop-line-test.false ∙ items) in
+    subst (All (MayShiftRow bytes places)) (sym all)
+    (rows-shift c.laws_below.ensures tables c.args.width c.requires.at_least c.args.base text (subst IsUtf8 c.text.ensures c.text.utf8) bytes places fit_bytes fit_places)

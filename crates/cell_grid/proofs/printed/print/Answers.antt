@@ -2,26 +2,29 @@
 use Rattle.std.proofs.Common.{◌<◌, ℕ, List, length, get_or, flat_map, sym, ap, subst, ◌∙◌}
 use Rattle.std.proofs.KnownBytes.{Appends-nil}
 use Rattle.std.specs.Io.KnownBytes.{Appends}
+use Rattle.std.specs.List.{All}
 use Rattle.bg_types.specs.Sink.{AppendsBeginning}
 use Rattle.ucd_files.specs.Tables.{TableValues}
+use Rattle.cell_grid.specs.declared.entry.Entry.{Entry}
 use Rattle.cell_grid.specs.Rows.{DrawnRow}
 use Rattle.cell_grid.specs.Print.{row_text}
-use Rattle.cell_grid.specs.Printable.{IsPrintable}
+use Rattle.cell_grid.specs.Printable.{IsSlice}
 use Rattle.cell_grid.proofs.Writing.{on_err, pieces-on, pieces-cut_last, pieces-all}
-use Rattle.cell_grid.proofs.Drawn.{IsPrintable-rows}
+use Rattle.cell_grid.proofs.Drawn.{slices-rows}
 use Rattle.cell_grid.proofs.printed.print.Goals as goal
 
 pub loop-row-init : goal.loop-row-init
 loop-row-init g c = record { working = c.requires.working; so_far = Appends-nil (g.W.Sink.written c.args.sink.now) }
 
-pub print_row-requires-clause-row : goal.print_row-requires-clause-row
-print_row-requires-clause-row g c =
+pub print_row-requires-clause-entries : goal.print_row-requires-clause-entries
+print_row-requires-clause-entries g c =
     let grid = c.args.grid.now in
+    let Q : DrawnRow → Type 0 = λ r. All (λ (e : Entry). IsSlice grid.text e.span) r.entries in
     let i = c.loop-row.row-index in
     let items = c.rows-row-items.ensures.rows in
     let lt = subst (λ (l : List DrawnRow). i < length l) items c.loop-row-test.true in
-    let here = subst (IsPrintable grid.text) (sym (c.row-item.is ∙ ap (λ (l : List DrawnRow). get_or l i c.row-item.result) items)) (IsPrintable-rows c.laws_below.ensures grid c.rows-row-items.ensures.drawn i c.row-item.result lt) in
-    subst (λ t. IsPrintable t c.row-item.result) (sym c.text.ensures) here
+    let here = subst Q (sym (c.row-item.is ∙ ap (λ (l : List DrawnRow). get_or l i c.row-item.result) items)) (slices-rows c.laws_below.ensures grid c.rows-row-items.ensures.drawn i c.row-item.result lt) in
+    subst (λ t. All (λ (e : Entry). IsSlice t e.span) c.row-item.result.entries) (sym c.text.ensures) here
 
 pub returns-in_err-print_row-clause-err : goal.returns-in_err-print_row-clause-err
 returns-in_err-print_row-clause-err g c =

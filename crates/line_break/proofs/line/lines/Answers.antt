@@ -8,12 +8,11 @@ use Rattle.line_break.specs.declared.cluster.Cluster.{Cluster}
 use Rattle.line_break.specs.declared.line.Line.{Line}
 use Rattle.line_break.specs.Lines.{lines_of}
 use Rattle.line_break.proofs.Joining.{joined-lines}
-use Rattle.line_break.proofs.Measuring.{two-line_clusters}
 use Rattle.line_break.proofs.line.lines.Goals as goal
 
 pub lines_of-requires-clause-columns : goal.lines_of-requires-clause-columns
 lines_of-requires-clause-columns c =
-    All-same (λ (x : Cluster). x.columns ≤ 2) _ _ (c.deref.ensures.value ∙ c.in_ok-clusters.ensures) (two-line_clusters c.args.tables.now c.args.para.now.text)
+    All-same (λ (x : Cluster). x.columns ≤ 2) _ _ c.deref.ensures.value c.in_ok-outline.ensures.columns
 
 -- what follows for the value in an `Ok`
 if_ok : {T E : Type 0} {P Q : T → Type 0} (r : Result T E) → ((v : T) → P v → Q v) → IfOk r P → IfOk r Q
@@ -24,6 +23,6 @@ pub returns-clause-joined : goal.returns-clause-joined
 returns-clause-joined c =
     let part = λ (line : Line). slice_range (clusters c.args.para.now.text) line.start line.end in
     if_ok c.lines_of.result
-    (λ v e. ap (flat_map part) (e ∙ ap (lines_of c.args.width) (c.deref.ensures.value ∙ c.in_ok-clusters.ensures))
+    (λ v e. ap (flat_map part) (e ∙ ap (lines_of c.args.width) (c.deref.ensures.value ∙ c.in_ok-outline.ensures.clusters))
     ∙ joined-lines c.args.tables.now c.args.para.now.text c.args.width)
     c.lines_of.ensures

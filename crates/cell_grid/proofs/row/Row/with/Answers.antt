@@ -1,10 +1,10 @@
 -- The order has each cluster once, so the entries take up the columns.
-use Rattle.std.proofs.Common.{◌<◌, length, get_or, sum_by, sym, ap, subst, ◌∙◌, arith}
+use Rattle.std.proofs.Common.{◌≡◌, ◌+◌, ◌<◌, length, get_or, sum_by, sym, ap, subst, ◌∙◌, arith}
 use Rattle.std.proofs.lemmas.List.Elements.{All-same}
 use Rattle.std.specs.List.{All}
-use Rattle.cell_grid.specs.Cells.{entries_cells}
+use Rattle.cell_grid.specs.Cells.{StandWithin, total}
 use Rattle.cell_grid.specs.Rows.{entries_from}
-use Rattle.cell_grid.proofs.Sides.{order-below, length-order, sum-order, length-entries_from, total-entries_from, length-entries_cells, start-fits}
+use Rattle.cell_grid.proofs.Sides.{order-below, length-order, sum-order, length-entries_from, total-entries_from, same_follow, follow-entries, start-fits}
 use Rattle.cell_grid.proofs.row.Row.with.Goals as goal
 
 pub entries_from-requires-clause-order : goal.entries_from-requires-clause-order
@@ -21,23 +21,26 @@ entries_from-requires-clause-room c =
     let wide = c.requires.width in
     omega arith
 
-pub cells_of-requires-clause-room : goal.cells_of-requires-clause-room
-cells_of-requires-clause-room c =
+pub invariant_of-result : goal.invariant_of-result
+invariant_of-result c =
+    let spans = c.args.spans.now in
+    let levels = c.args.levels.now in
+    let columns = c.args.columns.now in
     let order = c.deref.result.now in
     let start = c.start_column-start.result in
-    let made = c.deref-2.ensures.value ∙ c.in_ok-entries.ensures in
-    let cells = ap (λ es. length (entries_cells 0 es)) made ∙ length-entries_cells 0 (entries_from c.args.spans.now c.args.levels.now c.args.columns.now start order) ∙ total-entries_from c.args.spans.now c.args.levels.now c.args.columns.now start order in
-    let all = ap (sum_by (λ k. get_or c.args.columns.now k 0)) c.deref.ensures.value
-    ∙ sum-order (length c.args.levels.now) c.in_ok-order.order.items c.in_ok-order.ensures.rearrangement c.args.columns.now (c.requires.columns ∙ sym c.requires.levels) in
-    let fits = start-fits c.args.width c.args.para_level c.args.columns.now c.requires.room in
+    let made = c.in_ok-entries.ensures in
+    let wide = total-entries_from spans levels columns start order in
+    let all = ap (sum_by (λ k. get_or columns k 0)) c.deref.ensures.value
+    ∙ sum-order (length levels) c.in_ok-order.order.items c.in_ok-order.ensures.rearrangement columns (c.requires.columns ∙ sym c.requires.levels) in
+    let fits = start-fits c.args.width c.args.para_level columns c.requires.room in
     let at = c.start_column-start.ensures in
-    omega arith
-
-pub cells_of-requires-clause-count : goal.cells_of-requires-clause-count
-cells_of-requires-clause-count c =
-    let order = c.deref.result.now in
-    let made = ap length (c.deref-2.ensures.value ∙ c.in_ok-entries.ensures) ∙ length-entries_from c.args.spans.now c.args.levels.now c.args.columns.now c.start_column-start.result order in
-    let n = ap length c.deref.ensures.value ∙ length-order (length c.args.levels.now) c.in_ok-order.order.items c.in_ok-order.ensures.rearrangement in
+    let end : start + sum_by (λ k. get_or columns k 0) order ≡ start + total (entries_from spans levels columns start order) = omega arith in
+    let n = length-entries_from spans levels columns start order in
+    let m = ap length c.deref.ensures.value ∙ length-order (length levels) c.in_ok-order.order.items c.in_ok-order.ensures.rearrangement in
     let same = c.requires.levels in
     let few = c.requires.count in
-    omega arith
+    subst (StandWithin c.args.width start) (sym made) (record {
+      follow = same_follow start (entries_from spans levels columns start order) _ _ end (follow-entries spans levels columns start order);
+      fits = omega arith;
+      count = omega arith;
+    })

@@ -1,0 +1,66 @@
+//! The clusters of a paragraph.
+
+ghost use Rattle.std.specs.Prelude.{◌≡◌, ◌≤◌, length, IfOk};
+ghost use Rattle.std.specs.List.{All};
+ghost use Rattle.paragraphs.specs.Clusters.{cluster_sizes};
+ghost use Rattle.paragraphs.specs.Spans.{spans};
+ghost use Rattle.line_break.specs.LineClusters.{line_clusters};
+
+use crate::cluster::{Cluster, is_space};
+use crate::status::opportunities;
+use bg_types::Memory;
+use paragraphs::{Para, Span, columns, laws};
+use std::alloc::Global;
+use ucd_files::Tables;
+
+/// The clusters of a paragraph, in order: three lists with an element for each.
+#[derive(Debug, Drop)]
+pub struct Outline {
+    /// Where each stands, counted from the paragraph's start.
+    pub spans: Vec<Span>,
+    /// How many code points each has.
+    pub sizes: Vec<u32>,
+    /// What lines ask of each.
+    pub clusters: Vec<Cluster>,
+}
+
+/// The clusters of a paragraph of at most 4,000,000 bytes. It is cut into clusters once, and each
+/// is measured once.
+pub fn outline_of(alloc: Global, tables: &Tables, para: &Para) -> Result<Outline, Memory>
+    requires { length para.now.text ≤ 4_000_000 }
+    ensures spans { IfOk result (λ o. o.spans.items ≡ spans para.now.text) }
+    ensures sizes { IfOk result (λ o. o.sizes.items ≡ cluster_sizes para.now.text) }
+    ensures clusters { IfOk result (λ o. o.clusters.items ≡ line_clusters tables.now para.now.text) }
+    ensures columns { IfOk result (λ o. All (λ c. c.columns ≤ 2) o.clusters.items) }
+{
+    laws::clusters_join();
+    laws::cluster_places();
+    let statuses = opportunities(alloc, tables, para)?;
+    // No paragraph has more clusters than code points.
+    let mut outline = Outline {
+        spans: Vec::with_capacity(alloc, statuses.len())?,
+        sizes: Vec::with_capacity(alloc, statuses.len())?,
+        clusters: Vec::with_capacity(alloc, statuses.len())?,
+    };
+    let mut byte = 0;
+    let mut place = 0;
+    for cluster in para.clusters() {
+        let size = cluster.chars().count() as u32;
+        let span = Span {
+            first_byte: byte,
+            end_byte: byte + cluster.len() as u32,
+            first_place: place,
+            end_place: place + size,
+        };
+        outline.spans.push(span)?;
+        outline.sizes.push(size)?;
+        outline.clusters.push(Cluster {
+            columns: columns(tables, cluster),
+            is_space: is_space(tables, cluster),
+            after: statuses[span.end_place as usize - 1],
+        })?;
+        byte = span.end_byte;
+        place = span.end_place;
+    }
+    Ok(outline)
+}
