@@ -24,9 +24,21 @@ fault_behind : (ops : List OpView) (b : ℕ) (kept : List ℕ) (cause : Cause) �
 fault_behind ops b kept cause ok shown =
     inr (record { ops = ops; rest = b ∷ kept; number = refl; before = refl; well_formed = ok; goes_on = omega arith; shown = shown })
 
-told_at : (n : ℕ) (o : Option Cause) (frame : ℕ) (cause : Cause) → option_map (λ c. (n, c)) o ≡ Some (frame, cause) → (n ≡ frame) × (o ≡ Some cause)
+abbrev with_frame : ℕ → Option Cause → Option (ℕ × Cause)
+with_frame n shown = option_map {U = ℕ × Cause} (λ cause. (n, cause)) shown
+
+some_one : {A : Type 0} (x y : A) → Some x ≡ Some y → x ≡ y
+some_one x y e = cc
+
+told_at : (n : ℕ) (o : Option Cause) (frame : ℕ) (cause : Cause) → with_frame n o ≡ Some (frame, cause) → (n ≡ frame) × (o ≡ Some cause)
 told_at n None frame cause e = absurd cc
-told_at n (Some c) frame cause e = let pair : (n, c) ≡ (frame, cause) = cc in (ap (λ (p : ℕ × Cause). p.0) pair, ap (λ (p : ℕ × Cause). Some p.1) pair)
+told_at n (Some c) frame cause e =
+    let pair = some_one {A = ℕ × Cause} (n, c) (frame, cause) e in
+    (ap (λ (p : ℕ × Cause). p.0) pair, ap (λ (p : ℕ × Cause). Some p.1) pair)
+
+never_none : (n : ℕ) (o : Option Cause) (cause : Cause) → o ≡ Some cause → with_frame n o ≡ None → ⊥
+never_none n None cause e f = cc
+never_none n (Some c) cause e f = cc
 
 pub kept_told : (headed : Bool) (ops : List OpView) (kept : List ℕ) (n frame : ℕ) (cause : Cause) → n ≡ length ops → IsCut headed ops kept → kept_fault headed n kept ≡ Some (frame, cause)
     → IsFault (bytes_of headed ops kept) frame cause
@@ -37,19 +49,19 @@ kept_told true ops (b ∷ kept) n frame cause is cut e =
     subst (λ (k : ℕ). IsFault (spelling ops ++ b ∷ kept) k cause) (ap (λ (k : ℕ). k + 1) (sym is) ∙ at.0) (fault_behind ops b kept cause cut.0 at.1)
 
 pub kept_spelled : (headed : Bool) (ops : List OpView) (kept : List ℕ) (n : ℕ) → IsCut headed ops kept → kept_fault headed n kept ≡ None → Spells (bytes_of headed ops kept) ops
-kept_spelled false ops kept n cut e = let some = ap (option_map (λ (c : Cause). (0, c))) cut.1.1 in absurd (let clash = sym some ∙ e in cc)
+kept_spelled false ops kept n cut e = absurd (never_none 0 (header_cause kept) cut.1.0 cut.1.1 e)
 kept_spelled true ops [] n cut e = record { bytes = append-nil (spelling ops); well_formed = cut.0 }
-kept_spelled true ops (b ∷ kept) n cut e = let some = ap (option_map (λ (c : Cause). (n + 1, c))) cut.1.1 in absurd (let clash = sym some ∙ e in cc)
+kept_spelled true ops (b ∷ kept) n cut e = absurd (never_none (n + 1) (frame_cause (b ∷ kept)) cut.1.0 cut.1.1 e)
 
 -- a missing byte is all that the kept bytes show
 pub kept_missing : (headed : Bool) (ops : List OpView) (kept : List ℕ) (n : ℕ) → IsCut headed ops kept → IsMissing (kept_fault headed n kept) → kept_cause headed kept ≡ Some Truncated
 kept_missing false ops kept n cut missing =
-    let some : kept_fault false n kept ≡ Some (0, cut.1.0) = ap (option_map (λ (c : Cause). (0, c))) cut.1.1 in
+    let some : kept_fault false n kept ≡ Some (0, cut.1.0) = ap (with_frame 0) cut.1.1 in
     let is : cut.1.0 ≡ Truncated = subst IsMissing some missing in
     cut.1.1 ∙ ap Some is
 kept_missing true ops [] n cut missing = refl
 kept_missing true ops (b ∷ kept) n cut missing =
-    let some : kept_fault true n (b ∷ kept) ≡ Some (n + 1, cut.1.0) = ap (option_map (λ (c : Cause). (n + 1, c))) cut.1.1 in
+    let some : kept_fault true n (b ∷ kept) ≡ Some (n + 1, cut.1.0) = ap (with_frame (n + 1)) cut.1.1 in
     let is : cut.1.0 ≡ Truncated = subst IsMissing some missing in
     cut.1.1 ∙ ap Some is
 
@@ -90,11 +102,12 @@ frame_stays ops old piece kept ok h = record {
 }
 
 -- the piece completes a frame, and further frames were read
-pub frame_goes_on : (ops pushed grown : List OpView) (op : OpView) (old piece rest kept : List ℕ) → pushed ≡ ops ++ op ∷ [] → TakesFrame (old ++ piece) op rest → AreTaken (spelling pushed ++ rest) true grown kept
+pub frame_goes_on : (ops pushed grown : List OpView) (op op' : OpView) (old piece rest kept : List ℕ) → pushed ≡ ops ++ op' ∷ [] → op ≡ op' → TakesFrame (old ++ piece) op rest → AreTaken (spelling pushed ++ rest) true grown kept
     → AreTaken ((spelling ops ++ old) ++ piece) true grown kept
-frame_goes_on ops pushed grown op old piece rest kept is h taken =
+frame_goes_on ops pushed grown op op' old piece rest kept is one h taken =
     let same : (spelling ops ++ old) ++ piece ≡ spelling pushed ++ rest =
-    append_assoc (spelling ops) old piece ∙ ap (λ (s : List ℕ). spelling ops ++ s) h.spelled ∙ more_spelled ops op rest ∙ ap (λ (xs : List OpView). spelling xs ++ rest) (sym is) in
+    append_assoc (spelling ops) old piece ∙ ap (λ (s : List ℕ). spelling ops ++ s) h.spelled ∙ more_spelled ops op rest
+    ∙ ap (λ (x : OpView). spelling (ops ++ x ∷ []) ++ rest) one ∙ ap (λ (xs : List OpView). spelling xs ++ rest) (sym is) in
     subst (λ (s : List ℕ). AreTaken s true grown kept) (sym same) taken
 
 pub pushed_well : (ops pushed : List OpView) (op : OpView) → pushed ≡ ops ++ op ∷ [] → AllByRecursion IsWellFormed ops → IsWellFormed op → AllByRecursion IsWellFormed pushed

@@ -9,19 +9,19 @@ use Rattle.op_codec.proofs.feed.Feed.feed.Goals as goal
 pub returns-in-Ok : goal.returns-in-Ok
 returns-in-Ok c =
     let old = c.self.inside in
-    let missing = subst (λ (k : List ℕ). IsMissing (kept_fault old.headed c.len.result k)) c.deref.ensures c.in_ok-judge.ensures.ok in
+    let missing = subst (λ (k : List ℕ). IsMissing (kept_fault old.headed c.len.result k)) c.deref.ensures.0 c.in_ok-judge.ensures.ok in
     let shown = kept_missing old.headed old.ops.items old.kept.items c.len.result c.self.invariant missing in
     let sound = subst IsSound c.self.view_is (sound_kept_so old.headed old.ops.items old.kept.items c.self.invariant shown) in
     let taken = subst (λ (s : List ℕ). AreTaken (s ++ c.args.piece.now) c.in-Ok.headed c.read_on.new.ops.items c.read_on.new.kept.items) c.self.view_is c.in-Ok.ensures.taken in
     let counted : c.len-in-Ok.result ≡ length c.read_on.new.ops.items = omega (arith, c.len-in-Ok.ensures, c.read_on.new.ops.ok.0) in
-    let ok = subst (λ (k : List ℕ). OnOk c.judge-in-Ok.result (IsMissing (kept_fault c.in-Ok.headed c.len-in-Ok.result k))) c.deref-in-Ok.ensures c.judge-in-Ok.ensures.ok in
-    let err = subst (λ (k : List ℕ). IfErr c.judge-in-Ok.result (TellsKept (kept_fault c.in-Ok.headed c.len-in-Ok.result k))) c.deref-in-Ok.ensures c.judge-in-Ok.ensures.err in
+    let ok = subst (λ (k : List ℕ). OnOk c.judge-in-Ok.result (IsMissing (kept_fault c.in-Ok.headed c.len-in-Ok.result k))) c.deref-in-Ok.ensures.0 c.judge-in-Ok.ensures.ok in
+    let err = subst (λ (k : List ℕ). IfErr c.judge-in-Ok.result (TellsKept (kept_fault c.in-Ok.headed c.len-in-Ok.result k))) c.deref-in-Ok.ensures.0 c.judge-in-Ok.ensures.err in
     record { outcome = answered c.args.self.now c.args.piece.now c.in-Ok.headed c.read_on.new.ops.items c.read_on.new.kept.items c.len-in-Ok.result c.judge-in-Ok.result counted sound taken ok err }
 
 pub returns-in-Err : goal.returns-in-Err
 returns-in-Err c =
     let old = c.self.inside in
-    let missing = subst (λ (k : List ℕ). IsMissing (kept_fault old.headed c.len.result k)) c.deref.ensures c.in_ok-judge.ensures.ok in
+    let missing = subst (λ (k : List ℕ). IsMissing (kept_fault old.headed c.len.result k)) c.deref.ensures.0 c.in_ok-judge.ensures.ok in
     let shown = kept_missing old.headed old.ops.items old.kept.items c.len.result c.self.invariant missing in
     let sound = sound_kept_so old.headed old.ops.items old.kept.items c.self.invariant shown in
     let counted : c.len-ops.result ≡ length old.ops.items = omega (arith, c.len-ops.ensures, old.ops.ok.0) in
