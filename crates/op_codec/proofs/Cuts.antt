@@ -90,11 +90,6 @@ frame_completed old piece kept after op n n_is kept_is read ok cut =
       well_formed = ok;
     }
 
-pub frame_completed_as : (old piece kept after after' : List ℕ) (op op' : OpView) (n : ℕ) → n ≡ min (length piece) (19 - length old) → kept ≡ old ++ take n piece → kept ≡ frame op ++ after → IsWellFormed op
-    → frame_cause old ≡ Some Truncated → op ≡ op' → after ≡ after' → TakesFrame (old ++ piece) op' (take (length piece - (n - length after')) (drop (n - length after') piece))
-frame_completed_as old piece kept after after' op op' n n_is kept_is read ok cut same same' =
-    frame_completed old piece kept after' op' n n_is kept_is (read ∙ (λ i. frame (same i) ++ same' i)) (subst IsWellFormed same ok) cut
-
 -- ---- a header that a piece completes
 
 pub header_completed : (old piece kept after : List ℕ) (n : ℕ) → kept ≡ old ++ take n piece → kept ≡ header ++ after → header_cause (old ++ piece) ≡ None

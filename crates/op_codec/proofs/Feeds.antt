@@ -102,12 +102,11 @@ frame_stays ops old piece kept ok h = record {
 }
 
 -- the piece completes a frame, and further frames were read
-pub frame_goes_on : (ops pushed grown : List OpView) (op op' : OpView) (old piece rest kept : List ℕ) → pushed ≡ ops ++ op' ∷ [] → op ≡ op' → TakesFrame (old ++ piece) op rest → AreTaken (spelling pushed ++ rest) true grown kept
+pub frame_goes_on : (ops pushed grown : List OpView) (op : OpView) (old piece rest kept : List ℕ) → pushed ≡ ops ++ op ∷ [] → TakesFrame (old ++ piece) op rest → AreTaken (spelling pushed ++ rest) true grown kept
     → AreTaken ((spelling ops ++ old) ++ piece) true grown kept
-frame_goes_on ops pushed grown op op' old piece rest kept is one h taken =
+frame_goes_on ops pushed grown op old piece rest kept is h taken =
     let same : (spelling ops ++ old) ++ piece ≡ spelling pushed ++ rest =
-    append_assoc (spelling ops) old piece ∙ ap (λ (s : List ℕ). spelling ops ++ s) h.spelled ∙ more_spelled ops op rest
-    ∙ ap (λ (x : OpView). spelling (ops ++ x ∷ []) ++ rest) one ∙ ap (λ (xs : List OpView). spelling xs ++ rest) (sym is) in
+    append_assoc (spelling ops) old piece ∙ ap (λ (s : List ℕ). spelling ops ++ s) h.spelled ∙ more_spelled ops op rest ∙ ap (λ (xs : List OpView). spelling xs ++ rest) (sym is) in
     subst (λ (s : List ℕ). AreTaken s true grown kept) (sym same) taken
 
 pub pushed_well : (ops pushed : List OpView) (op : OpView) → pushed ≡ ops ++ op ∷ [] → AllByRecursion IsWellFormed ops → IsWellFormed op → AllByRecursion IsWellFormed pushed

@@ -45,7 +45,7 @@ pub fn complete_frame<'a>(kept: &mut Cut, piece: &'a [u8]) -> Option<(Op, &'a [u
     let taken = piece.len().min(INSERTION_SIZE - kept.len());
     append(kept, &piece[..taken]);
     match read_frame(kept) {
-        Ok((op, after)) => Some((op, &piece[taken - after.len()..])),
+        Ok(read) => Some((read.0, &piece[taken - read.1.len()..])),
         Err(_) => None,
     }
 }

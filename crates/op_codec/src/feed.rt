@@ -130,11 +130,11 @@ fn read_behind_frame(ops: &mut Vec<Op>, kept: &mut Cut, piece: &[u8]) -> Result<
     ensures ops { OnErr result (take (length ops.old.items) ops.new.items ≡ ops.old.items) }
     ensures kept { OnErr result (take (length kept.old.items) kept.new.items ≡ kept.old.items) }
 {
-    let Some((op, rest)) = complete_frame(kept, piece) else {
+    let Some(read) = complete_frame(kept, piece) else {
         return Ok(());
     };
-    ops.push(op)?;
-    read_frames(ops, kept, rest)
+    ops.push(read.0)?;
+    read_frames(ops, kept, read.1)
 }
 
 /// Reads the whole frames at the front, and keeps what follows them.

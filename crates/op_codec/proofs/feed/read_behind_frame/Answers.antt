@@ -6,7 +6,7 @@ returns-in_default-clause-taken c = frame_stays c.args.ops.now.items c.args.kept
 
 pub returns-clause-taken : goal.returns-clause-taken
 returns-clause-taken c =
-    on_ok c.read_frames.result _ _ (frame_goes_on c.args.ops.now.items c.push.new.self.items c.read_frames.new.ops.items c.in-Some.op _ c.args.kept.now.items c.args.piece.now c.in-Some.rest.now c.read_frames.new.kept.items c.in_ok-push.ensures.items (cc (c.in-Some.op-is)) c.in-Some.ensures.some) c.read_frames.ensures.taken
+    on_ok c.read_frames.result _ _ (frame_goes_on c.args.ops.now.items c.push.new.self.items c.read_frames.new.ops.items _ c.args.kept.now.items c.args.piece.now _ c.read_frames.new.kept.items c.in_ok-push.ensures.items c.in-Some.ensures.some) c.read_frames.ensures.taken
 
 pub returns-clause-ops : goal.returns-clause-ops
 returns-clause-ops c = on_err c.read_frames.result _ _ (grown_on c.args.ops.now.items c.push.new.self.items c.read_frames.new.ops.items _ c.in_ok-push.ensures.items) c.read_frames.ensures.ops
