@@ -18,12 +18,12 @@ use Rattle.op_codec.proofs.Shown.{cause_or_none, frame_there, header_there}
 abbrev pub Told : List ℕ → Type 0
 Told bytes = ((ops : List OpView) × Spells bytes ops) ⊎ ((n : ℕ) × (cause : Cause) × IsFault bytes n cause)
 
-more_spelled : (ops : List OpView) (op : OpView) (rest : List ℕ) → spelling ops ++ (frame op ++ rest) ≡ spelling (ops ++ op ∷ []) ++ rest
+pub more_spelled : (ops : List OpView) (op : OpView) (rest : List ℕ) → spelling ops ++ (frame op ++ rest) ≡ spelling (ops ++ op ∷ []) ++ rest
 more_spelled ops op rest =
     let last : flat_map frame (ops ++ op ∷ []) ≡ flat_map frame ops ++ frame op = flat_map-append frame ops (op ∷ []) ∙ ap (λ (s : List ℕ). flat_map frame ops ++ s) (append-nil (frame op)) in
     ap (λ (s : List ℕ). header ++ s) (sym (append_assoc (flat_map frame ops) (frame op) rest) ∙ ap (λ (s : List ℕ). s ++ rest) (sym last))
 
-more_well_formed : (ops : List OpView) (op : OpView) → AllByRecursion IsWellFormed ops → IsWellFormed op → AllByRecursion IsWellFormed (ops ++ op ∷ [])
+pub more_well_formed : (ops : List OpView) (op : OpView) → AllByRecursion IsWellFormed ops → IsWellFormed op → AllByRecursion IsWellFormed (ops ++ op ∷ [])
 more_well_formed [] op all one = (one, tt)
 more_well_formed (x ∷ ops) op all one = (all.0, more_well_formed ops op all.1 one)
 

@@ -7,4 +7,8 @@ pub mod Shown
 pub mod Complete
 pub mod Whole
 pub mod Sizes
+pub mod Settled
+pub mod Pieces
+pub mod Cuts
+pub mod Feeds
 pub mod Rows

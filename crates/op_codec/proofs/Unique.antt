@@ -41,7 +41,7 @@ frames_unique (a ∷ xs) (b ∷ ys) x y p q ends ends' e =
     ((λ k. first.0 k ∷ others.0 k), others.1)
 
 -- the header is five bytes
-after_header : (x y : List ℕ) → header ++ x ≡ header ++ y → x ≡ y
+pub after_header : (x y : List ℕ) → header ++ x ≡ header ++ y → x ≡ y
 after_header x y e = ap (drop 5) e
 
 pub one_list : (bytes : List ℕ) (xs ys : List OpView) → Spells bytes xs → Spells bytes ys → xs ≡ ys
@@ -51,7 +51,7 @@ one_list bytes xs ys p q =
     (frames_unique xs ys [] [] p.well_formed q.well_formed Ends-nil Ends-nil e).0
 
 -- what begins with the header has no fault in it
-header_right : (bytes rest : List ℕ) (cause : Cause) → bytes ≡ header ++ rest → header_cause bytes ≡ Some cause → ⊥
+pub header_right : (bytes rest : List ℕ) (cause : Cause) → bytes ≡ header ++ rest → header_cause bytes ≡ Some cause → ⊥
 header_right bytes rest cause begins shown =
     let none : header_cause bytes ≡ None = ap header_cause begins ∙ header_cause-header rest in
     absurd cc

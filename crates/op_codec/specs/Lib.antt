@@ -1,3 +1,5 @@
 pub mod Code
 pub mod Spelling
 pub mod Fault
+pub mod Feed
+pub mod Gives

@@ -1,4 +1,4 @@
-//! The loop over the frames of an operation file.
+//! Operation files that are read whole.
 
 ghost use Rattle.std.specs.Prelude.{◌≡◌, ◌⊎◌, ℕ, List, None, IfOk, IfErr, IsErrOf, MatchResult};
 ghost use Rattle.bg_types.specs.declared.op.OpView.{OpView as Operation};
@@ -7,9 +7,7 @@ ghost use Rattle.op_codec.specs.Spelling.{Spells};
 ghost use Rattle.op_codec.specs.Fault.{header_cause, IsFault, TellsFault};
 
 use crate::fault::CodecFault;
-use crate::format::INSERTION_SIZE;
-use crate::frame::read_frame;
-use crate::header::read_header;
+use crate::feed::Feed;
 use bg_types::Op;
 use std::alloc::Global;
 
@@ -36,20 +34,9 @@ fn decode(alloc: Global, bytes: &[u8]) -> Result<Vec<Op>, CodecFault>
     ensures fault { IfErr result (TellsFault bytes.now) }
     ensures memory { IsErrOf result CodecFault.Memory → header_cause bytes.now ≡ None }
 {
-    let mut rest = match read_header(bytes) {
-        Ok(rest) => rest,
-        Err(cause) => return Err(CodecFault::Malformed { frame: 0, cause }),
-    };
-    // One growth where all are insertions, and at most two more where many are deletions.
-    let mut ops = Vec::with_capacity(alloc, rest.len() / INSERTION_SIZE)?;
-    while !rest.is_empty() {
-        let frame = ops.len() + 1;
-        let (op, after) = match read_frame(rest) {
-            Ok(read) => read,
-            Err(cause) => return Err(CodecFault::Malformed { frame, cause }),
-        };
-        ops.push(op)?;
-        rest = after;
+    let mut feed = Feed::new(alloc);
+    match feed.feed(bytes) {
+        Ok(()) => feed.finish(),
+        Err(fault) => Err(fault),
     }
-    Ok(ops)
 }

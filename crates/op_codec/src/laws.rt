@@ -1,12 +1,15 @@
 //! Laws of the definitions: each function's contract is the law, and its body is empty.
 
-ghost use Rattle.std.specs.Prelude.{◌≡◌, ◌<◌, ◌⊎◌, ℕ, List, All};
+ghost use Rattle.std.specs.Prelude.{◌≡◌, ◌≢◌, ◌<◌, ◌⊎◌, ◌++◌, ℕ, List, [], All, Ok, Err};
 ghost use Rattle.std.specs.List.{AllByRecursion};
 ghost use Rattle.bg_types.specs.WellFormed.{IsWellFormed};
 ghost use Rattle.bg_types.specs.declared.op.OpView.{OpView};
 ghost use Rattle.op_codec.specs.declared.fault.Cause.{Cause};
+ghost use Rattle.op_codec.specs.declared.fault.Cause.TheVariants.{Truncated};
+ghost use Rattle.op_codec.specs.declared.fault.CodecFault.TheVariants.{Malformed, Memory};
 ghost use Rattle.op_codec.specs.Spelling.{Spells};
 ghost use Rattle.op_codec.specs.Fault.{IsFault};
+ghost use Rattle.op_codec.specs.Feed.{IsWhole, IsSound, IsLasting, IsFed, IsFeedOutcome};
 
 /// Bytes spell at most one list of operations, and a list of well-formed operations has exactly
 /// one spelling.
@@ -24,4 +27,36 @@ pub fn spelled_or_faulty()
         → Spells bytes ops → IsFault bytes frame cause → ⊥ }
     ensures one_fault { (bytes : List ℕ) (m n : ℕ) (c d : Cause)
         → IsFault bytes m c → IsFault bytes n d → (m ≡ n) × (c ≡ d) }
+{}
+
+/// What a beginning of the bytes shows, all its continuations show, but that a byte is missing.
+pub fn stable_faults()
+    ensures { (bytes more : List ℕ) (frame : ℕ) (cause : Cause)
+        → IsFault bytes frame cause → cause ≢ Truncated → IsFault (bytes ++ more) frame cause }
+{}
+
+/// Bytes have one list of operations of whole frames. Those of a file are all its operations, and
+/// behind a lasting fault there come no more.
+pub fn whole_frames()
+    ensures one_list { (bytes : List ℕ) (a b : List OpView) → IsWhole bytes a → IsWhole bytes b → a ≡ b }
+    ensures spelled { (bytes : List ℕ) (ops : List OpView) → Spells bytes ops → IsWhole bytes ops }
+    ensures faulty { (bytes more : List ℕ) (ops : List OpView) (frame : ℕ) (cause : Cause)
+        → IsWhole bytes ops → IsLasting bytes frame cause → IsWhole (bytes ++ more) ops }
+{}
+
+/// What a feed keeps stands for all bytes that it was fed, for every list of pieces: `begin` and one
+/// of `taken`, `faulty` and `refused` for each piece say so, with the answer by the first fault of all
+/// bytes so far; `ops`, `spelled` and `told` say what its operations and its end tell of them.
+pub fn fed_in_pieces()
+    ensures begin { IsFed [] [] }
+    ensures taken { (all old piece new : List ℕ) → IsFed all old → IsFeedOutcome old piece new (Ok tt)
+        → IsFed (all ++ piece) new × IsSound (all ++ piece) }
+    ensures faulty { (all old piece new : List ℕ) (frame : ℕ) (cause : Cause)
+        → IsFed all old → IsFeedOutcome old piece new (Err (Malformed frame cause))
+        → IsFed (all ++ piece) new × IsLasting (all ++ piece) frame cause }
+    ensures refused { (all old piece new : List ℕ) → IsFed all old → IsFeedOutcome old piece new (Err Memory)
+        → IsFed all new × IsSound all }
+    ensures ops { (all kept : List ℕ) (ops : List OpView) → IsFed all kept → IsWhole kept ops → IsWhole all ops }
+    ensures spelled { (all kept : List ℕ) (ops : List OpView) → IsFed all kept → Spells kept ops → Spells all ops }
+    ensures told { (all kept : List ℕ) (frame : ℕ) (cause : Cause) → IsFed all kept → IsFault kept frame cause → IsFault all frame cause }
 {}

@@ -3,6 +3,7 @@
 use super::*;
 use bg_types::{Id, Memory, Op, Place};
 use std::alloc::{AllocError, Global};
+use std::io::Cursor;
 use std::test::*;
 
 /// (1,1) after the root, `a`; (2,1) after (1,1), `b`.
@@ -280,5 +281,148 @@ fn a_call_is_right_or_says_memory(rt: HostRuntime) -> Result<(), Fail> {
         let written = encode_op(op, &mut frames).is_ok();
         assert_eq!(rt; frames.len(), if written { before + 19 } else { before });
     }
+    Ok(())
+}
+
+/// Whether bytes that are fed in these pieces are answered as `decode_file` answers all bytes so far,
+/// but that `Truncated` is Ok.
+fn is_fed_like_whole(alloc: Global, pieces: &[&[u8]]) -> Result<bool, AllocError> {
+    let mut feed = Feed::new(alloc);
+    let mut bytes = Vec::new(alloc);
+    for piece in pieces {
+        bytes.extend_from_slice(piece)?;
+        let whole = match decode_file(alloc, &bytes) {
+            Ok(_) => None,
+            Err(fault) if is_truncated(fault) => None,
+            Err(fault) => Some(fault),
+        };
+        if feed.feed(piece).err() != whole {
+            return Ok(false);
+        }
+    }
+    let count = feed.ops().len();
+    Ok(match (feed.finish(), decode_file(alloc, &bytes)) {
+        (Ok(fed), Ok(whole)) => count == whole.len() && fed.as_slice() == whole.as_slice(),
+        (Err(fed), Err(whole)) => fed == whole,
+        _ => false,
+    })
+}
+
+fn is_truncated(fault: CodecFault) -> bool {
+    matches!(
+        fault,
+        CodecFault::Malformed {
+            cause: Cause::Truncated,
+            ..
+        }
+    )
+}
+
+#[test]
+fn a_file_in_pieces_of_each_size(rt: HostRuntime) -> Result<(), Fail> {
+    for size in 1..44usize {
+        let mut feed = Feed::new(rt.alloc());
+        let mut fed = 0usize;
+        while fed < TWO.len() {
+            let end = TWO.len().min(fed.saturating_add(size));
+            feed.feed(&TWO[fed..end])?;
+            fed = end;
+            let whole = match fed {
+                0..24 => 0,
+                24..43 => 1,
+                _ => 2,
+            };
+            assert_eq!(rt; feed.ops().len(), whole, "{fed} bytes by {size}");
+        }
+        assert_eq!(rt;
+            feed.finish()?.as_slice(),
+            two().ok_or("well formed")?.as_slice()
+        );
+    }
+    Ok(())
+}
+
+#[test]
+fn a_file_cut_into_two_pieces(rt: HostRuntime) -> Result<(), Fail> {
+    // Five frames of both kinds, right, and with one byte other.
+    let mut file = joined(rt.alloc(), &TWO, &[0, 7, 2, 0, 0, 0, 2, 0, 1])?;
+    file.extend_from_slice(&TWO[5..])?;
+    for other in [255, 0, 3, 4, 6, 7, 9, 20, 27, 41, 45, 50] {
+        let mut bytes = file.clone()?;
+        if other < bytes.len() {
+            bytes[other] = 9;
+        }
+        for cut in 0..bytes.len() {
+            let pieces = [&bytes[..cut], &bytes[cut..]];
+            assert!(rt; is_fed_like_whole(rt.alloc(), &pieces)?, "{other} at {cut}");
+        }
+    }
+    Ok(())
+}
+
+#[test]
+fn a_fault_stays_and_a_missing_byte_does_not(rt: HostRuntime) -> Result<(), Fail> {
+    let fault = CodecFault::Malformed {
+        frame: 0,
+        cause: Cause::BadVersion,
+    };
+    let mut feed = Feed::new(rt.alloc());
+    assert_eq!(rt; feed.feed(b"BGOP\x03"), Err(fault));
+    assert_eq!(rt; feed.feed(&TWO), Err(fault));
+    assert_eq!(rt; feed.feed(b""), Err(fault));
+    assert!(rt; feed.ops().is_empty());
+    assert_eq!(rt; feed.finish().err(), Some(fault));
+    let nothing = Feed::new(rt.alloc()).finish().err().ok_or("nothing fed")?;
+    assert_eq!(rt; (nothing.frame(), nothing.code()), (Some(0), 3));
+    Ok(())
+}
+
+#[test]
+fn a_feed_is_as_before_after_memory(rt: HostRuntime) -> Result<(), Fail> {
+    let mut feed = Feed::new(rt.alloc());
+    for piece in [&TWO[..7], &TWO[7..30], &TWO[30..]] {
+        let before = feed.ops().len();
+        if feed.feed(piece).is_err() {
+            assert_eq!(rt; feed.ops().len(), before);
+            // The same again, now with memory.
+            feed.feed(piece)?;
+        }
+    }
+    assert_eq!(rt;
+        feed.finish()?.as_slice(),
+        two().ok_or("well formed")?.as_slice()
+    );
+    Ok(())
+}
+
+/// What a source gives by pieces of ten bytes, at most 100, and whether it failed.
+fn given<S: Source>(alloc: Global, source: &mut S) -> Result<(Vec<u8>, bool), AllocError> {
+    let mut bytes = Vec::new(alloc);
+    while bytes.len() < 100 && !source.failed() {
+        let mut piece = [0; 10];
+        match source.get(&mut piece) {
+            Some(0) => return Ok((bytes, false)),
+            Some(n) => bytes.extend_from_slice(&piece[..n.min(10)])?,
+            None => return Ok((bytes, true)),
+        }
+    }
+    Ok((bytes, false))
+}
+
+#[test]
+fn sources_give_their_bytes_and_fail_when_they_should(rt: HostRuntime) -> Result<(), Fail> {
+    let (bytes, failed) = given(rt.alloc(), &mut In::new(Cursor::new(&TWO[..])))?;
+    assert_eq!(rt; (bytes.as_slice(), failed), (TWO.as_slice(), false));
+    let (bytes, failed) = given(rt.alloc(), &mut Gives::new(&TWO, 3))?;
+    assert_eq!(rt; (bytes.as_slice(), failed), (TWO.as_slice(), false));
+    for left in 0..50usize {
+        let mut source = Gives::new(&TWO, 7).failing_after(left);
+        let (bytes, failed) = given(rt.alloc(), &mut source)?;
+        assert_eq!(rt; bytes.as_slice(), &TWO[..left.min(TWO.len())]);
+        assert_eq!(rt; failed, left <= TWO.len(), "{left}");
+    }
+    let (bytes, failed) = given(rt.alloc(), &mut Gives::new(&EMPTY, 4).then_for_ever(b"ab"))?;
+    assert_eq!(rt; (bytes.len(), failed), (101, false));
+    assert!(rt; bytes.starts_with(b"BGOP\x01abababab"));
     Ok(())
 }

@@ -1,0 +1,13 @@
+use Rattle.std.proofs.Common.{sym, ap, ◌∙◌, arith}
+use Rattle.op_codec.specs.Fault.{header_cause}
+use Rattle.op_codec.proofs.Cuts.{header_kept, header_completed}
+use Rattle.op_codec.proofs.cut.complete_header.Goals as goal
+
+pub returns-in-Err-clause-none : goal.returns-in-Err-clause-none
+returns-in-Err-clause-none c =
+    header_kept c.args.kept.now.items c.args.piece.now c.append.new.kept.items c.min-taken.result c.in-Err.field-0 (omega (arith, c.min-taken.ensures, c.len.ensures.value)) c.append.ensures
+    (sym (ap header_cause c.deref.ensures.0) ∙ c.in-Err.ensures.fault)
+
+pub returns-in-Ok-clause-right : goal.returns-in-Ok-clause-right
+returns-in-Ok-clause-right c =
+    header_completed c.args.kept.now.items c.args.piece.now c.append.new.kept.items c.in-Ok.field-0.now c.min-taken.result c.append.ensures (sym c.deref.ensures.0 ∙ c.in-Ok.ensures.ok)
