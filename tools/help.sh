@@ -1,0 +1,12 @@
+# For the scripts beside the crates: --help prints a script's first comment, before anything is built or made.
+# A script sources this file first.
+if [ "${1:-}" = --help ] || [ "${1:-}" = -h ]; then
+    sed -n '2,/^[^#]/s/^# \{0,1\}//p' "$0"
+    exit 0
+fi
+
+# usage: what a script says of a wrong call, the lines of its help that tell how it is called
+usage() {
+    sed -n '2,/^[^#]/s/^# \{0,1\}//p' "$0" | grep -A1 '^Usage' >&2
+    exit 2
+}
