@@ -323,10 +323,9 @@ fn a_file_in_pieces_of_each_size(rt: HostRuntime) -> Result<(), Fail> {
     for size in 1..44usize {
         let mut feed = Feed::new(rt.alloc());
         let mut fed = 0usize;
-        while fed < TWO.len() {
-            let end = TWO.len().min(fed.saturating_add(size));
-            feed.feed(&TWO[fed..end])?;
-            fed = end;
+        for piece in TWO.chunks(size) {
+            feed.feed(piece)?;
+            fed = fed.saturating_add(piece.len());
             let whole = match fed {
                 0..24 => 0,
                 24..43 => 1,
@@ -395,11 +394,14 @@ fn a_feed_is_as_before_after_memory(rt: HostRuntime) -> Result<(), Fail> {
     Ok(())
 }
 
-/// What a source gives by pieces of ten bytes, at most 100, and whether it failed.
+/// What a source gives by thirty pieces of ten bytes, and whether it failed.
 fn given<S: Source>(alloc: Global, source: &mut S) -> Result<(Vec<u8>, bool), AllocError> {
     let mut bytes = Vec::new(alloc);
-    while bytes.len() < 100 && !source.failed() {
+    for _ in 0..30 {
         let mut piece = [0; 10];
+        if source.failed() {
+            return Ok((bytes, true));
+        }
         match source.get(&mut piece) {
             Some(0) => return Ok((bytes, false)),
             Some(n) => bytes.extend_from_slice(&piece[..n.min(10)])?,
@@ -410,19 +412,35 @@ fn given<S: Source>(alloc: Global, source: &mut S) -> Result<(Vec<u8>, bool), Al
 }
 
 #[test]
-fn sources_give_their_bytes_and_fail_when_they_should(rt: HostRuntime) -> Result<(), Fail> {
-    let (bytes, failed) = given(rt.alloc(), &mut In::new(Cursor::new(&TWO[..])))?;
-    assert_eq!(rt; (bytes.as_slice(), failed), (TWO.as_slice(), false));
+fn a_source_gives_its_bytes_and_ends(rt: HostRuntime) -> Result<(), Fail> {
+    let (bytes, failed) = given(rt.alloc(), &mut In::new(Cursor::new(TWO)))?;
+    assert_eq!(rt; bytes.as_slice(), TWO.as_slice());
+    assert!(rt; !failed);
     let (bytes, failed) = given(rt.alloc(), &mut Gives::new(&TWO, 3))?;
-    assert_eq!(rt; (bytes.as_slice(), failed), (TWO.as_slice(), false));
+    assert_eq!(rt; bytes.as_slice(), TWO.as_slice());
+    assert!(rt; !failed);
+    Ok(())
+}
+
+#[test]
+fn a_source_fails_after_each_number_of_bytes(rt: HostRuntime) -> Result<(), Fail> {
     for left in 0..50usize {
         let mut source = Gives::new(&TWO, 7).failing_after(left);
         let (bytes, failed) = given(rt.alloc(), &mut source)?;
         assert_eq!(rt; bytes.as_slice(), &TWO[..left.min(TWO.len())]);
         assert_eq!(rt; failed, left <= TWO.len(), "{left}");
     }
-    let (bytes, failed) = given(rt.alloc(), &mut Gives::new(&EMPTY, 4).then_for_ever(b"ab"))?;
-    assert_eq!(rt; (bytes.len(), failed), (101, false));
-    assert!(rt; bytes.starts_with(b"BGOP\x01abababab"));
+    Ok(())
+}
+
+#[test]
+fn a_source_goes_on_for_ever(rt: HostRuntime) -> Result<(), Fail> {
+    let mut source = Gives::new(&EMPTY, 4).then_for_ever(&TWO[5..24]);
+    let (bytes, failed) = given(rt.alloc(), &mut source)?;
+    assert!(rt; !failed);
+    // Four bytes and one, then five gets for each 19.
+    assert_eq!(rt; bytes.len(), 5 + 5 * 19 + 12);
+    assert!(rt; bytes.starts_with(&TWO[..24]));
+    assert!(rt; bytes[24..].starts_with(&TWO[5..24]));
     Ok(())
 }
