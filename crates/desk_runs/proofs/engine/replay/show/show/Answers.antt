@@ -1,5 +1,9 @@
+use Rattle.std.proofs.Common.{ap, subst, ◌∙◌}
 use Rattle.std.proofs.KnownBytes.{Appends-nil}
+use Rattle.bg_types.specs.Sink.{AppendsBeginning}
 use Rattle.rga_tree.specs.TextOf.{text}
+use Rattle.cell_grid.specs.Grids.{grid_of}
+use Rattle.cell_grid.specs.Print.{printed}
 use Rattle.desk_runs.specs.declared.run_fault.RunFault.TheVariants as run
 use Rattle.desk_runs.specs.Setting.{print_in}
 use Rattle.desk_runs.specs.Shows.{IsShowOutcome}
@@ -16,3 +20,12 @@ returns-in_err-grid g c =
     let old = g.S.Sink.written c.args.out.now in
     answer_handed (IsShowOutcome (print_in c.args.setting.now (text c.args.desk.now.set)) old old (g.S.Sink.has_failed c.args.out.now)) c.from_residual-in_err-grid.result run.Memory c.from_residual-in_err-grid.ensures.1
     (c.requires.working, Appends-nil old)
+
+pub returns-in_err-print : goal.returns-in_err-print
+returns-in_err-print g c =
+    let setting = c.args.setting.now in
+    let old = g.S.Sink.written c.args.out.now in
+    let new = g.S.Sink.written c.print.new.sink in
+    let drawn = c.in_ok-grid.ensures.grid ∙ ap (grid_of setting.tables.now setting.width setting.base) (c.as_str.ensures.value ∙ c.in_ok-text.ensures.value) in
+    answer_handed (IsShowOutcome (print_in setting (text c.args.desk.now.set)) old new (g.S.Sink.has_failed c.print.new.sink)) c.from_residual-in_err-print.result run.Device c.from_residual-in_err-print.ensures.1
+    (c.in_err-print.ensures.failed, subst (λ grid. AppendsBeginning old new (printed grid)) drawn c.in_err-print.ensures.err)
