@@ -106,7 +106,7 @@ impl LevelStack {
         }
     }
 
-    /// X2 to X5: RLE, LRE, RLO and LRO.
+    /// X2 to X5: RLE (X2), LRE (X3), RLO (X4) and LRO (X5).
     fn embed(&mut self, odd: bool, forced: Option<Bidi>)
         requires { self.old.overflow_embeddings + 1 < 2 ^ 64 }
         ensures { self.new ≡ advance (Embedding odd forced) self.old }
@@ -140,7 +140,7 @@ impl LevelStack {
         }
     }
 
-    /// X5a to X5c: RLI, LRI and FSI.
+    /// X5a to X5c: RLI (X5a), LRI (X5b) and FSI as the one of these that its content makes it (X5c).
     fn open_isolate(&mut self, odd: bool)
         requires overflow { self.old.overflow_isolates + 1 < 2 ^ 64 }
         requires valid { self.old.valid_isolates + 1 < 2 ^ 64 }
@@ -179,7 +179,7 @@ impl LevelStack {
     }
 
     /// Does what a character does, and answers the direction that it takes: the one before it, for a
-    /// PDI the one behind it.
+    /// PDI the one after it (X6: every other character takes the last entry's).
     pub(crate) fn advance(&mut self, kind: Kind) -> Direction
         requires embeddings { self.old.overflow_embeddings + 1 < 2 ^ 64 }
         requires overflow { self.old.overflow_isolates + 1 < 2 ^ 64 }

@@ -23,7 +23,7 @@ pub(crate) fn status(b: Before, a: After) -> Break
     } else if is_between_cr_lf(b, a) {
         Break::No // LB5
     } else if is_one_of(b.point, &[Cr, Lf, Nl]) {
-        Break::Must
+        Break::Must // LB5
     } else if is_one_of(a.point, &[Bk, Cr, Lf, Nl]) {
         Break::No // LB6
     } else if is_one_of(a.point, &[Sp, Zw]) {
@@ -58,17 +58,17 @@ fn item_status(b: Before, a: After) -> Break
     ensures { result ≡ first_rule item_rules Break.May b a }
 {
     if joiners(b, a) {
-        Break::No
+        Break::No // LB11, LB12, LB12a
     } else if enclosing(b, a) {
-        Break::No
+        Break::No // LB13, LB14, LB15, LB16, LB17
     } else if is_one_of(b.item, &[Sp]) {
         Break::May // LB18
     } else if quotations(b, a) {
-        Break::No
+        Break::No // LB19
     } else if contingent(b, a) {
-        Break::May
+        Break::May // LB20
     } else if hyphens(b, a) {
-        Break::No
+        Break::No // LB21, LB21a, LB21b, LB22
     } else {
         late_status(b, a)
     }
@@ -79,43 +79,43 @@ fn late_status(b: Before, a: After) -> Break
     ensures { result ≡ first_rule late_rules Break.May b a }
 {
     if ideographs(b, a) {
-        Break::No
+        Break::No // LB23, LB23a
     } else if numbers(b, a) {
-        Break::No
+        Break::No // LB24, LB25
     } else if syllables(b, a) {
-        Break::No
+        Break::No // LB26, LB27
     } else if letters(b, a) {
-        Break::No
+        Break::No // LB28, LB29
     } else if parentheses(b, a) {
-        Break::No
+        Break::No // LB30
     } else if pairs(b, a) {
-        Break::No
+        Break::No // LB30a, LB30b
     } else {
         Break::May // LB31
     }
 }
 
-/// LB11 to LB12a: word joiner, non-breaking characters.
+/// LB11, LB12 and LB12a: word joiner, non-breaking characters.
 #[tactic(auto, unfolding(crate::specs::Rules::joiners))]
 fn joiners(b: Before, a: After) -> bool
     ensures { result ≡ list_any (holds b a) joiners }
 {
-    is_one_of(a.item, &[Wj])
-        || is_one_of(b.item, &[Wj])
-        || is_one_of(b.item, &[Gl])
-        || !is_one_of(b.item, &[Sp, Ba, Hy]) && is_one_of(a.item, &[Gl])
+    is_one_of(a.item, &[Wj]) // LB11
+        || is_one_of(b.item, &[Wj]) // LB11
+        || is_one_of(b.item, &[Gl]) // LB12
+        || !is_one_of(b.item, &[Sp, Ba, Hy]) && is_one_of(a.item, &[Gl]) // LB12a
 }
 
-/// LB13 to LB17: opening and closing.
+/// LB13, LB14, LB15, LB16 and LB17: opening and closing.
 #[tactic(auto, unfolding(crate::specs::Rules::enclosing))]
 fn enclosing(b: Before, a: After) -> bool
     ensures { result ≡ list_any (holds b a) enclosing }
 {
-    is_one_of(a.item, &[Cl, Cp, Ex, Is, Sy])
-        || is_one_of(b.spaced, &[Op])
-        || is_one_of(b.spaced, &[Qu]) && is_one_of(a.item, &[Op])
-        || is_one_of(b.spaced, &[Cl, Cp]) && is_one_of(a.item, &[Ns])
-        || is_one_of(b.spaced, &[B2]) && is_one_of(a.item, &[B2])
+    is_one_of(a.item, &[Cl, Cp, Ex, Is, Sy]) // LB13
+        || is_one_of(b.spaced, &[Op]) // LB14
+        || is_one_of(b.spaced, &[Qu]) && is_one_of(a.item, &[Op]) // LB15
+        || is_one_of(b.spaced, &[Cl, Cp]) && is_one_of(a.item, &[Ns]) // LB16
+        || is_one_of(b.spaced, &[B2]) && is_one_of(a.item, &[B2]) // LB17
 }
 
 /// LB19: quotation marks.
@@ -134,16 +134,16 @@ fn contingent(b: Before, a: After) -> bool
     is_one_of(a.item, &[Cb]) || is_one_of(b.item, &[Cb])
 }
 
-/// LB21 to LB22: hyphens and leaders.
+/// LB21, LB21a, LB21b and LB22: hyphens and leaders.
 #[tactic(auto, unfolding(crate::specs::Rules::hyphens))]
 fn hyphens(b: Before, a: After) -> bool
     ensures { result ≡ list_any (holds b a) hyphens }
 {
-    is_one_of(a.item, &[Ba, Hy, Ns])
-        || is_one_of(b.item, &[Bb])
-        || b.hebrew_hyphen
-        || is_one_of(b.item, &[Sy]) && is_one_of(a.item, &[Hl])
-        || is_one_of(a.item, &[In])
+    is_one_of(a.item, &[Ba, Hy, Ns]) // LB21
+        || is_one_of(b.item, &[Bb]) // LB21
+        || b.hebrew_hyphen // LB21a
+        || is_one_of(b.item, &[Sy]) && is_one_of(a.item, &[Hl]) // LB21b
+        || is_one_of(a.item, &[In]) // LB22
 }
 
 /// LB23 and LB23a: letters with numbers, ideographs with prefixes and postfixes.
@@ -151,10 +151,10 @@ fn hyphens(b: Before, a: After) -> bool
 fn ideographs(b: Before, a: After) -> bool
     ensures { result ≡ list_any (holds b a) ideographs }
 {
-    is_one_of(b.item, &[Al, Hl]) && is_one_of(a.item, &[Nu])
-        || is_one_of(b.item, &[Nu]) && is_one_of(a.item, &[Al, Hl])
-        || is_one_of(b.item, &[Pr]) && is_one_of(a.item, &[Id, Eb, Em])
-        || is_one_of(b.item, &[Id, Eb, Em]) && is_one_of(a.item, &[Po])
+    is_one_of(b.item, &[Al, Hl]) && is_one_of(a.item, &[Nu]) // LB23
+        || is_one_of(b.item, &[Nu]) && is_one_of(a.item, &[Al, Hl]) // LB23
+        || is_one_of(b.item, &[Pr]) && is_one_of(a.item, &[Id, Eb, Em]) // LB23a
+        || is_one_of(b.item, &[Id, Eb, Em]) && is_one_of(a.item, &[Po]) // LB23a
 }
 
 /// LB24 and LB25: prefixes, postfixes and numbers.
@@ -162,11 +162,11 @@ fn ideographs(b: Before, a: After) -> bool
 fn numbers(b: Before, a: After) -> bool
     ensures { result ≡ list_any (holds b a) numbers }
 {
-    is_one_of(b.item, &[Pr, Po]) && is_one_of(a.item, &[Al, Hl])
-        || is_one_of(b.item, &[Al, Hl]) && is_one_of(a.item, &[Pr, Po])
-        || is_one_of(b.item, &[Cl, Cp, Nu]) && is_one_of(a.item, &[Po, Pr])
-        || is_one_of(b.item, &[Po, Pr]) && is_one_of(a.item, &[Op, Nu])
-        || is_one_of(b.item, &[Hy, Is, Nu, Sy]) && is_one_of(a.item, &[Nu])
+    is_one_of(b.item, &[Pr, Po]) && is_one_of(a.item, &[Al, Hl]) // LB24
+        || is_one_of(b.item, &[Al, Hl]) && is_one_of(a.item, &[Pr, Po]) // LB24
+        || is_one_of(b.item, &[Cl, Cp, Nu]) && is_one_of(a.item, &[Po, Pr]) // LB25
+        || is_one_of(b.item, &[Po, Pr]) && is_one_of(a.item, &[Op, Nu]) // LB25
+        || is_one_of(b.item, &[Hy, Is, Nu, Sy]) && is_one_of(a.item, &[Nu]) // LB25
 }
 
 /// LB26 and LB27: Korean syllable blocks.
@@ -174,11 +174,11 @@ fn numbers(b: Before, a: After) -> bool
 fn syllables(b: Before, a: After) -> bool
     ensures { result ≡ list_any (holds b a) syllables }
 {
-    is_one_of(b.item, &[Jl]) && is_one_of(a.item, &[Jl, Jv, H2, H3])
-        || is_one_of(b.item, &[Jv, H2]) && is_one_of(a.item, &[Jv, Jt])
-        || is_one_of(b.item, &[Jt, H3]) && is_one_of(a.item, &[Jt])
-        || is_one_of(b.item, &[Jl, Jv, Jt, H2, H3]) && is_one_of(a.item, &[Po])
-        || is_one_of(b.item, &[Pr]) && is_one_of(a.item, &[Jl, Jv, Jt, H2, H3])
+    is_one_of(b.item, &[Jl]) && is_one_of(a.item, &[Jl, Jv, H2, H3]) // LB26
+        || is_one_of(b.item, &[Jv, H2]) && is_one_of(a.item, &[Jv, Jt]) // LB26
+        || is_one_of(b.item, &[Jt, H3]) && is_one_of(a.item, &[Jt]) // LB26
+        || is_one_of(b.item, &[Jl, Jv, Jt, H2, H3]) && is_one_of(a.item, &[Po]) // LB27
+        || is_one_of(b.item, &[Pr]) && is_one_of(a.item, &[Jl, Jv, Jt, H2, H3]) // LB27
 }
 
 /// LB28 and LB29: letters.
@@ -186,8 +186,8 @@ fn syllables(b: Before, a: After) -> bool
 fn letters(b: Before, a: After) -> bool
     ensures { result ≡ list_any (holds b a) letters }
 {
-    is_one_of(b.item, &[Al, Hl]) && is_one_of(a.item, &[Al, Hl])
-        || is_one_of(b.item, &[Is]) && is_one_of(a.item, &[Al, Hl])
+    is_one_of(b.item, &[Al, Hl]) && is_one_of(a.item, &[Al, Hl]) // LB28
+        || is_one_of(b.item, &[Is]) && is_one_of(a.item, &[Al, Hl]) // LB29
 }
 
 /// LB30: parentheses.
@@ -204,6 +204,6 @@ fn parentheses(b: Before, a: After) -> bool
 fn pairs(b: Before, a: After) -> bool
     ensures { result ≡ list_any (holds b a) pairs }
 {
-    b.odd_regional && is_one_of(a.item, &[Ri])
-        || is_one_of(b.item, &[Eb]) && is_one_of(a.item, &[Em])
+    b.odd_regional && is_one_of(a.item, &[Ri]) // LB30a
+        || is_one_of(b.item, &[Eb]) && is_one_of(a.item, &[Em]) // LB30b
 }
