@@ -143,87 +143,97 @@ impl Store {
     }
 }
 
-fn empty_store(alloc: Global, key: u128) -> Store {
+/// Any key serves.
+const KEY: u128 = 0x0123_4567_89ab_cdef;
+
+fn empty_store(alloc: Global) -> Store {
     Store {
-        held: Held::keyed(alloc, key),
+        held: Held::keyed(alloc, KEY),
     }
 }
 
-#[test]
-fn a_chain_that_came_in_reverse_goes_in_order(rt: HostRuntime) {
-    let mut store = empty_store(rt.alloc(), 0);
-    assert!(rt; store.insert_down(1000, 2, 1));
-    assert!(rt; store.held.count() == 999);
+/// A chain that came in reverse goes in order.
+fn reversed_chain(store: &mut Store) -> bool {
+    let mut all = store.insert_down(1000, 2, 1) && store.held.count() == 999;
     for (counter, below) in [(1, 999), (500, 500), (1000, 0)] {
-        assert!(rt; store.below(counter) == Some(below), "below {counter}");
+        all = store.below(counter) == Some(below) && all;
     }
-    assert!(rt; store.places_row(1, 1, 999));
-    assert!(rt; store.held.count() == 0);
+    all && store.places_row(1, 1, 999) && store.held.count() == 0
 }
 
-#[test]
-fn a_bush_is_handed_out_once_each(rt: HostRuntime) {
-    let mut store = empty_store(rt.alloc(), 0x0123_4567_89ab_cdef);
-    assert!(rt; store.insert_down(1001, 2, 1001));
-    assert!(rt; store.below(1) == Some(1000));
-    assert!(rt; store.below(2) == Some(0));
+/// A bush is handed out once each.
+fn bush(store: &mut Store) -> bool {
+    let mut all = store.insert_down(1001, 2, 1001)
+        && store.below(1) == Some(1000)
+        && store.below(2) == Some(0);
     store.release(1);
     let mut marks = [false; 1002];
     for _ in 0..1000 {
         let counter = store.place().unwrap_or(0) as usize;
-        assert!(rt; marks.get(counter) == Some(&false), "{counter} twice");
-        if let Some(mark) = marks.get_mut(counter) {
-            *mark = true;
+        match marks.get_mut(counter) {
+            Some(mark) => {
+                all = !*mark && all;
+                *mark = true;
+            }
+            None => all = false,
         }
     }
-    assert!(rt; store.place().is_none());
-    assert!(rt; store.held.count() == 0);
+    all && store.place().is_none() && store.held.count() == 0
 }
 
-#[test]
-fn of_two_trees_that_came_by_turns_one_is_released(rt: HostRuntime) {
-    let mut store = empty_store(rt.alloc(), 0);
-    // Two chains, whose insertions come by turns, the last ones first.
-    assert!(rt; store.insert_down(1000, 3, 2));
+/// Of two chains whose insertions came by turns, the last ones first, one is released and then the other.
+fn one_chain_of_two(store: &mut Store) -> bool {
+    let mut all = store.insert_down(1000, 3, 2);
     for (root, left) in [(1, 499), (2, 0)] {
-        assert!(rt; store.below(root) == Some(499));
-        assert!(rt; store.places_row(root, 2, 499));
-        assert!(rt; store.below(root) == Some(0));
-        assert!(rt; store.held.count() == left);
+        all = store.below(root) == Some(499) && all;
+        all = store.places_row(root, 2, 499) && all;
+        all = store.below(root) == Some(0) && store.held.count() == left && all;
     }
+    all
 }
 
-#[test]
-fn of_two_trees_that_came_by_turns_both_are_released(rt: HostRuntime) {
-    let mut store = empty_store(rt.alloc(), 0);
-    assert!(rt; store.insert_down(1000, 3, 2));
+/// Of two such chains both are released at once.
+fn both_chains_of_two(store: &mut Store) -> bool {
+    let mut all = store.insert_down(1000, 3, 2);
     store.release(1);
     store.release(2);
     let (mut odd, mut even) = (1u32, 2u32);
     for _ in 0..998 {
         let counter = store.place().unwrap_or(0);
-        if counter % 2 == 1 {
-            odd = odd.saturating_add(2);
-            assert!(rt; counter == odd);
+        let last = if counter % 2 == 1 {
+            &mut odd
         } else {
-            even = even.saturating_add(2);
-            assert!(rt; counter == even);
-        }
+            &mut even
+        };
+        *last = last.saturating_add(2);
+        all = counter == *last && all;
     }
-    assert!(rt; odd == 999 && even == 1000);
-    assert!(rt; store.held.count() == 0);
+    all && odd == 999 && even == 1000 && store.held.count() == 0
 }
 
+/// A deletion waits with its insertion, each once.
+fn deletion_and_insertion(store: &mut Store) -> bool {
+    store.erase(2)
+        && !store.erase(2)
+        && store.insert(2, 1)
+        && !store.insert(2, 1)
+        && store.times(insertion(2, 1)) == 1
+        && store.times(id(2).map(Op::erase)) == 1
+        && store.places_row(1, 1, 1)
+        && store.drop_erasure(2)
+        && !store.drop_erasure(2)
+}
+
+/// One store for all rows, each of which leaves it empty.
 #[test]
-fn an_erasure_waits_with_its_insertion(rt: HostRuntime) {
-    let mut store = empty_store(rt.alloc(), 0);
-    assert!(rt; store.erase(2));
-    assert!(rt; !store.erase(2));
-    assert!(rt; store.insert(2, 1));
-    assert!(rt; !store.insert(2, 1));
-    assert!(rt; store.times(insertion(2, 1)) == 1);
-    assert!(rt; store.times(id(2).map(Op::erase)) == 1);
-    assert!(rt; store.places_row(1, 1, 1));
-    assert!(rt; store.drop_erasure(2));
-    assert!(rt; !store.drop_erasure(2));
+fn what_came_early_is_handed_out_once_in_order(rt: HostRuntime) {
+    let mut store = empty_store(rt.alloc());
+    assert!(rt; reversed_chain(&mut store), "reversed chain");
+    assert!(rt; bush(&mut store), "bush");
+    assert!(rt; one_chain_of_two(&mut store), "one chain of two");
+    assert!(rt; both_chains_of_two(&mut store), "both chains of two");
+    assert!(rt;
+        deletion_and_insertion(&mut store),
+        "deletion and insertion"
+    );
 }
