@@ -2,22 +2,13 @@
 use Rattle.std.specs.Prelude.{ℕ, ◌+◌}
 use Rattle.conformance.specs.declared.tally.Tally.{Tally}
 use Rattle.conformance.specs.declared.tally.Verdict.{Verdict}
-use Rattle.conformance.specs.declared.tally.Verdict.TheVariants.{Agrees, Differs, LeftOut, Chosen}
-use Rattle.conformance.specs.declared.tally.Direction.{Direction}
-use Rattle.conformance.specs.declared.tally.Direction.TheVariants.{LeftToRight, RightToLeft}
+use Rattle.conformance.specs.declared.tally.Verdict.TheVariants.{Agrees, Differs, Chosen}
 use Rattle.conformance.specs.declared.tally.Choice.TheVariants.{Pairs, Pictographs}
-
--- the paragraph level of a direction
-abbrev pub level_of : Direction → ℕ
-level_of LeftToRight = 0
-level_of RightToLeft = 1
 
 -- how many cases came to a verdict
 abbrev pub number_of : Verdict → Tally → ℕ
 number_of Agrees t = t.agree
 number_of Differs t = t.differ
-number_of (LeftOut LeftToRight) t = t.left_to_right
-number_of (LeftOut RightToLeft) t = t.right_to_left
 number_of (Chosen Pairs) t = t.pairs
 number_of (Chosen Pictographs) t = t.pictographs
 
@@ -25,11 +16,9 @@ number_of (Chosen Pictographs) t = t.pictographs
 abbrev pub counted : Verdict → Tally → Tally
 counted Agrees t = record t { agree = t.agree + 1 }
 counted Differs t = record t { differ = t.differ + 1 }
-counted (LeftOut LeftToRight) t = record t { left_to_right = t.left_to_right + 1 }
-counted (LeftOut RightToLeft) t = record t { right_to_left = t.right_to_left + 1 }
 counted (Chosen Pairs) t = record t { pairs = t.pairs + 1 }
 counted (Chosen Pictographs) t = record t { pictographs = t.pictographs + 1 }
 
 -- each case once
 abbrev pub cases_of : Tally → ℕ
-cases_of t = t.agree + t.differ + t.left_to_right + t.right_to_left + t.pairs + t.pictographs
+cases_of t = t.agree + t.differ + t.pairs + t.pictographs
