@@ -3,7 +3,7 @@
 ghost use Rattle.std.specs.Prelude.{◌≡◌, ◌+◌, ◌↔◌, IsTrue, IfOk, OnOk};
 ghost use Rattle.conformance.specs.Agreement.{IsAsWanted};
 ghost use Rattle.conformance.specs.Came.{breaks_of, CameAsWanted, IsOneParagraph, IsByChoice};
-ghost use Rattle.conformance.specs.Counted.{counted, cases_of};
+ghost use Rattle.conformance.specs.Counted.{counted, cases_of, asked_of};
 ghost use Rattle.conformance.specs.declared.tally.Choice.{Choice};
 ghost use Rattle.conformance.specs.declared.tally.Verdict.TheVariants.{Agrees, Differs, Chosen};
 
@@ -178,7 +178,9 @@ impl<'a> Comparison<'a> {
     }
 
     /// Compares a text for each direction that is asked for.
-    fn take_directions(&mut self, text: &str, directions: u8) -> Result<(), RunFault> {
+    fn take_directions(&mut self, text: &str, directions: u8) -> Result<(), RunFault>
+        ensures each { OnOk result (cases_of self.new.tally ≡ cases_of self.old.tally + asked_of directions) }
+    {
         if directions & AUTOMATIC != 0 {
             self.take_direction(text, Base::Auto)?;
         }
