@@ -33,18 +33,19 @@ fn tables(alloc: Global) -> Result<Tables, UcdFault> {
     }
 }
 
-/// The grid of a text, after a test of what the call asks for.
+/// The grid of a text by a base direction, after a test of what the call asks for.
 fn drawn<'a>(
     rt: &impl Abort,
     alloc: Global,
     tables: &'a Tables,
     width: u16,
+    base: Base,
     text: &'a str,
 ) -> Result<Grid<'a>, Memory> {
     assert!(rt; 2 <= width && width <= 500);
     assert!(rt; text.len() <= 4_000_000);
-    match draw(alloc, tables, width, Base::Auto, text) {
-        Err(Memory) => draw(alloc, tables, width, Base::Auto, text),
+    match draw(alloc, tables, width, base, text) {
+        Err(Memory) => draw(alloc, tables, width, base, text),
         answer => answer,
     }
 }
@@ -106,11 +107,12 @@ fn assert_walk(rt: &impl Abort, grid: &Grid, place: usize, moves: &str, stops: &
 /// Rows of a text, a width, a place, moves and the stops, each as its row, gap and place.
 fn assert_walks(
     rt: &(impl Abort + AllocGlobal),
+    base: Base,
     walks: &[(&str, u16, usize, &str, &str)],
 ) -> Result<(), Fail> {
     let tables = tables(rt.alloc())?;
     for (text, width, place, moves, stops) in walks {
-        let grid = drawn(rt, rt.alloc(), &tables, *width, text)?;
+        let grid = drawn(rt, rt.alloc(), &tables, *width, base, text)?;
         assert_walk(rt, &grid, *place, moves, stops);
     }
     Ok(())
@@ -148,7 +150,7 @@ fn steps_cross_one_entry_each(rt: HostRuntime) -> Result<(), Fail> {
             "000 011 022 033 043 055 066 066",
         ),
     ];
-    assert_walks(&rt, &rows)
+    assert_walks(&rt, Base::Auto, &rows)
 }
 
 #[test]
@@ -174,7 +176,7 @@ fn edges_lead_on_and_back(rt: HostRuntime) -> Result<(), Fail> {
         ),
         ("a\n\u{5D0}", 4, 1, "rrrll", "011 022 112 022 011 000"),
     ];
-    assert_walks(&rt, &rows)
+    assert_walks(&rt, Base::Auto, &rows)
 }
 
 #[test]
@@ -211,7 +213,36 @@ fn up_and_down_keep_to_the_column(rt: HostRuntime) -> Result<(), Fail> {
         ("", 4, 0, "rlud", "000 000 000 000 000"),
         ("ab\n", 4, 3, "udd", "103 000 103 103"),
     ];
-    assert_walks(&rt, &rows)
+    assert_walks(&rt, Base::Auto, &rows)
+}
+
+/// Latin lines from right to left, and Hebrew ones from left to right.
+#[test]
+fn a_base_turns_the_edges_and_no_step(rt: HostRuntime) -> Result<(), Fail> {
+    let rows = [
+        ("ab", 4, 0, "rrrll", "000 011 022 022 011 000"),
+        (
+            "ab\ncd",
+            4,
+            0,
+            "llllllrrrrrrr",
+            "010 003 123 114 103 103 103 114 125 003 012 021 032 032",
+        ),
+        ("ab\ncd", 4, 0, "ddu", "010 103 103 012"),
+        ("", 4, 0, "rlud", "000 000 000 000 000"),
+    ];
+    assert_walks(&rt, Base::Right, &rows)?;
+    let rows = [
+        ("\u{5D0}!", 4, 0, "rrlll", "010 022 022 011 001 001"),
+        (
+            "\u{5D0}\n\u{5D1}",
+            4,
+            0,
+            "rrrrll",
+            "010 022 102 112 112 103 022",
+        ),
+    ];
+    assert_walks(&rt, Base::Left, &rows)
 }
 
 /// The caret at each place of a text in turn stops there.
@@ -246,7 +277,7 @@ fn each_place_has_its_cluster(rt: HostRuntime) -> Result<(), Fail> {
     ];
     let tables = tables(rt.alloc())?;
     for (text, width, stops) in rows {
-        let grid = drawn(&rt, rt.alloc(), &tables, width, text)?;
+        let grid = drawn(&rt, rt.alloc(), &tables, width, Base::Auto, text)?;
         assert_stops(&rt, &grid, stops);
     }
     Ok(())
@@ -257,7 +288,7 @@ fn a_place_is_found_among_many_rows(rt: HostRuntime) -> Result<(), Fail> {
     let tables = tables(rt.alloc())?;
     // 1,000 rows of a line feed alone, and the empty one behind them.
     let text = str::from_utf8(&[b'\n'; 1_000]).unwrap_or("");
-    let grid = drawn(&rt, rt.alloc(), &tables, 2, text)?;
+    let grid = drawn(&rt, rt.alloc(), &tables, 2, Base::Auto, text)?;
     for place in 0..1_001 {
         let caret = placed(&rt, &grid, place);
         assert_eq!(rt; (caret.row, caret.gap, caret.place), (place, 0, place));

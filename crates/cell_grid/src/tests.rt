@@ -29,7 +29,25 @@ fn tables_with(alloc: Global, mirror: &[u8]) -> Result<Tables, UcdFault> {
     }
 }
 
-/// The grid of a text of at most 4,000,000 bytes at a width of 2 to 500.
+/// The grid of a text of at most 4,000,000 bytes at a width of 2 to 500, by a base direction.
+fn grid_by<'a>(
+    rt: &impl Abort,
+    alloc: Global,
+    tables: &'a Tables,
+    width: u16,
+    base: Base,
+    text: &'a str,
+) -> Result<Grid<'a>, Memory> {
+    assert!(rt; width >= 2);
+    assert!(rt; width <= 500);
+    assert!(rt; text.len() <= 4_000_000);
+    match draw(alloc, tables, width, base, text) {
+        Err(Memory) => draw(alloc, tables, width, base, text),
+        answer => answer,
+    }
+}
+
+/// The same, where each paragraph has its own direction.
 fn grid_of<'a>(
     rt: &impl Abort,
     alloc: Global,
@@ -37,13 +55,7 @@ fn grid_of<'a>(
     width: u16,
     text: &'a str,
 ) -> Result<Grid<'a>, Memory> {
-    assert!(rt; width >= 2);
-    assert!(rt; width <= 500);
-    assert!(rt; text.len() <= 4_000_000);
-    match draw(alloc, tables, width, Base::Auto, text) {
-        Err(Memory) => draw(alloc, tables, width, Base::Auto, text),
-        answer => answer,
-    }
+    grid_by(rt, alloc, tables, width, Base::Auto, text)
 }
 
 /// Prints a grid through a sink that takes at most `piece` bytes a call and `left` in all. The
@@ -72,6 +84,25 @@ fn with_room(alloc: Global) -> Result<Vec<u8>, Memory> {
     }
 }
 
+fn assert_printed_by(
+    rt: &(impl Abort + AllocGlobal),
+    tables: &Tables,
+    base: Base,
+    text: &str,
+    width: u16,
+    shown: &str,
+) -> Result<(), Fail> {
+    let grid = grid_by(rt, rt.alloc(), tables, width, base, text)?;
+    let (bytes, whole) = printed(rt, rt.alloc(), &grid, usize::MAX, usize::MAX)?;
+    assert_eq!(rt;
+        bytes.as_slice(),
+        shown.as_bytes(),
+        "{text:?} at width {width}, {base:?}"
+    );
+    assert!(rt; whole);
+    Ok(())
+}
+
 fn assert_printed(
     rt: &(impl Abort + AllocGlobal),
     tables: &Tables,
@@ -79,15 +110,7 @@ fn assert_printed(
     width: u16,
     shown: &str,
 ) -> Result<(), Fail> {
-    let grid = grid_of(rt, rt.alloc(), tables, width, text)?;
-    let (bytes, whole) = printed(rt, rt.alloc(), &grid, usize::MAX, usize::MAX)?;
-    assert_eq!(rt;
-        bytes.as_slice(),
-        shown.as_bytes(),
-        "{text:?} at width {width}"
-    );
-    assert!(rt; whole);
-    Ok(())
+    assert_printed_by(rt, tables, Base::Auto, text, width, shown)
 }
 
 /// A paragraph of three scripts.
@@ -141,6 +164,83 @@ fn texts_are_printed(rt: HostRuntime) -> Result<(), Fail> {
         assert_printed(&rt, &tables, text, width, shown)?;
     }
     Ok(())
+}
+
+#[test]
+fn a_base_puts_each_row_at_its_edge(rt: HostRuntime) -> Result<(), Fail> {
+    let tables = tables_with(rt.alloc(), vectors::MIRROR)?;
+    let rows: [(Base, &str, &str); 9] = [
+        (Base::Right, "ab", "  ab\n"),
+        (Base::Right, "a!", "  !a\n"),
+        (Base::Left, "\u{5D0}!", "\u{5D0}!  \n"),
+        (Base::Auto, "\u{5D0}!", "  !\u{5D0}\n"),
+        // Each paragraph has the base.
+        (Base::Right, "a!\n\nb!", "  !a\n    \n  !b\n"),
+        (
+            Base::Left,
+            "\u{5D0}!\n\n\u{5D1}!",
+            "\u{5D0}!  \n    \n\u{5D1}!  \n",
+        ),
+        // An FSI goes by what it holds.
+        (Base::Right, "\u{2068}\u{5D0}!\u{2069}a", " a!\u{5D0}\n"),
+        (Base::Right, "\u{2068}b!\u{2069}a", " ab!\n"),
+        (Base::Left, "\u{2068}\u{5D0}!\u{2069}a", "!\u{5D0}a \n"),
+    ];
+    for (base, text, shown) in rows {
+        assert_printed_by(&rt, &tables, base, text, 4, shown)?;
+    }
+    Ok(())
+}
+
+/// Rows of an empty paragraph, of one of class B and of one of controls alone.
+#[test]
+fn paragraphs_without_a_letter_have_the_level_of_the_base(rt: HostRuntime) -> Result<(), Fail> {
+    let tables = tables_with(rt.alloc(), vectors::MIRROR)?;
+    for (base, level) in [(Base::Auto, 0), (Base::Left, 0), (Base::Right, 1)] {
+        for text in [
+            "",
+            "\n",
+            "\u{2029}",
+            "\u{202A}\u{202C}",
+            "\u{2067}\u{2069}\u{200B}",
+        ] {
+            let grid = grid_by(&rt, rt.alloc(), &tables, 2, base, text)?;
+            for row in grid.rows() {
+                assert_eq!(rt; row.para_level(), level, "{text:?} {base:?}");
+                assert_eq!(rt; row.cell(0), Some(Cell::Blank), "{text:?} {base:?}");
+            }
+        }
+    }
+    Ok(())
+}
+
+#[test]
+fn ambiguous_characters_are_as_wide_as_the_tables_say(rt: HostRuntime) -> Result<(), Fail> {
+    let narrow = tables_with(rt.alloc(), vectors::MIRROR)?;
+    let wide = tables_with(rt.alloc(), vectors::MIRROR)?.with_wide_ambiguous(true);
+    let rows: [(&Tables, &str, u16, &str); 6] = [
+        (&wide, "\u{3B1}a", 4, "\u{3B1}a \n"),
+        (&wide, "\u{3B1}a", 2, "\u{3B1}\na \n"),
+        (&narrow, "\u{3B1}a", 4, "\u{3B1}a  \n"),
+        (&narrow, "\u{3B1}a", 2, "\u{3B1}a\n"),
+        // The choice changes no place where a line may end.
+        (
+            &wide,
+            "\u{3B1}\u{3B1} \u{3B1}",
+            4,
+            "\u{3B1}\u{3B1}\n\u{3B1}  \n",
+        ),
+        (
+            &narrow,
+            "\u{3B1}\u{3B1} \u{3B1}",
+            3,
+            "\u{3B1}\u{3B1} \n\u{3B1}  \n",
+        ),
+    ];
+    for (tables, text, width, shown) in rows {
+        assert_printed(&rt, tables, text, width, shown)?;
+    }
+    assert_printed_by(&rt, &wide, Base::Right, "\u{3B1}!", 4, " !\u{3B1}\n")
 }
 
 #[test]

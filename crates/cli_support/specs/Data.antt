@@ -1,15 +1,16 @@
 -- The data files of a folder.
-use Rattle.std.specs.Prelude.{◌≡◌, ◌≤◌, ℕ, vec_len}
+use Rattle.std.specs.Prelude.{◌≡◌, ◌≤◌, ℕ, Bool, vec_len}
 use Rattle.ucd_files.specs.declared.files.Ucd.{Ucd}
 use Rattle.cli_support.specs.declared.data.Data.{Data}
 
--- each file is the one of its name
-pub record IsUcdOf (files : Data) (ucd : Ucd) : Type 0 where
+-- each file is the one of its name, and ambiguous characters are as wide as was asked for
+pub record IsUcdOf (files : Data) (wide_ambiguous : Bool) (ucd : Ucd) : Type 0 where
   pub bidi : ucd.bidi.now ≡ files.bidi.items
   pub brackets : ucd.brackets.now ≡ files.brackets.items
   pub mirror : ucd.mirror.now ≡ files.mirror.items
   pub lb : ucd.lb.now ≡ files.lb.items
   pub ea : ucd.ea.now ≡ files.ea.items
+  pub wide : ucd.wide_ambiguous ≡ wide_ambiguous
 
 -- no file is longer than the limit
 pub record IsWithin (limit : ℕ) (files : Data) : Type 0 where

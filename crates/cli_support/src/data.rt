@@ -29,9 +29,9 @@ pub struct Data {
 }
 
 impl Data {
-    /// The files as one value, to be read.
-    pub fn ucd(&self) -> Ucd<'_>
-        ensures { IsUcdOf self.now result }
+    /// The files as one value, to be read with ambiguous characters wide or not.
+    pub fn ucd(&self, wide_ambiguous: bool) -> Ucd<'_>
+        ensures { IsUcdOf self.now wide_ambiguous result }
     {
         Ucd {
             bidi: self.bidi.as_slice(),
@@ -39,6 +39,7 @@ impl Data {
             mirror: self.mirror.as_slice(),
             lb: self.lb.as_slice(),
             ea: self.ea.as_slice(),
+            wide_ambiguous,
         }
     }
 }

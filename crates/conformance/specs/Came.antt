@@ -1,7 +1,7 @@
 -- What the crates of the layout give for the text of a case.
 use Rattle.std.specs.Prelude.{◌≡◌, ℕ, Bool, List, map, length, replicate, slice_get, Some}
 use Rattle.std.specs.List.{filter, flat_map}
-use Rattle.bg_types.specs.declared.class.Base.TheVariants.{Auto}
+use Rattle.bg_types.specs.declared.class.Base.{Base}
 use Rattle.ucd_files.specs.Tables.{TableValues}
 use Rattle.paragraphs.specs.Text.{code_points}
 use Rattle.paragraphs.specs.Paragraphs.{Paragraph, paragraphs}
@@ -26,16 +26,16 @@ paragraph_breaks tables p = map is_break (breaks tables p.text)
 abbrev pub breaks_of : TableValues → List ℕ → List Bool
 breaks_of tables text = flat_map (paragraph_breaks tables) (paragraphs tables text)
 
--- a text as one line, each code point a cluster of its own: the paragraph's level, the levels after L1, and the order of L2
-pub record IsLineOf (tables : TableValues) (text : List ℕ) (line : BidiLine) : Type 0 where
-  pub level : line.level ≡ paragraph_level Auto (classes_of tables text)
-  pub levels : line.levels.items ≡ line_levels_of tables text (levels_of tables Auto text) (replicate (length (code_points text)) 1) line.level
+-- a text as one line by a base direction, each code point a cluster of its own: the paragraph's level, the levels after L1, and the order of L2
+pub record IsLineOf (tables : TableValues) (base : Base) (text : List ℕ) (line : BidiLine) : Type 0 where
+  pub level : line.level ≡ paragraph_level base (classes_of tables text)
+  pub levels : line.levels.items ≡ line_levels_of tables text (levels_of tables base text) (replicate (length (code_points text)) 1) line.level
   pub order : line.order.items ≡ visual_list line.levels.items
 
 -- the paragraph's level, the levels and the order came that are wanted
-pub record CameAsWanted (tables : TableValues) (text : List ℕ) (wanted : Wanted) : Type 0 where
+pub record CameAsWanted (tables : TableValues) (base : Base) (text : List ℕ) (wanted : Wanted) : Type 0 where
   pub line : BidiLine
-  pub is : IsLineOf tables text line
+  pub is : IsLineOf tables base text line
   pub as_wanted : IsAsWanted wanted line (filter (is_wanted_at wanted.levels.items) line.order.items)
 
 -- a text that is one paragraph, but for an empty one behind its separator

@@ -28,26 +28,37 @@ pub struct BidiLine {
     pub order: Vec<u32>,
 }
 
-/// What the crates give for a text that is one line, or `None` where it has more paragraphs.
-pub fn line_of(alloc: Global, tables: &Tables, text: &str) -> Result<Option<BidiLine>, RunFault>
-    ensures line { IfOk result (λ line. IfSome line (IsLineOf tables.now text.now)) }
+/// What the crates give for a text that is one line, by a base direction, or `None` where it has
+/// more paragraphs.
+pub fn line_of(
+    alloc: Global,
+    tables: &Tables,
+    base: Base,
+    text: &str,
+) -> Result<Option<BidiLine>, RunFault>
+    ensures line { IfOk result (λ line. IfSome line (IsLineOf tables.now base text.now)) }
     ensures none { IfOk result (λ line. line ≡ None → IsOneParagraph tables.now text.now → ⊥) }
 {
     let paragraphs = split(alloc, tables, text)?;
     match paragraphs.first() {
         Some(para) if para.text().len() == text.len() => {
-            Ok(Some(paragraph_line(alloc, tables, para)?))
+            Ok(Some(paragraph_line(alloc, tables, base, para)?))
         }
         _ => Ok(None),
     }
 }
 
 /// The same for a paragraph. Each code point counts as a cluster, as the test files have it.
-fn paragraph_line(alloc: Global, tables: &Tables, para: &Para) -> Result<BidiLine, RunFault>
-    ensures { IfOk result (IsLineOf tables.now para.now.text) }
+fn paragraph_line(
+    alloc: Global,
+    tables: &Tables,
+    base: Base,
+    para: &Para,
+) -> Result<BidiLine, RunFault>
+    ensures { IfOk result (IsLineOf tables.now base para.now.text) }
 {
-    let level = explicit(alloc, tables, para, Base::Auto)?.level();
-    let resolved = levels(alloc, tables, para, Base::Auto)?;
+    let level = explicit(alloc, tables, para, base)?.level();
+    let resolved = levels(alloc, tables, para, base)?;
     let sizes = ones(alloc, resolved.len())?;
     let levels = line_levels(alloc, tables, para.text(), &resolved, &sizes, level)?;
     if levels.len() > LONGEST {

@@ -3,7 +3,7 @@
 use crate::class::point_of;
 use crate::fault::{LineFault, RunFault};
 use crate::field;
-use crate::tally::Direction;
+use bg_types::Base;
 use std::alloc::Global;
 
 /// The levels and the order that are wanted of a line of text.
@@ -21,8 +21,8 @@ pub struct Wanted {
 #[derive(Drop)]
 pub struct CharacterCase {
     pub text: String,
-    /// The direction that is asked for, `None` for that of the first strong character.
-    pub direction: Option<Direction>,
+    /// The direction that is asked for.
+    pub base: Base,
     pub wanted: Wanted,
 }
 
@@ -50,10 +50,10 @@ const BAD_LINE: RunFault = RunFault::Line(0, LineFault::BadLine);
 pub fn character_case(alloc: Global, line: &str) -> Result<CharacterCase, RunFault> {
     let mut fields = line.split(';');
     let text = field::text(alloc, fields.next().unwrap_or(""))?;
-    let direction = match fields.next().unwrap_or("") {
-        "0" => Some(Direction::LeftToRight),
-        "1" => Some(Direction::RightToLeft),
-        "2" => None,
+    let base = match fields.next().unwrap_or("") {
+        "0" => Base::Left,
+        "1" => Base::Right,
+        "2" => Base::Auto,
         _ => return Err(BAD_LINE),
     };
     let level = field::number(fields.next().unwrap_or(""))?;
@@ -61,7 +61,7 @@ pub fn character_case(alloc: Global, line: &str) -> Result<CharacterCase, RunFau
     let order = field::places(alloc, fields.next().ok_or(BAD_LINE)?)?;
     Ok(CharacterCase {
         text,
-        direction,
+        base,
         wanted: Wanted {
             level: Some(level),
             levels,

@@ -1,13 +1,11 @@
 //! The run of a test file.
 
-ghost use Rattle.std.specs.Prelude.{◌≡◌, ◌≢◌, ◌+◌, ◌↔◌, IsTrue, IfOk, OnOk, Some};
+ghost use Rattle.std.specs.Prelude.{◌≡◌, ◌+◌, ◌↔◌, IsTrue, IfOk, OnOk};
 ghost use Rattle.conformance.specs.Agreement.{IsAsWanted};
-ghost use Rattle.bg_types.specs.declared.class.Base.TheVariants.{Auto};
-ghost use Rattle.bidi_explicit.specs.Embedding.{paragraph_level, classes_of};
 ghost use Rattle.conformance.specs.Came.{breaks_of, CameAsWanted, IsOneParagraph, IsByChoice};
-ghost use Rattle.conformance.specs.Counted.{counted, cases_of, level_of};
+ghost use Rattle.conformance.specs.Counted.{counted, cases_of, asked_of};
 ghost use Rattle.conformance.specs.declared.tally.Choice.{Choice};
-ghost use Rattle.conformance.specs.declared.tally.Verdict.TheVariants.{Agrees, Differs, LeftOut, Chosen};
+ghost use Rattle.conformance.specs.declared.tally.Verdict.TheVariants.{Agrees, Differs, Chosen};
 
 use crate::bidi::{BidiLine, are_levels, is_level, line_of, wanted_places};
 use crate::breaks::breaks_of;
@@ -18,9 +16,9 @@ use crate::choice::choice_of;
 use crate::fault::{LineFault, RunFault};
 use crate::field::content;
 use crate::report::{summary, tell_breaks, tell_levels};
-use crate::tally::{Direction, Tally, Verdict};
+use crate::tally::{Tally, Verdict};
 use crate::test_file::TestFile;
-use bg_types::{Device, Sink, put_all};
+use bg_types::{Base, Device, Sink, put_all};
 use std::alloc::Global;
 use std::io::{BufRead, ErrorKind};
 use ucd_files::Tables;
@@ -162,12 +160,8 @@ impl<'a> Comparison<'a> {
     fn take_characters(&mut self, line: &str) -> Result<(), RunFault>
         ensures once { OnOk result (cases_of self.new.tally ≡ cases_of self.old.tally + 1) }
     {
-        let CharacterCase {
-            text,
-            direction,
-            wanted,
-        } = character_case(self.alloc, line)?;
-        let found = compare_line(self.alloc, self.tables, text.as_str(), direction, &wanted)?;
+        let CharacterCase { text, base, wanted } = character_case(self.alloc, line)?;
+        let found = compare_line(self.alloc, self.tables, text.as_str(), base, &wanted)?;
         self.keep(found)
     }
 
@@ -184,24 +178,26 @@ impl<'a> Comparison<'a> {
     }
 
     /// Compares a text for each direction that is asked for.
-    fn take_directions(&mut self, text: &str, directions: u8) -> Result<(), RunFault> {
+    fn take_directions(&mut self, text: &str, directions: u8) -> Result<(), RunFault>
+        ensures each { OnOk result (cases_of self.new.tally ≡ cases_of self.old.tally + asked_of directions) }
+    {
         if directions & AUTOMATIC != 0 {
-            self.take_direction(text, None)?;
+            self.take_direction(text, Base::Auto)?;
         }
         if directions & LEFT_TO_RIGHT != 0 {
-            self.take_direction(text, Some(Direction::LeftToRight))?;
+            self.take_direction(text, Base::Left)?;
         }
         if directions & RIGHT_TO_LEFT != 0 {
-            self.take_direction(text, Some(Direction::RightToLeft))?;
+            self.take_direction(text, Base::Right)?;
         }
         Ok(())
     }
 
     /// Compares a text with what the last lines `@Levels` and `@Reorder` want.
-    fn take_direction(&mut self, text: &str, direction: Option<Direction>) -> Result<(), RunFault>
+    fn take_direction(&mut self, text: &str, base: Base) -> Result<(), RunFault>
         ensures once { OnOk result (cases_of self.new.tally ≡ cases_of self.old.tally + 1) }
     {
-        let found = compare_line(self.alloc, self.tables, text, direction, &self.wanted)?;
+        let found = compare_line(self.alloc, self.tables, text, base, &self.wanted)?;
         self.keep(found)
     }
 
@@ -242,29 +238,22 @@ impl Found {
     }
 }
 
-/// What comes of a text for a direction.
+/// What comes of a text for a base direction.
 fn compare_line(
     alloc: Global,
     tables: &Tables,
     text: &str,
-    direction: Option<Direction>,
+    base: Base,
     wanted: &Wanted,
 ) -> Result<Found, RunFault>
-    ensures agrees { IfOk result (λ found. found.verdict ≡ Agrees → CameAsWanted tables.now text.now wanted.now) }
-    ensures left_out { IfOk result (λ found. (asked : Direction) → found.verdict ≡ LeftOut asked
-        → (direction ≡ Some asked) × (paragraph_level Auto (classes_of tables.now text.now) ≢ level_of asked)) }
-    ensures differs { IfOk result (λ found. found.verdict ≡ Differs → IsOneParagraph tables.now text.now → CameAsWanted tables.now text.now wanted.now → ⊥) }
+    ensures agrees { IfOk result (λ found. found.verdict ≡ Agrees → CameAsWanted tables.now base text.now wanted.now) }
+    ensures differs { IfOk result (λ found. found.verdict ≡ Differs → IsOneParagraph tables.now text.now → CameAsWanted tables.now base text.now wanted.now → ⊥) }
     ensures chosen { IfOk result (λ found. (choice : Choice) → found.verdict ≡ Chosen choice → ⊥) }
 {
-    let Some(came) = line_of(alloc, tables, text)? else {
+    let Some(came) = line_of(alloc, tables, base, text)? else {
         let told = String::from_str(alloc, "more than one paragraph")?;
         return Ok(Found::difference(told));
     };
-    if let Some(direction) = direction {
-        if came.level != direction.level() {
-            return Ok(Found::of(Verdict::LeftOut(direction)));
-        }
-    }
     let places = wanted_places(alloc, &wanted.levels, &came.order)?;
     if is_as_wanted(wanted, &came, &places) {
         return Ok(Found::of(Verdict::Agrees));

@@ -1,5 +1,7 @@
 //! The fields of a line.
 
+ghost use Rattle.std.specs.Prelude.{◌≡◌, None, IfOk, codes};
+
 use crate::fault::{LineFault, RunFault};
 use std::alloc::Global;
 
@@ -33,13 +35,19 @@ pub fn number(word: &str) -> Result<u8, RunFault> {
 pub fn levels(alloc: Global, field: &str) -> Result<Vec<Option<u8>>, RunFault> {
     let mut levels = Vec::new(alloc);
     for word in field.split_whitespace() {
-        let level = match word {
-            "x" => None,
-            word => Some(number(word)?),
-        };
-        levels.push(level)?;
+        levels.push(level(word)?)?;
     }
     Ok(levels)
+}
+
+/// The level that a word writes, `None` for an `x`.
+fn level(word: &str) -> Result<Option<u8>, RunFault>
+    ensures { IfOk result (λ level. level ≡ None → word.now ≡ codes "x") }
+{
+    match word {
+        "x" => Ok(None),
+        word => Ok(Some(number(word)?)),
+    }
 }
 
 /// The places that a field lists.

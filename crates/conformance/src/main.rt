@@ -24,7 +24,7 @@ use std::fmt::Display;
 use std::fs::File;
 use std::io::{self, BufReader, BufWriter};
 use std::process::ExitCode;
-pub use tally::{Choice, Direction, Tally, Verdict};
+pub use tally::{Choice, Tally, Verdict};
 pub use test_file::TestFile;
 use ucd_files::Tables;
 
@@ -48,7 +48,7 @@ fn compare_all(rt: &HostRuntime, folder: &str, files: &[&str]) -> ExitCode {
         Ok(data) => data,
         Err(unread) => return refuse(rt, &unread),
     };
-    let tables = match data.ucd().load(rt.alloc()) {
+    let tables = match data.ucd(false).load(rt.alloc()) {
         Ok(tables) => tables,
         Err(fault) => return refuse_at(rt, folder, RunFault::from(fault)),
     };

@@ -77,19 +77,13 @@ pub fn summary(alloc: Global, name: &str, tally: &Tally) -> Result<String, RunFa
     let cases = tally.cases();
     let agree = tally.agree;
     let differ = tally.differ;
-    let left = tally.left_to_right;
-    let right = tally.right_to_left;
-    let out = u128::from(left) + u128::from(right);
     let pairs = tally.pairs;
     let pictographs = tally.pictographs;
     let mut text = String::new(alloc);
     write!(
         text,
-        "{name}: {cases} cases, {agree} agree, {differ} differ, {out} left out"
+        "{name}: {cases} cases, {agree} agree, {differ} differ"
     )?;
-    if out > 0 {
-        write!(text, " (asked left to right {left}, right to left {right})")?;
-    }
     if pairs > 0 || pictographs > 0 {
         write!(text, ", by choice {pairs} LB25 {pictographs} LB30b")?;
     }

@@ -1,26 +1,7 @@
 //! What came of the cases, counted.
 
 ghost use Rattle.std.specs.Prelude.{◌≡◌, ◌+◌, ◌<◌, ◌^◌, IfSome, SomeIff};
-ghost use Rattle.conformance.specs.Counted.{level_of, number_of, counted, cases_of};
-
-/// A paragraph direction that a case asks for.
-#[derive(Clone, Copy)]
-pub enum Direction {
-    LeftToRight,
-    RightToLeft,
-}
-
-impl Direction {
-    /// The paragraph's level.
-    pub fn level(self) -> u8
-        ensures { result ≡ level_of self }
-    {
-        match self {
-            Direction::LeftToRight => 0,
-            Direction::RightToLeft => 1,
-        }
-    }
-}
+ghost use Rattle.conformance.specs.Counted.{number_of, counted, cases_of};
 
 /// A choice of this profile of line breaking.
 #[derive(Clone, Copy)]
@@ -37,8 +18,6 @@ pub enum Choice {
 pub enum Verdict {
     Agrees,
     Differs,
-    /// The first strong character doesn't give the paragraph direction that the case asks for.
-    LeftOut(Direction),
     /// It differs by a choice of the profile alone.
     Chosen(Choice),
 }
@@ -48,8 +27,6 @@ pub enum Verdict {
 pub struct Tally {
     pub agree: u64,
     pub differ: u64,
-    pub left_to_right: u64,
-    pub right_to_left: u64,
     pub pairs: u64,
     pub pictographs: u64,
 }
@@ -64,12 +41,6 @@ impl Tally {
         match verdict {
             Verdict::Agrees => tally.agree = self.agree.checked_add(1)?,
             Verdict::Differs => tally.differ = self.differ.checked_add(1)?,
-            Verdict::LeftOut(Direction::LeftToRight) => {
-                tally.left_to_right = self.left_to_right.checked_add(1)?;
-            }
-            Verdict::LeftOut(Direction::RightToLeft) => {
-                tally.right_to_left = self.right_to_left.checked_add(1)?;
-            }
             Verdict::Chosen(Choice::Pairs) => tally.pairs = self.pairs.checked_add(1)?,
             Verdict::Chosen(Choice::Pictographs) => {
                 tally.pictographs = self.pictographs.checked_add(1)?;
@@ -84,8 +55,6 @@ impl Tally {
     {
         u128::from(self.agree)
             + u128::from(self.differ)
-            + u128::from(self.left_to_right)
-            + u128::from(self.right_to_left)
             + u128::from(self.pairs)
             + u128::from(self.pictographs)
     }

@@ -8,7 +8,7 @@ use Rattle.std.specs.Str.{IsUtf8}
 use Rattle.ucd_files.specs.Tables.{TableValues}
 use Rattle.paragraphs.specs.Text.{code_points}
 use Rattle.paragraphs.specs.Clusters.{clusters, cluster_code_points, cluster_sizes}
-use Rattle.paragraphs.specs.Columns.{begins_with_end, is_invisible, takes_two, columns_of}
+use Rattle.paragraphs.specs.Columns.{begins_with_end, is_invisible, takes_two, takes_two_by_choice, columns_by_choice, columns_of}
 use Rattle.line_break.specs.declared.cluster.Cluster.{Cluster}
 use Rattle.line_break.specs.declared.item.Item.{Item}
 use Rattle.line_break.specs.declared.status.Break.{Break}
@@ -120,12 +120,16 @@ measured-is tables points statuses all place size columns is_space after same n 
     cluster_of : ℕ → Bool → Break → Cluster
     cluster_of columns is_space after = record { columns = columns; is_space = is_space; after = after }
 
+columns_by_choice-two : (tables : TableValues) (points : List ℕ) → columns_by_choice tables points ≤ 2
+columns_by_choice-two tables [] = omega arith
+columns_by_choice-two tables (c ∷ rest) = elim (takes_two_by_choice tables c) as (λ b. cond b 2 1 ≤ 2) [ true ↦ omega arith | false ↦ omega arith ]
+
 columns_of-two : (tables : TableValues) (points : List ℕ) → columns_of tables points ≤ 2
-columns_of-two tables points = elim (begins_with_end tables points) as (λ b. cond b 0 (cond (list_all (is_invisible tables) points) 0 (cond (list_any (takes_two tables) points) 2 1)) ≤ 2) [
+columns_of-two tables points = elim (begins_with_end tables points) as (λ b. cond b 0 (cond (list_all (is_invisible tables) points) 0 (cond (list_any (takes_two tables) points) 2 (columns_by_choice tables points))) ≤ 2) [
   | true ↦ omega arith
-  | false ↦ elim (list_all (is_invisible tables) points) as (λ b. cond b 0 (cond (list_any (takes_two tables) points) 2 1) ≤ 2) [
+  | false ↦ elim (list_all (is_invisible tables) points) as (λ b. cond b 0 (cond (list_any (takes_two tables) points) 2 (columns_by_choice tables points)) ≤ 2) [
     | true ↦ omega arith
-    | false ↦ elim (list_any (takes_two tables) points) as (λ b. cond b 2 1 ≤ 2) [ true ↦ omega arith | false ↦ omega arith ]
+    | false ↦ elim (list_any (takes_two tables) points) as (λ b. cond b 2 (columns_by_choice tables points) ≤ 2) [ true ↦ omega arith | false ↦ columns_by_choice-two tables points ]
   ]
 ]
 

@@ -5,7 +5,7 @@ use Rattle.bg_types.specs.declared.class.Bidi.TheVariants.{B}
 use Rattle.bg_types.specs.declared.class.Lb.{Lb}
 use Rattle.bg_types.specs.declared.class.Lb.TheVariants.{Bk, Cr, Lf, Nl}
 use Rattle.bg_types.specs.declared.class.Ea.{Ea}
-use Rattle.bg_types.specs.declared.class.Ea.TheVariants.{W, F}
+use Rattle.bg_types.specs.declared.class.Ea.TheVariants.{A, F, W}
 unfoldable pub use Rattle.bg_types.specs.Classes.{is_removed, is_isolate_control}
 
 -- UAX #9, P1: the class of what ends a paragraph
@@ -26,3 +26,8 @@ unfoldable pub is_wide : Ea → Bool
 is_wide W = true
 is_wide F = true
 is_wide _ = false
+
+-- UAX #11: the width that the context decides
+unfoldable pub is_ambiguous : Ea → Bool
+is_ambiguous A = true
+is_ambiguous _ = false

@@ -1,7 +1,7 @@
 //! Sets of character classes.
 
 ghost use Rattle.std.specs.Prelude.{◌≡◌};
-ghost use Rattle.paragraphs.specs.Classes.{is_separator, is_removed, is_isolate_control, is_line_end, is_wide};
+ghost use Rattle.paragraphs.specs.Classes.{is_separator, is_removed, is_isolate_control, is_line_end, is_wide, is_ambiguous};
 
 use bg_types::{Bidi, Ea, Lb};
 
@@ -51,4 +51,13 @@ pub(crate) fn is_wide(width: Ea) -> bool
     ensures { result ≡ is_wide width }
 {
     matches!(width, Ea::W | Ea::F)
+}
+
+/// Whether the context decides how wide a character of this width is.
+#[inline]
+#[tactic(auto, unfolding(crate::specs::Classes::is_ambiguous))]
+pub(crate) fn is_ambiguous(width: Ea) -> bool
+    ensures { result ≡ is_ambiguous width }
+{
+    matches!(width, Ea::A)
 }

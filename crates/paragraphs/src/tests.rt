@@ -185,6 +185,32 @@ fn columns_by_cases(rt: HostRuntime) -> Result<(), Fail> {
     Ok(())
 }
 
+#[test]
+fn ambiguous_characters_are_wide_by_choice(rt: HostRuntime) -> Result<(), Fail> {
+    let ea: &[u8] = b"00E9;A\n0301;A\n200E;A\n0085;A\n4E16;W";
+    let narrow = wide_tables(rt.alloc(), ea)?;
+    let wide = wide_tables(rt.alloc(), ea)?.with_wide_ambiguous(true);
+    for (cluster, without, with) in [
+        ("\u{E9}", 1, 2),
+        ("\u{E9}\u{301}", 1, 2),
+        // The first code point decides alone.
+        ("e\u{301}", 1, 1),
+        ("\u{301}", 1, 2),
+        ("\u{200E}\u{301}", 1, 2),
+        ("\u{302}", 1, 1),
+        ("e", 1, 1),
+        ("\u{4E16}", 2, 2),
+        ("\u{4E16}\u{301}", 2, 2),
+        // Nothing is seen of these.
+        ("\u{200E}", 0, 0),
+        ("\u{85}", 0, 0),
+    ] {
+        assert_columns(&rt, &narrow, cluster, without);
+        assert_columns(&rt, &wide, cluster, with);
+    }
+    Ok(())
+}
+
 fn assert_columns(rt: &impl std::process::Abort, tables: &Tables, cluster: &str, want: u8) {
     assert!(rt; !cluster.is_empty());
     assert_eq!(rt; columns(tables, cluster), want, "of {cluster:?}");

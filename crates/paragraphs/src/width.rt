@@ -3,13 +3,16 @@
 ghost use Rattle.std.specs.Prelude.{◌≡◌, ◌<◌, length};
 ghost use Rattle.std.specs.List.{list_all, list_any};
 ghost use Rattle.paragraphs.specs.Text.{code_points};
-ghost use Rattle.paragraphs.specs.Columns.{ends_line, begins_with_end, is_direction_mark, is_invisible, takes_two, columns_of};
+ghost use Rattle.paragraphs.specs.Columns.{ends_line, begins_with_end, is_direction_mark, is_invisible, takes_two, takes_two_by_choice, columns_by_choice, columns_of};
 
-use crate::class::{is_isolate_control, is_line_end, is_removed, is_separator, is_wide};
+use crate::class::{
+    is_ambiguous, is_isolate_control, is_line_end, is_removed, is_separator, is_wide,
+};
 use ucd_files::Tables;
 
 /// The columns of a cluster, 0 to 2. It has none where it begins with what ends a line or a
-/// paragraph, or where each of its characters is invisible; and two where one of them is wide.
+/// paragraph, or where each of its characters is invisible; and two where one of them is wide, or
+/// where the first is ambiguous and the tables have such ones wide.
 pub fn columns(tables: &Tables, cluster: &str) -> u8
     // At least one code point.
     requires { 0 < length cluster.now }
@@ -20,7 +23,7 @@ pub fn columns(tables: &Tables, cluster: &str) -> u8
     } else if has_wide(tables, cluster) {
         2
     } else {
-        1
+        columns_by_choice(tables, cluster)
     }
 }
 
@@ -63,4 +66,23 @@ fn has_wide(tables: &Tables, cluster: &str) -> bool
     ensures { result ≡ list_any (takes_two tables.now) (code_points cluster.now) }
 {
     cluster.chars().any(|c| is_wide(tables.ea(c)))
+}
+
+/// The columns of a cluster in which something is seen and nothing is wide.
+#[inline]
+fn columns_by_choice(tables: &Tables, cluster: &str) -> u8
+    ensures { result ≡ columns_by_choice tables.now (code_points cluster.now) }
+{
+    match cluster.chars().next() {
+        Some(c) if takes_two_by_choice(tables, c) => 2,
+        _ => 1,
+    }
+}
+
+/// Whether a character is ambiguous, and the tables have such ones wide.
+#[inline]
+fn takes_two_by_choice(tables: &Tables, c: char) -> bool
+    ensures { result ≡ takes_two_by_choice tables.now c }
+{
+    tables.wide_ambiguous() && is_ambiguous(tables.ea(c))
 }

@@ -7,7 +7,7 @@ mod report;
 mod request;
 mod words;
 
-use bg_types::{Base, Device, Out};
+use bg_types::{Device, Out};
 pub use cli_support::Stop;
 use cli_support::{Unread, end, flush, read, read_all, read_data};
 pub use desk_runs::{Move, RunFault, ScheduleFault, TakeFault, Ucd, carets, replay, status, text};
@@ -71,9 +71,9 @@ fn run_replay(rt: &HostRuntime, job: &Replay) -> ExitCode {
     let done = replay(
         rt.alloc(),
         draw_key(rt),
-        &data.ucd(),
+        &data.ucd(job.wide_ambiguous),
         job.width,
-        Base::Auto,
+        job.base,
         files.as_slice(),
         schedule.as_deref(),
         &mut Out::new(&mut buffered),
@@ -96,9 +96,9 @@ fn run_caret(rt: &HostRuntime, job: &Walk) -> ExitCode {
     let done = carets(
         rt.alloc(),
         draw_key(rt),
-        &data.ucd(),
+        &data.ucd(job.wide_ambiguous),
         job.width,
-        Base::Auto,
+        job.base,
         files.as_slice(),
         job.place,
         job.moves.as_slice(),

@@ -2,6 +2,7 @@
 
 ghost use Rattle.std.specs.Prelude.{◌≤◌, vec_len};
 
+use bg_types::Base;
 use desk_runs::Move;
 
 /// The work to be done.
@@ -26,6 +27,10 @@ pub struct Replay<'a> {
     pub folder: &'a str,
     /// The width of a row in columns.
     pub width: u16,
+    /// The base direction of each paragraph.
+    pub base: Base,
+    /// Whether ambiguous characters are wide.
+    pub wide_ambiguous: bool,
     /// The schedule, if there is one.
     pub schedule: Option<&'a str>,
     /// The operation files, 1 to 64 of them.
@@ -43,6 +48,10 @@ pub struct Walk<'a> {
     pub folder: &'a str,
     /// The width of a row in columns.
     pub width: u16,
+    /// The base direction of each paragraph.
+    pub base: Base,
+    /// Whether ambiguous characters are wide.
+    pub wide_ambiguous: bool,
     /// Where the walk begins, in code points of the text.
     pub place: u32,
     pub moves: Vec<Move>,

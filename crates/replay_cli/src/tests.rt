@@ -1,7 +1,7 @@
 //! What no clause says: the command line, the lines on standard error, and statuses.
 
 use super::*;
-use bg_types::Stops;
+use bg_types::{Base, Stops};
 use op_codec::{Cause, CodecFault};
 use std::alloc::Global;
 use std::test::Fail;
@@ -202,6 +202,77 @@ fn replay_takes_a_folder_a_width_and_a_schedule(rt: HostRuntime) -> Result<(), F
         assert_eq!(rt; got, Err(wanted), "{more:?}");
     }
     Ok(())
+}
+
+#[test]
+fn base_and_width_of_ambiguous_characters_are_chosen(rt: HostRuntime) -> Result<(), Fail> {
+    let rows: [(&[&str], Base, bool); 7] = [
+        (&[], Base::Auto, false),
+        (
+            &["--base", "auto", "--ambiguous", "narrow"],
+            Base::Auto,
+            false,
+        ),
+        (&["--base=left"], Base::Left, false),
+        (&["--base", "right"], Base::Right, false),
+        (&["--ambiguous=wide"], Base::Auto, true),
+        (&["--ambiguous", "wide", "--base", "left"], Base::Left, true),
+        (
+            &["--base", "right", "--ambiguous", "wide"],
+            Base::Right,
+            true,
+        ),
+    ];
+    for (choices, base, wide) in rows {
+        for (name, options) in GRIDS {
+            let words = grid_line(rt.alloc(), name, options, choices)?;
+            let chosen = match job(rt.alloc(), words.as_slice()) {
+                Ok(Job::Replay(job)) => Some((job.base, job.wide_ambiguous)),
+                Ok(Job::Caret(job)) => Some((job.base, job.wide_ambiguous)),
+                _ => None,
+            };
+            assert_eq!(rt; chosen, Some((base, wide)), "{name} {choices:?}");
+        }
+    }
+    let rows: [&[&str]; 6] = [
+        &["--base"],
+        &["--base", ""],
+        &["--base", "Left"],
+        &["--base", "rtl"],
+        &["--ambiguous", "2"],
+        &["--base", "left", "--base", "right"],
+    ];
+    for choices in rows {
+        for (name, options) in GRIDS {
+            let words = grid_line(rt.alloc(), name, options, choices)?;
+            let got = outcome(rt.alloc(), words.as_slice());
+            assert_eq!(rt; got, Err("usage"), "{name} {choices:?}");
+        }
+    }
+    Ok(())
+}
+
+/// The subcommands that draw, with what they ask for.
+const GRIDS: [(&str, &[&str]); 2] = [
+    ("replay", &["--ucd", "d", "--width", "4"]),
+    (
+        "caret",
+        &["--ucd", "d", "--width", "4", "--at", "0", "--moves", "l"],
+    ),
+];
+
+/// A command line of a subcommand that draws, for one file.
+fn grid_line(
+    alloc: Global,
+    name: &str,
+    options: &[&str],
+    choices: &[&str],
+) -> Result<Vec<String>, Fail> {
+    let mut words = line(alloc, &["bidigrid", name, "file"])?;
+    for word in options.iter().chain(choices) {
+        words.push(String::from_str(alloc, word)?)?;
+    }
+    Ok(words)
 }
 
 #[test]

@@ -3,6 +3,7 @@
 ghost use Rattle.std.specs.Prelude.{◌≤◌, IfOk, vec_len};
 
 use crate::request::{Job, Replay, Walk};
+use bg_types::Base;
 use clap::{Arg, ArgAction, ArgMatches, Command, value_parser};
 use cli_support::Stop;
 use desk_runs::Move;
@@ -62,6 +63,18 @@ const UCD_HELP: &str = "The folder of the five data files";
 
 const WIDTH_HELP: &str = "The width of a row, 2 to 500 columns";
 
+const BASE_HELP: &str =
+    "The base direction of each paragraph; auto takes its first strong character";
+
+/// The words of `--base`.
+const BASES: [&str; 3] = ["auto", "left", "right"];
+
+const AMBIGUOUS_HELP: &str =
+    "The width of characters that East Asian text has wide, and other text narrow";
+
+/// The words of `--ambiguous`.
+const WIDTHS: [&str; 2] = ["narrow", "wide"];
+
 const SCHEDULE_HELP: &str = "What the desks do, a line a step";
 
 const DUMP_ABOUT: &str = "Writes an operation file as a listing";
@@ -117,6 +130,8 @@ fn replay_job<'a>(alloc: Global, replay: &ArgMatches<'a>) -> Result<Job<'a>, Sto
     Ok(Job::Replay(Replay {
         folder: replay.get_str("UCD").unwrap_or(""),
         width: width(alloc, replay)?,
+        base: base(replay),
+        wide_ambiguous: is_wide(replay),
         schedule: replay.get_str("SCHEDULE"),
         files: files(alloc, replay)?,
     }))
@@ -126,6 +141,8 @@ fn caret_job<'a>(alloc: Global, caret: &ArgMatches<'a>) -> Result<Job<'a>, Stop>
     Ok(Job::Caret(Walk {
         folder: caret.get_str("UCD").unwrap_or(""),
         width: width(alloc, caret)?,
+        base: base(caret),
+        wide_ambiguous: is_wide(caret),
         place: caret.get_one::<u32>("AT").unwrap_or(0),
         moves: moves(alloc, caret.get_str("MOVES").unwrap_or(""))?,
         files: files(alloc, caret)?,
@@ -162,6 +179,20 @@ fn width(alloc: Global, matches: &ArgMatches) -> Result<u16, Stop>
         )?));
     }
     Ok(width)
+}
+
+/// The base direction that is asked for.
+fn base(matches: &ArgMatches) -> Base {
+    match matches.get_str("BASE") {
+        Some("left") => Base::Left,
+        Some("right") => Base::Right,
+        _ => Base::Auto,
+    }
+}
+
+/// Whether ambiguous characters are asked for wide.
+fn is_wide(matches: &ArgMatches) -> bool {
+    matches.get_str("AMBIGUOUS") == Some("wide")
 }
 
 /// The moves that letters write.
@@ -227,6 +258,26 @@ fn width_arg<'a>(alloc: Global) -> Arg<'a> {
         .action(ArgAction::Set)
 }
 
+fn base_arg<'a>(alloc: Global) -> Arg<'a> {
+    Arg::new(alloc, "BASE")
+        .long("base")
+        .value_name("DIRECTION")
+        .help(BASE_HELP)
+        .value_parser(BASES.as_slice())
+        .default_value("auto")
+        .action(ArgAction::Set)
+}
+
+fn ambiguous_arg<'a>(alloc: Global) -> Arg<'a> {
+    Arg::new(alloc, "AMBIGUOUS")
+        .long("ambiguous")
+        .value_name("WIDTH")
+        .help(AMBIGUOUS_HELP)
+        .value_parser(WIDTHS.as_slice())
+        .default_value("narrow")
+        .action(ArgAction::Set)
+}
+
 fn files_arg<'a>(alloc: Global) -> Arg<'a> {
     Arg::new(alloc, "FILE")
         .help(FILE_HELP)
@@ -255,6 +306,8 @@ fn caret_command<'a>(alloc: Global) -> Result<Command<'a>, AllocError> {
         .after_help(CARET_EXAMPLE)
         .arg(ucd_arg(alloc))?
         .arg(width_arg(alloc))?
+        .arg(base_arg(alloc))?
+        .arg(ambiguous_arg(alloc))?
         .arg(at)?
         .arg(moves)?
         .arg(files_arg(alloc))
@@ -272,6 +325,8 @@ fn replay_command<'a>(alloc: Global) -> Result<Command<'a>, AllocError> {
         .after_help(REPLAY_EXAMPLE)
         .arg(ucd_arg(alloc))?
         .arg(width_arg(alloc))?
+        .arg(base_arg(alloc))?
+        .arg(ambiguous_arg(alloc))?
         .arg(schedule)?
         .arg(files_arg(alloc))
 }

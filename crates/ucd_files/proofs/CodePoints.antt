@@ -1,5 +1,5 @@
 -- Lists with a value for each code point.
-use Rattle.std.proofs.Common.{◌≡◌, ℕ, ◌<◌, List, [], ◌∷◌, get_or, map, Option, refl, ap, ◌∙◌, sym, arith}
+use Rattle.std.proofs.Common.{◌≡◌, ℕ, Bool, ◌<◌, List, [], ◌∷◌, get_or, map, Option, refl, ap, ◌∙◌, sym, arith}
 use Rattle.std.specs.List.{range_with_len}
 use Rattle.std.proofs.lemmas.List.FromFn.{get_or-map-range_with_len}
 use Rattle.bg_types.specs.declared.class.Bidi.{Bidi}
@@ -26,8 +26,8 @@ pub looked_up : {V : Type 0} (kept lent : List V) (c : ℕ) (absent result : V) 
 looked_up kept lent c absent result found same below =
     found ∙ ap (λ t. get_or t c absent) same ∙ sym (each_below-at 0x110000 (λ k. get_or kept k absent) c absent below)
 
--- tables that are equal one by one
-pub same_tables : {b b' : List Bidi} {k k' : List Bracket} {m m' : List (Option ℕ)} {l l' : List Lb} {e e' : List Ea}
+-- tables that are equal one by one, with one choice of width
+pub same_tables : {b b' : List Bidi} {k k' : List Bracket} {m m' : List (Option ℕ)} {l l' : List Lb} {e e' : List Ea} {wide : Bool}
     → b ≡ b' → k ≡ k' → m ≡ m' → l ≡ l' → e ≡ e'
-    → ◌≡◌ {A = TableValues} (record { bidi = b; bracket = k; mirror = m; lb = l; ea = e }) (record { bidi = b'; bracket = k'; mirror = m'; lb = l'; ea = e' })
+    → ◌≡◌ {A = TableValues} (record { bidi = b; bracket = k; mirror = m; lb = l; ea = e; wide_ambiguous = wide }) (record { bidi = b'; bracket = k'; mirror = m'; lb = l'; ea = e'; wide_ambiguous = wide })
 same_tables p q r s t = cc

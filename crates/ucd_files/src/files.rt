@@ -1,4 +1,4 @@
-//! The five data files as one value.
+//! The five data files and the choice of width as one value.
 
 ghost use Rattle.std.specs.Prelude.{◌≡◌, ◌≢◌, None, Some, IfOk, IfErr, OnOk};
 ghost use Rattle.ucd_files.specs.Ucd.{tables_of_ucd, fault_of_ucd};
@@ -7,7 +7,7 @@ use crate::fault::UcdFault;
 use crate::tables::Tables;
 use std::alloc::Global;
 
-/// The bytes of the five data files.
+/// The bytes of the five data files, and how wide ambiguous characters are.
 #[derive(Clone, Copy, Debug)]
 pub struct Ucd<'a> {
     /// DerivedBidiClass.txt.
@@ -20,11 +20,13 @@ pub struct Ucd<'a> {
     pub lb: &'a [u8],
     /// EastAsianWidth.txt.
     pub ea: &'a [u8],
+    /// Whether characters of East_Asian_Width A are wide (UAX #11, 5).
+    pub wide_ambiguous: bool,
 }
 
 impl Ucd<'_> {
-    /// Reads the files. The fault is the first of the first faulty file, in the order of the
-    /// fields.
+    /// Reads the files, and sets the choice of width. The fault is the first of the first faulty
+    /// file, in the order of the fields.
     pub fn load(&self, alloc: Global) -> Result<Tables, UcdFault>
         ensures ok { IfOk result (λ tables. tables ≡ tables_of_ucd self.now) }
 
@@ -32,13 +34,14 @@ impl Ucd<'_> {
         ensures sound { OnOk result (fault_of_ucd self.now ≡ None) }
         ensures fault { IfErr result (λ e. e ≢ UcdFault.Memory → fault_of_ucd self.now ≡ Some e) }
     {
-        Tables::load(
+        let tables = Tables::load(
             alloc,
             self.bidi,
             self.brackets,
             self.mirror,
             self.lb,
             self.ea,
-        )
+        )?;
+        Ok(tables.with_wide_ambiguous(self.wide_ambiguous))
     }
 }

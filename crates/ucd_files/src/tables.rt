@@ -10,7 +10,7 @@ use bg_types::{Bidi, Ea, Lb};
 use std::alloc::Global;
 use std::marker::Model;
 
-/// What the five data files say of each code point.
+/// What the five data files say of each code point, and how wide ambiguous characters are.
 #[derive(Drop)]
 pub struct Tables {
     bidi: Vec<Bidi>,
@@ -18,6 +18,7 @@ pub struct Tables {
     mirror: Vec<Option<char>>,
     lb: Vec<Lb>,
     ea: Vec<Ea>,
+    wide_ambiguous: bool,
 }
 
 impl Model for Tables {
@@ -36,6 +37,7 @@ impl Model for Tables {
       mirror = each_code_point (λ c. slice_index_or t.mirror.items c None);
       lb = each_code_point (λ c. slice_index_or t.lb.items c Xx);
       ea = each_code_point (λ c. slice_index_or t.ea.items c N);
+      wide_ambiguous = t.wide_ambiguous;
     } };
 }
 
@@ -51,10 +53,10 @@ fn at<V: Copy>(table: &[V], c: char, absent: V) -> V
 }
 
 impl Tables {
-    ghost use Rattle.ucd_files.specs.Tables.{tables_of, bidi_of, bracket_of, mirror_of, lb_of, ea_of};
+    ghost use Rattle.ucd_files.specs.Tables.{tables_of, with_width, bidi_of, bracket_of, mirror_of, lb_of, ea_of};
 
-    /// Reads the five files. The fault is the first of the first faulty file, in the order bidi,
-    /// brackets, mirror, lb, ea.
+    /// Reads the five files; ambiguous characters are narrow. The fault is the first of the first
+    /// faulty file, in the order bidi, brackets, mirror, lb, ea.
     pub fn load(
         alloc: Global,
         bidi: &[u8],
@@ -77,7 +79,25 @@ impl Tables {
             mirror: read(alloc, UcdFile::Mirror, mirror)?,
             lb: read(alloc, UcdFile::Lb, lb)?,
             ea: read(alloc, UcdFile::Ea, ea)?,
+            wide_ambiguous: false,
         })
+    }
+
+    /// The same tables, in which characters of East_Asian_Width A are wide or not (UAX #11, 5: the
+    /// context decides). Takes no memory.
+    pub fn with_wide_ambiguous(mut self, yes: bool) -> Tables
+        ensures { result ≡ with_width self yes }
+    {
+        self.wide_ambiguous = yes;
+        self
+    }
+
+    /// Whether characters of East_Asian_Width A are wide.
+    #[inline]
+    pub fn wide_ambiguous(&self) -> bool
+        ensures { result ≡ self.now.wide_ambiguous }
+    {
+        self.wide_ambiguous
     }
 
     /// Bidi_Class of a character.

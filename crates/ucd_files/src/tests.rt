@@ -183,6 +183,7 @@ fn the_first_faulty_file_decides(rt: HostRuntime) {
         mirror: b"",
         lb: b"",
         ea: b"",
+        wide_ambiguous: false,
     };
     let mirror_and_lb = Ucd {
         mirror: b"0028",
@@ -221,6 +222,23 @@ fn the_small_files_load(rt: HostRuntime) -> Result<(), Fail> {
     assert_eq!(rt; tables.bracket('\u{2329}'), Bracket::Open('\u{232A}'));
     assert_eq!(rt; tables.bracket('}'), Bracket::Close('{'));
     assert_eq!(rt; tables.mirror('<'), Some('>'));
+    Ok(())
+}
+
+#[test]
+fn the_choice_of_width_is_kept(rt: HostRuntime) -> Result<(), Fail> {
+    for yes in [true, false] {
+        let files = Ucd {
+            wide_ambiguous: yes,
+            ..vectors::SMALL
+        };
+        let tables = files.load(rt.alloc())?;
+        assert_eq!(rt; tables.wide_ambiguous(), yes);
+        // The files' values stay as they are.
+        assert_eq!(rt; tables.ea('\u{3B1}'), Ea::A);
+        let other = tables.with_wide_ambiguous(!yes);
+        assert_eq!(rt; other.wide_ambiguous(), !yes);
+    }
     Ok(())
 }
 

@@ -9,6 +9,7 @@ pub const SMALL: Ucd<'static> = Ucd {
     mirror: MIRROR,
     lb: LB,
     ea: EA,
+    wide_ambiguous: false,
 };
 
 /// A small `DerivedBidiClass.txt`.

@@ -16,6 +16,7 @@ const UCD: Ucd = Ucd {
     mirror: vectors::MIRROR,
     lb: vectors::LB,
     ea: vectors::EA,
+    wide_ambiguous: false,
 };
 
 /// A file of a text of at most 1,000 characters: each insertion after the one before it.

@@ -15,6 +15,7 @@ const SMALL: Ucd<'static> = Ucd {
     mirror: MIRROR,
     lb: LB,
     ea: EA,
+    wide_ambiguous: false,
 };
 
 /// Any key.
