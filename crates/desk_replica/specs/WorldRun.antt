@@ -32,7 +32,7 @@ WorldRun sites w (step ∷ steps) (reply ∷ replies) v = (u : WorldState) × Wo
 
 -- the desks do a step, and keep their sites
 pub record DoStep (old : List Desk) (made : List OpView) (step : Step) (new : List Desk) (more : List OpView) (reply : Reply) : Type 0 where
-  pub step : WorldStep (sites_of old) (world_of old made) step reply (world_of new more)
+  pub done : WorldStep (sites_of old) (world_of old made) step reply (world_of new more)
   pub sites : sites_of new ≡ sites_of old
 
 -- the desks do steps one after the other, and keep their sites
