@@ -26,3 +26,7 @@ pub mod InTurn
 pub mod DeskLists
 pub mod Refusals
 pub mod WorldSteps
+pub mod Worlds
+pub mod WorldRuns
+pub mod WorldLaws
+pub mod WorldTyped

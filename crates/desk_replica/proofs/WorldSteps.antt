@@ -1,10 +1,11 @@
 -- What a desk of a list did is a step of the world of those desks, and steps make a run.
-use Rattle.std.proofs.Common.{◌≡◌, ◌<◌, ◌≤◌, ◌+◌, ℕ, zero, suc, List, [], ◌∷◌, ◌++◌, length, take, get_or, sym, ap, subst, ◌∙◌, refl, arith}
-use Rattle.std.specs.Prelude.{slice_get}
+use Rattle.std.proofs.Common.{◌≡◌, ◌<◌, ◌≤◌, ◌+◌, ℕ, zero, suc, List, [], ◌∷◌, ◌++◌, length, take, drop, get_or, sym, ap, subst, ◌∙◌, refl, arith}
+use Rattle.std.specs.Prelude.{slice_get, map as each}
 use Rattle.std.proofs.Math.ListN.{set}
-use Rattle.std.proofs.lemmas.List.{get_or-map, length-map, get_or_default}
+use Rattle.std.proofs.Math.Seq.{take-append_seam}
+use Rattle.std.proofs.lemmas.List.{get_or-map, length-map}
 use Rattle.bg_types.specs.WellFormed.{IsWellFormed}
-use Rattle.bg_types.specs.OperationSet.{OperationSet, with_operation, size}
+use Rattle.bg_types.specs.OperationSet.{OperationSet, no_operations, with_operation, size}
 use Rattle.bg_types.specs.declared.op.OpView.{OpView}
 use Rattle.bg_types.specs.declared.op.OpView.TheVariants.{Erase as EraseOp}
 use Rattle.rga_tree.specs.TextOf.{visible, visible_ids}
@@ -13,11 +14,11 @@ use Rattle.desk_replica.specs.declared.world.step.Step.{Step}
 use Rattle.desk_replica.specs.declared.world.step.Step.TheVariants.{Typed, Erase}
 use Rattle.desk_replica.specs.declared.world.step.Reply.{Reply}
 use Rattle.desk_replica.specs.declared.world.step.Reply.TheVariants.{Done}
-use Rattle.desk_replica.specs.Desk.{Desk}
-use Rattle.desk_replica.specs.DeskSets.{sets_of, sites_of, set_at, with_set}
+use Rattle.desk_replica.specs.Desk.{Desk, fresh}
+use Rattle.desk_replica.specs.DeskSets.{sets_of, sites_of, set_at, with_set, empty_desks}
 use Rattle.desk_replica.specs.Typing.{typed, insertion, IsTypeRefusal, IsErasedAt}
 use Rattle.desk_replica.specs.WorldStep.{WorldState, WorldStep, site_at, with_made, typed_there}
-use Rattle.desk_replica.specs.WorldRun.{world_of, WorldRun, DoStep, DoSteps}
+use Rattle.desk_replica.specs.WorldRun.{world_of, empty_world, WorldRun, DoStep, DoSteps}
 use Rattle.desk_replica.proofs.DeskLists.{set_at-desk, sets_of-set, sites_of-set}
 use Rattle.desk_replica.proofs.Lists.{take-next}
 
@@ -76,7 +77,7 @@ module _ (desks : List Desk) (made : List OpView) (desk : ℕ) (x after : Desk) 
 
 -- ---- steps one after the other
 
-run_on : (sites : List ℕ) (w v : WorldState) (steps : List Step) (replies : List Reply) → WorldRun sites w steps replies v → (step : Step) (reply : Reply) (u : WorldState) → WorldStep sites v step reply u
+pub run_on : (sites : List ℕ) (w v : WorldState) (steps : List Step) (replies : List Reply) → WorldRun sites w steps replies v → (step : Step) (reply : Reply) (u : WorldState) → WorldStep sites v step reply u
     → WorldRun sites w (steps ++ step ∷ []) (replies ++ reply ∷ []) u
 run_on sites w v [] [] run step reply u next = (u, subst (λ (x : WorldState). WorldStep sites x step reply u) run next, refl)
 run_on sites w v [] (r ∷ replies) run step reply u next = absurd run
@@ -86,11 +87,38 @@ run_on sites w v (s ∷ steps) (r ∷ replies) run step reply u next = (run.0, r
 pub no_steps : (desks : List Desk) (made : List OpView) → DoSteps desks made [] desks made []
 no_steps desks made = record { run = refl; sites = refl }
 
-pub next_step : (desks mid new : List Desk) (made between more : List OpView) (steps : List Step) (i : ℕ) (d step : Step) (replies : List Reply) (reply : Reply) → i < length steps → step ≡ get_or steps i d
-    → DoSteps desks made (take i steps) mid between replies → DoStep mid between step new more reply → DoSteps desks made (take (i + 1) steps) new more (replies ++ reply ∷ [])
-next_step desks mid new made between more steps i d step replies reply lt is before now = record {
-  run = subst (λ (l : List Step). WorldRun (sites_of desks) (world_of desks made) l (replies ++ reply ∷ []) (world_of new more)) (sym (take-next steps i d lt ∙ ap (λ (s : Step). take i steps ++ s ∷ []) (sym is)))
+pub next_step : (desks mid new : List Desk) (made between more : List OpView) (steps : List Step) (i : ℕ) (d step : Step) (replies all : List Reply) (reply : Reply) → i < length steps → step ≡ get_or steps i d
+    → all ≡ replies ++ reply ∷ [] → DoSteps desks made (take i steps) mid between replies → DoStep mid between step new more reply → DoSteps desks made (take (i + 1) steps) new more all
+next_step desks mid new made between more steps i d step replies all reply lt is longer before now = record {
+  run = subst (λ (l : List Reply). WorldRun (sites_of desks) (world_of desks made) (take (i + 1) steps) l (world_of new more)) (sym longer)
+      (subst (λ (l : List Step). WorldRun (sites_of desks) (world_of desks made) l (replies ++ reply ∷ []) (world_of new more)) (sym (take-next steps i d lt ∙ ap (λ (s : Step). take i steps ++ s ∷ []) (sym is)))
       (run_on (sites_of desks) (world_of desks made) (world_of mid between) (take i steps) replies before.run step reply (world_of new more)
-      (subst (λ (l : List ℕ). WorldStep l (world_of mid between) step reply (world_of new more)) before.sites now.done));
+      (subst (λ (l : List ℕ). WorldStep l (world_of mid between) step reply (world_of new more)) before.sites now.done)));
   sites = now.sites ∙ before.sites;
 }
+
+-- ---- from fresh desks
+
+sets_of-fresh : (sites : List ℕ) → sets_of (each fresh sites) ≡ empty_desks (length sites)
+sets_of-fresh [] = refl
+sets_of-fresh (site ∷ sites) = ap (λ l. no_operations ∷ l) (sets_of-fresh sites)
+
+sites_of-fresh : (sites : List ℕ) → sites_of (each fresh sites) ≡ sites
+sites_of-fresh [] = refl
+sites_of-fresh (site ∷ sites) = ap (λ l. site ∷ l) (sites_of-fresh sites)
+
+-- steps at fresh desks that were lent out of a vector
+pub from_fresh : (sites : List ℕ) (items lent new : List Desk) (made more : List OpView) (steps : List Step) (replies : List Reply) (len : ℕ) → items ≡ each fresh sites → lent ≡ items → len ≡ length items → made ≡ []
+    → DoSteps lent made steps new more replies
+    → WorldRun sites (empty_world (length sites)) steps replies (world_of (take len (new ++ drop (length new) items)) more) × (sites_of (take len (new ++ drop (length new) items)) ≡ sites)
+from_fresh sites items lent new made more steps replies len are_fresh same counted none done =
+    let start : lent ≡ each fresh sites = same ∙ are_fresh in
+    let kept : sites_of lent ≡ sites = ap sites_of start ∙ sites_of-fresh sites in
+    let long : length new ≡ length items =
+    sym (length-map new (λ (d : Desk). d.site)) ∙ ap (λ (l : List ℕ). length l) done.sites ∙ length-map lent (λ (d : Desk). d.site) ∙ ap (λ (l : List Desk). length l) same in
+    let whole : take len (new ++ drop (length new) items) ≡ new = ap (λ n. take n (new ++ drop (length new) items)) (counted ∙ sym long) ∙ take-append_seam new (drop (length new) items) in
+    let empty : world_of lent made ≡ empty_world (length sites) = (λ i. record { sets = (ap sets_of start ∙ sets_of-fresh sites) i; made = none i }) in (
+      subst (λ (l : List Desk). WorldRun sites (empty_world (length sites)) steps replies (world_of l more)) (sym whole)
+          (subst (λ (w : WorldState). WorldRun sites w steps replies (world_of new more)) empty (subst (λ (l : List ℕ). WorldRun l (world_of lent made) steps replies (world_of new more)) kept done.run)),
+      ap sites_of whole ∙ done.sites ∙ kept,
+    )

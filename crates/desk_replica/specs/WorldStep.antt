@@ -1,7 +1,7 @@
 -- A step of a world of desks: the definition WorldStep. Desks and operations count from 0.
 use Rattle.std.specs.Prelude.{◌≡◌, ◌≢◌, ◌<◌, ◌≤◌, ◌++◌, ◌∷◌, [], ℕ, List, Some, length, slice_get, slice_index_or}
 use Rattle.bg_types.specs.WellFormed.{IsWellFormed}
-use Rattle.bg_types.specs.OperationSet.{OperationSet, size}
+use Rattle.bg_types.specs.OperationSet.{OperationSet, size, next}
 use Rattle.bg_types.specs.Identifier.{Identifier}
 use Rattle.bg_types.specs.declared.op.OpView.{OpView}
 use Rattle.bg_types.specs.declared.op.OpView.TheVariants.{Erase as EraseOp}
@@ -24,6 +24,10 @@ pub record WorldState : Type 0 where
 -- who types at a desk
 abbrev pub site_at : List ℕ → ℕ → ℕ
 site_at sites desk = slice_index_or sites desk 0
+
+-- the identifier of what is typed next at a desk
+abbrev pub next_identifier : List ℕ → WorldState → ℕ → Identifier
+next_identifier sites w desk = record { counter = next (set_at w.sets desk); site = site_at sites desk }
 
 -- the desks, the operation and the place that a step names are there
 abbrev pub IsThere : WorldState → Step → Type 0

@@ -1,6 +1,7 @@
 //! A world of desks: steps done one after the other, from fresh desks with distinct sites.
 
 ghost use Rattle.std.specs.Prelude.{◌≡◌, ◌⊎◌, IfOk, IfErr, OnOk, All, ◌<◌, map, length};
+ghost use Rattle.desk_replica.specs.declared.world.WorldFault.TheVariants.{Memory as world_memory};
 ghost use Rattle.desk_replica.specs.Codes.{world_code};
 ghost use Rattle.desk_replica.specs.Desk.{fresh};
 ghost use Rattle.desk_replica.specs.DeskSets.{sites_of};
@@ -55,7 +56,7 @@ impl WorldFault {
 }
 
 impl From<Memory> for WorldFault {
-    ghost from_gives = { λ _ e. e ≡ WorldFault.Memory };
+    ghost from_gives = { λ _ e. e ≡ world_memory };
 
     fn from(_error: Memory) -> WorldFault {
         WorldFault::Memory
@@ -63,7 +64,7 @@ impl From<Memory> for WorldFault {
 }
 
 impl From<AllocError> for WorldFault {
-    ghost from_gives = { λ _ e. e ≡ WorldFault.Memory };
+    ghost from_gives = { λ _ e. e ≡ world_memory };
 
     fn from(_error: AllocError) -> WorldFault {
         WorldFault::Memory

@@ -1,8 +1,6 @@
-use Rattle.std.proofs.Common.{◌++◌, ◌∷◌, [], sym, subst, refl}
-use Rattle.desk_replica.specs.declared.world.step.Reply.{Reply}
+use Rattle.std.proofs.Common.{get_or, refl}
 use Rattle.desk_replica.specs.declared.world.step.Step.{Step}
 use Rattle.desk_replica.specs.declared.world.step.Step.TheVariants.{Typed}
-use Rattle.desk_replica.specs.WorldRun.{DoSteps}
 use Rattle.desk_replica.proofs.WorldSteps.{next_step}
 use Rattle.desk_replica.proofs.world.steps.do_steps.Goals as goal
 
@@ -11,7 +9,6 @@ none = Typed 0 0 0
 
 pub loop-step-preserved : goal.loop-step-preserved
 loop-step-preserved g c =
-    let at = c.loop-step.step-index in
-    subst (λ replies. DoSteps c.args.desks.now c.args.made.now.items _ c.do_step.new.desks c.do_step.new.made.items replies) (sym c.in_ok-push.ensures.items)
-    (next_step c.args.desks.now c.loop-step.desks c.do_step.new.desks c.args.made.now.items c.loop-step.made.items c.do_step.new.made.items c.args.steps.now at none _ c.loop-step.replies.items c.in_ok-reply.reply
-    c.loop-step-test.true refl c.loop-step.invariant c.in_ok-reply.ensures)
+    next_step c.args.desks.now c.loop-step.desks c.do_step.new.desks c.args.made.now.items c.loop-step.made.items c.do_step.new.made.items c.args.steps.now c.loop-step.step-index none
+    (get_or c.args.steps.now c.loop-step.step-index none) c.loop-step.replies.items c.push.new.self.items c.in_ok-reply.reply
+    c.loop-step-test.true refl c.in_ok-push.ensures.items c.loop-step.invariant c.in_ok-reply.ensures
