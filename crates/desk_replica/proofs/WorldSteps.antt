@@ -54,9 +54,11 @@ module _ (desks : List Desk) (made : List OpView) (desk : ℕ) (x after : Desk) 
       record {
         done = (
           (there, subst (λ (s : OperationSet). place ≤ length (visible s)) (sym own_set) at),
-          (subst IsWellFormed same formed,
-          subst (λ (s : OperationSet). (fault : TypeFault) → ¬ (IsTypeRefusal s fault)) (sym own_set) accepted,
-          subst (λ (o : OpView). world_of (set desks desk after) more ≡ with_made here desk o) same (made_there op more (grown ∙ ap (with_operation own.set) (sym is)) longer)),
+          (
+            subst IsWellFormed same formed,
+            subst (λ (s : OperationSet). (fault : TypeFault) → ¬ (IsTypeRefusal s fault)) (sym own_set) accepted,
+            subst (λ (o : OpView). world_of (set desks desk after) more ≡ with_made here desk o) same (made_there op more (grown ∙ ap (with_operation own.set) (sym is)) longer),
+          ),
         );
         sites = sites_of-set desks desk after x site;
       }
@@ -67,10 +69,12 @@ module _ (desks : List Desk) (made : List OpView) (desk : ℕ) (x after : Desk) 
       record {
         done = (
           (there, subst (λ (s : OperationSet). place < length (visible s)) (sym own_set) at),
-          (erased.target,
-          ap (λ (s : OperationSet). slice_get (visible_ids s) place) own_set ∙ erased.at,
-          subst (λ (s : OperationSet). size s < 1_000_000) (sym own_set) room,
-          subst (λ (o : OpView). world_of (set desks desk after) more ≡ with_made here desk o) erased.op_is (made_there op more erased.set_is longer)),
+          (
+            erased.target,
+            ap (λ (s : OperationSet). slice_get (visible_ids s) place) own_set ∙ erased.at,
+            subst (λ (s : OperationSet). size s < 1_000_000) (sym own_set) room,
+            subst (λ (o : OpView). world_of (set desks desk after) more ≡ with_made here desk o) erased.op_is (made_there op more erased.set_is longer),
+          ),
         );
         sites = sites_of-set desks desk after x site;
       }

@@ -11,13 +11,12 @@ mod sites;
 mod step;
 mod steps;
 
-pub use step::{Reply, Step};
-
 use crate::replica::Replica;
 use bg_types::{Memory, Op};
 use rga_sequence::Blocks;
 use sites::are_sites;
 use std::alloc::{AllocError, Global};
+pub use step::{Reply, Step};
 use steps::do_steps;
 use thiserror::Error;
 
@@ -111,3 +110,6 @@ fn fresh_desks(alloc: Global, key: u128, sites: &[u16]) -> Result<Vec<Replica<Bl
     }
     Ok(desks)
 }
+
+#[cfg(test)]
+mod tests;
