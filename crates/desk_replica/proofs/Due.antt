@@ -11,7 +11,7 @@ use Rattle.pending_ops.specs.Waiting.{Waiting, follows, is_after, is_ready}
 use Rattle.pending_ops.specs.Below.{CountsBelow}
 use Rattle.desk_replica.specs.Placement.{AreDue}
 use Rattle.desk_replica.proofs.Sizes.{set_has_one}
-use Rattle.desk_replica.proofs.Step.{Stepped}
+use Rattle.desk_replica.proofs.PlacedOne.{Stepped}
 
 -- once an identifier is placed, what is below it is due
 pub due-start : (w v : Waiting) (id : Identifier) (n : ℕ) → CountsBelow w.held id n → ((p q : Identifier) → follows v.held p q ≡ follows w.held p q) → ((q : Identifier) → is_ready v q ≡ follows w.held id q) → AreDue v n

@@ -16,7 +16,7 @@ use Rattle.pending_ops.specs.Releasing.{subject}
 use Rattle.desk_replica.specs.Placement.{IsParted, IsSettled, AreDue, MayPlace, Places, PlacesIn}
 use Rattle.desk_replica.specs.Reply.{IsAdmitted}
 use Rattle.desk_replica.proofs.Sizes.{len_set-map}
-use Rattle.desk_replica.proofs.Step.{Stepped, parted_now, same_now, in_tree, del_tree, ins_held, del_held}
+use Rattle.desk_replica.proofs.PlacedOne.{Stepped, parted_now, same_now, in_tree, del_tree, ins_held, del_held}
 use Rattle.desk_replica.proofs.Due.{due-start}
 use Rattle.desk_replica.proofs.Loop.{none_ready, formed_rest}
 

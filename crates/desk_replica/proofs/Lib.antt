@@ -1,7 +1,7 @@
 pub mod Whole
 pub mod UnionLaw
 pub mod Sizes
-pub mod Step
+pub mod PlacedOne
 pub mod Due
 pub mod Loop
 pub mod Settled
@@ -25,3 +25,8 @@ pub mod Told
 pub mod InTurn
 pub mod DeskLists
 pub mod Refusals
+pub mod WorldSteps
+pub mod Worlds
+pub mod WorldRuns
+pub mod WorldLaws
+pub mod WorldTyped

@@ -1,5 +1,5 @@
 -- Lists and their indices.
-use Rattle.std.proofs.Common.{◌≡◌, ◌≤◌, ◌<◌, ◌+◌, ◌++◌, ℕ, zero, suc, List, [], ◌∷◌, length, take, None, Some, sym, ap, subst, ◌∙◌, refl, arith}
+use Rattle.std.proofs.Common.{◌≡◌, ◌≤◌, ◌<◌, ◌+◌, ◌++◌, ℕ, zero, suc, List, [], ◌∷◌, length, take, get_or, None, Some, sym, ap, subst, ◌∙◌, refl, arith}
 use Rattle.std.specs.Prelude.{slice_get, map as each}
 use Rattle.std.specs.Option.{option_map}
 use Rattle.std.specs.List.{AllByRecursion}
@@ -65,3 +65,11 @@ slice_get-take xs zero k h = absurd (omega arith)
 slice_get-take [] (suc n) k h = refl
 slice_get-take (x ∷ xs) (suc n) zero h = refl
 slice_get-take (x ∷ xs) (suc n) (suc k) h = slice_get-take xs n k (omega arith)
+
+take_more : {X : Type 0} (xs : List X) (i : ℕ) (d : X) → i < length xs → take (suc i) xs ≡ take i xs ++ get_or xs i d ∷ []
+take_more [] i d h = absurd (omega arith)
+take_more (x ∷ xs) zero d h = refl
+take_more (x ∷ xs) (suc i) d h = ap (λ l. x ∷ l) (take_more xs i d (omega arith))
+
+pub take-next : {X : Type 0} (xs : List X) (i : ℕ) (d : X) → i < length xs → take (i + 1) xs ≡ take i xs ++ get_or xs i d ∷ []
+take-next xs i d h = let next : i + 1 ≡ suc i = omega arith in ap (λ n. take n xs) next ∙ take_more xs i d h

@@ -14,7 +14,7 @@ use Rattle.bg_types.proofs.Interface.{id_cmp-total}
 use Rattle.pending_ops.specs.Waiting.{Waiting, HandsOut, TakesOut, NoneReady, follows, is_ready, is_released}
 use Rattle.desk_replica.specs.Placement.{IsParted, IsSettled, AreDue, MayPlace, Places, PlacesIn}
 use Rattle.desk_replica.proofs.Whole.{some_not}
-use Rattle.desk_replica.proofs.Step.{Stepped, parted_now, same_now, in_tree, del_tree, ins_held, del_held}
+use Rattle.desk_replica.proofs.PlacedOne.{Stepped, parted_now, same_now, in_tree, del_tree, ins_held, del_held}
 use Rattle.desk_replica.proofs.Due.{due-step, due-positive}
 
 place_released : (v w : Waiting) → v.released ≡ w.released → (a : Place) → is_released v a ≡ is_released w a

@@ -48,7 +48,7 @@ same_merge_refusal s t Memory g a b = absurd a
 
 -- ---- what a refused operation and what is kept before it can't be held together
 
-reused_apart : (kept s : OperationSet) (op : OpView) → IsPart kept s → Holds s op → ReusesIdentifier kept op → ⊥
+pub reused_apart : (kept s : OperationSet) (op : OpView) → IsPart kept s → Holds s op → ReusesIdentifier kept op → ⊥
 reused_apart kept s (Insert id parent ch) part held reused =
     let node = reused.0 in
     let there : map.get s.ins id ≡ Some node = part (Insert id node.parent node.ch) reused.1 in

@@ -13,7 +13,7 @@ use Rattle.bg_types.specs.OperationSet.{Node, OperationSet, AllWellFormed, next,
 use Rattle.bg_types.specs.declared.op.Place.{Place}
 use Rattle.bg_types.specs.declared.op.Place.TheVariants.{Root, After}
 use Rattle.bg_types.specs.declared.op.OpView.TheVariants.{Insert, Erase}
-use Rattle.bg_types.proofs.Interface.{id_cmp-total, same_id-is, next-above, same_sets, get-union, unwrap_first}
+use Rattle.bg_types.proofs.Interface.{id_cmp-total, same_id-is, next-above, same_sets, get-union, unwrap_first, size-with_operation}
 use Rattle.rga_tree.specs.Walk.{walk}
 use Rattle.rga_tree.specs.Attached.{IsAttached}
 use Rattle.rga_tree.specs.TextOf.{text, visible, visible_ids, is_erased}
@@ -281,3 +281,20 @@ pub erase_full : (s : OperationSet) (target : Identifier) (fault : TakeFault) �
 erase_full s target IdentifierReused at r = absurd r
 erase_full s target Full at r = r.2
 erase_full s target Memory at r = absurd (r.1 at)
+
+-- a visible character is not erased, so its deletion is new, and it was made within the limit
+pub erasure_new : (s : OperationSet) (k : ℕ) (target : Identifier) → slice_get (visible_ids s) k ≡ Some target → set.contains s.del target ≡ false
+erasure_new s k target at =
+    let f = slice_get-from (λ (x : Entry). x.0) (visible s) k target at in
+    let p : Entry → Bool = λ y. not (is_erased s y.0) in
+    subst (λ q. set.contains s.del q ≡ false) f.1.1 (all_at (λ (y : Entry). is_erased s y.0 ≡ false) (filter p (walk s Root)) k f.0
+    (all_passing (λ y. is_erased s y.0 ≡ false) p (walk s Root) (all_weaker_by (λ y. IsAttached s.ins y.0) (λ y. p y ≡ true → is_erased s y.0 ≡ false) (walk s Root) (λ y h passes. seen (is_erased s y.0) passes) (all_attached s (map.len s.ins) Root tt))) f.1.0)
+  where
+    seen : (b : Bool) → not b ≡ true → b ≡ false
+    seen true e = absurd (true≢false (sym e))
+    seen false e = refl
+
+pub erase_within : (s : OperationSet) (k : ℕ) (target : Identifier) → slice_get (visible_ids s) k ≡ Some target → size (with_operation s (Erase target)) ≤ 1_000_000 → size s < 1_000_000
+erase_within s k target at limited =
+    let grown = size-with_operation s (Erase target) tt (λ h. true≢false (sym h ∙ erasure_new s k target at)) in
+    omega (arith, grown, limited)

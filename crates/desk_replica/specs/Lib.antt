@@ -9,3 +9,5 @@ pub mod Told
 pub mod SetOf
 pub mod Refusal
 pub mod DeskSets
+pub mod WorldStep
+pub mod WorldRun

@@ -29,10 +29,17 @@ pub record IsTypedAt (s t : OperationSet) (k : ℕ) (e : Identifier × Node) : T
   pub walk_is : (at : ℕ) × (walk t Root ≡ insert (walk s Root) at e)
   pub text_is : text t ≡ insert (text s) k e.1.ch
 
--- a fault where no operation is made. They are tested in this order
+-- a desk that keeps S makes no insertion: the next counter is spent, or else 1,000,000 are kept. Want of memory is of no
+-- insertion
+abbrev pub IsTypeRefusal : OperationSet → TypeFault → Type 0
+IsTypeRefusal s CounterSpent = 2 ^ 32 ≤ next s
+IsTypeRefusal s Full = (next s < 2 ^ 32) × (size s ≡ 1_000_000)
+IsTypeRefusal s Memory = ⊥
+
+-- the faults: those refusals, and want of memory
 abbrev pub IsTypeRefused : OperationSet → TypeFault → Type 0
-IsTypeRefused s CounterSpent = 2 ^ 32 ≤ next s
-IsTypeRefused s Full = (next s < 2 ^ 32) × (size s ≡ 1_000_000)
+IsTypeRefused s CounterSpent = IsTypeRefusal s CounterSpent
+IsTypeRefused s Full = IsTypeRefusal s Full
 IsTypeRefused s Memory = (next s < 2 ^ 32) × (size s < 1_000_000)
 
 -- the operation deletes the visible identifier at place k; the text is the old one without that place, and the walk is

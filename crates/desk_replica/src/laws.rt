@@ -1,13 +1,31 @@
 //! Laws of the definitions: each function's contract is the law, and its body is empty.
 
-ghost use Rattle.std.specs.Prelude.{◌≡◌, ◌≤◌, List};
-ghost use Rattle.bg_types.specs.OperationSet.{OperationSet, Agree, Holds, size, union};
+ghost use Rattle.std.specs.Prelude.{◌≡◌, ◌≤◌, ◌+◌, ◌↔◌, ℕ, List, ◌∷◌, Some, Contains, filter, slice_get};
+ghost use Rattle.std.specs.declared.cmp.Ordering.TheVariants.{Less};
+ghost use Rattle.bg_types.specs.Identifier.{Identifier, id_cmp};
+ghost use Rattle.bg_types.specs.OperationSet.{OperationSet, Agree, AllWellFormed, Holds, size, union};
+ghost use Rattle.bg_types.specs.declared.op.Place.{Place};
+ghost use Rattle.bg_types.specs.declared.op.Place.TheVariants.{Root};
 ghost use Rattle.bg_types.specs.declared.op.OpView.{OpView};
+ghost use Rattle.bg_types.specs.declared.op.OpView.TheVariants.{Insert};
+ghost use Rattle.rga_tree.specs.Walk.{walk};
+ghost use Rattle.rga_tree.specs.Attached.{IsAttached, is_attached};
+ghost use Rattle.rga_tree.specs.Parts.{IsPartOf};
+ghost use Rattle.rga_tree.specs.Order.{Precedes, StandsBetween};
+ghost use Rattle.rga_tree.specs.Stretch.{IsChild, IsRun, IsLeftOf};
+ghost use Rattle.rga_tree.specs.TextOf.{text, visible_ids};
 ghost use Rattle.desk_replica.specs.declared.answer.TakeFault.{TakeFault};
+ghost use Rattle.desk_replica.specs.declared.world.step.Step.{Step};
+ghost use Rattle.desk_replica.specs.declared.world.step.Step.TheVariants.{Typed, Deliver, Merge};
+ghost use Rattle.desk_replica.specs.declared.world.step.Reply.{Reply};
+ghost use Rattle.desk_replica.specs.declared.world.step.Reply.TheVariants.{Done, Refused};
 ghost use Rattle.desk_replica.specs.SetOf.{IsSetOf};
 ghost use Rattle.desk_replica.specs.Reply.{IsRefusal};
 ghost use Rattle.desk_replica.specs.Refusal.{IsFirstRefusal};
 ghost use Rattle.desk_replica.specs.Merging.{IsMergeRefusal};
+ghost use Rattle.desk_replica.specs.DeskSets.{set_at};
+ghost use Rattle.desk_replica.specs.WorldStep.{WorldState, WorldStep, next_identifier};
+ghost use Rattle.desk_replica.specs.WorldRun.{WorldRun, IsWorld, IsLater, all_made};
 
 /// The union of sets of operations, where it is defined, is commutative, associative and
 /// idempotent.
@@ -39,4 +57,99 @@ pub fn one_refusal()
 pub fn none_refused()
     ensures { (ops : List OpView) (s : OperationSet) (fault : TakeFault)
         → IsSetOf ops s → size s ≤ 1_000_000 → IsFirstRefusal ops fault → ⊥ }
+{}
+
+/// No two insertions that are made in a world have one identifier.
+pub fn own_identifiers()
+    ensures { (sites : List ℕ) (w : WorldState) → IsWorld sites w
+        → (i j : ℕ) (id : Identifier) (p q : Place) (a b : ℕ)
+        → slice_get w.made i ≡ Some (Insert id p a) → slice_get w.made j ≡ Some (Insert id q b) → i ≡ j }
+{}
+
+/// No desk of a world refuses what it is delivered, or what another one holds, for an identifier
+/// that was used before.
+pub fn no_reuse()
+    ensures delivered { (sites : List ℕ) (w v : WorldState) (steps : List Step) (replies : List Reply)
+        → IsWorld sites w → WorldRun sites w steps replies v → (k desk op : ℕ)
+        → slice_get steps k ≡ Some (Deliver desk op) → slice_get replies k ≡ Some (Refused 1) → ⊥ }
+    ensures merged { (sites : List ℕ) (w v : WorldState) (steps : List Step) (replies : List Reply)
+        → IsWorld sites w → WorldRun sites w steps replies v → (k desk from : ℕ)
+        → slice_get steps k ≡ Some (Merge desk from) → slice_get replies k ≡ Some (Refused 1) → ⊥ }
+{}
+
+/// Each desk of a world holds part of what was made before, and so any two agree, also at different
+/// times. A desk reads all characters, erased ones too, in the order of the walk of all operations
+/// made, with some left out.
+pub fn worlds_agree()
+    ensures made { (sites : List ℕ) (w : WorldState) → IsWorld sites w → IsSetOf w.made (all_made w) }
+    ensures well_formed { (sites : List ℕ) (w : WorldState) → IsWorld sites w → AllWellFormed (all_made w) }
+    ensures part { (sites : List ℕ) (w v : WorldState) → IsWorld sites w → IsLater sites w v
+        → (desk : ℕ) → IsPartOf (set_at w.sets desk) (all_made v) }
+    ensures agree { (sites : List ℕ) (w v : WorldState) → IsWorld sites w → IsLater sites w v
+        → (desk other : ℕ) → Agree (set_at w.sets desk) (set_at v.sets other) }
+    ensures walk { (sites : List ℕ) (w v : WorldState) → IsWorld sites w → IsLater sites w v
+        → (desk : ℕ) → walk (set_at w.sets desk) Root
+        ≡ filter (λ e. is_attached (set_at w.sets desk) e.0) (walk (all_made v) Root) }
+{}
+
+/// Any two desks of a world, or of two worlds of which one comes from the other, agree on the order
+/// of every two characters that both have attached, erased ones too. So there is one order of all
+/// characters at all times.
+pub fn one_order_of_worlds()
+    ensures { (sites : List ℕ) (w v : WorldState) → IsWorld sites w → IsLater sites w v
+        → (desk other : ℕ) (a b : Identifier)
+        → IsAttached (set_at w.sets desk).ins a → IsAttached (set_at w.sets desk).ins b
+        → IsAttached (set_at v.sets other).ins a → IsAttached (set_at v.sets other).ins b
+        → Precedes (set_at w.sets desk) a b ↔ Precedes (set_at v.sets other) a b }
+{}
+
+/// Desks of a world that hold the same operations show the same text. Where all that was made has
+/// come to a desk, in whatever order, it shows the text of all.
+pub fn one_text_of_worlds()
+    ensures same { (sites : List ℕ) (w v : WorldState) → IsWorld sites w → IsLater sites w v
+        → (desk other : ℕ) → IsPartOf (set_at w.sets desk) (set_at v.sets other)
+        → IsPartOf (set_at v.sets other) (set_at w.sets desk)
+        → text (set_at w.sets desk) ≡ text (set_at v.sets other) }
+    ensures delivered { (sites : List ℕ) (w : WorldState) → IsWorld sites w → (desk : ℕ)
+        → ((op : OpView) → Contains w.made op → Holds (set_at w.sets desk) op)
+        → set_at w.sets desk ≡ all_made w }
+{}
+
+/// A character that was typed stays between the neighbours that it was typed between, the visible
+/// characters before and after its place, wherever the three are attached and however much is typed
+/// there later.
+pub fn typed_stays()
+    ensures between { (sites : List ℕ) (w v u : WorldState) (desk place ch : ℕ) → IsWorld sites w
+        → WorldStep sites w (Typed desk (place + 1) ch) Done v → IsLater sites v u
+        → (a b : Identifier) → slice_get (visible_ids (set_at w.sets desk)) place ≡ Some a
+        → slice_get (visible_ids (set_at w.sets desk)) (place + 1) ≡ Some b
+        → (other : ℕ) → IsAttached (set_at u.sets other).ins a
+        → IsAttached (set_at u.sets other).ins (next_identifier sites w desk)
+        → IsAttached (set_at u.sets other).ins b
+        → StandsBetween (set_at u.sets other) a (next_identifier sites w desk) b }
+    ensures first { (sites : List ℕ) (w v u : WorldState) (desk ch : ℕ) → IsWorld sites w
+        → WorldStep sites w (Typed desk 0 ch) Done v → IsLater sites v u
+        → (b : Identifier) → slice_get (visible_ids (set_at w.sets desk)) 0 ≡ Some b
+        → (other : ℕ) → IsAttached (set_at u.sets other).ins (next_identifier sites w desk)
+        → IsAttached (set_at u.sets other).ins b
+        → Precedes (set_at u.sets other) (next_identifier sites w desk) b }
+    ensures last { (sites : List ℕ) (w v u : WorldState) (desk place ch : ℕ) → IsWorld sites w
+        → WorldStep sites w (Typed desk (place + 1) ch) Done v → IsLater sites v u
+        → (a : Identifier) → slice_get (visible_ids (set_at w.sets desk)) place ≡ Some a
+        → (other : ℕ) → IsAttached (set_at u.sets other).ins a
+        → IsAttached (set_at u.sets other).ins (next_identifier sites w desk)
+        → Precedes (set_at u.sets other) a (next_identifier sites w desk) }
+{}
+
+/// Two runs of characters behind one place, each character after the one before, never mix: the run
+/// whose first identifier is greater is wholly left of the other in every desk that has both
+/// attached.
+pub fn runs_of_worlds()
+    ensures { (sites : List ℕ) (w : WorldState) → IsWorld sites w → (desk : ℕ) (place : Place)
+        → (a b : Identifier) (xs ys : List Identifier)
+        → IsChild (all_made w).ins place a → IsChild (all_made w).ins place b
+        → IsRun (all_made w).ins (a ∷ xs) → IsRun (all_made w).ins (b ∷ ys)
+        → ((id : Identifier) → Contains (a ∷ xs) id → IsAttached (set_at w.sets desk).ins id)
+        → ((id : Identifier) → Contains (b ∷ ys) id → IsAttached (set_at w.sets desk).ins id)
+        → id_cmp b a ≡ Less → IsLeftOf (set_at w.sets desk) (a ∷ xs) (b ∷ ys) }
 {}

@@ -1,4 +1,4 @@
-//! A desk: one set of operations, kept as a tree of placed insertions and a store of what came early.
+//! A desk: one set of operations, kept as a tree of placed insertions and a store of what came early; and worlds of desks.
 #![tactic(auto)]
 
 mod answer;
@@ -7,10 +7,12 @@ mod placing;
 mod reading;
 mod replica;
 mod taking;
+mod world;
 
 pub use answer::{TakeFault, Taken, TypeFault};
 pub use replica::Replica;
 pub use taking::{merge_at, take_at};
+pub use world::{Reply, Step, World, WorldFault, run_world};
 
 #[cfg(test)]
 mod tests;

@@ -10,7 +10,8 @@ ghost use Rattle.desk_replica.specs.Desk.{fresh};
 ghost use Rattle.desk_replica.specs.Reply.{IsTaken, IsRefused, IsRefusal};
 ghost use Rattle.desk_replica.specs.declared.answer.TakeFault.{TakeFault as Fault};
 ghost use Rattle.desk_replica.specs.Told.{told, visible_before};
-ghost use Rattle.desk_replica.specs.Typing.{typed, insertion, parent_at, IsTypedAt, IsTypeRefused, IsErasedAt};
+ghost use Rattle.desk_replica.specs.declared.answer.TypeFault.{TypeFault as Untyped};
+ghost use Rattle.desk_replica.specs.Typing.{typed, insertion, parent_at, IsTypedAt, IsTypeRefusal, IsTypeRefused, IsErasedAt};
 
 mod merging;
 
@@ -105,6 +106,8 @@ impl<S: Sequence> Replica<S> {
     pub fn type_char(&mut self, place: usize, ch: char) -> Result<Op, TypeFault>
         requires { place ≤ length (visible self.old.set) }
         ensures op { IfOk result (λ op. op ≡ insertion (typed self.old.set self.old.site place ch)) }
+        ensures well_formed { IfOk result IsWellFormed }
+        ensures accepted { OnOk result ((fault : Untyped) → ¬ (IsTypeRefusal self.old.set fault)) }
         ensures ok { OnOk result (self.new.set ≡ with_operation self.old.set (insertion (typed self.old.set self.old.site place ch))) }
         ensures typed { OnOk result (IsTypedAt self.old.set self.new.set place (typed self.old.set self.old.site place ch)) }
         ensures fault { IfErr result (IsTypeRefused self.old.set) }
@@ -163,6 +166,7 @@ impl<S: Sequence> Replica<S> {
     pub fn erase_at(&mut self, place: usize) -> Result<Op, TypeFault>
         requires { place < length (visible self.old.set) }
         ensures op { IfOk result (λ op. IsErasedAt self.old.set self.new.set place op) }
+        ensures accepted { OnOk result (size self.old.set < 1_000_000) }
         ensures fault { IfErr result (λ fault. (fault ≡ TypeFault.Full) × (size self.old.set ≡ 1_000_000)) }
         ensures err { OnErr result (self.new ≡ self.old) }
         ensures site { self.new.site ≡ self.old.site }

@@ -1,0 +1,5 @@
+use Rattle.desk_replica.proofs.WorldLaws.{order_worlds}
+use Rattle.desk_replica.proofs.laws.one_order_of_worlds.Goals as goal
+
+pub returns : goal.returns
+returns c = order_worlds

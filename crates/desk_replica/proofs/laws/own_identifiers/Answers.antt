@@ -1,0 +1,5 @@
+use Rattle.desk_replica.proofs.WorldRuns.{IsSound-world}
+use Rattle.desk_replica.proofs.laws.own_identifiers.Goals as goal
+
+pub returns : goal.returns
+returns c sites w world = (IsSound-world sites w world).once

@@ -1,0 +1,15 @@
+use Rattle.std.proofs.Common.{arith, ap, length}
+use Rattle.std.proofs.lemmas.List.{get_or_default}
+use Rattle.rga_tree.specs.TextOf.{visible}
+use Rattle.desk_replica.specs.Desk.{Desk}
+use Rattle.desk_replica.proofs.WorldSteps.{erased_done}
+use Rattle.desk_replica.proofs.world.steps.erase.Goals as goal
+
+pub returns-in_ok-push-in-Ok : goal.returns-in_ok-push-in-Ok
+returns-in_ok-push-in-Ok g c =
+    let above = c.if-place-len.false in
+    let long = c.len.ensures in
+    let beyond = c.if-desk-desks.false in
+    let same = ap (λ (d : Desk). length (visible d.set)) (get_or_default c.args.desks.now c.args.desk c.index-desks-desk.result c.index-desks-desk-2.result (omega (arith, beyond))) in
+    erased_done c.args.desks.now c.args.made.now.items c.args.desk c.index-desks-desk-2.result c.erase_at.new.self (omega (arith, beyond)) c.args.place c.in-Ok.op c.push.new.self.items (omega (arith, above, long, same))
+    c.in-Ok.ensures.op c.in-Ok.ensures.accepted c.erase_at.ensures.site c.in_ok-push-in-Ok.ensures.items

@@ -1,0 +1,36 @@
+//! The sites of a world's desks.
+
+ghost use Rattle.std.specs.Prelude.{◌≢◌, ◌↔◌, IfOk, IsTrue};
+ghost use Rattle.std.specs.List.{AllPairs};
+ghost use Rattle.std.specs.Ordering.{nat_cmp};
+ghost use Rattle.std.specs.BTreeSet.{IsFromIterResult};
+ghost use Rattle.desk_replica.specs.WorldRun.{AreSites};
+
+use bg_types::Memory;
+use std::alloc::Global;
+use std::collections::BTreeSet;
+
+/// Whether desks may have these sites: each is at least 1, and none stands twice.
+pub fn are_sites(alloc: Global, sites: &[u16]) -> Result<bool, Memory>
+    ensures { IfOk result (λ fit. IsTrue fit ↔ AreSites sites.now) }
+{
+    if sites.contains(&0) {
+        return Ok(false);
+    }
+    stand_once(alloc, sites)
+}
+
+/// Whether no site stands twice.
+fn stand_once(alloc: Global, sites: &[u16]) -> Result<bool, Memory>
+    ensures { IfOk result (λ once. IsTrue once ↔ AllPairs (λ a b. a ≢ b) sites.now) }
+{
+    let distinct = distinct(alloc, sites)?;
+    Ok(distinct.len() == sites.len())
+}
+
+/// The sites, each once.
+fn distinct(alloc: Global, sites: &[u16]) -> Result<BTreeSet<u16>, Memory>
+    ensures { IfOk result (IsFromIterResult nat_cmp sites.now) }
+{
+    Ok(sites.iter().copied().collect(alloc)?)
+}

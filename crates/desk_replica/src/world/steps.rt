@@ -1,0 +1,148 @@
+//! The steps of a world, done one after the other.
+
+ghost use Rattle.std.specs.Prelude.{◌≡◌, ◌≢◌, ◌<◌, IfOk, OnErr};
+ghost use Rattle.desk_replica.specs.Codes.{take_code, type_code};
+ghost use Rattle.desk_replica.specs.WorldRun.{DoStep, DoSteps};
+
+use super::step::{Reply, Step};
+use crate::answer::{TakeFault, TypeFault};
+use crate::replica::Replica;
+use crate::taking::{merge_at, take_at};
+use bg_types::{Memory, Op};
+use rga_tree::Sequence;
+use std::alloc::Global;
+
+/// Does steps in order, adds the operations that they make to those made before, and answers what
+/// each came to.
+pub fn do_steps<S: Sequence>(
+    alloc: Global,
+    desks: &mut [Replica<S>],
+    made: &mut Vec<Op>,
+    steps: &[Step],
+) -> Result<Vec<Reply>, Memory>
+    ensures { IfOk result (λ replies. DoSteps desks.old made.old.items steps.now desks.new made.new.items replies.items) }
+{
+    let mut replies = Vec::with_capacity(alloc, steps.len())?;
+    for step in steps {
+        let reply = do_step(desks, made, *step)?;
+        replies.push(reply)?;
+    }
+    Ok(replies)
+}
+
+/// Does one step.
+fn do_step<S: Sequence>(
+    desks: &mut [Replica<S>],
+    made: &mut Vec<Op>,
+    step: Step,
+) -> Result<Reply, Memory>
+    ensures { IfOk result (DoStep desks.old made.old.items step desks.new made.new.items) }
+{
+    match step {
+        Step::Typed { desk, place, ch } => type_char(desks, made, desk, place, ch),
+        Step::Erase { desk, place } => erase(desks, made, desk, place),
+        Step::Deliver { desk, op } => deliver(desks, made, desk, op),
+        Step::Merge { desk, from } => merge(desks, made, desk, from),
+    }
+}
+
+/// A desk types a character.
+fn type_char<S: Sequence>(
+    desks: &mut [Replica<S>],
+    made: &mut Vec<Op>,
+    desk: usize,
+    place: usize,
+    ch: char,
+) -> Result<Reply, Memory>
+    ensures { IfOk result (DoStep desks.old made.old.items (Step.Typed desk place ch) desks.new made.new.items) }
+{
+    if desk >= desks.len() || place > desks[desk].len() {
+        return Ok(Reply::NoSuch);
+    }
+    match desks[desk].type_char(place, ch) {
+        Ok(op) => {
+            made.push(op)?;
+            Ok(Reply::Done)
+        }
+        Err(fault) => typing_refused(fault),
+    }
+}
+
+/// A desk erases a character.
+fn erase<S: Sequence>(
+    desks: &mut [Replica<S>],
+    made: &mut Vec<Op>,
+    desk: usize,
+    place: usize,
+) -> Result<Reply, Memory>
+    ensures { IfOk result (DoStep desks.old made.old.items (Step.Erase desk place) desks.new made.new.items) }
+{
+    if desk >= desks.len() || place >= desks[desk].len() {
+        return Ok(Reply::NoSuch);
+    }
+    match desks[desk].erase_at(place) {
+        Ok(op) => {
+            made.push(op)?;
+            Ok(Reply::Done)
+        }
+        Err(fault) => typing_refused(fault),
+    }
+}
+
+/// A desk takes an operation that some desk made.
+fn deliver<S: Sequence>(
+    desks: &mut [Replica<S>],
+    made: &[Op],
+    desk: usize,
+    op: usize,
+) -> Result<Reply, Memory>
+    ensures { IfOk result (DoStep desks.old made.now (Step.Deliver desk op) desks.new made.now) }
+{
+    if desk >= desks.len() || op >= made.len() {
+        return Ok(Reply::NoSuch);
+    }
+    match take_at(desks, desk, &made[op]) {
+        Ok(_) => Ok(Reply::Done),
+        Err(fault) => taking_refused(fault),
+    }
+}
+
+/// A desk takes all that another one holds.
+fn merge<S: Sequence>(
+    desks: &mut [Replica<S>],
+    made: &[Op],
+    desk: usize,
+    from: usize,
+) -> Result<Reply, Memory>
+    ensures { IfOk result (DoStep desks.old made.now (Step.Merge desk from) desks.new made.now) }
+{
+    if desk >= desks.len() || from >= desks.len() {
+        return Ok(Reply::NoSuch);
+    }
+    match merge_at(desks, desk, from) {
+        Ok(_) => Ok(Reply::Done),
+        Err(fault) => taking_refused(fault),
+    }
+}
+
+/// The reply to what a desk refused to take. Want of memory is no reply.
+pub fn taking_refused(fault: TakeFault) -> Result<Reply, Memory>
+    ensures reply { IfOk result (λ reply. (reply ≡ Reply.Refused (take_code fault)) × (fault ≢ TakeFault.Memory)) }
+    ensures err { OnErr result (fault ≡ TakeFault.Memory) }
+{
+    match fault {
+        TakeFault::Memory => Err(Memory),
+        TakeFault::IdentifierReused | TakeFault::Full => Ok(Reply::Refused(fault.code())),
+    }
+}
+
+/// The reply to what a desk refused to make. Want of memory is no reply.
+pub fn typing_refused(fault: TypeFault) -> Result<Reply, Memory>
+    ensures reply { IfOk result (λ reply. (reply ≡ Reply.Refused (type_code fault)) × (fault ≢ TypeFault.Memory)) }
+    ensures err { OnErr result (fault ≡ TypeFault.Memory) }
+{
+    match fault {
+        TypeFault::Memory => Err(Memory),
+        TypeFault::CounterSpent | TypeFault::Full => Ok(Reply::Refused(fault.code())),
+    }
+}
