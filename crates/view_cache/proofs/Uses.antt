@@ -27,11 +27,11 @@ laid_anew-most room (x ∷ xs) kept =
 
 -- ---- equal keys
 
-same-equal : (a b : ParagraphKey) → same_key a b ≡ true → a ≡ b
+pub same-equal : (a b : ParagraphKey) → same_key a b ≡ true → a ≡ b
 unfolding same_key
 same-equal a b h = search rules
 
-same-itself : (a : ParagraphKey) → same_key a a ≡ true
+pub same-itself : (a : ParagraphKey) → same_key a a ≡ true
 unfolding same_key
 same-itself a = search rules
 

@@ -109,7 +109,7 @@ fn what_is_kept_is_not_laid_out_again(rt: HostRuntime) -> Result<(), Fail> {
         ],
         &[
             (6, auto, "\u{5D0}(\n\u{4E16}b\tc\u{301}", 2),
-            (6, auto, "a\n\u{4E16}b\tc\u{301}\n\u{5D0}(\n", 4),
+            (6, auto, "a\n\u{4E16}b\tc\u{301}\n\u{5D0}(\n", 3),
         ],
     ];
     for walk in walks {
@@ -241,5 +241,7 @@ fn views_with_a_key_and_the_laws(rt: HostRuntime) -> Result<(), Fail> {
     assert_eq!(rt; counted.unwrap_or(2), 2);
     laws::drawn_after_edits();
     laws::edits_cost_what_they_put_in();
+    laws::keys_compared();
+    laws::kept_while_there_is_room();
     Ok(())
 }

@@ -64,7 +64,7 @@ impl<'a> View<'a> {
         View::with_room(alloc, tables, ROOM)
     }
 
-    /// A view with room for so many paragraphs, 1 to 1,000,000. A text that has more than these
+    /// A view with room for so many paragraphs, 1 to 1,000,000. A text of more different ones than that
     /// finds none of its paragraphs when it is drawn again: each was dropped before its turn.
     pub fn with_room(alloc: Global, tables: &'a Tables, room: usize) -> Result<View<'a>, Memory>
         requires some { 1 ≤ room }
