@@ -22,3 +22,4 @@ pub mod Following
 pub mod CellsOnce
 pub mod Holding
 pub mod PlacesOnce
+pub mod Interface

@@ -1,10 +1,14 @@
 //! Laws of the definitions: each function's contract is the law, and its body does nothing.
 
-ghost use Rattle.std.specs.Prelude.{ℕ, ◌<◌, length, IsPermutation};
+ghost use Rattle.std.specs.Prelude.{ℕ, ◌+◌, ◌<◌, ◌≤◌, List, length, IsPermutation};
 ghost use Rattle.std.specs.List.{All};
+ghost use Rattle.std.specs.Str.{IsUtf8};
 ghost use Rattle.bg_types.specs.declared.class.Base.{Base};
+ghost use Rattle.ucd_files.specs.Tables.{TableValues};
 ghost use Rattle.paragraphs.specs.Text.{code_points};
 ghost use Rattle.cell_grid.specs.Grids.{DrawnGrid, IsDrawn};
+ghost use Rattle.cell_grid.specs.Rows.{rows_of};
+ghost use Rattle.cell_grid.specs.Shifting.{MayShiftRow};
 ghost use Rattle.cell_grid.specs.Laws.{text_spans, entry_spans, RowsFollow, HoldsPlacesOnce, StandsAtItsEdge, CoversCellsOnce};
 
 use crate::laws_below::laws_below;
@@ -42,6 +46,16 @@ pub fn rows_follow()
 /// Each place of a row lies in exactly one of its entries.
 pub fn places_once()
     ensures { (g : DrawnGrid) → IsDrawn g → All HoldsPlacesOnce g.rows }
+{
+    laws_below();
+}
+
+/// The rows of a paragraph, counted from its start, may be shifted to wherever the paragraph ends at
+/// 4,000,000 or before.
+pub fn rows_may_shift()
+    ensures { (tables : TableValues) (width : ℕ) (base : Base) (text : List ℕ) → 2 ≤ width → IsUtf8 text
+        → (bytes places : ℕ) → bytes + length text ≤ 4_000_000 → places + length (code_points text) ≤ 4_000_000
+        → All (MayShiftRow bytes places) (rows_of tables width base text) }
 {
     laws_below();
 }

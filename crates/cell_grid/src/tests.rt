@@ -443,4 +443,5 @@ fn the_laws_are_called() {
     laws::rows_at_their_edge();
     laws::rows_follow();
     laws::places_once();
+    laws::rows_may_shift();
 }

@@ -1,0 +1,5 @@
+pub mod Keys
+pub mod Kept
+pub mod Uses
+pub mod Drawing
+pub mod Edits

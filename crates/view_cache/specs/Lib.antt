@@ -1,0 +1,5 @@
+pub mod Keys
+pub mod Uses
+pub mod Drawings
+pub mod Kept
+pub mod Laws

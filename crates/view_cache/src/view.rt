@@ -1,0 +1,183 @@
+//! A view that keeps the rows of paragraphs.
+
+ghost use Rattle.std.specs.Prelude.{◌≡◌, ◌++◌, ◌+◌, ◌≤◌, ◌<◌, not, length, map, IfOk, OnOk, OnErr};
+ghost use Rattle.std.specs.List.{All};
+ghost use Rattle.std.specs.Str.{IsUtf8};
+ghost use Rattle.paragraphs.specs.Text.{code_points};
+ghost use Rattle.cell_grid.specs.Rows.{shifted};
+ghost use Rattle.cell_grid.specs.Grids.{paragraph_rows};
+ghost use Rattle.cell_grid.specs.Shifting.{MayShiftRow};
+ghost use Rattle.view_cache.specs.Keys.{paragraph_key};
+ghost use Rattle.view_cache.specs.Uses.{is_kept, used};
+ghost use Rattle.view_cache.specs.Drawings.{empty_view, IsDrawing};
+
+use crate::hasher::KeyedText;
+use crate::key::Key;
+use bg_types::{Base, Memory};
+use cell_grid::laws::rows_may_shift;
+use cell_grid::{Grid, Row, rows};
+use lru::LruCache;
+use paragraphs::{Para, split};
+use std::alloc::Global;
+use std::marker::Model;
+use std::num::NonZeroUsize;
+use ucd_files::Tables;
+
+/// How many paragraphs `View::new` has room for.
+const ROOM: usize = 1_024;
+
+/// Draws texts as `cell_grid::draw` does, and keeps the rows of the paragraphs that were drawn last,
+/// by the paragraph's text, the width and the base. A paragraph that is kept is not laid out again:
+/// its rows are copied to where it stands now.
+#[derive(Drop)]
+pub struct View<'a> {
+    alloc: Global,
+    tables: &'a Tables,
+    kept: LruCache<Key, Vec<Row>, KeyedText>,
+    laid: usize,
+}
+
+impl<'a> Model for View<'a> {
+    ghost use Rattle.std.specs.Prelude.{map};
+    ghost use Rattle.view_cache.specs.Drawings.{KeptView};
+    ghost use Rattle.view_cache.specs.Keys.{said};
+    ghost use Rattle.view_cache.specs.Kept.{IsKept};
+
+    ghost Value = { KeptView };
+
+    ghost view = { λ v. record {
+      tables = v.tables.now;
+      room = v.kept.cap;
+      keys = map (λ e. said e.0) v.kept.entries;
+      laid = v.laid;
+    } };
+
+    ghost invariant = { λ v. IsKept v.tables.now v.kept };
+}
+
+impl<'a> View<'a> {
+    /// A view with room for 1,024 paragraphs. Its table is hashed with the key 0: a view of texts
+    /// that strangers wrote is made by `keyed`.
+    pub fn new(alloc: Global, tables: &'a Tables) -> Result<View<'a>, Memory>
+        ensures { IfOk result (λ view. view ≡ empty_view tables.now 1024) }
+    {
+        View::with_room(alloc, tables, ROOM)
+    }
+
+    /// A view with room for so many paragraphs, 1 to 1,000,000. A text of more different ones than that
+    /// finds none of its paragraphs when it is drawn again: each was dropped before its turn.
+    pub fn with_room(alloc: Global, tables: &'a Tables, room: usize) -> Result<View<'a>, Memory>
+        requires some { 1 ≤ room }
+        requires most { room ≤ 1_000_000 }
+        ensures { IfOk result (λ view. view ≡ empty_view tables.now room) }
+    {
+        View::keyed(alloc, 0, tables, room)
+    }
+
+    /// The same, its table hashed with this key. Who does not know the key cannot choose paragraphs
+    /// that make the draws slow.
+    pub fn keyed(
+        alloc: Global,
+        key: u128,
+        tables: &'a Tables,
+        room: usize,
+    ) -> Result<View<'a>, Memory>
+        requires some { 1 ≤ room }
+        requires most { room ≤ 1_000_000 }
+        ensures { IfOk result (λ view. view ≡ empty_view tables.now room) }
+    {
+        let mut kept = LruCache::unbounded_with_hasher(alloc, KeyedText::new(key))?;
+        if let Some(room) = NonZeroUsize::new(room) {
+            kept.resize(room);
+        }
+        Ok(View {
+            alloc,
+            tables,
+            kept,
+            laid: 0,
+        })
+    }
+
+    /// How many paragraphs the last draw that answered Ok laid out anew, 0 before the first.
+    #[inline]
+    pub fn laid(&self) -> usize
+        ensures { result ≡ self.now.laid }
+    {
+        self.laid
+    }
+
+    /// Draws a text on a grid of a width in columns, as `cell_grid::draw` does. After `Memory` what
+    /// is kept is right still, and the next draw goes on from there.
+    pub fn draw<'t>(&mut self, width: u16, base: Base, text: &'t str) -> Result<Grid<'t>, Memory>
+    where
+        'a: 't,
+        requires at_least { 2 ≤ width }
+        requires at_most { width ≤ 500 }
+        requires size { length text.now ≤ 4_000_000 }
+        ensures { IsDrawing self.old width base text.now result self.new }
+    {
+        let paragraphs = split(self.alloc, self.tables, text)?;
+        // Each paragraph has a row at least.
+        let mut rows = Vec::with_capacity(self.alloc, paragraphs.len())?;
+        let mut laid = 0;
+        for para in &paragraphs {
+            if self.push_rows(width, base, para, &mut rows)? {
+                laid += 1;
+            }
+        }
+        self.laid = laid;
+        Ok(Grid::of(self.tables, text, rows))
+    }
+
+    /// Uses the key of a paragraph, and puts its rows at the end, where they stand in the text. Tells
+    /// whether they were laid out anew. After `Memory` the view is as it was.
+    fn push_rows(
+        &mut self,
+        width: u16,
+        base: Base,
+        para: &Para,
+        drawn: &mut Vec<Row>,
+    ) -> Result<bool, Memory>
+        requires at_least { 2 ≤ width }
+        requires at_most { width ≤ 500 }
+        requires text { IsUtf8 para.now.text }
+        requires bytes { para.now.first_byte + length para.now.text ≤ 4_000_000 }
+        requires places { para.now.first_place + length (code_points para.now.text) ≤ 4_000_000 }
+        ensures rows { OnOk result (drawn.new.items ≡ drawn.old.items ++ paragraph_rows self.old.tables width base para.now) }
+        ensures laid { IfOk result (λ laid. laid ≡ not (is_kept (paragraph_key para.now.text width base) self.old.keys)) }
+        ensures view { OnOk result (self.new ≡ record self.old { keys = used self.old.room (paragraph_key para.now.text width base) self.old.keys }) }
+        ensures err { OnErr result (self.new ≡ self.old) }
+    {
+        rows_may_shift();
+        let key = Key::of(self.alloc, para.text(), width, base)?;
+        if let Some(rows) = self.kept.peek(&key) {
+            push_shifted(self.alloc, rows, para, drawn)?;
+            self.kept.promote(&key);
+            return Ok(false);
+        }
+        let rows = rows(self.alloc, self.tables, width, base, para)?;
+        push_shifted(self.alloc, &rows, para, drawn)?;
+        self.kept.put(key, rows)?;
+        Ok(true)
+    }
+}
+
+/// Puts copies of a paragraph's rows at the end, where the paragraph stands in its text.
+fn push_shifted(
+    alloc: Global,
+    rows: &[Row],
+    para: &Para,
+    drawn: &mut Vec<Row>,
+) -> Result<(), Memory>
+    requires bytes { para.now.first_byte ≤ 4_000_000 }
+    requires places { para.now.first_place ≤ 4_000_000 }
+    requires may { All (MayShiftRow para.now.first_byte para.now.first_place) rows.now }
+    ensures { OnOk result (drawn.new.items ≡ drawn.old.items ++ map (shifted para.now.first_byte para.now.first_place) rows.now) }
+{
+    drawn.reserve(rows.len())?;
+    for row in rows {
+        let copy = row.shifted(alloc, para.first_byte() as u32, para.first_place() as u32)?;
+        drawn.push(copy)?;
+    }
+    Ok(())
+}
