@@ -144,7 +144,7 @@ pub fn typed_stays()
         → Precedes (set_at u.sets other) a (next_identifier sites w desk) }
 {}
 
-/// Two runs of characters behind one place, each character after the one before, never mix: the run
+/// Two runs of characters after one place, each character after the one before, never mix: the run
 /// whose first identifier is greater is wholly left of the other in every desk that has both
 /// attached.
 pub fn runs_of_worlds()
