@@ -1,5 +1,5 @@
 -- The order and the texts of the desks of a world.
-use Rattle.std.proofs.Common.{◌≡◌, ℕ, zero, List, [], ◌∷◌, refl, sym, ap, subst, ◌∙◌, ◌↔◌, arith}
+use Rattle.std.proofs.Common.{◌≡◌, ℕ, zero, List, [], ◌∷◌, refl, ◌↔◌, arith}
 use Rattle.std.specs.Prelude.{Contains, filter}
 use Rattle.std.specs.declared.cmp.Ordering.TheVariants.{Less}
 use Rattle.bg_types.specs.Identifier.{Identifier, id_cmp}
@@ -9,7 +9,6 @@ use Rattle.bg_types.specs.declared.op.Place.TheVariants.{Root}
 use Rattle.bg_types.specs.declared.op.OpView.{OpView}
 use Rattle.bg_types.proofs.Interface.{same_operations}
 use Rattle.rga_tree.specs.Walk.{walk}
-use Rattle.rga_tree.specs.Parts.{IsPartOf}
 use Rattle.rga_tree.specs.Order.{Precedes}
 use Rattle.rga_tree.specs.Stretch.{IsChild, IsRun, IsLeftOf}
 use Rattle.rga_tree.specs.Attached.{IsAttached, is_attached}

@@ -1,20 +1,18 @@
 -- Every run keeps what a world keeps, and no run reuses an identifier.
-use Rattle.std.proofs.Common.{◌≡◌, ◌≢◌, ◌<◌, ◌≤◌, ◌+◌, ℕ, zero, suc, List, [], ◌∷◌, ◌++◌, length, Some, None, ◌⊎◌, inl, inr, refl, sym, ap, subst, ◌∙◌, arith, true}
+use Rattle.std.proofs.Common.{◌≡◌, ◌≢◌, ◌<◌, ℕ, zero, suc, List, [], ◌∷◌, length, Some, ◌⊎◌, inl, inr, refl, sym, ap, subst, ◌∙◌, arith}
 use Rattle.std.specs.Prelude.{Contains, slice_get, replicate}
-use Rattle.std.proofs.lemmas.List.{length-replicate, get_or-replicate, get_or_default}
-use Rattle.std.proofs.Math.ListN.{get_or}
+use Rattle.std.proofs.lemmas.List.{length-replicate}
 use Rattle.std.proofs.lemmas.List.Elements.{Contains-append_left, Contains-append_right}
 use Rattle.std.proofs.lemmas.Bool.Decides.{eqb_tells}
 use Rattle.std.specs.FinMap as map
 use Rattle.bg_types.specs.Identifier.{Identifier, IsIdentifier}
-use Rattle.bg_types.specs.OperationSet.{Node, OperationSet, AllWellFormed, Agree, Holds, MayJoin, no_operations, with_operation, union, next}
+use Rattle.bg_types.specs.OperationSet.{OperationSet, AllWellFormed, Agree, Holds, no_operations, with_operation, union, next}
 use Rattle.bg_types.specs.declared.op.Place.{Place}
 use Rattle.bg_types.specs.declared.op.Place.TheVariants.{Root, After}
 use Rattle.bg_types.specs.declared.op.OpView.{OpView}
 use Rattle.bg_types.specs.declared.op.OpView.TheVariants.{Insert, Erase as EraseOp}
 use Rattle.bg_types.proofs.Interface.{some_is, Holds-no_operations, Holds-with_operation, Holds-union}
 use Rattle.rga_tree.specs.Parts.{IsPartOf}
-use Rattle.rga_tree.specs.Walk.{Insertions}
 use Rattle.rga_tree.specs.Attached.{IsAttached, below_root, below}
 use Rattle.rga_tree.proofs.Interface.{AllWellFormed-part}
 use Rattle.desk_replica.specs.declared.answer.TakeFault.{TakeFault}
@@ -24,15 +22,15 @@ use Rattle.desk_replica.specs.declared.world.step.Step.TheVariants.{Typed, Erase
 use Rattle.desk_replica.specs.declared.world.step.Reply.{Reply}
 use Rattle.desk_replica.specs.declared.world.step.Reply.TheVariants.{Done, Refused, NoSuch}
 use Rattle.desk_replica.specs.Codes.{take_code}
-use Rattle.desk_replica.specs.Merging.{IsBetween, IsMergeRefusal, IsMergeRefused}
-use Rattle.desk_replica.specs.DeskSets.{set_at, with_set, takes, merges, IsStepRefused, LeavesMerged}
-use Rattle.desk_replica.specs.WorldStep.{WorldState, WorldStep, site_at, with_made, typed_there, IsThere, IsDone, IsRefusedAs}
+use Rattle.desk_replica.specs.Merging.{IsBetween, IsMergeRefused}
+use Rattle.desk_replica.specs.DeskSets.{set_at, with_set, takes, merges, IsStepRefused}
+use Rattle.desk_replica.specs.WorldStep.{WorldState, WorldStep, site_at, typed_there, IsThere, IsDone, IsRefusedAs}
 use Rattle.desk_replica.specs.WorldRun.{AreSites, WorldRun, empty_world, IsLater, IsWorld, all_made}
 use Rattle.desk_replica.proofs.Merges.{between_start, disagree_apart}
 use Rattle.desk_replica.proofs.Refusals.{reused_apart}
 use Rattle.desk_replica.proofs.Lists.{within-slice_get}
 use Rattle.desk_replica.proofs.Typing.{new_ins, visible_attached}
-use Rattle.desk_replica.proofs.Worlds.{IsOf, IsSound, IsSound-grown, IsSound-made, agree_parts, joins_part}
+use Rattle.desk_replica.proofs.Worlds.{IsSound, IsSound-grown, IsSound-made, agree_parts, joins_part}
 
 -- ---- lists
 

@@ -1,5 +1,5 @@
 -- What a desk of a list did is a step of the world of those desks, and steps make a run.
-use Rattle.std.proofs.Common.{◌≡◌, ◌<◌, ◌≤◌, ◌+◌, ℕ, zero, suc, List, [], ◌∷◌, ◌++◌, length, take, drop, get_or, sym, ap, subst, ◌∙◌, refl, arith}
+use Rattle.std.proofs.Common.{◌≡◌, ◌<◌, ◌≤◌, ◌+◌, ℕ, List, [], ◌∷◌, ◌++◌, length, take, drop, get_or, sym, ap, subst, ◌∙◌, refl, arith}
 use Rattle.std.specs.Prelude.{slice_get, map as each}
 use Rattle.std.proofs.Math.ListN.{set}
 use Rattle.std.proofs.Math.Seq.{take-append_seam}
@@ -7,7 +7,6 @@ use Rattle.std.proofs.lemmas.List.{get_or-map, length-map}
 use Rattle.bg_types.specs.WellFormed.{IsWellFormed}
 use Rattle.bg_types.specs.OperationSet.{OperationSet, no_operations, with_operation, size}
 use Rattle.bg_types.specs.declared.op.OpView.{OpView}
-use Rattle.bg_types.specs.declared.op.OpView.TheVariants.{Erase as EraseOp}
 use Rattle.rga_tree.specs.TextOf.{visible, visible_ids}
 use Rattle.desk_replica.specs.declared.answer.TypeFault.{TypeFault}
 use Rattle.desk_replica.specs.declared.world.step.Step.{Step}

@@ -1,18 +1,16 @@
 -- A character that is typed stays between its neighbours.
-use Rattle.std.proofs.Common.{◌≡◌, ◌+◌, ℕ, zero, suc, Bool, true, false, cond, not, List, [], ◌∷◌, ◌++◌, length, Some, refl, sym, ap, subst, ◌∙◌, arith, append_assoc}
-use Rattle.std.specs.Prelude.{slice_get, filter, map as each}
+use Rattle.std.proofs.Common.{◌≡◌, ◌≤◌, ◌+◌, ℕ, zero, suc, Bool, true, false, cond, not, List, [], ◌∷◌, ◌++◌, length, Some, refl, sym, ap, subst, ◌∙◌, arith, append_assoc}
+use Rattle.std.specs.Prelude.{slice_get, filter, insert, map as each}
 use Rattle.std.specs.Option.{option_map_or}
 use Rattle.std.proofs.lemmas.List.{map-append, get_or-set_same}
 use Rattle.bg_types.specs.Identifier.{Identifier}
 use Rattle.bg_types.specs.WellFormed.{IsWellFormed}
 use Rattle.bg_types.specs.OperationSet.{Node, OperationSet, AllWellFormed, no_operations, with_operation, next}
-use Rattle.bg_types.specs.declared.op.Place.{Place}
 use Rattle.bg_types.specs.declared.op.Place.TheVariants.{Root, After}
-use Rattle.bg_types.specs.declared.op.OpView.{OpView}
 use Rattle.bg_types.specs.declared.op.OpView.TheVariants.{Insert}
 use Rattle.rga_tree.specs.Walk.{walk, walked_ids}
 use Rattle.rga_tree.specs.Attached.{IsAttached}
-use Rattle.rga_tree.specs.TextOf.{visible, visible_ids, is_erased}
+use Rattle.rga_tree.specs.TextOf.{text, visible, visible_ids, is_erased}
 use Rattle.rga_tree.specs.Order.{StandsBefore, Precedes, StandsBetween}
 use Rattle.rga_tree.proofs.Interface.{Entry, StandsBefore-unfiltered, Precedes-attached, StandsBetween-typed, walk-typed_behind, walk-typed_first}
 use Rattle.desk_replica.specs.declared.world.step.Step.{Step}
@@ -23,7 +21,9 @@ use Rattle.desk_replica.specs.DeskSets.{set_at}
 use Rattle.desk_replica.specs.Typing.{parent_at}
 use Rattle.desk_replica.specs.WorldStep.{WorldState, WorldStep, next_identifier, site_at}
 use Rattle.desk_replica.specs.WorldRun.{IsLater, IsWorld, empty_world}
-use Rattle.desk_replica.proofs.Lists.{slice_get-from, within-slice_get}
+use Rattle.desk_replica.proofs.Lists.{slice_get-from, slice_get-within, within-slice_get, length-each}
+use Rattle.desk_replica.proofs.Typed.{each-insert}
+use Rattle.desk_replica.proofs.Typing.{new_del}
 use Rattle.desk_replica.proofs.WorldLaws.{well_formed_there, order_worlds}
 use Rattle.desk_replica.proofs.WorldRuns.{IsSound-world}
 use Rattle.desk_replica.proofs.WorldSteps.{run_on}
@@ -51,26 +51,58 @@ neighbours (x ∷ ids) (suc k) a b at_a at_b =
     let rest = neighbours ids k a b at_a at_b in
     record { front = x ∷ rest.front; between = rest.between; back = rest.back; in_order = ap (λ l. x ∷ l) rest.in_order }
 
--- what passes stands in the whole list
-pub record IsSplit (es : List Entry) (x : Entry) : Type 0 where
+-- what passes stands in the whole list, after as many that pass as stand before it
+pub record IsSplit (p : Entry → Bool) (es : List Entry) (k : ℕ) (x : Entry) : Type 0 where
   pub front : List Entry
   pub back : List Entry
   pub in_order : es ≡ front ++ x ∷ back
+  pub count : length (filter p front) ≡ k
+  pub passes : p x ≡ true
 
-split_later : (y x : Entry) (es : List Entry) → IsSplit es x → IsSplit (y ∷ es) x
-split_later y x es h = record { front = y ∷ h.front; back = h.back; in_order = ap (λ l. y ∷ l) h.in_order }
+split_seen : (p : Entry → Bool) (y x : Entry) (es vs : List Entry) (k : ℕ) → p y ≡ true → ((j : ℕ) → slice_get vs j ≡ Some x → IsSplit p es j x) → slice_get (y ∷ vs) k ≡ Some x → IsSplit p (y ∷ es) k x
+split_seen p y x es vs zero kept rest h =
+    let here : y ≡ x = cc in
+    record { front = []; back = es; in_order = ap (λ z. z ∷ es) here; count = refl; passes = subst (λ z. p z ≡ true) here kept }
+split_seen p y x es vs (suc j) kept rest h =
+    let r = rest j h in
+    record {
+      front = y ∷ r.front;
+      back = r.back;
+      in_order = ap (λ l. y ∷ l) r.in_order;
+      count = ap (λ b. length (cond b (y ∷ filter p r.front) (filter p r.front))) kept ∙ ap (λ n. suc n) r.count;
+      passes = r.passes;
+    }
 
-split_here : (y x : Entry) (es vs : List Entry) (k : ℕ) → ((j : ℕ) → slice_get vs j ≡ Some x → IsSplit es x) → slice_get (y ∷ vs) k ≡ Some x → IsSplit (y ∷ es) x
-split_here y x es vs zero rest h = let here : y ≡ x = cc in record { front = []; back = es; in_order = ap (λ z. z ∷ es) here }
-split_here y x es vs (suc j) rest h = split_later y x es (rest j h)
+split_unseen : (p : Entry → Bool) (y x : Entry) (es : List Entry) (k : ℕ) → p y ≡ false → IsSplit p es k x → IsSplit p (y ∷ es) k x
+split_unseen p y x es k left r = record {
+  front = y ∷ r.front;
+  back = r.back;
+  in_order = ap (λ l. y ∷ l) r.in_order;
+  count = ap (λ b. length (cond b (y ∷ filter p r.front) (filter p r.front))) left ∙ r.count;
+  passes = r.passes;
+}
 
-split_one : (b : Bool) (y x : Entry) (es vs : List Entry) (k : ℕ) → ((j : ℕ) → slice_get vs j ≡ Some x → IsSplit es x) → slice_get (cond b (y ∷ vs) vs) k ≡ Some x → IsSplit (y ∷ es) x
-split_one true y x es vs k rest h = split_here y x es vs k rest h
-split_one false y x es vs k rest h = split_later y x es (rest k h)
+split_one : (p : Entry → Bool) (b : Bool) (y x : Entry) (es vs : List Entry) (k : ℕ) → p y ≡ b → ((j : ℕ) → slice_get vs j ≡ Some x → IsSplit p es j x) → slice_get (cond b (y ∷ vs) vs) k ≡ Some x → IsSplit p (y ∷ es) k x
+split_one p true y x es vs k is rest h = split_seen p y x es vs k is rest h
+split_one p false y x es vs k is rest h = split_unseen p y x es k is (rest k h)
 
-split_at : (p : Entry → Bool) (es : List Entry) (k : ℕ) (x : Entry) → slice_get (filter p es) k ≡ Some x → IsSplit es x
+split_at : (p : Entry → Bool) (es : List Entry) (k : ℕ) (x : Entry) → slice_get (filter p es) k ≡ Some x → IsSplit p es k x
 split_at p [] k x h = absurd (let w = within-slice_get [] k x h in omega arith)
-split_at p (y ∷ es) k x h = split_one (p y) y x es (filter p es) k (λ j. split_at p es j x) h
+split_at p (y ∷ es) k x h = split_one p (p y) y x es (filter p es) k refl (λ j. split_at p es j x) h
+
+-- one more that passes, directly after one that does
+filter_after : (p : Entry → Bool) (front back : List Entry) (x n : Entry) → p x ≡ true → p n ≡ true
+    → filter p (front ++ x ∷ n ∷ back) ≡ insert (filter p (front ++ x ∷ back)) (suc (length (filter p front))) n
+filter_after p [] back x n kept new =
+    ap (λ b. cond b (x ∷ filter p (n ∷ back)) (filter p (n ∷ back))) kept ∙ ap (λ b. x ∷ cond b (n ∷ filter p back) (filter p back)) new
+    ∙ sym (ap (λ b. insert (cond b (x ∷ filter p back) (filter p back)) 1 n) kept)
+filter_after p (y ∷ front) back x n kept new =
+    let rest = filter_after p front back x n kept new in
+    elim (p y) as (λ b. cond b (y ∷ filter p (front ++ x ∷ n ∷ back)) (filter p (front ++ x ∷ n ∷ back))
+    ≡ insert (cond b (y ∷ filter p (front ++ x ∷ back)) (filter p (front ++ x ∷ back))) (suc (length (cond b (y ∷ filter p front) (filter p front)))) n) [
+      | true ↦ ap (λ l. y ∷ l) rest
+      | false ↦ rest
+    ]
 
 visible_before : (s : OperationSet) (k : ℕ) (a b : Identifier) → slice_get (visible_ids s) k ≡ Some a → slice_get (visible_ids s) (suc k) ≡ Some b → Precedes s a b
 visible_before s k a b at_a at_b =
@@ -122,6 +154,35 @@ module _ (s : OperationSet) (well : AllWellFormed s) (site ch : ℕ) where
         in_order = ap (each (λ (x : Entry). x.0)) new ∙ ap (λ l. id ∷ each (λ (x : Entry). x.0) l) parts.in_order
             ∙ ap (λ l. id ∷ l) (map-append (λ (x : Entry). x.0) parts.front (f.0 ∷ parts.back) ∙ ap (λ q. each (λ (x : Entry). x.0) parts.front ++ q ∷ each (λ (x : Entry). x.0) parts.back) f.1.1);
       }
+
+  new_seen : not (is_erased s id) ≡ true
+  new_seen = ap not (new_del s id refl)
+
+  text_behind : (k : ℕ) (a : Identifier) → IsWellFormed (Insert id (parent_at (visible_ids s) (suc k)) ch) → slice_get (visible_ids s) k ≡ Some a → text (with_typed (suc k)) ≡ insert (text s) (suc k) ch
+  text_behind k a formed at =
+      let p : Entry → Bool = λ x. not (is_erased s x.0) in
+      let node : Node = record { parent = parent_at (visible_ids s) (suc k); ch = ch } in
+      let f = slice_get-from (λ (x : Entry). x.0) (visible s) k a at in
+      let parts = split_at p (walk s Root) k f.0 f.1.0 in
+      let new = walk-typed_behind s well id node formed (omega arith) parts.front parts.back f.0 (parent_behind k a at ∙ ap After (sym f.1.1)) parts.in_order in
+      ap (λ w. each (λ (x : Entry). x.1.ch) (filter p w)) new
+      ∙ ap (each (λ (x : Entry). x.1.ch)) (filter_after p parts.front parts.back f.0 (id, node) parts.passes new_seen)
+      ∙ each-insert (λ (x : Entry). x.1.ch) (filter p (parts.front ++ f.0 ∷ parts.back)) (suc (length (filter p parts.front))) (id, node)
+      ∙ (λ i. insert (each (λ (x : Entry). x.1.ch) (filter p (sym parts.in_order i))) (suc (parts.count i)) ch)
+
+  text_first : IsWellFormed (Insert id Root ch) → text (with_typed 0) ≡ insert (text s) 0 ch
+  text_first formed =
+      let p : Entry → Bool = λ x. not (is_erased s x.0) in
+      let node : Node = record { parent = Root; ch = ch } in
+      ap (λ w. each (λ (x : Entry). x.1.ch) (filter p w)) (walk-typed_first s well id node formed (omega arith) refl)
+      ∙ ap (λ b. each (λ (x : Entry). x.1.ch) (cond b ((id, node) ∷ filter p (walk s Root)) (filter p (walk s Root)))) new_seen
+
+  pub text_typed : (k : ℕ) → k ≤ length (visible s) → IsWellFormed (Insert id (parent_at (visible_ids s) k) ch) → text (with_typed k) ≡ insert (text s) k ch
+  text_typed zero le formed = text_first formed
+  text_typed (suc k) le formed =
+      let long = length-each (λ (x : Entry). x.0) (visible s) in
+      let a = slice_get-within (visible_ids s) k (omega (arith, long, le)) in
+      text_behind k a.0 formed a.1
 
 -- ---- and of each desk later
 
@@ -189,3 +250,8 @@ stays_last sites w v u d place ch world = subst (λ k. WorldStep sites w (Typed 
     (let up : suc place ≡ place + 1 = omega arith in up)
     (λ step later a at e there_a there.
     order_stays sites w v u d (suc place) ch world step later a (next_identifier sites w d) (typed_last (set_at w.sets d) (well_there sites w world d) (site_at sites d) ch place a step.1.0 at) e there_a there)
+
+-- at the desk that types, the text is the old one with the character at its place
+pub stands_there : (sites : List ℕ) (w v : WorldState) (d place ch : ℕ) → IsWorld sites w → WorldStep sites w (Typed d place ch) Done v → text (set_at v.sets d) ≡ insert (text (set_at w.sets d)) place ch
+stands_there sites w v d place ch world step =
+    ap text (typed_set sites w v d place ch step) ∙ text_typed (set_at w.sets d) (well_there sites w world d) (site_at sites d) ch place step.0.1 step.1.0

@@ -1,38 +1,26 @@
 -- What every world keeps: each desk's set is part of what was made, and no identifier is made twice.
-use Rattle.std.proofs.Common.{◌≡◌, ◌≢◌, ◌<◌, ◌≤◌, ◌+◌, ℕ, zero, suc, List, [], ◌∷◌, ◌++◌, length, Some, None, ◌⊎◌, inl, inr, refl, sym, ap, subst, ◌∙◌, arith, true}
-use Rattle.std.specs.Prelude.{Contains, slice_get, replicate}
-use Rattle.std.specs.Bool.{Decides}
+use Rattle.std.proofs.Common.{◌≡◌, ◌≢◌, ◌<◌, ℕ, zero, suc, List, [], ◌∷◌, ◌++◌, length, Some, ◌⊎◌, inl, inr, refl, sym, ap, subst, ◌∙◌, arith}
+use Rattle.std.specs.Prelude.{Contains, slice_get}
 use Rattle.std.proofs.Math.ListN.{set, get_or}
 use Rattle.std.proofs.lemmas.List.{get_or-set_same, get_or-set_other, length-set}
 use Rattle.std.proofs.lemmas.List.Elements.{Contains-push, Contains-push_cases, Contains-append_left}
 use Rattle.std.proofs.lemmas.Bool.Decides.{eqb_tells}
-use Rattle.std.specs.FinMap as map
-use Rattle.bg_types.specs.Identifier.{Identifier, IsIdentifier}
+use Rattle.bg_types.specs.Identifier.{Identifier}
 use Rattle.bg_types.specs.WellFormed.{IsWellFormed}
-use Rattle.bg_types.specs.OperationSet.{Node, OperationSet, AllWellFormed, Agree, Holds, MayJoin, no_operations, with_operation, union, next, named_counters, parent_counters, size}
+use Rattle.bg_types.specs.OperationSet.{OperationSet, AllWellFormed, Agree, Holds, MayJoin, no_operations, with_operation}
 use Rattle.bg_types.specs.declared.op.Place.{Place}
 use Rattle.bg_types.specs.declared.op.OpView.{OpView}
 use Rattle.bg_types.specs.declared.op.OpView.TheVariants.{Insert, Erase as EraseOp}
-use Rattle.bg_types.proofs.Interface.{some_is, Holds-no_operations, Holds-with_operation, Holds-union, same_operations}
+use Rattle.bg_types.proofs.Interface.{some_is, Holds-with_operation}
 use Rattle.rga_tree.specs.Parts.{IsPartOf}
-use Rattle.rga_tree.specs.Attached.{IsAttached}
-use Rattle.rga_tree.specs.TextOf.{visible_ids}
-use Rattle.rga_tree.proofs.Interface.{AllWellFormed-with, AllWellFormed-part}
-use Rattle.desk_replica.specs.declared.answer.TakeFault.{TakeFault}
-use Rattle.desk_replica.specs.declared.answer.TakeFault.TheVariants.{IdentifierReused, Full, Memory}
-use Rattle.desk_replica.specs.declared.world.step.Step.{Step}
-use Rattle.desk_replica.specs.declared.world.step.Step.TheVariants.{Typed, Erase, Deliver, Merge}
-use Rattle.desk_replica.specs.declared.world.step.Reply.{Reply}
-use Rattle.desk_replica.specs.declared.world.step.Reply.TheVariants.{Done, Refused, NoSuch}
+use Rattle.rga_tree.proofs.Interface.{AllWellFormed-with}
 use Rattle.desk_replica.specs.SetOf.{IsSetOf}
-use Rattle.desk_replica.specs.Merging.{IsBetween, IsMergeRefused, with_operations}
-use Rattle.desk_replica.specs.DeskSets.{set_at, with_set, merges, IsStepRefused, LeavesMerged}
-use Rattle.desk_replica.specs.Typing.{typed, insertion}
-use Rattle.desk_replica.specs.WorldStep.{WorldState, WorldStep, site_at, with_made, typed_there, IsDone}
-use Rattle.desk_replica.specs.WorldRun.{AreSites, WorldRun, empty_world, IsLater, IsWorld, all_made}
+use Rattle.desk_replica.specs.Merging.{with_operations}
+use Rattle.desk_replica.specs.DeskSets.{set_at, with_set}
+use Rattle.desk_replica.specs.WorldStep.{WorldState, site_at, with_made}
+use Rattle.desk_replica.specs.WorldRun.{all_made}
 use Rattle.desk_replica.proofs.Merges.{may_join, between_start}
 use Rattle.desk_replica.proofs.Lists.{within-slice_get}
-use Rattle.desk_replica.proofs.Typing.{new_ins, visible_attached}
 
 -- the operation inserts a character of this site
 abbrev pub IsOf : ℕ → OpView → Type 0

@@ -29,14 +29,14 @@ pub record IsTypedAt (s t : OperationSet) (k : ℕ) (e : Identifier × Node) : T
   pub walk_is : (at : ℕ) × (walk t Root ≡ insert (walk s Root) at e)
   pub text_is : text t ≡ insert (text s) k e.1.ch
 
--- a desk that keeps S makes no insertion: the next counter is spent, or else 1,000,000 are kept. Want of memory is of no
+-- a desk that keeps S makes no insertion: the next counter is spent, or else 1,000,000 are kept. Lack of memory is of no
 -- insertion
 abbrev pub IsTypeRefusal : OperationSet → TypeFault → Type 0
 IsTypeRefusal s CounterSpent = 2 ^ 32 ≤ next s
 IsTypeRefusal s Full = (next s < 2 ^ 32) × (size s ≡ 1_000_000)
 IsTypeRefusal s Memory = ⊥
 
--- the faults: those refusals, and want of memory
+-- the faults: those refusals, and lack of memory
 abbrev pub IsTypeRefused : OperationSet → TypeFault → Type 0
 IsTypeRefused s CounterSpent = IsTypeRefusal s CounterSpent
 IsTypeRefused s Full = IsTypeRefusal s Full

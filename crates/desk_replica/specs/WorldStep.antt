@@ -1,5 +1,5 @@
 -- A step of a world of desks: the definition WorldStep. Desks and operations count from 0.
-use Rattle.std.specs.Prelude.{◌≡◌, ◌≢◌, ◌<◌, ◌≤◌, ◌++◌, ◌∷◌, [], ℕ, List, Some, length, slice_get, slice_index_or}
+use Rattle.std.specs.Prelude.{◌≡◌, ◌<◌, ◌≤◌, ◌++◌, ◌∷◌, [], ℕ, List, Some, length, slice_get, slice_index_or}
 use Rattle.bg_types.specs.WellFormed.{IsWellFormed}
 use Rattle.bg_types.specs.OperationSet.{OperationSet, size, next}
 use Rattle.bg_types.specs.Identifier.{Identifier}

@@ -1,6 +1,6 @@
 //! Laws of the definitions: each function's contract is the law, and its body is empty.
 
-ghost use Rattle.std.specs.Prelude.{◌≡◌, ◌≤◌, ◌+◌, ◌↔◌, ℕ, List, ◌∷◌, Some, Contains, filter, slice_get};
+ghost use Rattle.std.specs.Prelude.{◌≡◌, ◌≤◌, ◌+◌, ◌↔◌, ℕ, List, ◌∷◌, Some, Contains, filter, insert, slice_get};
 ghost use Rattle.std.specs.declared.cmp.Ordering.TheVariants.{Less};
 ghost use Rattle.bg_types.specs.Identifier.{Identifier, id_cmp};
 ghost use Rattle.bg_types.specs.OperationSet.{OperationSet, Agree, AllWellFormed, Holds, size, union};
@@ -115,10 +115,13 @@ pub fn one_text_of_worlds()
         → set_at w.sets desk ≡ all_made w }
 {}
 
-/// A character that was typed stays between the neighbours that it was typed between, the visible
-/// characters before and after its place, wherever the three are attached and however much is typed
-/// there later.
+/// A character that was typed stands at its place in the text of the desk that types. It stays
+/// between the neighbours that it was typed between, the visible characters before and after its
+/// place, wherever the three are attached and however much is typed there later.
 pub fn typed_stays()
+    ensures stands { (sites : List ℕ) (w v : WorldState) (desk place ch : ℕ) → IsWorld sites w
+        → WorldStep sites w (Typed desk place ch) Done v
+        → text (set_at v.sets desk) ≡ insert (text (set_at w.sets desk)) place ch }
     ensures between { (sites : List ℕ) (w v u : WorldState) (desk place ch : ℕ) → IsWorld sites w
         → WorldStep sites w (Typed desk (place + 1) ch) Done v → IsLater sites v u
         → (a b : Identifier) → slice_get (visible_ids (set_at w.sets desk)) place ≡ Some a
@@ -141,7 +144,7 @@ pub fn typed_stays()
         → Precedes (set_at u.sets other) a (next_identifier sites w desk) }
 {}
 
-/// Two runs of characters behind one place, each character after the one before, never mix: the run
+/// Two runs of characters after one place, each character after the one before, never mix: the run
 /// whose first identifier is greater is wholly left of the other in every desk that has both
 /// attached.
 pub fn runs_of_worlds()

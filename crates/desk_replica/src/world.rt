@@ -73,7 +73,8 @@ impl From<AllocError> for WorldFault {
 /// Does steps in order at fresh desks with these sites, each step at one desk. The key keeps who
 /// does not know it from choosing identifiers that make the steps slow.
 ///
-/// The sites are tested before the first step. A refused growth ends the run.
+/// `BadSites` where a site is 0 or stands twice, which is tested before the first step; `Memory` where
+/// a growth is refused, which ends the run. What a desk refuses is a reply, and the run goes on.
 pub fn run_world(
     alloc: Global,
     key: u128,

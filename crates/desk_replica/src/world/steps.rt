@@ -125,7 +125,7 @@ fn merge<S: Sequence>(
     }
 }
 
-/// The reply to what a desk refused to take. Want of memory is no reply.
+/// The reply to what a desk refused to take. Lack of memory is no reply.
 pub fn taking_refused(fault: TakeFault) -> Result<Reply, Memory>
     ensures reply { IfOk result (λ reply. (reply ≡ Reply.Refused (take_code fault)) × (fault ≢ TakeFault.Memory)) }
     ensures err { OnErr result (fault ≡ TakeFault.Memory) }
@@ -136,7 +136,7 @@ pub fn taking_refused(fault: TakeFault) -> Result<Reply, Memory>
     }
 }
 
-/// The reply to what a desk refused to make. Want of memory is no reply.
+/// The reply to what a desk refused to make. Lack of memory is no reply.
 pub fn typing_refused(fault: TypeFault) -> Result<Reply, Memory>
     ensures reply { IfOk result (λ reply. (reply ≡ Reply.Refused (type_code fault)) × (fault ≢ TypeFault.Memory)) }
     ensures err { OnErr result (fault ≡ TypeFault.Memory) }

@@ -336,7 +336,7 @@ fn spends(alloc: Global) -> bool {
     taken && answers(&mut desk, alloc, typed, Refused(1))
 }
 
-/// Whether each fault of a desk is a reply with its number, and want of memory none.
+/// Whether each fault of a desk is a reply with its number, and lack of memory none.
 fn tells_faults() -> bool {
     taking_refused(TakeFault::IdentifierReused) == Ok(Refused(1))
         && taking_refused(TakeFault::Full) == Ok(Refused(2))
