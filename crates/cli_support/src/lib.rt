@@ -10,7 +10,7 @@ mod unread;
 pub use command_line::{Stop, words};
 pub use data::{DATA_FILES, Data, read_data};
 pub use ending::{end, flush, tell};
-pub use reading::{LIMIT, read, read_all, read_whole};
+pub use reading::{LIMIT, open, read, read_whole};
 pub use unread::{CannotRead, Unread};
 
 #[cfg(test)]

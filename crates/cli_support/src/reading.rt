@@ -1,6 +1,6 @@
-//! Files, read whole.
+//! Files: read whole, or opened to be read piece by piece.
 
-ghost use Rattle.std.specs.Prelude.{◌≡◌, ◌<◌, ◌≤◌, ◌-◌, ◌^◌, All, IfOk, IfSome, IfNone, length, vec_len};
+ghost use Rattle.std.specs.Prelude.{◌≡◌, ◌<◌, ◌≤◌, ◌-◌, ◌^◌, IfOk, IfSome, IfNone, length, vec_len};
 
 use crate::unread::Unread;
 use std::alloc::Global;
@@ -43,14 +43,11 @@ fn open_and_read<R: Files + AllocGlobal>(rt: &R, path: &str) -> io::Result<Optio
     read_whole(rt.alloc(), File::open(rt, path)?, LIMIT)
 }
 
-/// The bytes of the files in order, or the first that can't be opened or read, or is too long.
-pub fn read_all<R: Files + AllocGlobal>(rt: &R, paths: &[&str]) -> Result<Vec<Vec<u8>>, Unread>
-    ensures each { IfOk result (λ files. vec_len files ≡ length paths.now) }
-    ensures within { IfOk result (λ files. All (λ bytes. vec_len bytes ≤ LIMIT) files.items) }
-{
-    let mut files = Vec::new(rt.alloc());
-    for path in paths {
-        files.push(read(rt, path)?)?;
+/// A file that can be opened, to be read from its front.
+pub fn open<R: Files + AllocGlobal>(rt: &R, path: &str) -> Result<R::File, Unread> {
+    match File::open(rt, path) {
+        Ok(file) => Ok(file),
+        Err(error) if error.kind() == ErrorKind::OutOfMemory => Err(Unread::Memory),
+        Err(_) => Err(Unread::ReadFailed(String::from_str(rt.alloc(), path)?)),
     }
-    Ok(files)
 }

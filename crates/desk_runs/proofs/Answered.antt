@@ -9,20 +9,20 @@ use Rattle.bg_types.specs.OperationSet.{OperationSet, size}
 use Rattle.bg_types.specs.Sink.{AppendsBeginning}
 use Rattle.bg_types.specs.declared.op.Op.{Op}
 use Rattle.op_codec.specs.declared.fault.CodecFault.TheVariants as codec
-use Rattle.op_codec.specs.Spelling.{Spells}
 use Rattle.rga_tree.specs.TextOf.{text}
 use Rattle.desk_replica.specs.declared.answer.TakeFault.{TakeFault}
 use Rattle.desk_replica.specs.declared.answer.TakeFault.TheVariants.{IdentifierReused, Full, Memory}
 use Rattle.desk_runs.specs.declared.run_fault.RunFault.{RunFault}
 use Rattle.desk_runs.specs.declared.run_fault.RunFault.TheVariants as run
 use Rattle.desk_replica.specs.Refusal.{IsFirstRefusal}
+use Rattle.desk_runs.specs.Reading.{IsReadAs}
 use Rattle.desk_runs.specs.Files.{joined, IsSetOfFiles, AreRefused}
 use Rattle.desk_runs.specs.Cause.{IsTakingCaused, IsReadCaused, step_fault_of}
 use Rattle.desk_runs.specs.TextOutcome.{IsTextOutcome}
 use Rattle.desk_runs.proofs.Spelled.{joined-split}
 use Rattle.desk_runs.proofs.Taking.{IsFirstRefusal-append}
 
-refused : (files : List (List ℕ)) (all : List (Vec Op)) (i : ℕ) (ops : Vec Op) (fault : TakeFault) → AllZip Spells files (each (λ o. o.items) all) → i < length all → ops ≡ get_or all i ops
+refused : (files : List (List ℕ)) (all : List (Vec Op)) (i : ℕ) (ops : Vec Op) (fault : TakeFault) → AllZip IsReadAs files (each (λ o. o.items) all) → i < length all → ops ≡ get_or all i ops
     → IsFirstRefusal (joined (each (λ o. o.items) (take i all)) ++ ops.items) fault → AreRefused files fault
 refused files all i ops fault spelled lt is first = record {
   lists = each (λ o. o.items) all;
@@ -31,7 +31,7 @@ refused files all i ops fault spelled lt is first = record {
 }
 
 -- an operation of list i is refused
-pub taking-refused : (files : List (List ℕ)) (all : List (Vec Op)) (i : ℕ) (ops : Vec Op) (fault : TakeFault) → AllZip Spells files (each (λ o. o.items) all) → i < length all → ops ≡ get_or all i ops
+pub taking-refused : (files : List (List ℕ)) (all : List (Vec Op)) (i : ℕ) (ops : Vec Op) (fault : TakeFault) → AllZip IsReadAs files (each (λ o. o.items) all) → i < length all → ops ≡ get_or all i ops
     → (fault ≡ Memory) ⊎ IsFirstRefusal (joined (each (λ o. o.items) (take i all)) ++ ops.items) fault → IsTakingCaused files (step_fault_of 0 1 fault)
 taking-refused files all i ops Memory spelled lt is first = tt
 taking-refused files all i ops IdentifierReused spelled lt is (inl memory) = absurd cc
@@ -51,6 +51,7 @@ taking-unread files run.Device h = h
 taking-unread files (run.PastEnd place) h = h
 taking-unread files (run.ReadFailed file) h = h
 taking-unread files run.Memory h = tt
+taking-unread files (run.TooLong n) h = h
 
 -- ---- what `text` writes
 

@@ -5,11 +5,11 @@ use Rattle.std.specs.Str.{chars}
 use Rattle.std.specs.Io.KnownBytes.{Appends}
 use Rattle.bg_types.specs.OperationSet.{OperationSet}
 use Rattle.ucd_files.specs.declared.fault.UcdFault.{UcdFault}
-use Rattle.op_codec.specs.declared.fault.Cause.{Cause}
 use Rattle.op_codec.specs.declared.fault.CodecFault.TheVariants as codec
 use Rattle.desk_replica.specs.declared.answer.TakeFault.{TakeFault}
 use Rattle.desk_runs.specs.declared.run_fault.RunFault.{RunFault}
-use Rattle.desk_runs.specs.declared.run_fault.RunFault.TheVariants.{Tables, File, Schedule, Step, Listing, PastEnd, Device, ReadFailed, Memory}
+use Rattle.desk_runs.specs.declared.run_fault.RunFault.TheVariants.{Tables, File, Schedule, Step, Listing, PastEnd, Device, ReadFailed, Memory, TooLong}
+use Rattle.desk_runs.specs.Reading.{Flaw, malformed, too_long, flaw_fault}
 use Rattle.desk_runs.specs.Files.{IsFaultyFile, AreRefused}
 use Rattle.desk_runs.specs.CaretsOutcome.{Asked, text_bytes, lines_over, IsRead, IsBeyondText, IsWalkCaused, IsCaretsOutcome, IsCaretsDecided}
 use Rattle.desk_runs.specs.OneOutcome.{HaveOneOutcome}
@@ -18,14 +18,14 @@ use Rattle.desk_runs.proofs.Decided.{one_of_two}
 -- why there are no lines
 data WalkFault (a : Asked) (fault : RunFault) : Type 0 where
   of_tables : (wrong : UcdFault) → fault ≡ Tables wrong → a.fault ≡ Some wrong → WalkFault a fault
-  of_file : (n frame : ℕ) (cause : Cause) → fault ≡ File n (codec.Malformed frame cause) → a.fault ≡ None → IsFaultyFile a.files n frame cause → WalkFault a fault
+  of_file : (n : ℕ) (flaw : Flaw) → fault ≡ flaw_fault n flaw → a.fault ≡ None → IsFaultyFile a.files n flaw → WalkFault a fault
   of_step : (refusal : TakeFault) → fault ≡ Step 0 1 refusal → a.fault ≡ None → AreRefused a.files refusal → WalkFault a fault
   of_place : fault ≡ PastEnd a.place → IsBeyondText a → WalkFault a fault
   of_memory : fault ≡ Memory → WalkFault a fault
 
 walk_fault : (a : Asked) (fault : RunFault) → IsWalkCaused a fault → WalkFault a fault
 walk_fault a (Tables fault) h = of_tables fault refl h
-walk_fault a (File n (codec.Malformed frame cause)) h = of_file n frame cause refl h.0 h.1
+walk_fault a (File n (codec.Malformed frame cause)) h = of_file n (malformed frame cause) refl h.0 h.1
 walk_fault a (File n codec.Memory) h = absurd h
 walk_fault a (Schedule line fault) h = absurd h
 walk_fault a (Step line desk fault) h = of_step fault (λ i. Step (h.1 i) (h.2 i) fault) h.0 h.3
@@ -34,6 +34,7 @@ walk_fault a (PastEnd place) h = of_place (ap PastEnd h.0) h.1
 walk_fault a Device h = absurd h
 walk_fault a (ReadFailed file) h = absurd h
 walk_fault a Memory h = of_memory refl
+walk_fault a (TooLong n) h = of_file n too_long refl h.0 h.1
 
 not_both : {fault : UcdFault} (o : Option UcdFault) → o ≡ Some fault → o ≡ None → ⊥
 not_both o some none = absurd cc
@@ -58,7 +59,7 @@ module _ (a : Asked) (outcome : HaveOneOutcome a.files) (old new : Option (List 
 
   not_walked : (fault : RunFault) (s : OperationSet) → WalkFault a fault → IsRead a s → a.place ≤ length (chars (text_bytes s)) → fault ≡ Memory
   not_walked fault s (of_tables wrong is h) read within = absurd (not_both a.fault h read.tables)
-  not_walked fault s (of_file n frame cause is none h) read within = absurd (outcome.spelled_or_faulty read.of_files.lists n frame cause read.of_files.spelled h)
+  not_walked fault s (of_file n flaw is none h) read within = absurd (outcome.spelled_or_faulty read.of_files.lists n flaw read.of_files.spelled h)
   not_walked fault s (of_step refusal is none h) read within = absurd (outcome.set_or_refusal s refusal read.of_files read.limited h)
   not_walked fault s (of_place is h) read within = absurd (apart s h.set read h.read within h.past)
   not_walked fault s (of_memory is) read within = is
@@ -71,7 +72,7 @@ module _ (a : Asked) (outcome : HaveOneOutcome a.files) (old new : Option (List 
 
   past_fault : (fault : RunFault) (s : OperationSet) → WalkFault a fault → IsRead a s → (fault ≡ PastEnd a.place) ⊎ (fault ≡ Memory)
   past_fault fault s (of_tables wrong is h) read = absurd (not_both a.fault h read.tables)
-  past_fault fault s (of_file n frame cause is none h) read = absurd (outcome.spelled_or_faulty read.of_files.lists n frame cause read.of_files.spelled h)
+  past_fault fault s (of_file n flaw is none h) read = absurd (outcome.spelled_or_faulty read.of_files.lists n flaw read.of_files.spelled h)
   past_fault fault s (of_step refusal is none h) read = absurd (outcome.set_or_refusal s refusal read.of_files read.limited h)
   past_fault fault s (of_place is h) read = inl is
   past_fault fault s (of_memory is) read = inr is
@@ -83,7 +84,7 @@ module _ (a : Asked) (outcome : HaveOneOutcome a.files) (old new : Option (List 
 
   tables_fault : (fault : RunFault) (wrong : UcdFault) → WalkFault a fault → a.fault ≡ Some wrong → (fault ≡ Tables wrong) ⊎ (fault ≡ Memory)
   tables_fault fault wrong (of_tables other is h) some = inl (is ∙ ap Tables (same_tables a.fault other wrong h some))
-  tables_fault fault wrong (of_file n frame cause is none h) some = absurd (not_both a.fault some none)
+  tables_fault fault wrong (of_file n flaw is none h) some = absurd (not_both a.fault some none)
   tables_fault fault wrong (of_step refusal is none h) some = absurd (not_both a.fault some none)
   tables_fault fault wrong (of_place is h) some = absurd (not_both a.fault some h.read.tables)
   tables_fault fault wrong (of_memory is) some = inr is
@@ -93,24 +94,24 @@ module _ (a : Asked) (outcome : HaveOneOutcome a.files) (old new : Option (List 
   tables (Err fault) (inl h) wrong some = one_of_two fault (Tables wrong) Memory (tables_fault fault wrong (walk_fault a fault h.0) some)
   tables (Err fault) (inr h) wrong some = absurd (not_both a.fault some h.2.read.tables)
 
-  file_fault : (fault : RunFault) (n frame : ℕ) (cause : Cause) → WalkFault a fault → a.fault ≡ None → IsFaultyFile a.files n frame cause → (fault ≡ File n (codec.Malformed frame cause)) ⊎ (fault ≡ Memory)
-  file_fault fault n frame cause (of_tables wrong is h) none faulty = absurd (not_both a.fault h none)
-  file_fault fault n frame cause (of_file m again other is sound h) none faulty =
-      let one = outcome.one_faulty m n again frame other cause h faulty in
-      inl (is ∙ (λ i. File (one.0 i) (codec.Malformed (one.1 i) (one.2 i))))
-  file_fault fault n frame cause (of_step refusal is sound h) none faulty = absurd (outcome.spelled_or_faulty h.lists n frame cause h.spelled faulty)
-  file_fault fault n frame cause (of_place is h) none faulty = absurd (outcome.spelled_or_faulty h.read.of_files.lists n frame cause h.read.of_files.spelled faulty)
-  file_fault fault n frame cause (of_memory is) none faulty = inr is
+  file_fault : (fault : RunFault) (n : ℕ) (flaw : Flaw) → WalkFault a fault → a.fault ≡ None → IsFaultyFile a.files n flaw → (fault ≡ flaw_fault n flaw) ⊎ (fault ≡ Memory)
+  file_fault fault n flaw (of_tables wrong is h) none faulty = absurd (not_both a.fault h none)
+  file_fault fault n flaw (of_file m other is sound h) none faulty =
+      let one = outcome.one_faulty m n other flaw h faulty in
+      inl (is ∙ (λ i. flaw_fault (one.0 i) (one.1 i)))
+  file_fault fault n flaw (of_step refusal is sound h) none faulty = absurd (outcome.spelled_or_faulty h.lists n flaw h.spelled faulty)
+  file_fault fault n flaw (of_place is h) none faulty = absurd (outcome.spelled_or_faulty h.read.of_files.lists n flaw h.read.of_files.spelled faulty)
+  file_fault fault n flaw (of_memory is) none faulty = inr is
 
-  faulty : (r : Result (Unit {0}) RunFault) → IsCaretsOutcome a old new failed r → (n frame : ℕ) (cause : Cause) → a.fault ≡ None → IsFaultyFile a.files n frame cause
-      → (r ≡ Err (File n (codec.Malformed frame cause))) ⊎ (r ≡ Err Memory)
-  faulty (Ok done) h n frame cause none wrong = absurd (outcome.spelled_or_faulty h.1.read.of_files.lists n frame cause h.1.read.of_files.spelled wrong)
-  faulty (Err fault) (inl h) n frame cause none wrong = one_of_two fault (File n (codec.Malformed frame cause)) Memory (file_fault fault n frame cause (walk_fault a fault h.0) none wrong)
-  faulty (Err fault) (inr h) n frame cause none wrong = absurd (outcome.spelled_or_faulty h.2.read.of_files.lists n frame cause h.2.read.of_files.spelled wrong)
+  faulty : (r : Result (Unit {0}) RunFault) → IsCaretsOutcome a old new failed r → (n : ℕ) (flaw : Flaw) → a.fault ≡ None → IsFaultyFile a.files n flaw
+      → (r ≡ Err (flaw_fault n flaw)) ⊎ (r ≡ Err Memory)
+  faulty (Ok done) h n flaw none wrong = absurd (outcome.spelled_or_faulty h.1.read.of_files.lists n flaw h.1.read.of_files.spelled wrong)
+  faulty (Err fault) (inl h) n flaw none wrong = one_of_two fault (flaw_fault n flaw) Memory (file_fault fault n flaw (walk_fault a fault h.0) none wrong)
+  faulty (Err fault) (inr h) n flaw none wrong = absurd (outcome.spelled_or_faulty h.2.read.of_files.lists n flaw h.2.read.of_files.spelled wrong)
 
   step_fault : (fault : RunFault) (refusal : TakeFault) → WalkFault a fault → a.fault ≡ None → AreRefused a.files refusal → (fault ≡ Step 0 1 refusal) ⊎ (fault ≡ Memory)
   step_fault fault refusal (of_tables wrong is h) none refused = absurd (not_both a.fault h none)
-  step_fault fault refusal (of_file n frame cause is sound h) none refused = absurd (outcome.spelled_or_faulty refused.lists n frame cause refused.spelled h)
+  step_fault fault refusal (of_file n flaw is sound h) none refused = absurd (outcome.spelled_or_faulty refused.lists n flaw refused.spelled h)
   step_fault fault refusal (of_step other is sound h) none refused = inl (is ∙ ap (λ f. Step 0 1 f) (outcome.one_refusal other refusal h refused))
   step_fault fault refusal (of_place is h) none refused = absurd (outcome.set_or_refusal h.set refusal h.read.of_files h.read.limited refused)
   step_fault fault refusal (of_memory is) none refused = inr is

@@ -1,5 +1,8 @@
 pub mod Spelled
 pub mod LowerLaws
+pub mod Flaws
+pub mod Feeding
+pub mod Readings
 pub mod Taking
 pub mod Answered
 pub mod OneCause

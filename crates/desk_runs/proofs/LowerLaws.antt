@@ -3,18 +3,16 @@ use Rattle.std.proofs.Common.{◌≡◌, ◌≤◌, ◌⊎◌, ℕ, List}
 use Rattle.std.specs.Prelude.{◌↔◌}
 use Rattle.bg_types.specs.OperationSet.{OperationSet, Holds, MayJoin, with_operation, size}
 use Rattle.bg_types.specs.declared.op.OpView.{OpView}
-use Rattle.op_codec.specs.declared.fault.Cause.{Cause}
-use Rattle.op_codec.specs.Spelling.{Spells}
-use Rattle.op_codec.specs.Fault.{IsFault}
 use Rattle.desk_replica.specs.declared.answer.TakeFault.{TakeFault}
 use Rattle.desk_replica.specs.SetOf.{IsSetOf}
 use Rattle.desk_replica.specs.Refusal.{IsFirstRefusal}
+use Rattle.desk_runs.specs.Reading.{IsReadAs, Flaw, IsFlawed}
 
--- a file spells one list of operations or has one first fault
+-- a file is read as one list of operations, or has one flaw
 pub record FileLaws : Type 0 where
-  pub one_list : (file : List ℕ) (a b : List OpView) → Spells file a → Spells file b → a ≡ b
-  pub never_both : (file : List ℕ) (ops : List OpView) (frame : ℕ) (cause : Cause) → Spells file ops → IsFault file frame cause → ⊥
-  pub one_fault : (file : List ℕ) (m n : ℕ) (c d : Cause) → IsFault file m c → IsFault file n d → (m ≡ n) × (c ≡ d)
+  pub one_list : (file : List ℕ) (a b : List OpView) → IsReadAs file a → IsReadAs file b → a ≡ b
+  pub never_both : (file : List ℕ) (ops : List OpView) (flaw : Flaw) → IsReadAs file ops → IsFlawed file flaw → ⊥
+  pub one_flaw : (file : List ℕ) (f g : Flaw) → IsFlawed file f → IsFlawed file g → f ≡ g
 
 -- a list of operations has one set, or one first refusal where the set is not within the limit
 pub record ListLaws : Type 0 where

@@ -3,28 +3,25 @@ use Rattle.std.proofs.Common.{◌≡◌, ℕ, suc, ◌+◌, ◌≤◌, List, [],
 use Rattle.std.specs.List.{AllZip}
 use Rattle.bg_types.specs.OperationSet.{OperationSet, size}
 use Rattle.bg_types.specs.declared.op.OpView.{OpView}
-use Rattle.op_codec.specs.declared.fault.Cause.{Cause}
-use Rattle.op_codec.specs.Spelling.{Spells}
-use Rattle.op_codec.specs.Fault.{IsFault}
 use Rattle.desk_replica.specs.declared.answer.TakeFault.{TakeFault}
 use Rattle.desk_replica.specs.SetOf.{IsSetOf}
 use Rattle.desk_replica.specs.Refusal.{IsFirstRefusal}
+use Rattle.desk_runs.specs.Reading.{IsReadAs, Flaw, IsFlawed}
 use Rattle.desk_runs.specs.Files.{joined, IsSetOfFiles, IsFaultyFile, AreRefused}
 use Rattle.desk_runs.proofs.LowerLaws.{FileLaws, ListLaws}
 
-spelled_one : (before after : List (List ℕ)) (file : List ℕ) (lists : List (List OpView)) → AllZip Spells (before ++ file ∷ after) lists → (ops : List OpView) × Spells file ops
+spelled_one : (before after : List (List ℕ)) (file : List ℕ) (lists : List (List OpView)) → AllZip IsReadAs (before ++ file ∷ after) lists → (ops : List OpView) × IsReadAs file ops
 spelled_one [] after file [] h = absurd h
 spelled_one [] after file (ops ∷ lists) h = (ops, h.0)
 spelled_one (x ∷ before) after file [] h = absurd h
 spelled_one (x ∷ before) after file (ops ∷ lists) h = spelled_one before after file lists h.1
 
-record AreOne (m n : ℕ) (frame again : ℕ) (cause other : Cause) : Type 0 where
+record AreOne (m n : ℕ) (f g : Flaw) : Type 0 where
   number : m ≡ n
-  frames : frame ≡ again
-  causes : cause ≡ other
+  flaws : f ≡ g
 
 module _ (codec : FileLaws) where
-  pub one_lists : (files : List (List ℕ)) (xs ys : List (List OpView)) → AllZip Spells files xs → AllZip Spells files ys → xs ≡ ys
+  pub one_lists : (files : List (List ℕ)) (xs ys : List (List OpView)) → AllZip IsReadAs files xs → AllZip IsReadAs files ys → xs ≡ ys
   one_lists [] [] [] a b = refl
   one_lists [] [] (y ∷ ys) a b = absurd b
   one_lists [] (x ∷ xs) ys a b = absurd a
@@ -34,37 +31,35 @@ module _ (codec : FileLaws) where
 
   -- ---- no set or refusal where a file is faulty
 
-  pub faulty_apart : (files : List (List ℕ)) (lists : List (List OpView)) (n frame : ℕ) (cause : Cause) → AllZip Spells files lists → IsFaultyFile files n frame cause → ⊥
-  faulty_apart files lists n frame cause spelled h =
-      let one = spelled_one h.before h.after h.file lists (subst (λ fs. AllZip Spells fs lists) h.in_order spelled) in
-      codec.never_both h.file one.0 frame cause one.1 h.shown
+  pub faulty_apart : (files : List (List ℕ)) (lists : List (List OpView)) (n : ℕ) (flaw : Flaw) → AllZip IsReadAs files lists → IsFaultyFile files n flaw → ⊥
+  faulty_apart files lists n flaw spelled h =
+      let one = spelled_one h.before h.after h.file lists (subst (λ fs. AllZip IsReadAs fs lists) h.in_order spelled) in
+      codec.never_both h.file one.0 flaw one.1 h.shown
 
   -- ---- one first faulty file
 
-  first_of_two : (before before' : List (List ℕ)) (file file' : List ℕ) (after after' : List (List ℕ)) (lists lists' : List (List OpView)) (frame frame' : ℕ) (cause cause' : Cause)
-      → before ++ file ∷ after ≡ before' ++ file' ∷ after' → AllZip Spells before lists → AllZip Spells before' lists' → IsFault file frame cause → IsFault file' frame' cause'
-      → AreOne (length before) (length before') frame frame' cause cause'
-  first_of_two [] [] file file' after after' lists lists' frame frame' cause cause' e a b p q =
+  first_of_two : (before before' : List (List ℕ)) (file file' : List ℕ) (after after' : List (List ℕ)) (lists lists' : List (List OpView)) (f g : Flaw)
+      → before ++ file ∷ after ≡ before' ++ file' ∷ after' → AllZip IsReadAs before lists → AllZip IsReadAs before' lists' → IsFlawed file f → IsFlawed file' g → AreOne (length before) (length before') f g
+  first_of_two [] [] file file' after after' lists lists' f g e a b p q =
       let same : file' ≡ file = cc in
-      let one = codec.one_fault file frame frame' cause cause' p (subst (λ f. IsFault f frame' cause') same q) in
-      record { number = refl; frames = one.0; causes = one.1 }
-  first_of_two [] (x ∷ before') file file' after after' lists [] frame frame' cause cause' e a b p q = absurd b
-  first_of_two [] (x ∷ before') file file' after after' lists (ops ∷ lists') frame frame' cause cause' e a b p q =
-      let same : x ≡ file = cc in absurd (codec.never_both file ops frame cause (subst (λ f. Spells f ops) same b.0) p)
-  first_of_two (x ∷ before) [] file file' after after' [] lists' frame frame' cause cause' e a b p q = absurd a
-  first_of_two (x ∷ before) [] file file' after after' (ops ∷ lists) lists' frame frame' cause cause' e a b p q =
-      let same : x ≡ file' = cc in absurd (codec.never_both file' ops frame' cause' (subst (λ f. Spells f ops) same a.0) q)
-  first_of_two (x ∷ before) (y ∷ before') file file' after after' [] lists' frame frame' cause cause' e a b p q = absurd a
-  first_of_two (x ∷ before) (y ∷ before') file file' after after' (ops ∷ lists) [] frame frame' cause cause' e a b p q = absurd b
-  first_of_two (x ∷ before) (y ∷ before') file file' after after' (ops ∷ lists) (ops' ∷ lists') frame frame' cause cause' e a b p q =
+      record { number = refl; flaws = codec.one_flaw file f g p (subst (λ x. IsFlawed x g) same q) }
+  first_of_two [] (x ∷ before') file file' after after' lists [] f g e a b p q = absurd b
+  first_of_two [] (x ∷ before') file file' after after' lists (ops ∷ lists') f g e a b p q =
+      let same : x ≡ file = cc in absurd (codec.never_both file ops f (subst (λ x. IsReadAs x ops) same b.0) p)
+  first_of_two (x ∷ before) [] file file' after after' [] lists' f g e a b p q = absurd a
+  first_of_two (x ∷ before) [] file file' after after' (ops ∷ lists) lists' f g e a b p q =
+      let same : x ≡ file' = cc in absurd (codec.never_both file' ops g (subst (λ x. IsReadAs x ops) same a.0) q)
+  first_of_two (x ∷ before) (y ∷ before') file file' after after' [] lists' f g e a b p q = absurd a
+  first_of_two (x ∷ before) (y ∷ before') file file' after after' (ops ∷ lists) [] f g e a b p q = absurd b
+  first_of_two (x ∷ before) (y ∷ before') file file' after after' (ops ∷ lists) (ops' ∷ lists') f g e a b p q =
       let rest : before ++ file ∷ after ≡ before' ++ file' ∷ after' = cc in
-      let one = first_of_two before before' file file' after after' lists lists' frame frame' cause cause' rest a.1 b.1 p q in
-      record { number = ap suc one.number; frames = one.frames; causes = one.causes }
+      let one = first_of_two before before' file file' after after' lists lists' f g rest a.1 b.1 p q in
+      record { number = ap suc one.number; flaws = one.flaws }
 
-  pub one_faulty : (files : List (List ℕ)) (m n frame again : ℕ) (cause other : Cause) → IsFaultyFile files m frame cause → IsFaultyFile files n again other → (m ≡ n) × (frame ≡ again) × (cause ≡ other)
-  one_faulty files m n frame again cause other a b =
-      let one = first_of_two a.before b.before a.file b.file a.after b.after a.lists b.lists frame again cause other (sym a.in_order ∙ b.in_order) a.spelled b.spelled a.shown b.shown in
-      (a.number ∙ ap (λ k. k + 1) one.number ∙ sym b.number, one.frames, one.causes)
+  pub one_faulty : (files : List (List ℕ)) (m n : ℕ) (f g : Flaw) → IsFaultyFile files m f → IsFaultyFile files n g → (m ≡ n) × (f ≡ g)
+  one_faulty files m n f g a b =
+      let one = first_of_two a.before b.before a.file b.file a.after b.after a.lists b.lists f g (sym a.in_order ∙ b.in_order) a.spelled b.spelled a.shown b.shown in
+      (a.number ∙ ap (λ k. k + 1) one.number ∙ sym b.number, one.flaws)
 
   -- ---- one set, or one first refusal
 

@@ -6,10 +6,10 @@ use Rattle.std.proofs.KnownBytes.{Keeps-refl}
 use Rattle.bg_types.specs.OperationSet.{OperationSet}
 use Rattle.bg_types.specs.declared.op.OpView.{OpView}
 use Rattle.op_codec.specs.declared.fault.CodecFault.TheVariants as codec
-use Rattle.op_codec.specs.Spelling.{Spells}
 use Rattle.desk_runs.specs.declared.run_fault.RunFault.{RunFault}
-use Rattle.desk_runs.specs.declared.run_fault.RunFault.TheVariants.{Tables, File, Schedule, Step, Listing, Device, PastEnd, ReadFailed, Memory}
+use Rattle.desk_runs.specs.declared.run_fault.RunFault.TheVariants.{Tables, File, Schedule, Step, Listing, Device, PastEnd, ReadFailed, Memory, TooLong}
 use Rattle.desk_runs.specs.declared.schedule.step.Numbered.{Numbered}
+use Rattle.desk_runs.specs.Reading.{IsReadAs}
 use Rattle.desk_runs.specs.Cause.{IsTablesCaused, IsReadCaused}
 use Rattle.desk_replica.specs.DeskSets.{empty_desks}
 use Rattle.desk_runs.specs.Shows.{IsStepsOutcome}
@@ -44,6 +44,7 @@ module _ (g : Given) where
   tables_unread (PastEnd place) h = h
   tables_unread (ReadFailed file) h = h
   tables_unread Memory h = tt
+  tables_unread (TooLong file) h = absurd h
 
   files_unread : (fault : RunFault) → g.fault ≡ None → IsReadCaused g.files fault → IsUnread g fault
   files_unread (Tables fault) none h = absurd h
@@ -56,6 +57,7 @@ module _ (g : Given) where
   files_unread (PastEnd place) none h = h
   files_unread (ReadFailed file) none h = h
   files_unread Memory none h = tt
+  files_unread (TooLong n) none h = (none, h)
 
   module _ (old : Option (List ℕ)) (failed : Bool) (working : failed ≡ false) where
     pub ended_by_tables : (fault : RunFault) → IsTablesCaused g.fault fault → IsReplayOutcome g old old failed (Err fault)
@@ -64,7 +66,7 @@ module _ (g : Given) where
     pub ended_by_files : (fault : RunFault) → g.fault ≡ None → IsReadCaused g.files fault → IsReplayOutcome g old old failed (Err fault)
     ended_by_files fault none h = inl (files_unread fault none h, (working, Keeps-refl old))
 
-module _ (g : Given) (files : List (List OpView)) (none : g.fault ≡ None) (spelled : AllZip Spells g.files files) (old new : Option (List ℕ)) (failed : Bool) where
+module _ (g : Given) (files : List (List OpView)) (none : g.fault ≡ None) (spelled : AllZip IsReadAs g.files files) (old new : Option (List ℕ)) (failed : Bool) where
   plan_unread_is : (fault : RunFault) → IsUnplanned files g.schedule fault → IsUnread g fault
   plan_unread_is (Tables fault) h = absurd h
   plan_unread_is (File n fault) h = absurd h
@@ -75,6 +77,7 @@ module _ (g : Given) (files : List (List OpView)) (none : g.fault ≡ None) (spe
   plan_unread_is (PastEnd place) h = h
   plan_unread_is (ReadFailed file) h = h
   plan_unread_is Memory h = tt
+  plan_unread_is (TooLong file) h = absurd h
 
   pub plan_of_run : (r : Result (Unit {0}) RunFault) → IsPlanOutcome (print_of g) files g.schedule old new failed r → IsReplayOutcome g old new failed r
   plan_of_run (Ok done) h = (

@@ -5,16 +5,15 @@ use Rattle.std.specs.List.{AllZip}
 use Rattle.std.specs.Io.KnownBytes.{Appends}
 use Rattle.bg_types.specs.OperationSet.{OperationSet}
 use Rattle.bg_types.specs.declared.op.OpView.{OpView}
-use Rattle.op_codec.specs.declared.fault.Cause.{Cause}
 use Rattle.op_codec.specs.declared.fault.CodecFault.TheVariants as codec
-use Rattle.op_codec.specs.Spelling.{Spells}
 use Rattle.ucd_files.specs.declared.fault.UcdFault.{UcdFault}
 use Rattle.desk_replica.specs.declared.answer.TakeFault.{TakeFault}
 use Rattle.desk_replica.specs.DeskSets.{empty_desks}
 use Rattle.desk_runs.specs.declared.schedule_fault.ScheduleFault.{ScheduleFault}
 use Rattle.desk_runs.specs.declared.run_fault.RunFault.{RunFault}
-use Rattle.desk_runs.specs.declared.run_fault.RunFault.TheVariants.{Tables, File, Schedule, Step, Listing, Device, PastEnd, ReadFailed, Memory}
+use Rattle.desk_runs.specs.declared.run_fault.RunFault.TheVariants.{Tables, File, Schedule, Step, Listing, Device, PastEnd, ReadFailed, Memory, TooLong}
 use Rattle.desk_runs.specs.declared.schedule.step.Numbered.{Numbered}
+use Rattle.desk_runs.specs.Reading.{IsReadAs, Flaw, malformed, too_long, flaw_fault}
 use Rattle.desk_runs.specs.Files.{IsFaultyFile}
 use Rattle.desk_runs.specs.Steps.{FirstRefused}
 use Rattle.desk_runs.specs.Shows.{IsStepsEnd}
@@ -27,13 +26,13 @@ use Rattle.desk_runs.proofs.OneRefusal.{RefusalLaws, refused_apart, one_refusal}
 -- why not all could be read
 data UnreadFault (g : Given) (fault : RunFault) : Type 0 where
   of_tables : (wrong : UcdFault) → fault ≡ Tables wrong → g.fault ≡ Some wrong → UnreadFault g fault
-  of_file : (n frame : ℕ) (cause : Cause) → fault ≡ File n (codec.Malformed frame cause) → g.fault ≡ None → IsFaultyFile g.files n frame cause → UnreadFault g fault
+  of_file : (n : ℕ) (flaw : Flaw) → fault ≡ flaw_fault n flaw → g.fault ≡ None → IsFaultyFile g.files n flaw → UnreadFault g fault
   of_schedule : (line : ℕ) (wrong : ScheduleFault) → fault ≡ Schedule line wrong → IsFaultySchedule g line wrong → UnreadFault g fault
   of_memory : fault ≡ Memory → UnreadFault g fault
 
 unread_fault : (g : Given) (fault : RunFault) → IsUnread g fault → UnreadFault g fault
 unread_fault g (Tables fault) h = of_tables fault refl h
-unread_fault g (File n (codec.Malformed frame cause)) h = of_file n frame cause refl h.0 h.1
+unread_fault g (File n (codec.Malformed frame cause)) h = of_file n (malformed frame cause) refl h.0 h.1
 unread_fault g (File n codec.Memory) h = absurd h
 unread_fault g (Schedule line fault) h = of_schedule line fault refl h
 unread_fault g (Step line desk fault) h = absurd h
@@ -42,6 +41,7 @@ unread_fault g (PastEnd place) h = absurd h
 unread_fault g Device h = absurd h
 unread_fault g (ReadFailed file) h = absurd h
 unread_fault g Memory h = of_memory refl
+unread_fault g (TooLong n) h = of_file n too_long refl h.0 h.1
 
 -- why steps ended early
 data StepsFault (files : List (List OpView)) (sets : List OperationSet) (steps : List Numbered) (failed : Bool) (fault : RunFault) : Type 0 where
@@ -59,6 +59,7 @@ steps_fault print files sets steps old new failed (Listing line fault) h = absur
 steps_fault print files sets steps old new failed Device h = of_device refl h.0
 steps_fault print files sets steps old new failed (PastEnd place) h = absurd h
 steps_fault print files sets steps old new failed (ReadFailed file) h = absurd h
+steps_fault print files sets steps old new failed (TooLong file) h = absurd h
 steps_fault print files sets steps old new failed Memory h = of_want refl h.0
 
 same_tables : (o : Option UcdFault) (f g : UcdFault) → o ≡ Some f → o ≡ Some g → f ≡ g
@@ -67,17 +68,17 @@ same_tables o f g a b = cc
 module _ (schedules : ScheduleLaws) (refusals : RefusalLaws) (g : Given) (outcome : HaveOneOutcome g.files) (old new : Option (List ℕ)) (failed : Bool) where
   -- ---- the lists that the files spell and the steps of their plan are one
 
-  moved : (files lists : List (List OpView)) (steps : List Numbered) (a : AllZip Spells g.files files) (b : AllZip Spells g.files lists) → IsPlan files g.schedule steps → IsPlan lists g.schedule steps
+  moved : (files lists : List (List OpView)) (steps : List Numbered) (a : AllZip IsReadAs g.files files) (b : AllZip IsReadAs g.files lists) → IsPlan files g.schedule steps → IsPlan lists g.schedule steps
   moved files lists steps a b h = subst (λ (fs : List (List OpView)). IsPlan fs g.schedule steps) (outcome.one_list files lists a b) h
 
-  first_moved : (files lists : List (List OpView)) (steps others : List Numbered) (line desk : ℕ) (fault : TakeFault) → AllZip Spells g.files files → AllZip Spells g.files lists → IsPlan files g.schedule steps → IsPlan lists g.schedule others
+  first_moved : (files lists : List (List OpView)) (steps others : List Numbered) (line desk : ℕ) (fault : TakeFault) → AllZip IsReadAs g.files files → AllZip IsReadAs g.files lists → IsPlan files g.schedule steps → IsPlan lists g.schedule others
       → FirstRefused files (empty_desks (length files)) steps line desk fault → FirstRefused lists (empty_desks (length lists)) others line desk fault
   first_moved files lists steps others line desk fault a b p q h =
       let same = one_plan lists g.schedule steps others (moved files lists steps a b p) q in
       subst (λ (ss : List Numbered). FirstRefused lists (empty_desks (length lists)) ss line desk fault) same
       (subst (λ (fs : List (List OpView)). FirstRefused fs (empty_desks (length fs)) steps line desk fault) (outcome.one_list files lists a b) h)
 
-  plan_wrong : (files lists : List (List OpView)) (steps : List Numbered) (line : ℕ) (fault : ScheduleFault) → AllZip Spells g.files files → AllZip Spells g.files lists → IsPlan files g.schedule steps → IsFaultyPlan lists g.schedule line fault → ⊥
+  plan_wrong : (files lists : List (List OpView)) (steps : List Numbered) (line : ℕ) (fault : ScheduleFault) → AllZip IsReadAs g.files files → AllZip IsReadAs g.files lists → IsPlan files g.schedule steps → IsFaultyPlan lists g.schedule line fault → ⊥
   plan_wrong files lists steps line fault a b planned wrong = plan_apart schedules lists g.schedule steps line fault (moved files lists steps a b planned) wrong
 
   ended : (fault : RunFault) (h : EndsInSteps g old new failed fault) → StepsFault h.files (empty_desks (length h.files)) h.steps failed fault
@@ -87,7 +88,8 @@ module _ (schedules : ScheduleLaws) (refusals : RefusalLaws) (g : Given) (outcom
 
   unread_device : (fault : RunFault) → UnreadFault g fault → fault ≡ Device → ⊥
   unread_device fault (of_tables wrong is h) device = absurd cc
-  unread_device fault (of_file n frame cause is none h) device = absurd cc
+  unread_device fault (of_file n (malformed frame cause) is none h) device = absurd cc
+  unread_device fault (of_file n too_long is none h) device = absurd cc
   unread_device fault (of_schedule line wrong is h) device = absurd cc
   unread_device fault (of_memory is) device = absurd cc
 
@@ -107,7 +109,7 @@ module _ (schedules : ScheduleLaws) (refusals : RefusalLaws) (g : Given) (outcom
 
   unread_apart : (fault : RunFault) (files : List (List OpView)) (steps : List Numbered) → UnreadFault g fault → IsUnrefused g files steps → fault ≡ Memory
   unread_apart fault files steps (of_tables wrong is h) run = absurd (some_apart g.fault wrong run.ready.tables h)
-  unread_apart fault files steps (of_file n frame cause is none h) run = absurd (outcome.spelled_or_faulty files n frame cause run.ready.spelled h)
+  unread_apart fault files steps (of_file n flaw is none h) run = absurd (outcome.spelled_or_faulty files n flaw run.ready.spelled h)
   unread_apart fault files steps (of_schedule line wrong is h) run = absurd (plan_wrong files h.files steps line wrong run.ready.spelled h.spelled run.ready.planned h.shown)
   unread_apart fault files steps (of_memory is) run = is
 
@@ -133,7 +135,7 @@ module _ (schedules : ScheduleLaws) (refusals : RefusalLaws) (g : Given) (outcom
 
   tables_fault : (fault : RunFault) (wrong : UcdFault) → UnreadFault g fault → g.fault ≡ Some wrong → (fault ≡ Tables wrong) ⊎ (fault ≡ Memory)
   tables_fault fault wrong (of_tables other is h) some = inl (is ∙ ap Tables (same_tables g.fault other wrong h some))
-  tables_fault fault wrong (of_file n frame cause is none h) some = absurd (some_apart g.fault wrong none some)
+  tables_fault fault wrong (of_file n flaw is none h) some = absurd (some_apart g.fault wrong none some)
   tables_fault fault wrong (of_schedule line other is h) some = absurd (some_apart g.fault wrong h.tables some)
   tables_fault fault wrong (of_memory is) some = inr is
 
@@ -144,25 +146,25 @@ module _ (schedules : ScheduleLaws) (refusals : RefusalLaws) (g : Given) (outcom
 
   -- an operation file is faulty
 
-  file_fault : (fault : RunFault) (n frame : ℕ) (cause : Cause) → UnreadFault g fault → g.fault ≡ None → IsFaultyFile g.files n frame cause → (fault ≡ File n (codec.Malformed frame cause)) ⊎ (fault ≡ Memory)
-  file_fault fault n frame cause (of_tables wrong is h) none faulty = absurd (some_apart g.fault wrong none h)
-  file_fault fault n frame cause (of_file m again other is sound h) none faulty =
-      let one = outcome.one_faulty m n again frame other cause h faulty in
-      inl (is ∙ (λ i. File (one.0 i) (codec.Malformed (one.1 i) (one.2 i))))
-  file_fault fault n frame cause (of_schedule line wrong is h) none faulty = absurd (outcome.spelled_or_faulty h.files n frame cause h.spelled faulty)
-  file_fault fault n frame cause (of_memory is) none faulty = inr is
+  file_fault : (fault : RunFault) (n : ℕ) (flaw : Flaw) → UnreadFault g fault → g.fault ≡ None → IsFaultyFile g.files n flaw → (fault ≡ flaw_fault n flaw) ⊎ (fault ≡ Memory)
+  file_fault fault n flaw (of_tables wrong is h) none faulty = absurd (some_apart g.fault wrong none h)
+  file_fault fault n flaw (of_file m other is sound h) none faulty =
+      let one = outcome.one_faulty m n other flaw h faulty in
+      inl (is ∙ (λ i. flaw_fault (one.0 i) (one.1 i)))
+  file_fault fault n flaw (of_schedule line wrong is h) none faulty = absurd (outcome.spelled_or_faulty h.files n flaw h.spelled faulty)
+  file_fault fault n flaw (of_memory is) none faulty = inr is
 
-  faulty : (r : Result (Unit {0}) RunFault) → IsReplayOutcome g old new failed r → (n frame : ℕ) (cause : Cause) → g.fault ≡ None → IsFaultyFile g.files n frame cause
-      → (r ≡ Err (File n (codec.Malformed frame cause))) ⊎ (r ≡ Err Memory)
-  faulty (Ok done) h n frame cause none wrong = absurd (outcome.spelled_or_faulty h.1.files n frame cause h.1.unrefused.ready.spelled wrong)
-  faulty (Err fault) (inl h) n frame cause none wrong = one_of_two fault (File n (codec.Malformed frame cause)) Memory (file_fault fault n frame cause (unread_fault g fault h.0) none wrong)
-  faulty (Err fault) (inr h) n frame cause none wrong = absurd (outcome.spelled_or_faulty h.files n frame cause h.ready.spelled wrong)
+  faulty : (r : Result (Unit {0}) RunFault) → IsReplayOutcome g old new failed r → (n : ℕ) (flaw : Flaw) → g.fault ≡ None → IsFaultyFile g.files n flaw
+      → (r ≡ Err (flaw_fault n flaw)) ⊎ (r ≡ Err Memory)
+  faulty (Ok done) h n flaw none wrong = absurd (outcome.spelled_or_faulty h.1.files n flaw h.1.unrefused.ready.spelled wrong)
+  faulty (Err fault) (inl h) n flaw none wrong = one_of_two fault (flaw_fault n flaw) Memory (file_fault fault n flaw (unread_fault g fault h.0) none wrong)
+  faulty (Err fault) (inr h) n flaw none wrong = absurd (outcome.spelled_or_faulty h.files n flaw h.ready.spelled wrong)
 
   -- a line of the schedule is faulty
 
   schedule_fault : (fault : RunFault) (line : ℕ) (wrong : ScheduleFault) → UnreadFault g fault → IsFaultySchedule g line wrong → (fault ≡ Schedule line wrong) ⊎ (fault ≡ Memory)
   schedule_fault fault line wrong (of_tables other is h) faulty = absurd (some_apart g.fault other faulty.tables h)
-  schedule_fault fault line wrong (of_file n frame cause is none h) faulty = absurd (outcome.spelled_or_faulty faulty.files n frame cause faulty.spelled h)
+  schedule_fault fault line wrong (of_file n flaw is none h) faulty = absurd (outcome.spelled_or_faulty faulty.files n flaw faulty.spelled h)
   schedule_fault fault line wrong (of_schedule at other is h) faulty =
       let there = subst (λ (fs : List (List OpView)). IsFaultyPlan fs g.schedule at other) (outcome.one_list h.files faulty.files h.spelled faulty.spelled) h.shown in
       let one = one_faulty_plan schedules faulty.files g.schedule at line other wrong there faulty.shown in
@@ -178,7 +180,7 @@ module _ (schedules : ScheduleLaws) (refusals : RefusalLaws) (g : Given) (outcom
 
   unread_refused : (fault : RunFault) (line desk : ℕ) (refusal : TakeFault) → UnreadFault g fault → IsRefused g line desk refusal → fault ≡ Memory
   unread_refused fault line desk refusal (of_tables wrong is h) run = absurd (some_apart g.fault wrong run.ready.tables h)
-  unread_refused fault line desk refusal (of_file n frame cause is none h) run = absurd (outcome.spelled_or_faulty run.files n frame cause run.ready.spelled h)
+  unread_refused fault line desk refusal (of_file n flaw is none h) run = absurd (outcome.spelled_or_faulty run.files n flaw run.ready.spelled h)
   unread_refused fault line desk refusal (of_schedule at wrong is h) run = absurd (plan_wrong run.files h.files run.steps at wrong run.ready.spelled h.spelled run.ready.planned h.shown)
   unread_refused fault line desk refusal (of_memory is) run = is
 

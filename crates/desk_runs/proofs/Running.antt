@@ -93,6 +93,7 @@ module _ (print : List ℕ → List ℕ) (files : List (List OpView)) where
     )
     end_then ys new failed (run.PastEnd place) h = h
     end_then ys new failed (run.ReadFailed file) h = h
+    end_then ys new failed (run.TooLong file) h = h
     end_then ys new failed run.Memory h = (
       h.0,
       record {
@@ -146,6 +147,7 @@ module _ (print : List ℕ → List ℕ) (files : List (List OpView)) where
   )
   end_before sets xs ys old new failed (run.PastEnd place) h = h
   end_before sets xs ys old new failed (run.ReadFailed file) h = h
+  end_before sets xs ys old new failed (run.TooLong file) h = h
   end_before sets xs ys old new failed run.Memory h = (
     h.0,
     record {
@@ -209,6 +211,7 @@ module _ (print : List ℕ → List ℕ) (files : List (List OpView)) where
   )
   shown_is sets at old new failed bytes (Err (run.PastEnd place)) accepted same is h = h
   shown_is sets at old new failed bytes (Err (run.ReadFailed file)) accepted same is h = h
+  shown_is sets at old new failed bytes (Err (run.TooLong file)) accepted same is h = h
   shown_is sets at old new failed bytes (Err run.Memory) accepted same is h = (h.0, record { before = []; later = at ∷ []; in_order = refl; none_refused = tt; written = h.1 })
 
 -- ---- a list of steps, gone through one by one

@@ -8,7 +8,7 @@ use Rattle.ucd_files.specs.Tables.{TableValues}
 use Rattle.cell_grid.specs.Grids.{grid_of}
 use Rattle.op_codec.specs.declared.fault.CodecFault.TheVariants as codec
 use Rattle.desk_runs.specs.declared.run_fault.RunFault.{RunFault}
-use Rattle.desk_runs.specs.declared.run_fault.RunFault.TheVariants.{Tables, File, Schedule, Step, Listing, PastEnd, Device, ReadFailed, Memory}
+use Rattle.desk_runs.specs.declared.run_fault.RunFault.TheVariants.{Tables, File, Schedule, Step, Listing, PastEnd, Device, ReadFailed, Memory, TooLong}
 use Rattle.desk_runs.specs.Cause.{IsTablesCaused, IsTakingCaused, IsUnwalked}
 use Rattle.desk_runs.specs.Carets.{walk_lines}
 use Rattle.desk_runs.specs.CaretsOutcome.{Asked, lines_over, IsTextOfFiles, IsWalked, IsWalkCaused, IsCaretsOutcome}
@@ -25,6 +25,7 @@ module _ (a : Asked) where
   tables_walk Device h = h
   tables_walk (ReadFailed file) h = h
   tables_walk Memory h = tt
+  tables_walk (TooLong file) h = absurd h
 
   pub files_walk : (fault : RunFault) → a.fault ≡ None → IsTakingCaused a.files fault → IsWalkCaused a fault
   files_walk (Tables fault) none h = absurd h
@@ -37,6 +38,7 @@ module _ (a : Asked) where
   files_walk Device none h = h
   files_walk (ReadFailed file) none h = h
   files_walk Memory none h = tt
+  files_walk (TooLong n) none h = (none, h)
 
   text_walk : (fault : RunFault) (bytes : List ℕ) → a.fault ≡ None → IsTextOfFiles a.files bytes → IsUnwalked bytes a.place fault → IsWalkCaused a fault
   text_walk (Tables fault) bytes none read h = absurd h
@@ -56,6 +58,7 @@ module _ (a : Asked) where
   text_walk Device bytes none read h = h
   text_walk (ReadFailed file) bytes none read h = h
   text_walk Memory bytes none read h = tt
+  text_walk (TooLong file) bytes none read h = absurd h
 
   pub err_walk : {A : Type 0} (r : Result A RunFault) (bytes : List ℕ) → a.fault ≡ None → IsTextOfFiles a.files bytes → IfErr r (IsUnwalked bytes a.place) → IfErr r (IsWalkCaused a)
   err_walk (Ok x) bytes none read h = tt

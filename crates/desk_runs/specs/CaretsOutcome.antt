@@ -1,6 +1,5 @@
 -- What a run of `carets` is given, and what it writes and answers.
 use Rattle.std.specs.Prelude.{◌≡◌, ◌<◌, ◌≤◌, ◌⊎◌, ◌↔◌, true, false, Bool, ℕ, List, length, Option, Some, None, Result, Ok, Err, MatchResult, encode_utf8_all}
-use Rattle.std.specs.Global.{Vec}
 use Rattle.std.specs.Str.{chars}
 use Rattle.std.specs.Io.KnownBytes.{Appends}
 use Rattle.bg_types.specs.OperationSet.{OperationSet, size}
@@ -10,16 +9,17 @@ use Rattle.ucd_files.specs.declared.fault.UcdFault.{UcdFault}
 use Rattle.ucd_files.specs.Tables.{TableValues}
 use Rattle.ucd_files.specs.Ucd.{tables_of_ucd, fault_of_ucd}
 use Rattle.ucd_files.specs.declared.files.Ucd.{Ucd}
-use Rattle.op_codec.specs.declared.fault.Cause.{Cause}
 use Rattle.op_codec.specs.declared.fault.CodecFault.TheVariants as codec
 use Rattle.rga_tree.specs.TextOf.{text}
 use Rattle.desk_replica.specs.declared.answer.TakeFault.{TakeFault}
 use Rattle.cell_grid.specs.Grids.{grid_of}
 use Rattle.desk_runs.specs.declared.run_fault.RunFault.{RunFault}
-use Rattle.desk_runs.specs.declared.run_fault.RunFault.TheVariants.{Tables, File, Schedule, Step, Listing, PastEnd, Device, ReadFailed, Memory}
+use Rattle.desk_runs.specs.declared.run_fault.RunFault.TheVariants.{Tables, File, Schedule, Step, Listing, PastEnd, Device, ReadFailed, Memory, TooLong}
 use Rattle.desk_runs.specs.declared.engine.carets.Move.{Move}
 use Rattle.desk_runs.specs.Carets.{walk_lines}
-use Rattle.desk_runs.specs.Files.{bytes_of, IsSetOfFiles, IsFaultyFile, AreRefused}
+use Rattle.desk_runs.specs.Reading.{Flaw, malformed, too_long, flaw_fault}
+use Rattle.desk_runs.specs.Readers.{IsRunOver}
+use Rattle.desk_runs.specs.Files.{IsSetOfFiles, IsFaultyFile, AreRefused}
 use Rattle.desk_runs.specs.Written.{IsSilent}
 
 -- what a run is given: the first fault of its data files, if any, what they say of each code point, the width in columns,
@@ -33,13 +33,13 @@ pub record Asked : Type 0 where
   pub place : ℕ
   pub moves : List Move
 
-abbrev pub asked : Ucd → ℕ → Base → List (Vec ℕ) → ℕ → List Move → Asked
+abbrev pub asked : Ucd → ℕ → Base → List (List ℕ) → ℕ → List Move → Asked
 asked ucd width base files place moves = record {
   fault = fault_of_ucd ucd;
   tables = tables_of_ucd ucd;
   width = width;
   base = base;
-  files = bytes_of files;
+  files = files;
   place = place;
   moves = moves;
 }
@@ -96,7 +96,7 @@ pub record IsBeyondText (a : Asked) : Type 0 where
 -- schedule, which is line 0, else the place. Want of memory has no cause
 abbrev pub IsWalkCaused : Asked → RunFault → Type 0
 IsWalkCaused a (Tables fault) = a.fault ≡ Some fault
-IsWalkCaused a (File n (codec.Malformed frame cause)) = (a.fault ≡ None) × IsFaultyFile a.files n frame cause
+IsWalkCaused a (File n (codec.Malformed frame cause)) = (a.fault ≡ None) × IsFaultyFile a.files n (malformed frame cause)
 IsWalkCaused a (File n codec.Memory) = ⊥
 IsWalkCaused a (Schedule line fault) = ⊥
 IsWalkCaused a (Step line desk fault) = (a.fault ≡ None) × (line ≡ 0) × (desk ≡ 1) × AreRefused a.files fault
@@ -104,6 +104,7 @@ IsWalkCaused a (Listing line fault) = ⊥
 IsWalkCaused a (PastEnd place) = (place ≡ a.place) × IsBeyondText a
 IsWalkCaused a Device = ⊥
 IsWalkCaused a (ReadFailed file) = ⊥
+IsWalkCaused a (TooLong n) = (a.fault ≡ None) × IsFaultyFile a.files n too_long
 IsWalkCaused a Memory = Unit {0}
 
 -- the outcome of a run, by its answer: the lines are written; or nothing, where there are none; or a beginning of them, for a
@@ -113,6 +114,11 @@ IsCaretsOutcome a old new failed (Ok done) = (failed ≡ false) × WritesLines a
 IsCaretsOutcome a old new failed (Err fault) =
     (IsWalkCaused a fault × IsSilent old new failed) ⊎ ((fault ≡ Device) × (failed ≡ true) × WritesLinesBeginning a old new)
 
+-- the outcome of a run over readers, by what is still to come of each and which have failed, where the files that they tell are
+-- asked in this way
+abbrev pub IsCaretsOutcomeOver : (readers : List (Option (List ℕ))) (lost : List Bool) → (List (List ℕ) → Asked) → (old new : Option (List ℕ)) (failed : Bool) → Result (Unit {0}) RunFault → Type 0
+IsCaretsOutcomeOver readers lost asks old new failed result = IsRunOver readers lost (IsSilent old new failed) (λ files. IsCaretsOutcome (asks files) old new failed) result
+
 -- which answer the data has, unless memory runs out, or a write of the lines fails
 pub record IsCaretsDecided (a : Asked) (old new : Option (List ℕ)) (failed : Bool) (result : Result (Unit {0}) RunFault) : Type 0 where
   pub device : (failed ≡ true) ↔ (result ≡ Err Device)
@@ -121,7 +127,6 @@ pub record IsCaretsDecided (a : Asked) (old new : Option (List ℕ)) (failed : B
   pub past : (s : OperationSet) → IsRead a s → length (chars (text_bytes s)) < a.place
       → (result ≡ Err (PastEnd a.place)) ⊎ (result ≡ Err Memory)
   pub tables : (fault : UcdFault) → a.fault ≡ Some fault → (result ≡ Err (Tables fault)) ⊎ (result ≡ Err Memory)
-  pub faulty : (n frame : ℕ) (cause : Cause) → a.fault ≡ None → IsFaultyFile a.files n frame cause
-      → (result ≡ Err (File n (codec.Malformed frame cause))) ⊎ (result ≡ Err Memory)
+  pub faulty : (n : ℕ) (flaw : Flaw) → a.fault ≡ None → IsFaultyFile a.files n flaw → (result ≡ Err (flaw_fault n flaw)) ⊎ (result ≡ Err Memory)
   pub refused : (fault : TakeFault) → a.fault ≡ None → AreRefused a.files fault
       → (result ≡ Err (Step 0 1 fault)) ⊎ (result ≡ Err Memory)

@@ -7,7 +7,8 @@ use Rattle.op_codec.specs.declared.fault.CodecFault.TheVariants as codec
 use Rattle.desk_replica.specs.declared.answer.TakeFault.{TakeFault}
 use Rattle.desk_replica.specs.declared.answer.TakeFault.TheVariants as take
 use Rattle.desk_runs.specs.declared.run_fault.RunFault.{RunFault}
-use Rattle.desk_runs.specs.declared.run_fault.RunFault.TheVariants.{Tables, File, Schedule, Step, Listing, Device, PastEnd, ReadFailed, Memory}
+use Rattle.desk_runs.specs.declared.run_fault.RunFault.TheVariants.{Tables, File, Schedule, Step, Listing, Device, PastEnd, ReadFailed, Memory, TooLong}
+use Rattle.desk_runs.specs.Reading.{malformed, too_long}
 use Rattle.desk_runs.specs.Files.{IsFaultyFile, AreRefused}
 
 -- ---- what is read before the first step
@@ -22,12 +23,13 @@ IsTablesCaused first (Listing line fault) = ⊥
 IsTablesCaused first Device = ⊥
 IsTablesCaused first (PastEnd place) = ⊥
 IsTablesCaused first (ReadFailed file) = ⊥
+IsTablesCaused first (TooLong file) = ⊥
 IsTablesCaused first Memory = Unit {0}
 
 -- the first faulty file
 abbrev pub IsReadCaused : List (List ℕ) → RunFault → Type 0
 IsReadCaused files (Tables fault) = ⊥
-IsReadCaused files (File n (codec.Malformed frame cause)) = IsFaultyFile files n frame cause
+IsReadCaused files (File n (codec.Malformed frame cause)) = IsFaultyFile files n (malformed frame cause)
 IsReadCaused files (File n codec.Memory) = ⊥
 IsReadCaused files (Schedule line fault) = ⊥
 IsReadCaused files (Step line desk fault) = ⊥
@@ -35,6 +37,7 @@ IsReadCaused files (Listing line fault) = ⊥
 IsReadCaused files Device = ⊥
 IsReadCaused files (PastEnd place) = ⊥
 IsReadCaused files (ReadFailed file) = ⊥
+IsReadCaused files (TooLong n) = IsFaultyFile files n too_long
 IsReadCaused files Memory = Unit {0}
 
 -- ---- one desk that takes the operations of all files
@@ -42,7 +45,7 @@ IsReadCaused files Memory = Unit {0}
 -- the first faulty file, or a refused operation: a step of desk 1 without a schedule, which is line 0
 abbrev pub IsTakingCaused : List (List ℕ) → RunFault → Type 0
 IsTakingCaused files (Tables fault) = ⊥
-IsTakingCaused files (File n (codec.Malformed frame cause)) = IsFaultyFile files n frame cause
+IsTakingCaused files (File n (codec.Malformed frame cause)) = IsFaultyFile files n (malformed frame cause)
 IsTakingCaused files (File n codec.Memory) = ⊥
 IsTakingCaused files (Schedule line fault) = ⊥
 IsTakingCaused files (Step line desk fault) = (line ≡ 0) × (desk ≡ 1) × AreRefused files fault
@@ -50,6 +53,7 @@ IsTakingCaused files (Listing line fault) = ⊥
 IsTakingCaused files Device = ⊥
 IsTakingCaused files (PastEnd place) = ⊥
 IsTakingCaused files (ReadFailed file) = ⊥
+IsTakingCaused files (TooLong n) = IsFaultyFile files n too_long
 IsTakingCaused files Memory = Unit {0}
 
 -- a walk over the grid of a text: the place is beyond it
@@ -62,6 +66,7 @@ IsUnwalked bytes place (Listing line fault) = ⊥
 IsUnwalked bytes place Device = ⊥
 IsUnwalked bytes place (PastEnd at) = (at ≡ place) × (length (chars bytes) < place)
 IsUnwalked bytes place (ReadFailed file) = ⊥
+IsUnwalked bytes place (TooLong file) = ⊥
 IsUnwalked bytes place Memory = Unit {0}
 
 -- ---- the answer of a run

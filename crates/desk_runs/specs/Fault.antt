@@ -27,6 +27,7 @@ run_code (run.Listing line fault) = 5
 run_code run.Device = 7
 run_code (run.PastEnd place) = 6
 run_code (run.ReadFailed file) = 8
+run_code (run.TooLong file) = 10
 run_code run.Memory = 9
 
 -- 1 for a faulty data file, operation file, schedule or listing or a refused step, 3 for a device, a file that can't be read, or want of memory
@@ -39,6 +40,7 @@ status_of (run.Listing line fault) = 1
 status_of run.Device = 3
 status_of (run.PastEnd place) = 1
 status_of (run.ReadFailed file) = 3
+status_of (run.TooLong file) = 1
 status_of run.Memory = 3
 
 -- ---- the faults of conversions, as faults of a run

@@ -4,12 +4,10 @@ use Rattle.std.specs.Global.{Vec}
 use Rattle.std.specs.List.{AllZip, flat_map}
 use Rattle.bg_types.specs.OperationSet.{OperationSet}
 use Rattle.bg_types.specs.declared.op.OpView.{OpView}
-use Rattle.op_codec.specs.declared.fault.Cause.{Cause}
-use Rattle.op_codec.specs.Spelling.{Spells}
-use Rattle.op_codec.specs.Fault.{IsFault}
 use Rattle.desk_replica.specs.declared.answer.TakeFault.{TakeFault}
 use Rattle.desk_replica.specs.SetOf.{IsSetOf}
 use Rattle.desk_replica.specs.Refusal.{IsFirstRefusal}
+use Rattle.desk_runs.specs.Reading.{IsReadAs, Flaw, IsFlawed}
 
 -- the bytes of each file
 abbrev pub bytes_of : List (Vec ℕ) → List (List ℕ)
@@ -26,22 +24,22 @@ joined lists = flat_map (λ ops. ops) lists
 -- S is the set of all operations of the files
 pub record IsSetOfFiles (files : List (List ℕ)) (s : OperationSet) : Type 0 where
   pub lists : List (List OpView)
-  pub spelled : AllZip Spells files lists
+  pub spelled : AllZip IsReadAs files lists
   pub of_all : IsSetOf (joined lists) s
 
--- file n, from 1, is the first faulty one, and this is its first fault
-pub record IsFaultyFile (files : List (List ℕ)) (n frame : ℕ) (cause : Cause) : Type 0 where
+-- file n, from 1, is the first faulty one, and this is wrong with it first
+pub record IsFaultyFile (files : List (List ℕ)) (n : ℕ) (flaw : Flaw) : Type 0 where
   pub before : List (List ℕ)
   pub file : List ℕ
   pub after : List (List ℕ)
   pub lists : List (List OpView)
   pub in_order : files ≡ before ++ file ∷ after
   pub number : n ≡ length before + 1
-  pub spelled : AllZip Spells before lists
-  pub shown : IsFault file frame cause
+  pub spelled : AllZip IsReadAs before lists
+  pub shown : IsFlawed file flaw
 
--- all files are spelled, and a desk that takes their operations in order refuses one, first for this fault
+-- all files are read, and a desk that takes their operations in order refuses one, first for this fault
 pub record AreRefused (files : List (List ℕ)) (fault : TakeFault) : Type 0 where
   pub lists : List (List OpView)
-  pub spelled : AllZip Spells files lists
+  pub spelled : AllZip IsReadAs files lists
   pub first : IsFirstRefusal (joined lists) fault

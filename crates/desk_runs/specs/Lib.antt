@@ -1,4 +1,6 @@
 pub mod Fault
+pub mod Reading
+pub mod Readers
 pub mod Files
 pub mod OneOutcome
 pub mod Schedule

@@ -1,13 +1,10 @@
 -- What a run of `replay` is given, and what it writes and answers: the headline.
 use Rattle.std.specs.Prelude.{◌≡◌, ◌⊎◌, ◌↔◌, true, false, Bool, ℕ, List, length, Option, Some, None, Result, Ok, Err, MatchResult}
-use Rattle.std.specs.Global.{Vec}
 use Rattle.std.specs.List.{AllZip}
 use Rattle.std.specs.Io.KnownBytes.{Appends}
 use Rattle.bg_types.specs.declared.class.Base.{Base}
 use Rattle.bg_types.specs.declared.op.OpView.{OpView}
-use Rattle.op_codec.specs.declared.fault.Cause.{Cause}
 use Rattle.op_codec.specs.declared.fault.CodecFault.TheVariants as codec
-use Rattle.op_codec.specs.Spelling.{Spells}
 use Rattle.desk_replica.specs.declared.answer.TakeFault.{TakeFault}
 use Rattle.ucd_files.specs.declared.fault.UcdFault.{UcdFault}
 use Rattle.ucd_files.specs.Tables.{TableValues}
@@ -15,9 +12,11 @@ use Rattle.ucd_files.specs.Ucd.{tables_of_ucd, fault_of_ucd}
 use Rattle.ucd_files.specs.declared.files.Ucd.{Ucd}
 use Rattle.desk_runs.specs.declared.schedule_fault.ScheduleFault.{ScheduleFault}
 use Rattle.desk_runs.specs.declared.run_fault.RunFault.{RunFault}
-use Rattle.desk_runs.specs.declared.run_fault.RunFault.TheVariants.{Tables, File, Schedule, Step, Listing, Device, PastEnd, ReadFailed, Memory}
+use Rattle.desk_runs.specs.declared.run_fault.RunFault.TheVariants.{Tables, File, Schedule, Step, Listing, Device, PastEnd, ReadFailed, Memory, TooLong}
 use Rattle.desk_runs.specs.declared.schedule.step.Numbered.{Numbered}
-use Rattle.desk_runs.specs.Files.{bytes_of, IsFaultyFile}
+use Rattle.desk_runs.specs.Reading.{IsReadAs, Flaw, malformed, too_long, flaw_fault}
+use Rattle.desk_runs.specs.Readers.{IsRunOver}
+use Rattle.desk_runs.specs.Files.{IsFaultyFile}
 use Rattle.desk_runs.specs.Schedule.{Schedules, IsFaultyStep}
 use Rattle.desk_runs.specs.Round.{round}
 use Rattle.desk_replica.specs.DeskSets.{empty_desks}
@@ -38,13 +37,13 @@ pub record Given : Type 0 where
   pub files : List (List ℕ)
   pub schedule : Option (List ℕ)
 
-abbrev pub given : Ucd → ℕ → Base → List (Vec ℕ) → Option (List ℕ) → Given
+abbrev pub given : Ucd → ℕ → Base → List (List ℕ) → Option (List ℕ) → Given
 given ucd width base files schedule = record {
   fault = fault_of_ucd ucd;
   tables = tables_of_ucd ucd;
   width = width;
   base = base;
-  files = bytes_of files;
+  files = files;
   schedule = schedule;
 }
 
@@ -66,13 +65,13 @@ IsFaultyPlan files (Some bytes) line fault = IsFaultyStep files bytes line fault
 pub record IsFaultySchedule (g : Given) (line : ℕ) (fault : ScheduleFault) : Type 0 where
   pub files : List (List OpView)
   pub tables : g.fault ≡ None
-  pub spelled : AllZip Spells g.files files
+  pub spelled : AllZip IsReadAs g.files files
   pub shown : IsFaultyPlan files g.schedule line fault
 
 -- nothing that is read before the first step is faulty
 pub record IsReady (g : Given) (files : List (List OpView)) (steps : List Numbered) : Type 0 where
   pub tables : g.fault ≡ None
-  pub spelled : AllZip Spells g.files files
+  pub spelled : AllZip IsReadAs g.files files
   pub planned : IsPlan files g.schedule steps
 
 -- no step of the run is refused
@@ -111,7 +110,7 @@ pub record EndsInSteps (g : Given) (old new : Option (List ℕ)) (failed : Bool)
 -- of the schedule
 abbrev pub IsUnread : Given → RunFault → Type 0
 IsUnread g (Tables fault) = g.fault ≡ Some fault
-IsUnread g (File n (codec.Malformed frame cause)) = (g.fault ≡ None) × IsFaultyFile g.files n frame cause
+IsUnread g (File n (codec.Malformed frame cause)) = (g.fault ≡ None) × IsFaultyFile g.files n (malformed frame cause)
 IsUnread g (File n codec.Memory) = ⊥
 IsUnread g (Schedule line fault) = IsFaultySchedule g line fault
 IsUnread g (Step line desk fault) = ⊥
@@ -119,6 +118,7 @@ IsUnread g (Listing line fault) = ⊥
 IsUnread g (PastEnd place) = ⊥
 IsUnread g Device = ⊥
 IsUnread g (ReadFailed file) = ⊥
+IsUnread g (TooLong n) = (g.fault ≡ None) × IsFaultyFile g.files n too_long
 IsUnread g Memory = Unit {0}
 
 -- the outcome of a run, by its answer: all shows are written; or nothing, where not all can be read; or what was shown before
@@ -127,14 +127,18 @@ abbrev pub IsReplayOutcome : Given → (old new : Option (List ℕ)) (failed : B
 IsReplayOutcome g old new failed (Ok done) = (failed ≡ false) × WritesShows g old new
 IsReplayOutcome g old new failed (Err fault) = (IsUnread g fault × IsSilent old new failed) ⊎ EndsInSteps g old new failed fault
 
+-- the outcome of a run over readers, by what is still to come of each and which have failed, where a run over the files that
+-- they tell is given this
+abbrev pub IsReplayOutcomeOver : (readers : List (Option (List ℕ))) (lost : List Bool) → (List (List ℕ) → Given) → (old new : Option (List ℕ)) (failed : Bool) → Result (Unit {0}) RunFault → Type 0
+IsReplayOutcomeOver readers lost gives old new failed result = IsRunOver readers lost (IsSilent old new failed) (λ files. IsReplayOutcome (gives files) old new failed) result
+
 -- which answer the data has, unless memory runs out, or a write of a show before it fails
 pub record IsReplayDecided (g : Given) (old new : Option (List ℕ)) (failed : Bool) (result : Result (Unit {0}) RunFault) : Type 0 where
   pub device : (failed ≡ true) ↔ (result ≡ Err Device)
   pub shown : (lists : List (List OpView)) (steps : List Numbered) → IsUnrefused g lists steps
       → MatchResult result (λ _. Appends old new (shows_of g lists steps)) (λ fault. (fault ≡ Device) ⊎ (fault ≡ Memory))
   pub tables : (fault : UcdFault) → g.fault ≡ Some fault → (result ≡ Err (Tables fault)) ⊎ (result ≡ Err Memory)
-  pub faulty : (n frame : ℕ) (cause : Cause) → g.fault ≡ None → IsFaultyFile g.files n frame cause
-      → (result ≡ Err (File n (codec.Malformed frame cause))) ⊎ (result ≡ Err Memory)
+  pub faulty : (n : ℕ) (flaw : Flaw) → g.fault ≡ None → IsFaultyFile g.files n flaw → (result ≡ Err (flaw_fault n flaw)) ⊎ (result ≡ Err Memory)
   pub schedule : (line : ℕ) (fault : ScheduleFault) → IsFaultySchedule g line fault → (result ≡ Err (Schedule line fault)) ⊎ (result ≡ Err Memory)
   pub refused : (line desk : ℕ) (fault : TakeFault) → IsRefused g line desk fault
       → (result ≡ Err (Step line desk fault)) ⊎ (result ≡ Err Device) ⊎ (result ≡ Err Memory)
@@ -164,6 +168,7 @@ IsUnplanned files schedule (Listing line fault) = ⊥
 IsUnplanned files schedule (PastEnd place) = ⊥
 IsUnplanned files schedule Device = ⊥
 IsUnplanned files schedule (ReadFailed file) = ⊥
+IsUnplanned files schedule (TooLong file) = ⊥
 IsUnplanned files schedule Memory = Unit {0}
 
 abbrev pub IsPlanOutcome : (print : List ℕ → List ℕ) (files : List (List OpView)) (schedule : Option (List ℕ)) (old new : Option (List ℕ)) (failed : Bool) → Result (Unit {0}) RunFault → Type 0

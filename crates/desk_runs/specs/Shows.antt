@@ -7,7 +7,7 @@ use Rattle.bg_types.specs.declared.op.OpView.{OpView}
 use Rattle.rga_tree.specs.TextOf.{text}
 use Rattle.desk_replica.specs.declared.answer.TakeFault.{TakeFault}
 use Rattle.desk_runs.specs.declared.run_fault.RunFault.{RunFault}
-use Rattle.desk_runs.specs.declared.run_fault.RunFault.TheVariants.{Tables, File, Schedule, Step as Refused, Listing, Device, PastEnd, ReadFailed, Memory}
+use Rattle.desk_runs.specs.declared.run_fault.RunFault.TheVariants.{Tables, File, Schedule, Step as Refused, Listing, Device, PastEnd, ReadFailed, Memory, TooLong}
 use Rattle.desk_runs.specs.declared.schedule.step.Step.{Step}
 use Rattle.desk_runs.specs.declared.schedule.step.Step.TheVariants.{Take, Merge, Show}
 use Rattle.desk_runs.specs.declared.schedule.step.Numbered.{Numbered}
@@ -68,6 +68,7 @@ IsStepsEnd print files sets steps old new failed (Listing line fault) = ⊥
 IsStepsEnd print files sets steps old new failed Device = (failed ≡ true) × RanToFailure print files sets steps old new
 IsStepsEnd print files sets steps old new failed (PastEnd place) = ⊥
 IsStepsEnd print files sets steps old new failed (ReadFailed file) = ⊥
+IsStepsEnd print files sets steps old new failed (TooLong file) = ⊥
 IsStepsEnd print files sets steps old new failed Memory = (failed ≡ false) × RanInPart print files sets steps old new
 
 -- the outcome of steps: all are done, after which desks hold these sets, or they ended with a fault
@@ -88,4 +89,5 @@ IsShowOutcome bytes old new failed (Err (Listing line fault)) = ⊥
 IsShowOutcome bytes old new failed (Err Device) = (failed ≡ true) × AppendsBeginning old new bytes
 IsShowOutcome bytes old new failed (Err (PastEnd place)) = ⊥
 IsShowOutcome bytes old new failed (Err (ReadFailed file)) = ⊥
+IsShowOutcome bytes old new failed (Err (TooLong file)) = ⊥
 IsShowOutcome bytes old new failed (Err Memory) = (failed ≡ false) × Appends old new []

@@ -3,12 +3,12 @@ use Rattle.std.specs.Prelude.{◌≡◌, ◌≤◌, ◌⊎◌, ◌↔◌, true, 
 use Rattle.std.specs.Io.KnownBytes.{Appends}
 use Rattle.bg_types.specs.OperationSet.{OperationSet, size}
 use Rattle.bg_types.specs.Sink.{AppendsBeginning}
-use Rattle.op_codec.specs.declared.fault.Cause.{Cause}
-use Rattle.op_codec.specs.declared.fault.CodecFault.TheVariants as codec
 use Rattle.rga_tree.specs.TextOf.{text}
 use Rattle.desk_replica.specs.declared.answer.TakeFault.{TakeFault}
 use Rattle.desk_runs.specs.declared.run_fault.RunFault.{RunFault}
-use Rattle.desk_runs.specs.declared.run_fault.RunFault.TheVariants.{File, Step, Device, Memory}
+use Rattle.desk_runs.specs.declared.run_fault.RunFault.TheVariants.{Step, Device, Memory}
+use Rattle.desk_runs.specs.Reading.{Flaw, flaw_fault}
+use Rattle.desk_runs.specs.Readers.{IsRunOver}
 use Rattle.desk_runs.specs.Files.{IsSetOfFiles, IsFaultyFile, AreRefused}
 use Rattle.desk_runs.specs.Cause.{IsTakingCaused}
 use Rattle.desk_runs.specs.Written.{IsSilent}
@@ -34,11 +34,14 @@ IsTextOutcome files old new failed (Ok done) = (failed ≡ false) × WritesText 
 IsTextOutcome files old new failed (Err fault) =
     (IsTakingCaused files fault × IsSilent old new failed) ⊎ ((fault ≡ Device) × (failed ≡ true) × WritesTextBeginning files old new)
 
+-- the outcome of a run over readers, by what is still to come of each and which have failed
+abbrev pub IsTextOutcomeOver : (readers : List (Option (List ℕ))) (lost : List Bool) (old new : Option (List ℕ)) (failed : Bool) → Result (Unit {0}) RunFault → Type 0
+IsTextOutcomeOver readers lost old new failed result = IsRunOver readers lost (IsSilent old new failed) (λ files. IsTextOutcome files old new failed) result
+
 -- which answer the files have, unless memory runs out, or a write of the text fails
 pub record IsTextDecided (files : List (List ℕ)) (old new : Option (List ℕ)) (failed : Bool) (result : Result (Unit {0}) RunFault) : Type 0 where
   pub device : (failed ≡ true) ↔ (result ≡ Err Device)
   pub joined : (s : OperationSet) → IsSetOfFiles files s → size s ≤ 1_000_000
       → MatchResult result (λ _. Appends old new (encode_utf8_all (text s))) (λ fault. (fault ≡ Device) ⊎ (fault ≡ Memory))
-  pub faulty : (n frame : ℕ) (cause : Cause) → IsFaultyFile files n frame cause
-      → (result ≡ Err (File n (codec.Malformed frame cause))) ⊎ (result ≡ Err Memory)
+  pub faulty : (n : ℕ) (flaw : Flaw) → IsFaultyFile files n flaw → (result ≡ Err (flaw_fault n flaw)) ⊎ (result ≡ Err Memory)
   pub refused : (fault : TakeFault) → AreRefused files fault → (result ≡ Err (Step 0 1 fault)) ⊎ (result ≡ Err Memory)

@@ -1,7 +1,7 @@
 //! Laws of the definitions: each function's contract is the law, and its body is empty or calls the laws
 //! that the proof stands on.
 
-ghost use Rattle.std.specs.Prelude.{◌≡◌, ◌<◌, ◌+◌, ◌⊎◌, ℕ, Bool, List, Option, Some, Result, length, slice_get};
+ghost use Rattle.std.specs.Prelude.{◌≡◌, ◌<◌, ◌+◌, ◌⊎◌, ℕ, Bool, List, Option, Some, Result, length, map as each, slice_get};
 ghost use Rattle.bg_types.specs.declared.op.OpView.{OpView};
 ghost use Rattle.desk_replica.specs.Desk.{fresh};
 ghost use Rattle.desk_replica.specs.DeskSets.{sets_of, empty_desks};
@@ -11,9 +11,11 @@ ghost use Rattle.desk_runs.specs.declared.schedule.step.Numbered.{Numbered};
 ghost use Rattle.desk_runs.specs.OneOutcome.{HaveOneOutcome};
 ghost use Rattle.desk_runs.specs.Schedule.{Schedules, IsFaultyStep};
 ghost use Rattle.desk_runs.specs.Desks.{fresh_desks};
-ghost use Rattle.desk_runs.specs.TextOutcome.{IsTextOutcome, IsTextDecided};
-ghost use Rattle.desk_runs.specs.ReplayOutcome.{Given, IsReplayOutcome, IsReplayDecided};
-ghost use Rattle.desk_runs.specs.CaretsOutcome.{Asked, IsCaretsOutcome, IsCaretsDecided};
+ghost use Rattle.desk_runs.specs.Readers.{IsFileOutcome};
+ghost use Rattle.desk_runs.specs.Written.{IsSilent};
+ghost use Rattle.desk_runs.specs.TextOutcome.{IsTextOutcome, IsTextOutcomeOver, IsTextDecided};
+ghost use Rattle.desk_runs.specs.ReplayOutcome.{Given, IsReplayOutcome, IsReplayOutcomeOver, IsReplayDecided};
+ghost use Rattle.desk_runs.specs.CaretsOutcome.{Asked, IsCaretsOutcome, IsCaretsOutcomeOver, IsCaretsDecided};
 
 use desk_replica::laws as desks;
 use op_codec::laws as codec;
@@ -51,6 +53,17 @@ pub fn desks_of_a_run()
     ensures count { (count : ℕ) → length (fresh_desks count) ≡ count }
     ensures desk { (count k : ℕ) → k < count → slice_get (fresh_desks count) k ≡ Some (fresh (k + 1)) }
     ensures empty { (count : ℕ) → sets_of (fresh_desks count) ≡ empty_desks count }
+{}
+
+/// Where readers tell their bytes, a run over them has an outcome of a run over files of these bytes,
+/// or a reader has failed: number n, from 1, and no other.
+pub fn readers_tell_files()
+    ensures text { (files : List (List ℕ)) (lost : List Bool) (old new : Option (List ℕ)) (failed : Bool) (result : Result (Unit {0}) RunFault)
+        → IsTextOutcomeOver (each Some files) lost old new failed result → IsFileOutcome lost (IsSilent old new failed) (IsTextOutcome files old new failed) result }
+    ensures replay { (files : List (List ℕ)) (lost : List Bool) (gives : List (List ℕ) → Given) (old new : Option (List ℕ)) (failed : Bool) (result : Result (Unit {0}) RunFault)
+        → IsReplayOutcomeOver (each Some files) lost gives old new failed result → IsFileOutcome lost (IsSilent old new failed) (IsReplayOutcome (gives files) old new failed) result }
+    ensures carets { (files : List (List ℕ)) (lost : List Bool) (asks : List (List ℕ) → Asked) (old new : Option (List ℕ)) (failed : Bool) (result : Result (Unit {0}) RunFault)
+        → IsCaretsOutcomeOver (each Some files) lost asks old new failed result → IsFileOutcome lost (IsSilent old new failed) (IsCaretsOutcome (asks files) old new failed) result }
 {}
 
 /// A run of `text` has the answer of its files, unless memory runs out or a write fails.

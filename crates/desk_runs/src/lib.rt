@@ -4,6 +4,7 @@
 
 mod desks;
 mod engine;
+mod in_memory;
 pub mod laws;
 mod one_desk;
 mod reading;
@@ -12,9 +13,9 @@ mod schedule;
 mod schedule_fault;
 
 pub use desk_replica::TakeFault;
-pub use engine::carets::{Move, carets};
-pub use engine::replay::replay;
-pub use engine::text::text;
+pub use engine::carets::{Move, carets, carets_from};
+pub use engine::replay::{replay, replay_from};
+pub use engine::text::{text, text_from};
 pub use run_fault::{RunFault, status};
 pub use schedule_fault::ScheduleFault;
 pub use ucd_files::Ucd;

@@ -1,32 +1,35 @@
 //! One desk that takes the operations of all files.
 
-ghost use Rattle.std.specs.Prelude.{◌≡◌, ◌≤◌, ◌⊎◌, ◌++◌, List, OnOk, IfOk, IfErr};
+ghost use Rattle.std.specs.Prelude.{◌≡◌, ◌≤◌, ◌⊎◌, ◌++◌, List, map as each, OnOk, IfOk, IfErr};
 ghost use Rattle.bg_types.specs.OperationSet.{size};
 ghost use Rattle.bg_types.specs.declared.op.OpView.{OpView as Operation};
 ghost use Rattle.desk_replica.specs.SetOf.{IsSetOf};
 ghost use Rattle.desk_replica.specs.Refusal.{IsFirstRefusal};
-ghost use Rattle.desk_runs.specs.Files.{bytes_of, IsSetOfFiles};
+ghost use Rattle.desk_runs.specs.Readers.{AreWorking, AreTold, EndsOver};
+ghost use Rattle.desk_runs.specs.Files.{IsSetOfFiles};
 ghost use Rattle.desk_runs.specs.Cause.{IsTakingCaused, step_fault_of};
 
 use crate::desks::{Desk, new_desk};
-use crate::reading::decode_all;
+use crate::reading::read_all;
 use crate::run_fault::RunFault;
 use bg_types::{Op, laws as sets};
 use desk_replica::TakeFault;
+use op_codec::Source;
 use std::alloc::Global;
 
 /// The site of the one desk.
 const SITE: u16 = 1;
 
-/// A desk that has taken the operations of all files. All files are read before the first
-/// operation is taken.
-pub fn desk_of(alloc: Global, key: u128, files: &[Vec<u8>]) -> Result<Desk, RunFault>
-    ensures ok { IfOk result (λ desk. IsSetOfFiles (bytes_of files.now) desk.set) }
+/// A desk that has taken the operations of the files of all readers. All files are read before the
+/// first operation is taken.
+pub fn desk_of<R: Source>(alloc: Global, key: u128, files: &mut [R]) -> Result<Desk, RunFault>
+    requires { AreWorking (each R.has_failed files.old) }
+    ensures ok { IfOk result (λ desk. AreTold (each R.remaining files.old) (each R.has_failed files.new) (λ told. IsSetOfFiles told desk.set)) }
     ensures limited { IfOk result (λ desk. size desk.set ≤ 1_000_000) }
-    ensures fault { IfErr result (IsTakingCaused (bytes_of files.now)) }
+    ensures fault { IfErr result (EndsOver (each R.remaining files.old) (each R.has_failed files.new) IsTakingCaused) }
 {
     sets::nothing_held();
-    let all = decode_all(alloc, files)?;
+    let all = read_all(alloc, files)?;
     let mut desk = new_desk(alloc, SITE, key);
     for ops in &all {
         if let Err(fault) = take_all(&mut desk, ops) {

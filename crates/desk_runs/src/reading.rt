@@ -1,17 +1,28 @@
 //! What a run reads before its first step: the data files, and the operation files.
 
-ghost use Rattle.std.specs.Prelude.{◌≡◌, None, length, map as each, OnOk, IfOk, IfErr};
-ghost use Rattle.std.specs.List.{AllZip};
-ghost use Rattle.op_codec.specs.Spelling.{Spells};
+ghost use Rattle.std.specs.Prelude.{◌≡◌, ◌<◌, ◌≤◌, ◌⊎◌, ◌+◌, ◌++◌, ℕ, List, None, false, length, map as each, All, OnOk, IfOk, IfErr};
+ghost use Rattle.std.specs.List.{AllZip, AllByRecursion};
+ghost use Rattle.op_codec.specs.Feed.{IsSound};
 ghost use Rattle.ucd_files.specs.Ucd.{tables_of_ucd, fault_of_ucd};
-ghost use Rattle.desk_runs.specs.Files.{bytes_of, lists_of};
+ghost use Rattle.desk_runs.specs.Reading.{limit, IsReadAs, Flaw, IsFlawed, IsFlawedBy, flaw_fault};
+ghost use Rattle.desk_runs.specs.Readers.{IsToldFile, IsUnreadFile, AreWorking, AreTold, EndsOver};
+ghost use Rattle.desk_runs.specs.Files.{lists_of};
 ghost use Rattle.desk_runs.specs.Cause.{IsTablesCaused, IsReadCaused, file_fault_of};
 
 use crate::run_fault::RunFault;
 use bg_types::Op;
-use op_codec::{CodecFault, decode_file};
+use op_codec::{CodecFault, Feed, Source, laws as codec};
 use std::alloc::Global;
 use ucd_files::{Tables, Ucd, UcdFault};
+
+/// The greatest length of an operation file, in bytes.
+const LIMIT: usize = 67_108_864;
+
+/// The greatest number of bytes that are asked of a reader at once.
+const PIECE: usize = 4_096;
+
+// The bound that callers are told of.
+const _: () = prove!(PIECE <= 4_096);
 
 /// The tables of the data files, or the first fault of the first faulty one.
 pub fn load(alloc: Global, ucd: &Ucd) -> Result<Tables, RunFault>
@@ -26,21 +37,74 @@ pub fn load(alloc: Global, ucd: &Ucd) -> Result<Tables, RunFault>
     }
 }
 
-/// The operations of each file, or the fault of the first faulty one.
-pub fn decode_all(alloc: Global, files: &[Vec<u8>]) -> Result<Vec<Vec<Op>>, RunFault>
-    ensures ok { IfOk result (λ all. AllZip Spells (bytes_of files.now) (lists_of all.items)) }
-    ensures count { IfOk result (λ all. length all.items ≡ length files.now) }
-    ensures fault { IfErr result (IsReadCaused (bytes_of files.now)) }
+/// The operations of the file of each reader, or what is wrong with the first file that can't be
+/// read. The readers after it are not asked.
+pub fn read_all<R: Source>(alloc: Global, files: &mut [R]) -> Result<Vec<Vec<Op>>, RunFault>
+    requires { AreWorking (each R.has_failed files.old) }
+    ensures ok { IfOk result (λ all. AreTold (each R.remaining files.old) (each R.has_failed files.new)
+        (λ told. AllZip IsReadAs told (lists_of all.items))) }
+    ensures count { IfOk result (λ all. length all.items ≡ length files.old) }
+    ensures fault { IfErr result (EndsOver (each R.remaining files.old) (each R.has_failed files.new) IsReadCaused) }
 {
     let mut all = Vec::with_capacity(alloc, files.len())?;
-    for file in files {
-        let number = all.len() + 1;
-        match decode_file(alloc, file) {
-            Ok(ops) => all.push(ops)?,
-            Err(fault) => return Err(file_fault(number, fault)),
-        }
+    for place in 0..files.len() {
+        all.push(read_file(alloc, place + 1, &mut files[place])?)?;
     }
     Ok(all)
+}
+
+/// The operations of the file of a reader, which has this number. It is read in pieces, to its end,
+/// to a fault in its bytes, or to a byte past the limit.
+fn read_file<R: Source>(alloc: Global, number: usize, reader: &mut R) -> Result<Vec<Op>, RunFault>
+    requires { R.has_failed reader.old ≡ false }
+    ensures ok { IfOk result (λ ops. IsToldFile (R.remaining reader.old) ops.items) }
+    ensures working { OnOk result (R.has_failed reader.new ≡ false) }
+    ensures fault { IfErr result (IsUnreadFile number (R.remaining reader.old) (R.has_failed reader.new)) }
+{
+    let mut feed = Feed::new(alloc);
+    let mut piece = [0; PIECE];
+    let mut left = LIMIT;
+    while let Some(given) = reader.get(&mut piece) {
+        if given == 0 {
+            return finish(number, feed);
+        }
+        feed_piece(number, &mut feed, left, &piece[..given])?;
+        left -= given;
+    }
+    Err(RunFault::ReadFailed(number))
+}
+
+/// Feeds the next piece of a file that may still have so many bytes.
+fn feed_piece(number: usize, feed: &mut Feed, left: usize, piece: &[u8]) -> Result<(), RunFault>
+    requires left { length feed.old + left ≡ limit }
+    requires sound { IsSound feed.old }
+    ensures within { OnOk result (length piece.now ≤ left) }
+    ensures fed { OnOk result (feed.new ≡ feed.old ++ piece.now) }
+    ensures sound { OnOk result (IsSound feed.new) }
+    ensures fault { IfErr result (λ fault. (fault ≡ RunFault.Memory) ⊎ IsFlawedBy (feed.old ++ piece.now) number fault) }
+{
+    codec::fed_in_pieces();
+    codec::stable_faults();
+    let taken = piece.len().min(left);
+    if let Err(fault) = feed.feed(&piece[..taken]) {
+        return Err(file_fault(number, fault));
+    }
+    if taken < piece.len() {
+        return Err(RunFault::TooLong(number));
+    }
+    Ok(())
+}
+
+/// The operations of a file that was fed whole.
+fn finish(number: usize, feed: Feed) -> Result<Vec<Op>, RunFault>
+    requires { length feed ≤ limit }
+    ensures ok { IfOk result (λ ops. IsReadAs feed ops.items) }
+    ensures fault { IfErr result (λ fault. (flaw : Flaw) × (fault ≡ flaw_fault number flaw) × IsFlawed feed flaw) }
+{
+    match feed.finish() {
+        Ok(ops) => Ok(ops),
+        Err(fault) => Err(file_fault(number, fault)),
+    }
 }
 
 /// The answer to the fault of a file: want of memory is of no file.

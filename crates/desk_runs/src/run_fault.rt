@@ -33,10 +33,12 @@ pub enum RunFault {
     PastEnd(u32),
     /// A write failed.
     Device,
-    /// A file can't be read: its number, or 0 where the program reads it before the run.
+    /// A read of a file failed: its number, or 0 where the program reads it before the run.
     ReadFailed(usize),
     /// A growth was refused.
     Memory,
+    /// An operation file has more than 67,108,864 bytes, and those show no other fault: its number.
+    TooLong(usize),
 }
 
 impl fmt::Display for RunFault {
@@ -54,6 +56,7 @@ impl fmt::Display for RunFault {
             RunFault::Device => write!(f, "device"),
             RunFault::ReadFailed(file) => write!(f, "cannot read file {file}"),
             RunFault::Memory => write!(f, "memory"),
+            RunFault::TooLong(file) => write!(f, "file {file}: TooLong"),
         }
     }
 }
@@ -61,7 +64,7 @@ impl fmt::Display for RunFault {
 impl Error for RunFault {}
 
 impl RunFault {
-    /// The number of this fault, 1 to 9.
+    /// The number of this fault, 1 to 10.
     pub fn code(&self) -> u8
         ensures { result ≡ run_code self.now }
     {
@@ -75,6 +78,7 @@ impl RunFault {
             RunFault::Device => 7,
             RunFault::ReadFailed(_) => 8,
             RunFault::Memory => 9,
+            RunFault::TooLong(_) => 10,
         }
     }
 }
@@ -87,7 +91,7 @@ pub fn status(fault: &RunFault) -> u8
     match fault {
         RunFault::Tables(_) | RunFault::Schedule(..) => 1,
         RunFault::Listing(..) | RunFault::File(..) | RunFault::Step(..) => 1,
-        RunFault::PastEnd(_) => 1,
+        RunFault::PastEnd(_) | RunFault::TooLong(_) => 1,
         RunFault::Device | RunFault::ReadFailed(_) | RunFault::Memory => 3,
     }
 }

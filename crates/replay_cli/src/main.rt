@@ -2,6 +2,7 @@
 //! listings become files.
 #![tactic(auto)]
 
+mod files;
 mod key;
 mod report;
 mod request;
@@ -9,8 +10,10 @@ mod words;
 
 use bg_types::{Device, Out};
 pub use cli_support::Stop;
-use cli_support::{Unread, end, flush, read, read_all, read_data};
+use cli_support::{Unread, end, flush, read, read_data};
 pub use desk_runs::{Move, RunFault, ScheduleFault, TakeFault, Ucd, carets, replay, status, text};
+pub use desk_runs::{carets_from, replay_from, text_from};
+use files::{open_all, path_of};
 use key::draw_key;
 pub use op_listing::{LineFault, dump, pack};
 use report::PROGRAM;
@@ -36,7 +39,7 @@ fn main(rt: HostRuntime) -> ExitCode {
 }
 
 fn run_text(rt: &HostRuntime, paths: &[&str]) -> ExitCode {
-    let files = match read_all(rt, paths) {
+    let mut files = match open_all(rt, paths) {
         Ok(files) => files,
         Err(unread) => return lose(rt, &unread),
     };
@@ -45,8 +48,8 @@ fn run_text(rt: &HostRuntime, paths: &[&str]) -> ExitCode {
     };
     let key = draw_key(rt);
     let out = &mut Out::new(&mut buffered);
-    let done = text(rt.alloc(), key, files.as_slice(), out);
-    finish(rt, done, &mut buffered)
+    let done = text_from(rt.alloc(), key, &mut files, out);
+    finish(rt, done, paths, &mut buffered)
 }
 
 fn run_replay(rt: &HostRuntime, job: &Replay) -> ExitCode {
@@ -54,7 +57,7 @@ fn run_replay(rt: &HostRuntime, job: &Replay) -> ExitCode {
         Ok(data) => data,
         Err(unread) => return lose(rt, &unread),
     };
-    let files = match read_all(rt, job.files.as_slice()) {
+    let mut files = match open_all(rt, job.files.as_slice()) {
         Ok(files) => files,
         Err(unread) => return lose(rt, &unread),
     };
@@ -68,17 +71,17 @@ fn run_replay(rt: &HostRuntime, job: &Replay) -> ExitCode {
     let Ok(mut buffered) = BufWriter::new(rt.alloc(), io::writer(rt)) else {
         return refuse(rt, &RunFault::Memory, "");
     };
-    let done = replay(
+    let done = replay_from(
         rt.alloc(),
         draw_key(rt),
         &data.ucd(job.wide_ambiguous),
         job.width,
         job.base,
-        files.as_slice(),
+        &mut files,
         schedule.as_deref(),
         &mut Out::new(&mut buffered),
     );
-    finish(rt, done, &mut buffered)
+    finish(rt, done, job.files.as_slice(), &mut buffered)
 }
 
 fn run_caret(rt: &HostRuntime, job: &Walk) -> ExitCode {
@@ -86,25 +89,25 @@ fn run_caret(rt: &HostRuntime, job: &Walk) -> ExitCode {
         Ok(data) => data,
         Err(unread) => return lose(rt, &unread),
     };
-    let files = match read_all(rt, job.files.as_slice()) {
+    let mut files = match open_all(rt, job.files.as_slice()) {
         Ok(files) => files,
         Err(unread) => return lose(rt, &unread),
     };
     let Ok(mut buffered) = BufWriter::new(rt.alloc(), io::writer(rt)) else {
         return refuse(rt, &RunFault::Memory, "");
     };
-    let done = carets(
+    let done = carets_from(
         rt.alloc(),
         draw_key(rt),
         &data.ucd(job.wide_ambiguous),
         job.width,
         job.base,
-        files.as_slice(),
+        &mut files,
         job.place,
         job.moves.as_slice(),
         &mut Out::new(&mut buffered),
     );
-    finish(rt, done, &mut buffered)
+    finish(rt, done, job.files.as_slice(), &mut buffered)
 }
 
 fn run_dump(rt: &HostRuntime, path: &str) -> ExitCode {
@@ -119,6 +122,7 @@ fn run_dump(rt: &HostRuntime, path: &str) -> ExitCode {
     finish(
         rt,
         done.map_err(|fault| RunFault::from(fault)),
+        &[],
         &mut buffered,
     )
 }
@@ -135,14 +139,20 @@ fn run_pack(rt: &HostRuntime, path: &str) -> ExitCode {
     finish(
         rt,
         done.map_err(|fault| RunFault::from(fault)),
+        &[],
         &mut buffered,
     )
 }
 
-/// Ends a run of an engine that wrote to this writer.
-fn finish<W: Write>(rt: &HostRuntime, done: Result<(), RunFault>, out: &mut W) -> ExitCode {
+/// Ends a run of an engine that read the files of these paths, and wrote to this writer.
+fn finish<W: Write>(
+    rt: &HostRuntime,
+    done: Result<(), RunFault>,
+    paths: &[&str],
+    out: &mut W,
+) -> ExitCode {
     if let Err(fault) = done {
-        return refuse(rt, &fault, "");
+        return refuse(rt, &fault, path_of(&fault, paths));
     }
     match flush(out) {
         Ok(()) => ExitCode::SUCCESS,

@@ -299,7 +299,7 @@ fn dump_and_pack_take_one_file(rt: HostRuntime) -> Result<(), Fail> {
 }
 
 /// The faults with their lines, statuses and numbers.
-fn rows() -> [(RunFault, &'static str, u8, u8); 11] {
+fn rows() -> [(RunFault, &'static str, u8, u8); 12] {
     let truncated = CodecFault::Malformed {
         frame: 12,
         cause: Cause::Truncated,
@@ -365,6 +365,7 @@ fn rows() -> [(RunFault, &'static str, u8, u8); 11] {
             8,
         ),
         (RunFault::Memory, "bidigrid: memory\n", 3, 9),
+        (RunFault::TooLong(2), "bidigrid: file 2: TooLong\n", 1, 10),
     ]
 }
 

@@ -1,23 +1,26 @@
 //! The engine `carets`: one desk takes the operations of all files, its text is drawn, and a caret
 //! walks over the grid.
 
-ghost use Rattle.std.specs.Prelude.{◌≡◌, ◌≤◌, ◌++◌, false, length, string_bytes, OnOk, IfOk, IfErr};
+ghost use Rattle.std.specs.Prelude.{◌≡◌, ◌≤◌, ◌++◌, false, length, string_bytes, map as each, OnOk, IfOk, IfErr};
 ghost use Rattle.std.specs.Str.{chars};
 ghost use Rattle.std.specs.List.{flat_map};
 ghost use Rattle.cell_grid.specs.Grids.{grid_of};
 ghost use Rattle.caret.specs.Gaps.{IsCaretOf};
 ghost use Rattle.desk_runs.specs.Files.{bytes_of};
+ghost use Rattle.desk_runs.specs.Readers.{AreWorking, AreTold, EndsOver};
 ghost use Rattle.desk_runs.specs.Cause.{IsTakingCaused, IsUnwalked};
 ghost use Rattle.desk_runs.specs.Carets.{moved, walk, caret_line, walk_lines};
-ghost use Rattle.desk_runs.specs.CaretsOutcome.{asked, IsTextOfFiles, IsWalked, IsWalkCaused, IsCaretsOutcome};
+ghost use Rattle.desk_runs.specs.CaretsOutcome.{asked, IsTextOfFiles, IsWalked, IsWalkCaused, IsCaretsOutcome, IsCaretsOutcomeOver};
 
 use crate::desks::read_text;
+use crate::in_memory::readers_of;
 use crate::one_desk::desk_of;
 use crate::reading::load;
 use crate::run_fault::RunFault;
 use bg_types::{Base, Memory, Sink, put_all};
 use caret::{Caret, at_place, down, left, right, up};
 use cell_grid::{Grid, draw};
+use op_codec::Source;
 use std::alloc::{AllocError, Global};
 use ucd_files::{Tables, Ucd};
 
@@ -50,7 +53,42 @@ pub fn carets<S: Sink>(
     requires narrow { 2 ≤ width }
     requires wide { width ≤ 500 }
     requires working { S.has_failed out.old ≡ false }
-    ensures { IsCaretsOutcome (asked ucd.now width base files.now place moves.now)
+    ensures { IsCaretsOutcome (asked ucd.now width base (bytes_of files.now) place moves.now)
+        (S.written out.old) (S.written out.new) (S.has_failed out.new) result }
+{
+    let mut readers = readers_of(alloc, files)?;
+    carets_from(
+        alloc,
+        key,
+        ucd,
+        width,
+        base,
+        &mut readers,
+        place,
+        moves,
+        out,
+    )
+}
+
+/// The same over the files of readers. Each is read in pieces of at most 4,096 bytes, to its end, to
+/// a fault in its bytes, or to a byte past the first 67,108,864.
+pub fn carets_from<R: Source, S: Sink>(
+    alloc: Global,
+    key: u128,
+    ucd: &Ucd,
+    width: u16,
+    base: Base,
+    files: &mut [R],
+    place: u32,
+    moves: &[Move],
+    out: &mut S,
+) -> Result<(), RunFault>
+    requires narrow { 2 ≤ width }
+    requires wide { width ≤ 500 }
+    requires readers { AreWorking (each R.has_failed files.old) }
+    requires working { S.has_failed out.old ≡ false }
+    ensures { IsCaretsOutcomeOver (each R.remaining files.old) (each R.has_failed files.new)
+        (λ told. asked ucd.now width base told place moves.now)
         (S.written out.old) (S.written out.new) (S.has_failed out.new) result }
 {
     let lines = read_and_walk(alloc, key, ucd, width, base, files, place, moves)?;
@@ -59,20 +97,23 @@ pub fn carets<S: Sink>(
 }
 
 /// The lines of a run, all data read before the place is tested.
-fn read_and_walk(
+fn read_and_walk<R: Source>(
     alloc: Global,
     key: u128,
     ucd: &Ucd,
     width: u16,
     base: Base,
-    files: &[Vec<u8>],
+    files: &mut [R],
     place: u32,
     moves: &[Move],
 ) -> Result<String, RunFault>
     requires narrow { 2 ≤ width }
     requires wide { width ≤ 500 }
-    ensures ok { IfOk result (λ lines. IsWalked (asked ucd.now width base files.now place moves.now) (string_bytes lines)) }
-    ensures fault { IfErr result (IsWalkCaused (asked ucd.now width base files.now place moves.now)) }
+    requires readers { AreWorking (each R.has_failed files.old) }
+    ensures ok { IfOk result (λ lines. AreTold (each R.remaining files.old) (each R.has_failed files.new)
+        (λ told. IsWalked (asked ucd.now width base told place moves.now) (string_bytes lines))) }
+    ensures fault { IfErr result (EndsOver (each R.remaining files.old) (each R.has_failed files.new)
+        (λ told. IsWalkCaused (asked ucd.now width base told place moves.now))) }
 {
     let tables = load(alloc, ucd)?;
     let text = joined_text(alloc, key, files)?;
@@ -80,10 +121,12 @@ fn read_and_walk(
 }
 
 /// The text of all operations of the files, which one desk takes in order: at most 4,000,000 bytes.
-fn joined_text(alloc: Global, key: u128, files: &[Vec<u8>]) -> Result<String, RunFault>
-    ensures ok { IfOk result (λ text. IsTextOfFiles (bytes_of files.now) (string_bytes text)) }
+fn joined_text<R: Source>(alloc: Global, key: u128, files: &mut [R]) -> Result<String, RunFault>
+    requires { AreWorking (each R.has_failed files.old) }
+    ensures ok { IfOk result (λ text. AreTold (each R.remaining files.old) (each R.has_failed files.new)
+        (λ told. IsTextOfFiles told (string_bytes text))) }
     ensures size { IfOk result (λ text. length (string_bytes text) ≤ 4_000_000) }
-    ensures fault { IfErr result (IsTakingCaused (bytes_of files.now)) }
+    ensures fault { IfErr result (EndsOver (each R.remaining files.old) (each R.has_failed files.new) IsTakingCaused) }
 {
     let desk = desk_of(alloc, key, files)?;
     let text = read_text(&desk)?;

@@ -1,9 +1,11 @@
 //! The engine `replay`: desks take and merge operations by a schedule, and their texts are drawn.
 
-ghost use Rattle.std.specs.Prelude.{◌≡◌, ◌≤◌, Some, None, false, length};
+ghost use Rattle.std.specs.Prelude.{◌≡◌, ◌≤◌, Some, None, false, length, map as each};
 ghost use Rattle.std.specs.Option.{option_copied};
 ghost use Rattle.desk_runs.specs.Setting.{print_in, files_in};
-ghost use Rattle.desk_runs.specs.ReplayOutcome.{given, IsReplayOutcome, IsPlanOutcome};
+ghost use Rattle.desk_runs.specs.Files.{bytes_of};
+ghost use Rattle.desk_runs.specs.Readers.{AreWorking};
+ghost use Rattle.desk_runs.specs.ReplayOutcome.{given, IsReplayOutcome, IsReplayOutcomeOver, IsPlanOutcome};
 
 mod round;
 mod setting;
@@ -11,10 +13,12 @@ mod show;
 mod steps;
 
 use crate::desks::new_desks;
-use crate::reading::{decode_all, load};
+use crate::in_memory::readers_of;
+use crate::reading::{load, read_all};
 use crate::run_fault::RunFault;
 use crate::schedule::read_schedule;
 use bg_types::{Base, Sink};
+use op_codec::Source;
 use round::run_round;
 use setting::Setting;
 use std::alloc::Global;
@@ -42,11 +46,37 @@ pub fn replay<S: Sink>(
     requires some { 1 ≤ length files.now }
     requires many { length files.now ≤ 64 }
     requires working { S.has_failed out.old ≡ false }
-    ensures { IsReplayOutcome (given ucd.now width base files.now (option_copied schedule.entry))
+    ensures { IsReplayOutcome (given ucd.now width base (bytes_of files.now) (option_copied schedule.entry))
+        (S.written out.old) (S.written out.new) (S.has_failed out.new) result }
+{
+    let mut readers = readers_of(alloc, files)?;
+    replay_from(alloc, key, ucd, width, base, &mut readers, schedule, out)
+}
+
+/// The same over the files of readers. Each is read in pieces of at most 4,096 bytes, to its end, to
+/// a fault in its bytes, or to a byte past the first 67,108,864.
+pub fn replay_from<R: Source, S: Sink>(
+    alloc: Global,
+    key: u128,
+    ucd: &Ucd,
+    width: u16,
+    base: Base,
+    files: &mut [R],
+    schedule: Option<&[u8]>,
+    out: &mut S,
+) -> Result<(), RunFault>
+    requires narrow { 2 ≤ width }
+    requires wide { width ≤ 500 }
+    requires some { 1 ≤ length files.old }
+    requires many { length files.old ≤ 64 }
+    requires readers { AreWorking (each R.has_failed files.old) }
+    requires working { S.has_failed out.old ≡ false }
+    ensures { IsReplayOutcomeOver (each R.remaining files.old) (each R.has_failed files.new)
+        (λ told. given ucd.now width base told (option_copied schedule.entry))
         (S.written out.old) (S.written out.new) (S.has_failed out.new) result }
 {
     let tables = load(alloc, ucd)?;
-    let lists = decode_all(alloc, files)?;
+    let lists = read_all(alloc, files)?;
     let setting = Setting {
         alloc,
         tables: &tables,

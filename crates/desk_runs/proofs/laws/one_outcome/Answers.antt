@@ -1,10 +1,11 @@
+use Rattle.desk_runs.proofs.Flaws.{file_laws}
 use Rattle.desk_runs.proofs.LowerLaws.{FileLaws, ListLaws}
 use Rattle.desk_runs.proofs.OneCause.{one_lists, one_set, faulty_apart, one_faulty, refusal_apart, one_refused}
 use Rattle.desk_runs.proofs.laws.one_outcome.Goals as goal
 
 pub returns : goal.returns
 returns c = λ files.
-    let codec : FileLaws = record { one_list = c.one_spelling.ensures.one_list; never_both = c.spelled_or_faulty.ensures.never_both; one_fault = c.spelled_or_faulty.ensures.one_fault } in
+    let codec : FileLaws = file_laws c.one_spelling.ensures.one_list c.spelled_or_faulty.ensures.never_both c.spelled_or_faulty.ensures.one_fault in
     let lists : ListLaws = record { one_set = c.one_set.ensures; one_refusal = c.one_refusal.ensures.first; none_refused = c.none_refused.ensures } in
     record {
       one_list = one_lists codec files;

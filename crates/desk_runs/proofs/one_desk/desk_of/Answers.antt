@@ -1,4 +1,4 @@
-use Rattle.std.proofs.Common.{◌≡◌, List, [], ◌++◌, ◌+◌, ◌⊎◌, ◌≤◌, take, ap, sym, subst, ◌∙◌}
+use Rattle.std.proofs.Common.{◌≡◌, List, [], ◌++◌, ◌+◌, ◌⊎◌, ◌≤◌, ℕ, inr, take, ap, sym, subst, ◌∙◌}
 use Rattle.std.specs.Prelude.{map as each}
 use Rattle.std.specs.Global.{Vec}
 use Rattle.std.specs.List.{AllZip}
@@ -6,35 +6,38 @@ use Rattle.std.proofs.lemmas.List.{take_all}
 use Rattle.bg_types.specs.declared.op.Op.{Op}
 use Rattle.bg_types.specs.declared.op.OpView.{OpView}
 use Rattle.bg_types.specs.OperationSet.{size}
-use Rattle.op_codec.specs.Spelling.{Spells}
 use Rattle.desk_replica.specs.declared.answer.TakeFault.TheVariants.{Memory}
 use Rattle.desk_replica.specs.SetOf.{IsSetOf}
 use Rattle.desk_replica.specs.Refusal.{IsFirstRefusal}
-use Rattle.desk_runs.specs.Files.{bytes_of, joined}
-use Rattle.desk_runs.specs.Cause.{IsTakingCaused}
+use Rattle.desk_runs.specs.declared.run_fault.RunFault.{RunFault}
+use Rattle.desk_runs.specs.Reading.{IsReadAs}
+use Rattle.desk_runs.specs.Readers.{EndsOver}
+use Rattle.desk_runs.specs.Files.{IsSetOfFiles, joined}
+use Rattle.desk_runs.specs.Cause.{IsReadCaused, IsTakingCaused}
 use Rattle.desk_replica.specs.Desk.{Desk}
 use Rattle.desk_runs.proofs.Spelled.{joined-next}
 use Rattle.desk_runs.proofs.Taking.{IsSetOf-nil, nothing-limited}
 use Rattle.desk_runs.proofs.Answered.{taking-refused, taking-unread}
 use Rattle.desk_runs.proofs.HandedOn.{err_handed}
+use Rattle.desk_runs.proofs.Readings.{told_so, ends_so}
 use Rattle.desk_runs.proofs.one_desk.desk_of.Goals as goal
 
 pub loop-ops-init : goal.loop-ops-init
-loop-ops-init c =
+loop-ops-init g c =
     let fresh = ap (λ (d : Desk). d.set) c.new_desk-desk.ensures in
     record { taken = subst (IsSetOf []) (sym fresh) (IsSetOf-nil c.nothing_held.ensures); limited = subst (λ s. size s ≤ 1_000_000) (sym fresh) nothing-limited }
 
 pub returns-in-Err-clause-fault : goal.returns-in-Err-clause-fault
-returns-in-Err-clause-fault c =
+returns-in-Err-clause-fault g c =
     let all : List (Vec Op) = c.deref-ops-items.result.now in
     let before : List OpView = joined (each (λ ops. ops.items) (take c.loop-ops.ops-index all)) in
-    let spelled = subst (λ l. AllZip Spells (bytes_of c.args.files.now) (each (λ ops. ops.items) l)) (sym c.deref-ops-items.ensures.value) c.in_ok-all.ensures.ok in
     let first = subst (λ ops. (c.in-Err.fault ≡ Memory) ⊎ IsFirstRefusal (before ++ ops) c.in-Err.fault) c.deref.ensures.value (c.in-Err.ensures.fault before c.loop-ops.invariant.taken) in
-    subst (IsTakingCaused (bytes_of c.args.files.now)) (sym c.step_fault.ensures)
-    (taking-refused (bytes_of c.args.files.now) all c.loop-ops.ops-index c.ops-item.result c.in-Err.fault spelled c.loop-ops-test.true c.ops-item.is first)
+    let refused = λ (told : List (List ℕ)) (spelled : AllZip IsReadAs told (each (λ ops. ops.items) c.in_ok-all.all.items)).
+    taking-refused told all c.loop-ops.ops-index c.ops-item.result c.in-Err.fault (subst (λ l. AllZip IsReadAs told (each (λ ops. ops.items) l)) (sym c.deref-ops-items.ensures.value) spelled) c.loop-ops-test.true c.ops-item.is first in
+    subst (EndsOver _ _ IsTakingCaused) (sym c.step_fault.ensures) (inr (told_so _ _ _ _ refused c.in_ok-all.ensures.ok))
 
 pub loop-ops-preserved : goal.loop-ops-preserved
-loop-ops-preserved c =
+loop-ops-preserved g c =
     let all : List (Vec Op) = c.deref-ops-items.result.now in
     let before : List OpView = joined (each (λ ops. ops.items) (take c.loop-ops.ops-index all)) in
     let taken : IsSetOf (before ++ c.deref.result.now) c.take_all.new.desk.set = c.in_default.ensures.ok before c.loop-ops.invariant.taken in
@@ -43,15 +46,14 @@ loop-ops-preserved c =
     record { taken = subst (λ l. IsSetOf l c.take_all.new.desk.set) lists taken; limited = c.in_default.ensures.limited }
 
 pub returns-clause-ok : goal.returns-clause-ok
-returns-clause-ok c =
+returns-clause-ok g c =
     let all : List (Vec Op) = c.deref-ops-items.result.now in
     let whole = take_all c.loop-ops.ops-index all c.loop-ops-test.false ∙ c.deref-ops-items.ensures.value in
-    record {
-      lists = each (λ ops. ops.items) c.in_ok-all.all.items;
-      spelled = c.in_ok-all.ensures.ok;
-      of_all = subst (λ l. IsSetOf (joined (each (λ ops. ops.items) l)) c.loop-ops.desk.set) whole c.loop-ops.invariant.taken;
-    }
+    let of_all = subst (λ l. IsSetOf (joined (each (λ ops. ops.items) l)) c.loop-ops.desk.set) whole c.loop-ops.invariant.taken in
+    told_so _ _ (λ told. AllZip IsReadAs told (each (λ ops. ops.items) c.in_ok-all.all.items)) (λ told. IsSetOfFiles told c.loop-ops.desk.set) (λ told spelled. record { lists = each (λ ops. ops.items) c.in_ok-all.all.items; spelled = spelled; of_all = of_all })
+    c.in_ok-all.ensures.ok
 
 pub returns-in_err-all-clause-fault : goal.returns-in_err-all-clause-fault
-returns-in_err-all-clause-fault c =
-    err_handed (IsTakingCaused (bytes_of c.args.files.now)) c.from_residual.result c.in_err-all.field-0.0 c.from_residual.ensures.1 (taking-unread (bytes_of c.args.files.now) c.in_err-all.field-0.0 c.in_err-all.ensures.fault)
+returns-in_err-all-clause-fault g c =
+    let fault : RunFault = c.in_err-all.field-0.0 in
+    err_handed (EndsOver _ _ IsTakingCaused) c.from_residual.result fault c.from_residual.ensures.1 (ends_so _ _ IsReadCaused IsTakingCaused fault (λ told. taking-unread told fault) c.in_err-all.ensures.fault)

@@ -6,7 +6,7 @@ use Rattle.desk_runs.specs.Files.{joined}
 use Rattle.desk_runs.proofs.one_desk.desk_of.Given as goal
 
 abbrev pub invariant-loop-ops : goal.invariant-loop-ops
-invariant-loop-ops l = record {
+invariant-loop-ops g l = record {
   taken : IsSetOf (joined (each (λ ops. ops.items) (take l.ops-index l.ops-items))) l.desk.set;
   limited : size l.desk.set ≤ 1_000_000;
 }

@@ -1,11 +1,11 @@
 //! Files worked out by hand, from bytes to bytes.
 
-ghost use Rattle.std.specs.Prelude.{◌<◌};
+ghost use Rattle.std.specs.Prelude.{◌≡◌, ◌<◌, false};
 
 use super::*;
 use bg_types::{Id, Memory, Op, Out, Place, Stops};
 use desk_replica::TakeFault;
-use op_codec::{Cause, CodecFault, encode_file};
+use op_codec::{Cause, CodecFault, Gives, encode_file};
 use std::test::Fail;
 
 /// (1,1) after the root, `a`; (2,1) after (1,1), `b`.
@@ -58,6 +58,16 @@ fn run_one(alloc: Global, ops: &[Op]) -> Result<(Result<(), RunFault>, Vec<u8>),
     let file = encode_file(alloc, ops)?;
     let files = vec![in alloc; file]?;
     Ok(run(alloc, files.as_slice()))
+}
+
+/// The same over the file of a reader.
+fn run_from<'a>(alloc: Global, reader: Gives<'a>) -> (Result<(), RunFault>, Vec<u8>)
+    requires { ⟦<Gives<'a> as Source>⟧.has_failed reader ≡ false }
+{
+    let mut bytes = Vec::new(alloc);
+    let mut readers = [reader];
+    let answer = text_from(alloc, KEY, &mut readers, &mut Out::new(&mut bytes));
+    (answer, bytes)
 }
 
 fn malformed(file: usize, frame: usize, cause: Cause) -> RunFault {
@@ -186,4 +196,64 @@ fn a_run_is_right_or_says_memory(rt: HostRuntime) -> Result<(), Fail> {
         Err(fault) => assert_eq!(rt; (fault, room[0]), (RunFault::Memory, 0)),
     }
     Ok(())
+}
+
+#[test]
+fn files_in_pieces_of_each_size(rt: HostRuntime) -> Result<(), Fail> {
+    let four = encode_file(rt.alloc(), &four().ok_or("well formed")?)?;
+    let late = Err(malformed(1, 1, Cause::ParentNotBefore));
+    let cut = Err(malformed(1, 2, Cause::Truncated));
+    let rows: [(&[u8], Result<(), RunFault>, &[u8]); 4] = [
+        (&TWO, Ok(()), b"ab"),
+        (&four, Ok(()), b"axyb"),
+        (&LATE_PARENT, late, b""),
+        (&TWO[..42], cut, b""),
+    ];
+    for size in 1..44usize {
+        for (file, wanted, text) in rows {
+            let (answer, bytes) = run_from(rt.alloc(), Gives::new(file, size));
+            assert_eq!(rt; answer, wanted, "by {size}");
+            assert_eq!(rt; bytes.as_slice(), text, "by {size}");
+        }
+    }
+    Ok(())
+}
+
+#[test]
+fn a_reader_that_fails_after_each_byte(rt: HostRuntime) {
+    for left in 0..44usize {
+        for size in 1..9usize {
+            let (answer, bytes) = run_from(rt.alloc(), Gives::new(&TWO, size).failing_after(left));
+            assert_eq!(rt; answer, Err(RunFault::ReadFailed(1)), "{left} by {size}");
+            assert!(rt; bytes.is_empty(), "{left} by {size}");
+        }
+    }
+}
+
+#[test]
+fn a_fault_of_an_endless_reader_is_told(rt: HostRuntime) {
+    let reader = Gives::new(&TWO, 4_096).then_for_ever(&[0]);
+    let (answer, bytes) = run_from(rt.alloc(), reader);
+    assert_eq!(rt; answer, Err(malformed(1, 3, Cause::UnknownKind)));
+    assert!(rt; bytes.is_empty());
+}
+
+#[test]
+fn the_first_file_that_can_not_be_read_decides(rt: HostRuntime) {
+    let late = malformed(1, 1, Cause::ParentNotBefore);
+    for (first, left, wanted) in [
+        (LATE_PARENT.as_slice(), 3usize, late),
+        (TWO.as_slice(), 3, RunFault::ReadFailed(2)),
+        (TWO.as_slice(), 24, RunFault::ReadFailed(2)),
+    ] {
+        let mut bytes = Vec::new(rt.alloc());
+        let mut readers = [
+            Gives::new(first, 7),
+            Gives::new(&LATE_PARENT[..20], 7).failing_after(left.min(20)),
+            Gives::new(&[], 7),
+        ];
+        let answer = text_from(rt.alloc(), KEY, &mut readers, &mut Out::new(&mut bytes));
+        assert_eq!(rt; answer, Err(wanted), "{left}");
+        assert!(rt; bytes.is_empty(), "{left}");
+    }
 }

@@ -1,38 +1,43 @@
-use Rattle.std.proofs.Common.{List, ap, subst}
+use Rattle.std.proofs.Common.{Some, refl, inl, ap, ◌∙◌, arith}
+use Rattle.std.specs.Prelude.{map as each}
 use Rattle.std.specs.Option.{option_copied}
-use Rattle.bg_types.specs.declared.op.OpView.{OpView}
-use Rattle.ucd_files.specs.Tables.{TableValues}
-use Rattle.desk_runs.specs.Printed.{printed}
-use Rattle.desk_runs.specs.Files.{lists_of}
-use Rattle.desk_runs.specs.ReplayOutcome.{given, print_of, IsPlanOutcome, IsReplayOutcome}
-use Rattle.desk_runs.proofs.Plans.{ended_by_tables, ended_by_files, plan_of_run}
+use Rattle.std.proofs.KnownBytes.{Keeps-refl}
+use Rattle.std.proofs.lemmas.List.{length-map}
+use Rattle.desk_runs.specs.declared.run_fault.RunFault.TheVariants as run
+use Rattle.desk_runs.specs.Files.{bytes_of}
+use Rattle.desk_runs.specs.ReplayOutcome.{given, IsReplayOutcome}
 use Rattle.desk_runs.proofs.HandedOn.{answer_handed}
+use Rattle.desk_runs.proofs.Readings.{never_failed, over_memory, as_many}
 use Rattle.desk_runs.proofs.engine.replay.replay.Goals as goal
 
-pub returns-in_err-tables : goal.returns-in_err-tables
-returns-in_err-tables g c =
-    let run = given c.args.ucd.now c.args.width c.args.base c.args.files.now (option_copied c.args.schedule) in
+pub returns-in_err-readers : goal.returns-in_err-readers
+returns-in_err-readers g c =
     let old = g.S.Sink.written c.args.out.now in
     let failed = g.S.Sink.has_failed c.args.out.now in
-    let fault = c.in_err-tables.field-0.0 in
-    answer_handed (IsReplayOutcome run old old failed) c.from_residual.result fault c.from_residual.ensures.1 (ended_by_tables run old failed c.requires.working fault c.in_err-tables.ensures.fault)
+    answer_handed (IsReplayOutcome (given c.args.ucd.now c.args.width c.args.base (bytes_of c.args.files.now) (option_copied c.args.schedule)) old old failed) c.from_residual.result run.Memory c.from_residual.ensures.1
+    (inl (tt, (c.requires.working, Keeps-refl old)))
 
-pub returns-in_err-lists : goal.returns-in_err-lists
-returns-in_err-lists g c =
-    let run = given c.args.ucd.now c.args.width c.args.base c.args.files.now (option_copied c.args.schedule) in
-    let old = g.S.Sink.written c.args.out.now in
-    let failed = g.S.Sink.has_failed c.args.out.now in
-    let fault = c.in_err-lists.field-0.0 in
-    answer_handed (IsReplayOutcome run old old failed) c.from_residual-in_err-lists.result fault c.from_residual-in_err-lists.ensures.1
-    (ended_by_files run old failed c.requires.working fault c.in_ok-tables.ensures.sound c.in_err-lists.ensures.fault)
+pub replay_from-requires-clause-readers : goal.replay_from-requires-clause-readers
+replay_from-requires-clause-readers g c = never_failed c.deref_mut.result.now
+
+pub replay_from-requires-clause-some : goal.replay_from-requires-clause-some
+replay_from-requires-clause-some g c =
+    let told = ap (each (λ m. Some m.bytes.now)) c.deref_mut.ensures.value ∙ c.in_ok-readers.ensures in
+    let many = as_many _ (bytes_of c.args.files.now) c.deref_mut.result.now told (λ m. Some m.bytes.now) refl in
+    let size = length-map c.args.files.now (λ file. file.items) in
+    let some = c.requires.some in
+    omega (arith, many, size, some)
+
+pub replay_from-requires-clause-many : goal.replay_from-requires-clause-many
+replay_from-requires-clause-many g c =
+    let told = ap (each (λ m. Some m.bytes.now)) c.deref_mut.ensures.value ∙ c.in_ok-readers.ensures in
+    let many = as_many _ (bytes_of c.args.files.now) c.deref_mut.result.now told (λ m. Some m.bytes.now) refl in
+    let size = length-map c.args.files.now (λ file. file.items) in
+    let most = c.requires.many in
+    omega (arith, many, size, most)
 
 pub returns : goal.returns
 returns g c =
-    let run = given c.args.ucd.now c.args.width c.args.base c.args.files.now (option_copied c.args.schedule) in
-    let old = g.S.Sink.written c.args.out.now in
-    let new = g.S.Sink.written c.run.new.out in
-    let failed = g.S.Sink.has_failed c.run.new.out in
-    let r = c.run.result in
-    plan_of_run run (lists_of c.in_ok-lists.lists.items) c.in_ok-tables.ensures.sound c.in_ok-lists.ensures.ok old new failed r
-    (subst (λ (files : List (List OpView)). IsPlanOutcome (print_of run) files run.schedule old new failed r) (ap lists_of c.deref.ensures.value)
-    (subst (λ (tables : TableValues). IsPlanOutcome (printed tables c.args.width c.args.base) (lists_of c.deref.result.now) run.schedule old new failed r) c.in_ok-tables.ensures.ok c.run.ensures))
+    over_memory _ (bytes_of c.args.files.now) c.replay_from.new.files (ap (each (λ m. Some m.bytes.now)) c.deref_mut.ensures.value ∙ c.in_ok-readers.ensures) _
+    (λ files. IsReplayOutcome (given c.args.ucd.now c.args.width c.args.base files (option_copied c.args.schedule)) (g.S.Sink.written c.args.out.now) (g.S.Sink.written c.replay_from.new.out) (g.S.Sink.has_failed c.replay_from.new.out))
+    c.replay_from.result c.replay_from.ensures

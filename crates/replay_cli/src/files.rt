@@ -1,0 +1,34 @@
+//! The operation files of a run, opened to be read piece by piece.
+
+ghost use Rattle.std.specs.Prelude.{◌≡◌, ◌+◌, ◌<◌, ℕ, Some, IfOk, length, map, slice_get, vec_len};
+ghost use Rattle.desk_runs.specs.Readers.{AreWorking};
+
+use cli_support::{Unread, open};
+use desk_runs::RunFault;
+use op_codec::{In, Source};
+use std::rt::Files;
+
+/// The files in order, each open, or the first that can't be opened.
+pub fn open_all<R: Files + AllocGlobal>(
+    rt: &R,
+    paths: &[&str],
+) -> Result<Vec<In<R::File>>, Unread>
+    ensures each { IfOk result (λ files. vec_len files ≡ length paths.now) }
+    ensures working { IfOk result (λ files. AreWorking (map ⟦<In<R::File> as Source>⟧.has_failed files.items)) }
+{
+    let mut files = Vec::new(rt.alloc());
+    for path in paths {
+        files.push(In::new(open(rt, path)?))?;
+    }
+    Ok(files)
+}
+
+/// The path of the file of which a read failed, or nothing after another fault.
+pub fn path_of<'a>(fault: &RunFault, paths: &[&'a str]) -> &'a str
+    ensures { (k : ℕ) → k < length paths.now → fault.now ≡ RunFault.ReadFailed (k + 1) → slice_get paths.now k ≡ Some result }
+{
+    match fault {
+        RunFault::ReadFailed(file) if *file > 0 && *file <= paths.len() => paths[*file - 1],
+        _ => "",
+    }
+}
