@@ -11,8 +11,10 @@ mod words;
 use bg_types::{Device, Out};
 pub use cli_support::Stop;
 use cli_support::{Unread, end, flush, read, read_data};
-pub use desk_runs::{Move, RunFault, ScheduleFault, TakeFault, Ucd, carets, replay, status, text};
-pub use desk_runs::{carets_from, replay_from, text_from};
+pub use desk_runs::{
+    Move, RunFault, ScheduleFault, TakeFault, Ucd, carets, carets_from, replay, replay_from,
+    status, text, text_from,
+};
 use files::{open_all, path_of};
 use key::draw_key;
 pub use op_listing::{LineFault, dump, pack};
@@ -144,19 +146,20 @@ fn run_pack(rt: &HostRuntime, path: &str) -> ExitCode {
     )
 }
 
-/// Ends a run of an engine that read the files of these paths, and wrote to this writer.
+/// Ends a run of an engine that read the files of these paths, and wrote to this writer. What was
+/// written before a refusal comes before the line about it, and a device that loses it is told first.
 fn finish<W: Write>(
     rt: &HostRuntime,
     done: Result<(), RunFault>,
     paths: &[&str],
     out: &mut W,
 ) -> ExitCode {
-    if let Err(fault) = done {
-        return refuse(rt, &fault, path_of(&fault, paths));
+    if let Err(Device) = flush(out) {
+        return refuse(rt, &RunFault::Device, "");
     }
-    match flush(out) {
+    match done {
         Ok(()) => ExitCode::SUCCESS,
-        Err(Device) => refuse(rt, &RunFault::Device, ""),
+        Err(fault) => refuse(rt, &fault, path_of(&fault, paths)),
     }
 }
 
