@@ -86,6 +86,7 @@ impl Op {
         }
     }
 
+    /// What it does, to match on.
     pub fn view(self) -> OpView
         ensures value { result ≡ self }
         // What every operation is, for the caller's proof.

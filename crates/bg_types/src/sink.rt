@@ -13,6 +13,7 @@ pub trait Sink {
 
     ghost has_failed: { Self → Bool };
 
+    /// Whether a put has failed. It stays so.
     fn failed(&self) -> bool
         ensures { result ≡ has_failed self.now };
 

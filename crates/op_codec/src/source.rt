@@ -10,6 +10,7 @@ pub trait Source {
 
     ghost has_failed: { Self → Bool };
 
+    /// Whether a read has failed. It stays so.
     fn failed(&self) -> bool
         ensures { result ≡ has_failed self.now };
 
