@@ -1,11 +1,11 @@
 -- Runs that are read, and what they stand for.
 use Rattle.std.proofs.Common.{◌≡◌, ℕ, zero, suc, ◌+◌, ◌-◌, ◌*◌, ◌/◌, ◌^◌, ◌<◌, ◌≤◌, true, false, eqb, leb, ltb, Bool, cond, List, [], ◌∷◌, ◌++◌, length, slice_index, take, drop, Option, Some, None, refl, sym, ap, subst, ◌∙◌, append_assoc, arith, inl, inr}
-use Rattle.std.specs.Prelude.{◌||◌, not, nat_le}
+use Rattle.std.specs.Prelude.{◌||◌, not, nat_le, IfSome}
 use Rattle.std.specs.List.{flat_map, list_all, AllByRecursion}
 use Rattle.std.specs.Char.{IsScalar}
 use Rattle.std.proofs.Math.Utf8.{scalar}
 use Rattle.std.proofs.lemmas.Bool.{lt-ltb, le-ltb}
-use Rattle.std.proofs.lemmas.List.{take_all, length-take, length-drop}
+use Rattle.std.proofs.lemmas.List.{take_all, length-take, length-drop, take-append-le}
 use Rattle.byteorder.specs.Endian.{big_bytes, big_number}
 use Rattle.bg_types.specs.Identifier.{Identifier, IsIdentifier}
 use Rattle.bg_types.specs.WellFormed.{IsWellFormed}
@@ -108,3 +108,14 @@ run_no_scalar f none few other =
 pub run_numbers : (f : List ℕ) (cause : Cause) → numbers_cause f ≡ Some cause → run_cause f ≡ Some cause
 run_numbers f cause shown =
     λ i. or_else (shown i) (first_cause ((ltb (2 ^ 32) ((identifier_at f).counter + length (characters_in (drop 12 f))), CounterOverflow) ∷ (not (list_all scalar (characters_in (drop 12 f))), NotAScalar) ∷ []))
+
+-- ---- what calls give
+
+pub made : {A : Type 0} (o : Option A) (x y : A) → o ≡ Some x → IfSome o (λ z. z ≡ y) → x ≡ y
+made o x y e h = subst (λ (p : Option _). IfSome p (λ z. z ≡ y)) e h
+
+-- what has grown by one more has grown
+pub grown_push : (first ops new : List OpView) (op : OpView) → take (length first) ops ≡ first → new ≡ ops ++ op ∷ [] → take (length first) new ≡ first
+grown_push first ops new op e is =
+    let longer : length first ≤ length ops = omega (arith, length-take (length first) ops, ap (λ (xs : List OpView). length xs) e) in
+    ap (λ (xs : List OpView). take (length first) xs) is ∙ take-append-le (length first) ops (op ∷ []) longer ∙ e

@@ -1,4 +1,5 @@
 use Rattle.std.proofs.Common.{List, ℕ, sym, ap, subst, ◌∙◌, arith}
+use Rattle.op_codec.specs.Spelling.{Frame}
 use Rattle.op_codec.specs.Fault.{cause_at, characters_in}
 use Rattle.op_codec.specs.Feed.{TakesFrame}
 use Rattle.op_codec.proofs.Cuts.{frame_kept, frame_completed, frame_within}
@@ -6,13 +7,13 @@ use Rattle.op_codec.proofs.cut.complete_frame.Goals as goal
 
 pub overflow_sub-result : goal.overflow_sub-result
 overflow_sub-result c =
-    let f = record { first = c.in-Ok.read.first; further = characters_in c.in-Ok.read.further.now } in
+    let f : Frame = record { first = c.in-Ok.read.first; further = characters_in c.in-Ok.read.further.now } in
     let takes = subst (λ (s : List ℕ). TakesFrame c.args.at.now s f c.in-Ok.read.rest.now) c.deref.ensures.0 c.in-Ok.ensures.ok in
     frame_within c.args.at.now c.args.kept.now.items c.args.piece.now c.append.new.kept.items c.in-Ok.read.rest.now f c.min-taken.result (omega (arith, c.min-taken.ensures, c.len.ensures.value)) c.append.ensures takes c.requires.missing
 
 pub returns-in_ok-push_frame-in-Ok-clause-some : goal.returns-in_ok-push_frame-in-Ok-clause-some
 returns-in_ok-push_frame-in-Ok-clause-some c =
-    let f = record { first = c.in-Ok.read.first; further = characters_in c.in-Ok.read.further.now } in
+    let f : Frame = record { first = c.in-Ok.read.first; further = characters_in c.in-Ok.read.further.now } in
     let takes = subst (λ (s : List ℕ). TakesFrame c.args.at.now s f c.in-Ok.read.rest.now) c.deref.ensures.0 c.in-Ok.ensures.ok in
     record {
       f = f;
