@@ -36,7 +36,8 @@ pub fn encode_op(op: &Op, out: &mut Vec<u8>) -> Result<(), Memory>
 
 /// The file of the operations, of version 1 (docs/FORMATS.md). Memory is asked for once.
 pub fn encode_file(alloc: Global, ops: &[Op]) -> Result<Vec<u8>, Memory>
-    ensures { IfOk result (λ file. SpellsIn Version.One file.items ops.now) }
+    ensures spelled { IfOk result (λ file. SpellsIn Version.One file.items ops.now) }
+    ensures frames { IfOk result (λ file. file.items ≡ spelling ops.now) }
 {
     let mut file = Vec::with_capacity(alloc, file_size(ops))?;
     // The whole file has room, so nothing below grows it.

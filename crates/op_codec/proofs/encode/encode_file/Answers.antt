@@ -13,10 +13,13 @@ unwrap-requires-in-loop-op c =
     let kept = c.loop-op.invariant in
     c.encode_op.ensures.room (omega (arith, next, c.loop-op.file.ok, kept.room, ap (λ (s : List ℕ). length s) kept.written))
 
-pub returns : goal.returns
-returns c =
+pub returns-clause-spelled : goal.returns-clause-spelled
+returns-clause-spelled c =
     let all = take_all c.loop-op.op-index c.args.ops.now (omega (arith, c.loop-op-test.false)) in
     record {
       bytes = c.loop-op.invariant.written ∙ ap spelling all ∙ sym (spelling_one c.args.ops.now);
       well_formed = subst (AllByRecursion IsWellFormed) all c.loop-op.invariant.well_formed;
     }
+
+pub returns-clause-frames : goal.returns-clause-frames
+returns-clause-frames c = c.loop-op.invariant.written ∙ ap spelling (take_all c.loop-op.op-index c.args.ops.now (omega (arith, c.loop-op-test.false)))
