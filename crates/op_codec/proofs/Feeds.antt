@@ -1,8 +1,8 @@
 -- What a feed keeps, before and after a piece.
 use Rattle.std.proofs.Common.{◌≡◌, ◌≢◌, ℕ, ◌+◌, ◌<◌, ◌≤◌, Bool, true, false, List, [], ◌∷◌, ◌++◌, length, take, Option, Some, None, Result, Ok, Err, refl, sym, ap, subst, ◌∙◌, append_assoc, arith, inl, inr, ◌⊎◌}
-use Rattle.std.specs.Prelude.{option_map, OnOk, OnErr, IfErr}
+use Rattle.std.specs.Prelude.{option_map, OnOk, OnErr, IfErr, IfSome, IfNone}
 use Rattle.std.specs.List.{flat_map, AllByRecursion}
-use Rattle.std.proofs.lemmas.List.{append-nil, length-append, take-append-le, take-take}
+use Rattle.std.proofs.lemmas.List.{append-nil, length-append, length-take, take-take}
 use Rattle.std.proofs.Math.Seq.{take-append_seam}
 use Rattle.bg_types.specs.WellFormed.{IsWellFormed}
 use Rattle.bg_types.specs.declared.op.OpView.{OpView}
@@ -10,19 +10,36 @@ use Rattle.op_codec.specs.declared.fault.Cause.{Cause}
 use Rattle.op_codec.specs.declared.fault.Cause.TheVariants.{Truncated}
 use Rattle.op_codec.specs.declared.fault.CodecFault.{CodecFault}
 use Rattle.op_codec.specs.declared.fault.CodecFault.TheVariants.{Malformed, Memory}
-use Rattle.op_codec.specs.Spelling.{frame, header, spelling, Spells}
-use Rattle.op_codec.specs.Fault.{header_cause, frame_cause, IsFault, TellsFault}
-use Rattle.op_codec.specs.Feed.{IsWhole, IsSound, IsLasting, IsFed, IsFeedOutcome, bytes_of, kept_cause, IsCut, kept_fault, IsMissing, TellsKept, IsStopped, TakesFrame, AreTaken}
+use Rattle.op_codec.specs.declared.position.Version.{Version}
+use Rattle.op_codec.specs.declared.position.Position.{Position}
+use Rattle.op_codec.specs.Spelling.{Frame, frame_bytes, frame_ops, header, most_insertions, frames_of, tip_of, tip, joins, spelling_in, SpellsIn, Spells}
+use Rattle.op_codec.specs.Frames.{IsFrame}
+use Rattle.op_codec.specs.Fault.{header_cause, cause_at, IsFault, TellsFault}
+use Rattle.op_codec.specs.Feed.{IsWhole, IsSound, IsLasting, IsFed, IsFeedOutcome, bytes_of, kept_cause, IsCut, kept_fault, IsMissing, TellsKept, IsStopped, TakesFrame, IsBehind, IsNext, TakesIn, AreTaken}
 use Rattle.op_codec.proofs.Unique.{one_fault, never_both}
-use Rattle.op_codec.proofs.Faultless.{header_cause-header}
-use Rattle.op_codec.proofs.Complete.{more_spelled, more_well_formed}
+use Rattle.op_codec.proofs.Faultless.{header_cause-header, cause_at-frame}
+use Rattle.op_codec.proofs.Complete.{more_spelled}
+use Rattle.op_codec.proofs.Gathered.{frames_more, tip_more, more_well, length-frames_of}
 use Rattle.op_codec.proofs.Pieces.{all_fed, piece_faulty}
 
 -- ---- what the kept bytes show is what all bytes show
 
-fault_behind : (ops : List OpView) (b : ℕ) (kept : List ℕ) (cause : Cause) → AllByRecursion IsWellFormed ops → frame_cause (b ∷ kept) ≡ Some cause → IsFault (spelling ops ++ b ∷ kept) (length ops + 1) cause
-fault_behind ops b kept cause ok shown =
-    inr (record { ops = ops; rest = b ∷ kept; number = refl; before = refl; well_formed = ok; goes_on = omega arith; shown = shown })
+-- what follows frames is judged behind their tip
+shown_behind : (at : Position) (ops : List OpView) (kept : List ℕ) (cause : Cause) → IsBehind at ops → cause_at at.version at.tip kept ≡ Some cause → cause_at at.version (tip_of (most_insertions at.version) ops) kept ≡ Some cause
+shown_behind at ops kept cause is shown = ap (λ t. cause_at at.version t kept) (sym is.tip) ∙ shown
+
+fault_behind : (at : Position) (ops : List OpView) (b : ℕ) (kept : List ℕ) (cause : Cause) → AllByRecursion IsWellFormed ops → IsBehind at ops → cause_at at.version at.tip (b ∷ kept) ≡ Some cause
+    → IsFault (spelling_in at.version ops ++ b ∷ kept) (at.frames + 1) cause
+fault_behind at ops b kept cause ok is shown = inr (record {
+  version = at.version;
+  ops = ops;
+  rest = b ∷ kept;
+  number = ap (λ (k : ℕ). k + 1) is.frames;
+  before = refl;
+  well_formed = ok;
+  goes_on = omega arith;
+  shown = shown_behind at ops (b ∷ kept) cause is shown;
+})
 
 abbrev with_frame : ℕ → Option Cause → Option (ℕ × Cause)
 with_frame n shown = option_map {U = ℕ × Cause} (λ cause. (n, cause)) shown
@@ -40,39 +57,52 @@ never_none : (n : ℕ) (o : Option Cause) (cause : Cause) → o ≡ Some cause �
 never_none n None cause e f = cc
 never_none n (Some c) cause e f = cc
 
-pub kept_told : (headed : Bool) (ops : List OpView) (kept : List ℕ) (n frame : ℕ) (cause : Cause) → n ≡ length ops → IsCut headed ops kept → kept_fault headed n kept ≡ Some (frame, cause)
-    → IsFault (bytes_of headed ops kept) frame cause
-kept_told false ops kept n frame cause is cut e = let at = told_at 0 (header_cause kept) frame cause e in inl (sym at.0, at.1)
-kept_told true ops [] n frame cause is cut e = absurd cc
-kept_told true ops (b ∷ kept) n frame cause is cut e =
-    let at = told_at (n + 1) (frame_cause (b ∷ kept)) frame cause e in
-    subst (λ (k : ℕ). IsFault (spelling ops ++ b ∷ kept) k cause) (ap (λ (k : ℕ). k + 1) (sym is) ∙ at.0) (fault_behind ops b kept cause cut.0 at.1)
+pub kept_told : (position : Option Position) (ops : List OpView) (kept : List ℕ) (frame : ℕ) (cause : Cause) → IsCut position ops kept → kept_fault position kept ≡ Some (frame, cause)
+    → IsFault (bytes_of position ops kept) frame cause
+kept_told None ops kept frame cause cut e = let found = told_at 0 (header_cause kept) frame cause e in inl (sym found.0, found.1)
+kept_told (Some at) ops [] frame cause cut e = absurd cc
+kept_told (Some at) ops (b ∷ kept) frame cause cut e =
+    let found = told_at (at.frames + 1) (cause_at at.version at.tip (b ∷ kept)) frame cause e in
+    subst (λ (k : ℕ). IsFault (spelling_in at.version ops ++ b ∷ kept) k cause) found.0 (fault_behind at ops b kept cause cut.0 cut.1 found.1)
 
-pub kept_spelled : (headed : Bool) (ops : List OpView) (kept : List ℕ) (n : ℕ) → IsCut headed ops kept → kept_fault headed n kept ≡ None → Spells (bytes_of headed ops kept) ops
-kept_spelled false ops kept n cut e = absurd (never_none 0 (header_cause kept) cut.1.0 cut.1.1 e)
-kept_spelled true ops [] n cut e = record { bytes = append-nil (spelling ops); well_formed = cut.0 }
-kept_spelled true ops (b ∷ kept) n cut e = absurd (never_none (n + 1) (frame_cause (b ∷ kept)) cut.1.0 cut.1.1 e)
+pub kept_spelled : (position : Option Position) (ops : List OpView) (kept : List ℕ) → IsCut position ops kept → kept_fault position kept ≡ None → Spells (bytes_of position ops kept) ops
+kept_spelled None ops kept cut e = absurd (never_none 0 (header_cause kept) cut.1.0 cut.1.1 e)
+kept_spelled (Some at) ops [] cut e = record { version = at.version; spelled = record { bytes = append-nil (spelling_in at.version ops); well_formed = cut.0 } }
+kept_spelled (Some at) ops (b ∷ kept) cut e = absurd (never_none (at.frames + 1) (cause_at at.version at.tip (b ∷ kept)) cut.2.0 cut.2.1 e)
 
 -- a missing byte is all that the kept bytes show
-pub kept_missing : (headed : Bool) (ops : List OpView) (kept : List ℕ) (n : ℕ) → IsCut headed ops kept → IsMissing (kept_fault headed n kept) → kept_cause headed kept ≡ Some Truncated
-kept_missing false ops kept n cut missing =
-    let some : kept_fault false n kept ≡ Some (0, cut.1.0) = ap (with_frame 0) cut.1.1 in
+pub kept_missing : (position : Option Position) (ops : List OpView) (kept : List ℕ) → IsCut position ops kept → IsMissing (kept_fault position kept) → kept_cause position kept ≡ Some Truncated
+kept_missing None ops kept cut missing =
+    let some : kept_fault None kept ≡ Some (0, cut.1.0) = ap (with_frame 0) cut.1.1 in
     let is : cut.1.0 ≡ Truncated = subst IsMissing some missing in
     cut.1.1 ∙ ap Some is
-kept_missing true ops [] n cut missing = refl
-kept_missing true ops (b ∷ kept) n cut missing =
-    let some : kept_fault true n (b ∷ kept) ≡ Some (n + 1, cut.1.0) = ap (with_frame (n + 1)) cut.1.1 in
-    let is : cut.1.0 ≡ Truncated = subst IsMissing some missing in
-    cut.1.1 ∙ ap Some is
+kept_missing (Some at) ops [] cut missing = refl
+kept_missing (Some at) ops (b ∷ kept) cut missing =
+    let some : kept_fault (Some at) (b ∷ kept) ≡ Some (at.frames + 1, cut.2.0) = ap (with_frame (at.frames + 1)) cut.2.1 in
+    let is : cut.2.0 ≡ Truncated = subst IsMissing some missing in
+    cut.2.1 ∙ ap Some is
 
-pub sound_kept_so : (headed : Bool) (ops : List OpView) (kept : List ℕ) → IsCut headed ops kept → kept_cause headed kept ≡ Some Truncated → IsSound (bytes_of headed ops kept)
-sound_kept_so false ops kept cut missing n cause fault = (one_fault kept n 0 cause Truncated fault (inl (refl, missing))).1
-sound_kept_so true ops [] cut missing n cause fault = absurd (never_both (spelling ops ++ []) ops n cause (record { bytes = append-nil (spelling ops); well_formed = cut.0 }) fault)
-sound_kept_so true ops (b ∷ kept) cut missing n cause fault = (one_fault (spelling ops ++ b ∷ kept) n (length ops + 1) cause Truncated fault (fault_behind ops b kept Truncated cut.0 missing)).1
+pub sound_kept_so : (position : Option Position) (ops : List OpView) (kept : List ℕ) → IsCut position ops kept → kept_cause position kept ≡ Some Truncated → IsSound (bytes_of position ops kept)
+sound_kept_so None ops kept cut missing n cause fault = (one_fault kept n 0 cause Truncated fault (inl (refl, missing))).1
+sound_kept_so (Some at) ops [] cut missing n cause fault =
+    absurd (never_both (spelling_in at.version ops ++ []) ops n cause (record { version = at.version; spelled = record { bytes = append-nil (spelling_in at.version ops); well_formed = cut.0 } }) fault)
+sound_kept_so (Some at) ops (b ∷ kept) cut missing n cause fault =
+    (one_fault (spelling_in at.version ops ++ b ∷ kept) n (at.frames + 1) cause Truncated fault (fault_behind at ops b kept Truncated cut.0 cut.1 missing)).1
 
-pub kept_whole : (headed : Bool) (ops : List OpView) (kept : List ℕ) → IsCut headed ops kept → IsWhole (bytes_of headed ops kept) ops
-kept_whole false ops kept cut = inl (cut.0, cut.1)
-kept_whole true ops kept cut = inr (record { rest = kept; cause = cut.1.0; spelled = refl; well_formed = cut.0; no_frame = cut.1.1 })
+pub kept_whole : (position : Option Position) (ops : List OpView) (kept : List ℕ) → IsCut position ops kept → IsWhole (bytes_of position ops kept) ops
+kept_whole None ops kept cut = inl (cut.0, cut.1)
+kept_whole (Some at) ops kept cut = inr (record {
+  version = at.version;
+  rest = kept;
+  cause = cut.2.0;
+  spelled = refl;
+  well_formed = cut.0;
+  no_frame = shown_behind at ops kept cut.2.0 cut.1 cut.2.1;
+})
+
+-- there are no more frames than operations
+pub few_frames : (at : Position) (ops : List OpView) → IsBehind at ops → at.frames ≤ length ops
+few_frames at ops is = omega (arith, is.frames, length-frames_of (most_insertions at.version) ops)
 
 -- ---- how a piece is read
 
@@ -87,88 +117,114 @@ behind front bytes kept shown h = record {
 }
 
 -- the frames at the front were read, and what follows them is kept
-pub frames_taken : (ops grown : List OpView) (bytes rest kept : List ℕ) → AllByRecursion IsWellFormed grown → spelling ops ++ bytes ≡ spelling grown ++ rest → IsStopped rest kept (frame_cause kept)
-    → AreTaken (spelling ops ++ bytes) true grown kept
-frames_taken ops grown bytes rest kept ok read h = record {
-  cut = (ok, (h.cause, h.is_shown));
-  stopped = subst (λ (s : List ℕ). IsStopped s (spelling grown ++ kept) (frame_cause kept)) (sym read) (behind (spelling grown) rest kept (frame_cause kept) h);
-}
+pub frames_taken : (v : Version) (now : Position) (ops grown : List OpView) (bytes rest kept : List ℕ) → now.version ≡ v → AllByRecursion IsWellFormed grown → IsBehind now grown
+    → spelling_in v ops ++ bytes ≡ spelling_in v grown ++ rest → IsStopped rest kept (cause_at now.version now.tip kept) → AreTaken (spelling_in v ops ++ bytes) (Some now) grown kept
+frames_taken v now ops grown bytes rest kept version ok is read h =
+    let same : spelling_in now.version grown ++ rest ≡ spelling_in v ops ++ bytes = ap (λ (u : Version). spelling_in u grown ++ rest) version ∙ sym read in
+    record {
+      cut = (ok, is, (h.cause, h.is_shown));
+      stopped = subst (λ (s : List ℕ). IsStopped s (spelling_in now.version grown ++ kept) (cause_at now.version now.tip kept)) same (behind (spelling_in now.version grown) rest kept (cause_at now.version now.tip kept) h);
+    }
 
 -- the piece completes no frame
-pub frame_stays : (ops : List OpView) (old piece kept : List ℕ) → AllByRecursion IsWellFormed ops → IsStopped (old ++ piece) kept (frame_cause kept) → AreTaken ((spelling ops ++ old) ++ piece) true ops kept
-frame_stays ops old piece kept ok h = record {
-  cut = (ok, (h.cause, h.is_shown));
-  stopped = subst (λ (s : List ℕ). IsStopped s (spelling ops ++ kept) (frame_cause kept)) (sym (append_assoc (spelling ops) old piece)) (behind (spelling ops) (old ++ piece) kept (frame_cause kept) h);
-}
+pub frame_stays : (at : Position) (ops same : List OpView) (old piece kept : List ℕ) → AllByRecursion IsWellFormed ops → IsBehind at ops → IsStopped (old ++ piece) kept (cause_at at.version at.tip kept) × (same ≡ ops)
+    → AreTaken ((spelling_in at.version ops ++ old) ++ piece) (Some at) same kept
+frame_stays at ops same old piece kept ok is h =
+    subst (λ (xs : List OpView). AreTaken ((spelling_in at.version ops ++ old) ++ piece) (Some at) xs kept) (sym h.1) (record {
+      cut = (ok, is, (h.0.cause, h.0.is_shown));
+      stopped = subst (λ (s : List ℕ). IsStopped s (spelling_in at.version ops ++ kept) (cause_at at.version at.tip kept)) (sym (append_assoc (spelling_in at.version ops) old piece))
+          (behind (spelling_in at.version ops) (old ++ piece) kept (cause_at at.version at.tip kept) h.0);
+    })
+
+-- ---- one more frame
+
+free_behind : (at : Position) (ops : List OpView) (f : Frame) → IsBehind at ops → joins at.tip f.first ≡ false → joins (tip_of (most_insertions at.version) ops) f.first ≡ false
+free_behind at ops f is free = ap (λ t. joins t f.first) (sym is.tip) ∙ free
+
+pub taken_well : (at now : Position) (ops new : List OpView) (bytes rest : List ℕ) → TakesIn at now ops new bytes rest → AllByRecursion IsWellFormed ops → AllByRecursion IsWellFormed new
+taken_well at now ops new bytes rest h all = subst (AllByRecursion IsWellFormed) (sym h.ops) (more_well (most_insertions at.version) ops h.f all h.takes.begins.is_frame)
+
+pub taken_behind : (at now : Position) (ops new : List OpView) (bytes rest : List ℕ) → TakesIn at now ops new bytes rest → IsBehind at ops → IsBehind now new
+taken_behind at now ops new bytes rest h is =
+    let most = most_insertions at.version in
+    let free = free_behind at ops h.f is h.takes.alone in
+    let grown : frames_of (most_insertions now.version) new ≡ frames_of most ops ++ h.f ∷ [] = (λ i. frames_of (most_insertions (h.next.version i)) (h.ops i)) ∙ frames_more most ops h.f h.takes.begins.is_frame free in
+    record {
+      frames = h.next.frames ∙ ap (λ (k : ℕ). k + 1) is.frames ∙ sym (ap (λ (fs : List Frame). length fs) grown ∙ length-append (frames_of most ops) (h.f ∷ []));
+      tip = h.next.tip ∙ sym ((λ i. tip_of (most_insertions (h.next.version i)) (h.ops i)) ∙ tip_more most ops h.f h.takes.begins.is_frame free);
+    }
+
+pub taken_spelled : (at now : Position) (ops new : List OpView) (bytes rest : List ℕ) → TakesIn at now ops new bytes rest → IsBehind at ops → spelling_in at.version ops ++ bytes ≡ spelling_in at.version new ++ rest
+taken_spelled at now ops new bytes rest h is =
+    ap (λ (s : List ℕ). spelling_in at.version ops ++ s) h.takes.begins.spelled ∙ more_spelled at.version ops h.f rest h.takes.begins.is_frame (free_behind at ops h.f is h.takes.alone)
+    ∙ ap (λ (xs : List OpView). spelling_in at.version xs ++ rest) (sym h.ops)
 
 -- the piece completes a frame, and further frames were read
-pub frame_goes_on : (ops pushed grown : List OpView) (op : OpView) (old piece rest kept : List ℕ) → pushed ≡ ops ++ op ∷ [] → TakesFrame (old ++ piece) op rest → AreTaken (spelling pushed ++ rest) true grown kept
-    → AreTaken ((spelling ops ++ old) ++ piece) true grown kept
-frame_goes_on ops pushed grown op old piece rest kept is h taken =
-    let same : (spelling ops ++ old) ++ piece ≡ spelling pushed ++ rest =
-    append_assoc (spelling ops) old piece ∙ ap (λ (s : List ℕ). spelling ops ++ s) h.spelled ∙ more_spelled ops op rest ∙ ap (λ (xs : List OpView). spelling xs ++ rest) (sym is) in
-    subst (λ (s : List ℕ). AreTaken s true grown kept) (sym same) taken
-
-pub pushed_well : (ops pushed : List OpView) (op : OpView) → pushed ≡ ops ++ op ∷ [] → AllByRecursion IsWellFormed ops → IsWellFormed op → AllByRecursion IsWellFormed pushed
-pushed_well ops pushed op is all one = subst (AllByRecursion IsWellFormed) (sym is) (more_well_formed ops op all one)
-
--- what has grown twice has grown
-pub grown_on : (ops pushed grown : List OpView) (op : OpView) → pushed ≡ ops ++ op ∷ [] → take (length pushed) grown ≡ pushed → take (length ops) grown ≡ ops
-grown_on ops pushed grown op is h =
-    let longer : length ops ≤ length pushed = let size = ap (λ (xs : List OpView). length xs) is ∙ length-append ops (op ∷ []) in omega (arith, size) in
-    sym (take-take (length ops) (length pushed) grown longer) ∙ ap (λ (xs : List OpView). take (length ops) xs) (h ∙ is) ∙ take-append_seam ops (op ∷ [])
+pub frame_goes_on : (at next now : Position) (ops pushed grown : List OpView) (old piece rest kept : List ℕ) → IsBehind at ops → TakesIn at next ops pushed (old ++ piece) rest → AreTaken (spelling_in next.version pushed ++ rest) (Some now) grown kept
+    → AreTaken ((spelling_in at.version ops ++ old) ++ piece) (Some now) grown kept
+frame_goes_on at next now ops pushed grown old piece rest kept is h taken =
+    let same : (spelling_in at.version ops ++ old) ++ piece ≡ spelling_in next.version pushed ++ rest =
+    append_assoc (spelling_in at.version ops) old piece ∙ taken_spelled at next ops pushed (old ++ piece) rest h is ∙ ap (λ (v : Version). spelling_in v pushed ++ rest) (sym h.next.version) in
+    subst (λ (s : List ℕ). AreTaken s (Some now) grown kept) (sym same) taken
 
 -- the piece completes no header
-pub header_stays : (ops : List OpView) (old piece kept : List ℕ) → ops ≡ [] → IsStopped (old ++ piece) kept (header_cause kept) → AreTaken (old ++ piece) false ops kept
+pub header_stays : (ops : List OpView) (old piece kept : List ℕ) → ops ≡ [] → IsStopped (old ++ piece) kept (header_cause kept) → AreTaken (old ++ piece) None ops kept
 header_stays ops old piece kept none h = record { cut = (none, (h.cause, h.is_shown)); stopped = h }
 
 -- the piece completes the header
-pub header_goes_on : (ops grown : List OpView) (old piece rest kept : List ℕ) → ops ≡ [] → old ++ piece ≡ header ++ rest → AreTaken (spelling ops ++ rest) true grown kept → AreTaken (old ++ piece) true grown kept
-header_goes_on ops grown old piece rest kept none begins taken =
-    let same : spelling ops ++ rest ≡ old ++ piece = ap (λ (xs : List OpView). spelling xs ++ rest) none ∙ sym begins in
-    subst (λ (s : List ℕ). AreTaken s true grown kept) same taken
+pub header_goes_on : (version : Version) (now : Position) (ops grown : List OpView) (old piece rest kept : List ℕ) → ops ≡ [] → old ++ piece ≡ header version ++ rest → AreTaken (spelling_in version ops ++ rest) (Some now) grown kept
+    → AreTaken (old ++ piece) (Some now) grown kept
+header_goes_on version now ops grown old piece rest kept none begins taken =
+    let same : spelling_in version ops ++ rest ≡ old ++ piece = ap (λ (xs : List OpView). spelling_in version xs ++ rest) none ∙ sym begins in
+    subst (λ (s : List ℕ). AreTaken s (Some now) grown kept) same taken
 
-pub header_right_so : (bytes rest : List ℕ) → bytes ≡ header ++ rest → header_cause bytes ≡ None
-header_right_so bytes rest e = ap header_cause e ∙ header_cause-header rest
+pub start_behind : (version : Version) (at : Position) (ops : List OpView) → ops ≡ [] → at ≡ record { version = version; frames = 0; tip = None } → IsBehind at ops
+start_behind version at ops none is = subst (λ (p : Position). IsBehind p ops) (sym is) (record {
+  frames = ap (λ (xs : List OpView). length (frames_of (most_insertions version) xs)) (sym none);
+  tip = ap (λ (xs : List OpView). tip_of (most_insertions version) xs) (sym none);
+})
 
-pub spelled_header : (ops : List OpView) (kept piece : List ℕ) → header_cause ((spelling ops ++ kept) ++ piece) ≡ None
-spelled_header ops kept piece = header_right_so ((spelling ops ++ kept) ++ piece) ((flat_map frame ops ++ kept) ++ piece) refl
+pub header_right_so : (version : Version) (bytes rest : List ℕ) → bytes ≡ header version ++ rest → header_cause bytes ≡ None
+header_right_so version bytes rest e = ap header_cause e ∙ header_cause-header version rest
+
+pub spelled_header : (version : Version) (ops : List OpView) (kept piece : List ℕ) → header_cause ((spelling_in version ops ++ kept) ++ piece) ≡ None
+spelled_header version ops kept piece = header_right_so version ((spelling_in version ops ++ kept) ++ piece) ((flat_map frame_bytes (frames_of (most_insertions version) ops) ++ kept) ++ piece) refl
 
 pub none_well : (ops : List OpView) → ops ≡ [] → AllByRecursion IsWellFormed ops
 none_well ops none = subst (AllByRecursion IsWellFormed) (sym none) tt
 
 -- ---- the answer
 
-pub faulty_before : (headed : Bool) (ops : List OpView) (kept piece : List ℕ) (n : ℕ) (fault : CodecFault) → n ≡ length ops → IsCut headed ops kept → TellsKept (kept_fault headed n kept) fault
-    → IsFeedOutcome (bytes_of headed ops kept) piece (bytes_of headed ops kept) (Err fault)
-faulty_before headed ops kept piece n (Malformed frame cause) is cut told = (inl refl, (kept_told headed ops kept n frame cause is cut told.0, told.1))
-faulty_before headed ops kept piece n Memory is cut told = absurd told
+pub faulty_before : (position : Option Position) (ops : List OpView) (kept piece : List ℕ) (fault : CodecFault) → IsCut position ops kept → TellsKept (kept_fault position kept) fault
+    → IsFeedOutcome (bytes_of position ops kept) piece (bytes_of position ops kept) (Err fault)
+faulty_before position ops kept piece (Malformed frame cause) cut told = (inl refl, (kept_told position ops kept frame cause cut told.0, told.1))
+faulty_before position ops kept piece Memory cut told = absurd told
 
-pub taken_sound : (old piece : List ℕ) (headed : Bool) (ops : List OpView) (kept : List ℕ) (n : ℕ) → AreTaken (old ++ piece) headed ops kept → IsMissing (kept_fault headed n kept)
-    → IsFeedOutcome old piece (bytes_of headed ops kept) (Ok tt)
-taken_sound old piece headed ops kept n h missing =
-    let shown = kept_missing headed ops kept n h.cut missing in
+pub taken_sound : (old piece : List ℕ) (position : Option Position) (ops : List OpView) (kept : List ℕ) → AreTaken (old ++ piece) position ops kept → IsMissing (kept_fault position kept)
+    → IsFeedOutcome old piece (bytes_of position ops kept) (Ok tt)
+taken_sound old piece position ops kept h missing =
+    let shown = kept_missing position ops kept h.cut missing in
     let s = h.stopped in
     let truncated : s.cause ≡ Truncated = let e = sym s.is_shown ∙ shown in cc in
-    let whole : bytes_of headed ops kept ≡ old ++ piece = sym (s.begins ∙ ap (λ (m : List ℕ). bytes_of headed ops kept ++ m) (s.all truncated) ∙ append-nil (bytes_of headed ops kept)) in
-    (whole, sound_kept_so headed ops kept h.cut shown)
+    let whole : bytes_of position ops kept ≡ old ++ piece = sym (s.begins ∙ ap (λ (m : List ℕ). bytes_of position ops kept ++ m) (s.all truncated) ∙ append-nil (bytes_of position ops kept)) in
+    (whole, sound_kept_so position ops kept h.cut shown)
 
-pub taken_faulty : (old piece : List ℕ) (headed : Bool) (ops : List OpView) (kept : List ℕ) (n : ℕ) (fault : CodecFault) → n ≡ length ops → IsSound old → AreTaken (old ++ piece) headed ops kept
-    → TellsKept (kept_fault headed n kept) fault → IsFeedOutcome old piece (bytes_of headed ops kept) (Err fault)
-taken_faulty old piece headed ops kept n (Malformed frame cause) is sound h told =
-    let last : IsLasting (bytes_of headed ops kept) frame cause = (kept_told headed ops kept n frame cause is h.cut told.0, told.1) in
+pub taken_faulty : (old piece : List ℕ) (position : Option Position) (ops : List OpView) (kept : List ℕ) (fault : CodecFault) → IsSound old → AreTaken (old ++ piece) position ops kept
+    → TellsKept (kept_fault position kept) fault → IsFeedOutcome old piece (bytes_of position ops kept) (Err fault)
+taken_faulty old piece position ops kept (Malformed frame cause) sound h told =
+    let last : IsLasting (bytes_of position ops kept) frame cause = (kept_told position ops kept frame cause h.cut told.0, told.1) in
     (inr (sound, record { more = h.stopped.more; begins = h.stopped.begins; up_to = inr (frame, cause, last) }), last)
-taken_faulty old piece headed ops kept n Memory is sound h told = absurd told
+taken_faulty old piece position ops kept Memory sound h told = absurd told
 
-pub refused : (headed : Bool) (ops again : List OpView) (kept kept' piece : List ℕ) → again ≡ ops → kept' ≡ kept → IsSound (bytes_of headed ops kept) → header_cause (bytes_of headed ops kept ++ piece) ≡ None
-    → IsFeedOutcome (bytes_of headed ops kept) piece (bytes_of headed again kept') (Err Memory)
-refused headed ops again kept kept' piece same same' sound right = ((λ i. bytes_of headed (same i) (same' i)), sound, right)
+pub refused : (position : Option Position) (ops again : List OpView) (kept kept' piece : List ℕ) → again ≡ ops → kept' ≡ kept → IsSound (bytes_of position ops kept) → header_cause (bytes_of position ops kept ++ piece) ≡ None
+    → IsFeedOutcome (bytes_of position ops kept) piece (bytes_of position again kept') (Err Memory)
+refused position ops again kept kept' piece same same' sound right = ((λ i. bytes_of position (same i) (same' i)), sound, right)
 
 -- what the kept bytes are judged to show is what a feed answers
-pub answered : (old piece : List ℕ) (headed : Bool) (ops : List OpView) (kept : List ℕ) (n : ℕ) (r : Result (Unit {0}) CodecFault) → n ≡ length ops → IsSound old → AreTaken (old ++ piece) headed ops kept
-    → OnOk r (IsMissing (kept_fault headed n kept)) → IfErr r (TellsKept (kept_fault headed n kept)) → IsFeedOutcome old piece (bytes_of headed ops kept) r
-answered old piece headed ops kept n (Ok done) is sound h ok err = taken_sound old piece headed ops kept n h ok
-answered old piece headed ops kept n (Err fault) is sound h ok err = taken_faulty old piece headed ops kept n fault is sound h err
+pub answered : (old piece : List ℕ) (position : Option Position) (ops : List OpView) (kept : List ℕ) (r : Result (Unit {0}) CodecFault) → IsSound old → AreTaken (old ++ piece) position ops kept
+    → OnOk r (IsMissing (kept_fault position kept)) → IfErr r (TellsKept (kept_fault position kept)) → IsFeedOutcome old piece (bytes_of position ops kept) r
+answered old piece position ops kept (Ok done) sound h ok err = taken_sound old piece position ops kept h ok
+answered old piece position ops kept (Err fault) sound h ok err = taken_faulty old piece position ops kept fault sound h err
 
 -- ---- outcomes
 
@@ -185,3 +241,47 @@ on_err (Err e) P Q f h = f h
 pub whole_told : (bytes new : List ℕ) (fault : CodecFault) → IsFeedOutcome [] bytes new (Err fault) → TellsFault bytes fault
 whole_told bytes new (Malformed frame cause) h = (piece_faulty [] [] bytes new frame cause (all_fed [] [] refl) h).1.0
 whole_told bytes new Memory h = tt
+
+-- ---- where a whole frame is kept
+
+pub kept_none : (at : Position) (kept : List ℕ) (f : Frame) (rest : List ℕ) → TakesFrame at kept f rest → kept_fault (Some at) kept ≡ None
+kept_none at [] f rest h = refl
+kept_none at (b ∷ kept) f rest h =
+    let none : cause_at at.version at.tip (b ∷ kept) ≡ None = ap (cause_at at.version at.tip) h.begins.spelled ∙ cause_at-frame at.version at.tip f rest h.begins.is_frame h.alone in
+    ap (with_frame (at.frames + 1)) none
+
+-- ---- how many frames there are
+
+pub position_counted : (position : Option Position) (ops : List OpView) (kept : List ℕ) (most : ℕ) → IsCut position ops kept → length ops < most → IfSome position (λ at. at.frames < most)
+position_counted None ops kept most cut few = tt
+position_counted (Some at) ops kept most cut few = omega (arith, few_frames at ops cut.1, few)
+
+-- one more frame was read
+pub more_read : (v : Version) (at next : Position) (before ops new : List OpView) (bytes rest after : List ℕ) → at.version ≡ v → spelling_in v before ++ bytes ≡ spelling_in v ops ++ rest → IsBehind at ops
+    → TakesIn at next ops new rest after → spelling_in v before ++ bytes ≡ spelling_in v new ++ after
+more_read v at next before ops new bytes rest after version read is h =
+    read ∙ ap (λ (u : Version). spelling_in u ops ++ rest) (sym version) ∙ taken_spelled at next ops new rest after h is ∙ ap (λ (u : Version). spelling_in u new ++ after) version
+
+-- the piece completes no frame, and nothing but what is kept has changed
+pub frame_left : (at now : Position) (ops same : List OpView) (old piece kept : List ℕ) → AllByRecursion IsWellFormed ops → IsBehind at ops → IsStopped (old ++ piece) kept (cause_at at.version at.tip kept)
+    → (same ≡ ops) × (now ≡ at) → AreTaken ((spelling_in at.version ops ++ old) ++ piece) (Some now) same kept
+frame_left at now ops same old piece kept ok is h left =
+    subst (λ (p : Position). AreTaken ((spelling_in at.version ops ++ old) ++ piece) (Some p) same kept) (sym left.1) (frame_stays at ops same old piece kept ok is (h, left.0))
+
+-- ---- what has grown, and answers
+
+pub grown_twice : (first ops new : List OpView) → take (length first) ops ≡ first → take (length ops) new ≡ ops → take (length first) new ≡ first
+grown_twice first ops new e h =
+    let longer : length first ≤ length ops = omega (arith, length-take (length first) ops, ap (λ (xs : List OpView). length xs) e) in
+    sym (take-take (length first) (length ops) new longer) ∙ ap (λ (xs : List OpView). take (length first) xs) h ∙ e
+
+pub if_none : {A : Type 0} (o : Option A) (P : Type 0) → o ≡ None → IfNone o P → P
+if_none None P e h = h
+if_none (Some x) P e h = absurd cc
+
+pub if_some : {A : Type 0} (o : Option A) (P : A → Type 0) (x : A) → o ≡ Some x → IfSome o P → P x
+if_some o P x e h = subst (λ (p : Option _). IfSome p P) e h
+
+pub on_err_any : {A E : Type 0} (r : Result A E) (P : Type 0) → P → OnErr r P
+on_err_any (Ok done) P h = tt
+on_err_any (Err e) P h = h

@@ -1,10 +1,13 @@
 pub mod Bytes
+pub mod Characters
+pub mod Gathered
 pub mod Frames
 pub mod ReadBack
 pub mod Faultless
 pub mod Unique
 pub mod Shown
 pub mod Complete
+pub mod Runs
 pub mod Whole
 pub mod Sizes
 pub mod Settled

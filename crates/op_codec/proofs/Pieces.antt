@@ -8,11 +8,12 @@ use Rattle.op_codec.specs.declared.fault.Cause.{Cause}
 use Rattle.op_codec.specs.declared.fault.Cause.TheVariants.{Truncated}
 use Rattle.op_codec.specs.declared.fault.CodecFault.TheVariants.{Malformed, Memory}
 use Rattle.std.specs.Prelude.{Ok, Err}
-use Rattle.op_codec.specs.Spelling.{frame, header, spelling, Spells}
-use Rattle.op_codec.specs.Fault.{header_cause, frame_cause, IsFrameFault, IsFault}
+use Rattle.op_codec.specs.declared.position.Version.{Version}
+use Rattle.op_codec.specs.Spelling.{most_insertions, tip_of, spelling_in, Spells}
+use Rattle.op_codec.specs.Fault.{header_cause, cause_at, IsFrameFault, IsFault}
 use Rattle.op_codec.specs.Feed.{AreFrames, IsWhole, IsSound, IsLasting, IsFed, IsFeedOutcome}
-use Rattle.op_codec.proofs.Settled.{Settles, missing, settled, header_settles, frame_settles}
-use Rattle.op_codec.proofs.Unique.{Ends-fault, frames_unique, after_header, header_right, one_list, never_both, one_fault}
+use Rattle.op_codec.proofs.Settled.{Settles, missing, settled, header_settles, cause_settles}
+use Rattle.op_codec.proofs.Unique.{Ends-fault, ops_unique, versions_unique, spelling_right, never_both, one_fault}
 
 -- ---- faults last
 
@@ -26,44 +27,58 @@ longer bytes front rest more e = ap (λ (s : List ℕ). s ++ more) e ∙ append_
 pub lasting : (bytes more : List ℕ) (n : ℕ) (cause : Cause) → IsFault bytes n cause → cause ≢ Truncated → IsFault (bytes ++ more) n cause
 lasting bytes more n cause (inl h) other = inl (h.0, settles header_cause 5 bytes more cause (header_settles bytes more) h.1 other)
 lasting bytes more n cause (inr h) other = inr (record {
+  version = h.version;
   ops = h.ops;
   rest = h.rest ++ more;
   number = h.number;
-  before = longer bytes (spelling h.ops) h.rest more h.before;
+  before = longer bytes (spelling_in h.version h.ops) h.rest more h.before;
   well_formed = h.well_formed;
   goes_on = let some = h.goes_on in omega (arith, some, length-append h.rest more);
-  shown = settles frame_cause 19 h.rest more cause (frame_settles h.rest more) h.shown other;
+  shown = settles (cause_at h.version (tip_of (most_insertions h.version) h.ops)) 4111 h.rest more cause (cause_settles h.version (tip_of (most_insertions h.version) h.ops) h.rest more) h.shown other;
 })
 
 -- ---- the whole frames
 
--- what a list of frames and what follows it are
-frames_one : (xs ys : List OpView) (x y : List ℕ) (c d : Cause) → AllByRecursion IsWellFormed xs → AllByRecursion IsWellFormed ys → frame_cause x ≡ Some c → frame_cause y ≡ Some d
-    → spelling xs ++ x ≡ spelling ys ++ y → (xs ≡ ys) × (x ≡ y)
-frames_one xs ys x y c d p q ends ends' e = frames_unique xs ys x y p q (Ends-fault x c ends) (Ends-fault y d ends') (after_header _ _ e)
+-- what bytes of whole frames and what follows them are
+whole_one : (v w : Version) (xs ys : List OpView) (x y : List ℕ) (c d : Cause) → AllByRecursion IsWellFormed xs → AllByRecursion IsWellFormed ys
+    → cause_at v (tip_of (most_insertions v) xs) x ≡ Some c → cause_at w (tip_of (most_insertions w) ys) y ≡ Some d → spelling_in v xs ++ x ≡ spelling_in w ys ++ y → (v ≡ w) × (xs ≡ ys) × (x ≡ y)
+whole_one v w xs ys x y c d p q ends ends' e =
+    let version = versions_unique v w xs ys x y e in
+    let here : cause_at w (tip_of (most_insertions w) xs) x ≡ Some c = ap (λ (u : Version). cause_at u (tip_of (most_insertions u) xs) x) (sym version) ∙ ends in
+    let same = ops_unique w xs ys x y p q (Ends-fault w (tip_of (most_insertions w) xs) x c here) (Ends-fault w (tip_of (most_insertions w) ys) y d ends')
+    (ap (λ (u : Version). spelling_in u xs ++ x) (sym version) ∙ e) in
+    (version, same.0, same.1)
 
 pub one_whole : (bytes : List ℕ) (a b : List OpView) → IsWhole bytes a → IsWhole bytes b → a ≡ b
 one_whole bytes a b (inl p) (inl q) = p.0 ∙ sym q.0
-one_whole bytes a b (inl p) (inr q) = absurd (header_right bytes (flat_map frame b ++ q.rest) p.1.0 q.spelled p.1.1)
-one_whole bytes a b (inr p) (inl q) = absurd (header_right bytes (flat_map frame a ++ p.rest) q.1.0 p.spelled q.1.1)
-one_whole bytes a b (inr p) (inr q) = (frames_one a b p.rest q.rest p.cause q.cause p.well_formed q.well_formed p.no_frame q.no_frame (sym p.spelled ∙ q.spelled)).0
+one_whole bytes a b (inl p) (inr q) = absurd (spelling_right q.version bytes q.rest b p.1.0 q.spelled p.1.1)
+one_whole bytes a b (inr p) (inl q) = absurd (spelling_right p.version bytes p.rest a q.1.0 p.spelled q.1.1)
+one_whole bytes a b (inr p) (inr q) = (whole_one p.version q.version a b p.rest q.rest p.cause q.cause p.well_formed q.well_formed p.no_frame q.no_frame (sym p.spelled ∙ q.spelled)).1
 
 pub spelled_whole : (bytes : List ℕ) (ops : List OpView) → Spells bytes ops → IsWhole bytes ops
-spelled_whole bytes ops h = inr (record { rest = []; cause = Truncated; spelled = h.bytes ∙ sym (append-nil (spelling ops)); well_formed = h.well_formed; no_frame = refl })
+spelled_whole bytes ops h = inr (record {
+  version = h.version;
+  rest = [];
+  cause = Truncated;
+  spelled = h.spelled.bytes ∙ sym (append-nil (spelling_in h.version ops));
+  well_formed = h.spelled.well_formed;
+  no_frame = refl;
+})
 
 pub lasting_whole : (bytes more : List ℕ) (ops : List OpView) (n : ℕ) (cause : Cause) → IsWhole bytes ops → IsFault bytes n cause → cause ≢ Truncated → IsWhole (bytes ++ more) ops
 lasting_whole bytes more ops n cause (inl p) (inl h) other = inl (p.0, (cause, settles header_cause 5 bytes more cause (header_settles bytes more) h.1 other))
-lasting_whole bytes more ops n cause (inl p) (inr h) other = absurd (header_right bytes (flat_map frame h.ops ++ h.rest) p.1.0 h.before p.1.1)
-lasting_whole bytes more ops n cause (inr p) (inl h) other = absurd (header_right bytes (flat_map frame ops ++ p.rest) cause p.spelled h.1)
+lasting_whole bytes more ops n cause (inl p) (inr h) other = absurd (spelling_right h.version bytes h.rest h.ops p.1.0 h.before p.1.1)
+lasting_whole bytes more ops n cause (inr p) (inl h) other = absurd (spelling_right p.version bytes p.rest ops cause p.spelled h.1)
 lasting_whole bytes more ops n cause (inr p) (inr h) other =
-    let same = frames_one ops h.ops p.rest h.rest p.cause cause p.well_formed h.well_formed p.no_frame h.shown (sym p.spelled ∙ h.before) in
-    let shown : frame_cause p.rest ≡ Some cause = ap frame_cause same.1 ∙ h.shown in
+    let same = whole_one p.version h.version ops h.ops p.rest h.rest p.cause cause p.well_formed h.well_formed p.no_frame h.shown (sym p.spelled ∙ h.before) in
+    let shown : cause_at p.version (tip_of (most_insertions p.version) ops) p.rest ≡ Some cause = (λ i. cause_at (same.0 i) (tip_of (most_insertions (same.0 i)) (same.1 i)) (same.2 i)) ∙ h.shown in
     inr (record {
+      version = p.version;
       rest = p.rest ++ more;
       cause = cause;
-      spelled = longer bytes (spelling ops) p.rest more p.spelled;
+      spelled = longer bytes (spelling_in p.version ops) p.rest more p.spelled;
       well_formed = p.well_formed;
-      no_frame = settles frame_cause 19 p.rest more cause (frame_settles p.rest more) shown other;
+      no_frame = settles (cause_at p.version (tip_of (most_insertions p.version) ops)) 4111 p.rest more cause (cause_settles p.version (tip_of (most_insertions p.version) ops) p.rest more) shown other;
     })
 
 -- ---- what is kept of what was fed

@@ -1,5 +1,5 @@
 -- Files that are read piece by piece.
-use Rattle.std.specs.Prelude.{◌≡◌, ◌≢◌, ◌+◌, ◌⊎◌, Bool, true, false, List, [], ◌∷◌, ◌++◌, ℕ, length, Option, Some, None, option_map, Result, Ok, Err}
+use Rattle.std.specs.Prelude.{◌≡◌, ◌≢◌, ◌+◌, ◌⊎◌, false, List, [], ◌∷◌, ◌++◌, ℕ, length, Option, Some, None, option_map, Result, Ok, Err}
 use Rattle.std.specs.List.{AllByRecursion}
 use Rattle.bg_types.specs.WellFormed.{IsWellFormed}
 use Rattle.bg_types.specs.declared.op.OpView.{OpView}
@@ -7,18 +7,22 @@ use Rattle.op_codec.specs.declared.fault.Cause.{Cause}
 use Rattle.op_codec.specs.declared.fault.Cause.TheVariants.{Truncated}
 use Rattle.op_codec.specs.declared.fault.CodecFault.{CodecFault}
 use Rattle.op_codec.specs.declared.fault.CodecFault.TheVariants.{Malformed, Memory}
-use Rattle.op_codec.specs.Spelling.{frame, spelling}
-use Rattle.op_codec.specs.Fault.{header_cause, frame_cause, IsFault}
+use Rattle.op_codec.specs.declared.position.Version.{Version}
+use Rattle.op_codec.specs.declared.position.Position.{Position}
+use Rattle.op_codec.specs.Spelling.{Frame, most_insertions, frames_of, tip_of, tip, joins, frame_ops, spelling_in}
+use Rattle.op_codec.specs.Frames.{BeginsWith}
+use Rattle.op_codec.specs.Fault.{header_cause, cause_at, IsFault}
 
 -- ---- what bytes show so far
 
 -- these are whole frames behind a whole header, and no whole frame follows them
 pub record AreFrames (bytes : List ℕ) (ops : List OpView) : Type 0 where
+  pub version : Version
   pub rest : List ℕ
   pub cause : Cause
-  pub spelled : bytes ≡ spelling ops ++ rest
+  pub spelled : bytes ≡ spelling_in version ops ++ rest
   pub well_formed : AllByRecursion IsWellFormed ops
-  pub no_frame : frame_cause rest ≡ Some cause
+  pub no_frame : cause_at version (tip_of (most_insertions version) ops) rest ≡ Some cause
 
 -- the operations of the whole frames so far: none where the header isn't whole and right
 abbrev pub IsWhole : List ℕ → List OpView → Type 0
@@ -49,26 +53,31 @@ IsFeedOutcome old piece new (Err Memory) = (new ≡ old) × IsSound old × (head
 
 -- ---- how a feed keeps them
 
+-- the position is that behind the frames of these operations
+pub record IsBehind (at : Position) (ops : List OpView) : Type 0 where
+  pub frames : at.frames ≡ length (frames_of (most_insertions at.version) ops)
+  pub tip : at.tip ≡ tip_of (most_insertions at.version) ops
+
 -- before the header is whole its beginning, and then the frames of the operations and what follows them
-abbrev pub bytes_of : Bool → List OpView → List ℕ → List ℕ
-bytes_of false ops kept = kept
-bytes_of true ops kept = spelling ops ++ kept
+abbrev pub bytes_of : Option Position → List OpView → List ℕ → List ℕ
+bytes_of None ops kept = kept
+bytes_of (Some at) ops kept = spelling_in at.version ops ++ kept
 
 -- what the kept bytes show: they stand where the header is wanted, or where a frame is
-abbrev pub kept_cause : Bool → List ℕ → Option Cause
-kept_cause false kept = header_cause kept
-kept_cause true kept = frame_cause kept
+abbrev pub kept_cause : Option Position → List ℕ → Option Cause
+kept_cause None kept = header_cause kept
+kept_cause (Some at) kept = cause_at at.version at.tip kept
 
 -- the kept bytes are no whole header, or no whole frame
-abbrev pub IsCut : Bool → List OpView → List ℕ → Type 0
-IsCut false ops kept = (ops ≡ []) × ((cause : Cause) × (header_cause kept ≡ Some cause))
-IsCut true ops kept = AllByRecursion IsWellFormed ops × ((cause : Cause) × (frame_cause kept ≡ Some cause))
+abbrev pub IsCut : Option Position → List OpView → List ℕ → Type 0
+IsCut None ops kept = (ops ≡ []) × ((cause : Cause) × (header_cause kept ≡ Some cause))
+IsCut (Some at) ops kept = AllByRecursion IsWellFormed ops × IsBehind at ops × ((cause : Cause) × (cause_at at.version at.tip kept ≡ Some cause))
 
--- the fault of the kept bytes behind so many frames, with its frame: none where a frame may begin and no byte is kept
-abbrev pub kept_fault : Bool → ℕ → List ℕ → Option (ℕ × Cause)
-kept_fault false frames kept = option_map (λ cause. (0, cause)) (header_cause kept)
-kept_fault true frames [] = None
-kept_fault true frames (b ∷ kept) = option_map (λ cause. (frames + 1, cause)) (frame_cause (b ∷ kept))
+-- the fault of the kept bytes, with its frame: none where a frame may begin and no byte is kept
+abbrev pub kept_fault : Option Position → List ℕ → Option (ℕ × Cause)
+kept_fault None kept = option_map (λ cause. (0, cause)) (header_cause kept)
+kept_fault (Some at) [] = None
+kept_fault (Some at) (b ∷ kept) = option_map (λ cause. (at.frames + 1, cause)) (cause_at at.version at.tip (b ∷ kept))
 
 -- there is no fault, or a byte is missing
 abbrev pub IsMissing : Option (ℕ × Cause) → Type 0
@@ -88,12 +97,25 @@ pub record IsStopped (bytes kept : List ℕ) (shown : Option Cause) : Type 0 whe
   pub begins : bytes ≡ kept ++ more
   pub all : cause ≡ Truncated → more ≡ []
 
--- the frame of this operation, and what follows it
-pub record TakesFrame (bytes : List ℕ) (op : OpView) (rest : List ℕ) : Type 0 where
-  pub spelled : bytes ≡ frame op ++ rest
-  pub well_formed : IsWellFormed op
+-- the frame at the front, which joins nothing, and what follows it
+pub record TakesFrame (at : Position) (bytes : List ℕ) (f : Frame) (rest : List ℕ) : Type 0 where
+  pub begins : BeginsWith (most_insertions at.version) bytes f rest
+  pub alone : joins at.tip f.first ≡ false
+
+-- the position behind one more frame
+pub record IsNext (at next : Position) (f : Frame) : Type 0 where
+  pub version : next.version ≡ at.version
+  pub frames : next.frames ≡ at.frames + 1
+  pub tip : next.tip ≡ tip (most_insertions at.version) f
+
+-- one more frame was taken in, and what follows it
+pub record TakesIn (at now : Position) (old new : List OpView) (bytes rest : List ℕ) : Type 0 where
+  pub f : Frame
+  pub takes : TakesFrame at bytes f rest
+  pub next : IsNext at now f
+  pub ops : new ≡ old ++ frame_ops f
 
 -- the bytes are read, up to a cause
-pub record AreTaken (bytes : List ℕ) (headed : Bool) (ops : List OpView) (kept : List ℕ) : Type 0 where
-  pub cut : IsCut headed ops kept
-  pub stopped : IsStopped bytes (bytes_of headed ops kept) (kept_cause headed kept)
+pub record AreTaken (bytes : List ℕ) (at : Option Position) (ops : List OpView) (kept : List ℕ) : Type 0 where
+  pub cut : IsCut at ops kept
+  pub stopped : IsStopped bytes (bytes_of at ops kept) (kept_cause at kept)

@@ -1,5 +1,6 @@
 pub mod Code
 pub mod Spelling
+pub mod Frames
 pub mod Fault
 pub mod Feed
 pub mod Gives

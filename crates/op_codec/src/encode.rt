@@ -3,12 +3,13 @@
 ghost use Rattle.std.specs.Prelude.{◌≡◌, ◌≤◌, ◌+◌, ◌-◌, ◌^◌, ◌++◌, min, length, drop, OnOk, OnErr, IsOk, IfOk, vec_len};
 ghost use Rattle.std.specs.Vec.{vec_capacity};
 ghost use Rattle.bg_types.specs.WellFormed.{IsWellFormed};
-ghost use Rattle.op_codec.specs.Spelling.{frame, spelling, Spells, parent_identifier, identifier_bytes};
+ghost use Rattle.op_codec.specs.Spelling.{frame, spelling, SpellsIn, parent_identifier, identifier_bytes};
 
 use crate::format::{
     ERASURE, ERASURE_LENGTH, ERASURE_SIZE, HEADER_SIZE, INSERTION, INSERTION_LENGTH,
-    INSERTION_SIZE, MAGIC, VERSION,
+    INSERTION_SIZE, MAGIC,
 };
+use crate::position::Version;
 use bg_types::{Id, Memory, Op, OpView, Place};
 use byteorder::{BigEndian, ByteOrder};
 use std::alloc::Global;
@@ -33,14 +34,15 @@ pub fn encode_op(op: &Op, out: &mut Vec<u8>) -> Result<(), Memory>
     Ok(())
 }
 
-/// The file of the operations (docs/FORMATS.md). Memory is asked for once.
+/// The file of the operations, of version 1 (docs/FORMATS.md). Memory is asked for once.
 pub fn encode_file(alloc: Global, ops: &[Op]) -> Result<Vec<u8>, Memory>
-    ensures { IfOk result (λ file. Spells file.items ops.now) }
+    ensures spelled { IfOk result (λ file. SpellsIn Version.One file.items ops.now) }
+    ensures frames { IfOk result (λ file. file.items ≡ spelling ops.now) }
 {
     let mut file = Vec::with_capacity(alloc, file_size(ops))?;
     // The whole file has room, so nothing below grows it.
     file.extend_from_slice(&MAGIC).unwrap();
-    file.push(VERSION).unwrap();
+    file.push(Version::One.number()).unwrap();
     for op in ops {
         encode_op(op, &mut file).unwrap();
     }
@@ -100,7 +102,7 @@ fn write_numbers(out: &mut [u8], counter: u32, site: u16)
 }
 
 /// A parent's counter and site, both 0 for the root.
-fn parent_numbers(parent: &Place) -> (u32, u16)
+pub fn parent_numbers(parent: &Place) -> (u32, u16)
     ensures counter { result.0 ≡ (parent_identifier parent.now).counter }
     ensures site { result.1 ≡ (parent_identifier parent.now).site }
 {

@@ -13,13 +13,13 @@ pub enum Cause {
     /// One of the four magic bytes differs.
     #[error("BadMagic")]
     BadMagic,
-    /// The byte after the magic is another than 1.
+    /// The byte after the magic is neither 1 nor 2.
     #[error("BadVersion")]
     BadVersion,
     /// A byte is missing.
     #[error("Truncated")]
     Truncated,
-    /// The kind is neither 1 nor 2.
+    /// The kind is neither 1 nor 2, nor in version 2 a run's 3.
     #[error("UnknownKind")]
     UnknownKind,
     /// The length isn't that of the kind.
@@ -31,13 +31,19 @@ pub enum Cause {
     /// The parent's counter isn't below the insertion's.
     #[error("ParentNotBefore")]
     ParentNotBefore,
-    /// The character is above 10FFFF or a surrogate.
+    /// The last counter of a run is above 4,294,967,295.
+    #[error("CounterOverflow")]
+    CounterOverflow,
+    /// A character is above 10FFFF or a surrogate.
     #[error("NotAScalar")]
     NotAScalar,
+    /// The first insertion joins the last operation of the frame before, which has room for it.
+    #[error("NotJoined")]
+    NotJoined,
 }
 
 impl Cause {
-    /// The number of this cause, 1 to 8.
+    /// The number of this cause: 1 to 8, 10 or 11.
     pub fn code(self) -> u8
         ensures { result ≡ cause_code self }
     {
@@ -50,6 +56,8 @@ impl Cause {
             Cause::ZeroField => 6,
             Cause::ParentNotBefore => 7,
             Cause::NotAScalar => 8,
+            Cause::CounterOverflow => 10,
+            Cause::NotJoined => 11,
         }
     }
 }

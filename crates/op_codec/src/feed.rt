@@ -1,19 +1,21 @@
 //! Operation files that are read piece by piece.
 
-ghost use Rattle.std.specs.Prelude.{◌≡◌, ◌≢◌, ◌++◌, [], true, List, ℕ, length, take, None, Some, IfOk, IfErr, OnOk, OnErr};
+ghost use Rattle.std.specs.Prelude.{◌≡◌, ◌≢◌, ◌+◌, ◌++◌, [], List, ℕ, length, take, None, Some, IfOk, IfErr, OnOk, OnErr};
 ghost use Rattle.std.specs.List.{AllByRecursion};
 ghost use Rattle.bg_types.specs.WellFormed.{IsWellFormed};
 ghost use Rattle.op_codec.specs.declared.fault.Cause.{Cause as CauseOf};
 ghost use Rattle.op_codec.specs.declared.fault.Cause.TheVariants.{Truncated};
 ghost use Rattle.op_codec.specs.declared.fault.CodecFault.TheVariants.{Memory as memory};
-ghost use Rattle.op_codec.specs.Spelling.{spelling, Spells};
-ghost use Rattle.op_codec.specs.Fault.{header_cause, frame_cause, TellsFault};
-ghost use Rattle.op_codec.specs.Feed.{IsWhole, IsFeedOutcome, bytes_of, kept_cause, IsCut, AreTaken};
+ghost use Rattle.op_codec.specs.Spelling.{spelling_in, Spells};
+ghost use Rattle.op_codec.specs.Fault.{header_cause, cause_at, TellsFault};
+ghost use Rattle.op_codec.specs.Feed.{IsWhole, IsFeedOutcome, IsBehind, bytes_of, kept_cause, IsCut, AreTaken};
 
 use crate::cut::{Cut, complete_frame, complete_header, first_fault, judge, keep};
 use crate::fault::CodecFault;
 use crate::format::INSERTION_SIZE;
 use crate::frame::read_frame;
+use crate::position::Position;
+use crate::run::push_frame;
 use bg_types::{Memory, Op};
 use std::alloc::Global;
 use std::marker::Model;
@@ -26,16 +28,16 @@ pub struct Feed {
     ops: Vec<Op>,
     /// The bytes behind them: of a header or a frame that isn't whole yet, or that is faulty.
     kept: Cut,
-    /// Whether the header is whole and right.
-    headed: bool,
+    /// Where those stand, once the header is whole and right.
+    position: Option<Position>,
 }
 
 impl Model for Feed {
     ghost Value = { List ℕ };
 
-    ghost view = { λ f. bytes_of f.headed f.ops.items f.kept.items };
+    ghost view = { λ f. bytes_of f.position f.ops.items f.kept.items };
 
-    ghost invariant = { λ f. IsCut f.headed f.ops.items f.kept.items };
+    ghost invariant = { λ f. IsCut f.position f.ops.items f.kept.items };
 }
 
 impl Feed {
@@ -46,7 +48,7 @@ impl Feed {
         Feed {
             ops: Vec::new(alloc),
             kept: Cut::new(),
-            headed: false,
+            position: None,
         }
     }
 
@@ -55,12 +57,12 @@ impl Feed {
     pub fn feed(&mut self, piece: &[u8]) -> Result<(), CodecFault>
         ensures outcome { IsFeedOutcome self.old piece.now self.new result }
     {
-        judge(self.headed, self.ops.len(), &self.kept)?;
+        judge(&self.position, &self.kept)?;
         let (ops, kept) = (self.ops.len(), self.kept.len());
-        match read_on(&mut self.ops, &mut self.kept, self.headed, piece) {
-            Ok(headed) => {
-                self.headed = headed;
-                judge(headed, self.ops.len(), &self.kept)
+        match read_on(&mut self.ops, &mut self.kept, &self.position, piece) {
+            Ok(position) => {
+                self.position = position;
+                judge(&self.position, &self.kept)
             }
             Err(Memory) => {
                 self.ops.truncate(ops);
@@ -83,86 +85,115 @@ impl Feed {
         ensures fault { IfErr result (TellsFault self) }
         ensures no_memory { IfErr result (λ fault. fault ≢ memory) }
     {
-        match first_fault(self.headed, self.ops.len(), &self.kept) {
+        match first_fault(&self.position, &self.kept) {
             Some((frame, cause)) => Err(CodecFault::Malformed { frame, cause }),
             None => Ok(self.ops),
         }
     }
 }
 
-/// Reads a piece behind the operations and the kept bytes, and answers whether the header is whole
-/// and right then. Where memory is refused both have only grown.
-fn read_on(ops: &mut Vec<Op>, kept: &mut Cut, headed: bool, piece: &[u8]) -> Result<bool, Memory>
-    requires cut { IsCut headed ops.old.items kept.old.items }
-    requires missing { kept_cause headed kept.old.items ≡ Some Truncated }
-    ensures taken { IfOk result (λ now. AreTaken (bytes_of headed ops.old.items kept.old.items ++ piece.now) now ops.new.items kept.new.items) }
+/// Reads a piece behind the operations and the kept bytes, and answers the position of what is kept
+/// then. Where memory is refused both have only grown.
+fn read_on(
+    ops: &mut Vec<Op>,
+    kept: &mut Cut,
+    position: &Option<Position>,
+    piece: &[u8],
+) -> Result<Option<Position>, Memory>
+    requires cut { IsCut position.now ops.old.items kept.old.items }
+    requires missing { kept_cause position.now kept.old.items ≡ Some Truncated }
+    ensures taken { IfOk result (λ now. AreTaken (bytes_of position.now ops.old.items kept.old.items ++ piece.now) now ops.new.items kept.new.items) }
     ensures ops { OnErr result (take (length ops.old.items) ops.new.items ≡ ops.old.items) }
     ensures kept { OnErr result (take (length kept.old.items) kept.new.items ≡ kept.old.items) }
-    ensures memory { OnErr result (header_cause (bytes_of headed ops.old.items kept.old.items ++ piece.now) ≡ None) }
+    ensures memory { OnErr result (header_cause (bytes_of position.now ops.old.items kept.old.items ++ piece.now) ≡ None) }
 {
-    if !headed {
-        return read_behind_header(ops, kept, piece);
+    match position {
+        None => read_behind_header(ops, kept, piece),
+        Some(at) => read_behind_frame(ops, kept, at, piece),
     }
-    read_behind_frame(ops, kept, piece)?;
-    Ok(true)
 }
 
 /// The same, where the header isn't whole yet.
-fn read_behind_header(ops: &mut Vec<Op>, kept: &mut Cut, piece: &[u8]) -> Result<bool, Memory>
+fn read_behind_header(
+    ops: &mut Vec<Op>,
+    kept: &mut Cut,
+    piece: &[u8],
+) -> Result<Option<Position>, Memory>
     requires none { ops.old.items ≡ [] }
     requires missing { header_cause kept.old.items ≡ Some Truncated }
     ensures taken { IfOk result (λ now. AreTaken (kept.old.items ++ piece.now) now ops.new.items kept.new.items) }
     ensures kept { OnErr result (take (length kept.old.items) kept.new.items ≡ kept.old.items) }
     ensures memory { OnErr result (header_cause (kept.old.items ++ piece.now) ≡ None) }
 {
-    let Some(rest) = complete_header(kept, piece) else {
-        return Ok(false);
+    let Some((version, rest)) = complete_header(kept, piece) else {
+        return Ok(None);
     };
-    read_frames(ops, kept, rest)?;
-    Ok(true)
+    let mut at = Position::start(version);
+    read_frames(ops, kept, &mut at, rest)?;
+    Ok(Some(at))
 }
 
 /// The same, where it is.
-fn read_behind_frame(ops: &mut Vec<Op>, kept: &mut Cut, piece: &[u8]) -> Result<(), Memory>
+fn read_behind_frame(
+    ops: &mut Vec<Op>,
+    kept: &mut Cut,
+    at: &Position,
+    piece: &[u8],
+) -> Result<Option<Position>, Memory>
     requires well_formed { AllByRecursion IsWellFormed ops.old.items }
-    requires missing { frame_cause kept.old.items ≡ Some Truncated }
-    ensures taken { OnOk result (AreTaken ((spelling ops.old.items ++ kept.old.items) ++ piece.now) true ops.new.items kept.new.items) }
+    requires behind { IsBehind at.now ops.old.items }
+    requires missing { cause_at at.now.version at.now.tip kept.old.items ≡ Some Truncated }
+    ensures taken { IfOk result (λ now. AreTaken ((spelling_in at.now.version ops.old.items ++ kept.old.items) ++ piece.now) now ops.new.items kept.new.items) }
     ensures ops { OnErr result (take (length ops.old.items) ops.new.items ≡ ops.old.items) }
     ensures kept { OnErr result (take (length kept.old.items) kept.new.items ≡ kept.old.items) }
 {
-    let Some(read) = complete_frame(kept, piece) else {
-        return Ok(());
+    let mut now = *at;
+    let Some(rest) = complete_frame(ops, kept, &mut now, piece)? else {
+        return Ok(Some(now));
     };
-    ops.push(read.0)?;
-    read_frames(ops, kept, read.1)
+    read_frames(ops, kept, &mut now, rest)?;
+    Ok(Some(now))
 }
 
-/// Reads the whole frames at the front, and keeps what follows them.
-fn read_frames(ops: &mut Vec<Op>, kept: &mut Cut, bytes: &[u8]) -> Result<(), Memory>
-    requires { AllByRecursion IsWellFormed ops.old.items }
-    ensures taken { OnOk result (AreTaken (spelling ops.old.items ++ bytes.now) true ops.new.items kept.new.items) }
-    ensures ops { OnErr result (take (length ops.old.items) ops.new.items ≡ ops.old.items) }
+/// Reads the whole frames at the front, and keeps what follows them. It moves the position there.
+fn read_frames(
+    ops: &mut Vec<Op>,
+    kept: &mut Cut,
+    at: &mut Position,
+    bytes: &[u8],
+) -> Result<(), Memory>
+    requires well_formed { AllByRecursion IsWellFormed ops.old.items }
+    requires behind { IsBehind at.old ops.old.items }
+    ensures taken { OnOk result (AreTaken (spelling_in at.old.version ops.old.items ++ bytes.now) (Some at.new) ops.new.items kept.new.items) }
+    ensures ops { take (length ops.old.items) ops.new.items ≡ ops.old.items }
     ensures kept { OnErr result (kept.new.items ≡ kept.old.items) }
 {
-    let rest = push_frames(ops, bytes)?;
-    keep(kept, rest);
+    let rest = push_frames(ops, at, bytes)?;
+    keep(kept, at, rest);
     Ok(())
 }
 
-/// Reads the whole frames at the front, and gives what follows them.
-fn push_frames<'a>(ops: &mut Vec<Op>, bytes: &'a [u8]) -> Result<&'a [u8], Memory>
-    requires { AllByRecursion IsWellFormed ops.old.items }
-    ensures read { IfOk result (λ rest. spelling ops.old.items ++ bytes.now ≡ spelling ops.new.items ++ rest.now) }
-    ensures well_formed { AllByRecursion IsWellFormed ops.new.items }
-    ensures no_frame { IfOk result (λ rest. (cause : CauseOf) × (frame_cause rest.now ≡ Some cause)) }
+/// Reads the whole frames at the front, and gives what follows them. It moves the position there.
+fn push_frames<'a>(
+    ops: &mut Vec<Op>,
+    at: &mut Position,
+    bytes: &'a [u8],
+) -> Result<&'a [u8], Memory>
+    requires well_formed { AllByRecursion IsWellFormed ops.old.items }
+    requires behind { IsBehind at.old ops.old.items }
+    ensures version { OnOk result (at.new.version ≡ at.old.version) }
+    ensures read { IfOk result (λ rest. spelling_in at.old.version ops.old.items ++ bytes.now ≡ spelling_in at.old.version ops.new.items ++ rest.now) }
+    ensures well_formed { OnOk result (AllByRecursion IsWellFormed ops.new.items) }
+    ensures behind { OnOk result (IsBehind at.new ops.new.items) }
+    ensures no_frame { IfOk result (λ rest. (cause : CauseOf) × (cause_at at.new.version at.new.tip rest.now ≡ Some cause)) }
     ensures grown { take (length ops.old.items) ops.new.items ≡ ops.old.items }
 {
-    // One growth where all are insertions, and at most two more where many are deletions.
+    // One growth where all are insertions of one frame each, and at most a few more elsewhere.
     ops.reserve(bytes.len() / INSERTION_SIZE)?;
     let mut rest = bytes;
-    while let Ok((op, after)) = read_frame(rest) {
-        ops.push(op)?;
-        rest = after;
+    while let Ok(read) = read_frame(at, rest) {
+        push_frame(ops, at, &read.first, read.further)?;
+        rest = read.rest;
     }
     Ok(rest)
 }

@@ -1,10 +1,7 @@
-//! The numbers of the format, version 1.
+//! The numbers of the format.
 
 /// The first bytes of every operation file.
 pub const MAGIC: [u8; 4] = *b"BGOP";
-
-/// The byte that follows the magic.
-pub const VERSION: u8 = 1;
 
 /// How many bytes stand before the first frame.
 pub const HEADER_SIZE: usize = 5;
@@ -26,3 +23,16 @@ pub const ERASURE_LENGTH: u16 = 7;
 
 /// How many bytes a deletion's frame has, its length included.
 pub const ERASURE_SIZE: usize = 9;
+
+/// The kind of a run's frame, of version 2.
+pub const RUN: u8 = 3;
+
+/// How many bytes a character of a run has.
+pub const CHARACTER_SIZE: usize = 4;
+
+/// How many bytes of a run's frame stand before its further characters, its length excluded but for
+/// the kind: the fields of its first insertion.
+pub const INSERTION_FIELDS: usize = 16;
+
+/// How many bytes the longest frame has, a run of 1,024.
+pub const LONGEST_FRAME: usize = 4_111;

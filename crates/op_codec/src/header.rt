@@ -5,11 +5,12 @@ ghost use Rattle.op_codec.specs.Spelling.{header};
 ghost use Rattle.op_codec.specs.Fault.{header_cause};
 
 use crate::fault::Cause;
-use crate::format::{HEADER_SIZE, MAGIC, VERSION};
+use crate::format::{HEADER_SIZE, MAGIC};
+use crate::position::Version;
 
-/// What follows the header.
-pub fn read_header(bytes: &[u8]) -> Result<&[u8], Cause>
-    ensures ok { IfOk result (λ rest. bytes.now ≡ header ++ rest.now) }
+/// The version, and what follows the header.
+pub fn read_header(bytes: &[u8]) -> Result<(Version, &[u8]), Cause>
+    ensures ok { IfOk result (λ read. bytes.now ≡ header read.0 ++ read.1.now) }
     ensures fault { MatchResult result (λ _. header_cause bytes.now ≡ None)
         (λ cause. header_cause bytes.now ≡ Some cause) }
 {
@@ -20,8 +21,10 @@ pub fn read_header(bytes: &[u8]) -> Result<&[u8], Cause>
     if bytes.len() <= MAGIC.len() {
         return Err(Cause::Truncated);
     }
-    if bytes[MAGIC.len()] != VERSION {
-        return Err(Cause::BadVersion);
+    let rest = &bytes[HEADER_SIZE..];
+    match bytes[MAGIC.len()] {
+        1 => Ok((Version::One, rest)),
+        2 => Ok((Version::Two, rest)),
+        _ => Err(Cause::BadVersion),
     }
-    Ok(&bytes[HEADER_SIZE..])
 }

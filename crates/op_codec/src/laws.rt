@@ -7,16 +7,17 @@ ghost use Rattle.bg_types.specs.declared.op.OpView.{OpView};
 ghost use Rattle.op_codec.specs.declared.fault.Cause.{Cause};
 ghost use Rattle.op_codec.specs.declared.fault.Cause.TheVariants.{Truncated};
 ghost use Rattle.op_codec.specs.declared.fault.CodecFault.TheVariants.{Malformed, Memory};
-ghost use Rattle.op_codec.specs.Spelling.{Spells};
+ghost use Rattle.op_codec.specs.declared.position.Version.{Version};
+ghost use Rattle.op_codec.specs.Spelling.{Spells, SpellsIn};
 ghost use Rattle.op_codec.specs.Fault.{IsFault};
 ghost use Rattle.op_codec.specs.Feed.{IsWhole, IsSound, IsLasting, IsFed, IsFeedOutcome};
 
 /// Bytes spell at most one list of operations, and a list of well-formed operations has exactly
-/// one spelling.
+/// one spelling in each version.
 pub fn one_spelling()
     ensures one_list { (file : List ℕ) (a b : List OpView) → Spells file a → Spells file b → a ≡ b }
-    ensures one_file { (a b : List ℕ) (ops : List OpView) → Spells a ops → Spells b ops → a ≡ b }
-    ensures some_file { (ops : List OpView) → AllByRecursion IsWellFormed ops → (file : List ℕ) × Spells file ops }
+    ensures one_file { (version : Version) (a b : List ℕ) (ops : List OpView) → SpellsIn version a ops → SpellsIn version b ops → a ≡ b }
+    ensures some_file { (version : Version) (ops : List OpView) → AllByRecursion IsWellFormed ops → (file : List ℕ) × SpellsIn version file ops }
 {}
 
 /// Bytes spell a list of operations or have a first fault, never both, and never two faults.

@@ -1,4 +1,4 @@
-//! Operation files, version 1: how they spell operations, and what is wrong with them first.
+//! Operation files of both versions: how they spell operations, and what is wrong with them first.
 #![tactic(auto)]
 
 mod cut;
@@ -6,12 +6,15 @@ mod decode;
 mod encode;
 mod fault;
 mod feed;
+mod fields;
 mod format;
 mod frame;
 mod gives;
 mod header;
 mod input;
 pub mod laws;
+mod position;
+mod run;
 mod source;
 
 pub use decode::decode_file;
@@ -20,7 +23,10 @@ pub use fault::{Cause, CodecFault};
 pub use feed::Feed;
 pub use gives::Gives;
 pub use input::In;
+pub use position::Version;
 pub use source::Source;
 
+#[cfg(test)]
+mod run_tests;
 #[cfg(test)]
 mod tests;

@@ -134,8 +134,8 @@ fn a_header_shows_its_first_fault(rt: HostRuntime) {
         (b"BGOp", Cause::BadMagic),
         (b"BGOp\x02", Cause::BadMagic),
         (b"BGOP\x00", Cause::BadVersion),
-        (b"BGOP\x02", Cause::BadVersion),
-        (b"BGOP\x02\x00", Cause::BadVersion),
+        (b"BGOP\x03", Cause::BadVersion),
+        (b"BGOP\x03\x00", Cause::BadVersion),
     ];
     for (file, cause) in rows {
         let fault = decode_file(rt.alloc(), file).err();
@@ -242,6 +242,8 @@ fn a_fault_has_a_number_a_name_and_a_frame(rt: HostRuntime) -> Result<(), Fail> 
         (Cause::ZeroField, 6, "ZeroField"),
         (Cause::ParentNotBefore, 7, "ParentNotBefore"),
         (Cause::NotAScalar, 8, "NotAScalar"),
+        (Cause::CounterOverflow, 10, "CounterOverflow"),
+        (Cause::NotJoined, 11, "NotJoined"),
     ];
     for (cause, code, name) in rows {
         let fault = CodecFault::Malformed { frame: 3, cause };

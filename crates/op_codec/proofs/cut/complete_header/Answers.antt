@@ -10,4 +10,4 @@ returns-in-Err-clause-none c =
 
 pub returns-in-Ok-clause-right : goal.returns-in-Ok-clause-right
 returns-in-Ok-clause-right c =
-    header_completed c.args.kept.now.items c.args.piece.now c.append.new.kept.items c.in-Ok.field-0.now c.min-taken.result c.append.ensures (sym c.deref.ensures.0 ∙ c.in-Ok.ensures.ok)
+    header_completed c.in-Ok.read.0 c.args.kept.now.items c.args.piece.now c.append.new.kept.items c.in-Ok.read.1.now c.min-taken.result c.append.ensures (sym c.deref.ensures.0 ∙ c.in-Ok.ensures.ok)

@@ -1,6 +1,7 @@
 use Rattle.std.proofs.Common.{List, ℕ, length, drop, arith, ap, ◌∙◌}
 use Rattle.std.proofs.lemmas.List.{length-take, length-drop}
 use Rattle.op_codec.proofs.Frames.{insertion_spelled}
+use Rattle.op_codec.proofs.Gathered.{alone_is}
 use Rattle.op_codec.proofs.frame.read_insertion_frame.Goals as goal
 
 pub read_insertion-requires : goal.read_insertion-requires
@@ -11,8 +12,9 @@ read_insertion-requires c =
 pub returns-clause-ok : goal.returns-clause-ok
 returns-clause-ok c =
     let parts = c.in_ok-fields.ensures in
-    let read = c.in_ok-op.ensures in (
-      insertion_spelled c.args.bytes.now c.in_ok-fields.fields.now c.in_ok-fields.rest.now c.in_ok-op.op (λ i. omega (arith, c.type_inv.bytes i))
-          c.requires.long c.requires.kind parts.size parts.fields parts.rest read.kind read.fields,
-      read.well_formed,
-    )
+    let read = c.in_ok-first.ensures in
+    record {
+      spelled = insertion_spelled c.args.bytes.now c.in_ok-fields.fields.now c.in_ok-fields.rest.now c.in_ok-first.first (λ i. omega (arith, c.type_inv.bytes i))
+          c.requires.long c.requires.kind parts.size parts.fields parts.rest read.kind read.fields;
+      is_frame = alone_is 1 c.in_ok-first.first (omega arith) read.well_formed;
+    }

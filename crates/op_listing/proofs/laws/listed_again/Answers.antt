@@ -7,4 +7,4 @@ pub returns-clause-lists : goal.returns-clause-lists
 returns-clause-lists c = listed_again
 
 pub returns-clause-reads_back : goal.returns-clause-reads_back
-returns-clause-reads_back c = λ file ops again spelled listed. one_listed (listing_of ops) again ops listed (listed_again ops spelled.well_formed)
+returns-clause-reads_back c = λ file ops again spelled listed. one_listed (listing_of ops) again ops listed (listed_again ops spelled.spelled.well_formed)

@@ -3,7 +3,7 @@ use Rattle.byteorder.specs.Endian.{big_number}
 use Rattle.op_codec.specs.Spelling.{parent_identifier}
 use Rattle.op_codec.specs.Fault.{identifier_at}
 use Rattle.op_codec.proofs.Frames.{insertion_fields, insertion_made}
-use Rattle.op_codec.proofs.frame.read_insertion.Goals as goal
+use Rattle.op_codec.proofs.fields.read_insertion.Goals as goal
 
 pub returns-clause-fields : goal.returns-clause-fields
 returns-clause-fields c =

@@ -2,7 +2,7 @@ use Rattle.std.proofs.Common.{◌≡◌, ap, ◌∙◌, arith, rules}
 use Rattle.op_codec.specs.Spelling.{frame_fields}
 use Rattle.op_codec.specs.Fault.{identifier_at}
 use Rattle.op_codec.proofs.Frames.{erasure_fields}
-use Rattle.op_codec.proofs.frame.read_erasure.Goals as goal
+use Rattle.op_codec.proofs.fields.read_erasure.Goals as goal
 
 pub returns-clause-fields : goal.returns-clause-fields
 returns-clause-fields c =

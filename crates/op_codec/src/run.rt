@@ -1,0 +1,194 @@
+//! Runs of insertions: reading one, and what it stands for.
+
+ghost use Rattle.std.specs.Prelude.{◌≡◌, ◌<◌, ◌≤◌, ◌+◌, ◌-◌, ◌*◌, ◌^◌, ◌++◌, ℕ, Bool, length, take, drop, Some, None, IfOk, IfErr, OnOk, OnErr, IfSome, MatchResult, cond, nat_lt, nat_le, false};
+ghost use Rattle.std.specs.List.{AllByRecursion, flat_map, list_all};
+ghost use Rattle.std.specs.Char.{IsScalar};
+ghost use Rattle.std.proofs.Math.Utf8.{scalar};
+ghost use Rattle.byteorder.specs.Endian.{big_number, big_bytes};
+ghost use Rattle.bg_types.specs.WellFormed.{IsWellFormed, MayFollow};
+ghost use Rattle.op_codec.specs.Spelling.{Frame, frame_fields, parent_identifier, frame_ops, further_ops, followers, last_id, joins as joins_tip, most_insertions};
+ghost use Rattle.op_codec.specs.Frames.{IsFrame, MayGoOn};
+ghost use Rattle.op_codec.specs.Fault.{identifier_at, characters_in, numbers_cause, run_cause, is_run_length as has_run_length};
+ghost use Rattle.op_codec.specs.Feed.{IsNext};
+
+use crate::encode::parent_numbers;
+use crate::fault::Cause;
+use crate::fields::{read_id, read_place};
+use crate::format::CHARACTER_SIZE;
+use crate::position::Position;
+use bg_types::{Id, Memory, Op, OpView, Place};
+use byteorder::{BigEndian, ByteOrder};
+
+/// Whether an operation joins the insertion with this identifier.
+pub fn joins(tip: &Option<Id>, op: &Op) -> bool
+    ensures { result ≡ joins_tip tip.now op.now }
+{
+    let Some(before) = tip else {
+        return false;
+    };
+    match op.view() {
+        OpView::Insert { id, parent, .. } => {
+            let (counter, site) = parent_numbers(&parent);
+            counter == before.counter()
+                && site == before.site()
+                && id.site() == before.site()
+                && u64::from(id.counter()) == u64::from(before.counter()) + 1
+        }
+        OpView::Erase { .. } => false,
+    }
+}
+
+/// Whether a frame of this length has a run of 2 to 1,024 insertions.
+pub fn is_run_length(size: u16) -> bool
+    ensures { result ≡ has_run_length size }
+{
+    let count = size.saturating_sub(13) / 4;
+    (2..=1_024).contains(&count) && 13 + 4 * count == size
+}
+
+/// The first insertion of a run.
+pub fn read_run(fields: &[u8]) -> Result<Op, Cause>
+    requires { 20 ≤ length fields.now }
+    ensures fields { IfOk result (λ op. fields.now ≡ frame_fields op ++ drop 16 fields.now) }
+    ensures well_formed { IfOk result IsWellFormed }
+    ensures goes_on { IfOk result (λ op. MayGoOn op (characters_in (drop 16 fields.now))) }
+    ensures scalars { OnOk result (AllByRecursion IsScalar (characters_in (drop 16 fields.now))) }
+    ensures err { IfErr result (λ cause. run_cause fields.now ≡ Some cause) }
+{
+    let (id, parent) = read_numbers(fields)?;
+    let chars = &fields[12..];
+    if u64::from(id.counter()) + (chars.len() / CHARACTER_SIZE) as u64 > 1 << 32 {
+        return Err(Cause::CounterOverflow);
+    }
+    if !are_scalars(chars) {
+        return Err(Cause::NotAScalar);
+    }
+    Ok(Op::insert(id, parent, read_char(chars)).unwrap())
+}
+
+/// The identifier and the parent of an insertion.
+fn read_numbers(fields: &[u8]) -> Result<(Id, Place), Cause>
+    requires { 12 ≤ length fields.now }
+    ensures id { IfOk result (λ numbers. numbers.0 ≡ identifier_at fields.now) }
+    ensures parent { IfOk result (λ numbers. parent_identifier numbers.1 ≡ identifier_at (drop 6 fields.now)) }
+    ensures follows { IfOk result (λ numbers. MayFollow numbers.1 numbers.0) }
+    ensures fault { MatchResult result (λ _. numbers_cause fields.now ≡ None)
+        (λ cause. numbers_cause fields.now ≡ Some cause) }
+{
+    let id = read_id(fields).ok_or(Cause::ZeroField)?;
+    let parent = read_place(&fields[6..]).ok_or(Cause::ZeroField)?;
+    if is_late(&parent, id) {
+        return Err(Cause::ParentNotBefore);
+    }
+    Ok((id, parent))
+}
+
+/// Whether an insertion with this identifier may not have this parent.
+fn is_late(parent: &Place, id: Id) -> bool
+    ensures late { result ≡ nat_le id.counter (parent_identifier parent.now).counter }
+    ensures follows { result ≡ false → MayFollow parent.now id }
+{
+    let counter = id.counter();
+    match parent {
+        Place::Root => counter == 0,
+        Place::After(before) => counter <= before.counter(),
+    }
+}
+
+/// The character in the four bytes at the front.
+fn read_char(bytes: &[u8]) -> char
+    requires long { 4 ≤ length bytes.now }
+    requires scalar { IsScalar (big_number 4 bytes.now) }
+    ensures { result ≡ big_number 4 bytes.now }
+{
+    char::from_u32(BigEndian::read_u32(bytes)).unwrap()
+}
+
+fn is_scalar(code: u32) -> bool
+    ensures { result ≡ scalar code }
+{
+    char::from_u32(code).is_some()
+}
+
+/// Whether the bytes, four for each, have characters alone.
+fn are_scalars(bytes: &[u8]) -> bool
+    ensures { result ≡ list_all scalar (characters_in bytes.now) }
+{
+    let mut rest = bytes;
+    while rest.len() >= CHARACTER_SIZE {
+        if !is_scalar(BigEndian::read_u32(rest)) {
+            return false;
+        }
+        rest = &rest[CHARACTER_SIZE..];
+    }
+    true
+}
+
+/// Writes the operations of a frame behind the others, and moves the position behind it. Where memory
+/// is refused the operations have only grown.
+pub fn push_frame(
+    ops: &mut Vec<Op>,
+    at: &mut Position,
+    first: &Op,
+    further: &[u8],
+) -> Result<(), Memory>
+    requires is_frame { IsFrame (most_insertions at.old.version) (record { first = first.now; further = characters_in further.now }) }
+    requires counted { at.old.frames < 2 ^ 64 - 1 }
+    ensures next { OnOk result (IsNext at.old at.new (record { first = first.now; further = characters_in further.now })) }
+    ensures ops { OnOk result (ops.new.items ≡ ops.old.items ++ frame_ops (record { first = first.now; further = characters_in further.now })) }
+    ensures grown { take (length ops.old.items) ops.new.items ≡ ops.old.items }
+{
+    let count = further.len() / CHARACTER_SIZE + 1;
+    // One growth for all of them.
+    ops.reserve(count)?;
+    ops.push(*first)?;
+    let last = push_further(ops, first, further)?;
+    at.frames += 1;
+    at.tip = open_tip(count, at.version.most_insertions(), last);
+    Ok(())
+}
+
+/// The last identifier of a run of so many insertions, where it has room for more.
+fn open_tip(count: usize, most: usize, last: Option<Id>) -> Option<Id>
+    ensures { result ≡ cond (nat_lt count most) last None }
+{
+    if count < most { last } else { None }
+}
+
+/// Writes the further insertions of a run behind the others, and gives the last identifier.
+fn push_further(ops: &mut Vec<Op>, first: &Op, further: &[u8]) -> Result<Option<Id>, Memory>
+    requires goes_on { MayGoOn first.now (characters_in further.now) }
+    requires scalars { AllByRecursion IsScalar (characters_in further.now) }
+    ensures last { IfOk result (λ last. last ≡ last_id first.now (characters_in further.now)) }
+    ensures ops { OnOk result (ops.new.items ≡ ops.old.items ++ further_ops first.now (characters_in further.now)) }
+    ensures grown { take (length ops.old.items) ops.new.items ≡ ops.old.items }
+{
+    match first.view() {
+        OpView::Insert { id, .. } => {
+            let last = push_followers(ops, id, further)?;
+            Ok(Some(last))
+        }
+        OpView::Erase { .. } => Ok(None),
+    }
+}
+
+/// Writes insertions of these characters, each after the one before, and gives the last identifier.
+fn push_followers(ops: &mut Vec<Op>, id: Id, further: &[u8]) -> Result<Id, Memory>
+    requires fits { id.counter + length (characters_in further.now) < 2 ^ 32 }
+    requires scalars { AllByRecursion IsScalar (characters_in further.now) }
+    ensures counter { IfOk result (λ last. last.counter ≡ id.counter + length (characters_in further.now)) }
+    ensures site { IfOk result (λ last. last.site ≡ id.site) }
+    ensures ops { OnOk result (ops.new.items ≡ ops.old.items ++ followers id (characters_in further.now)) }
+    ensures grown { take (length ops.old.items) ops.new.items ≡ ops.old.items }
+{
+    let mut last = id;
+    let mut rest = further;
+    while rest.len() >= CHARACTER_SIZE {
+        let next = Id::new(last.counter() + 1, last.site()).unwrap();
+        let ch = read_char(rest);
+        ops.push(Op::insert(next, Place::After(last), ch).unwrap())?;
+        last = next;
+        rest = &rest[CHARACTER_SIZE..];
+    }
+    Ok(last)
+}
