@@ -1,3 +1,4 @@
+-- The modules of this crate's proofs.
 pub mod Bools
 pub mod Entries
 pub mod IdentifierOrder

@@ -1,3 +1,4 @@
+-- The modules of this crate's definitions.
 pub mod Identifier
 pub mod WellFormed
 pub mod OperationSet

@@ -1,4 +1,4 @@
--- What stands written after a failure.
+-- What is written after a failure.
 use Rattle.std.specs.Prelude.{ℕ, List, Option, take}
 use Rattle.std.specs.Io.KnownBytes.{Appends}
 

@@ -58,7 +58,7 @@ impl BuildHasher for Keyed {
 pub struct KeyedHasher {
     sum: u64,
     factor: u64,
-    /// The factor of each number behind the first.
+    /// The factor of each number after the first.
     next: u64,
 }
 

@@ -5,7 +5,7 @@ ghost use Rattle.std.specs.Prelude.{◌≡◌, ◌↔◌, IsTrue, IsSome, IfSome
 use crate::id::Id;
 use std::marker::Model;
 
-/// What an insertion stands behind in the tree: its parent.
+/// What an insertion follows in the tree: its parent.
 #[derive(Clone, Copy, Debug, PartialEq, Eq, PartialOrd, Ord, Hash)]
 pub enum Place {
     Root,
@@ -34,7 +34,7 @@ pub enum OpView {
     Erase { target: Id },
 }
 
-/// A well-formed operation: an insertion behind a parent with a smaller counter, or the deletion
+/// A well-formed operation: an insertion after a parent with a smaller counter, or the deletion
 /// of what an insertion made.
 #[derive(Clone, Copy, Debug, PartialEq, Eq, PartialOrd, Ord, Hash)]
 pub struct Op {

@@ -117,7 +117,7 @@ fn faults_print_their_names_and_have_numbers(rt: HostRuntime) -> Result<(), Fail
     Ok(())
 }
 
-/// What stands written, and whether all of it was.
+/// What is written, and whether all of it was.
 fn put_through(alloc: Global, piece: usize, total: usize) -> (Vec<u8>, bool)
     requires { 0 < piece }
 {

@@ -1,4 +1,4 @@
--- The PDI that the tree gives an initiator is the first behind it at which initiators and PDIs balance.
+-- The PDI that the tree gives an initiator is the first after it at which initiators and PDIs balance.
 use Rattle.std.proofs.Common.{ℕ, zero, suc, ◌≡◌, ◌+◌, ◌==◌, ◌&&◌, inl, inr, cond, refl, ap, ap₂, sym, ◌∙◌, List, [], ◌∷◌, length, take, Option, Some, None, Bool, true, false, add-one, zero-add, arith}
 use Rattle.std.specs.Prelude.{count_by, find, slice_get}
 use Rattle.std.specs.List.{range_with_len}

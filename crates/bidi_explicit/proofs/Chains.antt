@@ -40,7 +40,7 @@ kept_before-here places i h = rw h refl
 pub kept_before-on : (places : List (Option Kept)) (i : ℕ) → is_kept places i ≡ false → kept_before places (suc i) ≡ kept_before places i
 kept_before-on places i h = rw h refl
 
--- what is left of a chain behind a place
+-- what is left of a chain after a place
 abbrev pub chain_behind : List (Option ℕ) → ℕ → List ℕ
 chain_behind nexts i = elim (following nexts i) [ Some j ↦ chain (following nexts) (length nexts) j | None ↦ [] ]
 
@@ -80,7 +80,7 @@ chain-step nexts forward i inside = chain-from nexts forward (length nexts) i re
 chain_behind-is : (nexts : List (Option ℕ)) (i : ℕ) (o : Option ℕ) → following nexts i ≡ o → chain_behind nexts i ≡ goes_on (following nexts) (length nexts) o
 chain_behind-is nexts i o e = ap (goes_on (following nexts) (length nexts)) e
 
--- the walk has come to `last`, with these places behind the old ones
+-- the walk has come to `last`, with these places after the old ones
 pub record IsWalkedTo (nexts : List (Option ℕ)) (first last : ℕ) (old order : List ℕ) : Type 0 where
   pub so_far : order ++ chain_behind nexts last ≡ old ++ chain (following nexts) (length nexts) first
   pub end : last_or last (chain_behind nexts last) ≡ last_or first (chain (following nexts) (length nexts) first)

@@ -1,3 +1,4 @@
+-- Lemmas on the machine of X1 to X8 over a flat list.
 use Rattle.std.proofs.lemmas.List.{map-append}
 use Rattle.std.proofs.Common.{ℕ, zero, suc, ◌≡◌, refl, sym, ◌∙◌, ap, subst, List, [], ◌∷◌, ◌++◌, Option, Some, None, Bool, true, false, map, if◌then◌else◌, ◌==◌, append_assoc}
 use Rattle.std.specs.Prelude.{nat_le}

@@ -1,4 +1,4 @@
--- The sequences of a paragraph, gathered one behind the other.
+-- The sequences of a paragraph, gathered one after the other.
 use Rattle.std.proofs.Common.{ℕ, zero, suc, ◌≡◌, ◌≤◌, ◌+◌, ◌-◌, refl, ap, ap₂, sym, ◌∙◌, List, [], ◌∷◌, ◌++◌, map, filter, length, take, drop, slice_range, Option, Some, None, Bool, true, false, if◌then◌else◌, append-nil, arith}
 use Rattle.std.specs.List.{All}
 use Rattle.std.proofs.Math.Seq.{take-length}
@@ -10,7 +10,7 @@ use Rattle.bidi_explicit.specs.Sequences.{RunSequence, is_kept, chain, begins, s
 use Rattle.bidi_explicit.specs.Extents.{extent_sequence, extent_sequences, extent_of, IsStretch, IsKept, IsWithin}
 use Rattle.bidi_explicit.proofs.Linking.{below-more}
 
--- more places behind leave a stretch as it was
+-- more places after leave a stretch as it was
 range-append : (order more : List ℕ) (a b : ℕ) → a ≤ b → b ≤ length order → slice_range (order ++ more) a b ≡ slice_range order a b
 range-append order more a b le within =
     ap (take (b - a)) (drop-append-le a order more (omega arith))

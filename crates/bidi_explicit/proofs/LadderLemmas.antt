@@ -1,3 +1,4 @@
+-- Lemmas on the ladder of levels that a stack keeps.
 use Rattle.std.proofs.Common.{ℕ, zero, suc, ◌≡◌, ◌+◌, ◌-◌, ◌<◌, ◌≤◌, refl, sym, List, [], ◌∷◌, length, reverse, Bool, true, false, Option, arith}
 use Rattle.std.proofs.lemmas.List.{length-reverse}
 use Rattle.bg_types.specs.declared.class.Bidi.{Bidi}

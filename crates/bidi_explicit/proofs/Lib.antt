@@ -1,3 +1,4 @@
+-- The modules of this crate's proofs.
 pub mod FlatLemmas
 pub mod LadderLemmas
 pub mod Strongest

@@ -32,7 +32,7 @@ follows-more f i q =
     ∙ list_any-append (λ j. is_place q (f j)) (below i) (i ∷ [])
     ∙ ap (λ b. follows f i q || b) (or-false (is_place q (f i)))
 
--- the marks behind a place that leads here
+-- the marks after a place that leads here
 abbrev pub after_mark : Option ℕ → List Bool → List Bool
 after_mark None marks = marks
 after_mark (Some j) marks = set marks j true

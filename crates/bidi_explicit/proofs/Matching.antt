@@ -10,7 +10,7 @@ use Rattle.bidi_explicit.specs.Nesting.{Nodes, end, char, isolate, unclosed, is_
 use Rattle.bidi_explicit.specs.Flat.{content}
 use Rattle.bidi_explicit.specs.Controls.{control, controls_from, Behind, own_pdis, behind, without_nearest, moved, nearest, control_by}
 
--- a PDI of a list, and those behind it, where n characters stand before it
+-- a PDI of a list, and those after it, where n characters stand before it
 abbrev pdis_from : ℕ → Nodes → List OpenPdi
 pdis_from i rest = (record { place = i; odd = base (content rest) == 1 }) ∷ own_pdis (suc i) rest
 
@@ -48,14 +48,14 @@ pdi-facts i (unclosed c held) = refl
 abbrev first : Nodes → Option (Nodes × Nodes) → Nodes
 first ns o = elim o [ Some p ↦ p.0 | None ↦ ns ]
 
--- the split of a list behind an isolate, and behind a character
+-- the split of a list after an isolate, and after a character
 abbrev pub behind_isolate : Bidi → Nodes → Option (Nodes × Nodes) → Option (Nodes × Nodes)
 behind_isolate i held o = elim o [ Some p ↦ Some (isolate i held p.0, p.1) | None ↦ None ]
 
 abbrev pub behind_char : Bidi → Option (Nodes × Nodes) → Option (Nodes × Nodes)
 behind_char c o = elim o [ Some p ↦ Some (char c p.0, p.1) | None ↦ None ]
 
--- what stands up to the first PDI, behind an isolate and behind a character
+-- what stands up to the first PDI, after an isolate and after a character
 first-isolate : (i : Bidi) (held rest : Nodes) (o : Option (Nodes × Nodes)) →
     base (first (isolate i held rest) (behind_isolate i held o)) ≡ base (first rest o)
 first-isolate i held rest (Some p) = refl
@@ -90,7 +90,7 @@ enclosed i c ns None split h = ap without_nearest (sym h)
 behind-enclose : (i : ℕ) (c : Bidi) (ns : Nodes) → behind i (enclose c ns) ≡ without_nearest (own_pdis (suc i) ns)
 behind-enclose i c ns = enclosed i c ns (split_at_pdi ns) refl (pdi-facts (suc i) ns)
 
--- the pass moves from behind a character to before it
+-- the pass moves from after a character to before it
 pub behind-step : (i : ℕ) (c : Bidi) (cs : List Bidi) → behind i (nest (c ∷ cs)) ≡ moved i c (behind (suc i) (nest cs))
 behind-step i Lri cs = behind-enclose i Lri (nest cs)
 behind-step i Rli cs = behind-enclose i Rli (nest cs)
@@ -137,7 +137,7 @@ pub length-controls : (j : ℕ) (cs : List Bidi) → length (controls_from j cs)
 length-controls j [] = refl
 length-controls j (c ∷ cs) = let h = length-controls (suc j) cs in omega arith
 
--- from place i on each control is known, and b is what is known behind the place before
+-- from place i on each control is known, and b is what is known after the place before
 pub record IsMatchedFrom (cs : List Bidi) (i : ℕ) (b : Behind) (xs : List Control) : Type 0 where
   pub known : b ≡ behind i (nest (drop i cs))
   pub done : drop i xs ≡ controls_from i (drop i cs)

@@ -18,7 +18,7 @@ scan d [] = 0
 scan zero (c ∷ cs) = elim (strong_level c) [ Some l ↦ l | None ↦ scan (depth_behind 0 c) cs ]
 scan (suc d) (c ∷ cs) = scan (depth_behind (suc d) c) cs
 
--- the nodes behind d unmatched PDIs
+-- the nodes after d unmatched PDIs
 abbrev skip : ℕ → Nodes → Nodes
 skip zero ns = ns
 skip (suc d) ns = elim (split_at_pdi ns) [ Some p ↦ skip d p.1 | None ↦ end ]

@@ -17,7 +17,7 @@ abbrev pub controls_from : ℕ → List Bidi → List Control
 controls_from i [] = []
 controls_from i (c ∷ cs) = control i c cs ∷ controls_from (suc i) cs
 
--- what is known of the characters behind a place
+-- what is known of the characters after a place
 pub record Behind : Type 0 where
   -- what stands there up to the first PDI that is not matched there is right to left
   pub odd : Bool
@@ -31,7 +31,7 @@ own_pdis i (char c rest) = own_pdis (suc i) rest
 own_pdis i (isolate c held rest) = own_pdis (suc (suc i + length (flattened held))) rest
 own_pdis i (unclosed c held) = []
 
--- what is known behind a place, where these nodes stand from place i on
+-- what is known after a place, where these nodes stand from place i on
 abbrev pub behind : ℕ → Nodes → Behind
 behind i ns = record { odd = base (content ns) == 1; pdis = own_pdis i ns }
 
@@ -55,6 +55,6 @@ abbrev pub nearest : List OpenPdi → Option ℕ
 nearest [] = None
 nearest (p ∷ ps) = Some p.place
 
--- what a class does, and which PDI matches it, by what is known behind it
+-- what a class does, and which PDI matches it, by what is known after it
 abbrev pub control_by : Bidi → Behind → Control
 control_by c b = record { kind = kind b.odd c; pdi = if is_initiator c then nearest b.pdis else None }

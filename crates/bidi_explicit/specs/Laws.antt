@@ -38,6 +38,6 @@ is_pdi_at cs n = elim (slice_get cs n) [ Some c ↦ is_pdi c | None ↦ false ]
 abbrev pub balances : List Bidi → ℕ → Bool
 balances cs n = is_pdi_at cs n && count_by is_initiator (take n cs) == count_by is_pdi (take n cs)
 
--- BD9: the PDI that the tree gives an initiator is the first behind it at which the initiators and PDIs between balance
+-- BD9: the PDI that the tree gives an initiator is the first after it at which the initiators and PDIs between balance
 abbrev pub MatchesWhereBalanced : Type 0
 MatchesWhereBalanced = (rest : List Bidi) → held_count rest ≡ find (balances rest) (below (length rest))

@@ -1,3 +1,4 @@
+-- The modules of this crate's definitions.
 pub mod Nesting
 pub mod Levels
 pub mod Sequences

@@ -9,7 +9,7 @@ use Rattle.bidi_explicit.specs.Sequences.{next_by, is_kept}
 abbrev pub pdi_at : List Control → ℕ → Option ℕ
 pdi_at controls i = elim (slice_get controls i) [ Some c ↦ c.pdi | None ↦ None ]
 
--- the place behind i in its sequence
+-- the place after i in its sequence
 abbrev pub linked : List Control → List (Option Kept) → ℕ → Option ℕ
 linked controls places i = next_by places (pdi_at controls i) i
 
@@ -24,7 +24,7 @@ is_unclosed c = opens c.kind c.pdi
 abbrev pub is_unclosed_at : List Control → ℕ → Bool
 is_unclosed_at controls i = elim (slice_get controls i) [ Some c ↦ is_unclosed c | None ↦ false ]
 
--- the place behind i, in a list of them
+-- the place after i, in a list of them
 abbrev pub following : List (Option ℕ) → ℕ → Option ℕ
 following nexts i = elim (slice_get nexts i) [ Some o ↦ o | None ↦ None ]
 
@@ -32,7 +32,7 @@ following nexts i = elim (slice_get nexts i) [ Some o ↦ o | None ↦ None ]
 abbrev pub IsForward : List (Option ℕ) → Type 0
 IsForward nexts = (i j : ℕ) → following nexts i ≡ Some j → (i < j) × (j < length nexts)
 
--- a PDI stands behind its initiator, in the list
+-- a PDI stands after its initiator, in the list
 abbrev pub AreMatched : List Control → Type 0
 AreMatched controls = (i j : ℕ) → pdi_at controls i ≡ Some j → (i < j) × (j < length controls)
 

@@ -6,9 +6,9 @@ use Rattle.bg_types.specs.declared.class.Bidi.TheVariants.{L, R, Al, Lri, Rli, F
 pub data Nodes : Type 0 where
   -- no more nodes
   end : Nodes
-  -- a character, and the nodes behind it
+  -- a character, and the nodes after it
   char : Bidi → Nodes → Nodes
-  -- an isolate that a PDI closes: its initiator, what it holds, and the nodes behind its PDI
+  -- an isolate that a PDI closes: its initiator, what it holds, and the nodes after its PDI
   isolate : Bidi → Nodes → Nodes → Nodes
   -- an isolate that nothing closes, which holds all that is left
   unclosed : Bidi → Nodes → Nodes
@@ -20,7 +20,7 @@ is_initiator Rli = true
 is_initiator Fsi = true
 is_initiator _ = false
 
--- the nodes before and behind the first PDI among the list's own characters
+-- the nodes before and after the first PDI among the list's own characters
 abbrev pub split_at_pdi : Nodes → Option (Nodes × Nodes)
 split_at_pdi end = None
 split_at_pdi (char Pdi rest) = Some (end, rest)
@@ -57,7 +57,7 @@ flattened (char c rest) = c ∷ flattened rest
 flattened (isolate i held rest) = i ∷ flattened held ++ Pdi ∷ flattened rest
 flattened (unclosed i held) = i ∷ flattened held
 
--- how many characters an initiator's isolate holds, where `rest` stands behind the initiator and a PDI closes the isolate
+-- how many characters an initiator's isolate holds, where `rest` stands after the initiator and a PDI closes the isolate
 abbrev pub held_count : List Bidi → Option ℕ
 held_count rest = elim (split_at_pdi (nest rest)) [ Some p ↦ Some (length (flattened p.0)) | None ↦ None ]
 

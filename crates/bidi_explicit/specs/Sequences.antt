@@ -19,7 +19,7 @@ kept_from i [] = None
 kept_from i (Some k ∷ rest) = Some i
 kept_from i (None ∷ rest) = kept_from (suc i) rest
 
--- the first kept place behind i
+-- the first kept place after i
 abbrev pub kept_after : List (Option Kept) → ℕ → Option ℕ
 kept_after places i = kept_from (suc i) (drop (suc i) places)
 
@@ -42,7 +42,7 @@ abbrev pub over_isolate : List (Option Kept) → Option ℕ → Option ℕ
 over_isolate places None = None
 over_isolate places (Some j) = if has_level_of places j (kept_before places j) then None else Some j
 
--- the place behind a kept place i in its sequence, where this PDI matches i: the next kept one, if it has i's level, else the PDI
+-- the place after a kept place i in its sequence, where this PDI matches i: the next kept one, if it has i's level, else the PDI
 abbrev pub next_by : List (Option Kept) → Option ℕ → ℕ → Option ℕ
 next_by places pdi i =
     if is_kept places i then
@@ -104,7 +104,7 @@ abbrev pub sos_of : ℕ → List (Option Kept) → ℕ → Bidi
 sos_of p places first =
     direction_between (level_or p places (Some first)) (level_or p places (kept_before places first))
 
--- eos compares the level with that of the kept place behind the last, or with p if the last is an unmatched initiator
+-- eos compares the level with that of the kept place after the last, or with p if the last is an unmatched initiator
 abbrev pub eos_of : ℕ → Bool → List (Option Kept) → ℕ → Bidi
 eos_of p unmatched places last =
     direction_between (level_or p places (Some last)) (if unmatched then p else level_or p places (kept_after places last))

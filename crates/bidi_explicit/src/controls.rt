@@ -17,7 +17,7 @@ pub(crate) struct Control {
     pub(crate) pdi: Option<usize>,
 }
 
-/// A PDI that no initiator behind it has matched, and whether what stands behind it, up to the next such
+/// A PDI that no initiator after it has matched, and whether what stands after it, up to the next such
 /// one, is right to left.
 #[derive(Clone, Copy, Default)]
 struct OpenPdi {
@@ -25,7 +25,7 @@ struct OpenPdi {
     odd: bool,
 }
 
-/// What is known of the characters behind a place.
+/// What is known of the characters after a place.
 #[derive(Drop)]
 struct Matcher {
     pdis: Vec<OpenPdi>,
@@ -42,7 +42,7 @@ impl Model for Matcher {
 }
 
 impl Matcher {
-    /// Nothing stands behind the last place.
+    /// Nothing stands after the last place.
     fn new(alloc: Global) -> Matcher
         ensures { result ≡ record { odd = false; pdis = [] } }
     {
@@ -52,7 +52,7 @@ impl Matcher {
         }
     }
 
-    /// Passes from behind a character to before it.
+    /// Passes from the place after a character to the place of it.
     fn pass(&mut self, place: usize, class: Bidi) -> Result<Control, Memory>
         ensures control { IfOk result (λ control. control ≡ control_by class self.old) }
         ensures after { OnOk result (self.new ≡ moved place class self.old) }

@@ -122,7 +122,7 @@ impl<'a> Sequence<'a> {
         self.sos
     }
 
-    /// The direction behind its last character, L or R.
+    /// The direction after its last character, L or R.
     #[inline]
     pub fn eos(&self) -> Bidi
         ensures { result ≡ self.now.eos }

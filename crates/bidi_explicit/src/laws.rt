@@ -10,7 +10,7 @@ pub fn nesting_law()
     ensures overflow { KeepsAllOverOverflow }
 {}
 
-/// The nesting gives an initiator the PDI that BD9 gives it: the first one behind it at which the
+/// The nesting gives an initiator the PDI that BD9 gives it: the first one after it at which the
 /// initiators and PDIs between balance.
 pub fn matching_law()
     ensures { MatchesWhereBalanced }

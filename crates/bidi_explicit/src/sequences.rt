@@ -13,7 +13,7 @@ use crate::kind::Kind;
 use bg_types::{Bidi, Memory};
 use std::alloc::Global;
 
-/// The first kept place behind a place.
+/// The first kept place after a place.
 fn kept_after(places: &[Option<Kept>], place: usize) -> Option<usize>
     requires { place < length places.now }
     ensures kept { result ≡ kept_after places.now place }
@@ -74,7 +74,7 @@ fn direction_between(a: u8, b: u8) -> Bidi
     if a.max(b) % 2 == 1 { Bidi::R } else { Bidi::L }
 }
 
-/// The place behind a place in its sequence, where this PDI matches it.
+/// The place after a place in its sequence, where this PDI matches it.
 fn next(places: &[Option<Kept>], pdi: Option<usize>, place: usize) -> Option<usize>
     requires place { place < length places.now }
     requires pdi { IfSome pdi (λ i. (place < i) × (i < length places.now)) }
@@ -167,7 +167,7 @@ fn sos(level: u8, places: &[Option<Kept>], first: usize) -> Bidi
     direction_between(level_or(level, places, Some(first)), before)
 }
 
-/// The direction behind a sequence that ends at `last`, where this is its control.
+/// The direction after a sequence that ends at `last`, where this is its control.
 fn eos(level: u8, control: Control, places: &[Option<Kept>], last: usize) -> Bidi
     requires { last < length places.now }
     ensures { result ≡ eos_of level (is_unclosed control) places.now last }
@@ -224,7 +224,7 @@ fn append_sequence(
     })
 }
 
-/// The isolating run sequences of a paragraph of this level: their places, one sequence behind the other,
+/// The isolating run sequences of a paragraph of this level: their places, one sequence after the other,
 /// and the part of each.
 pub(crate) fn sequences(
     alloc: Global,

@@ -1,3 +1,4 @@
+-- The modules of this crate's proofs.
 pub mod Scan
 pub mod WeakScans
 pub mod Runs

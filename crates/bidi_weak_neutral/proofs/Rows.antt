@@ -6,7 +6,7 @@ use Rattle.bidi_weak_neutral.specs.Classes.{is_strong, is_number, is_neutral}
 use Rattle.bidi_weak_neutral.specs.Weak.{w1, w2, w3, w4, w5, w6, w7, weak_types}
 use Rattle.bidi_weak_neutral.specs.Neutral.{n1, n2, implicit_level}
 
--- W1: marks in a row, at the start, and behind isolate controls
+-- W1: marks in a row, at the start, and after isolate controls
 w1-row : w1 R (Nsm ∷ Al ∷ Nsm ∷ Nsm ∷ Lri ∷ Nsm ∷ Pdi ∷ Nsm ∷ Nsm ∷ Ws ∷ Nsm ∷ [])
     ≡ R ∷ Al ∷ Al ∷ Al ∷ Lri ∷ On ∷ Pdi ∷ On ∷ On ∷ Ws ∷ Ws ∷ []
 unfolding is_isolate_control
@@ -40,7 +40,7 @@ w7-row : w7 L (En ∷ On ∷ R ∷ En ∷ L ∷ On ∷ Ws ∷ An ∷ En ∷ R �
 unfolding is_strong
 w7-row = refl
 
--- the order of the rules: a mark on a sign of currency, a percent sign behind Arabic digits, a comma in a price
+-- the order of the rules: a mark on a sign of currency, a percent sign after Arabic digits, a comma in a price
 weak-row : weak_types R (Al ∷ En ∷ Cs ∷ En ∷ Et ∷ Nsm ∷ L ∷ Et ∷ En ∷ Cs ∷ Nsm ∷ En ∷ [])
     ≡ R ∷ An ∷ An ∷ An ∷ On ∷ On ∷ L ∷ L ∷ L ∷ On ∷ On ∷ L ∷ []
 unfolding is_strong is_isolate_control

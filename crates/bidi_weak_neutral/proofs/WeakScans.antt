@@ -13,7 +13,7 @@ use Rattle.bidi_weak_neutral.specs.Weak.{mark_type, first_type, is_joined, past_
 use Rattle.bidi_weak_neutral.proofs.Scan.{scan, in_context_from-scan, scan-set, scan-keep}
 use Rattle.bidi_weak_neutral.proofs.Runs.{IsRun}
 
--- a rule's new type, by what the scan keeps, the type and those behind it; and what the scan keeps then
+-- a rule's new type, by what the scan keeps, the type and those after it; and what the scan keeps then
 abbrev pub w1_at : Bidi → Bidi → List Bidi → Bidi
 w1_at base c after = if is c Nsm then mark_type base else c
 

@@ -16,7 +16,7 @@ is_strong R = true
 is_strong Al = true
 is_strong _ = false
 
--- the types of numbers, behind W2
+-- the types of numbers, after W2
 unfoldable pub is_number : Bidi → Bool
 is_number En = true
 is_number An = true

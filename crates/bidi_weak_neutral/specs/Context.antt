@@ -1,7 +1,7 @@
 -- Maps of a list in which each place reads the list on both sides of it.
 use Rattle.std.specs.Prelude.{Bool, List, [], ◌∷◌, if◌then◌else◌}
 
--- each element by the elements before it, the nearest first, by itself and by those behind it
+-- each element by the elements before it, the nearest first, by itself and by those after it
 abbrev pub in_context_from : {A B : Type 0} → (List A → A → List A → B) → List A → List A → List B
 in_context_from f before [] = []
 in_context_from f before (x ∷ xs) = f before x xs ∷ in_context_from f (x ∷ before) xs

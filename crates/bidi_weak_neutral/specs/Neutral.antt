@@ -26,6 +26,6 @@ i1 level c = if is c R then level + 1 else (if is_number c then level + 2 else l
 abbrev pub i2 : ℕ → Bidi → ℕ
 i2 level c = if is c L || is_number c then level + 1 else level
 
--- the level of a place by the level of its sequence and its type behind N2
+-- the level of a place by the level of its sequence and its type after N2
 abbrev pub implicit_level : ℕ → Bidi → ℕ
 implicit_level level c = if level % 2 == 1 then i2 level c else i1 level c

@@ -10,7 +10,7 @@ use Rattle.bidi_weak_neutral.specs.Context.{in_context, nearest}
 abbrev pub mark_type : Bidi → Bidi
 mark_type base = if is_isolate_control base then On else base
 
--- W1: NSM takes the nearest earlier type that isn't NSM, or sos; ON behind an initiator or PDI
+-- W1: NSM takes the nearest earlier type that isn't NSM, or sos; ON after an initiator or PDI
 abbrev pub w1 : Bidi → List Bidi → List Bidi
 w1 sos = in_context (λ before c after.
     if is c Nsm then mark_type (nearest (λ x. not (is x Nsm)) sos before) else c)

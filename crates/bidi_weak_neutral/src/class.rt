@@ -83,7 +83,7 @@ pub(crate) fn embedding_direction(level: u8) -> Bidi
     if level % 2 == 1 { Bidi::R } else { Bidi::L }
 }
 
-/// The type at a place, or `absent` behind the last one.
+/// The type at a place, or `absent` after the last one.
 #[inline]
 pub(crate) fn type_at(types: &[Bidi], place: usize, absent: Bidi) -> Bidi
     ensures { result ≡ slice_index_or types.now place absent }

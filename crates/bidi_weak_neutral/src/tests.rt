@@ -19,7 +19,7 @@ fn small_tables(alloc: Global) -> Result<Tables, UcdFault> {
     )
 }
 
-/// Compares the levels of a text's paragraphs, one paragraph behind the other.
+/// Compares the levels of a text's paragraphs, one paragraph after the other.
 fn assert_levels(
     rt: &(impl Abort + AllocGlobal),
     tables: &Tables,

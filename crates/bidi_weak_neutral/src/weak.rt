@@ -8,7 +8,7 @@ ghost use Rattle.bidi_weak_neutral.specs.Weak.{is_joined, past_terminators, w1, 
 use crate::class::{is_isolate_control, is_strong, type_at};
 use bg_types::Bidi;
 
-/// W1: a mark takes the type before it, ON behind an isolate control.
+/// W1: a mark takes the type before it, ON after an isolate control.
 pub(crate) fn w1(types: &mut [Bidi], sos: Bidi)
     ensures { types.new ≡ w1 sos types.old }
 {

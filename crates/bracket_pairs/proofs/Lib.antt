@@ -1,3 +1,4 @@
+-- The modules of this crate's proofs.
 pub mod Places
 pub mod SearchSteps
 pub mod SearchEnd

@@ -10,7 +10,7 @@ use Rattle.bracket_pairs.specs.Runs.{IsRun}
 use Rattle.bracket_pairs.proofs.SetBracket.{set-begins, marks-more, marks-end, marks-all}
 use Rattle.bracket_pairs.proofs.PairSteps.{bracket-before, length-bracket}
 
--- from k to e the marks have the type, and behind them stands none
+-- from k to e the marks have the type, and after them stands none
 marks-have : (t : Bidi) (before_w1 types : List Bidi) (e n k : ℕ) → k + n ≡ e → e ≤ length types → length before_w1 ≡ length types →
     ((i : ℕ) → k ≤ i → i < e → is_nonspacing (get_or before_w1 i On) ≡ true) → ((i : ℕ) → k ≤ i → i < e → get_or types i On ≡ t) →
     (e < length types → is_nonspacing (get_or before_w1 e On) ≡ false) →
@@ -26,7 +26,7 @@ marks-have t before_w1 types e (suc n) k sum le len marks same ended =
     sym (marks-more t On before_w1 types k (omega arith) (omega arith) (marks k (omega arith) (omega arith)))
     ∙ rw kept (marks-have t before_w1 types e n (k + 1) (omega arith) le len (λ i a b. marks i (omega arith) b) (λ i a b. same i (omega arith) b) ended)
 
--- a bracket of a run has its type, and so have the marks behind it
+-- a bracket of a run has its type, and so have the marks after it
 pub run-has : (before_w1 types : List Bidi) (r : Run) (place : ℕ) → length before_w1 ≡ length types → IsRun before_w1 types r →
     r.start ≤ place → place < r.end → bracket_set r.class before_w1 types place ≡ types
 run-has before_w1 types r place len is from to =
@@ -36,7 +36,7 @@ run-has before_w1 types r place len is from to =
     ∙ rw kept (marks-have r.class before_w1 types r.end (r.end - (place + 1)) (place + 1) (omega arith) within len
     (λ i a b. is.marks i (omega arith) b) (λ i a b. is.same i (omega arith) b) is.ended)
 
--- what is set behind a run leaves it
+-- what is set after a run leaves it
 pub run-stays : (t : Bidi) (before_w1 types : List Bidi) (r : Run) (place : ℕ) → IsRun before_w1 types r →
     r.end ≤ place → place < length types → IsRun before_w1 (bracket_set t before_w1 types place) r
 run-stays t before_w1 types r place is behind h =

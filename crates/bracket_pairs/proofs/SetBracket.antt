@@ -1,10 +1,10 @@
--- A bracket and the marks behind it.
+-- A bracket and the marks after it.
 use Rattle.std.proofs.Common.{ℕ, ◌≡◌, ◌+◌, ◌<◌, ◌≤◌, refl, true, false, List, [], ◌∷◌, ◌++◌, length, get_or, set, take, drop, add-one, arith}
 use Rattle.std.proofs.lemmas.List.{append-nil, append_assoc, drop_more, drop_all, take_all, take_more_set, drop-set-lt, take-append-drop}
 use Rattle.bg_types.specs.declared.class.Bidi.{Bidi}
 use Rattle.bracket_pairs.specs.N0.{is_nonspacing, marks_set, bracket_set}
 
--- at a place that is set the marks behind it are still to be set
+-- at a place that is set the marks after it are still to be set
 pub set-begins : (t : Bidi) (before_w1 types : List Bidi) (place : ℕ) → place < length types →
     take (place + 1) (set types place t) ++ marks_set t (drop (place + 1) before_w1) (drop (place + 1) (set types place t)) ≡ bracket_set t before_w1 types place
 unfolding bracket_set

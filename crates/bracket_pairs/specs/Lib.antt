@@ -1,3 +1,4 @@
+-- The modules of this crate's definitions.
 pub mod Pairs
 pub mod N0
 pub mod Found

@@ -66,7 +66,7 @@ marks_set t [] (u ∷ types) = u ∷ types
 marks_set t (b ∷ before_w1) (u ∷ types) =
     let rest = marks_set t before_w1 types in if is_nonspacing b then t ∷ rest else u ∷ types
 
--- the types with t for a bracket, and for the characters right behind it that were NSM before W1
+-- the types with t for a bracket, and for the characters right after it that were NSM before W1
 unfoldable pub bracket_set : Bidi → (before_w1 types : List Bidi) → ℕ → List Bidi
 bracket_set t before_w1 types place =
     take place types ++ t ∷ marks_set t (drop (suc place) before_w1) (drop (suc place) types)

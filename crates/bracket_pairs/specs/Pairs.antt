@@ -64,7 +64,7 @@ abbrev pub places_back : ℕ → List ℕ
 places_back zero = []
 places_back (suc n) = n ∷ places_back n
 
--- an opening bracket at i is open as long as no closing one behind it has matched at or before i
+-- an opening bracket at i is open as long as no closing one after it has matched at or before i
 abbrev pub is_open : List Role → List Pair → ℕ → Bool
 is_open rs pairs i = opens (role_at rs i) && not (list_any (λ p. nat_le p.opening i && nat_lt i p.closing) pairs)
 

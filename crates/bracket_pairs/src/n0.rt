@@ -23,7 +23,7 @@ fn is_nonspacing(class: Bidi) -> bool
     }
 }
 
-/// A bracket and the nonspacing marks behind it, all of one type: the places from `start` to `end`.
+/// A bracket and the nonspacing marks after it, all of one type: the places from `start` to `end`.
 #[derive(Clone, Copy)]
 struct Run {
     start: usize,
@@ -32,7 +32,7 @@ struct Run {
 }
 
 impl Run {
-    /// Whether a bracket there has this type already, and the marks behind it too.
+    /// Whether a bracket there has this type already, and the marks after it too.
     fn has(self, place: usize, class: Bidi) -> bool
         ensures { result ≡ true → Has self place class }
     {
@@ -40,7 +40,7 @@ impl Run {
     }
 }
 
-/// Gives a bracket a type, and the nonspacing marks behind it too.
+/// Gives a bracket a type, and the nonspacing marks after it too.
 fn set_bracket(class: Bidi, place: usize, before_w1: &[Bidi], types: &mut [Bidi]) -> Run
     requires same { length before_w1.now ≡ length types.old }
     requires within { place < length types.old }

@@ -104,7 +104,7 @@ fn assert_rows(rt: &(impl Abort + AllocGlobal), brackets: &[u8], rows: &str) -> 
 }
 
 /// Small texts worked out by hand: crossed pairs; equivalent brackets; closing brackets that nothing waits for; brackets
-/// under an override; numbers, which count as R; pairs that hold no strong type; marks behind brackets; pairs that
+/// under an override; numbers, which count as R; pairs that hold no strong type; marks after brackets; pairs that
 /// count as they were left; the context before the opening bracket; and brackets that are marks themselves.
 #[test]
 fn pairs_take_the_direction_that_n0_gives(rt: HostRuntime) -> Result<(), Fail> {

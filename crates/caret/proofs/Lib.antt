@@ -1,3 +1,4 @@
+-- The modules of this crate's proofs.
 pub mod LastBelow
 pub mod RowOrder
 pub mod CaretAt

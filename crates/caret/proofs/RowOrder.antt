@@ -30,7 +30,7 @@ begins_by-at : (rows : List DrawnRow) (p k : ℕ) (d : DrawnRow) → k < length 
 begins_by-at rows p k d within =
     ap (λ o. option_map_or (λ (row : DrawnRow). nat_le row.first_place p) o false) (slice_get-get_or rows k d within)
 
--- the rows before number i begin at p or before, the others behind it
+-- the rows before number i begin at p or before, the others after it
 abbrev pub Splits : List DrawnRow → ℕ → ℕ → Type 0
 Splits rows p i = IsPartitionPoint (λ (r : DrawnRow). nat_le r.first_place p ≡ true) (λ (r : DrawnRow). nat_le r.first_place p ≡ false) rows i
 
@@ -66,7 +66,7 @@ last_place-next from to (r ∷ []) k row d follow is next = absurd (omega arith)
 last_place-next from to (r ∷ s ∷ later) zero row d follow is next = let same : r ≡ row = cc in follow.2.0 ∙ ap (λ (x : DrawnRow). x.last_place) same
 last_place-next from to (r ∷ s ∷ later) (suc k) row d follow is next = last_place-next r.last_place to (s ∷ later) k row d follow.2 is (omega arith)
 
--- and none begins behind that end
+-- and none begins after that end
 first_place-to : (from to : ℕ) (rows : List DrawnRow) (k : ℕ) (d : DrawnRow) → RowsFollow from rows to → k < length rows → (get_or rows k d).first_place ≤ to
 first_place-to from to [] k d follow within = absurd (omega arith)
 first_place-to from to (r ∷ later) zero d follow within = omega (arith, follow.0, follow.1, upto later r.last_place follow.2)
@@ -88,7 +88,7 @@ first_place-last_place from to (r ∷ later) zero row follow is =
 first_place-last_place from to (r ∷ later) (suc k) row follow is = first_place-last_place r.last_place to later k row follow.2 is
 
 module _ (to p : ℕ) (rows : List DrawnRow) (row : DrawnRow) (follow : RowsFollow 0 rows to) (is : slice_get rows (row_at rows p) ≡ Some row) where
-  -- the row of p is the last one, or the next one begins behind p
+  -- the row of p is the last one, or the next one begins after p
   behind-row_at : suc (row_at rows p) < length rows → p < row.last_place
   behind-row_at next =
       let later = last_below-later (begins_by rows p) (length rows) (suc (row_at rows p)) (omega arith) next in
@@ -105,7 +105,7 @@ module _ (to p : ℕ) (rows : List DrawnRow) (row : DrawnRow) (follow : RowsFoll
       sym (ap (λ o. option_map_or (λ (r : DrawnRow). nat_le r.first_place p) o false) is) ∙ last_below-passes (begins_by rows p) (length rows) first in
       leb-true row.first_place p here
 
-  -- where p is a place of the text, it ends behind p
+  -- where p is a place of the text, it ends after p
   pub last_place-row_at : p < to → p < row.last_place
   last_place-row_at within =
       elim (cases_lt (suc (row_at rows p)) (length rows)) [

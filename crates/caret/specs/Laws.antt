@@ -50,7 +50,7 @@ pub record StandsBeforeCluster (grid : DrawnGrid) (p : ℕ) (caret : Caret) : Ty
   pub to : p < entry.span.end_place
   pub is : caret ≡ before_cluster caret.row (number, entry)
 
--- the caret stands behind the cluster of a row that ends at this place
+-- the caret stands after the cluster of a row that ends at this place
 pub record StandsBehindCluster (row : DrawnRow) (end : ℕ) (caret : Caret) : Type 0 where
   pub number : ℕ
   pub entry : Entry
@@ -58,7 +58,7 @@ pub record StandsBehindCluster (row : DrawnRow) (end : ℕ) (caret : Caret) : Ty
   pub ends : entry.span.end_place ≡ end
   pub is : caret ≡ behind_cluster caret.row (number, entry)
 
--- the caret stands in the last row, behind the cluster that ends with the text, or in an empty row
+-- the caret stands in the last row, after the cluster that ends with the text, or in an empty row
 pub record StandsBehindText (grid : DrawnGrid) (end : ℕ) (caret : Caret) : Type 0 where
   pub row : DrawnRow
   pub row_is : slice_get grid.rows caret.row ≡ Some row

@@ -1,3 +1,4 @@
+-- The modules of this crate's definitions.
 pub mod Lists
 pub mod Gaps
 pub mod Moves

@@ -46,7 +46,7 @@ entry_where passes entries = find (λ (numbered : ℕ × Entry). passes numbered
 abbrev pub at_cluster : ℕ → ℕ → DrawnRow → Caret
 at_cluster p number row = option_map_or (before_cluster number) (entry_where (holds p) row.entries) (gap_zero number p)
 
--- the caret at the end of this row: behind its logically last cluster, the one that ends at its last place, and at gap 0 of an empty row
+-- the caret at the end of this row: after its logically last cluster, the one that ends at its last place, and at gap 0 of an empty row
 abbrev pub at_end : ℕ → DrawnRow → Caret
 at_end number row = option_map_or (behind_cluster number) (entry_where (ends_at row.last_place) row.entries) (gap_zero number row.last_place)
 

@@ -20,7 +20,7 @@ pub fn opposites()
 {}
 
 /// The caret at a place of a drawn text stands before the cluster that holds the place, and that at
-/// the text's end behind the cluster that ends there, or in an empty row.
+/// the text's end after the cluster that ends there, or in an empty row.
 pub fn each_place()
     ensures { EachPlaceHasItsCaret }
 {

@@ -102,7 +102,7 @@ fn at_end(row: &Row, number: usize) -> Caret
 /// The caret at a place of the text, which counts code points and is at most the text's length.
 ///
 /// It stands in the last row whose first place is at most `place`, at the start of the cluster that
-/// holds the place; at the text's end, behind the row's logically last cluster. The row is found by
+/// holds the place; at the text's end, after the row's logically last cluster. The row is found by
 /// binary search.
 pub fn at_place(grid: &Grid, place: usize) -> Caret
     requires { place ≤ length (chars grid.now.text) }

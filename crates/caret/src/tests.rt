@@ -159,7 +159,7 @@ fn edges_lead_on_and_back(rt: HostRuntime) -> Result<(), Fail> {
         ("a\n", 2, 0, "rrrrl", "000 011 022 102 102 022"),
         ("abcdef", 4, 4, "llrrrrr", "104 044 033 044 104 115 126 126"),
         ("abcdef", 4, 0, "l", "000 000"),
-        // Two rows of a paragraph of level 1; such a row before one of level 0, and behind one.
+        // Two rows of a paragraph of level 1; such a row before one of level 0, and after one.
         (
             "\u{5D0}\u{5D1}\u{5D2}\u{5D3}",
             2,
@@ -259,7 +259,7 @@ fn assert_stops(rt: &impl Abort, grid: &Grid, stops: &str) {
 #[test]
 fn each_place_has_its_cluster(rt: HostRuntime) -> Result<(), Fail> {
     let rows = [
-        // The text's end, behind a cluster of even and of odd level, and behind a separator.
+        // The text's end, after a cluster of even and of odd level, and after a separator.
         ("", 4, "000"),
         ("a", 2, "000 011"),
         ("a\n", 2, "000 011 102"),
@@ -286,7 +286,7 @@ fn each_place_has_its_cluster(rt: HostRuntime) -> Result<(), Fail> {
 #[test]
 fn a_place_is_found_among_many_rows(rt: HostRuntime) -> Result<(), Fail> {
     let tables = tables(rt.alloc())?;
-    // 1,000 rows of a line feed alone, and the empty one behind them.
+    // 1,000 rows of a line feed alone, and the empty one after them.
     let text = str::from_utf8(&[b'\n'; 1_000]).unwrap_or("");
     let grid = drawn(&rt, rt.alloc(), &tables, 2, Base::Auto, text)?;
     for place in 0..1_001 {

@@ -29,7 +29,7 @@ from-at from to [] f n e is = cc
 from-at from to (x ∷ es) f zero e is = let same : x ≡ e = cc in let at = ap (λ (y : Entry). y.column) same in let first = f.0 in omega arith
 from-at from to (x ∷ es) f (suc n) e is = let later = from-at (x.column + x.columns) to es f.1 n e is in let first = f.0 in omega arith
 
--- a later entry begins where an earlier one ends, or behind it
+-- a later entry begins where an earlier one ends, or after it
 pub later-at : (from to : ℕ) (es : List Entry) → ColumnsFollow from es to → (m n : ℕ) (d e : Entry) → slice_get es m ≡ Some d → slice_get es n ≡ Some e → m < n → d.column + d.columns ≤ e.column
 later-at from to [] f m n d e a b lt = cc
 later-at from to (x ∷ es) f m zero d e a b lt = absurd (omega arith)
@@ -65,7 +65,7 @@ pub none-total : (es : List Entry) → None ≡ slice_get es (length es - 1) →
 none-total [] is = refl
 none-total (x ∷ es) is = let last = get-some (x ∷ es) (length (x ∷ es) - 1) (omega arith) in let own = last.1 in cc
 
--- so many entries begin by this column, and the others behind it
+-- so many entries begin by this column, and the others after it
 abbrev pub BeginBy : List Entry → (column count : ℕ) → Type 0
 BeginBy entries column count = IsPartitionPoint (λ (e : Entry). nat_le e.column column ≡ true) (λ (e : Entry). nat_le e.column column ≡ false) entries count
 
@@ -245,7 +245,7 @@ module _ (entries : List Entry) (start width : ℕ) (f : ColumnsFollow start ent
 pub drop-get : {X : Type 0} (xs : List X) (k : ℕ) (x : X) → slice_get xs k ≡ Some x → drop k xs ≡ x ∷ drop (k + 1) xs
 drop-get xs k x is = drop-next xs k x x (get-inside xs k x is) (sym (get_or_from_slice_get xs k x x is))
 
--- no cell stands behind the width
+-- no cell stands after the width
 pub none-behind : {X : Type 0} (xs : List X) (k : ℕ) → length xs ≤ k → None ≡ slice_get xs k
 none-behind [] k le = refl
 none-behind (x ∷ xs) zero le = absurd (omega arith)

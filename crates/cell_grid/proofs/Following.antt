@@ -101,7 +101,7 @@ paragraph-follows below tables width wide base text u =
 
 -- ---- the rows of a text
 
--- the place behind some paragraphs
+-- the place after some paragraphs
 abbrev pub place_behind : ℕ → List Paragraph → ℕ
 place_behind place [] = place
 place_behind place (p ∷ ps) = place_behind (place + length (code_points p.text)) ps

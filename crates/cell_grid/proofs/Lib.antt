@@ -1,3 +1,4 @@
+-- The modules of this crate's proofs.
 pub mod Steps
 pub mod Hung
 pub mod Entries

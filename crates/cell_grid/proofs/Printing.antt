@@ -28,7 +28,7 @@ module _ (tables : TableValues) (text : List ℕ) (entries : List Entry) where
       ∙ append-nil (entry_text tables text (slice_get entries number)) ∙ ap (entry_text tables text) is
 
 module _ (tables : TableValues) (text : List ℕ) where
-  -- cells of entries behind others
+  -- cells of entries after others
   later-text : (front later : List Entry) → flat_map (cell_text tables text (front ++ later)) (entries_cells (length front) later) ≡ flat_map (own_text tables text) later
   later-text front [] = refl
   later-text front (e ∷ later) =

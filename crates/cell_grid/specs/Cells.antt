@@ -4,7 +4,7 @@ use Rattle.cell_grid.specs.declared.entry.Entry.{Entry}
 use Rattle.cell_grid.specs.declared.cell.Cell.{Cell}
 use Rattle.cell_grid.specs.declared.cell.Cell.TheVariants.{Blank, Head, Tail}
 
--- the cells of an entry with this number and so many columns: its head, and behind it its tail
+-- the cells of an entry with this number and so many columns: its head, and after it its tail
 abbrev pub entry_cells : (number columns : ℕ) → List Cell
 entry_cells number zero = []
 entry_cells number (suc n) = Head number ∷ replicate n (Tail number)
@@ -35,7 +35,7 @@ pub record StandWithin (width start : ℕ) (entries : List Entry) : Type 0 where
   pub fits : start + total entries ≤ width
   pub count : length entries ≤ 4_000_000
 
--- entry n is seen in this cell: in its head, or behind it in its tail
+-- entry n is seen in this cell: in its head, or after it in its tail
 abbrev pub IsSeenAt : List Entry → (column : ℕ) → Cell → Type 0
 IsSeenAt entries column Blank = (n : ℕ) (e : Entry) → slice_get entries n ≡ Some e → e.column ≤ column → column < e.column + e.columns → ⊥
 IsSeenAt entries column (Head n) = (e : Entry) × (slice_get entries n ≡ Some e) × (e.column ≡ column) × (0 < e.columns)

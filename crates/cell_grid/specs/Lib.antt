@@ -1,3 +1,4 @@
+-- The modules of this crate's definitions.
 pub mod LawsBelow
 pub mod Spans
 pub mod Hanging

@@ -16,7 +16,7 @@ use Rattle.cell_grid.specs.Spans.{spans, extent, shifted_span}
 use Rattle.cell_grid.specs.Hanging.{line_columns}
 use Rattle.cell_grid.specs.Cells.{cells_of}
 
--- a row: its first place, and the one behind its last code point; the paragraph's level; the entries from left to right; the cells
+-- a row: its first place, and the one after its last code point; the paragraph's level; the entries from left to right; the cells
 pub record DrawnRow : Type 0 where
   pub first_place : ℕ
   pub last_place : ℕ

@@ -95,7 +95,7 @@ pub fn draw<'a>(
     Ok(Grid::of(tables, text, rows))
 }
 
-/// Puts the rows of a paragraph behind the others, where they stand in the text.
+/// Puts the rows of a paragraph after the others, where they stand in the text.
 fn push_rows(
     alloc: Global,
     tables: &Tables,

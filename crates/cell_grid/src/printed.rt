@@ -16,7 +16,7 @@ use bg_types::{Bidi, Device, Sink, put_all};
 use reorder::mirrored;
 use ucd_files::Tables;
 
-/// Writes a grid: the text of each cell, and one LF behind each row. Takes no memory.
+/// Writes a grid: the text of each cell, and one LF after each row. Takes no memory.
 ///
 /// After `Device` a beginning of it is written.
 pub fn print<W: Sink>(grid: &Grid, sink: &mut W) -> Result<(), Device>

@@ -113,7 +113,7 @@ impl Row {
         self.first_place as usize
     }
 
-    /// The place behind its last code point, a separator included.
+    /// The place after its last code point, a separator included.
     #[inline]
     pub fn last_place(&self) -> usize
         ensures { result ≡ self.now.last_place }
@@ -153,7 +153,7 @@ impl Row {
         Cells::of(self)
     }
 
-    /// The cell in a column, counted from 0 at the left edge; none behind the right edge.
+    /// The cell in a column, counted from 0 at the left edge; none after the right edge.
     pub fn cell(&self, column: usize) -> Option<Cell>
         ensures { result ≡ slice_get self.now.cells column }
     {

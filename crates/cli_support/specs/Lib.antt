@@ -1,2 +1,3 @@
+-- The modules of this crate's definitions.
 pub mod Data
 pub mod Ending

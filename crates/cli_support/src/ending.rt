@@ -13,7 +13,7 @@ use std::io;
 /// The status of a wrong command line.
 const USAGE: u8 = 2;
 
-/// The status of want of memory, and of a device that fails.
+/// The status of lack of memory, and of a device that fails.
 const LOST: u8 = 3;
 
 /// Writes the line about a fault, as `bidigrid: memory`, without memory.

@@ -18,7 +18,7 @@ use Rattle.conformance.specs.Choices.{Explains}
 use Rattle.conformance.specs.declared.case.BreakCase.{BreakCase}
 use Rattle.conformance.specs.declared.tally.Choice.{Choice}
 
--- whether a line may or must end behind each code point of a paragraph
+-- whether a line may or must end after each code point of a paragraph
 abbrev pub paragraph_breaks : TableValues → Paragraph → List Bool
 paragraph_breaks tables p = map is_break (breaks tables p.text)
 
@@ -38,7 +38,7 @@ pub record CameAsWanted (tables : TableValues) (base : Base) (text : List ℕ) (
   pub is : IsLineOf tables base text line
   pub as_wanted : IsAsWanted wanted line (filter (is_wanted_at wanted.levels.items) line.order.items)
 
--- a text that is one paragraph, but for an empty one behind its separator
+-- a text that is one paragraph, but for an empty one after its separator
 pub record IsOneParagraph (tables : TableValues) (text : List ℕ) : Type 0 where
   pub first : Paragraph
   pub is : slice_get (paragraphs tables text) 0 ≡ Some first

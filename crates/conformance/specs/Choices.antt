@@ -16,7 +16,7 @@ abbrev pub joins : Option Lb → Lb → Bool
 joins None class = false
 joins (Some last) class = is_mark class && takes_marks last
 
--- LB9: the items of code points behind one of this class, each by its first code point
+-- LB9: the items of code points after one of this class, each by its first code point
 abbrev pub items_behind : TableValues → Option Lb → List ℕ → List Item
 items_behind tables last [] = []
 items_behind tables last (c ∷ later) =
@@ -37,7 +37,7 @@ abbrev pub ends_digits : List Item → Bool
 ends_digits [] = false
 ends_digits (i ∷ items) = one_of (Nu ∷ []) i.class || (one_of (Sy ∷ Is ∷ []) i.class && ends_digits items)
 
--- no break, by the rules for numbers that the test file has in place of LB25 (UAX #14, 8.2, example 7): the items before, the nearest first, and those behind
+-- no break, by the rules for numbers that the test file has in place of LB25 (UAX #14, 8.2, example 7): the items before, the nearest first, and those after it
 abbrev pub in_number : List Item → List Item → Bool
 in_number before after =
     -- (PR | PO) × (OP | HY)? NU
@@ -69,7 +69,7 @@ makes Pairs before after false = in_number before after
 makes Pictographs before after true = false
 makes Pictographs before after false = is_pictograph before && begins (Em ∷ []) after
 
--- the choice makes a difference at the boundary behind the first `end` of these code points
+-- the choice makes a difference at the boundary after the first `end` of these code points
 abbrev pub makes_at : TableValues → List ℕ → Choice → ℕ → Bool → Bool
 makes_at tables points choice end wanted = makes choice (reverse (items_of tables (take end points))) (items_of tables (drop end points)) wanted
 
@@ -78,7 +78,7 @@ abbrev pub explains_at : TableValues → List ℕ → Choice → ℕ → Bool �
 explains_at tables points choice end true came = came || makes_at tables points choice end true
 explains_at tables points choice end false came = not came || makes_at tables points choice end false
 
--- the choice makes each difference between the breaks behind code points that are wanted and those that came
+-- the choice makes each difference between the breaks after code points that are wanted and those that came
 pub record Explains (tables : TableValues) (points : List ℕ) (wanted came : List Bool) (choice : Choice) : Type 0 where
   pub wanted_len : length wanted ≡ length points
   pub came_len : length came ≡ length points

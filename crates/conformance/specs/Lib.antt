@@ -1,3 +1,4 @@
+-- The modules of this crate's definitions.
 pub mod Counted
 pub mod Agreement
 pub mod Pairs

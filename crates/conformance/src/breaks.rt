@@ -18,7 +18,7 @@ fn may_end(status: Break) -> bool
     !matches!(status, Break::No)
 }
 
-/// Puts the breaks of a paragraph behind others.
+/// Puts the breaks of a paragraph after others.
 fn push_breaks(
     alloc: Global,
     tables: &Tables,
@@ -33,7 +33,7 @@ fn push_breaks(
     Ok(())
 }
 
-/// Whether a line may end behind each code point of a text.
+/// Whether a line may end after each code point of a text.
 pub fn breaks_of(alloc: Global, tables: &Tables, text: &str) -> Result<Vec<bool>, RunFault>
     ensures { IfOk result (λ breaks. breaks.items ≡ breaks_of tables.now text.now) }
 {

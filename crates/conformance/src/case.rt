@@ -37,7 +37,7 @@ pub enum ClassLine {
     Other,
 }
 
-/// A line of `LineBreakTest.txt`: a text, and whether a line may end behind each code point.
+/// A line of `LineBreakTest.txt`: a text, and whether a line may end after each code point.
 #[derive(Drop)]
 pub struct BreakCase {
     pub text: String,

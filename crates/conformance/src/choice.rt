@@ -73,7 +73,7 @@ fn explains(
     Ok(true)
 }
 
-/// Whether nothing differs at the boundary behind so many code points, or a choice makes the
+/// Whether nothing differs at the boundary after so many code points, or a choice makes the
 /// difference.
 fn explains_at(
     alloc: Global,
@@ -93,7 +93,7 @@ fn explains_at(
     makes_at(alloc, tables, points, choice, end, wanted)
 }
 
-/// Whether a choice makes a difference at the boundary behind so many code points.
+/// Whether a choice makes a difference at the boundary after so many code points.
 fn makes_at(
     alloc: Global,
     tables: &Tables,
@@ -144,7 +144,7 @@ fn joins(last: Option<Lb>, class: Lb) -> bool
 }
 
 /// Whether a choice makes the difference between what is wanted and the opposite: the items before a
-/// boundary, the nearest first, and those behind it.
+/// boundary, the nearest first, and those after it.
 fn makes(choice: Choice, before: &[Item], after: &[Item], wanted: bool) -> bool
     ensures { result ≡ makes choice before.now after.now wanted }
 {

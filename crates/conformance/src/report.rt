@@ -58,7 +58,7 @@ fn put_numbers(text: &mut String, numbers: &[u32]) -> Result<(), RunFault> {
     Ok(())
 }
 
-/// Writes code points, each with its mark behind it.
+/// Writes code points, each with its mark after it.
 fn put_marks(told: &mut String, text: &str, breaks: &[bool]) -> Result<(), RunFault> {
     for (i, c) in text.chars().enumerate() {
         let code = u32::from(c);

@@ -1,3 +1,4 @@
+-- The modules of this crate's proofs.
 pub mod Whole
 pub mod UnionLaw
 pub mod Sizes

@@ -20,7 +20,7 @@ not_among a p es j x absent h = all_at (λ (e : Entry). same_id a e.0 ≡ false)
 one_of_some : (x y : Entry) → Some x ≡ Some y → x ≡ y
 one_of_some x y e = cc
 
--- behind the j-th passing element, which is the only one of its identifier
+-- after the j-th passing element, which is the only one of its identifier
 pub filter-behind : (p : Entry → Bool) (n : Entry) (es : List Entry) (j m : ℕ) (x : Entry) → p n ≡ true → AreDistinct es → slice_get (filter p es) j ≡ Some x
     → m ≡ prefix_len (λ e. not (same_id x.0 e.0)) es + 1 → filter p (insert es m n) ≡ insert (filter p es) (suc j) n
 filter-behind p n [] j m x passes distinct h e = absurd (let w = within-slice_get [] j x h in omega arith)

@@ -1,3 +1,4 @@
+-- The modules of this crate's definitions.
 pub mod Codes
 pub mod Reply
 pub mod Desk

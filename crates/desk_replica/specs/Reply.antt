@@ -45,7 +45,7 @@ IsRefusal s op IdentifierReused = ReusesIdentifier s op
 IsRefusal s op Full = MayJoin s op × (¬ (Holds s op)) × (size s ≡ 1_000_000)
 IsRefusal s op Memory = ⊥
 
--- the faults: those refusals, and want of memory, which meets only what is to be placed or held
+-- the faults: those refusals, and lack of memory, which meets only what is to be placed or held
 abbrev pub IsRefused : OperationSet → OpView → TakeFault → Type 0
 IsRefused s op IdentifierReused = IsRefusal s op IdentifierReused
 IsRefused s op Full = IsRefusal s op Full

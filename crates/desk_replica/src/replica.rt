@@ -149,7 +149,7 @@ impl<S: Sequence> Replica<S> {
         self.greatest + 1
     }
 
-    /// What a character that is typed at a place goes behind.
+    /// What a character that is typed at a place follows.
     fn parent_for(&mut self, place: usize) -> Place
         requires { place ≤ length (visible self.old.set) }
         ensures parent { result ≡ parent_at (visible_ids self.old.set) place }

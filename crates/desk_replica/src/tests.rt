@@ -95,7 +95,7 @@ impl<S: Fresh> Desk<S> {
         answer
     }
 
-    /// Types, at the end of the text if the place is behind it.
+    /// Types, at the end of the text if the place is after it.
     fn type_char(&mut self, place: usize, ch: char) -> Result<Op, TypeFault> {
         let text = self.text();
         let kept = self.desk.op_count();
@@ -161,7 +161,7 @@ const HELD: Answer = Ok(Taken::Held);
 
 const REUSED: Answer = Err(TakeFault::IdentifierReused);
 
-/// `a`, `x` and `b` behind it, `y` behind `x`.
+/// `a`, `x` and `b` after it, `y` after `x`.
 const A: Row = Insert((1, 1), (0, 0), 'a');
 
 const X: Row = Insert((2, 2), (1, 1), 'x');

@@ -1,4 +1,4 @@
--- Answers that are decided, but for want of memory.
+-- Answers that are decided, but for lack of memory.
 use Rattle.std.proofs.Common.{◌≡◌, ◌⊎◌, inl, inr, Result, Err, ap}
 use Rattle.desk_runs.specs.declared.run_fault.RunFault.{RunFault}
 

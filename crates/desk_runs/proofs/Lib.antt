@@ -1,3 +1,4 @@
+-- The modules of this crate's proofs.
 pub mod Spelled
 pub mod LowerLaws
 pub mod Flaws

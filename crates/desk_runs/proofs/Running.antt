@@ -19,7 +19,7 @@ use Rattle.desk_runs.specs.Cause.{answer_of}
 use Rattle.desk_runs.proofs.Spelled.{take-push, split-at}
 
 module _ (print : List ℕ → List ℕ) (files : List (List OpView)) where
-  -- ---- steps behind steps
+  -- ---- steps after steps
 
   sets_after-append : (sets : List OperationSet) (xs ys : List Numbered) → sets_after files sets (xs ++ ys) ≡ sets_after files (sets_after files sets xs) ys
   sets_after-append sets [] ys = refl

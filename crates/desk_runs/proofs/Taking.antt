@@ -79,7 +79,7 @@ IsFirstRefusal-at before ops i op s fault lt is h limited refused = record {
   refused = refused;
 }
 
--- want of memory aside
+-- lack of memory aside
 refused-or_memory : (before ops : List OpView) (i : ℕ) (op : OpView) (s : OperationSet) (fault : TakeFault) → i < length ops → op ≡ get_or ops i op → IsSetOf (before ++ take i ops) s → size s ≤ 1_000_000
     → (fault ≡ Memory) ⊎ IsRefusal s op fault → (fault ≡ Memory) ⊎ IsFirstRefusal (before ++ ops) fault
 refused-or_memory before ops i op s fault lt is h limited (inl memory) = inl memory

@@ -1,4 +1,4 @@
--- Why a part of a run ended early. Each fault stands only where its cause is present, and want of memory has none.
+-- Why a part of a run ended early. Each fault stands only where its cause is present, and lack of memory has none.
 use Rattle.std.specs.Prelude.{◌≡◌, ◌<◌, ℕ, List, length, Option, Some, Result, Ok, Err}
 use Rattle.std.specs.Str.{chars}
 use Rattle.ucd_files.specs.declared.fault.UcdFault.{UcdFault}
@@ -71,12 +71,12 @@ IsUnwalked bytes place Memory = Unit {0}
 
 -- ---- the answer of a run
 
--- to the fault of a file: want of memory is of no file
+-- to the fault of a file: lack of memory is of no file
 abbrev pub file_fault_of : ℕ → CodecFault → RunFault
 file_fault_of n (codec.Malformed frame cause) = File n (codec.Malformed frame cause)
 file_fault_of n codec.Memory = Memory
 
--- to what a desk answered to the step of a line: want of memory is of no step
+-- to what a desk answered to the step of a line: lack of memory is of no step
 abbrev pub step_fault_of : (line desk : ℕ) → TakeFault → RunFault
 step_fault_of line desk take.IdentifierReused = Step line desk take.IdentifierReused
 step_fault_of line desk take.Full = Step line desk take.Full

@@ -30,7 +30,7 @@ run_code (run.ReadFailed file) = 8
 run_code (run.TooLong file) = 10
 run_code run.Memory = 9
 
--- 1 for a faulty data file, operation file, schedule or listing or a refused step, 3 for a device, a file that can't be read, or want of memory
+-- 1 for a faulty data file, operation file, schedule or listing or a refused step, 3 for a device, a file that can't be read, or lack of memory
 abbrev pub status_of : RunFault → ℕ
 status_of (run.Tables fault) = 1
 status_of (run.File file fault) = 1

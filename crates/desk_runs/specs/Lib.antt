@@ -1,3 +1,4 @@
+-- The modules of this crate's definitions.
 pub mod Fault
 pub mod Reading
 pub mod Readers

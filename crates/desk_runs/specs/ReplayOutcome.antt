@@ -122,7 +122,7 @@ IsUnread g (TooLong n) = (g.fault ≡ None) × IsFaultyFile g.files n too_long
 IsUnread g Memory = Unit {0}
 
 -- the outcome of a run, by its answer: all shows are written; or nothing, where not all can be read; or what was shown before
--- the steps ended, by a refused step, a failed write or want of memory
+-- the steps ended, by a refused step, a failed write or lack of memory
 abbrev pub IsReplayOutcome : Given → (old new : Option (List ℕ)) (failed : Bool) → Result (Unit {0}) RunFault → Type 0
 IsReplayOutcome g old new failed (Ok done) = (failed ≡ false) × WritesShows g old new
 IsReplayOutcome g old new failed (Err fault) = (IsUnread g fault × IsSilent old new failed) ⊎ EndsInSteps g old new failed fault

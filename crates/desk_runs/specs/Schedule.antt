@@ -74,7 +74,7 @@ show_in files [] = Err WrongWords
 show_in files (desk ∷ []) = show_of files (count_in desk)
 show_in files (desk ∷ more ∷ others) = Err WrongWords
 
--- the step that a verb and the words behind it write, or the first fault
+-- the step that a verb and the words after it write, or the first fault
 abbrev pub step_in : List (List OpView) → List ℕ → List (List ℕ) → Result Step ScheduleFault
 step_in files verb fields =
     if bytes_eq verb (codes "take") then take_in files fields

@@ -1,4 +1,4 @@
--- What the shows of a list of steps write, and what stands written where the steps end early.
+-- What the shows of a list of steps write, and what is written where the steps end early.
 use Rattle.std.specs.Prelude.{◌≡◌, ◌-◌, true, false, Bool, ℕ, List, [], ◌∷◌, ◌++◌, Option, Result, Ok, Err}
 use Rattle.std.specs.Io.KnownBytes.{Appends}
 use Rattle.bg_types.specs.OperationSet.{OperationSet}

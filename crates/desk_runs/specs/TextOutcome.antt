@@ -28,7 +28,7 @@ pub record WritesTextBeginning (files : List (List ℕ)) (old new : Option (List
   pub written : AppendsBeginning old new (encode_utf8_all (text set))
 
 -- the outcome of a run over files of these bytes, by its answer: the text is written; or nothing, for a faulty file, a refused
--- operation or want of memory; or a beginning of the text, for a failed write
+-- operation or lack of memory; or a beginning of the text, for a failed write
 abbrev pub IsTextOutcome : (files : List (List ℕ)) (old new : Option (List ℕ)) (failed : Bool) → Result (Unit {0}) RunFault → Type 0
 IsTextOutcome files old new failed (Ok done) = (failed ≡ false) × WritesText files old new
 IsTextOutcome files old new failed (Err fault) =

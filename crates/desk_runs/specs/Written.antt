@@ -1,4 +1,4 @@
--- What stands written after a run that wrote nothing.
+-- What is written after a run that wrote nothing.
 use Rattle.std.specs.Prelude.{◌≡◌, false, Bool, ℕ, List, Option}
 use Rattle.std.specs.Io.KnownBytes.{Keeps}
 

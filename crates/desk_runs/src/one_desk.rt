@@ -54,7 +54,7 @@ fn take_all(desk: &mut Desk, ops: &[Op]) -> Result<(), TakeFault>
     Ok(())
 }
 
-/// The answer of a run to what a desk answered to the step of a line: want of memory is of no step.
+/// The answer of a run to what a desk answered to the step of a line: lack of memory is of no step.
 pub fn step_fault(line: usize, desk: usize, fault: TakeFault) -> RunFault
     ensures { result ≡ step_fault_of line desk fault }
 {

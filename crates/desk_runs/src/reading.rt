@@ -107,7 +107,7 @@ fn finish(number: usize, feed: Feed) -> Result<Vec<Op>, RunFault>
     }
 }
 
-/// The answer to the fault of a file: want of memory is of no file.
+/// The answer to the fault of a file: lack of memory is of no file.
 fn file_fault(number: usize, fault: CodecFault) -> RunFault
     ensures { result ≡ file_fault_of number fault }
 {

@@ -84,7 +84,7 @@ impl RunFault {
 }
 
 /// The status that the program ends with: 1 for a faulty data file, operation file, schedule or
-/// listing, a refused step or a place beyond the text, 3 for a device, a file that can't be read, or want of memory.
+/// listing, a refused step or a place beyond the text, 3 for a device, a file that can't be read, or lack of memory.
 pub fn status(fault: &RunFault) -> u8
     ensures { result ≡ status_of fault.now }
 {

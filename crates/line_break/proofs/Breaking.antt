@@ -39,7 +39,7 @@ columns-two (c ∷ cl) (suc k) two =
     omega arith
 
 module _ (cl : List Cluster) (w : ℕ) (o : Open) (h : IsOpen cl w o) where
-  -- the line starts at a later boundary, behind which no break was read
+  -- the line starts at a later boundary, after which no break was read
   pub reopened : (e : Boundary) → IsBoundary cl e → o.start.clusters ≤ e.clusters → e.clusters ≤ o.reached.clusters
       → NoBreak cl e.clusters o.reached.clusters → IsOpen cl w (record o { start = e; opportunity = None })
   reopened e b low high none = record {
@@ -154,7 +154,7 @@ module _ (cl : List Cluster) (w : ℕ) (o : Open) (h : IsOpen cl w o) where
       fits-next : solid (take (o.reached.clusters + 1) cl) ≤ columns (take o.start.clusters cl) + w
       fits-next = let a = h.start.columns in let e = solid-next in omega arith
 
-      -- and the line must end behind it
+      -- and the line must end after it
       pub line-must : (get_or cl o.reached.clusters d).after ≡ Must
           → lines_left cl w o.start.clusters ≡ record { start = o.start.clusters; end = o.reached.clusters + 1 } ∷ lines_left cl w (o.reached.clusters + 1)
       line-must must =

@@ -1,3 +1,4 @@
+-- The modules of this crate's proofs.
 pub mod Contexts
 pub mod RuleTable
 pub mod Marking

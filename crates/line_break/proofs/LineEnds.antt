@@ -16,7 +16,7 @@ take-add cl zero e = let k : zero + e ≡ e = omega arith in ap (λ n. take n cl
 take-add [] (suc s) e = let k : suc s + e ≡ suc (s + e) = omega arith in ap (λ n. take n []) k ∙ sym (take_all e [] (omega arith))
 take-add (c ∷ cl) (suc s) e = let k : suc s + e ≡ suc (s + e) = omega arith in ap (λ n. take n (c ∷ cl)) k ∙ ap (λ t. c ∷ t) (take-add cl s e)
 
--- the status behind the cluster of this number
+-- the status after the cluster of this number
 unfoldable pub status_of : List Cluster → ℕ → Break
 status_of cl i = get_or (map (λ (c : Cluster). c.after) cl) i Must
 

@@ -18,7 +18,7 @@ use Rattle.line_break.specs.Statuses.{status, statuses_behind, breaks}
 pub points : TableValues → List ℕ → List Item
 points tables text = map (point_of tables) (code_points text)
 
--- the statuses right behind `front` and after each later code point
+-- the statuses right after `front` and after each later code point
 pub statuses_from : List Item → List Item → List Break
 statuses_from front later = status front later ∷ statuses_behind front later
 
@@ -38,7 +38,7 @@ module _ (tables : TableValues) (text : List ℕ) where
   unfolding points
   points-head bytes c rest u e = ap (map (point_of tables)) (chars_past_char bytes rest c u e)
 
-  -- behind the first code point
+  -- after the first code point
   pub IsMarkedTo-start : (c : ℕ) (rest : List ℕ) (done : List Break) (b : Before) → IsUtf8 text → text ≡ encode_utf8 c ++ rest → done ≡ []
       → b ≡ before (point_of tables c ∷ []) → IsMarkedTo tables text rest done b
   unfolding breaks points statuses_from

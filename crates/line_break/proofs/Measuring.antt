@@ -103,7 +103,7 @@ same_default [] i d e l = absurd (omega arith)
 same_default (x ∷ xs) zero d e l = refl
 same_default (x ∷ xs) (suc i) d e l = same_default xs i d e (omega arith)
 
--- a cluster with the status behind its last code point
+-- a cluster with the status after its last code point
 pub measured-is : (tables : TableValues) (points : List ℕ) (statuses all : List Break) (place size columns : ℕ) (is_space : Bool) (after : Break)
     → statuses ≡ all → size ≡ length points → 0 < length points → place + length points ≤ length all
     → columns ≡ columns_of tables points → is_space ≡ is_space_of tables points → after ≡ get_or statuses (place + size - 1) after

@@ -81,7 +81,7 @@ solid-push xs c =
     let g : solid (xs ++ c ∷ []) ≡ columns xs + c.columns = omega arith in
     g ∙ ap (λ b. cond b (solid xs) (columns xs + c.columns)) (sym h))
 
--- a stretch behind another: what it has outside its tail
+-- a stretch after another: what it has outside its tail
 pub solid-append : (xs ys : List Cluster) → solid ys ≡ solid (xs ++ ys) - columns xs
 solid-append xs ys =
     let small = solid-le xs in

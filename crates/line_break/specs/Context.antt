@@ -47,7 +47,7 @@ before_by point items = record {
   hebrew_hyphen = hebrew_hyphen items;
 }
 
--- what stands before a boundary behind these code points
+-- what stands before a boundary after these code points
 unfoldable pub before : List Item → Before
 before points = before_by (class_of (last_point points)) (items points)
 

@@ -22,12 +22,12 @@ takes_marks class = not (one_of (Bk ∷ Cr ∷ Lf ∷ Nl ∷ Sp ∷ Zw ∷ []) c
 abbrev pub as_base : Item → Item
 as_base p = if is_mark p.class then record p { class = Al } else p
 
--- LB9 and LB10: a mark behind these items, the nearest first
+-- LB9 and LB10: a mark after these items, the nearest first
 abbrev pub with_mark : List Item → Item → List Item
 with_mark [] p = as_base p ∷ []
 with_mark (i ∷ items) p = if takes_marks i.class then i ∷ items else as_base p ∷ i ∷ items
 
--- one more code point behind these items
+-- one more code point after these items
 abbrev pub with_point : List Item → Item → List Item
 with_point items p = if is_mark p.class then with_mark items p else as_base p ∷ items
 

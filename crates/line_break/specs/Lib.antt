@@ -1,3 +1,4 @@
+-- The modules of this crate's definitions.
 pub mod Classes
 pub mod Items
 pub mod Context

@@ -33,11 +33,11 @@ abbrev pub is_break : Break → Bool
 is_break No = false
 is_break _ = true
 
--- the status at the boundary behind the first `end` of these clusters, of which there is one at least
+-- the status at the boundary after the first `end` of these clusters, of which there is one at least
 abbrev pub status_at : List Cluster → ℕ → Break
 status_at clusters end = slice_index_or (map (λ (c : Cluster). c.after) clusters) (end - 1) Must
 
--- F: a line that begins with the first of these clusters fits up to the boundary behind `end` of them, and no mandatory break stands strictly between
+-- F: a line that begins with the first of these clusters fits up to the boundary after `end` of them, and no mandatory break stands strictly between
 unfoldable pub is_in_reach : ℕ → List Cluster → ℕ → Bool
 is_in_reach width clusters end = fits width (take end clusters) && list_all (λ (c : Cluster). not (is_must c.after)) (take (end - 1) clusters)
 

@@ -13,7 +13,7 @@ pub record IsBoundary (clusters : List Cluster) (b : Boundary) : Type 0 where
   pub within : b.clusters ≤ length clusters
   pub columns : b.columns ≡ columns (take b.clusters clusters)
 
--- no break stands at the boundaries behind `from` up to `to`
+-- no break stands at the boundaries after `from` up to `to`
 pub record NoBreak (clusters : List Cluster) (from to : ℕ) : Type 0 where
   pub none : (k : ℕ) → from < k → k ≤ to → status_at clusters k ≡ No
 
@@ -36,7 +36,7 @@ pub record IsOpen (clusters : List Cluster) (width : ℕ) (o : Open) : Type 0 wh
   pub opportunity : MatchOption o.opportunity (NoBreak clusters o.start.clusters o.reached.clusters)
       (λ b. IsLastBreak clusters o.start.clusters o.reached.clusters b)
 
--- the boundary behind one more cluster
+-- the boundary after one more cluster
 abbrev pub behind : Boundary → Cluster → Boundary
 behind b c = record { clusters = b.clusters + 1; columns = b.columns + c.columns }
 
@@ -44,7 +44,7 @@ behind b c = record { clusters = b.clusters + 1; columns = b.columns + c.columns
 abbrev pub solid_with : Open → Cluster → ℕ
 solid_with o c = if hangs c then o.solid else o.reached.columns + c.columns
 
--- the state behind one more cluster
+-- the state after one more cluster
 abbrev pub taken : Open → Cluster → Open
 taken o c = record o {
   opportunity = (if is_break c.after then Some (behind o.reached c) else o.opportunity);

@@ -10,7 +10,7 @@ use bg_types::Lb;
 use ucd_files::Tables;
 
 /// What lines ask of a cluster: its columns, 0 to 2, whether it has only spaces, and the status of
-/// the boundary behind it.
+/// the boundary after it.
 #[derive(Clone, Copy, Debug, PartialEq, Eq, Hash)]
 pub struct Cluster {
     pub columns: u8,

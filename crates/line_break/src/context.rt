@@ -71,7 +71,7 @@ impl Before {
         }
     }
 
-    /// The character begins an item, behind the one before.
+    /// The character begins an item, after the one before.
     fn with_base(self, point: Lb, base: Item) -> Before
         ensures { (items : List Item) → self ≡ before_by self.point items
             → result ≡ before_by point (base ∷ items) }

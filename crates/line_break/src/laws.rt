@@ -15,7 +15,7 @@ pub fn lines_join()
 {}
 
 /// The lines of a paragraph that isn't empty are in order: the first starts at its first cluster,
-/// each other one where the one before it ends, and the last ends behind its last cluster; each has
+/// each other one where the one before it ends, and the last ends after its last cluster; each has
 /// a cluster.
 pub fn lines_follow()
     ensures { (tables : TableValues) (text : List ℕ) (width : ℕ) → 0 < length (clusters text)

@@ -13,7 +13,7 @@ use paragraphs::Para;
 use std::alloc::Global;
 use ucd_files::Tables;
 
-/// A line: the numbers of its first cluster and of the one behind its last, counted in the
+/// A line: the numbers of its first cluster and of the one after its last, counted in the
 /// paragraph from 0.
 #[derive(Clone, Copy, Debug, PartialEq, Eq, Hash)]
 pub struct Line {

@@ -20,9 +20,9 @@ pub(crate) struct Boundary {
 pub(crate) struct Open {
     /// Where the line starts.
     pub(crate) start: Boundary,
-    /// The greatest opportunity behind the start, if there is one.
+    /// The greatest opportunity after the start, if there is one.
     pub(crate) opportunity: Option<Boundary>,
-    /// Behind the last cluster that was read.
+    /// After the last cluster that was read.
     pub(crate) reached: Boundary,
     /// The columns of all clusters that were read, without the tail at their end.
     pub(crate) solid: usize,

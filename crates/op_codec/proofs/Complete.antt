@@ -41,7 +41,7 @@ bytes_positive (Insert id parent ch) [] rest = omega arith
 bytes_positive (Erase target) [] rest = omega arith
 bytes_positive first (c ∷ cs) rest = omega (arith, length-append (frame_fields first ++ flat_map (big_bytes 4) (c ∷ cs)) rest)
 
--- what shows no cause behind a tip begins with a frame that joins nothing
+-- what shows no cause after a tip begins with a frame that joins nothing
 pub alone_there : (version : Version) (before : Option Identifier) (bytes : List ℕ) (f : Frame) (rest : List ℕ) → IsFrame (most_insertions version) f → bytes ≡ frame_bytes f ++ rest → joined_cause before bytes ≡ None → joins before f.first ≡ false
 alone_there version before bytes f rest is begins none =
     (no_cause (joins before f.first) NotJoined None (sym (joined_cause-frame before f.first f.further rest is.first is.goes_on) ∙ ap (joined_cause before) (sym begins) ∙ none)).0

@@ -24,7 +24,7 @@ use Rattle.op_codec.proofs.Pieces.{all_fed, piece_faulty}
 
 -- ---- what the kept bytes show is what all bytes show
 
--- what follows frames is judged behind their tip
+-- what follows frames is judged after their tip
 shown_behind : (at : Position) (ops : List OpView) (kept : List ℕ) (cause : Cause) → IsBehind at ops → cause_at at.version at.tip kept ≡ Some cause → cause_at at.version (tip_of (most_insertions at.version) ops) kept ≡ Some cause
 shown_behind at ops kept cause is shown = ap (λ t. cause_at at.version t kept) (sym is.tip) ∙ shown
 
@@ -106,7 +106,7 @@ few_frames at ops is = omega (arith, is.frames, length-frames_of (most_insertion
 
 -- ---- how a piece is read
 
--- behind the same operations
+-- after the same operations
 pub behind : (front bytes kept : List ℕ) (shown : Option Cause) → IsStopped bytes kept shown → IsStopped (front ++ bytes) (front ++ kept) shown
 behind front bytes kept shown h = record {
   cause = h.cause;

@@ -1,3 +1,4 @@
+-- The modules of this crate's proofs.
 pub mod Bytes
 pub mod Characters
 pub mod Gathered

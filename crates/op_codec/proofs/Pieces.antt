@@ -117,7 +117,7 @@ sound_kept bytes kept h sound = elim h.up_to [
 pub all_fed : (bytes kept : List ℕ) → bytes ≡ kept → IsFed bytes kept
 all_fed bytes kept e = record { more = []; begins = e ∙ sym (append-nil kept); up_to = inl refl }
 
--- what shows no lasting fault with a piece behind it showed none before
+-- what shows no lasting fault with a piece after it showed none before
 sound_before : (old piece : List ℕ) → IsSound (old ++ piece) → IsSound old
 sound_before old piece sound n cause fault = elim (truncated_or cause) [
   | inl e ↦ e

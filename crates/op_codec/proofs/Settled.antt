@@ -1,4 +1,4 @@
--- What a beginning of a header or of a frame shows, it shows with more bytes behind it too, but that a byte is missing.
+-- What a beginning of a header or of a frame shows, it shows with more bytes after it too, but that a byte is missing.
 use Rattle.std.proofs.Common.{◌≡◌, ◌≢◌, ℕ, ◌+◌, ◌-◌, ◌*◌, ◌^◌, ◌<◌, ◌≤◌, true, false, eqb, ltb, Bool, cond, List, [], ◌∷◌, ◌++◌, length, slice_index, take, drop, Option, Some, None, refl, sym, ap, ◌∙◌, arith, inl, inr, ◌⊎◌}
 use Rattle.std.specs.Prelude.{◌||◌, ◌&&◌, not, nat_le}
 use Rattle.std.specs.List.{starts_with, list_all}

@@ -125,7 +125,7 @@ abbrev pub joined_cause : Option Identifier → List ℕ → Option Cause
 joined_cause None bytes = None
 joined_cause (Some before) bytes = first_cause ((not (slice_index bytes 2 == 2) && follows before (identifier_at (drop 3 bytes)) (identifier_at (drop 9 bytes)), NotJoined) ∷ [])
 
--- what the frame at the front shows behind this tip
+-- what the frame at the front shows after this tip
 abbrev pub cause_at : Version → Option Identifier → List ℕ → Option Cause
 cause_at version before bytes = or_else (frame_cause version bytes) (joined_cause before bytes)
 
@@ -144,7 +144,7 @@ pub record IsFrameFault (bytes : List ℕ) (n : ℕ) (cause : Cause) : Type 0 wh
 abbrev pub IsFault : List ℕ → ℕ → Cause → Type 0
 IsFault bytes n cause = ((n ≡ 0) × (header_cause bytes ≡ Some cause)) ⊎ IsFrameFault bytes n cause
 
--- the fault tells the first of the bytes; want of memory says nothing of them
+-- the fault tells the first of the bytes; lack of memory says nothing of them
 abbrev pub TellsFault : List ℕ → CodecFault → Type 0
 TellsFault bytes (faults.Malformed frame cause) = IsFault bytes frame cause
 TellsFault bytes faults.Memory = Unit {0}

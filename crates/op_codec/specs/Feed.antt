@@ -15,7 +15,7 @@ use Rattle.op_codec.specs.Fault.{header_cause, cause_at, IsFault}
 
 -- ---- what bytes show so far
 
--- these are whole frames behind a whole header, and no whole frame follows them
+-- these are whole frames after a whole header, and no whole frame follows them
 pub record AreFrames (bytes : List ℕ) (ops : List OpView) : Type 0 where
   pub version : Version
   pub rest : List ℕ
@@ -45,7 +45,7 @@ pub record IsFed (bytes kept : List ℕ) : Type 0 where
   pub up_to : (more ≡ []) ⊎ ((n : ℕ) × (cause : Cause) × IsLasting kept n cause)
 
 -- what a feed keeps before and after a piece, and its answer: all that was fed, which shows no fault; the first fault, which
--- it had shown before, and nothing has changed, or which the piece shows; or want of memory, and nothing has changed
+-- it had shown before, and nothing has changed, or which the piece shows; or lack of memory, and nothing has changed
 abbrev pub IsFeedOutcome : (old piece new : List ℕ) → Result (Unit {0}) CodecFault → Type 0
 IsFeedOutcome old piece new (Ok done) = (new ≡ old ++ piece) × IsSound new
 IsFeedOutcome old piece new (Err (Malformed frame cause)) = ((new ≡ old) ⊎ (IsSound old × IsFed (old ++ piece) new)) × IsLasting new frame cause
@@ -53,7 +53,7 @@ IsFeedOutcome old piece new (Err Memory) = (new ≡ old) × IsSound old × (head
 
 -- ---- how a feed keeps them
 
--- the position is that behind the frames of these operations
+-- the position is that after the frames of these operations
 pub record IsBehind (at : Position) (ops : List OpView) : Type 0 where
   pub frames : at.frames ≡ length (frames_of (most_insertions at.version) ops)
   pub tip : at.tip ≡ tip_of (most_insertions at.version) ops
@@ -102,7 +102,7 @@ pub record TakesFrame (at : Position) (bytes : List ℕ) (f : Frame) (rest : Lis
   pub begins : BeginsWith (most_insertions at.version) bytes f rest
   pub alone : joins at.tip f.first ≡ false
 
--- the position behind one more frame
+-- the position after one more frame
 pub record IsNext (at next : Position) (f : Frame) : Type 0 where
   pub version : next.version ≡ at.version
   pub frames : next.frames ≡ at.frames + 1

@@ -1,3 +1,4 @@
+-- The modules of this crate's definitions.
 pub mod Code
 pub mod Spelling
 pub mod Frames

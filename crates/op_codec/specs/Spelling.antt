@@ -129,7 +129,7 @@ abbrev pub frames_of : ℕ → List OpView → List Frame
 frames_of most [] = []
 frames_of most (op ∷ ops) = gathered most (record { first = op; further = [] }) ops
 
--- the tip behind frames
+-- the tip after frames
 abbrev pub last_tip : ℕ → Option Identifier → List Frame → Option Identifier
 last_tip most before [] = before
 last_tip most before (f ∷ frames) = last_tip most (tip most f) frames

@@ -37,7 +37,7 @@ pub fn complete_header<'a>(kept: &mut Cut, piece: &'a [u8]) -> Option<(Version, 
 }
 
 /// What follows the frame that the kept bytes begin, if the piece completes it; its operations are
-/// written behind the others then, and the position is moved behind it.
+/// written after the others then, and the position is moved after it.
 pub fn complete_frame<'a>(
     ops: &mut Vec<Op>,
     kept: &mut Cut,

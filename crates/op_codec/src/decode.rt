@@ -16,7 +16,7 @@ pub fn decode_file(alloc: Global, bytes: &[u8]) -> Result<Vec<Op>, CodecFault>
     // What is read is spelled so, and a fault is the first one.
     ensures ok { IfOk result (λ ops. Spells bytes.now ops.items) }
     ensures fault { IfErr result (TellsFault bytes.now) }
-    // Memory is asked for only behind a right header.
+    // Memory is asked for only after a right header.
     ensures memory { IsErrOf result CodecFault.Memory → header_cause bytes.now ≡ None }
 
     // What is spelled is read, and a fault is told, unless memory runs out.

@@ -26,7 +26,7 @@ use std::marker::Model;
 pub struct Feed {
     /// The operations of the whole frames.
     ops: Vec<Op>,
-    /// The bytes behind them: of a header or a frame that isn't whole yet, or that is faulty.
+    /// The bytes after them: of a header or a frame that isn't whole yet, or that is faulty.
     kept: Cut,
     /// Where those stand, once the header is whole and right.
     position: Option<Position>,
@@ -92,7 +92,7 @@ impl Feed {
     }
 }
 
-/// Reads a piece behind the operations and the kept bytes, and answers the position of what is kept
+/// Reads a piece after the operations and the kept bytes, and answers the position of what is kept
 /// then. Where memory is refused both have only grown.
 fn read_on(
     ops: &mut Vec<Op>,

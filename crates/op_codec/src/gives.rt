@@ -38,7 +38,7 @@ impl<'a> Gives<'a> {
         }
     }
 
-    /// The same, but that it gives `again` for ever behind them, if it has a byte, in place of its
+    /// The same, but that it gives `again` for ever after them, if it has a byte, in place of its
     /// end.
     pub fn then_for_ever(self, again: &'a [u8]) -> Gives<'a>
         ensures working { ⟦<Gives<'a> as Source>⟧.has_failed result ≡ ⟦<Gives<'a> as Source>⟧.has_failed self.entry }

@@ -37,7 +37,7 @@ pub fn stable_faults()
 {}
 
 /// Bytes have one list of operations of whole frames. Those of a file are all its operations, and
-/// behind a lasting fault there come no more.
+/// after a lasting fault there come no more.
 pub fn whole_frames()
     ensures one_list { (bytes : List ℕ) (a b : List OpView) → IsWhole bytes a → IsWhole bytes b → a ≡ b }
     ensures spelled { (bytes : List ℕ) (ops : List OpView) → Spells bytes ops → IsWhole bytes ops }

@@ -36,7 +36,7 @@ impl Version {
     }
 }
 
-/// Where a reader stands behind whole frames.
+/// Where a reader stands after whole frames.
 #[derive(Clone, Copy)]
 pub struct Position {
     pub version: Version,
@@ -47,7 +47,7 @@ pub struct Position {
 }
 
 impl Position {
-    /// The place right behind the header.
+    /// The place right after the header.
     pub fn start(version: Version) -> Position
         ensures version { result.version ≡ version }
         ensures frames { result.frames ≡ 0 }

@@ -124,7 +124,7 @@ fn are_scalars(bytes: &[u8]) -> bool
     true
 }
 
-/// Writes the operations of a frame behind the others, and moves the position behind it. Where memory
+/// Writes the operations of a frame after the others, and moves the position after it. Where memory
 /// is refused the operations have only grown.
 pub fn push_frame(
     ops: &mut Vec<Op>,
@@ -155,7 +155,7 @@ fn open_tip(count: usize, most: usize, last: Option<Id>) -> Option<Id>
     if count < most { last } else { None }
 }
 
-/// Writes the further insertions of a run behind the others, and gives the last identifier.
+/// Writes the further insertions of a run after the others, and gives the last identifier.
 fn push_further(ops: &mut Vec<Op>, first: &Op, further: &[u8]) -> Result<Option<Id>, Memory>
     requires goes_on { MayGoOn first.now (characters_in further.now) }
     requires scalars { AllByRecursion IsScalar (characters_in further.now) }

@@ -1,3 +1,4 @@
+-- The modules of this crate's proofs.
 pub mod Parting
 pub mod Numerals
 pub mod Shapes

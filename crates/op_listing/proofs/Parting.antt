@@ -49,7 +49,7 @@ spaces-no x xs e = ap (λ t. cond t (1 + prefix_len (λ b. b == 32) xs) 0) e
 without_spaces : List ℕ → List ℕ
 without_spaces xs = drop (prefix_len (λ b. b == 32) xs) xs
 
--- behind the spaces at the front the words are the same
+-- after the spaces at the front the words are the same
 skip_at : (x : ℕ) (xs : List ℕ) (b : Bool) → eqb x 32 ≡ b → words (without_spaces xs) ≡ words xs → words (without_spaces (x ∷ xs)) ≡ words (x ∷ xs)
 unfolding without_spaces
 skip_at x xs true e h =

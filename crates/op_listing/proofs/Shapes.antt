@@ -41,7 +41,7 @@ module _ (first second : List ℕ) (all one two : List (List ℕ)) (h : TakesWor
   pub one_there : 0 < length first → length second ≡ 0 → all ≡ first ∷ []
   one_there some no_more = there first all one h some ∙ ap (λ (ws : List (List ℕ)). first ∷ ws) (missing second one two k no_more)
 
-  -- a word behind it, where there is one, is one more
+  -- a word after it, where there is one, is one more
   pub behind_first : 0 < length second → length all ≡ length two + 2
   behind_first more = elim (zero_or_more (length first)) [
     | inl none ↦ let c = (counts first all one h).behind none in let d = (counts second one two k).some more in absurd (omega (arith, c, d))

@@ -1,3 +1,4 @@
+-- The modules of this crate's definitions.
 pub mod Words
 pub mod Number
 pub mod FirstFault

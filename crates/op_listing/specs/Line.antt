@@ -30,7 +30,7 @@ identifier_from (Some counter) (Some site) = Some (record { counter = counter; s
 identifier_from (Some counter) None = None
 identifier_from None site = None
 
--- `C.S`: a counter before the first point, and a site behind it
+-- `C.S`: a counter before the first point, and a site after it
 abbrev pub identifier_in : List ℕ → Option Identifier
 identifier_in word = identifier_from (counter_in (before_first (λ b. b == 46) word)) (site_in (after_first (λ b. b == 46) word))
 
@@ -45,7 +45,7 @@ insertion_from (Some id) (Some parent) None = None
 insertion_from (Some id) None ch = None
 insertion_from None parent ch = None
 
--- the insertion that the words behind `i` write
+-- the insertion that the words after `i` write
 abbrev pub insertion_in : List (List ℕ) → Option OpView
 insertion_in [] = None
 insertion_in (id ∷ []) = None
@@ -53,7 +53,7 @@ insertion_in (id ∷ parent ∷ []) = None
 insertion_in (id ∷ parent ∷ ch ∷ []) = insertion_from (identifier_in id) (parent_in parent) (scalar_in ch)
 insertion_in (id ∷ parent ∷ ch ∷ more ∷ others) = None
 
--- the deletion that the words behind `e` write
+-- the deletion that the words after `e` write
 abbrev pub erasure_in : List (List ℕ) → Option OpView
 erasure_in [] = None
 erasure_in (target ∷ []) = option_map Erase (identifier_in target)

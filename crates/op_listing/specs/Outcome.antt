@@ -1,4 +1,4 @@
--- What `dump` and `pack` answer, and what stands written then.
+-- What `dump` and `pack` answer, and what is written then.
 use Rattle.std.specs.Prelude.{◌≡◌, ℕ, true, false, Bool, List, Option, Result, Ok, Err}
 use Rattle.std.specs.Io.KnownBytes.{Appends, Keeps}
 use Rattle.bg_types.specs.Sink.{AppendsBeginning}
@@ -27,7 +27,7 @@ pub record BeginsListing (bytes : List ℕ) (old new : Option (List ℕ)) : Type
   pub written : AppendsBeginning old new (listing_of ops)
 
 -- what was written before and after, whether the sink has failed, and the answer: the whole listing; the file's first fault
--- and nothing written; a failed sink that took a beginning; or want of memory and nothing written
+-- and nothing written; a failed sink that took a beginning; or lack of memory and nothing written
 abbrev pub IsDumpOutcome : List ℕ → (old new : Option (List ℕ)) → Bool → Result (Unit {0}) FileFault → Type 0
 IsDumpOutcome bytes old new failed (Ok done) = (failed ≡ false) × WritesListing bytes old new
 IsDumpOutcome bytes old new failed (Err (file.Malformed frame cause)) = (failed ≡ false) × Keeps old new × IsFault bytes frame cause
@@ -48,7 +48,7 @@ pub record BeginsFile (bytes : List ℕ) (old new : Option (List ℕ)) : Type 0 
   pub listed : Lists bytes ops
   pub written : AppendsBeginning old new (spelling ops)
 
--- a fault that reading the listing ended with tells its first faulty line; nothing was written yet, and want of memory says
+-- a fault that reading the listing ended with tells its first faulty line; nothing was written yet, and lack of memory says
 -- nothing of the listing
 abbrev pub TellsLine : List ℕ → ListingFault → Type 0
 TellsLine bytes (listing.Malformed line fault) = IsFaultyLine bytes line fault
@@ -56,7 +56,7 @@ TellsLine bytes listing.Device = ⊥
 TellsLine bytes listing.Memory = Unit {0}
 
 -- what was written before and after, whether the sink has failed, and the answer: the whole file; the listing's first faulty
--- line and nothing written; a failed sink that took a beginning; or want of memory and nothing written
+-- line and nothing written; a failed sink that took a beginning; or lack of memory and nothing written
 abbrev pub IsPackOutcome : List ℕ → (old new : Option (List ℕ)) → Bool → Result (Unit {0}) ListingFault → Type 0
 IsPackOutcome bytes old new failed (Ok done) = (failed ≡ false) × WritesFile bytes old new
 IsPackOutcome bytes old new failed (Err (listing.Malformed line fault)) = (failed ≡ false) × Keeps old new × IsFaultyLine bytes line fault

@@ -66,7 +66,7 @@ pub fn read_line(line: &[u8]) -> Result<Option<Op>, LineFault>
     Err(LineFault::BadLine)
 }
 
-/// The insertion that the words behind `i` write.
+/// The insertion that the words after `i` write.
 fn read_insertion(fields: &[u8]) -> Result<Op, LineFault>
     ensures ok { IfOk result (λ op. insertion_in (words fields.now) ≡ Some op) }
     ensures fault { MatchResult result (λ op. operation_fault op ≡ None)
@@ -79,7 +79,7 @@ fn read_insertion(fields: &[u8]) -> Result<Op, LineFault>
     insertion(id, &parent, code)
 }
 
-/// The deletion that the words behind `e` write.
+/// The deletion that the words after `e` write.
 fn read_erasure(fields: &[u8]) -> Result<Op, LineFault>
     ensures ok { IfOk result (λ op. erasure_in (words fields.now) ≡ Some op) }
     ensures fault { MatchResult result (λ op. operation_fault op ≡ None)

@@ -21,14 +21,14 @@ const TREE: [u8; 90] = [
 const TREE_LISTING: &[u8] =
     b"i 1.1 root 0061\ni 2.2 1.1 0078\ni 3.2 2.2 0079\ni 2.1 1.1 0062\ne 2.2\n";
 
-/// What `dump` answers, and what stands written.
+/// What `dump` answers, and what is written.
 fn dumped(alloc: Global, file: &[u8]) -> (Result<(), FileFault>, Vec<u8>) {
     let mut bytes = Vec::new(alloc);
     let answer = dump(alloc, file, &mut Out::new(&mut bytes));
     (answer, bytes)
 }
 
-/// What `pack` answers, and what stands written.
+/// What `pack` answers, and what is written.
 fn packed(alloc: Global, listing: &[u8]) -> (Result<(), ListingFault>, Vec<u8>) {
     let mut bytes = Vec::new(alloc);
     let answer = pack(alloc, listing, &mut Out::new(&mut bytes));

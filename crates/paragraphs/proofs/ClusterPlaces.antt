@@ -80,7 +80,7 @@ first_place-spans_from byte place (suc k) (c ∷ cs) lt =
     let more = sum_by-cons (λ (x : ℕ). x) size (take k (map length (map code_points cs))) in
     omega (arith, later, more)
 
--- a cluster stands behind the code points of all earlier ones
+-- a cluster stands after the code points of all earlier ones
 pub first_place-spans : (text : List ℕ) (k : ℕ) → k < length (cluster_sizes text)
     → get_or (map (λ (s : Span). s.first_place) (spans text)) k 0 ≡ sum (take k (cluster_sizes text))
 first_place-spans text k lt = let e = first_place-spans_from 0 0 k (clusters text) lt in omega (arith, e)
@@ -99,7 +99,7 @@ end_place-spans_from byte place (suc k) (c ∷ cs) lt =
     let more = sum_by-cons (λ (x : ℕ). x) size (take (suc k) (map length (map code_points cs))) in
     omega (arith, later, more)
 
--- and it ends behind its own
+-- and it ends after its own
 pub end_place-spans : (text : List ℕ) (k : ℕ) → k < length (cluster_sizes text)
     → get_or (map (λ (s : Span). s.end_place) (spans text)) k 0 ≡ sum (take (k + 1) (cluster_sizes text))
 end_place-spans text k lt =

@@ -1,3 +1,4 @@
+-- The modules of this crate's proofs.
 pub mod Slices
 pub mod Cutting
 pub mod Pieces

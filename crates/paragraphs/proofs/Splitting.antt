@@ -53,7 +53,7 @@ module _ (tables : TableValues) (text rest : List ℕ) (done : List Paragraph) (
       ∙ drop_at (encode_utf8_all (take first_place (code_points text))) _ (byte_of (code_points text) first_place) refl
       ∙ ap encode_utf8_all (sym (take_rest (code_points text) first_place))
 
-  -- the last paragraph put behind the others
+  -- the last paragraph put after the others
   pub paragraphs-end : (bytes : List ℕ) (items : List Paragraph) → length rest ≡ 0 → bytes ≡ drop first_byte text
       → items ≡ done ++ record { text = bytes; first_byte = first_byte; first_place = first_place } ∷ [] → items ≡ paragraphs tables text
   unfolding from_first
@@ -117,7 +117,7 @@ module _ (tables : TableValues) (text rest : List ℕ) (done : List Paragraph) (
           ∙ ap (λ cs. done ++ pieces (code_points text) first_place (cuts_from (bidi_of tables) place cs)) (sym head) ∙ s.so_far;
     }
 
-    -- the paragraph that ends here put behind the others
+    -- the paragraph that ends here put after the others
     pub IsSplitTo-cut : (bytes : List ℕ) (items : List Paragraph) → true ≡ ends_paragraph (bidi_of tables) c (code_points after)
         → bytes ≡ slice_range text first_byte (length text - length after)
         → items ≡ done ++ record { text = bytes; first_byte = first_byte; first_place = first_place } ∷ []

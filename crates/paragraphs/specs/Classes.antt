@@ -13,7 +13,7 @@ unfoldable pub is_separator : Bidi → Bool
 is_separator B = true
 is_separator _ = false
 
--- UAX #14, LB4 and LB5: the classes behind which a line must end
+-- UAX #14, LB4 and LB5: the classes after which a line must end
 unfoldable pub is_line_end : Lb → Bool
 is_line_end Bk = true
 is_line_end Cr = true

@@ -22,7 +22,7 @@ begins_with_line_feed class (c ∷ rest) = c == 0xA && is_separator (class c)
 abbrev pub ends_paragraph : (ℕ → Bidi) → ℕ → List ℕ → Bool
 ends_paragraph class c rest = is_separator (class c) && not (c == 0xD && begins_with_line_feed class rest)
 
--- place n stands directly behind a code point that ends a paragraph
+-- place n stands directly after a code point that ends a paragraph
 abbrev pub is_cut : (ℕ → Bidi) → List ℕ → ℕ → Bool
 is_cut class points n = ends_paragraph class (slice_index points (n - 1)) (drop n points)
 
@@ -54,7 +54,7 @@ pub record StandsIn (text : List ℕ) (p : Paragraph) : Type 0 where
   pub bytes : p.text ≡ slice_range text p.first_byte (p.first_byte + length p.text)
   pub place : p.first_place ≡ length (code_points (take p.first_byte text))
 
--- the first of these paragraphs stands behind so many bytes and code points, each other one where the one before it ends
+-- the first of these paragraphs stands after so many bytes and code points, each other one where the one before it ends
 abbrev pub ParagraphsFollow : (byte place : ℕ) → List Paragraph → Type 0
 ParagraphsFollow byte place [] = Unit {0}
 ParagraphsFollow byte place (p ∷ later) =

@@ -13,7 +13,7 @@ span_at byte place cluster = record {
   end_place = place + length (code_points cluster);
 }
 
--- where clusters stand that follow one another, the first of them behind so many bytes and code points
+-- where clusters stand that follow one another, the first of them after so many bytes and code points
 abbrev pub spans_from : (byte place : ℕ) → List (List ℕ) → List Span
 spans_from byte place [] = []
 spans_from byte place (cluster ∷ later) =

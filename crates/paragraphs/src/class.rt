@@ -35,7 +35,7 @@ pub(crate) fn is_isolate_control(class: Bidi) -> bool
     matches!(class, Bidi::Lri | Bidi::Rli | Bidi::Fsi | Bidi::Pdi)
 }
 
-/// Whether a line must end behind a character of this class (LB4, LB5).
+/// Whether a line must end after a character of this class (LB4, LB5).
 #[inline]
 #[tactic(auto, unfolding(crate::specs::Classes::is_line_end))]
 pub(crate) fn is_line_end(class: Lb) -> bool

@@ -9,8 +9,8 @@ ghost use Rattle.paragraphs.specs.Clusters.{clusters, cluster_code_points, clust
 ghost use Rattle.paragraphs.specs.Spans.{spans};
 ghost use Rattle.paragraphs.specs.Paragraphs.{paragraphs, ParagraphsFollow, StandsIn};
 
-/// The clusters of a text take up its code points, each at least one. A cluster stands behind the
-/// code points of all earlier ones, and ends behind its own.
+/// The clusters of a text take up its code points, each at least one. A cluster stands after the
+/// code points of all earlier ones, and ends after its own.
 pub fn cluster_places()
     ensures joined { (text : List ℕ) → IsUtf8 text → concat (cluster_code_points text) ≡ code_points text }
     ensures sum { (text : List ℕ) → IsUtf8 text → sum (cluster_sizes text) ≡ length (code_points text) }
@@ -29,7 +29,7 @@ pub fn clusters_join()
 {}
 
 /// A text has a paragraph. Its paragraphs join to it, are slices of it between characters, and
-/// stand one behind the other from its start.
+/// stand one after the other from its start.
 pub fn paragraphs_join()
     ensures joined { (tables : TableValues) (text : List ℕ) → IsUtf8 text
         → concat (map (λ p. p.text) (paragraphs tables text)) ≡ text }

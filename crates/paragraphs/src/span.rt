@@ -1,6 +1,6 @@
 //! Where clusters stand in a text.
 
-/// Where a cluster stands: from its first byte and its first place up to those behind it. Bytes
+/// Where a cluster stands: from its first byte and its first place up to those after it. Bytes
 /// count bytes, and places count code points.
 #[derive(Clone, Copy, Debug, PartialEq, Eq, Hash)]
 pub struct Span {

@@ -99,7 +99,7 @@ fn the_tables_say_what_a_separator_is(rt: HostRuntime) -> Result<(), Fail> {
 #[test]
 fn clusters_of_each_paragraph(rt: HostRuntime) -> Result<(), Fail> {
     let tables = small_tables(rt.alloc())?;
-    // Here a letter ends a paragraph, and the mark behind it begins one.
+    // Here a letter ends a paragraph, and the mark after it begins one.
     let letters = tables_of(rt.alloc(), b"0061;B\n0301;NSM")?;
     let rows: [(&Tables, &str, &[&str]); 7] = [
         (&tables, "", &[]),

@@ -1,3 +1,4 @@
+-- The modules of this crate's proofs.
 pub mod Tables
 pub mod Views
 pub mod Walks

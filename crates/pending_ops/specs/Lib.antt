@@ -1,3 +1,4 @@
+-- The modules of this crate's definitions.
 pub mod Waiting
 pub mod Below
 pub mod Releasing

@@ -1,3 +1,4 @@
+-- The modules of this crate's proofs.
 pub mod Arranged
 pub mod Between
 pub mod L1

@@ -1,3 +1,4 @@
+-- The modules of this crate's definitions.
 pub mod VisualList
 pub mod VisualOrder
 pub mod Links

@@ -217,7 +217,7 @@ fn assert_l1(rt: &(impl Abort + AllocGlobal), rows: &str) -> Result<(), Fail> {
     Ok(())
 }
 
-/// The last four are a line with an isolate, the two lines of a wrapped paragraph, and digits behind an Arabic letter.
+/// The last four are a line with an isolate, the two lines of a wrapped paragraph, and digits after an Arabic letter.
 #[test]
 fn l1_resets_what_stands_before_a_separator_or_the_lines_end(rt: HostRuntime) -> Result<(), Fail> {
     assert_l1(

@@ -1,1 +1,2 @@
+-- The modules of this crate's proofs.
 pub mod Opened

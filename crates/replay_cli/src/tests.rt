@@ -70,7 +70,7 @@ fn a_run_has_one_to_64_files(rt: HostRuntime) -> Result<(), Fail> {
     Ok(())
 }
 
-/// A command line with files before its last option and behind it.
+/// A command line with files before its last option and after it.
 fn files_between(
     alloc: Global,
     options: &[&str],

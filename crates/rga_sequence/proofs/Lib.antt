@@ -1,3 +1,4 @@
+-- The modules of this crate's proofs.
 pub mod Grown
 pub mod Homes
 pub mod Joined

@@ -1,4 +1,4 @@
--- The place behind all greater elements, with whole blocks passed.
+-- The place after all greater elements, with whole blocks passed.
 use Rattle.std.proofs.Common.{◌≡◌, ℕ, suc, ◌<◌, ◌≤◌, ◌+◌, ◌||◌, Bool, true, false, cond, not, List, [], ◌∷◌, ◌++◌, length, take, drop, get_or, refl, sym, ap, subst, ◌∙◌, zero-add, length-append, length-drop, ◌-◌, arith}
 use Rattle.std.proofs.lemmas.List.{length-map, drop-map, drop_all, get_or-drop, get_or-map, map-append, take-map}
 use Rattle.std.proofs.lemmas.Bool.{ltb-true, ltb-false}
@@ -122,7 +122,7 @@ lands_here id xs p j there within few =
     ap (λ r. offset xs p j + prefix_len (is_greater id) r) (drop_joined xs p j there within)
     ∙ ap (λ n. offset xs p j + n) (pre_stop (is_greater id) here (joined (drop (suc p) xs)) few) ∙ omega arith
 
--- it ends behind it
+-- it ends after it
 past_here : (id : Identifier) (xs : List (List Element)) (p j : ℕ) → p < length xs → j ≤ length (get_or xs p [])
     → prefix_len (is_greater id) (drop j (get_or xs p [])) ≡ length (get_or xs p []) - j
     → sought id xs p j ≡ length (joined (take (suc p) xs)) + prefix_len (is_greater id) (joined (drop (suc p) xs))

@@ -36,7 +36,7 @@ apart_of ns places p r inverts hp hr same =
     let both : Some p ≡ Some r = sym (inverts p hp) ∙ ap (slice_get places) same ∙ inverts r hr in
     cc
 
--- a place is before i, at i or behind i
+-- a place is before i, at i or after i
 data Where (i p : ℕ) : Type 0 where
   before : p < i → Where i p
   here : p ≡ i → Where i p

@@ -42,7 +42,7 @@ home_split (x ∷ xs) (n ∷ ns) (suc i) number low high q there numbered is apa
     ap (cond (has q x) (Some n)) (home_split xs ns i number low high q (omega arith) (omega arith) is apart all.1)
     ∙ swap (has q x) (has q high) n number (home_of xs ns q) (λ a b. all.0 q a (inside b))
 
--- the same with the place behind as a sum
+-- the same with the place after as a sum
 pub home_split-at : (xs : List (List Element)) (ns : List ℕ) (i number : ℕ) (low high : List Element) (q : Identifier) → i < length xs → i < length ns → get_or xs i [] ≡ low ++ high → AreApart low high → AreAllApart xs
     → home_of (insert (set xs i low) (i + 1) high) (insert ns (i + 1) number) q ≡ cond (has q high) (Some number) (home_of xs ns q)
 home_split-at xs ns i number low high q there numbered is apart all = let s : i + 1 ≡ suc i = omega arith in rw s (home_split xs ns i number low high q there numbered is apart all)

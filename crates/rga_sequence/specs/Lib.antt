@@ -1,3 +1,4 @@
+-- The modules of this crate's definitions.
 pub mod Blocks
 pub mod BlockRows
 pub mod Indexed

@@ -22,7 +22,7 @@ pub struct Block {
     pub visible: usize,
     pub least: Id,
     pub number: usize,
-    /// Where an element was put in last. The next one is often put behind it.
+    /// Where an element was put in last. The next one is often put after it.
     pub recent: usize,
     ghost few: { vec_len elements ≤ 512 },
     ghost room: { 512 ≤ vec_capacity elements },

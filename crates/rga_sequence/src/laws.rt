@@ -13,7 +13,7 @@ ghost use Rattle.rga_tree.specs.Row.{place_of};
 ghost use Rattle.rga_tree.specs.Leaf.{IsParent, StandsAttached};
 
 /// The skipping law. A new insertion that is no parent, below the root or an attached parent, is
-/// put into the old walk behind its parent (the root: at the front), and behind all greater
+/// put into the old walk after its parent (the root: at the front), and after all greater
 /// identifiers that follow there directly.
 pub fn skipping()
     ensures { (s : OperationSet) → AllWellFormed s → (id : Identifier) (node : Node)

@@ -80,7 +80,7 @@ fn hide_in(blocks: &mut [Block], q: usize, at: usize) -> usize
     blocks[q].hide(at)
 }
 
-/// Splits block q, which is full: its upper half moves to a new block behind it.
+/// Splits block q, which is full: its upper half moves to a new block after it.
 pub fn split_at(blocks: &mut Vec<Block>, q: usize, upper: Vec<Element>, number: usize)
     requires block { q < vec_len blocks.old }
     requires full { length (get_or (items_of blocks.old.items) q []) ≡ 512 }

@@ -58,7 +58,7 @@ fn before(row: &[Element], likely: usize, id: Id) -> usize
     row.iter().take_while(|e| id != e.id).count()
 }
 
-/// Puts in a new element: behind its parent, and behind all greater ones that follow there.
+/// Puts in a new element: after its parent, and after all greater ones that follow there.
 pub fn put(row: &mut Row, id: Id, parent: Place, ch: char, hidden: bool)
     requires indexed { IsIndexed ⟦<Id as Eq>⟧.eq row.old }
     requires distinct { is_distinct (ids_of (elements_in row.old)) ≡ true }
@@ -98,7 +98,7 @@ fn put_first(row: &mut Row, id: Id, parent: Place, ch: char, hidden: bool)
     kept.unwrap();
 }
 
-/// Right behind the parent: a block, and a place there.
+/// Right after the parent: a block, and a place there.
 fn start(row: &Row, parent: &Place) -> (usize, usize)
     requires indexed { IsIndexed ⟦<Id as Eq>⟧.eq row.now }
     requires distinct { is_distinct (ids_of (elements_in row.now)) ≡ true }

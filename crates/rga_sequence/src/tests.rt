@@ -38,7 +38,7 @@ fn letter(counter: u32) -> char {
     (b'a' + (counter % 26) as u8) as char
 }
 
-/// (1,1) behind the root, and then each behind the one before.
+/// (1,1) after the root, and then each after the one before.
 fn chain(alloc: Global, count: u32) -> Option<Tried<Blocks>> {
     let mut seq = Tried::new(alloc);
     let mut above = (0, 0);
@@ -91,7 +91,7 @@ static SPLITS: [Split; 4] = [
         513,
         &[(0, (1, 1), 2), (512, (513, 1), 259)],
     ),
-    // Behind the last of a block, also where all that follow are less.
+    // After the last of a block, also where all that follow are less.
     (
         513,
         &[],
@@ -140,7 +140,7 @@ fn a_full_block_is_split_for_one_more(rt: HostRuntime) {
     assert!(rt; right);
 }
 
-/// Whether (600,2), put behind this parent into a chain of 512, stands at this place then.
+/// Whether (600,2), put after this parent into a chain of 512, stands at this place then.
 fn is_split_at(alloc: Global, parent: Name, place: usize) -> Option<bool> {
     let mut seq = chain(alloc, 512)?;
     let mut right = seq.put(((600, 2), parent, 'z', false)) && seq.seq.blocks() == 2;

@@ -22,7 +22,7 @@ use Rattle.rga_tree.proofs.AttachedWalk.{all_children, all_flat_map, IsIn-childr
 
 -- ---- the stretch of an identifier
 
--- the walk from the place has the identifier, and directly behind it what stands below it
+-- the walk from the place has the identifier, and directly after it what stands below it
 abbrev pub ReadsBelow : OperationSet → Place → Identifier → Type 0
 ReadsBelow s p id = (front : List Entry) × (node : Node) × (back : List Entry) × (walk s p ≡ front ++ ((id, node) ∷ walk s (After id)) ++ back)
 

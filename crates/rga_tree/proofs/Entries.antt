@@ -84,7 +84,7 @@ low_of (After a) k h = ap (λ o. ordering_then o (nat_cmp a.site k.site)) (sym (
 pub AreWellFounded-entries : (s : OperationSet) → AllWellFormed s → AreWellFounded (entries_of s)
 AreWellFounded-entries s well = all_entries s (λ e. IsLow e.1.parent e.0) (λ e held. low_of e.1.parent e.0 (well (Insert e.0 e.1.parent e.1.ch) held).1)
 
--- a place that stands is not behind a new identifier
+-- a place that stands is not after a new identifier
 no_parent : (s : OperationSet) (p : Place) (n : Identifier) → stands_in s p ≡ true → map.contains_key s.ins n ≡ false → same_place p (After n) ≡ false
 no_parent s Root n stands new = refl
 no_parent s (After a) n stands new =

@@ -1,3 +1,4 @@
+-- The modules of this crate's proofs.
 pub mod WalkAmong
 pub mod Entries
 pub mod Preorder

@@ -123,7 +123,7 @@ in_turn a b c ids distinct h k = through a b c ids h.front h.between h.back k.fr
 
 -- ---- where some are left out
 
--- a stands in a list, with these behind it that pass
+-- a stands in a list, with these after it that pass
 abbrev Splits : (Identifier → Bool) → Identifier → Ids → Ids → Type 0
 Splits p a back ids = (before : Ids) × (after : Ids) × (ids ≡ before ++ a ∷ after) × (filter p after ≡ back)
 

@@ -34,7 +34,7 @@ IsListed-more : (p : Place) (before seen : List Entry) → IsListed p seen → I
 IsListed-more Root before seen h = tt
 IsListed-more (After a) before seen h = listed-append a before seen ∙ or_right (is_listed a before) (is_listed a seen) h
 
--- behind a listed identifier, what is led by it is led
+-- after a listed identifier, what is led by it is led
 IsSeen-after : (q : Place) (a : Identifier) (before seen : List Entry) (p : Place) → is_listed a before ≡ true → IsSeen (After a) seen p → IsSeen q (before ++ seen) p
 IsSeen-after q a before seen p at (inl h) = inr (subst (λ r. IsListed r (before ++ seen)) (sym h) (listed-append a before seen ∙ or_left (is_listed a before) (is_listed a seen) at))
 IsSeen-after q a before seen p at (inr h) = inr (IsListed-more p before seen h)

@@ -32,7 +32,7 @@ abbrev pub AreDistinct : List Entry → Type 0
 AreDistinct [] = Unit {0}
 AreDistinct (x ∷ r) = IsAbsent x.0 r × AreDistinct r
 
--- where behind a
+-- where after a
 abbrev pub behind : Identifier → Identifier → List Entry → ℕ
 behind a k es = let start = prefix_len (λ e. not (same_id a e.0)) es + 1 in start + prefix_len (λ e. is_lt (id_cmp k e.0)) (drop start es)
 

@@ -29,14 +29,14 @@ use Rattle.rga_tree.proofs.Below.{child_walk, flat_map_at, split_in, listed_belo
 
 -- ---- blocks of a list
 
--- the first block stands in the list, and behind it the second one
+-- the first block stands in the list, and after it the second one
 abbrev pub AreBlocks : Ids → Ids → Ids → Type 0
 AreBlocks ids xs ys = (front : Ids) × (between : Ids) × (back : Ids) × (ids ≡ front ++ (xs ++ (between ++ (ys ++ back))))
 
 AreBlocks-behind : (x : Identifier) (ids xs ys : Ids) → AreBlocks ids xs ys → AreBlocks (x ∷ ids) xs ys
 AreBlocks-behind x ids xs ys h = (x ∷ h.0, h.1, h.2, ap (λ r. x ∷ r) h.3)
 
--- what begins with none of a block begins behind it
+-- what begins with none of a block begins after it
 behind_block : (xs k r rest ys : Ids) (b : Identifier) → xs ++ k ≡ r ++ (b ∷ ys ++ rest) → (is_among b xs ≡ true → ⊥) → (m : Ids) × (k ≡ m ++ (b ∷ ys ++ rest))
 behind_block [] k r rest ys b h apart = (r, h)
 behind_block (x ∷ xs) k [] rest ys b h apart =
@@ -129,7 +129,7 @@ runs_apart s well a b xs ys at_a at_b run_a run_b differ out_b out_a =
       either_left (inl h) = inl (IsLeftOf-blocks s well a b xs ys run_a run_b h)
       either_left (inr h) = inr (IsLeftOf-blocks s well b a ys xs run_b run_a h)
 
--- ---- runs behind one place
+-- ---- runs after one place
 
 one_way : (a b : Identifier) → id_cmp a b ≡ Less → id_cmp b a ≡ Less → ⊥
 one_way a b lt gt = let o : id_cmp a a ≡ Less = id_cmp-total.trans a b a lt gt in let t = tied_itself id_cmp-total a in absurd cc

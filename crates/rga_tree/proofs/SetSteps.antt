@@ -122,7 +122,7 @@ none_of : (o : Option Node) → is_some o ≡ false → o ≡ None
 none_of None h = refl
 none_of (Some n) h = absurd cc
 
--- the walk with one more leaf: behind its parent, and behind all greater ones that follow there
+-- the walk with one more leaf: after its parent, and after all greater ones that follow there
 pub walk-leaf : (s : OperationSet) (id : Identifier) (node : Node) → AllWellFormed s → IsTree s → IsWellFormed (Insert id node.parent node.ch) → map.contains_key s.ins id ≡ false
     → walk (with_operation s (Insert id node.parent node.ch)) Root ≡ among (id, node) Root (walk s Root)
 walk-leaf s id node well tree is new =

@@ -57,12 +57,12 @@ walk_all P (e ∷ es) q h =
     all_append P (walk_among es q) _ (walk_all P es q h.1)
     (elim (same_place e.1.parent q) as (λ b. AllByRecursion P (cond b (e ∷ walk_among es (After e.0)) [])) [ true ↦ (h.0, walk_all P es (After e.0) h.1) | false ↦ tt ])
 
--- the new one goes behind all that are greater, up to the first that isn't
+-- the new one goes after all that are greater, up to the first that isn't
 abbrev pub skip : Entry → List Entry → List Entry
 skip n [] = n ∷ []
 skip n (x ∷ r) = cond (is_lt (id_cmp n.0 x.0)) (x ∷ skip n r) (n ∷ x ∷ r)
 
--- behind its parent and all that are greater
+-- after its parent and all that are greater
 abbrev pub below : Place → Entry → List Entry → List Entry
 below p n [] = []
 below p n (x ∷ r) = cond (same_place p (After x.0)) (x ∷ skip n (below p n r)) (x ∷ below p n r)

@@ -1,3 +1,4 @@
+-- The modules of this crate's definitions.
 pub mod Walk
 pub mod Attached
 pub mod TextOf

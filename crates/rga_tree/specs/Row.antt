@@ -32,12 +32,12 @@ is_distinct (x ∷ xs) = not (list_any (same_id x) xs) && is_distinct xs
 abbrev pub ids_of : List Element → List Identifier
 ids_of row = each (λ e. e.id) row
 
--- behind the parent
+-- after the parent
 abbrev pub start_of : Place → List Element → ℕ
 start_of Root row = 0
 start_of (After parent) row = prefix_len (λ e. not (same_id parent e.id)) row + 1
 
--- and behind all greater elements that follow there
+-- and after all greater elements that follow there
 abbrev pub place_of : Place → Identifier → List Element → ℕ
 place_of parent id row =
     let start = start_of parent row in

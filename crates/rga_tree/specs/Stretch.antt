@@ -1,4 +1,4 @@
--- What stands below an identifier, and runs of characters each typed behind the one before.
+-- What stands below an identifier, and runs of characters each typed after the one before.
 use Rattle.std.specs.Prelude.{◌≡◌, ◌↔◌, ◌++◌, ◌∷◌, List, [], Some, Contains}
 use Rattle.std.specs.FinMap as map
 use Rattle.bg_types.specs.Identifier.{Identifier}

@@ -22,7 +22,7 @@ same_place (After a) (After b) = same_id a b
 abbrev pub children : Insertions → Place → List (Identifier × Node)
 children ins p = reverse (filter (λ e. same_place e.1.parent p) (map.entries ins))
 
--- each child of p in falling order, and behind it what stands below it, to a depth
+-- each child of p in falling order, and after it what stands below it, to a depth
 abbrev pub walk_to : ℕ → Insertions → Place → List (Identifier × Node)
 walk_to zero ins p = []
 walk_to (suc depth) ins p = flat_map (λ e. e ∷ walk_to depth ins (After e.0)) (children ins p)

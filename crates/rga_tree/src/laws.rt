@@ -61,8 +61,8 @@ pub fn attached_alone()
         → text t ≡ text s }
 {}
 
-/// The walk of a tree with one more insertion is the old walk with it put in: behind its parent,
-/// and behind all greater identifiers that follow there directly.
+/// The walk of a tree with one more insertion is the old walk with it put in: after its parent,
+/// and after all greater identifiers that follow there directly.
 pub fn one_more_leaf()
     ensures { (s : OperationSet) → AllWellFormed s → IsTree s → (id : Identifier) (node : Node)
         → IsWellFormed (Insert id node.parent node.ch) → stands_in s node.parent ≡ true
@@ -109,7 +109,7 @@ pub fn one_order()
 {}
 
 /// The unbroken-stretch law: an attached identifier and all below it stand in one unbroken stretch
-/// of the walk. So two runs whose first ones stand apart never mix; of two runs behind one place,
+/// of the walk. So two runs whose first ones stand apart never mix; of two runs after one place,
 /// the one whose first identifier is greater is wholly left of the other. A run of a part is a run
 /// of the set, so all this holds of it wherever it comes to.
 pub fn unbroken_stretch()
@@ -129,8 +129,8 @@ pub fn unbroken_stretch()
 {}
 
 /// An insertion whose counter is above all that a set names, as each is that is typed, is read
-/// directly behind its parent, and first of all if that is the root. So it stands between its
-/// parent and each character that stood behind that.
+/// directly after its parent, and first of all if that is the root. So it stands between its
+/// parent and each character that stood after that.
 pub fn typed_place()
     ensures behind { (s : OperationSet) → AllWellFormed s → (id : Identifier) (node : Node)
         → IsWellFormed (Insert id node.parent node.ch) → next s ≤ id.counter

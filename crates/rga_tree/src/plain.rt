@@ -17,7 +17,7 @@ use bg_types::{Id, Memory, Place};
 use std::alloc::Global;
 
 /// A sequence as one row, in the order of the walk. `room`, `placed` and `nth` read one number or
-/// element; each other call goes over the row, and `place` shifts what stands behind the new one.
+/// element; each other call goes over the row, and `place` shifts what stands after the new one.
 #[derive(Drop)]
 pub struct Plain {
     row: Vec<Element>,
@@ -139,7 +139,7 @@ fn put_in(row: &mut Vec<Element>, at: usize, id: Id, parent: Place, ch: char, hi
     .unwrap();
 }
 
-/// Where a new element goes: behind its parent, and behind all greater elements that follow there.
+/// Where a new element goes: after its parent, and after all greater elements that follow there.
 fn place_for(row: &[Element], id: Id, parent: &Place) -> usize
     requires { start_of parent.now row.now ≤ length row.now }
     ensures place { result ≡ place_of parent.now id row.now }

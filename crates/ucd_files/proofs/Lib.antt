@@ -1,3 +1,4 @@
+-- The modules of this crate's proofs.
 pub mod CodePoints
 pub mod Codes
 pub mod FirstFault

@@ -17,7 +17,7 @@ named-cons : {V : Type 0} (row : List ℕ × V) (table : List (List ℕ × V)) (
 unfolding named
 named-cons row table name = option_map-cond (λ r. r.1) (bytes_eq row.0 name) row (find (λ r. bytes_eq r.0 name) table)
 
--- the row at place i is tried, and then those behind it
+-- the row at place i is tried, and then those after it
 pub named-drop : {V : Type 0} (table : List (Bor (List ℕ) × V)) (i : ℕ) (row : Bor (List ℕ) × V) (name : List ℕ) (same : Bool)
     → i < length table → row ≡ get_or table i row → same ≡ bytes_eq row.0.now name
     → named (rows (drop i table)) name ≡ cond same (Some row.1) (named (rows (drop (i + 1) table)) name)

@@ -35,7 +35,7 @@ scalar_of digits = option_and_then (λ c. if is_surrogate c then None else Some 
 abbrev pub has_dots : List ℕ → Bool
 has_dots field = list_any (λ b. b == 46) field
 
--- what stands behind the second of two dots. No code is empty
+-- what stands after the second of two dots. No code is empty
 abbrev pub behind_dot : List ℕ → List ℕ
 behind_dot [] = []
 behind_dot (b ∷ bytes) = if b == 46 then bytes else []

@@ -12,7 +12,7 @@ cause_code BadRange = 3
 cause_code MissingField = 4
 cause_code UnknownValue = 5
 
--- want of memory has 9, as in every fault type
+-- lack of memory has 9, as in every fault type
 abbrev pub fault_code : UcdFault → ℕ
 fault_code (At file line cause) = cause_code cause
 fault_code Memory = 9

@@ -45,7 +45,7 @@ mirror_fields text =
 abbrev pub line_by : {V : Type 0} → (List ℕ → Result (Entry V) Cause) → List ℕ → Result (Option (Entry V)) Cause
 line_by fields line = if is_empty (text_of line) then Ok None else (fields (text_of line) >>= (λ entry. Ok (Some entry)))
 
--- `first..last; value` behind `@missing:`, the value by its short or its long name
+-- `first..last; value` after `@missing:`, the value by its short or its long name
 unfoldable pub missing_fields : {V : Type 0} → (List ℕ → Option V) → List ℕ → Option (Entry V)
 missing_fields named text =
     if length (fields_of text) == 2 && has_dots (field 0 text)

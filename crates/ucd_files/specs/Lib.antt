@@ -1,3 +1,4 @@
+-- The modules of this crate's definitions.
 pub mod FaultCode
 pub mod Line
 pub mod Code

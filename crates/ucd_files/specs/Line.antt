@@ -3,7 +3,7 @@ use Rattle.std.specs.Prelude.{ℕ, Bool, ◌==◌, ◌-◌, List, [], ◌∷◌,
 use Rattle.std.specs.Borrow.{Bor}
 use Rattle.std.specs.List.{list_any, prefix_len, suffix_len, before_first, after_first, slice_split}
 
--- the lines: what stands between the line feeds. Behind a last line feed stands one more, empty line, which says nothing
+-- the lines: what stands between the line feeds. After a last line feed stands one more, empty line, which says nothing
 abbrev pub lines_of : List ℕ → List (List ℕ)
 lines_of bytes = slice_split (λ b. b == 10) bytes
 
@@ -30,7 +30,7 @@ blanks = 32 ∷ 9 ∷ []
 abbrev pub line_blanks : List ℕ
 line_blanks = 32 ∷ 9 ∷ 13 ∷ []
 
--- what stands before the first `#` of a line, and what behind it, each without blanks at its ends
+-- what stands before the first `#` of a line, and what after it, each without blanks at its ends
 abbrev pub text_of : List ℕ → List ℕ
 text_of line = trimmed line_blanks (before_first (λ b. b == 35) line)
 

@@ -17,7 +17,7 @@ pub(crate) fn place_of(bytes: &[u8], at: u8) -> usize
     bytes.len()
 }
 
-/// What stands before the first of these bytes, and what behind it.
+/// What stands before the first of these bytes, and what after it.
 pub(crate) fn cut(bytes: &[u8], at: u8) -> (&[u8], &[u8])
     ensures before { result.0.now ≡ before_first (λ b. b == at) bytes.now }
     ensures after { result.1.now ≡ after_first (λ b. b == at) bytes.now }

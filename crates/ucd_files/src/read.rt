@@ -150,7 +150,7 @@ fn checked<V: FileValue>(file: UcdFile, bytes: &[u8]) -> Result<usize, UcdFault>
     }
 }
 
-/// The values of a file at the code points that its lines reach; behind them stands the absent
+/// The values of a file at the code points that its lines reach; after them stands the absent
 /// value.
 pub(crate) fn read<V: FileValue>(
     alloc: Global,

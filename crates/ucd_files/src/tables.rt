@@ -41,7 +41,7 @@ impl Model for Tables {
     } };
 }
 
-/// The value at a character, or the absent one behind the table's end.
+/// The value at a character, or the absent one after the table's end.
 #[inline]
 fn at<V: Copy>(table: &[V], c: char, absent: V) -> V
     ensures { result ≡ slice_index_or table.now c absent }

@@ -1,3 +1,4 @@
+-- The modules of this crate's proofs.
 pub mod Keys
 pub mod Kept
 pub mod Uses

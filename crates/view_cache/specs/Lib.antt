@@ -1,3 +1,4 @@
+-- The modules of this crate's definitions.
 pub mod Keys
 pub mod Uses
 pub mod Drawings

@@ -20,7 +20,7 @@ fn behind(of: Name, above: Name, ch: char) -> Option<Op> {
     Op::insert(id(of)?, Place::After(id(above)?), ch)
 }
 
-/// The deletion of `x`, then `a`, `x` and `b` behind it, `y` behind `x`, and two that wait.
+/// The deletion of `x`, then `a`, `x` and `b` after it, `y` after `x`, and two that wait.
 fn operations() -> Option<[Op; 7]> {
     Some([
         Op::erase(id((2, 2))?),

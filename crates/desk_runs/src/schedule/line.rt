@@ -54,7 +54,7 @@ fn read_verb(verb: &[u8], fields: &[u8], files: &[Vec<Op>]) -> Result<Step, Sche
     Err(ScheduleFault::UnknownStep)
 }
 
-/// The step that the words behind `take` write.
+/// The step that the words after `take` write.
 fn read_take(fields: &[u8], files: &[Vec<Op>]) -> Result<Step, ScheduleFault>
     ensures said { MatchResult result (λ step. take_in (lists_of files.now) (words fields.now) ≡ Ok step)
         (λ fault. take_in (lists_of files.now) (words fields.now) ≡ Err fault) }
@@ -76,7 +76,7 @@ fn read_take(fields: &[u8], files: &[Vec<Op>]) -> Result<Step, ScheduleFault>
     Ok(Step::Take { desk, file, op })
 }
 
-/// The step that the words behind `merge` write.
+/// The step that the words after `merge` write.
 fn read_merge(fields: &[u8], files: &[Vec<Op>]) -> Result<Step, ScheduleFault>
     ensures said { MatchResult result (λ step. merge_in (lists_of files.now) (words fields.now) ≡ Ok step)
         (λ fault. merge_in (lists_of files.now) (words fields.now) ≡ Err fault) }
@@ -91,7 +91,7 @@ fn read_merge(fields: &[u8], files: &[Vec<Op>]) -> Result<Step, ScheduleFault>
     Ok(Step::Merge { desk, from })
 }
 
-/// The step that the words behind `show` write.
+/// The step that the words after `show` write.
 fn read_show(fields: &[u8], files: &[Vec<Op>]) -> Result<Step, ScheduleFault>
     ensures said { MatchResult result (λ step. show_in (lists_of files.now) (words fields.now) ≡ Ok step)
         (λ fault. show_in (lists_of files.now) (words fields.now) ≡ Err fault) }

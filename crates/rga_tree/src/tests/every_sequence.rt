@@ -277,7 +277,7 @@ fn counter_of(k: u32, rising: bool) -> u32 {
 }
 
 /// Whether 1,000 elements, placed in this order, stand by their counters in that one. In a chain
-/// each is behind the one before, else all are behind the root.
+/// each is after the one before, else all are after the root.
 fn keeps_thousand<S: Fresh>(alloc: Global, chain: bool, rising: bool) -> bool {
     let mut seq: Tried<S> = Tried::new(alloc);
     let mut right = true;

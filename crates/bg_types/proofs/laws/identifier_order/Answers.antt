@@ -1,3 +1,4 @@
+-- The goals of `identifier_order` that are answered by hand.
 use Rattle.bg_types.proofs.IdentifierOrder.{id_cmp-total, id_cmp-exact}
 use Rattle.bg_types.proofs.laws.identifier_order.Goals as goal
 

@@ -1,3 +1,4 @@
+-- The goals of `next_counter` that are answered by hand.
 use Rattle.bg_types.proofs.NextCounter.{next-above, next-least}
 use Rattle.bg_types.proofs.laws.next_counter.Goals as goal
 

@@ -1,3 +1,4 @@
+-- The goals of `one_more_operation` that are answered by hand.
 use Rattle.bg_types.proofs.OperationSets.{Holds-with_operation, size-with_operation, with_operation-known}
 use Rattle.bg_types.proofs.laws.one_more_operation.Goals as goal
 

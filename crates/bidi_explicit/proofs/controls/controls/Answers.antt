@@ -1,4 +1,4 @@
--- The pass begins behind the last place and ends at the first.
+-- The pass begins after the last place and ends at the first.
 use Rattle.std.proofs.Common.{suc, ◌≡◌, ◌-◌, ◌<◌, subst, length, arith}
 use Rattle.bg_types.specs.declared.class.Bidi.TheVariants.{L}
 use Rattle.bidi_explicit.proofs.Matching.{IsMatchedFrom, IsMatchedFrom-start, IsMatchedFrom-step}

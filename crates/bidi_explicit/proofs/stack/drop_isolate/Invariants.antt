@@ -1,3 +1,4 @@
+-- What stays true in the loop of `drop_isolate`.
 use Rattle.std.proofs.Common.{◌≡◌, reverse}
 use Rattle.arrayvec.specs.ArrayVec.{array_vec_len}
 use Rattle.bidi_explicit.specs.Flat.{below_isolate}

@@ -1,3 +1,4 @@
+-- What stays true in the loop of `n1`.
 use Rattle.std.proofs.Common.{◌≡◌, ◌<◌, ◌++◌, take, drop}
 use Rattle.std.specs.Prelude.{not}
 use Rattle.bidi_weak_neutral.specs.Classes.{is_neutral}

@@ -1,3 +1,4 @@
+-- What stays true in the loop of `n2`.
 use Rattle.std.proofs.Common.{◌≡◌, ◌++◌, take, drop}
 use Rattle.bidi_weak_neutral.specs.Neutral.{n2}
 use Rattle.bidi_weak_neutral.proofs.neutral.n2.Given as goal

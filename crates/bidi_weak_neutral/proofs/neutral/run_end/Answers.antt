@@ -1,3 +1,4 @@
+-- The goals of `run_end` that are answered by hand.
 use Rattle.std.proofs.Common.{◌∙◌, ap, sym, arith, get_or, ◌≡◌, true}
 use Rattle.std.proofs.lemmas.List.{get_or_default}
 use Rattle.std.specs.Prelude.{not}

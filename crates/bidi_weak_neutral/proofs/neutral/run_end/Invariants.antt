@@ -1,3 +1,4 @@
+-- What stays true in the loop of `run_end`.
 use Rattle.std.proofs.Common.{ℕ, ◌≡◌, ◌<◌, ◌≤◌, ◌-◌, drop, length, get_or, true}
 use Rattle.std.specs.Prelude.{not}
 use Rattle.bg_types.specs.declared.class.Bidi.{Bidi}

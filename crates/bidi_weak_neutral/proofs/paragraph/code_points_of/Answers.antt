@@ -1,3 +1,4 @@
+-- The goals of `code_points_of` that are answered by hand.
 use Rattle.std.proofs.Common.{rules}
 use Rattle.std.proofs.lemmas.Str.{chars_from_encodes}
 use Rattle.bidi_weak_neutral.proofs.paragraph.code_points_of.Goals as goal

@@ -1,3 +1,4 @@
+-- The goals of `fill_removed` that are answered by hand.
 use Rattle.std.proofs.Common.{arith, ℕ, List, ◌+◌, ◌<◌, ◌∙◌, ap₂, sym, take, drop, ◌++◌, length, None}
 use Rattle.bidi_weak_neutral.specs.Levels.{kept_levels}
 use Rattle.bidi_weak_neutral.proofs.Scan.{scan}

@@ -1,3 +1,4 @@
+-- What stays true in the loop of `fill_removed`.
 use Rattle.std.proofs.Common.{◌≡◌, ◌++◌, take, drop}
 use Rattle.bidi_weak_neutral.specs.Levels.{kept_levels, filled_levels}
 use Rattle.bidi_weak_neutral.proofs.Scan.{scan}

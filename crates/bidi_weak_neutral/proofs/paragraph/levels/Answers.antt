@@ -1,3 +1,4 @@
+-- The goals of `levels` that are answered by hand.
 use Rattle.std.proofs.Common.{◌∙◌, ◌≡◌, ap, rules, replicate, length, Some, None}
 use Rattle.std.specs.Prelude.{if◌then◌else◌}
 use Rattle.paragraphs.specs.Text.{code_points}

@@ -1,3 +1,4 @@
+-- The goals of `levels_by_sequences` that are answered by hand.
 use Rattle.std.proofs.Common.{arith, ℕ, List, All, ◌∙◌, ◌≤◌, ◌++◌, ◌≡◌, ap, ap₂, sym, subst, length, take, drop}
 use Rattle.std.proofs.lemmas.List.{drop_all, append-nil, take_all}
 use Rattle.std.proofs.lemmas.List.Elements.{All-same}

@@ -1,3 +1,4 @@
+-- The goals of `plain_count` that are answered by hand.
 use Rattle.std.proofs.Common.{ap, sym, ◌∙◌, arith}
 use Rattle.bidi_weak_neutral.specs.Classes.{is_plain}
 use Rattle.bidi_weak_neutral.proofs.Counting.{IsCounted-start, IsCounted-end, IsCounted-on, IsCounted-stop, count-fits}

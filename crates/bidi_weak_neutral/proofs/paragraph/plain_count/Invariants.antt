@@ -1,3 +1,4 @@
+-- What stays true in the loop of `plain_count`.
 use Rattle.std.specs.Str.Iter.{chars_rest}
 use Rattle.bidi_weak_neutral.proofs.Counting.{IsCounted}
 use Rattle.bidi_weak_neutral.proofs.paragraph.plain_count.Given as goal

@@ -1,3 +1,4 @@
+-- The goals of `put_back` that are answered by hand.
 use Rattle.std.proofs.Common.{◌+◌, ◌≤◌, ◌∙◌, drop, ap, ap₂, sym, subst, map}
 use Rattle.bidi_weak_neutral.specs.Neutral.{implicit_level}
 use Rattle.bidi_weak_neutral.specs.Levels.{levels_at, put_back, types_of_sequence}

@@ -1,3 +1,4 @@
+-- What stays true in the loop of `put_back`.
 use Rattle.std.proofs.Common.{◌≡◌, drop}
 use Rattle.bidi_weak_neutral.specs.Levels.{put_back}
 use Rattle.bidi_weak_neutral.proofs.paragraph.put_back.Given as goal

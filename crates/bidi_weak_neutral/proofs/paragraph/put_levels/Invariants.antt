@@ -1,3 +1,4 @@
+-- What stays true in the loop of `put_levels`.
 use Rattle.std.proofs.Common.{◌≡◌, map, drop}
 use Rattle.bidi_weak_neutral.specs.Neutral.{implicit_level}
 use Rattle.bidi_weak_neutral.specs.Levels.{levels_at}

@@ -1,3 +1,4 @@
+-- What stays true in the loop of `characters`.
 use Rattle.std.proofs.Common.{◌≡◌, map, take, slice_index}
 use Rattle.bidi_weak_neutral.proofs.sequence.characters.Given as goal
 

@@ -1,3 +1,4 @@
+-- What stays true in the loop of `types_before`.
 use Rattle.std.proofs.Common.{◌≡◌, map, take}
 use Rattle.bidi_explicit.specs.Sequences.{kept_at}
 use Rattle.bidi_weak_neutral.specs.Levels.{type_of}

@@ -1,3 +1,4 @@
+-- What stays true in the loop of `run_end`.
 use Rattle.std.proofs.Common.{ℕ, ◌≡◌, ◌<◌, ◌≤◌, ◌-◌, drop, length, get_or, true}
 use Rattle.bg_types.specs.declared.class.Bidi.TheVariants.{Et, On}
 use Rattle.bidi_weak_neutral.specs.Classes.{is}

@@ -1,3 +1,4 @@
+-- The goals of `w1` that are answered by hand.
 use Rattle.std.proofs.Common.{sym}
 use Rattle.bidi_weak_neutral.proofs.WeakScans.{w1-is}
 use Rattle.bidi_weak_neutral.proofs.weak.w1.Goals as goal

@@ -1,3 +1,4 @@
+-- The goals of `w2` that are answered by hand.
 use Rattle.std.proofs.Common.{sym}
 use Rattle.bidi_weak_neutral.proofs.WeakScans.{w2-is}
 use Rattle.bidi_weak_neutral.proofs.weak.w2.Goals as goal

@@ -1,3 +1,4 @@
+-- The goals of `w4` that are answered by hand.
 use Rattle.std.proofs.Common.{sym}
 use Rattle.bidi_weak_neutral.proofs.WeakScans.{w4-is}
 use Rattle.bidi_weak_neutral.proofs.weak.w4.Goals as goal

@@ -1,3 +1,4 @@
+-- What stays true in the loop of `w4`.
 use Rattle.std.proofs.Common.{◌≡◌, ◌++◌, take, drop}
 use Rattle.bidi_weak_neutral.specs.Weak.{w4}
 use Rattle.bidi_weak_neutral.proofs.Scan.{scan}

@@ -1,3 +1,4 @@
+-- The goals of `w5` that are answered by hand.
 use Rattle.std.proofs.Common.{◌+◌, ◌<◌, ◌≤◌, ◌∙◌, ap, sym, subst, arith, true, get_or, ◌≡◌, length}
 use Rattle.std.specs.Prelude.{not, ◌||◌, if◌then◌else◌}
 use Rattle.std.proofs.lemmas.Bool.{not-false}

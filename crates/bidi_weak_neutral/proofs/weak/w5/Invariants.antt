@@ -1,3 +1,4 @@
+-- What stays true in the loop of `w5`.
 use Rattle.std.proofs.Common.{◌≡◌, ◌<◌, ◌++◌, take, drop}
 use Rattle.std.specs.Prelude.{not}
 use Rattle.bg_types.specs.declared.class.Bidi.TheVariants.{Et, On}

@@ -1,3 +1,4 @@
+-- The goals of `w7` that are answered by hand.
 use Rattle.std.proofs.Common.{sym}
 use Rattle.bidi_weak_neutral.proofs.WeakScans.{w7-is}
 use Rattle.bidi_weak_neutral.proofs.weak.w7.Goals as goal

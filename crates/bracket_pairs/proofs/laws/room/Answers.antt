@@ -1,3 +1,4 @@
+-- The goals of `room` that are answered by hand.
 use Rattle.std.proofs.Common.{refl}
 use Rattle.bracket_pairs.proofs.laws.room.Goals as goal
 

@@ -1,3 +1,4 @@
+-- The goals of `resolve` that are answered by hand.
 use Rattle.std.proofs.Common.{◌∙◌, sym}
 use Rattle.bracket_pairs.specs.Pairs.{roles}
 use Rattle.bracket_pairs.specs.N0.{n0, direction_of, direction_of_level}

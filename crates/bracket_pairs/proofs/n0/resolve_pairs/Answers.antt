@@ -1,3 +1,4 @@
+-- The goals of `resolve_pairs` that are answered by hand.
 use Rattle.std.proofs.Common.{arith}
 use Rattle.bracket_pairs.proofs.PairSteps.{resolved-same, resolved-more, resolved-is}
 use Rattle.bracket_pairs.proofs.n0.resolve_pairs.Goals as goal

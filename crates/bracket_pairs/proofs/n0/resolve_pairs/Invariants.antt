@@ -1,3 +1,4 @@
+-- What stays true in the loop of `resolve_pairs`.
 use Rattle.bracket_pairs.specs.Runs.{IsRun}
 use Rattle.bracket_pairs.proofs.PairSteps.{IsResolved}
 use Rattle.bracket_pairs.proofs.n0.resolve_pairs.Given as goal

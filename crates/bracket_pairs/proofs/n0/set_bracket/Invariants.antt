@@ -1,3 +1,4 @@
+-- What stays true in the loop of `set_bracket`.
 use Rattle.std.proofs.Common.{ℕ, ◌≡◌, ◌<◌, ◌≤◌, ◌++◌, take, drop, true, get_or}
 use Rattle.bg_types.specs.declared.class.Bidi.TheVariants.{On}
 use Rattle.bracket_pairs.specs.N0.{is_nonspacing, marks_set, bracket_set}

@@ -1,3 +1,4 @@
+-- The goals of `set_closing` that are answered by hand.
 use Rattle.std.proofs.Common.{sym, arith}
 use Rattle.bracket_pairs.proofs.Remembered.{run-has, run-stays}
 use Rattle.bracket_pairs.proofs.n0.set_closing.Goals as goal

@@ -1,3 +1,4 @@
+-- The goals of `set_opening` that are answered by hand.
 use Rattle.std.proofs.Common.{sym}
 use Rattle.bracket_pairs.proofs.Remembered.{run-has}
 use Rattle.bracket_pairs.proofs.n0.set_opening.Goals as goal

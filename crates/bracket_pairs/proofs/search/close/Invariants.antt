@@ -1,3 +1,4 @@
+-- What stays true in the loop of `close`.
 use Rattle.std.proofs.Common.{◌≡◌, ◌≤◌, length, take, reverse}
 use Rattle.bracket_pairs.specs.Found.{closed_by}
 use Rattle.bracket_pairs.proofs.search.close.Given as goal

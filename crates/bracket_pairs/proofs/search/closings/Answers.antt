@@ -1,3 +1,4 @@
+-- The goals of `closings` that are answered by hand.
 use Rattle.std.proofs.Common.{◌≡◌, refl, length, arith}
 use Rattle.std.proofs.lemmas.Bool.Decides.{nat_tests}
 use Rattle.bracket_pairs.specs.declared.role.Role.TheVariants.{Opening, Closing, Neither}

@@ -1,3 +1,4 @@
+-- What stays true in the loop of `closings`.
 use Rattle.std.proofs.Common.{length}
 use Rattle.bracket_pairs.specs.Pairs.{roles}
 use Rattle.bracket_pairs.proofs.SearchSteps.{IsSearched}

@@ -1,3 +1,4 @@
+-- What stays true in the loop of `has_opening`.
 use Rattle.std.proofs.Common.{◌≡◌, drop}
 use Rattle.std.specs.List.{list_any}
 use Rattle.bracket_pairs.specs.Pairs.{opens, roles}

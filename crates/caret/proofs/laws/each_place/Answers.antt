@@ -1,3 +1,4 @@
+-- The goals of `each_place` that are answered by hand.
 use Rattle.caret.proofs.PlaceLaw.{each_place}
 use Rattle.caret.proofs.laws.each_place.Goals as goal
 

@@ -1,3 +1,4 @@
+-- The goals of `opposites` that are answered by hand.
 use Rattle.caret.proofs.Steps.{undone_by_opposite}
 use Rattle.caret.proofs.laws.opposites.Goals as goal
 

@@ -1,4 +1,4 @@
--- The rows so far stand behind the others.
+-- The rows so far stand after the others.
 use Rattle.std.proofs.Common.{◌≡◌, ◌++◌, map}
 use Rattle.cell_grid.specs.Rows.{shifted}
 use Rattle.cell_grid.proofs.grid.push_rows.Given as goal

@@ -1,3 +1,4 @@
+-- The goals of `read_whole` that are answered by hand.
 use Rattle.std.proofs.Common.{◌≡◌, ◌≤◌, ℕ, ◌+◌, List, length, take, Option, None, Some, IfSome, arith, length-take, min, ◌∙◌, rules}
 use Rattle.std.proofs.lemmas.List.{take_all}
 use Rattle.std.specs.Option.{option_map}

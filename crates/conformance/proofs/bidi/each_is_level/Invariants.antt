@@ -1,3 +1,4 @@
+-- What stays true in the loop of `each_is_level`.
 use Rattle.std.proofs.Common.{◌≡◌, ℕ, ◌<◌, true, None, slice_index, slice_index_or}
 use Rattle.conformance.specs.Agreement.{is_level}
 use Rattle.conformance.proofs.bidi.each_is_level.Given as goal

@@ -1,3 +1,4 @@
+-- What stays true in the loop of `breaks_of`.
 use Rattle.std.proofs.Common.{◌≡◌, ◌++◌, drop}
 use Rattle.std.specs.List.{flat_map}
 use Rattle.conformance.specs.Came.{paragraph_breaks, breaks_of}

@@ -1,3 +1,4 @@
+-- What stays true in the loop of `push_breaks`.
 use Rattle.std.proofs.Common.{◌≡◌, ◌++◌, map}
 use Rattle.line_break.specs.Lines.{is_break}
 use Rattle.conformance.specs.Came.{paragraph_breaks}

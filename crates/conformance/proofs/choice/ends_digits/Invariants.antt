@@ -1,3 +1,4 @@
+-- What stays true in the loop of `ends_digits`.
 use Rattle.std.proofs.Common.{◌≡◌, drop}
 use Rattle.conformance.specs.Choices.{ends_digits}
 use Rattle.conformance.proofs.choice.ends_digits.Given as goal

@@ -1,3 +1,4 @@
+-- What stays true in the loop of `explains`.
 use Rattle.std.proofs.Common.{◌≡◌, ℕ, ◌+◌, ◌<◌, true, false, slice_index_or}
 use Rattle.conformance.specs.Choices.{explains_at}
 use Rattle.conformance.proofs.choice.explains.Given as goal

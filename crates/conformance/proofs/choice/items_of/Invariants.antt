@@ -1,3 +1,4 @@
+-- What stays true in the loop of `items_of`.
 use Rattle.std.proofs.Common.{◌≡◌, ◌++◌, drop}
 use Rattle.conformance.specs.Choices.{items_of, items_behind}
 use Rattle.conformance.proofs.choice.items_of.Given as goal

@@ -1,3 +1,4 @@
+-- The goals of `are_breaks` that are answered by hand.
 use Rattle.std.specs.Cmp.{booleans_Decides}
 use Rattle.std.proofs.lemmas.Slice.Eq.{slice_eq-Decides}
 use Rattle.conformance.proofs.engine.are_breaks.Goals as goal

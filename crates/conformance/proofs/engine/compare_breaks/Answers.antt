@@ -1,3 +1,4 @@
+-- The goals of `compare_breaks` that are answered by hand.
 use Rattle.conformance.proofs.engine.compare_breaks.Goals as goal
 
 pub returns-clause-differs : goal.returns-clause-differs

@@ -1,3 +1,4 @@
+-- The goals of `compare_line` that are answered by hand.
 use Rattle.std.proofs.Common.{rules}
 use Rattle.conformance.proofs.engine.compare_line.Goals as goal
 

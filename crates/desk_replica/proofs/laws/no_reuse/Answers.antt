@@ -1,3 +1,4 @@
+-- The goals of `no_reuse` that are answered by hand.
 use Rattle.std.proofs.Common.{inl, inr}
 use Rattle.desk_replica.proofs.WorldRuns.{IsSound-world, no_reuse}
 use Rattle.desk_replica.proofs.laws.no_reuse.Goals as goal

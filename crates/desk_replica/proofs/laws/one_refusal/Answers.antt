@@ -1,3 +1,4 @@
+-- The goals of `one_refusal` that are answered by hand.
 use Rattle.desk_replica.proofs.Refusals.{same_refusal, same_merge_refusal, one_refusal}
 use Rattle.desk_replica.proofs.laws.one_refusal.Goals as goal
 

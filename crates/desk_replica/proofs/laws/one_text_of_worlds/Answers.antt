@@ -1,3 +1,4 @@
+-- The goals of `one_text_of_worlds` that are answered by hand.
 use Rattle.rga_tree.proofs.Interface.{text-same_operations}
 use Rattle.desk_replica.specs.DeskSets.{set_at}
 use Rattle.desk_replica.proofs.WorldLaws.{all_delivered}

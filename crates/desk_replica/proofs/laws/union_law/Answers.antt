@@ -1,3 +1,4 @@
+-- The goals of `union_law` that are answered by hand.
 use Rattle.desk_replica.proofs.UnionLaw.{commutative, associative, idempotent}
 use Rattle.desk_replica.proofs.laws.union_law.Goals as goal
 

@@ -1,3 +1,4 @@
+-- The goals of `worlds_agree` that are answered by hand.
 use Rattle.desk_replica.proofs.WorldRuns.{IsSound-world, desk_later}
 use Rattle.desk_replica.proofs.WorldLaws.{agree_worlds, walk_worlds}
 use Rattle.desk_replica.proofs.laws.worlds_agree.Goals as goal

@@ -1,3 +1,4 @@
+-- The goals of `admit` that are answered by hand.
 use Rattle.std.proofs.Common.{◌≡◌, true, false, sym, ap, ◌∙◌, rules}
 use Rattle.bg_types.specs.OperationSet.{with_operation}
 use Rattle.desk_replica.specs.Placement.{whole}

@@ -1,3 +1,4 @@
+-- The goals of `count_due` that are answered by hand.
 use Rattle.std.proofs.Common.{subst}
 use Rattle.pending_ops.specs.Below.{CountsBelow}
 use Rattle.pending_ops.specs.Releasing.{subject}

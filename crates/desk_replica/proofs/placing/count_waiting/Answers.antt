@@ -1,3 +1,4 @@
+-- The goals of `count_waiting` that are answered by hand.
 use Rattle.std.proofs.Common.{arith, refl}
 use Rattle.bg_types.specs.OperationSet.{size}
 use Rattle.desk_replica.proofs.Bounds.{lists_none}

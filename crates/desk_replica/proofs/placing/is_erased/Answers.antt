@@ -1,3 +1,4 @@
+-- The goals of `is_erased` that are answered by hand.
 use Rattle.std.proofs.Common.{◌∙◌}
 use Rattle.desk_replica.proofs.Looks.{mark-placed, mark-missing}
 use Rattle.desk_replica.proofs.placing.is_erased.Goals as goal

@@ -1,3 +1,4 @@
+-- The goals of `kept_at` that are answered by hand.
 use Rattle.std.proofs.Common.{ap, Some, ◌∙◌}
 use Rattle.desk_replica.proofs.Looks.{kept-placed, kept-missing, may_follow}
 use Rattle.desk_replica.proofs.placing.kept_at.Goals as goal

@@ -1,3 +1,4 @@
+-- The goals of `place_new` that are answered by hand.
 use Rattle.std.proofs.Common.{◌≤◌, ◌+◌, length, ap, ◌∙◌, arith}
 use Rattle.rga_tree.specs.Elements.{elements}
 use Rattle.desk_replica.specs.Reply.{attached_count}

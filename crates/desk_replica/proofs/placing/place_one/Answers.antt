@@ -1,3 +1,4 @@
+-- The goals of `place_one` that are answered by hand.
 use Rattle.std.proofs.Common.{ap, sym, subst, ◌∙◌}
 use Rattle.bg_types.specs.WellFormed.{IsWellFormed}
 use Rattle.bg_types.specs.declared.op.OpView.{OpView}

@@ -1,3 +1,4 @@
+-- The goals of `place_ready` that are answered by hand.
 use Rattle.std.proofs.Common.{◌-◌, ◌∙◌, arith, refl}
 use Rattle.desk_replica.proofs.Loop.{turn, may_place, some_due}
 use Rattle.desk_replica.proofs.placing.place_ready.Goals as goal

@@ -1,3 +1,4 @@
+-- What stays true in the loop of `place_ready`.
 use Rattle.std.proofs.Common.{◌≡◌, ◌≤◌, ℕ}
 use Rattle.bg_types.specs.OperationSet.{AllWellFormed}
 use Rattle.pending_ops.specs.Waiting.{is_ready}

@@ -1,3 +1,4 @@
+-- The goals of `count_before` that are answered by hand.
 use Rattle.std.proofs.Common.{◌≤◌, ◌<◌, ◌+◌, length, ◌∙◌, arith}
 use Rattle.rga_tree.specs.Elements.{elements}
 use Rattle.desk_replica.proofs.Counts.{front_all, front_most, part_count, part_found, part_missing, part_within}

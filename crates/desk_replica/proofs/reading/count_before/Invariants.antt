@@ -1,3 +1,4 @@
+-- What stays true in the loop of `count_before`.
 use Rattle.std.proofs.Common.{◌≡◌, take}
 use Rattle.desk_replica.specs.Told.{in_front, count_visible}
 use Rattle.desk_replica.proofs.InTurn.{joined}

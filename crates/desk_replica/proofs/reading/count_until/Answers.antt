@@ -1,3 +1,4 @@
+-- The goals of `count_until` that are answered by hand.
 use Rattle.std.proofs.Common.{◌≡◌, length, sym, ap, ◌∙◌, arith, length-take}
 use Rattle.std.specs.Cmp.{both_tied, unsigned_ties}
 use Rattle.bg_types.specs.Identifier.{same_id}

@@ -1,3 +1,4 @@
+-- What stays true in the loop of `count_until`.
 use Rattle.std.proofs.Common.{◌≡◌, take}
 use Rattle.desk_replica.specs.Told.{in_front, count_visible}
 use Rattle.desk_replica.proofs.reading.count_until.Given as goal

@@ -1,3 +1,4 @@
+-- The goals of `hidden_at` that are answered by hand.
 use Rattle.std.proofs.Common.{drop, take, ◌+◌, sym, ◌∙◌, arith}
 use Rattle.rga_tree.specs.Elements.{elements}
 use Rattle.desk_replica.proofs.Rows.{hidden_middle}

@@ -1,3 +1,4 @@
+-- The goals of `hidden_in` that are answered by hand.
 use Rattle.std.proofs.Common.{[], ◌∷◌, drop, take, ◌+◌, ap, sym, ◌∙◌, append_assoc}
 use Rattle.std.specs.Prelude.{slice_get}
 use Rattle.rga_tree.specs.Row.{hidden_ids}

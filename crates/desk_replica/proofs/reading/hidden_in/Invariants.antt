@@ -1,3 +1,4 @@
+-- What stays true in the loop of `hidden_in`.
 use Rattle.std.proofs.Common.{◌≡◌, ◌+◌, take, length}
 use Rattle.rga_tree.specs.Row.{hidden_ids}
 use Rattle.desk_replica.proofs.reading.hidden_in.Given as goal

@@ -1,3 +1,4 @@
+-- The goals of `meet_another` that are answered by hand.
 use Rattle.std.proofs.Common.{sym, arith}
 use Rattle.desk_replica.proofs.DeskLists.{met_behind, met_before}
 use Rattle.desk_replica.proofs.taking.meet_another.Goals as goal

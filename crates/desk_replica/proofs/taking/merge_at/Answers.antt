@@ -1,3 +1,4 @@
+-- The goals of `merge_at` that are answered by hand.
 use Rattle.desk_replica.specs.DeskSets.{sets_of}
 use Rattle.desk_replica.proofs.DeskLists.{merged_sets, merged_accepted, merged_left, merged_sites, left_refused}
 use Rattle.desk_replica.proofs.taking.merge_at.Goals as goal

@@ -1,3 +1,4 @@
+-- The goals of `take_at` that are answered by hand.
 use Rattle.std.proofs.Common.{sym, ap, ◌∙◌}
 use Rattle.std.proofs.lemmas.Result.{on_ok_weaker}
 use Rattle.bg_types.specs.OperationSet.{OperationSet, with_operation}

@@ -1,3 +1,4 @@
+-- What stays true in the loop of `fresh_desks`.
 use Rattle.std.proofs.Common.{◌≡◌, take}
 use Rattle.std.specs.Prelude.{map as each}
 use Rattle.desk_replica.specs.Desk.{fresh}

@@ -1,3 +1,4 @@
+-- The goals of `run_world` that are answered by hand.
 use Rattle.desk_replica.proofs.WorldSteps.{from_fresh}
 use Rattle.desk_replica.proofs.world.run_world.Goals as goal
 

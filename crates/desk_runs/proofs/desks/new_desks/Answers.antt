@@ -1,3 +1,4 @@
+-- The goals of `new_desks` that are answered by hand.
 use Rattle.std.proofs.Common.{◌≡◌, ◌+◌, ◌-◌, ◌∷◌, ◌++◌, [], sym, ap, ◌∙◌, arith}
 use Rattle.std.proofs.lemmas.List.FromFn.{map-range_with_len_more}
 use Rattle.desk_replica.specs.Desk.{fresh}

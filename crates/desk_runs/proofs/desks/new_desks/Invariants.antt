@@ -1,3 +1,4 @@
+-- What stays true in the loop of `new_desks`.
 use Rattle.std.proofs.Common.{◌≡◌, ◌-◌}
 use Rattle.desk_runs.specs.Desks.{fresh_desks}
 use Rattle.desk_runs.proofs.desks.new_desks.Given as goal

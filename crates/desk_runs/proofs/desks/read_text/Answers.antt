@@ -1,3 +1,4 @@
+-- The goals of `read_text` that are answered by hand.
 use Rattle.std.proofs.Common.{◌≡◌, ◌≤◌, List, ℕ, length, sym, subst, arith, Result, Ok, Err}
 use Rattle.std.specs.Prelude.{IfOk, string_bytes, encode_utf8_all}
 use Rattle.rga_tree.specs.TextOf.{text}

@@ -1,3 +1,4 @@
+-- What stays true in the loop of `readers_of`.
 use Rattle.std.proofs.Common.{◌≡◌, List, ℕ, Some, take}
 use Rattle.std.specs.Prelude.{map as each}
 use Rattle.desk_runs.specs.Files.{bytes_of}

@@ -1,3 +1,4 @@
+-- The goals of `carets_are_decided` that are answered by hand.
 use Rattle.desk_runs.proofs.CaretsDecided.{carets_decided}
 use Rattle.desk_runs.proofs.laws.carets_are_decided.Goals as goal
 

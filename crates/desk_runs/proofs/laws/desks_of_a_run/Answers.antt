@@ -1,3 +1,4 @@
+-- The goals of `desks_of_a_run` that are answered by hand.
 use Rattle.desk_runs.proofs.FreshDesks.{fresh-empty, fresh-count, fresh-at}
 use Rattle.desk_runs.proofs.laws.desks_of_a_run.Goals as goal
 

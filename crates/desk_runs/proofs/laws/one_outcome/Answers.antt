@@ -1,3 +1,4 @@
+-- The goals of `one_outcome` that are answered by hand.
 use Rattle.desk_runs.proofs.Flaws.{file_laws}
 use Rattle.desk_runs.proofs.LowerLaws.{FileLaws, ListLaws}
 use Rattle.desk_runs.proofs.OneCause.{one_lists, one_set, faulty_apart, one_faulty, refusal_apart, one_refused}

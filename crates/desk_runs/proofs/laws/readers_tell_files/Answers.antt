@@ -1,3 +1,4 @@
+-- The goals of `readers_tell_files` that are answered by hand.
 use Rattle.desk_runs.specs.TextOutcome.{IsTextOutcome}
 use Rattle.desk_runs.specs.ReplayOutcome.{IsReplayOutcome}
 use Rattle.desk_runs.specs.CaretsOutcome.{IsCaretsOutcome}

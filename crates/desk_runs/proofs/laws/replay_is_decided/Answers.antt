@@ -1,3 +1,4 @@
+-- The goals of `replay_is_decided` that are answered by hand.
 use Rattle.desk_runs.proofs.OnePlan.{ScheduleLaws}
 use Rattle.desk_runs.proofs.OneRefusal.{RefusalLaws}
 use Rattle.desk_runs.proofs.ReplayDecided.{replay_decided}

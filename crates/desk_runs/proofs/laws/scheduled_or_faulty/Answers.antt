@@ -1,3 +1,4 @@
+-- The goals of `scheduled_or_faulty` that are answered by hand.
 use Rattle.std.proofs.Common.{inl, inr, refl, sym, ◌∙◌}
 use Rattle.std.specs.Str.Lines.{lines}
 use Rattle.desk_runs.specs.Schedule.{fault_in, steps_from}

@@ -1,3 +1,4 @@
+-- The goals of `text_is_decided` that are answered by hand.
 use Rattle.desk_runs.proofs.TextDecided.{text_decided}
 use Rattle.desk_runs.proofs.laws.text_is_decided.Goals as goal
 

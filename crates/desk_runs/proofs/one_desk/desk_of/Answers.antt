@@ -1,3 +1,4 @@
+-- The goals of `desk_of` that are answered by hand.
 use Rattle.std.proofs.Common.{◌≡◌, List, [], ◌++◌, ◌+◌, ◌⊎◌, ◌≤◌, ℕ, inr, take, ap, sym, subst, ◌∙◌}
 use Rattle.std.specs.Prelude.{map as each}
 use Rattle.std.specs.Global.{Vec}

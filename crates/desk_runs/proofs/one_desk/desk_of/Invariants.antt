@@ -1,3 +1,4 @@
+-- What stays true in the loop of `desk_of`.
 use Rattle.std.proofs.Common.{◌≤◌, take}
 use Rattle.std.specs.Prelude.{map as each}
 use Rattle.bg_types.specs.OperationSet.{size}

@@ -1,3 +1,4 @@
+-- The goals of `take_all` that are answered by hand.
 use Rattle.std.proofs.Common.{subst, ◌++◌}
 use Rattle.std.proofs.lemmas.List.{take_all}
 use Rattle.std.proofs.lemmas.Result.{err_from_is_err_and}

@@ -1,3 +1,4 @@
+-- What stays true in the loop of `take_all`.
 use Rattle.std.proofs.Common.{◌≤◌, List, ◌++◌, take}
 use Rattle.bg_types.specs.OperationSet.{size}
 use Rattle.bg_types.specs.declared.op.OpView.{OpView}

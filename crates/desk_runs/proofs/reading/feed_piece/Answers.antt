@@ -1,3 +1,4 @@
+-- The goals of `feed_piece` that are answered by hand.
 use Rattle.std.proofs.Common.{◌≡◌, ◌⊎◌, ◌++◌, inr, sym, subst}
 use Rattle.desk_runs.specs.declared.run_fault.RunFault.TheVariants.{Memory}
 use Rattle.desk_runs.specs.Reading.{IsFlawedBy}

@@ -1,3 +1,4 @@
+-- The goals of `finish` that are answered by hand.
 use Rattle.std.proofs.Common.{◌≡◌, sym, subst}
 use Rattle.desk_runs.specs.declared.run_fault.RunFault.{RunFault}
 use Rattle.desk_runs.specs.Reading.{Flaw, IsFlawed, flaw_fault}

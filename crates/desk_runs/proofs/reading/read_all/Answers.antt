@@ -1,3 +1,4 @@
+-- The goals of `read_all` that are answered by hand.
 use Rattle.std.proofs.Common.{◌≡◌, ◌+◌, ◌++◌, [], ◌∷◌, List, length, ap, subst, sym, ◌∙◌, arith}
 use Rattle.std.specs.Prelude.{map as each, slice_set}
 use Rattle.std.specs.Global.{Vec}

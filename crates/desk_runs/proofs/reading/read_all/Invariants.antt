@@ -1,3 +1,4 @@
+-- What stays true in the loop of `read_all`.
 use Rattle.std.proofs.Common.{◌≡◌, length}
 use Rattle.std.specs.Prelude.{map as each}
 use Rattle.desk_runs.proofs.Readings.{ReadTo}

@@ -1,3 +1,4 @@
+-- What stays true in the loop of `read_file`.
 use Rattle.std.proofs.Common.{◌≡◌, ◌+◌, false, length}
 use Rattle.std.specs.Io.KnownBytes.{Consumes}
 use Rattle.op_codec.specs.Feed.{IsSound}

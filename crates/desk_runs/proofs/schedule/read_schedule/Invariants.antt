@@ -1,3 +1,4 @@
+-- What stays true in the loop of `read_schedule`.
 use Rattle.std.proofs.Common.{◌+◌, ◌≤◌, length}
 use Rattle.std.specs.List.{AllByRecursion}
 use Rattle.desk_runs.specs.Files.{lists_of}

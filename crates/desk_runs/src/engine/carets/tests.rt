@@ -45,7 +45,7 @@ fn moves_of(alloc: Global, letters: &str) -> Result<Vec<Move>, Fail> {
     Ok(moves)
 }
 
-/// What a walk answers, and what stands written.
+/// What a walk answers, and what is written.
 type Outcome = (Result<(), RunFault>, Vec<u8>);
 
 /// A walk over the text of a file.

@@ -21,7 +21,7 @@ const SMALL: Ucd<'static> = Ucd {
 /// Any key.
 const KEY: u128 = 0x2545_F491_4F6C_DD1D;
 
-/// What a run answers, and what stands written.
+/// What a run answers, and what is written.
 type Outcome = (Result<(), RunFault>, Vec<u8>);
 
 /// A run into a sink that stops after so many bytes.

@@ -46,7 +46,7 @@ fn four() -> Option<[Op; 4]> {
     ])
 }
 
-/// The answer over these files, and what stands written.
+/// The answer over these files, and what is written.
 fn run(alloc: Global, files: &[Vec<u8>]) -> (Result<(), RunFault>, Vec<u8>) {
     let mut bytes = Vec::new(alloc);
     let answer = text(alloc, KEY, files, &mut Out::new(&mut bytes));

@@ -1,4 +1,4 @@
--- Each cluster stands where the one before it ends, and takes the status behind its last code point.
+-- Each cluster stands where the one before it ends, and takes the status after its last code point.
 use Rattle.std.proofs.Common.{◌<◌, ◌≤◌, ℕ, List, length, refl, sym, ap, subst, ◌∙◌, arith}
 use Rattle.std.proofs.lemmas.Iterator.{YieldsList-from_chars}
 use Rattle.std.proofs.lemmas.Iterator.Consumers.{count_from_yields_List}

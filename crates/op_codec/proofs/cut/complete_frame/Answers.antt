@@ -1,3 +1,4 @@
+-- The goals of `complete_frame` that are answered by hand.
 use Rattle.std.proofs.Common.{List, ℕ, sym, ap, subst, ◌∙◌, arith}
 use Rattle.op_codec.specs.Spelling.{Frame}
 use Rattle.op_codec.specs.Fault.{cause_at, characters_in}

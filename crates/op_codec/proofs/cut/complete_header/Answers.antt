@@ -1,3 +1,4 @@
+-- The goals of `complete_header` that are answered by hand.
 use Rattle.std.proofs.Common.{sym, ap, ◌∙◌, arith}
 use Rattle.op_codec.specs.Fault.{header_cause}
 use Rattle.op_codec.proofs.Cuts.{header_kept, header_completed}

@@ -1,3 +1,4 @@
+-- The goals of `first_fault` that are answered by hand.
 use Rattle.std.proofs.Common.{sym, ap, ◌∙◌}
 use Rattle.op_codec.specs.Feed.{kept_fault}
 use Rattle.op_codec.proofs.Feeds.{kept_none}

@@ -1,3 +1,4 @@
+-- The goals of `keep` that are answered by hand.
 use Rattle.std.proofs.Common.{◌++◌, List, ℕ, take, ap, ◌∙◌, arith}
 use Rattle.op_codec.proofs.Cuts.{rest_kept}
 use Rattle.op_codec.proofs.cut.keep.Goals as goal

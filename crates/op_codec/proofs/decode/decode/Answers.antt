@@ -1,3 +1,4 @@
+-- The goals of `decode` that are answered by hand.
 use Rattle.std.proofs.Common.{List, ℕ, Err, subst}
 use Rattle.op_codec.specs.Feed.{IsFeedOutcome}
 use Rattle.op_codec.proofs.Feeds.{whole_told}

@@ -1,3 +1,4 @@
+-- The goals of `decode_file` that are answered by hand.
 use Rattle.op_codec.proofs.Whole.{spelled_read, faulty_told}
 use Rattle.op_codec.proofs.decode.decode_file.Goals as goal
 

@@ -1,3 +1,4 @@
+-- The goals of `encode_file` that are answered by hand.
 use Rattle.std.proofs.Common.{◌≡◌, arith, ap, subst, ◌∙◌, sym, length, ℕ, List, take}
 use Rattle.std.specs.List.{AllByRecursion}
 use Rattle.std.proofs.lemmas.List.{take_all}

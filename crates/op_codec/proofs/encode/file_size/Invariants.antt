@@ -1,3 +1,4 @@
+-- What stays true in the loop of `file_size`.
 use Rattle.std.proofs.Common.{◌≡◌, ◌-◌, ◌^◌, length, take}
 use Rattle.std.specs.Prelude.{min}
 use Rattle.op_codec.specs.Spelling.{spelling}

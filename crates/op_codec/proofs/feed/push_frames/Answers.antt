@@ -1,3 +1,4 @@
+-- The goals of `push_frames` that are answered by hand.
 use Rattle.std.proofs.Common.{◌∙◌, arith}
 use Rattle.op_codec.specs.Fault.{characters_in}
 use Rattle.op_codec.specs.Feed.{TakesIn}

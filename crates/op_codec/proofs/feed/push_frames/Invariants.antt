@@ -1,3 +1,4 @@
+-- What stays true in the loop of `push_frames`.
 use Rattle.std.proofs.Common.{◌≡◌, ◌++◌, length, take}
 use Rattle.std.specs.List.{AllByRecursion}
 use Rattle.bg_types.specs.WellFormed.{IsWellFormed}

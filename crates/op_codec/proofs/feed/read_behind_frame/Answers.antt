@@ -1,3 +1,4 @@
+-- The goals of `read_behind_frame` that are answered by hand.
 use Rattle.std.proofs.Common.{arith}
 use Rattle.op_codec.proofs.Feeds.{few_frames, frame_left, frame_goes_on, taken_well, taken_behind, grown_twice, if_none, if_some, on_err_any}
 use Rattle.op_codec.proofs.feed.read_behind_frame.Goals as goal

@@ -1,3 +1,4 @@
+-- The goals of `read_frames` that are answered by hand.
 use Rattle.op_codec.proofs.Feeds.{frames_taken}
 use Rattle.op_codec.proofs.feed.read_frames.Goals as goal
 

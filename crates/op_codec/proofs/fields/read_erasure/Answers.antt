@@ -1,3 +1,4 @@
+-- The goals of `read_erasure` that are answered by hand.
 use Rattle.std.proofs.Common.{◌≡◌, ap, ◌∙◌, arith, rules}
 use Rattle.op_codec.specs.Spelling.{frame_fields}
 use Rattle.op_codec.specs.Fault.{identifier_at}

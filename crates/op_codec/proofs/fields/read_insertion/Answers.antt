@@ -1,3 +1,4 @@
+-- The goals of `read_insertion` that are answered by hand.
 use Rattle.std.proofs.Common.{◌≡◌, drop, arith, rules}
 use Rattle.byteorder.specs.Endian.{big_number}
 use Rattle.op_codec.specs.Spelling.{parent_identifier}

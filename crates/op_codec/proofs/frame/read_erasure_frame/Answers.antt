@@ -1,3 +1,4 @@
+-- The goals of `read_erasure_frame` that are answered by hand.
 use Rattle.std.proofs.Common.{arith}
 use Rattle.op_codec.proofs.Frames.{erasure_spelled}
 use Rattle.op_codec.proofs.Gathered.{alone_is}

@@ -1,3 +1,4 @@
+-- The goals of `read_frame` that are answered by hand.
 use Rattle.std.proofs.Common.{sym, ap, ◌∙◌}
 use Rattle.op_codec.specs.Fault.{cause_at}
 use Rattle.op_codec.proofs.Faultless.{cause_at-joined}

@@ -1,3 +1,4 @@
+-- The goals of `read_insertion_frame` that are answered by hand.
 use Rattle.std.proofs.Common.{List, ℕ, length, drop, arith, ap, ◌∙◌}
 use Rattle.std.proofs.lemmas.List.{length-take, length-drop}
 use Rattle.op_codec.proofs.Frames.{insertion_spelled}

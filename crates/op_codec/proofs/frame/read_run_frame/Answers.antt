@@ -1,3 +1,4 @@
+-- The goals of `read_run_frame` that are answered by hand.
 use Rattle.std.proofs.Common.{List, ℕ, ◌-◌, ◌++◌, drop, take, length, sym, ap, subst, ◌∙◌, arith}
 use Rattle.std.proofs.lemmas.List.{take_all, length-take, length-drop}
 use Rattle.op_codec.specs.Fault.{characters_in}

@@ -1,3 +1,4 @@
+-- The goals of `fed_in_pieces` that are answered by hand.
 use Rattle.std.proofs.Common.{refl}
 use Rattle.op_codec.proofs.Pieces.{all_fed, piece_taken, piece_faulty, piece_refused, fed_whole, fed_spelled, fed_fault}
 use Rattle.op_codec.proofs.laws.fed_in_pieces.Goals as goal

@@ -1,3 +1,4 @@
+-- The goals of `one_spelling` that are answered by hand.
 use Rattle.op_codec.proofs.Unique.{one_list}
 use Rattle.op_codec.proofs.laws.one_spelling.Goals as goal
 

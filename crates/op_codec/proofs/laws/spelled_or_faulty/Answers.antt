@@ -1,3 +1,4 @@
+-- The goals of `spelled_or_faulty` that are answered by hand.
 use Rattle.op_codec.proofs.Complete.{told}
 use Rattle.op_codec.proofs.Unique.{never_both, one_fault}
 use Rattle.op_codec.proofs.laws.spelled_or_faulty.Goals as goal

@@ -1,3 +1,4 @@
+-- The goals of `whole_frames` that are answered by hand.
 use Rattle.op_codec.proofs.Pieces.{one_whole, spelled_whole, lasting_whole}
 use Rattle.op_codec.proofs.laws.whole_frames.Goals as goal
 

@@ -1,3 +1,4 @@
+-- The goals of `are_scalars` that are answered by hand.
 use Rattle.std.proofs.Common.{List, ℕ, ◌-◌, drop, take, length, sym, ap, ◌∙◌, arith}
 use Rattle.std.specs.List.{list_all}
 use Rattle.std.proofs.Math.Utf8.{scalar}

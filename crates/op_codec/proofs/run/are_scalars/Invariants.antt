@@ -1,3 +1,4 @@
+-- What stays true in the loop of `are_scalars`.
 use Rattle.std.proofs.Common.{◌≡◌, length}
 use Rattle.std.specs.List.{list_all}
 use Rattle.std.proofs.Math.Utf8.{scalar}

@@ -1,3 +1,4 @@
+-- The goals of `push_frame` that are answered by hand.
 use Rattle.std.proofs.Common.{ℕ, refl, ap, ◌∙◌, ◌+◌, cond, None, ltb, sym}
 use Rattle.op_codec.proofs.Characters.{length-characters_in}
 use Rattle.op_codec.proofs.run.push_frame.Goals as goal

@@ -1,3 +1,4 @@
+-- The goals of `read_counter` that are answered by hand.
 use Rattle.std.proofs.Common.{◌≤◌, length, arith}
 use Rattle.std.proofs.lemmas.Bool.Decides.{nat_tests}
 use Rattle.op_listing.proofs.Numerals.{counter_read}

@@ -1,3 +1,4 @@
+-- The goals of `read_scalar` that are answered by hand.
 use Rattle.op_listing.proofs.Numerals.{scalar_read}
 use Rattle.op_listing.proofs.field.read_scalar.Goals as goal
 

@@ -1,3 +1,4 @@
+-- The goals of `dump_outcomes` that are answered by hand.
 use Rattle.op_listing.proofs.Outcomes.{FileLaws, dump-spelled, dump-faulty, dump-device}
 use Rattle.op_listing.proofs.laws.dump_outcomes.Goals as goal
 

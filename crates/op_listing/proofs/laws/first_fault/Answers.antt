@@ -1,3 +1,4 @@
+-- The goals of `first_fault` that are answered by hand.
 use Rattle.op_listing.proofs.FirstFault.{either, never_both, one_fault}
 use Rattle.op_listing.proofs.laws.first_fault.Goals as goal
 

@@ -1,3 +1,4 @@
+-- The goals of `lines_read` that are answered by hand.
 use Rattle.op_listing.proofs.FirstFault.{begin, more, faulty, end}
 use Rattle.op_listing.proofs.laws.lines_read.Goals as goal
 

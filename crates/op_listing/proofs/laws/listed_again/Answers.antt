@@ -1,3 +1,4 @@
+-- The goals of `listed_again` that are answered by hand.
 use Rattle.op_listing.specs.Listing.{listing_of}
 use Rattle.op_listing.proofs.Listings.{one_listed}
 use Rattle.op_listing.proofs.ListedAgain.{listed_again}

@@ -1,3 +1,4 @@
+-- The goals of `listed_or_faulty` that are answered by hand.
 use Rattle.op_listing.proofs.Listings.{listed_or_faulty, one_listed, listed_apart, one_faulty_line}
 use Rattle.op_listing.proofs.laws.listed_or_faulty.Goals as goal
 

@@ -1,3 +1,4 @@
+-- The goals of `pack_outcomes` that are answered by hand.
 use Rattle.op_listing.proofs.Outcomes.{pack-listed, pack-faulty, pack-device}
 use Rattle.op_listing.proofs.laws.pack_outcomes.Goals as goal
 

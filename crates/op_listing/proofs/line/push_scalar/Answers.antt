@@ -1,3 +1,4 @@
+-- The goals of `push_scalar` that are answered by hand.
 use Rattle.std.proofs.Common.{ℕ, List, Option, Some, ap, subst, ◌∙◌, string_bytes}
 use Rattle.std.specs.Prelude.{OnOk}
 use Rattle.std.specs.Fmt.{AppendsText}

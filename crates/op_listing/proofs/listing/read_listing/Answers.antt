@@ -1,3 +1,4 @@
+-- The goals of `read_listing` that are answered by hand.
 use Rattle.std.proofs.Common.{◌+◌, ◌∷◌, [], List, sym, subst, arith}
 use Rattle.std.proofs.lemmas.List.{append-nil}
 use Rattle.bg_types.specs.declared.op.OpView.{OpView}

@@ -1,3 +1,4 @@
+-- What stays true in the loop of `read_listing`.
 use Rattle.std.proofs.Common.{◌+◌, ◌≤◌, length}
 use Rattle.op_listing.proofs.ReadLines.{IsReadTo}
 use Rattle.op_listing.proofs.listing.read_listing.Given as goal

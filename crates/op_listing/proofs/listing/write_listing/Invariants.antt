@@ -1,3 +1,4 @@
+-- What stays true in the loop of `write_listing`.
 use Rattle.std.proofs.Common.{◌≡◌, take, string_bytes}
 use Rattle.op_listing.specs.Listing.{listing_of}
 use Rattle.op_listing.proofs.listing.write_listing.Given as goal

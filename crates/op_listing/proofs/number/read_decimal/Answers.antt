@@ -1,3 +1,4 @@
+-- The goals of `read_decimal` that are answered by hand.
 use Rattle.std.proofs.Common.{◌≤◌, length, arith}
 use Rattle.std.proofs.lemmas.Bool.Decides.{nat_tests}
 use Rattle.op_listing.proofs.Numerals.{decimal_read}

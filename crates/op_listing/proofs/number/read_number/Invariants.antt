@@ -1,3 +1,4 @@
+-- What stays true in the loop of `read_number`.
 use Rattle.std.proofs.Common.{◌≡◌, ◌<◌, ◌^◌, take}
 use Rattle.std.specs.Str.Parse.{AllDigits, digits_value}
 use Rattle.op_listing.proofs.number.read_number.Given as goal

@@ -1,3 +1,4 @@
+-- The goals of `next_word` that are answered by hand.
 use Rattle.std.proofs.Common.{◌-◌, List, ℕ, length, take, drop, arith}
 use Rattle.std.proofs.lemmas.List.{take_all, length-drop}
 use Rattle.op_listing.proofs.Parting.{takes_word}

@@ -1,3 +1,4 @@
+-- The goals of `append_chain` that are answered by hand.
 use Rattle.std.proofs.Common.{[], refl, sym, subst, ◌∙◌, vec_capacity, arith}
 use Rattle.std.proofs.lemmas.List.{append-nil}
 use Rattle.pending_ops.specs.Chains.{Links, first_in, slot_in}

@@ -1,3 +1,4 @@
+-- What stays true in the loop of `append_chain`.
 use Rattle.std.proofs.Common.{◌≡◌, ◌-◌, vec_len, vec_capacity}
 use Rattle.pending_ops.specs.Chains.{slot_in, first_in}
 use Rattle.pending_ops.proofs.Walks.{IsWalking}

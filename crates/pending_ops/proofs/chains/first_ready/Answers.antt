@@ -1,3 +1,4 @@
+-- The goals of `first_ready` that are answered by hand.
 use Rattle.std.proofs.Common.{◌≡◌, true, false, None, Some, sym, ap, ◌∙◌, true≢false, is_some}
 use Rattle.std.specs.Option.{option_map_or}
 use Rattle.pending_ops.specs.declared.chains.Slot.{Slot}

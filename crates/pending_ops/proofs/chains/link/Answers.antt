@@ -1,3 +1,4 @@
+-- The goals of `link` that are answered by hand.
 use Rattle.std.proofs.Common.{Some, ap, sym, ◌∙◌, cond}
 use Rattle.bg_types.specs.declared.op.Place.{Place}
 use Rattle.pending_ops.specs.Waiting.{is_after}

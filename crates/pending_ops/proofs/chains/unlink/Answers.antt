@@ -1,3 +1,4 @@
+-- The goals of `unlink` that are answered by hand.
 use Rattle.std.proofs.Common.{◌≡◌, ◌∷◌, [], ◌++◌, Bool, true, false, not, ◌&&◌, List, Option, None, Some, sym, ap, subst, ◌∙◌, refl, true≢false, is_some, cond, arith, length, length-append, ◌<◌}
 use Rattle.std.specs.Prelude.{IfSome}
 use Rattle.std.specs.Option.{option_to_list}

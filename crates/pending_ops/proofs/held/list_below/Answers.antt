@@ -1,3 +1,4 @@
+-- The goals of `list_below` that are answered by hand.
 use Rattle.std.proofs.Common.{◌≡◌, ◌≤◌, ◌+◌, ◌++◌, Some, refl, sym, ap, subst, ◌∙◌, length, length-append, vec_len, arith}
 use Rattle.std.specs.Prelude.{slice_get}
 use Rattle.std.proofs.lemmas.Option.{slice_get_read}

@@ -1,3 +1,4 @@
+-- What stays true in the loop of `list_below`.
 use Rattle.std.proofs.Common.{◌≡◌, ◌-◌, length, vec_capacity}
 use Rattle.pending_ops.specs.Chains.{slot_in}
 use Rattle.pending_ops.proofs.Counting.{IsListing}

@@ -1,3 +1,4 @@
+-- The goals of `after_l1` that are answered by hand.
 use Rattle.std.proofs.Common.{◌≤◌, ◌∙◌, ap, sym, arith, rules, length}
 use Rattle.std.specs.Prelude.{◌||◌, ◌&&◌}
 use Rattle.std.specs.Char.{IsScalar}

@@ -1,3 +1,4 @@
+-- The goals of `firsts` that are answered by hand.
 use Rattle.std.proofs.Common.{arith}
 use Rattle.std.proofs.lemmas.List.Sums.{sum_by-drop_more}
 use Rattle.reorder.proofs.line.firsts.Goals as goal

@@ -1,3 +1,4 @@
+-- What stays true in the loop of `firsts`.
 use Rattle.std.proofs.Common.{◌≡◌, ◌++◌, ◌+◌, length, sum, drop}
 use Rattle.reorder.specs.LineLevels.{group_firsts}
 use Rattle.reorder.proofs.line.firsts.Given as goal

@@ -1,3 +1,4 @@
+-- The goals of `line_levels` that are answered by hand.
 use Rattle.std.proofs.Common.{sym, ◌∙◌, ap, map, length}
 use Rattle.std.specs.Str.{chars}
 use Rattle.std.proofs.lemmas.List.{length-map}

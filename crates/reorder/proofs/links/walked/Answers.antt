@@ -1,3 +1,4 @@
+-- The goals of `walked` that are answered by hand.
 use Rattle.std.proofs.Common.{◌<◌, ◌++◌, ◌+◌, ◌-◌, ◌∷◌, [], ap, sym, ◌∙◌, subst, append_assoc, length, get_or, All}
 use Rattle.std.proofs.lemmas.List.Elements.{All-head, All-tail}
 use Rattle.reorder.specs.Links.{walk}

@@ -1,3 +1,4 @@
+-- What stays true in the loop of `walked`.
 use Rattle.std.proofs.Common.{◌≡◌, ◌<◌, ◌-◌, ◌++◌, length, All}
 use Rattle.reorder.specs.Links.{walk}
 use Rattle.reorder.proofs.links.walked.Given as goal

@@ -1,3 +1,4 @@
+-- The goals of `+stretch_from` that are answered by hand.
 use Rattle.std.proofs.Common.{◌+◌, arith, ap, ◌∙◌, get_or}
 use Rattle.reorder.proofs.Stretches.{IsLater, later-moved, later-single, later-upper, stretch-last, stretch-start, stretch-step}
 use Rattle.reorder.proofs.order.+stretch_from.Goals as goal

@@ -1,3 +1,4 @@
+-- What stays true in the loop of `+stretch_from`.
 use Rattle.std.proofs.Common.{length, ◌-◌}
 use Rattle.reorder.proofs.Stretches.{IsStretch}
 use Rattle.reorder.proofs.order.+stretch_from.Given as goal

@@ -1,3 +1,4 @@
+-- The goals of `visual` that are answered by hand.
 use Rattle.std.proofs.Common.{sym, ◌∙◌, ◌≡◌, subst, length}
 use Rattle.std.specs.Prelude.{IfOk, IsPermutation}
 use Rattle.std.specs.List.{range_with_len}

@@ -1,3 +1,4 @@
+-- What stays true in the loop of `total`.
 use Rattle.std.proofs.Common.{◌≡◌, ◌≤◌, ◌*◌, sum, take}
 use Rattle.reorder.proofs.tests.total.Given as goal
 

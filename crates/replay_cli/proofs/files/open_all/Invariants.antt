@@ -1,3 +1,4 @@
+-- What stays true in the loop of `open_all`.
 use Rattle.std.proofs.Common.{◌≡◌, length}
 use Rattle.std.specs.Prelude.{map as each}
 use Rattle.desk_runs.specs.Readers.{AreWorking}

@@ -1,3 +1,4 @@
+-- The goals of `least_of` that are answered by hand.
 use Rattle.std.proofs.Common.{◌≡◌, ◌+◌, ◌∙◌, true, sym, subst, take}
 use Rattle.std.specs.List.{list_any}
 use Rattle.std.specs.Ordering.{is_lt}

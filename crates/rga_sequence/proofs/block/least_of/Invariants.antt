@@ -1,3 +1,4 @@
+-- What stays true in the loop of `least_of`.
 use Rattle.std.proofs.Common.{◌≡◌, true, not, take}
 use Rattle.std.specs.List.{list_all, list_any}
 use Rattle.std.specs.Ordering.{is_lt}

@@ -1,3 +1,4 @@
+-- The goals of `rehome` that are answered by hand.
 use Rattle.std.proofs.Common.{◌∙◌, sym, subst, take}
 use Rattle.std.specs.Prelude.{IsSome}
 use Rattle.std.specs.HashMap.{get}

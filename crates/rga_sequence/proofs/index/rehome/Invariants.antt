@@ -1,3 +1,4 @@
+-- What stays true in the loop of `rehome`.
 use Rattle.std.proofs.Common.{◌≡◌, take, cond, Some}
 use Rattle.rga_sequence.specs.BlockRows.{has}
 use Rattle.std.specs.HashMap.{get, spare, hash_map_len}

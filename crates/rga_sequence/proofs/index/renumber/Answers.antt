@@ -1,3 +1,4 @@
+-- The goals of `renumber` that are answered by hand.
 use Rattle.std.proofs.Common.{◌≡◌, ◌<◌, ◌∙◌, get_or, length, sym, ap, arith, rules}
 use Rattle.std.specs.Prelude.{slice_get, set}
 use Rattle.rga_sequence.specs.BlockRows.{numbers_of}

@@ -1,3 +1,4 @@
+-- What stays true in the loop of `renumber`.
 use Rattle.std.proofs.Common.{◌≡◌, ◌<◌, ℕ, get_or, Some}
 use Rattle.std.specs.Prelude.{slice_get}
 use Rattle.rga_sequence.specs.BlockRows.{numbers_of}

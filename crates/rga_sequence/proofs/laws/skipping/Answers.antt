@@ -1,3 +1,4 @@
+-- The goals of `skipping` that are answered by hand.
 use Rattle.rga_tree.proofs.Interface.{walk-leaf_attached}
 use Rattle.rga_sequence.proofs.laws.skipping.Goals as goal
 

@@ -1,3 +1,4 @@
+-- The goals of `block_of` that are answered by hand.
 use Rattle.std.proofs.Common.{◌≤◌, ◌+◌, ◌∙◌, ap, get_or, [], arith}
 use Rattle.rga_sequence.specs.Blocks.{seen}
 use Rattle.rga_sequence.proofs.Seen.{block_more, seen_all-more}

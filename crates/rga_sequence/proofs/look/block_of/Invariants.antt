@@ -1,3 +1,4 @@
+-- What stays true in the loop of `block_of`.
 use Rattle.std.proofs.Common.{◌≡◌, ◌<◌, ◌+◌, ◌-◌, take, length, get_or, []}
 use Rattle.rga_sequence.specs.Blocks.{seen, seen_all}
 use Rattle.rga_sequence.proofs.look.block_of.Given as goal

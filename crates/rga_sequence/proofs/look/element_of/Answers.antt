@@ -1,3 +1,4 @@
+-- The goals of `element_of` that are answered by hand.
 use Rattle.std.proofs.Common.{◌≡◌, ◌<◌, ◌+◌, ◌∙◌, false, sym, ap, cond, take, get_or, [], arith}
 use Rattle.std.specs.Prelude.{slice_get}
 use Rattle.rga_sequence.specs.Blocks.{seen}

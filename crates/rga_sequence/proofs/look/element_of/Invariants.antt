@@ -1,3 +1,4 @@
+-- What stays true in the loop of `element_of`.
 use Rattle.std.proofs.Common.{◌≡◌, ◌+◌, ◌-◌, take, length, get_or, [], Some}
 use Rattle.std.specs.Prelude.{slice_get}
 use Rattle.rga_sequence.specs.Blocks.{seen}

@@ -1,3 +1,4 @@
+-- The goals of `find` that are answered by hand.
 use Rattle.std.proofs.Common.{◌+◌, ◌∙◌, refl, ap, sym, arith, take, get_or, []}
 use Rattle.std.specs.Prelude.{slice_get}
 use Rattle.rga_sequence.specs.Blocks.{seen, IsVisiblePlace}

@@ -1,3 +1,4 @@
+-- The goals of `count_in` that are answered by hand.
 use Rattle.std.proofs.Common.{ap, length, get_or, arith}
 use Rattle.rga_sequence.proofs.Passing.{items_there}
 use Rattle.rga_sequence.proofs.order.count_in.Goals as goal

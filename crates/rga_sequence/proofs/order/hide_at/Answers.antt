@@ -1,3 +1,4 @@
+-- The goals of `hide_at` that are answered by hand.
 use Rattle.std.proofs.Common.{◌≡◌, ◌+◌, ◌++◌, ◌∙◌, List, [], true, ap, length, take, drop, get_or, arith}
 use Rattle.std.specs.Prelude.{set}
 use Rattle.std.proofs.lemmas.List.{take_at}

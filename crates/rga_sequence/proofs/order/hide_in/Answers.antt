@@ -1,3 +1,4 @@
+-- The goals of `hide_in` that are answered by hand.
 use Rattle.std.proofs.Common.{◌+◌, ◌∙◌, List, true, sym, ap, get_or}
 use Rattle.std.specs.Prelude.{set, slice_set}
 use Rattle.std.proofs.lemmas.List.{map-set}

@@ -1,3 +1,4 @@
+-- The goals of `put_in` that are answered by hand.
 use Rattle.std.proofs.Common.{◌∙◌, sym, ap}
 use Rattle.std.specs.Prelude.{insert, slice_set}
 use Rattle.std.proofs.lemmas.List.{map-set}

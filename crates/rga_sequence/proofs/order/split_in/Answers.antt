@@ -1,3 +1,4 @@
+-- The goals of `split_in` that are answered by hand.
 use Rattle.std.proofs.Common.{◌∙◌, sym, ap, take, drop}
 use Rattle.std.specs.Prelude.{slice_set}
 use Rattle.std.proofs.lemmas.List.{map-set}

@@ -1,3 +1,4 @@
+-- What stays true in the loop of `add_spares`.
 use Rattle.std.proofs.Common.{◌≡◌, ◌≤◌, ◌+◌}
 use Rattle.std.specs.Prelude.{vec_len, vec_capacity}
 use Rattle.rga_sequence.proofs.row.add_spares.Given as goal

@@ -1,3 +1,4 @@
+-- The goals of `before` that are answered by hand.
 use Rattle.std.proofs.Common.{◌≡◌, ◌∙◌, sym, ap, true, rules}
 use Rattle.bg_types.specs.Identifier.{same_id}
 use Rattle.rga_tree.specs.declared.element.Element.{Element}

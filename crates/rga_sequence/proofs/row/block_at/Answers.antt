@@ -1,3 +1,4 @@
+-- The goals of `block_at` that are answered by hand.
 use Rattle.std.proofs.Common.{◌≡◌, ◌+◌, ◌-◌, [], suc, ap, length, take, get_or, arith}
 use Rattle.rga_sequence.specs.Blocks.{joined, offset}
 use Rattle.rga_sequence.specs.BlockRows.{items_of}

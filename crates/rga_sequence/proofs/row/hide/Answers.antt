@@ -1,3 +1,4 @@
+-- The goals of `hide` that are answered by hand.
 use Rattle.std.proofs.Common.{◌≡◌, ◌<◌, ◌∙◌, [], true, false, sym, ap, subst, length, get_or, length-set, arith}
 use Rattle.std.specs.Prelude.{set, slice_get}
 use Rattle.bg_types.specs.Identifier.{same_id}

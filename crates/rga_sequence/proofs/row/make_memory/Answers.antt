@@ -1,0 +1,1 @@
+-- The goals of `make_memory` that are answered by hand.

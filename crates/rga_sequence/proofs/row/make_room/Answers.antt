@@ -1,3 +1,4 @@
+-- The goals of `make_room` that are answered by hand.
 use Rattle.std.proofs.Common.{◌≡◌, ◌<◌, ◌∙◌, [], refl, ap, length, get_or, arith}
 use Rattle.rga_sequence.specs.BlockRows.{items_of}
 use Rattle.rga_sequence.proofs.Joined.{halved}

@@ -1,3 +1,4 @@
+-- The goals of `put` that are answered by hand.
 use Rattle.std.proofs.Common.{◌+◌}
 use Rattle.rga_sequence.proofs.row.put.Goals as goal
 

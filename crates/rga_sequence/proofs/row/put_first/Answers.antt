@@ -1,3 +1,4 @@
+-- The goals of `put_first` that are answered by hand.
 use Rattle.std.proofs.Common.{◌≡◌, ℕ, zero, suc, ◌<◌, ◌+◌, ◌++◌, ◌∷◌, ◌∙◌, [], List, Some, None, cond, true, false, sym, ap, subst, refl, length, get_or, arith}
 use Rattle.std.specs.Prelude.{slice_get, is_ok, is_some, vec_len}
 use Rattle.std.specs.Option.{option_to_list}

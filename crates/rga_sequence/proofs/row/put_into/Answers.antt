@@ -1,3 +1,4 @@
+-- The goals of `put_into` that are answered by hand.
 use Rattle.std.proofs.Common.{◌≡◌, ◌<◌, ◌+◌, ◌∙◌, [], Some, cond, false, sym, ap, subst, length, get_or, arith}
 use Rattle.std.specs.Prelude.{insert, slice_get, is_some}
 use Rattle.std.specs.HashMap.{get, hash_map_len}

@@ -1,3 +1,4 @@
+-- The goals of `split` that are answered by hand.
 use Rattle.std.proofs.Common.{◌≡◌, ◌<◌, ◌≤◌, ◌+◌, ◌++◌, ◌∙◌, ◌∷◌, [], Some, cond, true, sym, ap, subst, length, take, drop, get_or, length-append, length-drop, length-take-le, arith}
 use Rattle.std.specs.Prelude.{insert, slice_get, IsSome, is_ok, is_some, vec_len}
 use Rattle.std.specs.List.{AllByRecursion}

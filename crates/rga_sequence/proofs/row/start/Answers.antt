@@ -1,3 +1,4 @@
+-- The goals of `start` that are answered by hand.
 use Rattle.std.proofs.Common.{◌≤◌, ◌+◌, length, subst, arith}
 use Rattle.bg_types.specs.declared.op.Place.{Place}
 use Rattle.rga_tree.specs.Row.{start_of}

@@ -1,3 +1,4 @@
+-- The goals of `attached_alone` that are answered by hand.
 use Rattle.rga_tree.proofs.AttachedPart.{walk-part, text-part}
 use Rattle.rga_tree.proofs.laws.attached_alone.Goals as goal
 

@@ -1,3 +1,4 @@
+-- The goals of `attached_once` that are answered by hand.
 use Rattle.rga_tree.specs.Walk.{walk}
 use Rattle.bg_types.specs.declared.op.Place.TheVariants.{Root}
 use Rattle.rga_tree.proofs.Listed.{Contains-listed, listed-contains}

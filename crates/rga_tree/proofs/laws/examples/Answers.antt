@@ -1,3 +1,4 @@
+-- The goals of `examples` that are answered by hand.
 use Rattle.rga_tree.proofs.Examples.{text-in_line, text-at_root, text-in_tree, text-erased}
 use Rattle.rga_tree.proofs.laws.examples.Goals as goal
 

@@ -1,3 +1,4 @@
+-- The goals of `examples_of_order` that are answered by hand.
 use Rattle.rga_tree.proofs.OrderExamples.{walk-two_runs, IsPartOf-one_waits, walk-one_waits, one_waiting, order-two_runs, below-two_runs, runs-two_runs, left-two_runs}
 use Rattle.rga_tree.proofs.laws.examples_of_order.Goals as goal
 

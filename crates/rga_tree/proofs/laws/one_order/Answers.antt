@@ -1,3 +1,4 @@
+-- The goals of `one_order` that are answered by hand.
 use Rattle.rga_tree.proofs.OneOrder.{Precedes-agree, StandsBetween-agree, Precedes-more}
 use Rattle.rga_tree.proofs.laws.one_order.Goals as goal
 

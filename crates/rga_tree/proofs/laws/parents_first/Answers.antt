@@ -1,3 +1,4 @@
+-- The goals of `parents_first` that are answered by hand.
 use Rattle.rga_tree.proofs.ParentsFirst.{StandsAmong-before}
 use Rattle.rga_tree.proofs.laws.parents_first.Goals as goal
 

@@ -1,3 +1,4 @@
+-- The goals of `same_sets` that are answered by hand.
 use Rattle.rga_tree.proofs.OneOrder.{walk-same, text-same_operations}
 use Rattle.rga_tree.proofs.laws.same_sets.Goals as goal
 

@@ -1,3 +1,4 @@
+-- The goals of `sub_walk` that are answered by hand.
 use Rattle.rga_tree.proofs.TreeAttached.{IsAttached-more}
 use Rattle.rga_tree.proofs.SubWalk.{walk-sub_walk, is_attached-test, inserted_part}
 use Rattle.rga_tree.proofs.laws.sub_walk.Goals as goal

@@ -1,3 +1,4 @@
+-- The goals of `tree_attached` that are answered by hand.
 use Rattle.rga_tree.proofs.TreeAttached.{IsAttached-tree}
 use Rattle.rga_tree.proofs.laws.tree_attached.Goals as goal
 

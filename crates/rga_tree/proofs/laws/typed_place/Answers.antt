@@ -1,3 +1,4 @@
+-- The goals of `typed_place` that are answered by hand.
 use Rattle.rga_tree.proofs.TypedPlace.{walk-typed_behind, walk-typed_first, StandsBetween-typed}
 use Rattle.rga_tree.proofs.laws.typed_place.Goals as goal
 

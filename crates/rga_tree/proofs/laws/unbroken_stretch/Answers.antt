@@ -1,3 +1,4 @@
+-- The goals of `unbroken_stretch` that are answered by hand.
 use Rattle.rga_tree.proofs.Below.{stretch_of}
 use Rattle.rga_tree.proofs.Runs.{runs_apart, runs_at_one_place, IsRun-more}
 use Rattle.rga_tree.proofs.laws.unbroken_stretch.Goals as goal

@@ -1,3 +1,4 @@
+-- The goals of `walk_order` that are answered by hand.
 use Rattle.rga_tree.proofs.OneOrder.{Precedes-attached, Precedes-either, Precedes-never_both, Precedes-in_turn}
 use Rattle.rga_tree.proofs.laws.walk_order.Goals as goal
 

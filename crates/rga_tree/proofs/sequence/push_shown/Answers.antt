@@ -1,3 +1,4 @@
+-- The goals of `push_shown` that are answered by hand.
 use Rattle.std.proofs.Common.{◌++◌, sym, ap, ◌∙◌, append_assoc, take, length, ◌<◌}
 use Rattle.std.specs.Prelude.{string_bytes, encode_utf8}
 use Rattle.rga_tree.proofs.Texts.{bytes_of, bytes-hidden, bytes-visible}

@@ -1,3 +1,4 @@
+-- The goals of `text_of` that are answered by hand.
 use Rattle.std.proofs.Common.{◌≡◌, ◌++◌, sym, ◌∙◌, length, arith}
 use Rattle.rga_tree.proofs.Texts.{bytes_of, bytes-part, bytes-whole}
 use Rattle.rga_tree.proofs.sequence.text_of.Goals as goal

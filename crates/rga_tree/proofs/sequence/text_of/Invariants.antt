@@ -1,3 +1,4 @@
+-- What stays true in the loop of `text_of`.
 use Rattle.std.proofs.Common.{◌≡◌, take}
 use Rattle.std.specs.Prelude.{string_bytes}
 use Rattle.rga_tree.proofs.Texts.{bytes_of, joined}

@@ -1,3 +1,4 @@
+-- The goals of `code` that are answered by hand.
 use Rattle.std.proofs.Common.{sym, ◌∙◌, ⊎_elim, arith}
 use Rattle.ucd_files.proofs.Codes.{few_digits, code_of-short, code_of-long, code_of-other, code_of-great, code_of-spelled}
 use Rattle.ucd_files.proofs.code.code.Goals as goal

@@ -1,3 +1,4 @@
+-- What stays true in the loop of `code`.
 use Rattle.std.proofs.Common.{◌≡◌, ◌<◌, ◌≤◌, ◌^◌, true, length, take}
 use Rattle.std.specs.List.{list_all}
 use Rattle.ucd_files.specs.Code.{hex_value, is_hex_digit}

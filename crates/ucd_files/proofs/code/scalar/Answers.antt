@@ -1,3 +1,4 @@
+-- The goals of `scalar` that are answered by hand.
 use Rattle.std.proofs.Common.{None, Some, cond, ap, ◌∙◌}
 use Rattle.std.specs.Option.{option_and_then}
 use Rattle.ucd_files.specs.Code.{scalar_of, is_surrogate}

@@ -1,3 +1,4 @@
+-- The goals of `table_values` that are answered by hand.
 use Rattle.std.specs.Prelude.{None}
 use Rattle.bg_types.specs.declared.class.Bidi.TheVariants.{L}
 use Rattle.bg_types.specs.declared.class.Lb.TheVariants.{Xx}

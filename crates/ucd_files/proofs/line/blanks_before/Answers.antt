@@ -1,3 +1,4 @@
+-- The goals of `blanks_before` that are answered by hand.
 use Rattle.std.proofs.Common.{sym, arith, rules, tests}
 use Rattle.std.proofs.lemmas.List.Sums.{prefix_len_is}
 use Rattle.ucd_files.specs.Line.{is_among}

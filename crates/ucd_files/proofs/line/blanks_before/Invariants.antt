@@ -1,3 +1,4 @@
+-- What stays true in the loop of `blanks_before`.
 use Rattle.std.proofs.Common.{◌≡◌, ℕ, ◌<◌, true, get_or}
 use Rattle.ucd_files.specs.Line.{is_among}
 use Rattle.ucd_files.proofs.line.blanks_before.Given as goal

@@ -1,3 +1,4 @@
+-- What stays true in the loop of `end_trimmed`.
 use Rattle.std.proofs.Common.{◌≡◌, ◌+◌, ◌≤◌, length, take}
 use Rattle.std.specs.List.{suffix_len}
 use Rattle.ucd_files.specs.Line.{is_among}

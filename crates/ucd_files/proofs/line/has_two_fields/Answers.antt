@@ -1,3 +1,4 @@
+-- The goals of `has_two_fields` that are answered by hand.
 use Rattle.std.proofs.Common.{◌≡◌, ◌==◌, count_by, nat_eq, sym, ap, ◌∙◌, rules}
 use Rattle.ucd_files.proofs.LineFields.{length-fields_of, one_more}
 use Rattle.ucd_files.proofs.line.has_two_fields.Goals as goal

@@ -1,3 +1,4 @@
+-- The goals of `next_field` that are answered by hand.
 use Rattle.std.proofs.Common.{◌∙◌, ap, sym}
 use Rattle.ucd_files.specs.Line.{trimmed, blanks, field}
 use Rattle.ucd_files.proofs.LineFields.{field-0, field-suc}

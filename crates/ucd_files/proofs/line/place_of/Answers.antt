@@ -1,3 +1,4 @@
+-- The goals of `place_of` that are answered by hand.
 use Rattle.std.proofs.Common.{◌==◌, sym, arith, rules, tests}
 use Rattle.std.proofs.lemmas.List.Sums.{position_or_len_is}
 use Rattle.ucd_files.proofs.line.place_of.Goals as goal

@@ -1,3 +1,4 @@
+-- What stays true in the loop of `place_of`.
 use Rattle.std.proofs.Common.{◌≡◌, ◌==◌, ℕ, ◌<◌, false, get_or}
 use Rattle.ucd_files.proofs.line.place_of.Given as goal
 

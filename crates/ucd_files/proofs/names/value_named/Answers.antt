@@ -1,3 +1,4 @@
+-- The goals of `value_named` that are answered by hand.
 use Rattle.std.proofs.Common.{ap, ◌∙◌, sym, arith}
 use Rattle.std.proofs.lemmas.List.{drop_all}
 use Rattle.ucd_files.specs.Names.{named, rows}

@@ -1,3 +1,4 @@
+-- What stays true in the loop of `value_named`.
 use Rattle.std.proofs.Common.{◌≡◌, drop}
 use Rattle.ucd_files.specs.Names.{named, rows}
 use Rattle.ucd_files.proofs.names.value_named.Given as goal

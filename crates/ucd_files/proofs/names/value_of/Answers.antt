@@ -1,3 +1,4 @@
+-- The goals of `value_of` that are answered by hand.
 use Rattle.std.proofs.Common.{ap, ◌∙◌, sym}
 use Rattle.std.specs.Option.{option_or}
 use Rattle.ucd_files.specs.Names.{named, rows}

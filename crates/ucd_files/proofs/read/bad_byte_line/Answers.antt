@@ -1,3 +1,4 @@
+-- The goals of `bad_byte_line` that are answered by hand.
 use Rattle.std.proofs.Common.{Some, None, cond, length, sym, ap, arith}
 use Rattle.std.specs.Str.Lossy.{utf8_valid_len}
 use Rattle.std.proofs.lemmas.Bool.{le-ltb}

@@ -1,3 +1,4 @@
+-- The goals of `checked` that are answered by hand.
 use Rattle.std.proofs.Common.{ap, ◌∙◌, ℕ}
 use Rattle.std.specs.Option.{option_map}
 use Rattle.ucd_files.specs.declared.fault.UcdFault.TheVariants.{At}

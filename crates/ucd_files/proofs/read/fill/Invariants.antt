@@ -1,3 +1,4 @@
+-- What stays true in the loop of `fill`.
 use Rattle.std.proofs.Common.{◌≡◌, ℕ, ◌≤◌, length, get_or}
 use Rattle.ucd_files.specs.Line.{lines_of, lines_left}
 use Rattle.ucd_files.specs.Passes.{reach, overlaid}

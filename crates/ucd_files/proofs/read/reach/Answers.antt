@@ -1,3 +1,4 @@
+-- The goals of `reach` that are answered by hand.
 use Rattle.std.proofs.Common.{length, ap, arith}
 use Rattle.ucd_files.proofs.LinesOf.{length-lines_of-le}
 use Rattle.ucd_files.proofs.read.reach.Goals as goal

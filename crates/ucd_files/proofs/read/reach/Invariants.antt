@@ -1,3 +1,4 @@
+-- What stays true in the loop of `reach`.
 use Rattle.std.proofs.Common.{◌≡◌, ◌+◌, length, max}
 use Rattle.ucd_files.specs.Line.{lines_of, lines_left}
 use Rattle.ucd_files.specs.Reading.{first_faulty}

@@ -1,3 +1,4 @@
+-- The goals of `read` that are answered by hand.
 use Rattle.std.proofs.Common.{◌∙◌, sym, refl, arith}
 use Rattle.ucd_files.proofs.Writes.{filled-value}
 use Rattle.ucd_files.proofs.read.read.Goals as goal

@@ -1,3 +1,4 @@
+-- The goals of `write` that are answered by hand.
 use Rattle.std.proofs.Common.{ap, ◌∙◌, cond, get_or, arith}
 use Rattle.ucd_files.proofs.Writes.{covered}
 use Rattle.ucd_files.proofs.read.write.Goals as goal

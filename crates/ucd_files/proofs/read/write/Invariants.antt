@@ -1,3 +1,4 @@
+-- What stays true in the loop of `write`.
 use Rattle.std.proofs.Common.{◌≡◌, ◌+◌, ℕ, ◌≤◌, max, get_or}
 use Rattle.std.specs.Prelude.{◌&&◌, nat_le, nat_lt, if◌then◌else◌}
 use Rattle.ucd_files.proofs.read.write.Given as goal

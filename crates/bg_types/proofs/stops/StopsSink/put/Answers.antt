@@ -1,3 +1,4 @@
+-- The goals of `put` that are answered by hand.
 use Rattle.std.proofs.Common.{arith, ap, ◌∙◌}
 use Rattle.std.specs.Prelude.{◌||◌}
 use Rattle.std.proofs.lemmas.List.{length-take}

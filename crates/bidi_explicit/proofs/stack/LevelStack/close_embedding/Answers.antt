@@ -1,3 +1,4 @@
+-- The goals of `close_embedding` that are answered by hand.
 use Rattle.std.proofs.Common.{arith}
 use Rattle.bidi_explicit.proofs.LadderLemmas.{ladder-room}
 use Rattle.bidi_explicit.proofs.stack.LevelStack.close_embedding.Goals as goal

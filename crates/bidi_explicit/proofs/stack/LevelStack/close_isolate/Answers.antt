@@ -1,3 +1,4 @@
+-- The goals of `close_isolate` that are answered by hand.
 use Rattle.std.proofs.Common.{arith, reverse}
 use Rattle.bidi_explicit.proofs.LadderLemmas.{ladder-closed}
 use Rattle.bidi_explicit.proofs.stack.LevelStack.close_isolate.Goals as goal

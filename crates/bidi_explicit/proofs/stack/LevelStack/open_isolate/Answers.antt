@@ -1,3 +1,4 @@
+-- The goals of `open_isolate` that are answered by hand.
 use Rattle.std.proofs.Common.{arith, ◌≤◌, length}
 use Rattle.bidi_explicit.proofs.LadderLemmas.{ladder-room}
 use Rattle.bidi_explicit.proofs.stack.LevelStack.open_isolate.Goals as goal

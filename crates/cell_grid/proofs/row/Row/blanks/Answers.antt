@@ -1,4 +1,4 @@
--- Blanks stand before the entries' cells and behind them.
+-- Blanks stand before the entries' cells and after them.
 use Rattle.std.proofs.Common.{◌≡◌, ◌+◌, ◌-◌, ◌++◌, List, length, replicate, sym, ap, subst, ◌∙◌, arith}
 use Rattle.cell_grid.specs.declared.entry.Entry.{Entry}
 use Rattle.cell_grid.specs.declared.cell.Cell.TheVariants.{Blank}

@@ -1,3 +1,4 @@
+-- The goals of `disagrees` that are answered by hand.
 use Rattle.std.proofs.Common.{subst}
 use Rattle.std.proofs.lemmas.Bool.{OnTrue_at, OnTrue_from, OnFalse_at, OnFalse_from}
 use Rattle.bg_types.specs.OperationSet.{Agree}

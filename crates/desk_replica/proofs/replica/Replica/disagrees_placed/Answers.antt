@@ -1,3 +1,4 @@
+-- The goals of `disagrees_placed` that are answered by hand.
 use Rattle.std.proofs.Common.{sym, subst, ◌∙◌, arith}
 use Rattle.std.specs.Prelude.{All}
 use Rattle.std.proofs.lemmas.List.Elements.{All-append}

@@ -1,3 +1,4 @@
+-- The goals of `disagrees_row` that are answered by hand.
 use Rattle.std.proofs.Common.{sym, subst}
 use Rattle.std.proofs.lemmas.List.Elements.{All-more}
 use Rattle.bg_types.specs.OperationSet.{MayJoin, ReusesIdentifier}

@@ -1,3 +1,4 @@
+-- What stays true in the loop of `disagrees_row`.
 use Rattle.std.proofs.Common.{take}
 use Rattle.std.specs.Prelude.{All}
 use Rattle.bg_types.specs.OperationSet.{MayJoin}

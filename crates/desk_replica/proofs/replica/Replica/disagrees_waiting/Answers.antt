@@ -1,3 +1,4 @@
+-- The goals of `disagrees_waiting` that are answered by hand.
 use Rattle.std.proofs.Common.{◌≤◌, length, subst, arith}
 use Rattle.std.specs.Prelude.{All}
 use Rattle.std.proofs.lemmas.List.Elements.{All-more}

@@ -1,3 +1,4 @@
+-- The goals of `erase_at` that are answered by hand.
 use Rattle.std.proofs.Common.{◌≡◌, ◌≤◌, sym, subst, ◌∙◌, refl}
 use Rattle.bg_types.specs.OperationSet.{OperationSet, with_operation, size}
 use Rattle.bg_types.specs.declared.op.OpView.{OpView}

@@ -1,3 +1,4 @@
+-- The goals of `erase_row` that are answered by hand.
 use Rattle.std.proofs.Common.{◌≡◌, [], ◌∷◌, sym, ap, subst, ◌∙◌, refl}
 use Rattle.std.specs.Prelude.{map as each}
 use Rattle.std.proofs.lemmas.Result.{err_from_is_err_and}

@@ -1,3 +1,4 @@
+-- The goals of `id_at` that are answered by hand.
 use Rattle.std.proofs.Common.{◌<◌, List, length, ap, sym, subst, ◌∙◌}
 use Rattle.std.specs.Prelude.{slice_get, map as each}
 use Rattle.bg_types.specs.Identifier.{Identifier}

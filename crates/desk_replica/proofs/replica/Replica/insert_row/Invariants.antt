@@ -1,3 +1,4 @@
+-- What stays true in the loop of `insert_row`.
 use Rattle.std.proofs.Common.{◌≡◌, take}
 use Rattle.desk_replica.specs.Told.{insertions_in}
 use Rattle.desk_replica.specs.Merging.{with_operations}

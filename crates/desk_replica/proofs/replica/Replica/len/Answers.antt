@@ -1,3 +1,4 @@
+-- The goals of `len` that are answered by hand.
 use Rattle.std.proofs.Common.{length, ap, ◌∙◌}
 use Rattle.desk_replica.proofs.Desks.{reads}
 use Rattle.desk_replica.proofs.replica.Replica.len.Goals as goal

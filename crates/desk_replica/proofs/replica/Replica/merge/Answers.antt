@@ -1,3 +1,4 @@
+-- The goals of `merge` that are answered by hand.
 use Rattle.std.proofs.Common.{◌≡◌, ap, ◌∙◌, refl, arith}
 use Rattle.std.proofs.lemmas.Result.{err_from_is_err_and}
 use Rattle.bg_types.specs.OperationSet.{size}

@@ -1,3 +1,4 @@
+-- The goals of `new` that are answered by hand.
 use Rattle.desk_replica.proofs.Desks.{IsDesk-fresh, fresh_view}
 use Rattle.desk_replica.proofs.replica.Replica.new.Goals as goal
 

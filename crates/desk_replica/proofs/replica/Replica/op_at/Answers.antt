@@ -1,3 +1,4 @@
+-- The goals of `op_at` that are answered by hand.
 use Rattle.std.proofs.Common.{◌-◌, Some, sym, ap, ◌∙◌, arith}
 use Rattle.bg_types.specs.declared.op.OpView.{OpView}
 use Rattle.desk_replica.proofs.Told.{told_once, reached, told_insertion, told_deletion, told_late, size_is}

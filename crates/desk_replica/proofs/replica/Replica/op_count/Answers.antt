@@ -1,3 +1,4 @@
+-- The goals of `op_count` that are answered by hand.
 use Rattle.desk_replica.proofs.Desks.{well_formed_desk}
 use Rattle.desk_replica.proofs.replica.Replica.op_count.Goals as goal
 

@@ -1,3 +1,4 @@
+-- The goals of `parent_for` that are answered by hand.
 use Rattle.std.proofs.Common.{◌<◌, arith}
 use Rattle.rga_tree.specs.TextOf.{visible_ids}
 use Rattle.desk_replica.proofs.Typing.{parent_is}

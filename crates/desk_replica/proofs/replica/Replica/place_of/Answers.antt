@@ -1,3 +1,4 @@
+-- The goals of `place_of` that are answered by hand.
 use Rattle.std.proofs.Common.{◌≡◌, true, false, true≢false, ap, sym, ◌∙◌, refl}
 use Rattle.desk_replica.specs.Told.{in_front, count_visible}
 use Rattle.desk_replica.proofs.Desks.{reads}

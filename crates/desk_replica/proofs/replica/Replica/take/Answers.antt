@@ -1,3 +1,4 @@
+-- The goals of `take` that are answered by hand.
 use Rattle.std.proofs.Common.{◌≡◌, ◌<◌, ◌+◌, sym, ap, subst, arith}
 use Rattle.std.specs.Prelude.{max}
 use Rattle.bg_types.specs.OperationSet.{Holds, size}

@@ -1,3 +1,4 @@
+-- What stays true in the loop of `take_deletions`.
 use Rattle.std.proofs.Common.{◌≡◌, take}
 use Rattle.desk_replica.specs.Told.{deletions_in}
 use Rattle.desk_replica.specs.Merging.{with_operations}

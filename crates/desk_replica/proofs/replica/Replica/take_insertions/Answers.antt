@@ -1,3 +1,4 @@
+-- The goals of `take_insertions` that are answered by hand.
 use Rattle.std.proofs.Common.{◌∙◌, refl, arith}
 use Rattle.std.proofs.lemmas.Result.{err_from_is_err_and}
 use Rattle.rga_tree.specs.Elements.{elements}

@@ -1,3 +1,4 @@
+-- The goals of `take_told` that are answered by hand.
 use Rattle.std.proofs.Common.{◌++◌, ap, subst, ◌∙◌}
 use Rattle.std.proofs.lemmas.Result.{err_from_is_err_and, on_ok_weaker, IfErr-weaker}
 use Rattle.rga_tree.specs.Elements.{elements}

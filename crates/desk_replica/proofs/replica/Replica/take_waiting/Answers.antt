@@ -1,3 +1,4 @@
+-- The goals of `take_waiting` that are answered by hand.
 use Rattle.std.proofs.Common.{◌≡◌, sym, ap, subst, ◌∙◌, refl, arith}
 use Rattle.std.proofs.lemmas.Result.{err_from_is_err_and}
 use Rattle.desk_replica.specs.Desk.{Desk}

@@ -1,3 +1,4 @@
+-- The goals of `text` that are answered by hand.
 use Rattle.std.proofs.Common.{◌≡◌, ap, ◌∙◌, subst, arith}
 use Rattle.std.specs.Prelude.{IfOk, string_bytes, encode_utf8_all}
 use Rattle.bg_types.specs.OperationSet.{size}

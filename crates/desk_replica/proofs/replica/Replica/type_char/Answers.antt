@@ -1,3 +1,4 @@
+-- The goals of `type_char` that are answered by hand.
 use Rattle.std.proofs.Common.{◌≡◌, sym, subst, ◌∙◌}
 use Rattle.bg_types.specs.OperationSet.{with_operation}
 use Rattle.bg_types.specs.WellFormed.{IsWellFormed}

@@ -1,3 +1,4 @@
+-- The goals of `stand_once` that are answered by hand.
 use Rattle.std.proofs.Common.{◌≡◌, ℕ, Bool, sym, subst, ◌∙◌}
 use Rattle.std.specs.Bool.{Decides}
 use Rattle.std.specs.Ordering.{nat_cmp, eq_by_cmp}

@@ -1,3 +1,4 @@
+-- The goals of `do_steps` that are answered by hand.
 use Rattle.std.proofs.Common.{get_or, refl}
 use Rattle.desk_replica.specs.declared.world.step.Step.{Step}
 use Rattle.desk_replica.specs.declared.world.step.Step.TheVariants.{Typed}

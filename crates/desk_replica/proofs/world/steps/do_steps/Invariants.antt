@@ -1,3 +1,4 @@
+-- What stays true in the loop of `do_steps`.
 use Rattle.std.proofs.Common.{take}
 use Rattle.desk_replica.specs.WorldRun.{DoSteps}
 use Rattle.desk_replica.proofs.world.steps.do_steps.Given as goal

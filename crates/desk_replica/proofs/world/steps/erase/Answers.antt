@@ -1,3 +1,4 @@
+-- The goals of `erase` that are answered by hand.
 use Rattle.std.proofs.Common.{arith, ap, length}
 use Rattle.std.proofs.lemmas.List.{get_or_default}
 use Rattle.rga_tree.specs.TextOf.{visible}

@@ -1,3 +1,4 @@
+-- The goals of `carets` that are answered by hand.
 use Rattle.std.proofs.Common.{Some, inl, ap, ◌∙◌}
 use Rattle.std.specs.Prelude.{map as each}
 use Rattle.std.proofs.KnownBytes.{Keeps-refl}

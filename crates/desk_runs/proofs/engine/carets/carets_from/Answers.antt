@@ -1,3 +1,4 @@
+-- The goals of `carets_from` that are answered by hand.
 use Rattle.std.proofs.Common.{ℕ, List, Ok, Err, string_bytes, subst, inl}
 use Rattle.std.specs.Io.KnownBytes.{Appends}
 use Rattle.std.proofs.KnownBytes.{Keeps-refl}

@@ -1,3 +1,4 @@
+-- The goals of `joined_text` that are answered by hand.
 use Rattle.std.proofs.Common.{inr, string_bytes}
 use Rattle.desk_runs.specs.declared.run_fault.RunFault.TheVariants as run
 use Rattle.desk_runs.specs.Readers.{EndsOver}

@@ -1,3 +1,4 @@
+-- The goals of `read_and_walk` that are answered by hand.
 use Rattle.std.proofs.Common.{ℕ, List, string_bytes, subst, sym}
 use Rattle.desk_runs.specs.Readers.{EndsOver}
 use Rattle.desk_runs.specs.Cause.{IsTakingCaused}

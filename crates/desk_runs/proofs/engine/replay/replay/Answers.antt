@@ -1,3 +1,4 @@
+-- The goals of `replay` that are answered by hand.
 use Rattle.std.proofs.Common.{Some, refl, inl, ap, ◌∙◌, arith}
 use Rattle.std.specs.Prelude.{map as each}
 use Rattle.std.specs.Option.{option_copied}

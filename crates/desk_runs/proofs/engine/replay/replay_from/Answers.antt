@@ -1,3 +1,4 @@
+-- The goals of `replay_from` that are answered by hand.
 use Rattle.std.proofs.Common.{ℕ, List, ap, subst}
 use Rattle.std.specs.List.{AllZip}
 use Rattle.std.specs.Option.{option_copied}

@@ -1,3 +1,4 @@
+-- The goals of `run_files` that are answered by hand.
 use Rattle.std.proofs.Common.{None, List, length, refl, ap, sym, ◌∙◌}
 use Rattle.std.specs.Global.{Vec}
 use Rattle.std.proofs.lemmas.List.{length-map}

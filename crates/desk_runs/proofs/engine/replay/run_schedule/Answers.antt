@@ -1,3 +1,4 @@
+-- The goals of `run_schedule` that are answered by hand.
 use Rattle.std.proofs.Common.{Some, List, length, ap, sym, subst, ◌∙◌}
 use Rattle.std.specs.Global.{Vec}
 use Rattle.std.proofs.lemmas.List.{length-map}

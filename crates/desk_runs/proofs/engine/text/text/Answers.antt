@@ -1,3 +1,4 @@
+-- The goals of `text` that are answered by hand.
 use Rattle.std.proofs.Common.{Some, ap, ◌∙◌}
 use Rattle.std.specs.Prelude.{map as each}
 use Rattle.desk_runs.specs.declared.run_fault.RunFault.TheVariants as run

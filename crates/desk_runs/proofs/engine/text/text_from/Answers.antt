@@ -1,3 +1,4 @@
+-- The goals of `text_from` that are answered by hand.
 use Rattle.std.proofs.Common.{ℕ, List, Ok, Err, ◌∙◌}
 use Rattle.std.proofs.KnownBytes.{Keeps-refl}
 use Rattle.desk_runs.specs.declared.run_fault.RunFault.TheVariants as run

@@ -1,3 +1,4 @@
+-- The goals of `feed` that are answered by hand.
 use Rattle.std.proofs.Common.{◌≡◌, ◌++◌, ℕ, List, length, take, sym, ap, subst, ◌∙◌, arith, rules}
 use Rattle.bg_types.specs.declared.op.OpView.{OpView}
 use Rattle.std.specs.Prelude.{Err, OnOk, IfErr}

@@ -1,3 +1,4 @@
+-- The goals of `finish` that are answered by hand.
 use Rattle.std.proofs.Common.{List, ℕ, sym, ap, subst, ◌∙◌, arith}
 use Rattle.op_codec.specs.Spelling.{Spells}
 use Rattle.op_codec.specs.Fault.{IsFault}

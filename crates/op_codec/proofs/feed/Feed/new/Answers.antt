@@ -1,3 +1,4 @@
+-- The goals of `new` that are answered by hand.
 use Rattle.std.proofs.Common.{ap}
 use Rattle.op_codec.specs.declared.fault.Cause.TheVariants.{Truncated}
 use Rattle.op_codec.specs.Fault.{header_cause}

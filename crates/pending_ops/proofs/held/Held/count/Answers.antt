@@ -1,3 +1,4 @@
+-- The goals of `count` that are answered by hand.
 use Rattle.std.proofs.Common.{◌+◌, sym, ap, ◌∙◌}
 use Rattle.bg_types.specs.OperationSet.{size}
 use Rattle.pending_ops.specs.Waiting.{Waiting}

@@ -1,3 +1,4 @@
+-- The goals of `count_below` that are answered by hand.
 use Rattle.std.proofs.Common.{sym, ap, subst}
 use Rattle.pending_ops.specs.Waiting.{Waiting}
 use Rattle.pending_ops.specs.Below.{CountsBelow}

@@ -1,3 +1,4 @@
+-- The goals of `drop_erasure` that are answered by hand.
 use Rattle.std.proofs.Common.{◌≡◌, Bool, true, false, cond, List, [], ◌∷◌, ap, sym, refl, ◌∙◌, length, arith, rules}
 use Rattle.bg_types.specs.Identifier.{Identifier, id_cmp}
 use Rattle.std.specs.FinSet as set

@@ -1,3 +1,4 @@
+-- The goals of `erased` that are answered by hand.
 use Rattle.std.proofs.Common.{ap, sym, ◌∙◌}
 use Rattle.std.specs.FinSet as set
 use Rattle.pending_ops.specs.Waiting.{Waiting}

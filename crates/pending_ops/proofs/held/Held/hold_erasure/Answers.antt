@@ -1,3 +1,4 @@
+-- The goals of `hold_erasure` that are answered by hand.
 use Rattle.std.proofs.Common.{ap, ◌∙◌}
 use Rattle.std.specs.FinSet as set
 use Rattle.bg_types.specs.OperationSet.{with_operation}

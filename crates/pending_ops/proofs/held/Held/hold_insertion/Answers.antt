@@ -1,3 +1,4 @@
+-- The goals of `hold_insertion` that are answered by hand.
 use Rattle.std.proofs.Common.{◌≡◌, Some, sym, ap, subst, cond, ◌∙◌, length, arith, true}
 use Rattle.std.specs.FinMap as map
 use Rattle.std.specs.FinSet as set

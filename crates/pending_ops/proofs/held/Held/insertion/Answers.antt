@@ -1,3 +1,4 @@
+-- The goals of `insertion` that are answered by hand.
 use Rattle.std.proofs.Common.{ap, ◌∙◌}
 use Rattle.std.specs.Option.{option_map}
 use Rattle.std.specs.FinMap as map

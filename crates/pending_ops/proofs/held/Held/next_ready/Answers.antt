@@ -1,3 +1,4 @@
+-- The goals of `next_ready` that are answered by hand.
 use Rattle.std.proofs.Common.{◌≡◌, None, Some, Option, sym, ap, subst, ◌∙◌, arith, is_some, true≢false}
 use Rattle.std.specs.Prelude.{IfSome, IsSome}
 use Rattle.bg_types.specs.declared.op.OpView.{OpView}

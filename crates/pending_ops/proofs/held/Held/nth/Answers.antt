@@ -1,3 +1,4 @@
+-- The goals of `nth` that are answered by hand.
 use Rattle.std.proofs.Common.{◌≡◌, ◌≤◌, ◌-◌, Some, sym, ap, subst, ◌∙◌, length, arith}
 use Rattle.std.specs.Prelude.{IfSome, slice_get, map as each}
 use Rattle.std.specs.Option.{option_map}

@@ -1,3 +1,4 @@
+-- The goals of `release_of` that are answered by hand.
 use Rattle.std.proofs.Common.{◌≡◌, List, true, false, cond, sym, ap, subst, ◌∙◌, refl, length, arith, rules, is_some}
 use Rattle.bg_types.specs.Identifier.{Identifier, same_id}
 use Rattle.bg_types.proofs.Interface.{same_id-is}

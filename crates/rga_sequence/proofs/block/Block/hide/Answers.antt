@@ -1,3 +1,4 @@
+-- The goals of `hide` that are answered by hand.
 use Rattle.std.proofs.Common.{◌≡◌, ℕ, ◌∙◌, ap, cond, arith, get_or}
 use Rattle.rga_tree.specs.declared.element.Element.{Element}
 use Rattle.rga_sequence.specs.Blocks.{is_least}

@@ -1,3 +1,4 @@
+-- The goals of `insert` that are answered by hand.
 use Rattle.std.proofs.Common.{◌≡◌, ◌≤◌, ◌<◌, ◌+◌, ◌∙◌, cond, true, sym, ap, length, arith}
 use Rattle.std.specs.Prelude.{insert, is_ok, vec_len, vec_capacity}
 use Rattle.rga_tree.specs.declared.element.Element.{Element}

@@ -1,3 +1,4 @@
+-- The goals of `blocks` that are answered by hand.
 use Rattle.std.proofs.Common.{◌≡◌, length, ap, arith}
 use Rattle.rga_sequence.specs.BlockRows.{items_of}
 use Rattle.rga_sequence.proofs.Halves.{few_blocks}

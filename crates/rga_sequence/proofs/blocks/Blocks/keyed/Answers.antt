@@ -1,3 +1,4 @@
+-- The goals of `keyed` that are answered by hand.
 use Rattle.std.proofs.Common.{◌∙◌, sym, ap, length, arith}
 use Rattle.std.specs.Map.{lookup}
 use Rattle.rga_tree.proofs.Interface.{KeepsWalk-nothing}

@@ -1,3 +1,4 @@
+-- The goals of `shown` that are answered by hand.
 use Rattle.std.proofs.Common.{arith}
 use Rattle.rga_tree.proofs.Interface.{seen_at, visible_row}
 use Rattle.rga_sequence.specs.Indexed.{blocks_in, elements_in}

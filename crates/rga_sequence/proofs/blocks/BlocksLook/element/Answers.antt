@@ -1,3 +1,4 @@
+-- The goals of `element` that are answered by hand.
 use Rattle.rga_sequence.proofs.Whole.{element_is}
 use Rattle.rga_sequence.proofs.blocks.BlocksLook.element.Goals as goal
 

@@ -1,3 +1,4 @@
+-- The goals of `element` that are answered by hand.
 use Rattle.std.proofs.Common.{◌≡◌, ◌<◌, ◌∙◌, [], true, false, Bool, ap, sym, refl, length, get_or, arith}
 use Rattle.std.specs.Prelude.{slice_get}
 use Rattle.rga_tree.proofs.Interface.{element_row}

@@ -1,3 +1,4 @@
+-- The goals of `has` that are answered by hand.
 use Rattle.std.proofs.Common.{◌≡◌, ◌∙◌, length, ap, sym, arith}
 use Rattle.std.specs.Prelude.{is_some}
 use Rattle.rga_tree.proofs.Interface.{has_row}

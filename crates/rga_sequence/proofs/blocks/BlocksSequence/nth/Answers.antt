@@ -1,3 +1,4 @@
+-- The goals of `nth` that are answered by hand.
 use Rattle.std.proofs.Common.{◌≡◌, ◌<◌, ◌∙◌, [], ap, sym, length, get_or, arith}
 use Rattle.std.specs.Prelude.{slice_get}
 use Rattle.rga_sequence.specs.Blocks.{offset}

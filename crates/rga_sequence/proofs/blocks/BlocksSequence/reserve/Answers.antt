@@ -1,3 +1,4 @@
+-- The goals of `reserve` that are answered by hand.
 use Rattle.std.proofs.Common.{◌≡◌, ◌+◌, ◌*◌, ◌∙◌, sym, ap, subst, length, arith}
 use Rattle.rga_tree.specs.KeepsWalk.{KeepsWalk}
 use Rattle.rga_sequence.specs.Blocks.{seen, joined}

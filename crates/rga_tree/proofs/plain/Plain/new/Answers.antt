@@ -1,3 +1,4 @@
+-- The goals of `new` that are answered by hand.
 use Rattle.rga_tree.proofs.Placing.{KeepsWalk-nothing}
 use Rattle.rga_tree.proofs.plain.Plain.new.Goals as goal
 

@@ -1,3 +1,4 @@
+-- The goals of `shown` that are answered by hand.
 use Rattle.std.proofs.Common.{◌≡◌, Some, not, ap, ◌∙◌, sym}
 use Rattle.std.specs.Prelude.{filter, slice_get}
 use Rattle.rga_tree.proofs.Seen.{seen_at, seen_some}

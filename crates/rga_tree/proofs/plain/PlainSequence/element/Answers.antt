@@ -1,3 +1,4 @@
+-- The goals of `element` that are answered by hand.
 use Rattle.std.proofs.Common.{ap, ◌∙◌}
 use Rattle.std.specs.List.{find as find_in}
 use Rattle.bg_types.specs.Identifier.{same_id}

@@ -1,3 +1,4 @@
+-- The goals of `has` that are answered by hand.
 use Rattle.std.proofs.Common.{sym, ◌∙◌}
 use Rattle.rga_tree.proofs.RowSets.{has_row}
 use Rattle.rga_tree.proofs.plain.PlainSequence.has.Goals as goal

@@ -1,3 +1,4 @@
+-- The goals of `hide` that are answered by hand.
 use Rattle.std.proofs.Common.{ap, ◌∙◌, arith}
 use Rattle.std.specs.Prelude.{not}
 use Rattle.std.specs.List.{prefix_len}

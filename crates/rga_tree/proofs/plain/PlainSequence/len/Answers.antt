@@ -1,3 +1,4 @@
+-- The goals of `len` that are answered by hand.
 use Rattle.std.proofs.Common.{◌∙◌}
 use Rattle.rga_tree.proofs.Seen.{visible_row}
 use Rattle.rga_tree.proofs.plain.PlainSequence.len.Goals as goal

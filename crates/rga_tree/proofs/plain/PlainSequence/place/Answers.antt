@@ -1,3 +1,4 @@
+-- The goals of `place` that are answered by hand.
 use Rattle.std.proofs.Common.{ap, ◌∙◌}
 use Rattle.rga_tree.specs.Row.{place_of}
 use Rattle.rga_tree.proofs.Placing.{placing, start_within}

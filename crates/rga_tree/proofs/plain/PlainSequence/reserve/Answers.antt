@@ -1,3 +1,4 @@
+-- The goals of `reserve` that are answered by hand.
 use Rattle.std.proofs.Common.{sym, subst}
 use Rattle.rga_tree.specs.KeepsWalk.{KeepsWalk}
 use Rattle.rga_tree.proofs.plain.PlainSequence.reserve.Goals as goal

@@ -1,3 +1,4 @@
+-- The goals of `next` that are answered by hand.
 use Rattle.std.proofs.Common.{ap, ◌∙◌, length, arith}
 use Rattle.ucd_files.specs.Line.{lines_left}
 use Rattle.ucd_files.proofs.LinesOf.{lines_of-last, lines_of-more}

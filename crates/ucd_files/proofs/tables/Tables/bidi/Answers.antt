@@ -1,3 +1,4 @@
+-- The goals of `bidi` that are answered by hand.
 use Rattle.std.proofs.Common.{ap, ◌∙◌, arith}
 use Rattle.bg_types.specs.declared.class.Bidi.TheVariants.{L}
 use Rattle.ucd_files.specs.Tables.{bidi_of}

@@ -1,3 +1,4 @@
+-- The goals of `bracket` that are answered by hand.
 use Rattle.std.proofs.Common.{ap, ◌∙◌, arith}
 use Rattle.ucd_files.specs.declared.value.Bracket.TheVariants.{None}
 use Rattle.ucd_files.specs.Tables.{bracket_of}

@@ -1,3 +1,4 @@
+-- The goals of `ea` that are answered by hand.
 use Rattle.std.proofs.Common.{ap, ◌∙◌, arith}
 use Rattle.bg_types.specs.declared.class.Ea.TheVariants.{N}
 use Rattle.ucd_files.specs.Tables.{ea_of}

@@ -1,3 +1,4 @@
+-- The goals of `lb` that are answered by hand.
 use Rattle.std.proofs.Common.{ap, ◌∙◌, arith}
 use Rattle.bg_types.specs.declared.class.Lb.TheVariants.{Xx}
 use Rattle.ucd_files.specs.Tables.{lb_of}

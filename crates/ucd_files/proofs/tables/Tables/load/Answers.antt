@@ -1,3 +1,4 @@
+-- The goals of `load` that are answered by hand.
 use Rattle.ucd_files.specs.Files.{bidi_file, brackets_file, mirror_file, lb_file, ea_file}
 use Rattle.ucd_files.proofs.CodePoints.{each_below-same, same_tables}
 use Rattle.ucd_files.proofs.tables.Tables.load.Goals as goal

@@ -1,3 +1,4 @@
+-- The goals of `mirror` that are answered by hand.
 use Rattle.std.proofs.Common.{ap, ◌∙◌, arith, None}
 use Rattle.ucd_files.specs.Tables.{mirror_of}
 use Rattle.ucd_files.proofs.CodePoints.{looked_up}

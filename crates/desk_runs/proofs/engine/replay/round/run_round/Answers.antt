@@ -1,3 +1,4 @@
+-- The goals of `run_round` that are answered by hand.
 use Rattle.desk_replica.specs.DeskSets.{sets_of}
 use Rattle.desk_runs.specs.Setting.{print_in, files_in}
 use Rattle.desk_runs.specs.Round.{all_takes, all_shows, round}

@@ -1,3 +1,4 @@
+-- What stays true in the loop of `take_files`.
 use Rattle.std.proofs.Common.{length}
 use Rattle.desk_replica.specs.DeskSets.{sets_of}
 use Rattle.desk_runs.specs.Setting.{print_in, files_in}

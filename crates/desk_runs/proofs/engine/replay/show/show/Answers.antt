@@ -1,3 +1,4 @@
+-- The goals of `show` that are answered by hand.
 use Rattle.std.proofs.Common.{ap, subst, ◌∙◌}
 use Rattle.std.proofs.KnownBytes.{Appends-nil}
 use Rattle.bg_types.specs.Sink.{AppendsBeginning}

@@ -1,3 +1,4 @@
+-- The goals of `run_steps` that are answered by hand.
 use Rattle.desk_runs.specs.declared.schedule.step.Step.TheVariants.{Take}
 use Rattle.desk_runs.specs.declared.schedule.step.Numbered.{Numbered}
 use Rattle.desk_replica.specs.DeskSets.{sets_of}

@@ -1,3 +1,4 @@
+-- What stays true in the loop of `run_steps`.
 use Rattle.std.proofs.Common.{◌≡◌, take, false}
 use Rattle.desk_replica.specs.DeskSets.{sets_of}
 use Rattle.desk_runs.specs.Setting.{print_in, files_in}
