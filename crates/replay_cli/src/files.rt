@@ -9,10 +9,7 @@ use op_codec::{In, Source};
 use std::rt::Files;
 
 /// The files in order, each open, or the first that can't be opened.
-pub fn open_all<R: Files + AllocGlobal>(
-    rt: &R,
-    paths: &[&str],
-) -> Result<Vec<In<R::File>>, Unread>
+pub fn open_all<R: Files + AllocGlobal>(rt: &R, paths: &[&str]) -> Result<Vec<In<R::File>>, Unread>
     ensures each { IfOk result (λ files. vec_len files ≡ length paths.now) }
     ensures working { IfOk result (λ files. AreWorking (map ⟦<In<R::File> as Source>⟧.has_failed files.items)) }
 {

@@ -11,8 +11,10 @@ mod words;
 use bg_types::{Base, Device, Out};
 pub use cli_support::Stop;
 use cli_support::{Unread, end, flush, read, read_data};
-pub use desk_runs::{Move, RunFault, ScheduleFault, TakeFault, Ucd, carets, replay, status, text};
-pub use desk_runs::{carets_from, replay_from, text_from};
+pub use desk_runs::{
+    Move, RunFault, ScheduleFault, TakeFault, Ucd, carets, carets_from, replay, replay_from,
+    status, text, text_from,
+};
 use files::{open_all, path_of};
 use key::draw_key;
 pub use op_listing::{LineFault, dump, pack};
