@@ -226,12 +226,8 @@ fn base_and_width_of_ambiguous_characters_are_chosen(rt: HostRuntime) -> Result<
     for (choices, base, wide) in rows {
         for (name, options) in GRIDS {
             let words = grid_line(rt.alloc(), name, options, choices)?;
-            let chosen = match job(rt.alloc(), words.as_slice()) {
-                Ok(Job::Replay(job)) => Some((job.base, job.wide_ambiguous)),
-                Ok(Job::Caret(job)) => Some((job.base, job.wide_ambiguous)),
-                _ => None,
-            };
-            assert_eq!(rt; chosen, Some((base, wide)), "{name} {choices:?}");
+            let got = chosen(rt.alloc(), words.as_slice());
+            assert_eq!(rt; got, Some((base, wide)), "{name} {choices:?}");
         }
     }
     let rows: [&[&str]; 6] = [
@@ -252,6 +248,17 @@ fn base_and_width_of_ambiguous_characters_are_chosen(rt: HostRuntime) -> Result<
     Ok(())
 }
 
+/// The base direction that a command line asks for, and whether ambiguous characters are wide.
+fn chosen(alloc: Global, words: &[String]) -> Option<(Base, bool)> {
+    match job(alloc, words) {
+        Ok(Job::Replay(job)) => Some((job.base, job.wide_ambiguous)),
+        Ok(Job::Caret(job)) => Some((job.base, job.wide_ambiguous)),
+        Ok(Job::Text { files: _files }) => None,
+        Ok(Job::Dump { .. } | Job::Pack { .. }) => None,
+        Err(_stop) => None,
+    }
+}
+
 /// The subcommands that draw, with what they ask for.
 const GRIDS: [(&str, &[&str]); 2] = [
     ("replay", &["--ucd", "d", "--width", "4"]),
@@ -269,7 +276,10 @@ fn grid_line(
     choices: &[&str],
 ) -> Result<Vec<String>, Fail> {
     let mut words = line(alloc, &["bidigrid", name, "file"])?;
-    for word in options.iter().chain(choices) {
+    for word in options {
+        words.push(String::from_str(alloc, word)?)?;
+    }
+    for word in choices {
         words.push(String::from_str(alloc, word)?)?;
     }
     Ok(words)
