@@ -1,5 +1,5 @@
 -- Bytes that show no fault are spelled.
-use Rattle.std.proofs.Common.{◌≡◌, ℕ, suc, zero, ◌+◌, ◌<◌, ◌≤◌, false, List, [], ◌∷◌, ◌++◌, length, drop, Option, Some, None, refl, sym, ap, ◌∙◌, append_assoc, arith, inl, inr, ◌⊎◌}
+use Rattle.std.proofs.Common.{◌≡◌, ℕ, suc, zero, ◌+◌, ◌<◌, ◌≤◌, false, List, [], ◌∷◌, ◌++◌, length, drop, Option, None, refl, sym, ap, ◌∙◌, append_assoc, arith, inl, inr, ◌⊎◌}
 use Rattle.std.specs.Prelude.{All}
 use Rattle.std.specs.List.{flat_map, AllByRecursion}
 use Rattle.std.proofs.lemmas.Bool.{cases_lt}
@@ -13,9 +13,9 @@ use Rattle.bg_types.specs.declared.op.OpView.TheVariants.{Insert, Erase}
 use Rattle.op_codec.specs.declared.fault.Cause.{Cause}
 use Rattle.op_codec.specs.declared.fault.Cause.TheVariants.{NotJoined}
 use Rattle.op_codec.specs.declared.position.Version.{Version}
-use Rattle.op_codec.specs.Spelling.{Frame, header, frame_fields, bytes_with, frame_bytes, frame_ops, joins, most_insertions, frames_of, tip_of, spelling_in, SpellsIn, Spells}
+use Rattle.op_codec.specs.Spelling.{Frame, header, frame_fields, bytes_with, frame_bytes, frame_ops, joins, most_insertions, frames_of, tip_of, spelling_in, Spells}
 use Rattle.op_codec.specs.Frames.{IsFrame}
-use Rattle.op_codec.specs.Fault.{first_cause, header_cause, frame_cause, joined_cause, cause_at, IsFault}
+use Rattle.op_codec.specs.Fault.{header_cause, frame_cause, joined_cause, cause_at, IsFault}
 use Rattle.op_codec.proofs.Bytes.{IsBytes, IsBytes-drop}
 use Rattle.op_codec.proofs.Faultless.{joined_cause-frame}
 use Rattle.op_codec.proofs.Gathered.{frames_more, more_well}

@@ -1,11 +1,9 @@
 -- A header or a frame that a piece cut: how far it is kept, and how the next piece completes it.
-use Rattle.std.proofs.Common.{false, ◌≡◌, ◌≢◌, ℕ, ◌+◌, ◌-◌, ◌<◌, ◌≤◌, List, [], ◌∷◌, ◌++◌, length, take, drop, Option, Some, None, refl, sym, ap, subst, ◌∙◌, append_assoc, arith, inl, inr, ◌⊎◌}
+use Rattle.std.proofs.Common.{false, ◌≡◌, ℕ, ◌+◌, ◌-◌, ◌<◌, ◌≤◌, List, [], ◌++◌, length, take, drop, Option, Some, None, sym, ap, ◌∙◌, append_assoc, arith, inl, inr}
 use Rattle.std.specs.Prelude.{min}
 use Rattle.std.proofs.Math.Seq.{drop-append_seam, drop-append-add, take-append_seam}
 use Rattle.std.proofs.lemmas.Bool.{cases_lt}
-use Rattle.std.proofs.lemmas.List.{append-nil, take_all, drop_all, length-append, length-take, length-drop, take-append-drop, take-append-le, drop-append-le}
-use Rattle.bg_types.specs.WellFormed.{IsWellFormed}
-use Rattle.bg_types.specs.declared.op.OpView.{OpView}
+use Rattle.std.proofs.lemmas.List.{take_all, drop_all, length-append, length-take, length-drop, take-append-drop, take-append-le, drop-append-le}
 use Rattle.op_codec.specs.declared.fault.Cause.{Cause}
 use Rattle.op_codec.specs.declared.fault.Cause.TheVariants.{Truncated}
 use Rattle.op_codec.specs.declared.position.Version.{Version}

@@ -1,5 +1,5 @@
 -- The header, and the frame of a well-formed operation, show no cause.
-use Rattle.std.proofs.Common.{◌≡◌, ℕ, ◌+◌, ◌-◌, ◌*◌, ◌/◌, ◌^◌, ◌<◌, ◌≤◌, true, false, eqb, leb, ltb, Bool, cond, List, [], ◌∷◌, ◌++◌, length, slice_index, take, drop, Option, Some, None, refl, sym, ap, ◌∙◌, arith}
+use Rattle.std.proofs.Common.{◌≡◌, ℕ, ◌+◌, ◌-◌, ◌*◌, ◌^◌, ◌<◌, ◌≤◌, true, false, eqb, leb, ltb, Bool, cond, List, [], ◌∷◌, ◌++◌, length, slice_index, take, drop, Option, Some, None, refl, sym, ap, ◌∙◌, arith}
 use Rattle.std.specs.Prelude.{nat_le, ◌&&◌, not}
 use Rattle.std.specs.List.{flat_map, list_all, AllByRecursion}
 use Rattle.std.specs.Char.{IsScalar}
@@ -22,7 +22,7 @@ use Rattle.op_codec.specs.declared.position.Version.{Version}
 use Rattle.op_codec.specs.declared.position.Version.TheVariants.{One, Two}
 use Rattle.op_codec.specs.Spelling.{header, identifier_bytes, parent_identifier, frame, Frame, bytes_with, frame_bytes, follows, joins, most_insertions}
 use Rattle.op_codec.specs.Frames.{MayGoOn, IsFrame}
-use Rattle.op_codec.specs.Fault.{first_cause, or_else, header_cause, identifier_at, has_zero, is_half_zero, insertion_cause, erasure_cause, length_cause, kind_cause, frame_cause, run_count, is_run_length, run_cause, run_frame_cause, characters_at, characters_in, joined_cause, cause_at}
+use Rattle.op_codec.specs.Fault.{first_cause, or_else, header_cause, identifier_at, has_zero, is_half_zero, insertion_cause, erasure_cause, length_cause, kind_cause, frame_cause, run_count, is_run_length, run_cause, run_frame_cause, characters_in, joined_cause, cause_at}
 use Rattle.op_codec.proofs.ReadBack.{identifier_again, parent_fits}
 use Rattle.op_codec.proofs.Characters.{characters_of, scalars_tested, length-bytes}
 

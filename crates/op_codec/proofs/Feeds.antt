@@ -1,9 +1,8 @@
 -- What a feed keeps, before and after a piece.
-use Rattle.std.proofs.Common.{◌≡◌, ◌≢◌, ℕ, ◌+◌, ◌<◌, ◌≤◌, Bool, true, false, List, [], ◌∷◌, ◌++◌, length, take, Option, Some, None, Result, Ok, Err, refl, sym, ap, subst, ◌∙◌, append_assoc, arith, inl, inr, ◌⊎◌}
+use Rattle.std.proofs.Common.{◌≡◌, ℕ, ◌+◌, ◌<◌, ◌≤◌, false, List, [], ◌∷◌, ◌++◌, length, take, Option, Some, None, Result, Ok, Err, refl, sym, ap, subst, ◌∙◌, append_assoc, arith, inl, inr}
 use Rattle.std.specs.Prelude.{option_map, OnOk, OnErr, IfErr, IfSome, IfNone}
 use Rattle.std.specs.List.{flat_map, AllByRecursion}
 use Rattle.std.proofs.lemmas.List.{append-nil, length-append, length-take, take-take}
-use Rattle.std.proofs.Math.Seq.{take-append_seam}
 use Rattle.bg_types.specs.WellFormed.{IsWellFormed}
 use Rattle.bg_types.specs.declared.op.OpView.{OpView}
 use Rattle.op_codec.specs.declared.fault.Cause.{Cause}
@@ -12,10 +11,9 @@ use Rattle.op_codec.specs.declared.fault.CodecFault.{CodecFault}
 use Rattle.op_codec.specs.declared.fault.CodecFault.TheVariants.{Malformed, Memory}
 use Rattle.op_codec.specs.declared.position.Version.{Version}
 use Rattle.op_codec.specs.declared.position.Position.{Position}
-use Rattle.op_codec.specs.Spelling.{Frame, frame_bytes, frame_ops, header, most_insertions, frames_of, tip_of, tip, joins, spelling_in, SpellsIn, Spells}
-use Rattle.op_codec.specs.Frames.{IsFrame}
+use Rattle.op_codec.specs.Spelling.{Frame, frame_bytes, header, most_insertions, frames_of, tip_of, joins, spelling_in, Spells}
 use Rattle.op_codec.specs.Fault.{header_cause, cause_at, IsFault, TellsFault}
-use Rattle.op_codec.specs.Feed.{IsWhole, IsSound, IsLasting, IsFed, IsFeedOutcome, bytes_of, kept_cause, IsCut, kept_fault, IsMissing, TellsKept, IsStopped, TakesFrame, IsBehind, IsNext, TakesIn, AreTaken}
+use Rattle.op_codec.specs.Feed.{IsWhole, IsSound, IsLasting, IsFeedOutcome, bytes_of, kept_cause, IsCut, kept_fault, IsMissing, TellsKept, IsStopped, TakesFrame, IsBehind, TakesIn, AreTaken}
 use Rattle.op_codec.proofs.Unique.{one_fault, never_both}
 use Rattle.op_codec.proofs.Faultless.{header_cause-header, cause_at-frame}
 use Rattle.op_codec.proofs.Complete.{more_spelled}

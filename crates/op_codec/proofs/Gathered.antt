@@ -1,19 +1,19 @@
 -- Operations gathered into frames: they are frames of which none could go on with the one before, and no other such frames stand
 -- for these operations.
-use Rattle.std.proofs.Common.{◌≡◌, ℕ, ◌+◌, ◌<◌, ◌≤◌, ◌^◌, true, false, eqb, ltb, Bool, cond, List, [], ◌∷◌, ◌++◌, length, Option, Some, None, refl, sym, ap, subst, ◌∙◌, append_assoc, arith}
+use Rattle.std.proofs.Common.{◌≡◌, ℕ, ◌+◌, ◌<◌, ◌≤◌, ◌^◌, true, false, eqb, ltb, Bool, cond, List, [], ◌∷◌, ◌++◌, length, Option, Some, None, refl, sym, ap, ◌∙◌, append_assoc, arith}
 use Rattle.std.specs.Prelude.{◌&&◌}
 use Rattle.std.specs.List.{flat_map, AllByRecursion}
 use Rattle.std.specs.Char.{IsScalar}
 use Rattle.std.proofs.lemmas.Bool.{and_parts, eqb-true, eq-eqb, ltb-true, lt-ltb}
 use Rattle.std.proofs.lemmas.List.{append-nil, length-append}
-use Rattle.std.proofs.lemmas.List.Concat.{flat_map-cons, flat_map-append}
+use Rattle.std.proofs.lemmas.List.Concat.{flat_map-cons}
 use Rattle.bg_types.specs.Identifier.{Identifier, IsIdentifier}
 use Rattle.bg_types.specs.WellFormed.{IsWellFormed}
 use Rattle.bg_types.specs.declared.op.Place.{Place}
 use Rattle.bg_types.specs.declared.op.Place.TheVariants.{Root, After}
 use Rattle.bg_types.specs.declared.op.OpView.{OpView}
 use Rattle.bg_types.specs.declared.op.OpView.TheVariants.{Insert, Erase}
-use Rattle.op_codec.specs.Spelling.{Frame, header, frame, spelling, spelling_in, frame_bytes, next_of, followers, further_ops, frame_ops, last_id, parent_identifier, follows, joins, tip, grown, gathered, frames_of, last_tip, tip_of}
+use Rattle.op_codec.specs.Spelling.{Frame, header, frame, spelling, spelling_in, frame_bytes, next_of, followers, further_ops, frame_ops, last_id, parent_identifier, joins, tip, grown, gathered, frames_of, last_tip, tip_of}
 use Rattle.op_codec.specs.declared.position.Version.TheVariants.{One}
 use Rattle.op_codec.specs.Frames.{MayGoOn, IsFrame, AreFrames}
 

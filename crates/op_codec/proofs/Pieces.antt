@@ -1,6 +1,6 @@
 -- Files that are read piece by piece: what lasts, and what the whole frames are.
-use Rattle.std.proofs.Common.{◌≡◌, ◌≢◌, ℕ, ◌+◌, ◌<◌, List, [], ◌∷◌, ◌++◌, length, Some, None, refl, sym, ap, subst, ◌∙◌, append_assoc, arith, inl, inr, ◌⊎◌}
-use Rattle.std.specs.List.{flat_map, AllByRecursion}
+use Rattle.std.proofs.Common.{◌≡◌, ◌≢◌, ℕ, List, [], ◌++◌, Some, refl, sym, ap, subst, ◌∙◌, append_assoc, arith, inl, inr, ◌⊎◌}
+use Rattle.std.specs.List.{AllByRecursion}
 use Rattle.std.proofs.lemmas.List.{append-nil, length-append}
 use Rattle.bg_types.specs.WellFormed.{IsWellFormed}
 use Rattle.bg_types.specs.declared.op.OpView.{OpView}
@@ -10,8 +10,8 @@ use Rattle.op_codec.specs.declared.fault.CodecFault.TheVariants.{Malformed, Memo
 use Rattle.std.specs.Prelude.{Ok, Err}
 use Rattle.op_codec.specs.declared.position.Version.{Version}
 use Rattle.op_codec.specs.Spelling.{most_insertions, tip_of, spelling_in, Spells}
-use Rattle.op_codec.specs.Fault.{header_cause, cause_at, IsFrameFault, IsFault}
-use Rattle.op_codec.specs.Feed.{AreFrames, IsWhole, IsSound, IsLasting, IsFed, IsFeedOutcome}
+use Rattle.op_codec.specs.Fault.{header_cause, cause_at, IsFault}
+use Rattle.op_codec.specs.Feed.{IsWhole, IsSound, IsLasting, IsFed, IsFeedOutcome}
 use Rattle.op_codec.proofs.Settled.{Settles, missing, settled, header_settles, cause_settles}
 use Rattle.op_codec.proofs.Unique.{Ends-fault, ops_unique, versions_unique, spelling_right, never_both, one_fault}
 

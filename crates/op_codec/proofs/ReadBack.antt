@@ -11,7 +11,7 @@ use Rattle.bg_types.specs.declared.op.Place.{Place}
 use Rattle.bg_types.specs.declared.op.Place.TheVariants.{Root, After}
 use Rattle.bg_types.specs.declared.op.OpView.{OpView}
 use Rattle.bg_types.specs.declared.op.OpView.TheVariants.{Insert, Erase}
-use Rattle.op_codec.specs.Spelling.{identifier_bytes, parent_identifier, frame, Frame, frame_kind, bytes_with, frame_bytes}
+use Rattle.op_codec.specs.Spelling.{identifier_bytes, parent_identifier, frame, Frame, bytes_with, frame_bytes}
 use Rattle.op_codec.specs.Frames.{MayGoOn, IsFrame}
 use Rattle.op_codec.specs.Fault.{identifier_at}
 use Rattle.op_codec.proofs.Characters.{characters_unique}

@@ -1,25 +1,24 @@
 -- Runs that are read, and what they stand for.
-use Rattle.std.proofs.Common.{◌≡◌, ℕ, zero, suc, ◌+◌, ◌-◌, ◌*◌, ◌/◌, ◌^◌, ◌<◌, ◌≤◌, true, false, eqb, leb, ltb, Bool, cond, List, [], ◌∷◌, ◌++◌, length, slice_index, take, drop, Option, Some, None, refl, sym, ap, subst, ◌∙◌, append_assoc, arith, inl, inr}
-use Rattle.std.specs.Prelude.{◌||◌, not, nat_le, IfSome}
-use Rattle.std.specs.List.{flat_map, list_all, AllByRecursion}
+use Rattle.std.proofs.Common.{◌≡◌, ℕ, ◌+◌, ◌-◌, ◌^◌, ◌<◌, ◌≤◌, true, false, ltb, Bool, cond, List, [], ◌∷◌, ◌++◌, length, slice_index, take, drop, Option, Some, None, refl, sym, ap, subst, ◌∙◌, append_assoc, arith}
+use Rattle.std.specs.Prelude.{not, IfSome}
+use Rattle.std.specs.List.{list_all, AllByRecursion}
 use Rattle.std.specs.Char.{IsScalar}
 use Rattle.std.proofs.Math.Utf8.{scalar}
 use Rattle.std.proofs.lemmas.Bool.{lt-ltb, le-ltb}
 use Rattle.std.proofs.lemmas.List.{take_all, length-take, length-drop, take-append-le}
-use Rattle.byteorder.specs.Endian.{big_bytes, big_number}
-use Rattle.bg_types.specs.Identifier.{Identifier, IsIdentifier}
+use Rattle.byteorder.specs.Endian.{big_number}
+use Rattle.bg_types.specs.Identifier.{Identifier}
 use Rattle.bg_types.specs.WellFormed.{IsWellFormed}
-use Rattle.bg_types.specs.declared.op.Place.{Place}
-use Rattle.bg_types.specs.declared.op.Place.TheVariants.{Root, After}
+use Rattle.bg_types.specs.declared.op.Place.TheVariants.{After}
 use Rattle.bg_types.specs.declared.op.OpView.{OpView}
-use Rattle.bg_types.specs.declared.op.OpView.TheVariants.{Insert, Erase}
+use Rattle.bg_types.specs.declared.op.OpView.TheVariants.{Insert}
 use Rattle.op_codec.specs.declared.fault.Cause.{Cause}
 use Rattle.op_codec.specs.declared.fault.Cause.TheVariants.{BadLength, CounterOverflow, NotAScalar}
 use Rattle.op_codec.specs.declared.position.Version.{Version}
 use Rattle.op_codec.specs.declared.position.Version.TheVariants.{One, Two}
-use Rattle.op_codec.specs.Spelling.{Frame, frame_fields, next_of, followers, further_ops, last_id, most_insertions}
-use Rattle.op_codec.specs.Frames.{MayGoOn, IsFrame, BeginsWith}
-use Rattle.op_codec.specs.Fault.{or_else, first_cause, identifier_at, has_zero, is_half_zero, length_cause, is_run_length, numbers_cause, run_cause, run_frame_cause, characters_in, frame_cause}
+use Rattle.op_codec.specs.Spelling.{Frame, frame_fields, next_of, followers, most_insertions}
+use Rattle.op_codec.specs.Frames.{MayGoOn, BeginsWith}
+use Rattle.op_codec.specs.Fault.{or_else, first_cause, identifier_at, length_cause, is_run_length, numbers_cause, run_cause, run_frame_cause, characters_in}
 use Rattle.op_codec.proofs.Bytes.{IsBytes}
 use Rattle.op_codec.proofs.Frames.{run_parts, further_count, run_spelled}
 use Rattle.op_codec.proofs.Characters.{characters_more, characters_none}

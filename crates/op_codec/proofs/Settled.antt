@@ -1,9 +1,9 @@
 -- What a beginning of a header or of a frame shows, it shows with more bytes after it too, but that a byte is missing.
-use Rattle.std.proofs.Common.{◌≡◌, ◌≢◌, ℕ, ◌+◌, ◌-◌, ◌*◌, ◌^◌, ◌<◌, ◌≤◌, true, false, eqb, ltb, Bool, cond, List, [], ◌∷◌, ◌++◌, length, slice_index, take, drop, Option, Some, None, refl, sym, ap, ◌∙◌, arith, inl, inr, ◌⊎◌}
+use Rattle.std.proofs.Common.{◌≡◌, ◌≢◌, ℕ, ◌+◌, ◌-◌, ◌^◌, ◌<◌, ◌≤◌, true, false, eqb, ltb, Bool, cond, List, [], ◌∷◌, ◌++◌, length, slice_index, take, drop, Option, Some, None, refl, sym, ap, ◌∙◌, arith, inl, inr, ◌⊎◌}
 use Rattle.std.specs.Prelude.{◌||◌, ◌&&◌, not, nat_le}
 use Rattle.std.specs.List.{starts_with, list_all}
 use Rattle.std.proofs.Math.Utf8.{scalar}
-use Rattle.std.proofs.lemmas.Bool.{cases_lt, cases_Bool, lt-ltb, le-ltb, ltb-false, eqb-true, and_parts}
+use Rattle.std.proofs.lemmas.Bool.{cases_lt, cases_Bool, lt-ltb, le-ltb, ltb-false}
 use Rattle.std.proofs.lemmas.List.{length-append, length-drop, take-append-le, drop-append-le, get_or_append_left}
 use Rattle.byteorder.specs.Endian.{big_number}
 use Rattle.byteorder.specs.Numbers.{big_from-append}
@@ -12,7 +12,7 @@ use Rattle.op_codec.specs.declared.fault.Cause.TheVariants.{BadMagic, BadVersion
 use Rattle.op_codec.specs.declared.position.Version.{Version}
 use Rattle.bg_types.specs.Identifier.{Identifier}
 use Rattle.op_codec.specs.Spelling.{magic, follows, most_insertions}
-use Rattle.op_codec.specs.Fault.{first_cause, or_else, header_cause, identifier_at, has_zero, is_half_zero, erasure_cause, insertion_cause, length_cause, run_count, is_run_length, run_cause, run_frame_cause, characters_in, frame_cause, joined_cause, cause_at}
+use Rattle.op_codec.specs.Fault.{first_cause, or_else, header_cause, identifier_at, has_zero, is_half_zero, erasure_cause, insertion_cause, length_cause, is_run_length, run_cause, run_frame_cause, characters_in, frame_cause, joined_cause, cause_at}
 use Rattle.op_codec.proofs.Frames.{run_parts}
 use Rattle.op_codec.proofs.Shown.{no_cause, neither, length_right, cause_or_none}
 

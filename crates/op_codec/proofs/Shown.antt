@@ -1,5 +1,5 @@
 -- Bytes that show no cause begin with the header, or with a frame.
-use Rattle.std.proofs.Common.{◌≡◌, ℕ, ◌+◌, ◌-◌, ◌*◌, ◌^◌, ◌<◌, ◌≤◌, true, false, eqb, ltb, Bool, List, [], ◌∷◌, ◌++◌, length, slice_index, take, drop, Option, Some, None, refl, sym, ap, ◌∙◌, arith, inl, inr, ◌⊎◌}
+use Rattle.std.proofs.Common.{◌≡◌, ℕ, ◌+◌, ◌-◌, ◌^◌, ◌<◌, ◌≤◌, true, false, eqb, ltb, Bool, List, [], ◌∷◌, ◌++◌, length, slice_index, take, drop, Option, Some, None, refl, sym, ap, ◌∙◌, arith, inl, inr, ◌⊎◌}
 use Rattle.std.specs.Prelude.{◌||◌, ◌&&◌, not, nat_le, if◌then◌else◌}
 use Rattle.std.specs.List.{starts_with, list_all}
 use Rattle.std.proofs.Math.Utf8.{scalar}
@@ -19,9 +19,9 @@ use Rattle.op_codec.specs.declared.fault.Cause.TheVariants.{UnknownKind}
 use Rattle.op_codec.specs.declared.position.Version.{Version}
 use Rattle.op_codec.specs.declared.position.Version.TheVariants.{One, Two}
 use Rattle.op_codec.specs.declared.fault.Cause.TheVariants.{BadLength}
-use Rattle.op_codec.specs.Spelling.{Frame, magic, header, version_number, parent_identifier, frame, frame_bytes, bytes_with, most_insertions}
+use Rattle.op_codec.specs.Spelling.{Frame, magic, header, parent_identifier, frame, frame_bytes, most_insertions}
 use Rattle.op_codec.specs.Frames.{IsFrame}
-use Rattle.op_codec.specs.Fault.{or_else, header_cause, identifier_at, has_zero, is_half_zero, erasure_cause, insertion_cause, length_cause, numbers_cause, run_cause, run_frame_cause, run_count, is_run_length, characters_in, frame_cause}
+use Rattle.op_codec.specs.Fault.{or_else, header_cause, identifier_at, has_zero, is_half_zero, erasure_cause, insertion_cause, length_cause, numbers_cause, run_cause, run_frame_cause, is_run_length, characters_in, frame_cause}
 use Rattle.op_codec.proofs.Bytes.{IsBytes, IsBytes-drop, IsBytes-take}
 use Rattle.op_codec.proofs.Frames.{erasure_fields, insertion_fields, erasure_spelled, insertion_spelled, run_parts, run_fields, run_spelled, further_count}
 use Rattle.op_codec.proofs.Characters.{characters_more, scalars_there}

@@ -10,7 +10,7 @@ use Rattle.bg_types.specs.declared.op.OpView.TheVariants.{Insert, Erase}
 use Rattle.op_codec.specs.declared.fault.Cause.{Cause}
 use Rattle.op_codec.specs.declared.position.Version.{Version}
 use Rattle.op_codec.specs.declared.position.Version.TheVariants.{One, Two}
-use Rattle.op_codec.specs.Spelling.{Frame, frame, bytes_with, frame_bytes, frame_ops, header, joins, tip, last_tip, tip_of, frames_of, most_insertions, spelling_in, SpellsIn, Spells}
+use Rattle.op_codec.specs.Spelling.{Frame, bytes_with, frame_bytes, frame_ops, header, joins, tip, last_tip, tip_of, frames_of, most_insertions, spelling_in, SpellsIn, Spells}
 use Rattle.op_codec.specs.Frames.{IsFrame, AreFrames}
 use Rattle.op_codec.specs.Fault.{header_cause, cause_at, IsFault}
 use Rattle.op_codec.proofs.ReadBack.{frame_unique}

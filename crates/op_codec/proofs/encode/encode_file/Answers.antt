@@ -1,5 +1,5 @@
 -- The goals of `encode_file` that are answered by hand.
-use Rattle.std.proofs.Common.{◌≡◌, arith, ap, subst, ◌∙◌, sym, length, ℕ, List, take}
+use Rattle.std.proofs.Common.{arith, ap, subst, ◌∙◌, sym, length, ℕ, List}
 use Rattle.std.specs.List.{AllByRecursion}
 use Rattle.std.proofs.lemmas.List.{take_all}
 use Rattle.bg_types.specs.WellFormed.{IsWellFormed}

@@ -1,5 +1,5 @@
 -- The goals of `read_behind_header` that are answered by hand.
-use Rattle.op_codec.proofs.Feeds.{header_stays, header_goes_on, header_right_so, start_behind, none_well}
+use Rattle.op_codec.proofs.Feeds.{header_stays}
 use Rattle.op_codec.proofs.feed.read_behind_header.Goals as goal
 
 pub returns-in_default-clause-taken : goal.returns-in_default-clause-taken

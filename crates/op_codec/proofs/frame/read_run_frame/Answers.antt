@@ -1,8 +1,5 @@
 -- The goals of `read_run_frame` that are answered by hand.
-use Rattle.std.proofs.Common.{List, ℕ, ◌-◌, ◌++◌, drop, take, length, sym, ap, subst, ◌∙◌, arith}
-use Rattle.std.proofs.lemmas.List.{take_all, length-take, length-drop}
-use Rattle.op_codec.specs.Fault.{characters_in}
-use Rattle.op_codec.specs.Frames.{BeginsWith}
+use Rattle.std.proofs.Common.{sym, ◌∙◌, arith}
 use Rattle.op_codec.proofs.Runs.{run_begins}
 use Rattle.op_codec.proofs.frame.read_run_frame.Goals as goal
 

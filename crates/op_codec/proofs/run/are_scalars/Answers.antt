@@ -1,5 +1,5 @@
 -- The goals of `are_scalars` that are answered by hand.
-use Rattle.std.proofs.Common.{List, ℕ, ◌-◌, drop, take, length, sym, ap, ◌∙◌, arith}
+use Rattle.std.proofs.Common.{List, ℕ, ◌-◌, drop, length, sym, ap, ◌∙◌, arith}
 use Rattle.std.specs.List.{list_all}
 use Rattle.std.proofs.Math.Utf8.{scalar}
 use Rattle.std.proofs.lemmas.List.{take_all, length-drop}

@@ -1,6 +1,5 @@
 -- The goals of `feed` that are answered by hand.
 use Rattle.std.proofs.Common.{◌≡◌, ◌++◌, ℕ, List, length, take, sym, ap, subst, ◌∙◌, arith, rules}
-use Rattle.bg_types.specs.declared.op.OpView.{OpView}
 use Rattle.std.specs.Prelude.{Err, OnOk, IfErr}
 use Rattle.op_codec.specs.declared.fault.CodecFault.TheVariants.{Memory}
 use Rattle.op_codec.specs.Feed.{IsSound, IsFeedOutcome, bytes_of, kept_fault, IsMissing, TellsKept, AreTaken}
