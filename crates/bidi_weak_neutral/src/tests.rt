@@ -52,12 +52,8 @@ fn assert_rows(rt: &(impl Abort + AllocGlobal), base: Base, rows: &str) -> Resul
     Ok(())
 }
 
-#[test]
-fn levels_of_some_paragraphs(rt: HostRuntime) -> Result<(), Fail> {
-    assert_rows(
-        &rt,
-        Base::Auto,
-        "\
+/// Paragraphs by their own direction.
+const OF_THEIR_OWN: &str = "\
 -|ab \u{5D0}\u{5D1}\u{5D2}|000111;
 -|\u{5D0}\u{5D1} 12|11122;
 -|\u{5D0}(b)|1121;
@@ -106,8 +102,11 @@ N2| a\u{5D0}!|0010;
 N2|\u{5D0}a! |1211;
 X9|\u{200D}a\u{200D}|000;
 X9|\u{200B}\u{5D0}\u{200B}a\u{200B}|11122;
-X9|\u{202A}a\u{202C}\u{5D0}|0221",
-    )
+X9|\u{202A}a\u{202C}\u{5D0}|0221";
+
+#[test]
+fn levels_of_some_paragraphs(rt: HostRuntime) -> Result<(), Fail> {
+    assert_rows(&rt, Base::Auto, OF_THEIR_OWN)
 }
 
 #[test]

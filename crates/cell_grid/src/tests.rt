@@ -121,46 +121,48 @@ const MIXED: &str =
 const MIXED_SHOWN: &str =
     "The word \u{5DD}\u{5D5}\u{5DC}\u{5E9} (peace)   \nand 120 \u{62F}\u{62F}\u{639}\u{644}\u{627} (a number)\nin one paragraph.       \n";
 
+/// Texts, widths, and what is printed.
+const PRINTED: [(&str, u16, &str); 21] = [
+    (MIXED, 24, MIXED_SHOWN),
+    ("", 4, "    \n"),
+    (
+        "ab \u{5D0}\u{5D1}\u{5D2}",
+        8,
+        "ab \u{5D2}\u{5D1}\u{5D0}  \n",
+    ),
+    ("\u{5D0}\u{5D1} 12", 8, "   12 \u{5D1}\u{5D0}\n"),
+    ("\u{5D0}(b)", 4, "(b)\u{5D0}\n"),
+    ("a\u{2067}b!\u{2069}c", 4, "a!bc\n"),
+    ("ab cd", 2, "ab\ncd\n"),
+    ("abcdef", 4, "abcd\nef  \n"),
+    // A wide cluster takes a line of two columns by itself.
+    ("a\u{4E16}b", 2, "a \n\u{4E16}\nb \n"),
+    ("a\r\nb", 2, "a \nb \n"),
+    // A text that ends with a separator has a last, empty row.
+    ("a\n", 2, "a \n  \n"),
+    ("e\u{301}", 2, "e\u{301} \n"),
+    ("a   ", 3, "a  \n"),
+    (
+        "a \u{5D0}\u{5D1} \u{5D2}\u{5D3}",
+        5,
+        "a \u{5D1}\u{5D0} \n\u{5D3}\u{5D2}   \n",
+    ),
+    ("\u{627}12", 4, " 12\u{627}\n"),
+    // A tab is shown as one space, and resets its level.
+    ("a\tb", 4, "a b \n"),
+    ("\u{5D0}\tb", 4, " b \u{5D0}\n"),
+    // Spaces that hang in a paragraph of odd level stand on its left.
+    ("\u{5D0}   ", 3, "  \u{5D0}\n"),
+    // A bracket is mirrored at an odd level alone.
+    ("\u{5D0}(", 2, ")\u{5D0}\n"),
+    ("a(", 2, "a(\n"),
+    ("\u{5D0}\u{4E16}", 2, " \u{5D0}\n\u{4E16}\n"),
+];
+
 #[test]
 fn texts_are_printed(rt: HostRuntime) -> Result<(), Fail> {
     let tables = tables_with(rt.alloc(), vectors::MIRROR)?;
-    let rows: [(&str, u16, &str); 21] = [
-        (MIXED, 24, MIXED_SHOWN),
-        ("", 4, "    \n"),
-        (
-            "ab \u{5D0}\u{5D1}\u{5D2}",
-            8,
-            "ab \u{5D2}\u{5D1}\u{5D0}  \n",
-        ),
-        ("\u{5D0}\u{5D1} 12", 8, "   12 \u{5D1}\u{5D0}\n"),
-        ("\u{5D0}(b)", 4, "(b)\u{5D0}\n"),
-        ("a\u{2067}b!\u{2069}c", 4, "a!bc\n"),
-        ("ab cd", 2, "ab\ncd\n"),
-        ("abcdef", 4, "abcd\nef  \n"),
-        // A wide cluster takes a line of two columns by itself.
-        ("a\u{4E16}b", 2, "a \n\u{4E16}\nb \n"),
-        ("a\r\nb", 2, "a \nb \n"),
-        // A text that ends with a separator has a last, empty row.
-        ("a\n", 2, "a \n  \n"),
-        ("e\u{301}", 2, "e\u{301} \n"),
-        ("a   ", 3, "a  \n"),
-        (
-            "a \u{5D0}\u{5D1} \u{5D2}\u{5D3}",
-            5,
-            "a \u{5D1}\u{5D0} \n\u{5D3}\u{5D2}   \n",
-        ),
-        ("\u{627}12", 4, " 12\u{627}\n"),
-        // A tab is shown as one space, and resets its level.
-        ("a\tb", 4, "a b \n"),
-        ("\u{5D0}\tb", 4, " b \u{5D0}\n"),
-        // Spaces that hang in a paragraph of odd level stand on its left.
-        ("\u{5D0}   ", 3, "  \u{5D0}\n"),
-        // A bracket is mirrored at an odd level alone.
-        ("\u{5D0}(", 2, ")\u{5D0}\n"),
-        ("a(", 2, "a(\n"),
-        ("\u{5D0}\u{4E16}", 2, " \u{5D0}\n\u{4E16}\n"),
-    ];
-    for (text, width, shown) in rows {
+    for (text, width, shown) in PRINTED {
         assert_printed(&rt, &tables, text, width, shown)?;
     }
     Ok(())

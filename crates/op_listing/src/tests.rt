@@ -1,6 +1,7 @@
 //! Files and listings worked out by hand, both ways.
 
 use super::*;
+use LineFault::{BadLine, NotAScalar, ParentNotBefore, ZeroField};
 use bg_types::{Out, Stops};
 use op_codec::{Cause, CodecFault};
 use std::alloc::Global;
@@ -77,52 +78,53 @@ fn a_listing_is_read_with_its_freedoms(rt: HostRuntime) {
     }
 }
 
+/// Listings, the number of their first faulty line, and its fault.
+const FAULTY_LINES: [(&[u8], usize, LineFault); 40] = [
+    (b"i 1.1 root 61", 1, BadLine),
+    (b"i 1.1 root 0000061", 1, BadLine),
+    (b"i 1.1 root 006G", 1, BadLine),
+    (b"i 1.1 root", 1, BadLine),
+    (b"i 1.1", 1, BadLine),
+    (b"i", 1, BadLine),
+    (b"i 1.1 root 0061 x", 1, BadLine),
+    (b"i 1.1 Root 0061", 1, BadLine),
+    (b"i 1.1 roots 0061", 1, BadLine),
+    (b"i 4294967296.1 root 0061", 1, BadLine),
+    (b"i 9999999999.1 root 0061", 1, BadLine),
+    (b"i 1.65536 root 0061", 1, BadLine),
+    (b"i 2.1 1.65536 0061", 1, BadLine),
+    (b"i 1.1.1 root 0061", 1, BadLine),
+    (b"i\t1.1 root 0061", 1, BadLine),
+    (b"i 1.1\troot 0061", 1, BadLine),
+    (b"e 1.1 x", 1, BadLine),
+    (b"e", 1, BadLine),
+    (b"e 1", 1, BadLine),
+    (b"e 1.", 1, BadLine),
+    (b"e .1", 1, BadLine),
+    (b"e +1.1", 1, BadLine),
+    (b"e 1.1.1", 1, BadLine),
+    (b"e 00000000001.1", 1, BadLine),
+    (b"e 1.00000000001", 1, BadLine),
+    (b"E 1.1", 1, BadLine),
+    (b"\xFF 1.1", 1, BadLine),
+    (b"e 1.1\r", 1, BadLine),
+    (b"e 1.1\r\r\n", 1, BadLine),
+    (b"e 1.1\n\r\n\ne 0.1\nx", 4, ZeroField),
+    (b"e 1.1\ne 1.1\nx", 3, BadLine),
+    (b"i 0.1 root 0061", 1, ZeroField),
+    (b"i 1.0 root 0061", 1, ZeroField),
+    (b"i 2.1 0.0 0061", 1, ZeroField),
+    (b"i 2.1 1.0 0061", 1, ZeroField),
+    (b"i 0.1 root 61", 1, BadLine),
+    (b"i 0.1 5.1 D800", 1, ZeroField),
+    (b"i 2.1 2.2 D800", 1, ParentNotBefore),
+    (b"i 1.1 root D800", 1, NotAScalar),
+    (b"i 2.1 1.2 110000", 1, NotAScalar),
+];
+
 #[test]
 fn a_faulty_line_shows_its_first_fault(rt: HostRuntime) {
-    use LineFault::{BadLine, NotAScalar, ParentNotBefore, ZeroField};
-    let rows: [(&[u8], usize, LineFault); 40] = [
-        (b"i 1.1 root 61", 1, BadLine),
-        (b"i 1.1 root 0000061", 1, BadLine),
-        (b"i 1.1 root 006G", 1, BadLine),
-        (b"i 1.1 root", 1, BadLine),
-        (b"i 1.1", 1, BadLine),
-        (b"i", 1, BadLine),
-        (b"i 1.1 root 0061 x", 1, BadLine),
-        (b"i 1.1 Root 0061", 1, BadLine),
-        (b"i 1.1 roots 0061", 1, BadLine),
-        (b"i 4294967296.1 root 0061", 1, BadLine),
-        (b"i 9999999999.1 root 0061", 1, BadLine),
-        (b"i 1.65536 root 0061", 1, BadLine),
-        (b"i 2.1 1.65536 0061", 1, BadLine),
-        (b"i 1.1.1 root 0061", 1, BadLine),
-        (b"i\t1.1 root 0061", 1, BadLine),
-        (b"i 1.1\troot 0061", 1, BadLine),
-        (b"e 1.1 x", 1, BadLine),
-        (b"e", 1, BadLine),
-        (b"e 1", 1, BadLine),
-        (b"e 1.", 1, BadLine),
-        (b"e .1", 1, BadLine),
-        (b"e +1.1", 1, BadLine),
-        (b"e 1.1.1", 1, BadLine),
-        (b"e 00000000001.1", 1, BadLine),
-        (b"e 1.00000000001", 1, BadLine),
-        (b"E 1.1", 1, BadLine),
-        (b"\xFF 1.1", 1, BadLine),
-        (b"e 1.1\r", 1, BadLine),
-        (b"e 1.1\r\r\n", 1, BadLine),
-        (b"e 1.1\n\r\n\ne 0.1\nx", 4, ZeroField),
-        (b"e 1.1\ne 1.1\nx", 3, BadLine),
-        (b"i 0.1 root 0061", 1, ZeroField),
-        (b"i 1.0 root 0061", 1, ZeroField),
-        (b"i 2.1 0.0 0061", 1, ZeroField),
-        (b"i 2.1 1.0 0061", 1, ZeroField),
-        (b"i 0.1 root 61", 1, BadLine),
-        (b"i 0.1 5.1 D800", 1, ZeroField),
-        (b"i 2.1 2.2 D800", 1, ParentNotBefore),
-        (b"i 1.1 root D800", 1, NotAScalar),
-        (b"i 2.1 1.2 110000", 1, NotAScalar),
-    ];
-    for (listing, line, fault) in rows {
+    for (listing, line, fault) in FAULTY_LINES {
         let (answer, bytes) = packed(rt.alloc(), listing);
         assert_eq!(rt;
             answer,
