@@ -22,7 +22,7 @@ alone op = record { first = op; further = [] }
 
 -- ---- one more insertion
 
-same_id : (a b : Identifier) → a.counter ≡ b.counter → a.site ≡ b.site → a ≡ b
+pub same_id : (a b : Identifier) → a.counter ≡ b.counter → a.site ≡ b.site → a ≡ b
 same_id a b counter site = λ i. record { counter = counter i; site = site i }
 
 parent_is : (p : Place) (b : Identifier) → 0 < b.counter → (parent_identifier p).counter ≡ b.counter → (parent_identifier p).site ≡ b.site → p ≡ After b
@@ -30,7 +30,7 @@ parent_is Root b some counter site = absurd (omega (arith, some, counter))
 parent_is (After a) b some counter site = ap After (same_id a b counter site)
 
 -- what joins an insertion is the next one of a run
-joined_is : (b id : Identifier) (p : Place) (c : ℕ) → 0 < b.counter → joins (Some b) (Insert id p c) ≡ true → Insert id p c ≡ Insert (next_of b) (After b) c
+pub joined_is : (b id : Identifier) (p : Place) (c : ℕ) → 0 < b.counter → joins (Some b) (Insert id p c) ≡ true → Insert id p c ≡ Insert (next_of b) (After b) c
 joined_is b id p c some e =
     let parent = parent_identifier p in
     let last = and_parts (eqb parent.counter b.counter && eqb parent.site b.site && eqb id.site b.site) (eqb id.counter (b.counter + 1)) e in

@@ -9,6 +9,9 @@ pub mod Unique
 pub mod Shown
 pub mod Complete
 pub mod Runs
+pub mod Gathers
+pub mod Written
+pub mod Migrations
 pub mod Whole
 pub mod Sizes
 pub mod Settled

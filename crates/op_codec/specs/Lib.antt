@@ -2,6 +2,8 @@
 pub mod Code
 pub mod Spelling
 pub mod Frames
+pub mod Gathering
+pub mod Migration
 pub mod Fault
 pub mod Feed
 pub mod Gives

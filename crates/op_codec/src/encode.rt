@@ -60,7 +60,7 @@ fn file_size(ops: &[Op]) -> usize
     size
 }
 
-fn frame_size(op: &Op) -> usize
+pub fn frame_size(op: &Op) -> usize
     ensures { result ≡ length (frame op.now) }
 {
     match op.view() {
@@ -69,7 +69,7 @@ fn frame_size(op: &Op) -> usize
     }
 }
 
-fn insertion_frame(id: Id, parent: &Place, ch: char) -> [u8; INSERTION_SIZE]
+pub fn insertion_frame(id: Id, parent: &Place, ch: char) -> [u8; INSERTION_SIZE]
     ensures { result ≡ frame (OpView.Insert id parent.now ch) }
 {
     let mut frame = [0; INSERTION_SIZE];

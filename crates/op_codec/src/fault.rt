@@ -4,6 +4,7 @@ ghost use Rattle.std.specs.Prelude.{◌≡◌};
 ghost use Rattle.op_codec.specs.declared.fault.CodecFault.TheVariants.{Memory as memory};
 ghost use Rattle.op_codec.specs.Code.{cause_code, fault_code, frame_number};
 
+use bg_types::Memory;
 use std::alloc::{AllocError, AllocFailed};
 use thiserror::Error;
 
@@ -108,6 +109,14 @@ impl<T: Drop> From<AllocFailed<T>> for CodecFault {
     ghost from_gives = { λ _ e. e ≡ memory };
 
     fn from(_error: AllocFailed<T>) -> CodecFault {
+        CodecFault::Memory
+    }
+}
+
+impl From<Memory> for CodecFault {
+    ghost from_gives = { λ _ e. e ≡ memory };
+
+    fn from(_error: Memory) -> CodecFault {
         CodecFault::Memory
     }
 }

@@ -30,6 +30,9 @@ pub const RUN: u8 = 3;
 /// How many bytes a character of a run has.
 pub const CHARACTER_SIZE: usize = 4;
 
+/// The most insertions that a run has after its first.
+pub const MOST_FURTHER: usize = 1_023;
+
 /// How many bytes of a run's frame stand before its further characters, its length excluded but for
 /// the kind: the fields of its first insertion.
 pub const INSERTION_FIELDS: usize = 16;

@@ -1,6 +1,6 @@
 //! Laws of the definitions: each function's contract is the law, and its body is empty.
 
-ghost use Rattle.std.specs.Prelude.{◌≡◌, ◌≢◌, ◌<◌, ◌⊎◌, ◌++◌, ℕ, List, [], All, Ok, Err};
+ghost use Rattle.std.specs.Prelude.{◌≡◌, ◌≢◌, ◌<◌, ◌≤◌, ◌⊎◌, ◌↔◌, ◌++◌, ℕ, List, [], length, All, None, Ok, Err};
 ghost use Rattle.std.specs.List.{AllByRecursion};
 ghost use Rattle.bg_types.specs.WellFormed.{IsWellFormed};
 ghost use Rattle.bg_types.specs.declared.op.OpView.{OpView};
@@ -8,9 +8,11 @@ ghost use Rattle.op_codec.specs.declared.fault.Cause.{Cause};
 ghost use Rattle.op_codec.specs.declared.fault.Cause.TheVariants.{Truncated};
 ghost use Rattle.op_codec.specs.declared.fault.CodecFault.TheVariants.{Malformed, Memory};
 ghost use Rattle.op_codec.specs.declared.position.Version.{Version};
-ghost use Rattle.op_codec.specs.Spelling.{Spells, SpellsIn};
+ghost use Rattle.op_codec.specs.declared.position.Version.TheVariants.{One, Two};
+ghost use Rattle.op_codec.specs.Spelling.{spelling_in, Spells, SpellsIn};
 ghost use Rattle.op_codec.specs.Fault.{IsFault};
 ghost use Rattle.op_codec.specs.Feed.{IsWhole, IsSound, IsLasting, IsFed, IsFeedOutcome};
+ghost use Rattle.op_codec.specs.Migration.{IsMigration, AreApart};
 
 /// Bytes spell at most one list of operations, and a list of well-formed operations has exactly
 /// one spelling in each version.
@@ -60,4 +62,23 @@ pub fn fed_in_pieces()
     ensures ops { (all kept : List ℕ) (ops : List OpView) → IsFed all kept → IsWhole kept ops → IsWhole all ops }
     ensures spelled { (all kept : List ℕ) (ops : List OpView) → IsFed all kept → Spells kept ops → Spells all ops }
     ensures told { (all kept : List ℕ) (frame : ℕ) (cause : Cause) → IsFed all kept → IsFault kept frame cause → IsFault all frame cause }
+{}
+
+/// A file and its migration spell the same operations, so that nothing that reads operations can tell
+/// the versions apart. A file that spells operations has one migration, which is never longer and
+/// migrates to itself, as every file of version 2 does.
+pub fn migrated_file()
+    ensures same { (file migrated : List ℕ) (ops : List OpView) → IsMigration file migrated → Spells file ops ↔ Spells migrated ops }
+    ensures one_file { (file a b : List ℕ) → IsMigration file a → IsMigration file b → a ≡ b }
+    ensures some_file { (file : List ℕ) (ops : List OpView) → Spells file ops → (migrated : List ℕ) × IsMigration file migrated }
+    ensures again { (file migrated : List ℕ) → IsMigration file migrated → IsMigration migrated migrated }
+    ensures itself { (file : List ℕ) (ops : List OpView) → SpellsIn Two file ops → IsMigration file file }
+    ensures no_longer { (file migrated : List ℕ) → IsMigration file migrated → length migrated ≤ length file }
+{}
+
+/// Version 2 is never longer than version 1, and as long exactly where no operation joins the one
+/// before it.
+pub fn version_two_length()
+    ensures no_longer { (ops : List OpView) → length (spelling_in Two ops) ≤ length (spelling_in One ops) }
+    ensures as_long { (ops : List OpView) → (length (spelling_in Two ops) ≡ length (spelling_in One ops)) ↔ AreApart None ops }
 {}

@@ -1,10 +1,11 @@
--- What `dump` and `pack` answer, and what is written then.
+-- What `dump`, `migrate` and `pack` answer, and what is written then.
 use Rattle.std.specs.Prelude.{◌≡◌, ℕ, true, false, Bool, List, Option, Result, Ok, Err}
 use Rattle.std.specs.Io.KnownBytes.{Appends, Keeps}
 use Rattle.bg_types.specs.Sink.{AppendsBeginning}
 use Rattle.bg_types.specs.declared.op.OpView.{OpView}
 use Rattle.op_codec.specs.Spelling.{spelling, Spells}
 use Rattle.op_codec.specs.Fault.{IsFault}
+use Rattle.op_codec.specs.Migration.{IsMigration}
 use Rattle.op_listing.specs.declared.file_fault.FileFault.{FileFault}
 use Rattle.op_listing.specs.declared.file_fault.FileFault.TheVariants as file
 use Rattle.op_listing.specs.declared.listing_fault.ListingFault.{ListingFault}
@@ -33,6 +34,28 @@ IsDumpOutcome bytes old new failed (Ok done) = (failed ≡ false) × WritesListi
 IsDumpOutcome bytes old new failed (Err (file.Malformed frame cause)) = (failed ≡ false) × Keeps old new × IsFault bytes frame cause
 IsDumpOutcome bytes old new failed (Err file.Device) = (failed ≡ true) × BeginsListing bytes old new
 IsDumpOutcome bytes old new failed (Err file.Memory) = (failed ≡ false) × Keeps old new
+
+-- ---- migrate
+
+-- the written bytes grew by the file's migration
+pub record WritesMigration (bytes : List ℕ) (old new : Option (List ℕ)) : Type 0 where
+  pub migrated : List ℕ
+  pub migration : IsMigration bytes migrated
+  pub written : Appends old new migrated
+
+-- the written bytes grew by a beginning of it
+pub record BeginsMigration (bytes : List ℕ) (old new : Option (List ℕ)) : Type 0 where
+  pub migrated : List ℕ
+  pub migration : IsMigration bytes migrated
+  pub written : AppendsBeginning old new migrated
+
+-- what was written before and after, whether the sink has failed, and the answer: the whole migrated file; the file's first
+-- fault and nothing written; a failed sink that took a beginning; or lack of memory and nothing written
+abbrev pub IsMigrateOutcome : List ℕ → (old new : Option (List ℕ)) → Bool → Result (Unit {0}) FileFault → Type 0
+IsMigrateOutcome bytes old new failed (Ok done) = (failed ≡ false) × WritesMigration bytes old new
+IsMigrateOutcome bytes old new failed (Err (file.Malformed frame cause)) = (failed ≡ false) × Keeps old new × IsFault bytes frame cause
+IsMigrateOutcome bytes old new failed (Err file.Device) = (failed ≡ true) × BeginsMigration bytes old new
+IsMigrateOutcome bytes old new failed (Err file.Memory) = (failed ≡ false) × Keeps old new
 
 -- ---- pack
 

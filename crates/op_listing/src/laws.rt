@@ -9,7 +9,8 @@ ghost use Rattle.bg_types.specs.Sink.{AppendsBeginning};
 ghost use Rattle.bg_types.specs.WellFormed.{IsWellFormed};
 ghost use Rattle.bg_types.specs.declared.op.OpView.{OpView};
 ghost use Rattle.op_codec.specs.declared.fault.Cause.{Cause};
-ghost use Rattle.op_codec.specs.Spelling.{spelling, Spells};
+ghost use Rattle.op_codec.specs.declared.position.Version.TheVariants.{Two};
+ghost use Rattle.op_codec.specs.Spelling.{spelling, spelling_in, Spells};
 ghost use Rattle.op_codec.specs.Fault.{IsFault};
 ghost use Rattle.op_listing.specs.declared.line_fault.LineFault.{LineFault};
 ghost use Rattle.op_listing.specs.declared.file_fault.FileFault.{FileFault as FaultOfFile};
@@ -19,7 +20,7 @@ ghost use Rattle.op_listing.specs.declared.listing_fault.ListingFault.TheVariant
 ghost use Rattle.op_listing.specs.FirstFault.{AreFaultless, IsFirstFault, AreRead};
 ghost use Rattle.op_listing.specs.Listing.{listing_of};
 ghost use Rattle.op_listing.specs.Listed.{Lists, IsFaultyLine};
-ghost use Rattle.op_listing.specs.Outcome.{IsDumpOutcome, IsPackOutcome};
+ghost use Rattle.op_listing.specs.Outcome.{IsDumpOutcome, IsMigrateOutcome, IsPackOutcome};
 
 use op_codec::laws as codec;
 
@@ -77,6 +78,24 @@ pub fn dump_outcomes()
         → ((result ≡ Err (file.Malformed frame cause)) ⊎ (result ≡ Err file.Memory)) × Keeps old new }
     ensures device { (bytes : List ℕ) (old new : Option (List ℕ)) (failed : Bool) (result : Result (Unit {0}) FaultOfFile)
         → IsDumpOutcome bytes old new failed result → (failed ≡ true) ↔ (result ≡ Err file.Device) }
+{
+    codec::one_spelling();
+    codec::spelled_or_faulty();
+}
+
+/// What a file has decides the answer of `migrate`, memory aside: what it spells is written whole in
+/// version 2, or a beginning of it up to a failed write; a faulty one has its fault told. `Device` is
+/// answered exactly where the sink has failed.
+pub fn migrate_outcomes()
+    ensures spelled { (bytes : List ℕ) (old new : Option (List ℕ)) (failed : Bool) (result : Result (Unit {0}) FaultOfFile) (ops : List OpView)
+        → IsMigrateOutcome bytes old new failed result → Spells bytes ops
+        → MatchResult result (λ _. Appends old new (spelling_in Two ops))
+        (λ fault. ((fault ≡ file.Device) × AppendsBeginning old new (spelling_in Two ops)) ⊎ ((fault ≡ file.Memory) × Keeps old new)) }
+    ensures faulty { (bytes : List ℕ) (old new : Option (List ℕ)) (failed : Bool) (result : Result (Unit {0}) FaultOfFile) (frame : ℕ) (cause : Cause)
+        → IsMigrateOutcome bytes old new failed result → IsFault bytes frame cause
+        → ((result ≡ Err (file.Malformed frame cause)) ⊎ (result ≡ Err file.Memory)) × Keeps old new }
+    ensures device { (bytes : List ℕ) (old new : Option (List ℕ)) (failed : Bool) (result : Result (Unit {0}) FaultOfFile)
+        → IsMigrateOutcome bytes old new failed result → (failed ≡ true) ↔ (result ≡ Err file.Device) }
 {
     codec::one_spelling();
     codec::spelled_or_faulty();

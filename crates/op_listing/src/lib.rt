@@ -1,5 +1,5 @@
 //! Listings: operations as lines of text, both ways, with the engines that convert operation files into
-//! listings and back.
+//! listings and back, and into files of version 2.
 #![tactic(auto)]
 
 mod engine;
@@ -15,6 +15,7 @@ mod number;
 mod words;
 
 pub use engine::dump::dump;
+pub use engine::migrate::migrate;
 pub use engine::pack::pack;
 pub use file_fault::FileFault;
 pub use line_fault::LineFault;

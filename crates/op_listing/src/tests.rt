@@ -22,10 +22,26 @@ const TREE: [u8; 90] = [
 const TREE_LISTING: &[u8] =
     b"i 1.1 root 0061\ni 2.2 1.1 0078\ni 3.2 2.2 0079\ni 2.1 1.1 0062\ne 2.2\n";
 
+/// The same operations in version 2: the second and the third are a run.
+const TREE_MIGRATED: [u8; 75] = [
+    0x42, 0x47, 0x4F, 0x50, 2, // BGOP, version 2
+    0, 17, 1, 0, 0, 0, 1, 0, 1, 0, 0, 0, 0, 0, 0, 0, 0, 0, 0x61, // frame 1
+    0, 21, 3, 0, 0, 0, 2, 0, 2, 0, 0, 0, 1, 0, 1, 0, 0, 0, 0x78, 0, 0, 0, 0x79, // frame 2
+    0, 17, 1, 0, 0, 0, 2, 0, 1, 0, 0, 0, 1, 0, 1, 0, 0, 0, 0x62, // frame 3
+    0, 7, 2, 0, 0, 0, 2, 0, 2, // frame 4
+];
+
 /// What `dump` answers, and what is written.
 fn dumped(alloc: Global, file: &[u8]) -> (Result<(), FileFault>, Vec<u8>) {
     let mut bytes = Vec::new(alloc);
     let answer = dump(alloc, file, &mut Out::new(&mut bytes));
+    (answer, bytes)
+}
+
+/// What `migrate` answers, and what is written.
+fn migrated(alloc: Global, file: &[u8]) -> (Result<(), FileFault>, Vec<u8>) {
+    let mut bytes = Vec::new(alloc);
+    let answer = migrate(alloc, file, &mut Out::new(&mut bytes));
     (answer, bytes)
 }
 
@@ -53,6 +69,25 @@ fn files_and_listings_worked_out_by_hand(rt: HostRuntime) {
         let (answer, bytes) = packed(rt.alloc(), listing);
         assert_eq!(rt; (answer, bytes.as_slice()), (Ok(()), file));
     }
+}
+
+#[test]
+fn a_file_and_its_migration_have_one_listing(rt: HostRuntime) {
+    for file in [TREE.as_slice(), TREE_MIGRATED.as_slice()] {
+        let (answer, bytes) = migrated(rt.alloc(), file);
+        assert_eq!(rt;
+            (answer, bytes.as_slice()),
+            (Ok(()), TREE_MIGRATED.as_slice())
+        );
+        let (answer, bytes) = dumped(rt.alloc(), file);
+        assert_eq!(rt; (answer, bytes.as_slice()), (Ok(()), TREE_LISTING));
+    }
+    let fault = FileFault::Malformed {
+        frame: 2,
+        cause: Cause::Truncated,
+    };
+    let (answer, bytes) = migrated(rt.alloc(), &TREE_MIGRATED[..40]);
+    assert_eq!(rt; (answer, bytes.is_empty()), (Err(fault), true));
 }
 
 #[test]
@@ -165,6 +200,15 @@ fn a_sink_that_stops_keeps_a_beginning(rt: HostRuntime) {
         let whole = &TREE_LISTING[..left.min(TREE_LISTING.len())];
         assert_eq!(rt; bytes.as_slice(), whole, "{left}");
         let mut bytes = Vec::new(rt.alloc());
+        let answer = migrate(
+            rt.alloc(),
+            &TREE,
+            &mut Stops::new(Out::new(&mut bytes), 7, left),
+        );
+        assert_eq!(rt; answer.is_ok(), left >= TREE_MIGRATED.len(), "{left}");
+        let whole = &TREE_MIGRATED[..left.min(TREE_MIGRATED.len())];
+        assert_eq!(rt; bytes.as_slice(), whole, "{left}");
+        let mut bytes = Vec::new(rt.alloc());
         let answer = pack(
             rt.alloc(),
             TREE_LISTING,
@@ -182,6 +226,11 @@ fn a_call_is_right_or_says_memory(rt: HostRuntime) {
     let mut room = [0u8; 128];
     match dump(rt.alloc(), &TREE, &mut Out::new(room.as_mut_slice())) {
         Ok(()) => assert!(rt; room.starts_with(TREE_LISTING)),
+        Err(fault) => assert_eq!(rt; (fault, room[0]), (FileFault::Memory, 0)),
+    }
+    let mut room = [0u8; 128];
+    match migrate(rt.alloc(), &TREE, &mut Out::new(room.as_mut_slice())) {
+        Ok(()) => assert!(rt; room.starts_with(&TREE_MIGRATED)),
         Err(fault) => assert_eq!(rt; (fault, room[0]), (FileFault::Memory, 0)),
     }
     let mut room = [0u8; 128];

@@ -1,0 +1,95 @@
+//! Writing a whole operation file of version 2.
+
+ghost use Rattle.std.specs.Prelude.{◌≡◌, ◌<◌, ◌≤◌, ◌+◌, ◌-◌, ◌*◌, ◌^◌, ◌∷◌, ◌++◌, min, length, OnOk, IfOk};
+ghost use Rattle.std.specs.List.{flat_map};
+ghost use Rattle.byteorder.specs.Endian.{big_bytes};
+ghost use Rattle.op_codec.specs.Spelling.{frame_fields, frame_bytes, spelling_in, SpellsIn};
+ghost use Rattle.op_codec.specs.Frames.{IsFrame};
+ghost use Rattle.op_codec.specs.Gathering.{inserted_characters};
+
+use crate::encode::{encode_op, frame_size, insertion_frame};
+use crate::format::{CHARACTER_SIZE, HEADER_SIZE, INSERTION_LENGTH, INSERTION_SIZE, MAGIC, RUN};
+use crate::gather::gather;
+use crate::position::Version;
+use bg_types::{Id, Memory, Op, OpView, Place};
+use byteorder::{BigEndian, ByteOrder};
+use std::alloc::Global;
+
+/// The file of the operations, of version 2 (docs/FORMATS.md): what was typed in one go is a frame of
+/// four bytes a character, and fifteen more. Memory is asked for once.
+pub fn encode_file_v2(alloc: Global, ops: &[Op]) -> Result<Vec<u8>, Memory>
+    ensures spelled { IfOk result (λ file. SpellsIn Version.Two file.items ops.now) }
+{
+    // The whole file has room, so nothing below grows it.
+    let mut file = Vec::with_capacity(alloc, file_size(ops))?;
+    file.extend_from_slice(&MAGIC)?;
+    file.push(Version::Two.number())?;
+    let mut rest = ops;
+    while let Some(next) = gather(rest) {
+        write_frame(&next.first, next.further, &mut file)?;
+        rest = next.rest;
+    }
+    Ok(file)
+}
+
+/// How many bytes the file of the operations has in version 2, or `usize::MAX` where it has more.
+fn file_size(ops: &[Op]) -> usize
+    ensures { result ≡ min (length (spelling_in Version.Two ops.now)) (2 ^ 64 - 1) }
+{
+    let mut size = HEADER_SIZE;
+    let mut rest = ops;
+    while let Some(next) = gather(rest) {
+        size = size.saturating_add(frame_size(&next.first) + CHARACTER_SIZE * next.further.len());
+        rest = next.rest;
+    }
+    size
+}
+
+/// Writes the frame of an operation and a run's further insertions at the end.
+fn write_frame(first: &Op, further: &[Op], out: &mut Vec<u8>) -> Result<(), Memory>
+    requires is_frame { IsFrame 1024 (record { first = first.now; further = inserted_characters further.now }) }
+    requires insertions { length (inserted_characters further.now) ≡ length further.now }
+    ensures { OnOk result (out.new.items ≡ out.old.items ++ frame_bytes (record { first = first.now; further = inserted_characters further.now })) }
+{
+    match first.view() {
+        OpView::Insert { id, parent, ch } if !further.is_empty() => {
+            out.extend_from_slice(&run_front(id, &parent, ch, further.len()))?;
+            write_characters(further, out)?;
+        }
+        _ => encode_op(first, out)?,
+    }
+    Ok(())
+}
+
+/// A run's frame up to its first character, the one of this insertion, which so many others follow.
+fn run_front(id: Id, parent: &Place, ch: char, further: usize) -> [u8; INSERTION_SIZE]
+    requires { further ≤ 1023 }
+    ensures { result ≡ big_bytes 2 (17 + 4 * further) ++ 3 ∷ frame_fields (OpView.Insert id parent.now ch) }
+{
+    let mut front = insertion_frame(id, parent, ch);
+    let length = INSERTION_LENGTH + 4 * further as u16;
+    BigEndian::write_u16(&mut front, length);
+    front[2] = RUN;
+    front
+}
+
+/// Writes the characters of the insertions at the end.
+fn write_characters(ops: &[Op], out: &mut Vec<u8>) -> Result<(), Memory>
+    ensures { OnOk result (out.new.items ≡ out.old.items ++ flat_map (big_bytes 4) (inserted_characters ops.now)) }
+{
+    for op in ops {
+        match op.view() {
+            OpView::Insert { ch, .. } => out.extend_from_slice(&character_bytes(ch))?,
+            OpView::Erase { .. } => {}
+        }
+    }
+    Ok(())
+}
+
+fn character_bytes(ch: char) -> [u8; CHARACTER_SIZE]
+    ensures { result ≡ big_bytes 4 ch }
+{
+    let mut bytes = [0; CHARACTER_SIZE];
+    BigEndian::write_u32(&mut bytes, u32::from(ch));
+    bytes
+}
