@@ -19,6 +19,7 @@ pub mod Leaf
 pub mod Counters
 pub mod Typed
 pub mod Typing
+pub mod Erasing
 pub mod Counts
 pub mod Rows
 pub mod OnceEach

@@ -1,6 +1,6 @@
 -- What a desk makes of a character that is typed.
 use Rattle.std.proofs.Common.{◌≡◌, ◌≤◌, ◌<◌, ◌+◌, ◌-◌, ℕ, zero, suc, Bool, true, false, not, cond, List, [], ◌∷◌, length, Option, None, Some, sym, ap, subst, ◌∙◌, refl, true≢false, is_some, arith}
-use Rattle.std.specs.Prelude.{◌||◌, ◌&&◌, IfSome, slice_get, filter, insert, map as each}
+use Rattle.std.specs.Prelude.{◌||◌, ◌&&◌, IfSome, slice_get, filter, insert, remove, map as each}
 use Rattle.std.specs.Option.{option_map_or}
 use Rattle.std.specs.List.{AllByRecursion}
 use Rattle.std.specs.Ordering.{is_lt}
@@ -249,25 +249,29 @@ typed_desk t w own d c s view site k ch =
 
 -- ---- erasing at a place
 
-pub erased_at : (s : OperationSet) (k : ℕ) (target : Identifier) → AllWellFormed s → slice_get (visible_ids s) k ≡ Some target → IsErasedAt s (with_operation s (Erase target)) k (Erase target)
-erased_at s k target well at =
+-- what is visible loses it
+pub visible_erased : (s : OperationSet) (k : ℕ) (target : Identifier) → AllWellFormed s → slice_get (visible_ids s) k ≡ Some target → visible (with_operation s (Erase target)) ≡ remove (visible s) k
+visible_erased s k target well at =
     let f = slice_get-from (λ (x : Entry). x.0) (visible s) k target at in
     let p : Entry → Bool = λ y. not (is_erased s y.0) in
     let q : Entry → Bool = λ y. not (is_erased (with_operation s (Erase target)) y.0) in
     let distinct : AreDistinct (walk s Root) = subst AreDistinct (sym (walk-among s Root well)) (AreDistinct-walk (entries_of s) Root (Rises-entries s) (AreWellFounded-entries s well)) in
     let marks : (y : Entry) → q y ≡ (not (same_id y.0 f.0.0) && p y) = λ y. ap not (set.contains-insert id_cmp-total s.del target y.0) ∙ both (same_id y.0 target) (is_erased s y.0) ∙ ap (λ a. not (same_id y.0 a) && p y) (sym f.1.1) in
-    record {
-      target = target;
-      at = at;
-      op_is = refl;
-      set_is = refl;
-      text_is = ap (each (λ (x : Entry). x.1.ch)) (filter-without p q (walk s Root) k f.0 marks distinct f.1.0) ∙ each-remove (λ (x : Entry). x.1.ch) (visible s) k;
-      walk_is = refl;
-    }
+    filter-without p q (walk s Root) k f.0 marks distinct f.1.0
   where
     both : (a b : Bool) → not (a || b) ≡ (not a && not b)
     both true b = refl
     both false b = refl
+
+pub erased_at : (s : OperationSet) (k : ℕ) (target : Identifier) → AllWellFormed s → slice_get (visible_ids s) k ≡ Some target → IsErasedAt s (with_operation s (Erase target)) k (Erase target)
+erased_at s k target well at = record {
+  target = target;
+  at = at;
+  op_is = refl;
+  set_is = refl;
+  text_is = ap (each (λ (x : Entry). x.1.ch)) (visible_erased s k target well at) ∙ each-remove (λ (x : Entry). x.1.ch) (visible s) k;
+  walk_is = refl;
+}
 
 pub visible_attached : (s : OperationSet) (k : ℕ) (target : Identifier) → slice_get (visible_ids s) k ≡ Some target → IsAttached s.ins target
 visible_attached s k target at =

@@ -158,31 +158,37 @@ module _ (s : OperationSet) (well : AllWellFormed s) (site ch : ℕ) where
   new_seen : not (is_erased s id) ≡ true
   new_seen = ap not (new_del s id refl)
 
-  text_behind : (k : ℕ) (a : Identifier) → IsWellFormed (Insert id (parent_at (visible_ids s) (suc k)) ch) → slice_get (visible_ids s) k ≡ Some a → text (with_typed (suc k)) ≡ insert (text s) (suc k) ch
-  text_behind k a formed at =
+  visible_behind : (k : ℕ) (a : Identifier) → IsWellFormed (Insert id (parent_at (visible_ids s) (suc k)) ch) → slice_get (visible_ids s) k ≡ Some a
+      → visible (with_typed (suc k)) ≡ insert (visible s) (suc k) (id, record { parent = parent_at (visible_ids s) (suc k); ch = ch })
+  visible_behind k a formed at =
       let p : Entry → Bool = λ x. not (is_erased s x.0) in
       let node : Node = record { parent = parent_at (visible_ids s) (suc k); ch = ch } in
       let f = slice_get-from (λ (x : Entry). x.0) (visible s) k a at in
       let parts = split_at p (walk s Root) k f.0 f.1.0 in
       let new = walk-typed_behind s well id node formed (omega arith) parts.front parts.back f.0 (parent_behind k a at ∙ ap After (sym f.1.1)) parts.in_order in
-      ap (λ w. each (λ (x : Entry). x.1.ch) (filter p w)) new
-      ∙ ap (each (λ (x : Entry). x.1.ch)) (filter_after p parts.front parts.back f.0 (id, node) parts.passes new_seen)
-      ∙ each-insert (λ (x : Entry). x.1.ch) (filter p (parts.front ++ f.0 ∷ parts.back)) (suc (length (filter p parts.front))) (id, node)
-      ∙ (λ i. insert (each (λ (x : Entry). x.1.ch) (filter p (sym parts.in_order i))) (suc (parts.count i)) ch)
+      ap (λ w. filter p w) new
+      ∙ filter_after p parts.front parts.back f.0 (id, node) parts.passes new_seen
+      ∙ (λ i. insert (filter p (sym parts.in_order i)) (suc (parts.count i)) (id, node))
 
-  text_first : IsWellFormed (Insert id Root ch) → text (with_typed 0) ≡ insert (text s) 0 ch
-  text_first formed =
+  visible_first : IsWellFormed (Insert id Root ch) → visible (with_typed 0) ≡ insert (visible s) 0 (id, record { parent = Root; ch = ch })
+  visible_first formed =
       let p : Entry → Bool = λ x. not (is_erased s x.0) in
       let node : Node = record { parent = Root; ch = ch } in
-      ap (λ w. each (λ (x : Entry). x.1.ch) (filter p w)) (walk-typed_first s well id node formed (omega arith) refl)
-      ∙ ap (λ b. each (λ (x : Entry). x.1.ch) (cond b ((id, node) ∷ filter p (walk s Root)) (filter p (walk s Root)))) new_seen
+      ap (λ w. filter p w) (walk-typed_first s well id node formed (omega arith) refl)
+      ∙ ap (λ b. cond b ((id, node) ∷ filter p (walk s Root)) (filter p (walk s Root))) new_seen
 
-  pub text_typed : (k : ℕ) → k ≤ length (visible s) → IsWellFormed (Insert id (parent_at (visible_ids s) k) ch) → text (with_typed k) ≡ insert (text s) k ch
-  text_typed zero le formed = text_first formed
-  text_typed (suc k) le formed =
+  pub visible_typed : (k : ℕ) → k ≤ length (visible s) → IsWellFormed (Insert id (parent_at (visible_ids s) k) ch)
+      → visible (with_typed k) ≡ insert (visible s) k (id, record { parent = parent_at (visible_ids s) k; ch = ch })
+  visible_typed zero le formed = visible_first formed
+  visible_typed (suc k) le formed =
       let long = length-each (λ (x : Entry). x.0) (visible s) in
       let a = slice_get-within (visible_ids s) k (omega (arith, long, le)) in
-      text_behind k a.0 formed a.1
+      visible_behind k a.0 formed a.1
+
+  pub text_typed : (k : ℕ) → k ≤ length (visible s) → IsWellFormed (Insert id (parent_at (visible_ids s) k) ch) → text (with_typed k) ≡ insert (text s) k ch
+  text_typed k le formed =
+      ap (each (λ (x : Entry). x.1.ch)) (visible_typed k le formed)
+      ∙ each-insert (λ (x : Entry). x.1.ch) (visible s) k (id, record { parent = parent_at (visible_ids s) k; ch = ch })
 
 -- ---- and of each desk later
 

@@ -1,25 +1,27 @@
 //! Laws of the definitions: each function's contract is the law, and its body is empty.
 
-ghost use Rattle.std.specs.Prelude.{◌≡◌, ◌≤◌, ◌+◌, ◌↔◌, ℕ, List, ◌∷◌, Some, Contains, filter, insert, slice_get};
+ghost use Rattle.std.specs.Prelude.{◌≡◌, ◌≤◌, ◌+◌, ◌↔◌, ℕ, List, ◌∷◌, Some, Contains, filter, insert, length, remove, slice_get};
 ghost use Rattle.std.specs.declared.cmp.Ordering.TheVariants.{Less};
 ghost use Rattle.bg_types.specs.Identifier.{Identifier, id_cmp};
-ghost use Rattle.bg_types.specs.OperationSet.{OperationSet, Agree, AllWellFormed, Holds, size, union};
+ghost use Rattle.bg_types.specs.OperationSet.{OperationSet, Agree, AllWellFormed, Holds, next, size, union, with_operation};
+ghost use Rattle.bg_types.specs.WellFormed.{IsWellFormed};
 ghost use Rattle.bg_types.specs.declared.op.Place.{Place};
 ghost use Rattle.bg_types.specs.declared.op.Place.TheVariants.{Root};
 ghost use Rattle.bg_types.specs.declared.op.OpView.{OpView};
-ghost use Rattle.bg_types.specs.declared.op.OpView.TheVariants.{Insert};
+ghost use Rattle.bg_types.specs.declared.op.OpView.TheVariants.{Insert, Erase};
 ghost use Rattle.rga_tree.specs.Walk.{walk};
 ghost use Rattle.rga_tree.specs.Attached.{IsAttached, is_attached};
 ghost use Rattle.rga_tree.specs.Parts.{IsPartOf};
 ghost use Rattle.rga_tree.specs.Order.{Precedes, StandsBetween};
 ghost use Rattle.rga_tree.specs.Stretch.{IsChild, IsRun, IsLeftOf};
-ghost use Rattle.rga_tree.specs.TextOf.{text, visible_ids};
+ghost use Rattle.rga_tree.specs.TextOf.{text, visible, visible_ids};
 ghost use Rattle.desk_replica.specs.declared.answer.TakeFault.{TakeFault};
 ghost use Rattle.desk_replica.specs.declared.world.step.Step.{Step};
 ghost use Rattle.desk_replica.specs.declared.world.step.Step.TheVariants.{Typed, Deliver, Merge};
 ghost use Rattle.desk_replica.specs.declared.world.step.Reply.{Reply};
 ghost use Rattle.desk_replica.specs.declared.world.step.Reply.TheVariants.{Done, Refused};
 ghost use Rattle.desk_replica.specs.SetOf.{IsSetOf};
+ghost use Rattle.desk_replica.specs.Typing.{typed, insertion};
 ghost use Rattle.desk_replica.specs.Reply.{IsRefusal};
 ghost use Rattle.desk_replica.specs.Refusal.{IsFirstRefusal};
 ghost use Rattle.desk_replica.specs.Merging.{IsMergeRefusal};
@@ -57,6 +59,19 @@ pub fn one_refusal()
 pub fn none_refused()
     ensures { (ops : List OpView) (s : OperationSet) (fault : TakeFault)
         → IsSetOf ops s → size s ≤ 1_000_000 → IsFirstRefusal ops fault → ⊥ }
+{}
+
+/// In every set of well-formed operations, what is typed at a place stands there among what is
+/// visible, and what is erased at a place leaves it. Erasing leaves the next counter as it was.
+pub fn typed_and_erased()
+    ensures typed { (s : OperationSet) (site place ch : ℕ) → AllWellFormed s → place ≤ length (visible s)
+        → IsWellFormed (insertion (typed s site place ch))
+        → visible (with_operation s (insertion (typed s site place ch))) ≡ insert (visible s) place (typed s site place ch) }
+    ensures erased { (s : OperationSet) (place : ℕ) (target : Identifier) → AllWellFormed s
+        → slice_get (visible_ids s) place ≡ Some target
+        → visible (with_operation s (Erase target)) ≡ remove (visible s) place }
+    ensures counter { (s : OperationSet) (place : ℕ) (target : Identifier) → slice_get (visible_ids s) place ≡ Some target
+        → next (with_operation s (Erase target)) ≡ next s }
 {}
 
 /// No two insertions that are made in a world have one identifier.
