@@ -175,7 +175,7 @@ pub waits_answer : (t : OperationSet) (w : Waiting) (op : OpView) → IsContent 
 waits_answer t w (Insert id parent ch) c d a is waits = (
   λ at.
       let op : OpView = Insert id parent ch in
-      let v : Waiting = record { held = with_operation w.held op; released = w.released; listed = w.listed } in
+      let v : Waiting = record { held = with_operation w.held op; released = w.released; listed = w.listed; room = 0 } in
       let dv = held_settled t w v op d a is waits refl refl in
       let same = held_whole t w v op a refl in
       let in_v : IsAttached (whole t v).ins id = subst (λ (s : OperationSet). IsAttached s.ins id) (sym same) at in

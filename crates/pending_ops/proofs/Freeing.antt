@@ -1,5 +1,5 @@
 -- Releasing the chain of a parent.
-use Rattle.std.proofs.Common.{◌≡◌, ◌≤◌, ◌+◌, Bool, true, false, cond, ◌||◌, List, [], ◌∷◌, length, Option, None, Some, sym, ap, subst, ◌∙◌, refl, is_some, arith}
+use Rattle.std.proofs.Common.{◌≡◌, ◌≤◌, ◌+◌, Bool, true, false, ℕ, cond, ◌||◌, List, [], ◌∷◌, length, Option, None, Some, sym, ap, subst, ◌∙◌, refl, is_some, arith}
 use Rattle.std.specs.Option.{option_map_or}
 use Rattle.std.specs.FinMap as map
 use Rattle.bg_types.specs.Identifier.{Identifier, same_id}
@@ -17,7 +17,7 @@ or-false : (b : Bool) → b ≡ (b || false)
 or-false true = refl
 or-false false = refl
 
-module _ (slots : List (Identifier × Slot)) (firsts : List (Identifier × Identifier)) (released erased : List Identifier) (id : Identifier) (l : AreLinked slots firsts released) where
+module _ (slots : List (Identifier × Slot)) (firsts : List (Identifier × Identifier)) (released erased : List Identifier) (room : ℕ) (id : Identifier) (l : AreLinked slots firsts released) where
   -- there is room for one more released parent
   pub fewer_released : is_some (first_in firsts id) ≡ true → is_in released id ≡ false → AreApart released → length released + 1 ≤ length firsts
   fewer_released there new apart =
@@ -45,22 +45,23 @@ module _ (slots : List (Identifier × Slot)) (firsts : List (Identifier × Ident
     as_or true false = refl
     as_or false b = or-false b
 
-    place_ready : (a : Place) → is_released (waiting_of slots more erased) a ≡ (is_released (waiting_of slots released erased) a || is_after a id)
+    place_ready : (a : Place) → is_released (waiting_of slots more erased room) a ≡ (is_released (waiting_of slots released erased room) a || is_after a id)
     place_ready Root = refl
     place_ready (After p) =
         contains-from_list more p ∙ grown p ∙ as_or (same_id id p) (is_in released p) ∙ (λ i. sym (contains-from_list released p) i || same_id-equivalence.symm id p i)
 
-    node_ready : (o : Option Node) → option_map_or (λ (n : Node). is_released (waiting_of slots more erased) n.parent) o false
-        ≡ (option_map_or (λ (n : Node). is_released (waiting_of slots released erased) n.parent) o false || option_map_or (λ (n : Node). is_after n.parent id) o false)
+    node_ready : (o : Option Node) → option_map_or (λ (n : Node). is_released (waiting_of slots more erased room) n.parent) o false
+        ≡ (option_map_or (λ (n : Node). is_released (waiting_of slots released erased room) n.parent) o false || option_map_or (λ (n : Node). is_after n.parent id) o false)
     node_ready None = refl
     node_ready (Some n) = place_ready n.parent
 
-    pub Releases-some : Releases (waiting_of slots released erased) id (waiting_of slots more erased)
+    pub Releases-some : Releases (waiting_of slots released erased room) id (waiting_of slots more erased room)
     Releases-some = record {
       held = refl;
       listed = refl;
-      ready = λ q. node_ready (map.get (waiting_of slots released erased).held.ins q);
-      needed = needed_of slots firsts more erased AreLinked-released;
+      room = refl;
+      ready = λ q. node_ready (map.get (waiting_of slots released erased room).held.ins q);
+      needed = needed_of slots firsts more erased room AreLinked-released;
     }
 
   none_named : (start : Option Identifier) → start ≡ None → IsChainOf (slot_in slots) id start → (q : Identifier) → names (slot_in slots) id q ≡ false
@@ -71,11 +72,12 @@ module _ (slots : List (Identifier × Slot)) (firsts : List (Identifier × Ident
       empty (x ∷ xs) h = let f : None ≡ Some x = h.0 in cc
 
   -- nothing stands right after the identifier
-  pub Releases-none : first_in firsts id ≡ None → Releases (waiting_of slots released erased) id (waiting_of slots released erased)
+  pub Releases-none : first_in firsts id ≡ None → Releases (waiting_of slots released erased room) id (waiting_of slots released erased room)
   Releases-none gone = record {
     held = refl;
     listed = refl;
-    ready = λ q. or-false _ ∙ ap (λ b. is_ready (waiting_of slots released erased) q || b)
-        (sym (follows-names slots released erased id q ∙ none_named (first_in firsts id) gone (l.chains id) q));
-    needed = needed_of slots firsts released erased l;
+    room = refl;
+    ready = λ q. or-false _ ∙ ap (λ b. is_ready (waiting_of slots released erased room) q || b)
+        (sym (follows-names slots released erased room id q ∙ none_named (first_in firsts id) gone (l.chains id) q));
+    needed = needed_of slots firsts released erased room l;
   }

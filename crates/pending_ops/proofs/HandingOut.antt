@@ -1,5 +1,5 @@
 -- The front of a released parent's chain is handed out.
-use Rattle.std.proofs.Common.{◌≡◌, ◌++◌, Bool, true, false, not, cond, ◌&&◌, ◌||◌, List, [], ◌∷◌, Option, None, Some, sym, ap, subst, ◌∙◌, refl, true≢false, is_some}
+use Rattle.std.proofs.Common.{◌≡◌, ◌++◌, Bool, true, false, not, ℕ, cond, ◌&&◌, ◌||◌, List, [], ◌∷◌, Option, None, Some, sym, ap, subst, ◌∙◌, refl, true≢false, is_some}
 use Rattle.std.specs.Option.{option_map, option_map_or}
 use Rattle.std.specs.FinMap as map
 use Rattle.std.specs.FinSet as set
@@ -27,18 +27,18 @@ not_true true h = absurd (true≢false (sym h))
 not_true false h = refl
 
 -- where nothing is released, nothing is ready
-pub none_ready : (slots : List (Identifier × Slot)) (released erased : List Identifier) → released ≡ [] → NoneReady (waiting_of slots released erased)
-none_ready slots released erased e q = ap (λ xs. is_ready (waiting_of slots xs erased) q) e ∙ by (map.get (insertions_of slots) q)
+pub none_ready : (slots : List (Identifier × Slot)) (released erased : List Identifier) (room : ℕ) → released ≡ [] → NoneReady (waiting_of slots released erased room)
+none_ready slots released erased room e q = ap (λ xs. is_ready (waiting_of slots xs erased room) q) e ∙ by (map.get (insertions_of slots) q)
   where
-    at : (a : Place) → is_released (waiting_of slots [] erased) a ≡ false
+    at : (a : Place) → is_released (waiting_of slots [] erased room) a ≡ false
     at Root = refl
     at (After p) = contains-from_list [] p
 
-    by : (o : Option Node) → option_map_or (λ (n : Node). is_released (waiting_of slots [] erased) n.parent) o false ≡ false
+    by : (o : Option Node) → option_map_or (λ (n : Node). is_released (waiting_of slots [] erased room) n.parent) o false ≡ false
     by None = refl
     by (Some n) = at n.parent
 
-module _ (slots newer : List (Identifier × Slot)) (firsts heads : List (Identifier × Identifier)) (released rest erased before : List Identifier) (parent id : Identifier) (s : Slot)
+module _ (slots newer : List (Identifier × Slot)) (firsts heads : List (Identifier × Identifier)) (released rest erased before : List Identifier) (room : ℕ) (parent id : Identifier) (s : Slot)
     (l : AreLinked slots firsts released) (last : released ≡ before ++ parent ∷ []) (first : first_in firsts parent ≡ Some id) (slot : slot_in slots id ≡ Some s)
     (cut : (q : Identifier) → slot_in newer q ≡ cond (same_id id q) None (slot_in slots q))
     (head : (p : Identifier) → first_in heads p ≡ cond (same_id parent p) s.next (first_in firsts p))
@@ -138,10 +138,10 @@ module _ (slots newer : List (Identifier × Slot)) (firsts heads : List (Identif
       by q t false other e = sym (other_slot q other) ∙ e
 
   abbrev old : Waiting
-  old = waiting_of slots released erased
+  old = waiting_of slots released erased room
 
   abbrev new : Waiting
-  new = waiting_of newer rest erased
+  new = waiting_of newer rest erased room
 
   parent_in : is_in released parent ≡ true
   parent_in = ap (λ xs. is_in xs parent) last ∙ is_in-append parent before (parent ∷ []) ∙ by (is_in before parent) (is_in (parent ∷ []) parent) (is_in-here parent [])
@@ -205,6 +205,7 @@ module _ (slots newer : List (Identifier × Slot)) (firsts heads : List (Identif
     was_held = was_held;
     was_ready = was_ready;
     held = λ i. record { ins = insertions_of-removed slots newer id cut i; del = set.from_list erased };
+    room = refl;
     ready = ready_now;
-    needed = needed_of newer heads rest erased AreLinked-handed_out;
+    needed = needed_of newer heads rest erased room AreLinked-handed_out;
   }

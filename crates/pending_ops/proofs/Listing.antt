@@ -113,7 +113,7 @@ has_slot : (o : Option Slot) (n : Node) → option_map node_in o ≡ Some n → 
 has_slot None n h = let e : None ≡ Some n = h in absurd cc
 has_slot (Some s) n h = let e : Some (node_in s) ≡ Some n = h in (s, (refl, cc))
 
-module _ (slots : List (Identifier × Slot)) (released erased : List Identifier) (apart : AreApart (keys_of slots)) (erased_apart : AreApart erased) where
+module _ (slots : List (Identifier × Slot)) (released erased : List Identifier) (room : ℕ) (apart : AreApart (keys_of slots)) (erased_apart : AreApart erased) where
   abbrev ins : List OpView
   ins = each insertion_of slots
 
@@ -139,7 +139,7 @@ module _ (slots : List (Identifier × Slot)) (released erased : List Identifier)
   slot_at : (j : ℕ) (id : Identifier) (s : Slot) → slice_get slots j ≡ Some (id, s) → slot_in slots id ≡ Some s
   slot_at j id s h = lookup_from_place same_id-equivalence slots j id s (AreApart-distinct (keys_of slots) apart) h
 
-  has : (op : OpView) → Holds (waiting_of slots released erased).held op → (j : ℕ) × (slice_get (ins ++ del) j ≡ Some op)
+  has : (op : OpView) → Holds (waiting_of slots released erased room).held op → (j : ℕ) × (slice_get (ins ++ del) j ≡ Some op)
   has (Insert id parent ch) h =
       let s = has_slot (slot_in slots id) (record { parent = parent; ch = ch }) (sym (get-insertions_of slots id) ∙ h) in
       let p = place_from_lookup (same_id id) slots s.0 s.1.0 in
@@ -152,7 +152,7 @@ module _ (slots : List (Identifier × Slot)) (released erased : List Identifier)
       let p = is_place erased target (sym (contains-from_list erased target) ∙ h) in
       (length ins + p.0, slice_get-right ins del (length ins + p.0) p.0 (Erase target) refl (slice_get-map Erase erased p.0 ∙ ap (option_map Erase) p.1))
 
-  had : (op : OpView) → (j : ℕ) × (slice_get (ins ++ del) j ≡ Some op) → Holds (waiting_of slots released erased).held op
+  had : (op : OpView) → (j : ℕ) × (slice_get (ins ++ del) j ≡ Some op) → Holds (waiting_of slots released erased room).held op
   had (Insert id parent ch) h =
       let at = ins_at h.0 id parent ch h.1 in
       get-insertions_of slots id ∙ ap (option_map node_in) (slot_at h.0 id at.0 at.1.0) ∙ (λ i. Some (record { parent = at.1.1.0 i; ch = at.1.1.1 i }))
@@ -171,7 +171,7 @@ module _ (slots : List (Identifier × Slot)) (released erased : List Identifier)
       let same = one_place erased a.0 b.0 target erased_apart a.1.1 b.1.1 in
       a.1.0 ∙ ap (λ k. length ins + k) same ∙ sym b.1.0
 
-  pub lists_once : ListsOnce (waiting_of slots released erased).held (waiting_of slots released erased).listed
+  pub lists_once : ListsOnce (waiting_of slots released erased room).held (waiting_of slots released erased room).listed
   lists_once = record {
     each = λ op. (has op, had op);
     once = once;

@@ -1,5 +1,5 @@
 -- What the tables of a store tell of the operations that it holds.
-use Rattle.std.proofs.Common.{◌≡◌, Bool, true, false, not, cond, ◌&&◌, ◌||◌, List, [], ◌∷◌, Option, None, Some, sym, ap, subst, ◌∙◌, refl, true≢false, is_some}
+use Rattle.std.proofs.Common.{◌≡◌, Bool, true, false, not, ℕ, cond, ◌&&◌, ◌||◌, List, [], ◌∷◌, Option, None, Some, sym, ap, subst, ◌∙◌, refl, true≢false, is_some}
 use Rattle.std.specs.Option.{option_map, option_map_or}
 use Rattle.std.specs.FinMap as map
 use Rattle.std.specs.FinSet as set
@@ -31,9 +31,9 @@ follows-insertions_of slots s ins p q =
     ap (λ m. option_map_or (λ (n : Node). is_after n.parent p) (map.get m q) false) ins
     ∙ ap (λ o. option_map_or (λ (n : Node). is_after n.parent p) o false) (get-insertions_of slots q) ∙ after_mapped (slot_in slots q) p
 
-pub follows-names : (slots : List (Identifier × Slot)) (released erased : List Identifier) (p q : Identifier)
-    → follows (waiting_of slots released erased).held p q ≡ names (slot_in slots) p q
-follows-names slots released erased p q = follows-insertions_of slots (waiting_of slots released erased).held refl p q
+pub follows-names : (slots : List (Identifier × Slot)) (released erased : List Identifier) (room : ℕ) (p q : Identifier)
+    → follows (waiting_of slots released erased room).held p q ≡ names (slot_in slots) p q
+follows-names slots released erased room p q = follows-insertions_of slots (waiting_of slots released erased room).held refl p q
 
 pub contains-from_list : (xs : List Identifier) (q : Identifier) → set.contains (set.from_list {R = id_cmp} xs) q ≡ is_in xs q
 contains-from_list xs q = set.contains-from_list id_cmp-total xs q
@@ -112,8 +112,8 @@ first_names slot p id start c e = sym (c.exact id) ∙ leads c.members (subst (�
         ap (λ y. is_in (y ∷ xs) id) (sym same) ∙ is_in-here id xs
 
 -- an identifier is released only where an insertion right after it is held
-pub needed_of : (slots : List (Identifier × Slot)) (firsts : List (Identifier × Identifier)) (released erased : List Identifier) → AreLinked slots firsts released
-    → (p : Identifier) → set.contains (waiting_of slots released erased).released p ≡ true → (q : Identifier) × (follows (waiting_of slots released erased).held p q ≡ true)
-needed_of slots firsts released erased l p m =
+pub needed_of : (slots : List (Identifier × Slot)) (firsts : List (Identifier × Identifier)) (released erased : List Identifier) (room : ℕ) → AreLinked slots firsts released
+    → (p : Identifier) → set.contains (waiting_of slots released erased room).released p ≡ true → (q : Identifier) × (follows (waiting_of slots released erased room).held p q ≡ true)
+needed_of slots firsts released erased room l p m =
     let first = some_there (first_in firsts p) (l.needed p (sym (contains-from_list released p) ∙ m)) in
-    (first.0, follows-names slots released erased p first.0 ∙ first_names (slot_in slots) p first.0 (first_in firsts p) (l.chains p) first.1)
+    (first.0, follows-names slots released erased room p first.0 ∙ first_names (slot_in slots) p first.0 (first_in firsts p) (l.chains p) first.1)

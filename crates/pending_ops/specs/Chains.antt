@@ -1,10 +1,13 @@
 -- How the tables of a store of early operations hang together.
-use Rattle.std.specs.Prelude.{◌≡◌, ◌++◌, Bool, true, false, List, [], ◌∷◌, Option, Some, None, is_some, map as each}
+use Rattle.std.specs.Prelude.{◌≡◌, ◌≤◌, ◌+◌, ◌++◌, Bool, true, false, ℕ, length, List, [], ◌∷◌, Option, Some, None, is_some, map as each}
 use Rattle.std.specs.Option.{option_map_or}
 use Rattle.std.specs.List.{list_any}
 use Rattle.std.specs.Map.{lookup}
 use Rattle.std.specs.FinMap as map
 use Rattle.std.specs.FinSet as set
+use Rattle.indexmap.specs.IndexMap.{IndexMap, spare}
+use Rattle.indexmap.specs.IndexSet as index_set
+use Rattle.bg_types.specs.declared.keyed.Keyed.{Keyed}
 use Rattle.bg_types.specs.Identifier.{Identifier, id_cmp, same_id}
 use Rattle.bg_types.specs.OperationSet.{Node}
 use Rattle.bg_types.specs.WellFormed.{MayFollow}
@@ -52,6 +55,12 @@ pub record AreLinked (slots : List (Identifier × Slot)) (firsts : List (Identif
   pub needed : (p : Identifier) → is_in released p ≡ true → is_some (first_in firsts p) ≡ true
   pub formed : (q : Identifier) (s : Slot) → slot_in slots q ≡ Some s → MayFollow s.parent q
 
+-- n more operations can be held, released and counted without memory
+abbrev pub HasRoom : IndexMap Identifier Slot Keyed → IndexMap Identifier Identifier Keyed → index_set.IndexSet Identifier Keyed → index_set.IndexSet Identifier Keyed → ℕ → ℕ → Type 0
+HasRoom slots firsts released erased queue n =
+    (n ≤ spare slots) × (n ≤ spare firsts) × (n ≤ index_set.spare erased) × (length slots.entries + n ≤ queue)
+    × (length firsts.entries + n ≤ length released.keys + index_set.spare released)
+
 abbrev pub insertion_of : Identifier × Slot → OpView
 insertion_of e = Insert e.0 e.1.parent e.1.ch
 
@@ -62,10 +71,11 @@ nodes_of slots = each (λ e. (e.0, node_in e.1)) slots
 abbrev pub insertions_of : List (Identifier × Slot) → map.FinMap id_cmp Node
 insertions_of slots = map.from_entries (nodes_of slots)
 
--- what the tables hold, released and erased
-abbrev pub waiting_of : List (Identifier × Slot) → List Identifier → List Identifier → Waiting
-waiting_of slots released erased = record {
+-- what the tables hold, released and erased, and how many more they have room for
+abbrev pub waiting_of : List (Identifier × Slot) → List Identifier → List Identifier → ℕ → Waiting
+waiting_of slots released erased room = record {
   held = record { ins = insertions_of slots; del = set.from_list erased };
   released = set.from_list released;
   listed = each insertion_of slots ++ each Erase erased;
+  room = room;
 }

@@ -49,7 +49,7 @@ coded_operation = code_by (Identifier × Option Node) (coded× coded_identifier 
 
 abbrev pub coded_waiting : Coded Waiting
 coded_waiting =
-    code_by (map.FinMap id_cmp Node × (set.FinSet id_cmp × (set.FinSet id_cmp × List OpView)))
-    (coded× (map.code coded_identifier coded_node) (coded× (set.code coded_identifier) (coded× (set.code coded_identifier) (coded_list coded_operation))))
-    (λ w. (w.held.ins, (w.held.del, (w.released, w.listed))))
-    (λ p. record { held = record { ins = p.0; del = p.1.0 }; released = p.1.1.0; listed = p.1.1.1 }) (λ _. refl)
+    code_by (map.FinMap id_cmp Node × (set.FinSet id_cmp × (set.FinSet id_cmp × (List OpView × ℕ))))
+    (coded× (map.code coded_identifier coded_node) (coded× (set.code coded_identifier) (coded× (set.code coded_identifier) (coded× (coded_list coded_operation) coded_ℕ))))
+    (λ w. (w.held.ins, (w.held.del, (w.released, (w.listed, w.room)))))
+    (λ p. record { held = record { ins = p.0; del = p.1.0 }; released = p.1.1.0; listed = p.1.1.1.0; room = p.1.1.1.1 }) (λ _. refl)

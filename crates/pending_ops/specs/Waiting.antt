@@ -11,14 +11,15 @@ use Rattle.bg_types.specs.declared.op.OpView.{OpView}
 use Rattle.bg_types.specs.declared.op.OpView.TheVariants.{Insert, Erase}
 
 -- held: the operations that wait. released: the identifiers whose next ones need not wait any more.
--- listed: the operations that wait, in some order
+-- listed: the operations that wait, in some order. room: how many more can be held without memory
 pub record Waiting : Type 0 where
   pub held : OperationSet
   pub released : set.FinSet id_cmp
   pub listed : List OpView
+  pub room : ℕ
 
 abbrev pub nothing_waits : Waiting
-nothing_waits = record { held = no_operations; released = set.empty; listed = [] }
+nothing_waits = record { held = no_operations; released = set.empty; listed = []; room = 0 }
 
 -- neither the operation nor another insertion of its identifier is held
 abbrev pub IsNew : OperationSet → OpView → Type 0
@@ -48,6 +49,7 @@ NoneReady w = (q : Identifier) → is_ready w q ≡ false
 pub record Releases (old : Waiting) (id : Identifier) (new : Waiting) : Type 0 where
   pub held : new.held ≡ old.held
   pub listed : new.listed ≡ old.listed
+  pub room : new.room ≡ old.room
   pub ready : (q : Identifier) → is_ready new q ≡ (is_ready old q || follows old.held id q)
   -- an identifier is released only where an insertion right after it is held
   pub needed : (p : Identifier) → set.contains new.released p ≡ true → (q : Identifier) × (follows new.held p q ≡ true)
@@ -60,6 +62,7 @@ pub record HandsOut (old : Waiting) (id : Identifier) (node : Node) (new : Waiti
   pub was_held : map.get old.held.ins id ≡ Some node
   pub was_ready : is_ready old id ≡ true
   pub held : new.held ≡ without old.held id
+  pub room : new.room ≡ old.room
   pub ready : (q : Identifier) → is_ready new q ≡ (not (same_id q id) && is_ready old q)
   pub needed : (p : Identifier) → set.contains new.released p ≡ true → (q : Identifier) × (follows new.held p q ≡ true)
 

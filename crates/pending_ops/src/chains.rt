@@ -52,6 +52,7 @@ pub fn link(firsts: &mut Table<Id>, parent: &Place, id: Id) -> Option<Id>
     ensures next { (p : Identifier)
         → is_after parent.now p ≡ true → result ≡ first_in firsts.old.entries p }
     ensures len { length firsts.new.entries ≤ length firsts.old.entries + 1 }
+    ensures spare { spare firsts.old ≤ spare firsts.new + 1 }
 {
     match parent {
         Place::Root => None,
@@ -125,13 +126,14 @@ pub fn unlink(firsts: &mut Table<Id>, released: &mut Names, front: &Front)
     ensures emptied { front.now.slot.next ≡ None → (p : Identifier)
         → is_in released.new.keys p
         ≡ (not (same_id front.now.parent p) && is_in released.old.keys p) }
-    ensures room { length firsts.old.entries ≤ length released.old.keys + set.spare released.old
-        → length firsts.new.entries ≤ length released.new.keys + set.spare released.new }
+    ensures room { (n : ℕ)
+        → length firsts.old.entries + n ≤ length released.old.keys + set.spare released.old
+        → length firsts.new.entries + n ≤ length released.new.keys + set.spare released.new }
+    ensures spare { spare firsts.old ≤ spare firsts.new }
 {
     match front.slot.next {
-        Some(next) => {
-            firsts.insert(front.parent, next).unwrap();
-        }
+        // Written in place, so that no room is used.
+        Some(next) => *firsts.get_mut(&front.parent).unwrap() = next,
         None => {
             firsts.swap_remove(&front.parent);
             released.pop();

@@ -1,6 +1,6 @@
 //! The store of early operations.
 
-ghost use Rattle.std.specs.Prelude.{◌≡◌, [], ◌≤◌, ◌<◌, ◌+◌, ◌↔◌, true, false, ℕ, List, length, slice_get, Some, None, OnOk, OnErr, IfSome, IfNone, IsNone, vec_len, vec_capacity};
+ghost use Rattle.std.specs.Prelude.{◌≡◌, [], ◌≤◌, ◌<◌, ◌+◌, ◌-◌, ◌↔◌, max, true, false, ℕ, List, length, slice_get, Some, None, OnOk, OnErr, IfSome, IfNone, IsNone, IsOk, vec_len, vec_capacity};
 ghost use Rattle.std.specs.Bool.{OnFalse};
 ghost use Rattle.std.specs.Option.{option_map};
 ghost use Rattle.std.specs.FinMap as map;
@@ -39,11 +39,12 @@ pub struct Held {
     erased: Names,
     /// Where `count_below` lists what it counts. Empty between calls.
     queue: Vec<Id>,
+    /// How many more operations can be held without memory.
+    room: usize,
 }
 
 impl Model for Held {
-    ghost use Rattle.std.specs.Prelude.{◌≡◌, ◌≤◌, ◌+◌, [], length, vec_capacity};
-    ghost use Rattle.indexmap.specs.IndexSet.{spare};
+    ghost use Rattle.std.specs.Prelude.{◌≡◌, [], vec_capacity};
     ghost use Rattle.pending_ops.specs.Waiting.{Waiting};
 
     ghost Value = { Waiting };
@@ -52,42 +53,47 @@ impl Model for Held {
 
     ghost coded = { coded_waiting };
 
-    ghost use Rattle.pending_ops.specs.Chains.{AreLinked, waiting_of};
+    ghost use Rattle.pending_ops.specs.Chains.{AreLinked, HasRoom, waiting_of};
 
-    ghost view = { λ a. waiting_of a.slots.entries a.released.keys a.erased.keys };
+    ghost view = { λ a. waiting_of a.slots.entries a.released.keys a.erased.keys a.room };
 
     ghost invariant = { λ a. AreLinked a.slots.entries a.firsts.entries a.released.keys
-        × ((length a.firsts.entries ≤ length a.released.keys + spare a.released)
-        × ((length a.slots.entries ≤ vec_capacity a.queue) × (a.queue.items ≡ []))) };
+        × ((a.queue.items ≡ [])
+        × HasRoom a.slots a.firsts a.released a.erased (vec_capacity a.queue) a.room) };
 }
 
-/// Makes room for one more operation, wherever holding, releasing and counting it will need some:
-/// the growths of `hold`.
+/// Makes room for n more operations, wherever holding, releasing and counting them will need some.
+/// A growth that was made stays where a later one is refused.
 fn make_room(
     slots: &mut Table<Slot>,
     firsts: &mut Table<Id>,
     released: &mut Names,
     erased: &mut Names,
     queue: &mut Vec<Id>,
+    n: usize,
 ) -> Result<(), Memory>
+    requires { n ≤ 1_000_000 }
     ensures slots { slots.new.entries ≡ slots.old.entries }
     ensures firsts { firsts.new.entries ≡ firsts.old.entries }
     ensures released { released.new.keys ≡ released.old.keys }
     ensures erased { erased.new.keys ≡ erased.old.keys }
     ensures queue { queue.new.items ≡ queue.old.items }
-    ensures slot { OnOk result (0 < spare slots.new) }
-    ensures first { OnOk result (0 < spare firsts.new) }
-    ensures release { OnOk result (length firsts.old.entries + 1 ≤ index_set.spare released.new) }
-    ensures erasure { OnOk result (0 < index_set.spare erased.new) }
-    ensures count { OnOk result (length slots.old.entries + 1 ≤ vec_capacity queue.new) }
+    ensures slot { OnOk result (n ≤ spare slots.new) }
+    ensures first { OnOk result (n ≤ spare firsts.new) }
+    ensures release { OnOk result (length firsts.old.entries + n ≤ index_set.spare released.new) }
+    ensures erasure { OnOk result (n ≤ index_set.spare erased.new) }
+    ensures count { OnOk result (length slots.old.entries + n ≤ vec_capacity queue.new) }
+    ensures kept_slots { spare slots.old ≤ spare slots.new }
+    ensures kept_firsts { spare firsts.old ≤ spare firsts.new }
     ensures kept_release { index_set.spare released.old ≤ index_set.spare released.new }
+    ensures kept_erasures { index_set.spare erased.old ≤ index_set.spare erased.new }
     ensures kept_count { vec_capacity queue.old ≤ vec_capacity queue.new }
 {
-    slots.reserve(1)?;
-    firsts.reserve(1)?;
-    released.reserve(firsts.len() + 1)?;
-    erased.reserve(1)?;
-    queue.reserve(slots.len() + 1)?;
+    slots.reserve(n)?;
+    firsts.reserve(n)?;
+    released.reserve(firsts.len() + n)?;
+    erased.reserve(n)?;
+    queue.reserve(slots.len() + n)?;
     Ok(())
 }
 
@@ -112,37 +118,69 @@ impl Held {
             released: IndexSet::with_hasher(alloc, hasher),
             erased: IndexSet::with_hasher(alloc, hasher),
             queue: Vec::new(alloc),
+            room: 0,
         }
     }
 
-    /// Holds an operation. After `Memory` the store is as it was.
-    pub fn hold(&mut self, op: Op) -> Result<(), Memory>
-        requires { IsNew self.old.held op }
-        ensures ok { OnOk result (self.new.held ≡ with_operation self.old.held op) }
+    /// Makes room for n operations (at most 1,000,000), each table in one growth. After `Memory` the
+    /// store is as it was.
+    pub fn reserve(&mut self, n: usize) -> Result<(), Memory>
+        requires { n ≤ 1_000_000 }
+        ensures ok { OnOk result (self.new.room ≡ max self.old.room n) }
+        ensures held { self.new.held ≡ self.old.held }
         ensures released { self.new.released ≡ self.old.released }
+        ensures listed { self.new.listed ≡ self.old.listed }
         ensures err { OnErr result (self.new ≡ self.old) }
+        ensures enough { n ≤ self.old.room → IsOk result }
     {
-        match op.view() {
-            OpView::Insert { id, parent, ch } => self.hold_insertion(id, &parent, ch),
-            OpView::Erase { target } => self.hold_erasure(target),
+        if n <= self.room {
+            return Ok(());
         }
-    }
-
-    fn hold_insertion(&mut self, id: Id, parent: &Place, ch: char) -> Result<(), Memory>
-        requires new { map.get self.old.held.ins id ≡ None }
-        requires may { MayFollow parent.now id }
-        ensures ok { OnOk result
-            (self.new.held ≡ with_operation self.old.held (Insert id parent.now ch)) }
-        ensures released { self.new.released ≡ self.old.released }
-        ensures err { OnErr result (self.new ≡ self.old) }
-    {
         make_room(
             &mut self.slots,
             &mut self.firsts,
             &mut self.released,
             &mut self.erased,
             &mut self.queue,
+            n,
         )?;
+        self.room = n;
+        Ok(())
+    }
+
+    /// How many more operations can be held without memory.
+    pub fn room(&self) -> usize
+        ensures { result ≡ self.now.room }
+    {
+        self.room
+    }
+
+    /// Holds an operation, and takes one from the room. Where there is none it is made first. After
+    /// `Memory` the store is as it was.
+    pub fn hold(&mut self, op: Op) -> Result<(), Memory>
+        requires { IsNew self.old.held op }
+        ensures ok { OnOk result (self.new.held ≡ with_operation self.old.held op) }
+        ensures released { self.new.released ≡ self.old.released }
+        ensures room { OnOk result (self.new.room ≡ self.old.room - 1) }
+        ensures err { OnErr result (self.new ≡ self.old) }
+        ensures paid { 0 < self.old.room → IsOk result }
+    {
+        self.reserve(1)?;
+        match op.view() {
+            OpView::Insert { id, parent, ch } => self.hold_insertion(id, &parent, ch),
+            OpView::Erase { target } => self.hold_erasure(target),
+        }
+        Ok(())
+    }
+
+    fn hold_insertion(&mut self, id: Id, parent: &Place, ch: char)
+        requires new { map.get self.old.held.ins id ≡ None }
+        requires may { MayFollow parent.now id }
+        requires room { 0 < self.old.room }
+        ensures held { self.new.held ≡ with_operation self.old.held (Insert id parent.now ch) }
+        ensures released { self.new.released ≡ self.old.released }
+        ensures room { self.new.room + 1 ≡ self.old.room }
+    {
         let next = link(&mut self.firsts, parent, id);
         let slot = Slot {
             parent: *parent,
@@ -150,23 +188,17 @@ impl Held {
             next,
         };
         self.slots.insert(id, slot).unwrap();
-        Ok(())
+        self.room -= 1;
     }
 
-    fn hold_erasure(&mut self, target: Id) -> Result<(), Memory>
-        ensures ok { OnOk result (self.new.held ≡ with_operation self.old.held (Erase target)) }
+    fn hold_erasure(&mut self, target: Id)
+        requires { 0 < self.old.room }
+        ensures held { self.new.held ≡ with_operation self.old.held (Erase target) }
         ensures released { self.new.released ≡ self.old.released }
-        ensures err { OnErr result (self.new ≡ self.old) }
+        ensures room { self.new.room + 1 ≡ self.old.room }
     {
-        make_room(
-            &mut self.slots,
-            &mut self.firsts,
-            &mut self.released,
-            &mut self.erased,
-            &mut self.queue,
-        )?;
         self.erased.insert(target).unwrap();
-        Ok(())
+        self.room -= 1;
     }
 
     /// The held insertion with this identifier.
@@ -189,6 +221,13 @@ impl Held {
         ensures { result ≡ size self.now.held }
     {
         self.slots.len() + self.erased.len()
+    }
+
+    /// How many of them are insertions.
+    pub fn insertion_count(&self) -> usize
+        ensures { result ≡ map.len self.now.held.ins }
+    {
+        self.slots.len()
     }
 
     /// The held operation at place `j` of a list of them all. While the store does not change the
@@ -251,6 +290,7 @@ impl Held {
         ensures found { result ≡ set.contains self.old.held.del id }
         ensures dropped { self.new.held ≡ without_erasure self.old.held id }
         ensures released { self.new.released ≡ self.old.released }
+        ensures room { self.new.room ≡ self.old.room }
         ensures absent { OnFalse result (self.new ≡ self.old) }
     {
         if self.erased.is_empty() {

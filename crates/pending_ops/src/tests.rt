@@ -69,6 +69,14 @@ impl Store {
         }
     }
 
+    /// Makes room for three operations, at the second try where the first one failed.
+    fn reserve(&mut self) -> bool {
+        let before = self.seen();
+        (self.held.reserve(3).is_ok() || self.held.reserve(3).is_ok())
+            && self.seen() == before
+            && self.held.room() == 3
+    }
+
     fn erase(&mut self, target: u32) -> bool {
         match id(target) {
             Some(id) => self.hold(Op::erase(id)),
@@ -152,6 +160,19 @@ fn empty_store(alloc: Global) -> Store {
     }
 }
 
+/// What is paid for is held at the first try.
+fn paid_in_advance(store: &mut Store) -> bool {
+    let mut all = store.reserve();
+    for op in [id(2).map(Op::erase), insertion(3, 2), insertion(2, 1)] {
+        all = op.is_some_and(|op| store.try_hold(op)) && all;
+    }
+    all && store.held.room() == 0
+        && store.insert(4, 3)
+        && store.held.insertion_count() == 3
+        && store.places_row(1, 1, 3)
+        && store.drop_erasure(2)
+}
+
 /// A chain that came in reverse goes in order.
 fn reversed_chain(store: &mut Store) -> bool {
     let mut all = store.insert_down(1000, 2, 1) && store.held.count() == 999;
@@ -228,6 +249,7 @@ fn deletion_and_insertion(store: &mut Store) -> bool {
 #[test]
 fn what_came_early_is_handed_out_once_in_order(rt: HostRuntime) {
     let mut store = empty_store(rt.alloc());
+    assert!(rt; paid_in_advance(&mut store), "paid in advance");
     assert!(rt; reversed_chain(&mut store), "reversed chain");
     assert!(rt; bush(&mut store), "bush");
     assert!(rt; one_chain_of_two(&mut store), "one chain of two");

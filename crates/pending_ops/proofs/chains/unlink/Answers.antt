@@ -1,28 +1,28 @@
 -- The goals of `unlink` that are answered by hand.
-use Rattle.std.proofs.Common.{◌≡◌, ◌∷◌, [], ◌++◌, Bool, true, false, not, ◌&&◌, List, Option, None, Some, sym, ap, subst, ◌∙◌, refl, true≢false, is_some, cond, arith, length, length-append, ◌<◌}
-use Rattle.std.specs.Prelude.{IfSome}
-use Rattle.std.specs.Option.{option_to_list}
+use Rattle.std.proofs.Common.{◌≡◌, ◌∷◌, [], ◌++◌, Bool, true, false, not, ◌&&◌, List, Option, None, Some, sym, ap, subst, ◌∙◌, refl, true≢false, is_some, cond, arith, length, length-append, ◌<◌, MutBor}
+use Rattle.std.specs.Prelude.{IfSome, IsSome}
+use Rattle.std.specs.Option.{option_copied_mut, option_to_list}
 use Rattle.std.proofs.lemmas.List.{same_from_push}
 use Rattle.bg_types.specs.Identifier.{Identifier, same_id}
 use Rattle.pending_ops.specs.Chains.{first_in, is_in}
-use Rattle.pending_ops.proofs.Tables.{lookup-id_eq, lookup-updated, is_in-updated, ok_there, ok_is, from_ok, no_more, one_less, one_less_at_most}
+use Rattle.pending_ops.proofs.Tables.{lookup-id_eq, lookup-updated, is_in-updated, one_less, one_less_at_most}
 use Rattle.pending_ops.proofs.chains.unlink.Goals as goal
 
+some_of : {X : Type 0} (r : Option (MutBor X)) → is_some (option_copied_mut r) ≡ true → IsSome r
+some_of None h = h
+some_of (Some x) h = refl
+
 pub unwrap-requires : goal.unwrap-requires
-unwrap-requires c = ok_there c.insert.result _ c.insert.ensures.absent (λ gone. true≢false (sym c.requires.first ∙ ap is_some (sym (lookup-id_eq c.args.firsts.now.entries c.args.front.now.parent) ∙ gone)))
+unwrap-requires c = some_of c.get_mut.result (ap is_some c.get_mut.ensures.value ∙ ap is_some (lookup-id_eq c.args.firsts.now.entries c.args.front.now.parent) ∙ c.requires.first)
 
 pub returns-in-Some-clause-first : goal.returns-in-Some-clause-first
 returns-in-Some-clause-first c = λ p.
-    lookup-updated c.args.firsts.now.entries c.insert.new.self.entries c.args.front.now.parent (Some c.in-Some.next)
-    (from_ok c.insert.result _ (ok_is c.insert.result c.unwrap.result c.unwrap.ensures) c.insert.ensures.updates).0 p
+    let there = ap is_some (lookup-id_eq c.args.firsts.now.entries c.args.front.now.parent) ∙ c.requires.first in
+    lookup-updated c.args.firsts.now.entries (c.get_mut.follows.lender c.in-Some.next).entries c.args.front.now.parent (Some c.in-Some.next) ((c.get_mut.follows.holds c.in-Some.next).3 there).0 p
     ∙ ap (λ o. cond (same_id c.args.front.now.parent p) o (first_in c.args.firsts.now.entries p)) (sym c.in-Some.is)
 
 pub returns-in-Some-clause-room : goal.returns-in-Some-clause-room
-returns-in-Some-clause-room c = λ room.
-    let there = ap is_some (lookup-id_eq c.args.firsts.now.entries c.args.front.now.parent) ∙ c.requires.first in
-    let same = no_more c.insert.result _ (length c.insert.new.self.entries) (length c.args.firsts.now.entries) (ok_is c.insert.result c.unwrap.result c.unwrap.ensures)
-    there c.insert.ensures.old c.insert.ensures.len in
-    omega arith
+returns-in-Some-clause-room c = λ n room. let same = (c.get_mut.follows.holds c.in-Some.next).2 in omega arith
 
 pub returns-in-None-clause-first : goal.returns-in-None-clause-first
 returns-in-None-clause-first c = λ p.
@@ -53,7 +53,7 @@ returns-in-None-clause-emptied c = λ none p.
     is_in-updated old new parent false gone p ∙ as_and (same_id parent p) (is_in old p)
 
 pub returns-in-None-clause-room : goal.returns-in-None-clause-room
-returns-in-None-clause-room c = λ room.
+returns-in-None-clause-room c = λ n room.
     let removed = ap is_some (c.swap_remove.ensures.value ∙ lookup-id_eq c.args.firsts.now.entries c.args.front.now.parent) ∙ c.requires.first in
     let first = one_less (is_some c.swap_remove.result) (length c.swap_remove.new.self.entries) (length c.args.firsts.now.entries) removed c.swap_remove.ensures.len in
     let last = one_less_at_most (is_some c.pop.result) (length c.pop.new.self.keys) (length c.args.released.now.keys) c.pop.ensures.len in

@@ -11,7 +11,7 @@ use Rattle.pending_ops.proofs.held.Held.next_ready.Goals as goal
 
 pub returns-in_err-front-clause-none : goal.returns-in_err-front-clause-none
 returns-in_err-front-clause-none c = (
-  (λ _. subst NoneReady c.self.view_is (none_ready c.self.inside.slots.entries c.self.inside.released.keys c.self.inside.erased.keys c.in_err-front.ensures.none)),
+  (λ _. subst NoneReady c.self.view_is (none_ready c.self.inside.slots.entries c.self.inside.released.keys c.self.inside.erased.keys c.self.inside.room c.in_err-front.ensures.none)),
   (λ _. ap is_some c.from_residual.ensures),
 )
 
@@ -24,10 +24,11 @@ invariant_of-self c =
     let last = c.in_ok-front.ensures.parent in
     let cut = lookup-updated slots c.swap_remove.new.self.entries f.id None c.swap_remove.ensures.updates.0 in
     let linked = AreLinked-handed_out slots c.swap_remove.new.self.entries firsts c.unlink.new.firsts.entries released c.unlink.new.released.keys c.self.inside.erased.keys
-    last.0 f.parent f.id f.slot c.self.invariant.0 last.1 c.in_ok-front.ensures.first c.in_ok-front.ensures.slot cut c.unlink.ensures.first c.unlink.ensures.kept c.unlink.ensures.emptied in
+    last.0 c.self.inside.room f.parent f.id f.slot c.self.invariant.0 last.1 c.in_ok-front.ensures.first c.in_ok-front.ensures.slot cut c.unlink.ensures.first c.unlink.ensures.kept c.unlink.ensures.emptied in
     let less = c.swap_remove.ensures.len in
-    let capacity = c.self.invariant.1.1.0 in
-    (linked, (c.unlink.ensures.room c.self.invariant.1.0, (omega arith, c.self.invariant.1.1.1)))
+    let spare = c.swap_remove.ensures.room.0 in
+    let room = c.self.invariant.1.1 in
+    (linked, (c.self.invariant.1.0, (omega arith, omega arith, room.2, omega arith, c.unlink.ensures.room c.self.inside.room room.4)))
 
 some_op : (r : Option OpView) (x : OpView) (P : OpView → Type 0) → IfSome r (λ op. op ≡ x) → P x → IfSome r P
 some_op None x P e p = tt
@@ -43,9 +44,9 @@ returns-clause-some c =
     let last = c.in_ok-front.ensures.parent in
     let cut = lookup-updated slots c.swap_remove.new.self.entries f.id None c.swap_remove.ensures.updates.0 in
     let out = hands_out slots c.swap_remove.new.self.entries firsts c.unlink.new.firsts.entries released c.unlink.new.released.keys erased
-    last.0 f.parent f.id f.slot c.self.invariant.0 last.1 c.in_ok-front.ensures.first c.in_ok-front.ensures.slot cut c.unlink.ensures.first c.unlink.ensures.kept c.unlink.ensures.emptied in
+    last.0 c.self.inside.room f.parent f.id f.slot c.self.invariant.0 last.1 c.in_ok-front.ensures.first c.in_ok-front.ensures.slot cut c.unlink.ensures.first c.unlink.ensures.kept c.unlink.ensures.emptied in
     some_op c.insert.result (Insert f.id f.slot.parent f.slot.ch) _ c.insert.ensures.value
-    (subst (λ w. HandsOut w f.id (node_in f.slot) (waiting_of c.swap_remove.new.self.entries c.unlink.new.released.keys erased)) c.self.view_is out)
+    (subst (λ w. HandsOut w f.id (node_in f.slot) (waiting_of c.swap_remove.new.self.entries c.unlink.new.released.keys erased c.self.inside.room)) c.self.view_is out)
 
 pub returns-clause-none : goal.returns-clause-none
 returns-clause-none c =
@@ -57,6 +58,6 @@ returns-clause-none c =
     let last = c.in_ok-front.ensures.parent in
     let cut = lookup-updated slots c.swap_remove.new.self.entries f.id None c.swap_remove.ensures.updates.0 in
     let out = hands_out slots c.swap_remove.new.self.entries firsts c.unlink.new.firsts.entries released c.unlink.new.released.keys erased
-    last.0 f.parent f.id f.slot c.self.invariant.0 last.1 c.in_ok-front.ensures.first c.in_ok-front.ensures.slot cut c.unlink.ensures.first c.unlink.ensures.kept c.unlink.ensures.emptied in
+    last.0 c.self.inside.room f.parent f.id f.slot c.self.invariant.0 last.1 c.in_ok-front.ensures.first c.in_ok-front.ensures.slot cut c.unlink.ensures.first c.unlink.ensures.kept c.unlink.ensures.emptied in
     let some : IsSome c.insert.result = c.insert.ensures.valid.1 (c.self.invariant.0.formed f.id f.slot c.in_ok-front.ensures.slot) in
     ((λ none. absurd (not_both c.insert.result some none)), (λ none. absurd (true≢false (sym out.was_ready ∙ subst NoneReady (sym c.self.view_is) none f.id))))

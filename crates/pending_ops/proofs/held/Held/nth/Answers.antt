@@ -44,7 +44,7 @@ returns-in-Some-clause-each_once c =
     let slots = c.self.inside.slots.entries in
     let erased = c.self.inside.erased.keys in
     subst (λ (w : Waiting). ListsOnce w.held w.listed) c.self.view_is
-    (lists_once slots c.self.inside.released.keys erased (IsDistinct-id_eq (keys_of slots) c.len-insertions.ensures.unique) (IsDistinct-id_eq erased c.len-erasures.ensures.unique))
+    (lists_once slots c.self.inside.released.keys erased c.self.inside.room (IsDistinct-id_eq (keys_of slots) c.len-insertions.ensures.unique) (IsDistinct-id_eq erased c.len-erasures.ensures.unique))
 
 pub returns-in-None-clause-listed : goal.returns-in-None-clause-listed
 returns-in-None-clause-listed c =
@@ -61,4 +61,4 @@ returns-in-None-clause-each_once c =
     let slots = c.self.inside.slots.entries in
     let erased = c.self.inside.erased.keys in
     subst (λ (w : Waiting). ListsOnce w.held w.listed) c.self.view_is
-    (lists_once slots c.self.inside.released.keys erased (IsDistinct-id_eq (keys_of slots) c.len-insertions.ensures.unique) (IsDistinct-id_eq erased c.len-erasures.ensures.unique))
+    (lists_once slots c.self.inside.released.keys erased c.self.inside.room (IsDistinct-id_eq (keys_of slots) c.len-insertions.ensures.unique) (IsDistinct-id_eq erased c.len-erasures.ensures.unique))
