@@ -2,7 +2,9 @@
 import struct
 
 HEADER = b"BGOP\x01"
+HEADER_2 = b"BGOP\x02"
 ROOT = (0, 0)
+MOST = 1024  # insertions of a run
 
 
 def insertion(identifier, parent, scalar):
@@ -13,3 +15,24 @@ def insertion(identifier, parent, scalar):
 def erasure(target):
     """The frame that deletes a target."""
     return struct.pack(">HBIH", 7, 2, *target)
+
+
+def run(first, further):
+    """The frame of version 2 of an insertion's frame and the bytes of the characters that follow."""
+    return struct.pack(">HB", 17 + 4 * len(further), 3) + first[3:] + b"".join(further) if further else first
+
+
+def gathered(frames):
+    """Frames of version 1 as those of version 2: insertions that join the one before are one run."""
+    first, further, last = None, [], None
+    for frame in frames:
+        numbers = struct.unpack(">HBIHIHI", frame) if len(frame) == 19 else None
+        if last and numbers and numbers[2:6] == (last[0] + 1, last[1], *last) and len(further) + 1 < MOST:
+            further.append(frame[15:])
+        else:
+            if first:
+                yield run(first, further)
+            first, further = frame, []
+        last = numbers and numbers[2:4]
+    if first:
+        yield run(first, further)

@@ -1,5 +1,5 @@
-//! The program `bidigrid`: operation files become text, drawn grids, walks of a caret and listings, and
-//! listings become files.
+//! The program `bidigrid`: operation files become text, drawn grids, walks of a caret, listings and files
+//! of version 2, and listings become files.
 #![tactic(auto)]
 
 mod files;
@@ -17,7 +17,7 @@ pub use desk_runs::{
 };
 use files::{open_all, path_of};
 use key::draw_key;
-pub use op_listing::{LineFault, dump, pack};
+pub use op_listing::{LineFault, dump, migrate, pack};
 use report::PROGRAM;
 pub use report::report;
 pub use request::{Job, Replay, Walk};
@@ -35,6 +35,7 @@ fn main(rt: HostRuntime) -> ExitCode {
         Ok(Job::Replay(job)) => run_replay(&rt, &job),
         Ok(Job::Caret(job)) => run_caret(&rt, &job),
         Ok(Job::Dump { file }) => run_dump(&rt, file),
+        Ok(Job::Migrate { file }) => run_migrate(&rt, file),
         Ok(Job::Pack { listing }) => run_pack(&rt, listing),
         Err(stop) => stop_at(&rt, &stop),
     }
@@ -121,6 +122,23 @@ fn run_dump(rt: &HostRuntime, path: &str) -> ExitCode {
         return refuse(rt, &RunFault::Memory, "");
     };
     let done = dump(rt.alloc(), file.as_slice(), &mut Out::new(&mut buffered));
+    finish(
+        rt,
+        done.map_err(|fault| RunFault::from(fault)),
+        &[],
+        &mut buffered,
+    )
+}
+
+fn run_migrate(rt: &HostRuntime, path: &str) -> ExitCode {
+    let file = match read(rt, path) {
+        Ok(bytes) => bytes,
+        Err(unread) => return lose(rt, &unread),
+    };
+    let Ok(mut buffered) = BufWriter::new(rt.alloc(), io::writer(rt)) else {
+        return refuse(rt, &RunFault::Memory, "");
+    };
+    let done = migrate(rt.alloc(), file.as_slice(), &mut Out::new(&mut buffered));
     finish(
         rt,
         done.map_err(|fault| RunFault::from(fault)),

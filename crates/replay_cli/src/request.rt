@@ -16,6 +16,8 @@ pub enum Job<'a> {
     Caret(Walk<'a>),
     /// Write the listing of this file.
     Dump { file: &'a str },
+    /// Write this file in version 2.
+    Migrate { file: &'a str },
     /// Write the file of this listing.
     Pack { listing: &'a str },
 }

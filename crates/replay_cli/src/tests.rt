@@ -32,7 +32,7 @@ fn outcome(alloc: Global, words: &[String]) -> Result<usize, &'static str> {
         Ok(Job::Text { files }) => Ok(files.len()),
         Ok(Job::Replay(job)) => Ok(job.files.len()),
         Ok(Job::Caret(job)) => Ok(job.files.len()),
-        Ok(Job::Dump { .. } | Job::Pack { .. }) => Err("another job"),
+        Ok(Job::Dump { .. } | Job::Migrate { .. } | Job::Pack { .. }) => Err("another job"),
         Err(stop) => match stop {
             Stop::Help(_text) => Err("help"),
             Stop::Usage(_text) => Err("usage"),
@@ -254,7 +254,7 @@ fn chosen(alloc: Global, words: &[String]) -> Option<(Base, bool)> {
         Ok(Job::Replay(job)) => Some((job.base, job.wide_ambiguous)),
         Ok(Job::Caret(job)) => Some((job.base, job.wide_ambiguous)),
         Ok(Job::Text { files: _files }) => None,
-        Ok(Job::Dump { .. } | Job::Pack { .. }) => None,
+        Ok(Job::Dump { .. } | Job::Migrate { .. } | Job::Pack { .. }) => None,
         Err(_stop) => None,
     }
 }
@@ -286,18 +286,23 @@ fn grid_line(
 }
 
 #[test]
-fn dump_and_pack_take_one_file(rt: HostRuntime) -> Result<(), Fail> {
+fn dump_migrate_and_pack_take_one_file(rt: HostRuntime) -> Result<(), Fail> {
     let words = line(rt.alloc(), &["bidigrid", "dump", "a"])?;
     let Ok(Job::Dump { file }) = job(rt.alloc(), words.as_slice()) else {
         return Err(Fail::from("no dump"));
     };
     assert_eq!(rt; file, "a");
+    let words = line(rt.alloc(), &["bidigrid", "migrate", "c"])?;
+    let Ok(Job::Migrate { file }) = job(rt.alloc(), words.as_slice()) else {
+        return Err(Fail::from("no migrate"));
+    };
+    assert_eq!(rt; file, "c");
     let words = line(rt.alloc(), &["bidigrid", "pack", "b"])?;
     let Ok(Job::Pack { listing }) = job(rt.alloc(), words.as_slice()) else {
         return Err(Fail::from("no pack"));
     };
     assert_eq!(rt; listing, "b");
-    for name in ["dump", "pack"] {
+    for name in ["dump", "migrate", "pack"] {
         for words in [
             line(rt.alloc(), &["bidigrid", name])?,
             line(rt.alloc(), &["bidigrid", name, "a", "b"])?,

@@ -88,6 +88,17 @@ const DUMP_LONG_ABOUT: &str =
 
 const DUMP_EXAMPLE: &str = "Example:\n  bidigrid dump examples/hello/hebrew.bgop";
 
+const MIGRATE_ABOUT: &str = "Writes an operation file in version 2";
+
+const MIGRATE_LONG_ABOUT: &str =
+    "Writes the operation file of version 2 that has the same operations to standard output.\n\n\
+    In version 2 insertions that were typed in one go stand in one frame, with four bytes for each\n\
+    further one. It is never longer than version 1, and a file of version 2 is written as it is.\n\
+    All subcommands read both versions. Where the file is faulty, nothing is written.";
+
+const MIGRATE_EXAMPLE: &str =
+    "Example:\n  bidigrid migrate examples/hello/hebrew.bgop >hebrew.bgop";
+
 const PACK_ABOUT: &str = "Writes the operation file of a listing";
 
 const PACK_LONG_ABOUT: &str = "Writes the operation file of a listing to standard output.\n\n\
@@ -100,6 +111,8 @@ const FILE_HELP: &str = "Operation files, 1 to 64 of them";
 
 const DUMP_HELP: &str = "An operation file";
 
+const MIGRATE_HELP: &str = "An operation file of either version";
+
 const PACK_HELP: &str = "A listing";
 
 /// Reads the words of a command line, the program's name among them.
@@ -111,6 +124,9 @@ pub fn job<'a>(alloc: Global, words: &'a [String]) -> Result<Job<'a>, Stop> {
     match matches.subcommand() {
         Some(("dump", dump)) => Ok(Job::Dump {
             file: dump.get_str("FILE").unwrap_or(""),
+        }),
+        Some(("migrate", migrate)) => Ok(Job::Migrate {
+            file: migrate.get_str("FILE").unwrap_or(""),
         }),
         Some(("pack", pack)) => Ok(Job::Pack {
             listing: pack.get_str("FILE").unwrap_or(""),
@@ -228,6 +244,7 @@ fn command<'a>(alloc: Global) -> Result<Command<'a>, AllocError> {
         .subcommand(replay_command(alloc)?)?
         .subcommand(caret_command(alloc)?)?
         .subcommand(dump_command(alloc)?)?
+        .subcommand(migrate_command(alloc)?)?
         .subcommand(pack_command(alloc)?)
 }
 
@@ -337,6 +354,14 @@ fn dump_command<'a>(alloc: Global) -> Result<Command<'a>, AllocError> {
         .long_about(DUMP_LONG_ABOUT)
         .after_help(DUMP_EXAMPLE)
         .arg(one_file(alloc, DUMP_HELP))
+}
+
+fn migrate_command<'a>(alloc: Global) -> Result<Command<'a>, AllocError> {
+    Command::new(alloc, "migrate")
+        .about(MIGRATE_ABOUT)
+        .long_about(MIGRATE_LONG_ABOUT)
+        .after_help(MIGRATE_EXAMPLE)
+        .arg(one_file(alloc, MIGRATE_HELP))
 }
 
 fn pack_command<'a>(alloc: Global) -> Result<Command<'a>, AllocError> {
