@@ -69,4 +69,5 @@ def main():
         before = values
 
 
-main()
+if __name__ == "__main__":
+    main()

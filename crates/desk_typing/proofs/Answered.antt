@@ -1,0 +1,48 @@
+-- What a run answers where there is a file of the change, and where there is none.
+use Rattle.std.proofs.Common.{◌≡◌, inr, Bool, ℕ, List, Option, Result, Ok, Err, sym, subst}
+use Rattle.std.specs.Prelude.{IfErr, IsErrAnd}
+use Rattle.std.specs.Str.{chars, IsUtf8}
+use Rattle.bg_types.specs.OperationSet.{OperationSet}
+use Rattle.bg_types.specs.declared.op.OpView.{OpView}
+use Rattle.op_codec.specs.declared.position.Version.TheVariants.{One}
+use Rattle.op_codec.specs.Spelling.{SpellsIn}
+use Rattle.desk_runs.specs.declared.run_fault.RunFault.TheVariants.{Memory}
+use Rattle.desk_runs.specs.Readers.{AreTold}
+use Rattle.desk_runs.specs.Files.{IsSetOfFiles}
+use Rattle.desk_runs.specs.Cause.{IsTakingCaused}
+use Rattle.desk_typing.specs.declared.change.Change.{Change}
+use Rattle.desk_typing.specs.declared.typing_fault.TypingFault.{TypingFault}
+use Rattle.desk_typing.specs.declared.typing_fault.TypingFault.TheVariants.{NotUtf8, Run, PastEnd, Full, CounterSpent}
+use Rattle.desk_typing.specs.Changing.{operations_of, Fits, IsUnfit}
+use Rattle.desk_typing.specs.TypedOutcome.{IsTypedFile, IsUnfitFor, IsUntyped}
+
+-- what holds of a fault that is handed on
+pub err_handed : {A : Type 0} (P : TypingFault → Type 0) (r : Result A TypingFault) (fault : TypingFault) → IsErrAnd r (λ e. e ≡ fault) → P fault → IfErr r P
+err_handed P (Ok done) fault h p = absurd h
+err_handed P (Err e) fault h p = subst P (sym h) p
+
+pub answer_handed : {A : Type 0} (P : Result A TypingFault → Type 0) (r : Result A TypingFault) (fault : TypingFault) → IsErrAnd r (λ e. e ≡ fault) → P (Err fault) → P r
+answer_handed P (Ok done) fault h p = absurd h
+answer_handed P (Err e) fault h p = subst (λ f. P (Err f)) (sym h) p
+
+-- of the files that readers tell, more holds
+pub told_so : (readers : List (Option (List ℕ))) (lost : List Bool) (A B : List (List ℕ) → Type 0) → ((files : List (List ℕ)) → A files → B files) → AreTold readers lost A → AreTold readers lost B
+told_so readers lost A B f t = record { files = t.files; told = t.told; working = t.working; so = f t.files t.so }
+
+module _ (readers : List (Option (List ℕ))) (lost : List Bool) (change : Change) (text : List ℕ) (utf8 : IsUtf8 text) (s : OperationSet) (told : AreTold readers lost (λ files. IsSetOfFiles files s)) where
+  pub lacking : IsUntyped readers lost change text (Run Memory)
+  lacking = (utf8, inr (told_so readers lost (λ files. IsSetOfFiles files s) (λ files. IsTakingCaused files Memory) (λ files h. tt) told))
+
+  unfit_for : (fault : TypingFault) → IsUnfit s change (chars text) fault → AreTold readers lost (λ files. IsUnfitFor files change text fault)
+  unfit_for fault h = told_so readers lost (λ files. IsSetOfFiles files s) (λ files. IsUnfitFor files change text fault) (λ files of_files. record { set = s; of_files = of_files; utf8 = utf8; unfit = h }) told
+
+  pub unfit : (fault : TypingFault) → IsUnfit s change (chars text) fault → IsUntyped readers lost change text fault
+  unfit (NotUtf8 byte) h = absurd h
+  unfit (Run fault) h = subst (λ f. IsUntyped readers lost change text (Run f)) (sym h) lacking
+  unfit (PastEnd place erased) h = unfit_for (PastEnd place erased) h
+  unfit Full h = unfit_for Full h
+  unfit CounterSpent h = unfit_for CounterSpent h
+
+  pub file_made : (ops : List OpView) (file : List ℕ) → Fits s change (chars text) → SpellsIn One file ops → ops ≡ operations_of s change (chars text) → AreTold readers lost (λ files. IsTypedFile files change text file)
+  file_made ops file fits spelled are = told_so readers lost (λ files. IsSetOfFiles files s) (λ files. IsTypedFile files change text file)
+      (λ files of_files. record { set = s; of_files = of_files; utf8 = utf8; fits = fits; spelled = subst (SpellsIn One file) are spelled }) told

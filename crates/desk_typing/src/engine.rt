@@ -1,0 +1,79 @@
+//! The engine `typed`: a site's change to the text of files becomes its operation file.
+
+ghost use Rattle.std.specs.Prelude.{◌≡◌, ◌<◌, ◌⊎◌, false, map as each, IfOk, IfErr};
+ghost use Rattle.std.specs.Str.{chars};
+ghost use Rattle.desk_runs.specs.Readers.{AreWorking, AreTold};
+ghost use Rattle.desk_runs.specs.declared.run_fault.RunFault.TheVariants.{Memory as run_memory};
+ghost use Rattle.desk_typing.specs.declared.typing_fault.TypingFault.TheVariants.{Run as typing_run};
+ghost use Rattle.desk_typing.specs.TypedOutcome.{IsTypedFile, IsUntyped, IsTypedOutcome};
+
+use crate::change::Change;
+use crate::operations::operations;
+use crate::typing_fault::TypingFault;
+use bg_types::{Sink, put_all};
+use desk_runs::desk_of;
+use op_codec::{Source, encode_file};
+use std::alloc::Global;
+
+/// Writes the operation file of a change that a site makes to the text of all operations of the
+/// files: deletions, and then the insertions of the characters of a text in UTF-8, each after the one
+/// before. Nothing is written before all is made. The key keeps who does not know it from writing
+/// files that make the run slow.
+///
+/// What the files and the new one read as together is `laws::typed_text`; that its identifiers are new
+/// `laws::new_identifiers`.
+pub fn typed<R: Source, S: Sink>(
+    alloc: Global,
+    key: u128,
+    files: &mut [R],
+    change: &Change,
+    text: &[u8],
+    out: &mut S,
+) -> Result<(), TypingFault>
+    requires site { 0 < change.now.site }
+    requires readers { AreWorking (each R.has_failed files.old) }
+    requires working { S.has_failed out.old ≡ false }
+    ensures { IsTypedOutcome (each R.remaining files.old) (each R.has_failed files.new) change.now text.now
+        (S.written out.old) (S.written out.new) (S.has_failed out.new) result }
+{
+    let file = typed_file(alloc, key, files, change, text)?;
+    put_all(out, file.as_slice())?;
+    Ok(())
+}
+
+/// The operation file of the change.
+fn typed_file<R: Source>(
+    alloc: Global,
+    key: u128,
+    files: &mut [R],
+    change: &Change,
+    text: &[u8],
+) -> Result<Vec<u8>, TypingFault>
+    requires site { 0 < change.now.site }
+    requires readers { AreWorking (each R.has_failed files.old) }
+    ensures ok { IfOk result (λ file. AreTold (each R.remaining files.old) (each R.has_failed files.new)
+        (λ told. IsTypedFile told change.now text.now file.items)) }
+    ensures fault { IfErr result (IsUntyped (each R.remaining files.old) (each R.has_failed files.new) change.now text.now) }
+{
+    let text = match std::str::from_utf8(text) {
+        Ok(text) => text,
+        Err(error) => return Err(TypingFault::NotUtf8(error.valid_up_to())),
+    };
+    let mut desk = match desk_of(alloc, key, files) {
+        Ok(desk) => desk,
+        Err(fault) => return Err(TypingFault::Run(fault)),
+    };
+    let typed = code_points(alloc, text)?;
+    let ops = operations(alloc, &mut desk, change, typed.as_slice())?;
+    let file = encode_file(alloc, ops.as_slice())?;
+    Ok(file)
+}
+
+/// The code points of a text.
+fn code_points(alloc: Global, text: &str) -> Result<Vec<char>, TypingFault>
+    ensures ok { IfOk result (λ typed. typed.items ≡ chars text.now) }
+    ensures fault { IfErr result (λ fault. fault ≡ typing_run run_memory) }
+{
+    let typed = text.chars().collect(alloc)?;
+    Ok(typed)
+}

@@ -1,0 +1,103 @@
+//! Why nothing is typed.
+
+ghost use Rattle.std.specs.Prelude.{◌≡◌};
+ghost use Rattle.desk_typing.specs.Fault.{typing_code, typing_status};
+ghost use Rattle.desk_typing.specs.declared.typing_fault.TypingFault.TheVariants.{Run as typing_run};
+ghost use Rattle.desk_runs.specs.declared.run_fault.RunFault.TheVariants.{Memory as run_memory, Device as run_device};
+
+use bg_types::{Device, Memory};
+use desk_runs::{RunFault, status};
+use std::alloc::{AllocError, AllocFailed};
+use std::error::Error;
+use std::fmt;
+
+/// Why a change is not written. Each prints as the line on standard error says it, without the
+/// program's name.
+#[derive(Clone, Copy, Debug, PartialEq, Eq)]
+pub enum TypingFault {
+    /// The text is not UTF-8: how many of its bytes stand before the first that is wrong.
+    NotUtf8(usize),
+    /// A run over the files ends so: a file is faulty, a desk refuses what they hold, a read or a
+    /// write failed, or a growth was refused.
+    Run(RunFault),
+    /// The place, or so many characters from it on, are past the text's end.
+    PastEnd { place: usize, erased: u32 },
+    /// The files and the change have more than 1,000,000 operations together.
+    Full,
+    /// A character would need a counter above 4,294,967,295.
+    CounterSpent,
+}
+
+impl fmt::Display for TypingFault {
+    fn fmt<W: fmt::Write>(&self, f: &mut fmt::Formatter<W>) -> fmt::Result {
+        match self {
+            TypingFault::NotUtf8(byte) => write!(f, "text byte {byte}: NotUtf8"),
+            TypingFault::Run(fault) => write!(f, "{fault}"),
+            TypingFault::PastEnd { place, erased } => {
+                write!(f, "place {place} erase {erased}: PastEnd")
+            }
+            TypingFault::Full => write!(f, "text: Full"),
+            TypingFault::CounterSpent => write!(f, "text: CounterSpent"),
+        }
+    }
+}
+
+impl Error for TypingFault {}
+
+impl TypingFault {
+    /// The number of this fault: that of the run's fault, 1 to 10; 6 for `PastEnd`; else 11 to 13.
+    pub fn code(&self) -> u8
+        ensures { result ≡ typing_code self.now }
+    {
+        match self {
+            TypingFault::Run(fault) => fault.code(),
+            TypingFault::PastEnd { .. } => 6,
+            TypingFault::NotUtf8(_) => 11,
+            TypingFault::CounterSpent => 12,
+            TypingFault::Full => 13,
+        }
+    }
+
+    /// The status that the program ends with: that of the run's fault, else 1.
+    pub fn status(&self) -> u8
+        ensures { result ≡ typing_status self.now }
+    {
+        match self {
+            TypingFault::Run(fault) => status(fault),
+            TypingFault::NotUtf8(_) | TypingFault::PastEnd { .. } => 1,
+            TypingFault::Full | TypingFault::CounterSpent => 1,
+        }
+    }
+}
+
+impl From<AllocError> for TypingFault {
+    ghost from_gives = { λ _ e. e ≡ typing_run run_memory };
+
+    fn from(_error: AllocError) -> TypingFault {
+        TypingFault::Run(RunFault::Memory)
+    }
+}
+
+impl<T: Drop> From<AllocFailed<T>> for TypingFault {
+    ghost from_gives = { λ _ e. e ≡ typing_run run_memory };
+
+    fn from(_error: AllocFailed<T>) -> TypingFault {
+        TypingFault::Run(RunFault::Memory)
+    }
+}
+
+impl From<Memory> for TypingFault {
+    ghost from_gives = { λ _ e. e ≡ typing_run run_memory };
+
+    fn from(_error: Memory) -> TypingFault {
+        TypingFault::Run(RunFault::Memory)
+    }
+}
+
+impl From<Device> for TypingFault {
+    ghost from_gives = { λ _ e. e ≡ typing_run run_device };
+
+    fn from(_error: Device) -> TypingFault {
+        TypingFault::Run(RunFault::Device)
+    }
+}
