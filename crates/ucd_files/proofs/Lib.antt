@@ -3,6 +3,8 @@ pub mod CodePoints
 pub mod Codes
 pub mod FirstFault
 pub mod LineFields
+pub mod LinesBack
 pub mod LinesOf
 pub mod Named
+pub mod UnsetPlaces
 pub mod Writes

@@ -14,4 +14,5 @@ pub mod BracketKind
 pub mod Files
 pub mod Faults
 pub mod Tables
+pub mod UnsetPlaces
 pub mod Ucd

@@ -12,6 +12,7 @@ mod lines;
 mod names;
 mod read;
 mod tables;
+mod unset;
 mod value;
 mod values;
 pub mod vectors;

@@ -10,7 +10,12 @@ ghost use Rattle.ucd_files.specs.Passes.{said_in, end_of, reach, written, overla
 use crate::entry::Entry;
 use crate::fault::{Cause, UcdFault, UcdFile};
 use crate::lines::Lines;
-use std::alloc::Global;
+use crate::unset::fill_unset;
+use std::alloc::{AllocError, Global};
+
+/// How many code points the lines of a file may cover, each line counted for itself, before each code point is
+/// written once: eight times all of them.
+const MOST_COVERED: usize = 8 * 0x110000;
 
 /// A value that one of the files gives to code points.
 pub(crate) trait FileValue: Copy {
@@ -32,13 +37,13 @@ pub(crate) trait FileValue: Copy {
 
 /// What is taken from the lines: the defaults of the comments, or the values of the data lines.
 #[derive(Clone, Copy)]
-enum Pass {
+pub(crate) enum Pass {
     Defaults,
     DataLines,
 }
 
 /// What a line says in a pass.
-fn said_in<V: FileValue>(pass: Pass, line: &[u8]) -> Option<Entry<V>>
+pub(crate) fn said_in<V: FileValue>(pass: Pass, line: &[u8]) -> Option<Entry<V>>
     ensures { result ≡ said_in pass V.reading line.now }
 {
     match pass {
@@ -71,14 +76,32 @@ fn bad_byte_line(bytes: &[u8]) -> Option<usize>
     }
 }
 
-/// How many code points the lines reach, or the number of the first faulty line with its cause.
-fn reach<V: FileValue>(bytes: &[u8]) -> Result<usize, (usize, Cause)>
-    ensures ok { IfOk result (λ n. (n ≡ reach V.reading (lines_of bytes.now))
+/// How far the lines of a file go.
+struct Extent {
+    /// One more than the last code point that a line covers, or 0.
+    reach: usize,
+
+    /// How many code points the lines cover, each line counted for itself.
+    covered: usize,
+}
+
+/// How many code points are covered.
+fn count_of<V: Copy>(said: Option<Entry<V>>) -> usize {
+    match said {
+        Some(entry) => (entry.last as usize + 1).saturating_sub(entry.first as usize),
+        None => 0,
+    }
+}
+
+/// How far the lines go, or the number of the first faulty line with its cause.
+fn extent_of<V: FileValue>(bytes: &[u8]) -> Result<Extent, (usize, Cause)>
+    ensures ok { IfOk result (λ extent. (extent.reach ≡ reach V.reading (lines_of bytes.now))
         × (first_faulty V.reading.line (lines_of bytes.now) 1 ≡ None)) }
     ensures fault { IfErr result (λ e. first_faulty V.reading.line (lines_of bytes.now) 1
         ≡ Some e) }
 {
     let mut reach = 0;
+    let mut covered: usize = 0;
     let mut number = 0;
     for line in Lines::of(bytes) {
         number += 1;
@@ -86,9 +109,13 @@ fn reach<V: FileValue>(bytes: &[u8]) -> Result<usize, (usize, Cause)>
             Ok(said) => said,
             Err(cause) => return Err((number, cause)),
         };
-        reach = reach.max(end_of(said)).max(end_of(V::missing(line)));
+        let default = V::missing(line);
+        reach = reach.max(end_of(said)).max(end_of(default));
+        covered = covered
+            .saturating_add(count_of(said))
+            .saturating_add(count_of(default));
     }
-    Ok(reach)
+    Ok(Extent { reach, covered })
 }
 
 /// Writes a value at the code points that are covered.
@@ -120,7 +147,7 @@ fn fill<V: FileValue>(table: &mut [V], pass: Pass, bytes: &[u8])
 }
 
 /// Writes the defaults, and then the data lines over them.
-fn fill_both<V: FileValue>(table: &mut [V], bytes: &[u8])
+fn fill_over<V: FileValue>(table: &mut [V], bytes: &[u8])
     requires { reach V.reading (lines_of bytes.now) ≤ length table.old }
     ensures value { (c : ℕ) (d : V) → slice_index_or table.new c d
         ≡ overlaid Pass.DataLines V.reading (lines_of bytes.now) c
@@ -131,9 +158,30 @@ fn fill_both<V: FileValue>(table: &mut [V], bytes: &[u8])
     fill(table, Pass::DataLines, bytes);
 }
 
-/// The first fault of a file, or how many code points its lines reach.
-fn checked<V: FileValue>(file: UcdFile, bytes: &[u8]) -> Result<usize, UcdFault>
-    ensures sound { IfOk result (λ n. (n ≡ reach V.reading (lines_of bytes.now))
+/// Fills a table by the shorter way. True files cover each code point a few times at most, and are written line over
+/// line. Where lines cover many code points again and again, each code point is written once.
+fn fill_both<V: FileValue>(
+    alloc: Global,
+    table: &mut [V],
+    covered: usize,
+    bytes: &[u8],
+) -> Result<(), AllocError>
+    requires { reach V.reading (lines_of bytes.now) ≤ length table.old }
+    ensures value { OnOk result ((c : ℕ) (d : V) → slice_index_or table.new c d
+        ≡ overlaid Pass.DataLines V.reading (lines_of bytes.now) c
+        (overlaid Pass.Defaults V.reading (lines_of bytes.now) c (slice_index_or table.old c d))) }
+    ensures len { length table.new ≡ length table.old }
+{
+    if covered > MOST_COVERED {
+        return fill_unset(alloc, table, bytes);
+    }
+    fill_over(table, bytes);
+    Ok(())
+}
+
+/// The first fault of a file, or how far its lines go.
+fn checked<V: FileValue>(file: UcdFile, bytes: &[u8]) -> Result<Extent, UcdFault>
+    ensures sound { IfOk result (λ extent. (extent.reach ≡ reach V.reading (lines_of bytes.now))
         × (fault_in file V.reading bytes.now ≡ None)) }
     ensures fault { IfErr result (λ e. fault_in file V.reading bytes.now ≡ Some e) }
 {
@@ -143,8 +191,8 @@ fn checked<V: FileValue>(file: UcdFile, bytes: &[u8]) -> Result<usize, UcdFault>
             line,
             cause: Cause::BadUtf8,
         }),
-        None => match reach::<V>(bytes) {
-            Ok(len) => Ok(len),
+        None => match extent_of::<V>(bytes) {
+            Ok(extent) => Ok(extent),
             Err((line, cause)) => Err(UcdFault::At { file, line, cause }),
         },
     }
@@ -163,9 +211,9 @@ pub(crate) fn read<V: FileValue>(
     ensures fault { IfErr result (λ e. e ≢ UcdFault.Memory
         → fault_in file V.reading bytes.now ≡ Some e) }
 {
-    let len = checked::<V>(file, bytes)?;
+    let Extent { reach, covered } = checked::<V>(file, bytes)?;
     let mut table = Vec::new(alloc);
-    table.resize(len, V::absent())?;
-    fill_both(&mut table, bytes);
+    table.resize(reach, V::absent())?;
+    fill_both(alloc, &mut table, covered, bytes)?;
     Ok(table)
 }

@@ -269,3 +269,39 @@ fn faults_print_their_names(rt: HostRuntime) -> Result<(), Fail> {
     assert_eq!(rt; UcdFault::Memory.code(), 9);
     Ok(())
 }
+
+/// A line that names all code points, as often as that fills a table from the last line to the first, and then these
+/// lines.
+fn crowded(alloc: Global, line: &[u8], lines: &[u8]) -> Result<Vec<u8>, Fail> {
+    let mut bytes = Vec::new(alloc);
+    for _ in 0..9 {
+        bytes.extend_from_slice(line)?;
+    }
+    bytes.extend_from_slice(lines)?;
+    Ok(bytes)
+}
+
+/// The last data line decides, else the last default, however often the lines name all code points.
+#[test]
+fn lines_that_name_all_code_points_again_and_again(rt: HostRuntime) -> Result<(), Fail> {
+    let over: &[u8] = b"0041..0043;AL\n0042;EN\n# @missing: 0000..10FFFF; AN\n10FFFF;NSM";
+    let data = crowded(rt.alloc(), b"0000..10FFFF;R\n", over)?;
+    let below: &[u8] = b"# @missing: 0041..0043; AL\n0042;EN\n0044..10FFFE;ET";
+    let defaults = crowded(rt.alloc(), b"# @missing: 0000..10FFFF; R\n", below)?;
+    let tables = load(rt.alloc(), UcdFile::Bidi, &data)?;
+    let others = load(rt.alloc(), UcdFile::Bidi, &defaults)?;
+    for (c, want, other) in [
+        ('\0', Bidi::R, Bidi::R),
+        ('@', Bidi::R, Bidi::R),
+        ('A', Bidi::Al, Bidi::Al),
+        ('B', Bidi::En, Bidi::En),
+        ('C', Bidi::Al, Bidi::Al),
+        ('D', Bidi::R, Bidi::Et),
+        ('\u{10FFFE}', Bidi::R, Bidi::Et),
+        ('\u{10FFFF}', Bidi::Nsm, Bidi::R),
+    ] {
+        assert_eq!(rt; tables.bidi(c), want, "at {c:?}");
+        assert_eq!(rt; others.bidi(c), other, "at {c:?}");
+    }
+    Ok(())
+}

@@ -1,9 +1,9 @@
--- What stays true in the loop of `reach`.
+-- What stays true in the loop of `extent_of`.
 use Rattle.std.proofs.Common.{◌≡◌, ◌+◌, length, max}
 use Rattle.ucd_files.specs.Line.{lines_of, lines_left}
 use Rattle.ucd_files.specs.Reading.{first_faulty}
 use Rattle.ucd_files.specs.Passes.{reach}
-use Rattle.ucd_files.proofs.read.reach.Given as goal
+use Rattle.ucd_files.proofs.read.extent_of.Given as goal
 
 abbrev pub invariant-loop-line : goal.invariant-loop-line
 invariant-loop-line g l =

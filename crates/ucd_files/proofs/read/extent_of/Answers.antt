@@ -1,7 +1,7 @@
--- The goals of `reach` that are answered by hand.
+-- The goals of `extent_of` that are answered by hand.
 use Rattle.std.proofs.Common.{length, ap, arith}
 use Rattle.ucd_files.proofs.LinesOf.{length-lines_of-le}
-use Rattle.ucd_files.proofs.read.reach.Goals as goal
+use Rattle.ucd_files.proofs.read.extent_of.Goals as goal
 
 pub overflow_add-number : goal.overflow_add-number
 overflow_add-number g c =
