@@ -28,7 +28,7 @@ longer : (order more : List ℕ) (es : List Extent) → All (IsStretch order) es
 longer order more es h = All-weaker (IsStretch order) (IsStretch (order ++ more)) (λ e first. (first.0, (let l = first.1 in let n = length-append order more in omega arith))) es h
 
 -- the new stretch
-range-new : (order more : List ℕ) → slice_range (order ++ more) (length order) (length order + length more) ≡ more
+pub range-new : (order more : List ℕ) → slice_range (order ++ more) (length order) (length order + length more) ≡ more
 range-new order more =
     let n : (length order + length more) - length order ≡ length more = omega arith in
     ap₂ (λ k xs. take k xs) n (drop_at order more (length order) refl) ∙ take-length more

@@ -8,5 +8,6 @@ pub mod Chains
 pub mod Linking
 pub mod Gathering
 pub mod Facts
+pub mod Uniformity
 pub mod Whole
 pub mod Balance

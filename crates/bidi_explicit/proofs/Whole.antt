@@ -3,12 +3,11 @@ use Rattle.std.proofs.Common.{ℕ, zero, suc, ◌≡◌, ◌≤◌, ap, ap₂, �
 use Rattle.std.specs.List.{All}
 use Rattle.std.proofs.lemmas.List.Elements.{All-head, All-tail, All-map}
 use Rattle.bg_types.specs.declared.class.Bidi.{Bidi}
-use Rattle.bg_types.specs.declared.class.Base.{Base}
 use Rattle.bidi_explicit.specs.declared.controls.Control.{Control}
 use Rattle.bidi_explicit.specs.declared.kept.Kept.{Kept}
 use Rattle.bidi_explicit.specs.Levels.{explicit_places}
 use Rattle.bidi_explicit.specs.Sequences.{RunSequence, sequence_from, begins, below, chains, sequences_of, level_or}
-use Rattle.bidi_explicit.specs.Embedding.{Embedding, embedding, paragraph_level, IsWithinDepth}
+use Rattle.bidi_explicit.specs.Embedding.{Embedding, embedding_at, IsWithinDepth}
 use Rattle.bidi_explicit.specs.Controls.{controls_from}
 use Rattle.bidi_explicit.specs.Links.{linked, is_unclosed_at}
 use Rattle.bidi_explicit.proofs.Facts.{linked-next, unclosed-unmatched}
@@ -16,16 +15,14 @@ use Rattle.bidi_explicit.proofs.Facts.{linked-next, unclosed-unmatched}
 abbrev pub answer : ℕ → List (Option Kept) → List RunSequence → Embedding
 answer level places sequences = record { level = level; places = places; sequences = sequences }
 
-pub embedding-is : (b : Base) (cs : List Bidi) (level : ℕ) (places : List (Option Kept)) (sequences : List RunSequence) (controls : List Control) →
-    level ≡ paragraph_level b cs → places ≡ explicit_places level cs → controls ≡ controls_from 0 cs →
-    sequences ≡ chains level (linked controls places) (is_unclosed_at controls) places → answer level places sequences ≡ embedding b cs
-embedding-is b cs level places sequences controls l p k s =
+pub embedding-is : (cs : List Bidi) (level : ℕ) (places : List (Option Kept)) (sequences : List RunSequence) (controls : List Control) →
+    places ≡ explicit_places level cs → controls ≡ controls_from 0 cs →
+    sequences ≡ chains level (linked controls places) (is_unclosed_at controls) places → answer level places sequences ≡ embedding_at level cs
+embedding-is cs level places sequences controls p k s =
     let chained : sequences ≡ sequences_of level cs places =
     s ∙ ap (λ xs. chains level (linked xs places) (is_unclosed_at xs) places) k
     ∙ ap₂ (λ f u. chains level f u places) (linked-next cs places) (unclosed-unmatched cs) in
-    ap (answer level places) chained
-    ∙ ap (λ ps. answer level ps (sequences_of level cs ps)) p
-    ∙ ap (λ n. answer n (explicit_places n cs) (sequences_of n cs (explicit_places n cs))) l
+    ap (answer level places) chained ∙ ap (λ ps. answer level ps (sequences_of level cs ps)) p
 
 level_or-within : (p : ℕ) (places : List (Option Kept)) (i : ℕ) → p ≤ 125 → All IsWithinDepth places → level_or p places (Some i) ≤ 125
 level_or-within p [] i h all = h

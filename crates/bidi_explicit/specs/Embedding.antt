@@ -26,11 +26,14 @@ pub record Embedding : Type 0 where
   pub places : List (Option Kept)
   pub sequences : List RunSequence
 
-abbrev pub embedding : Base → List Bidi → Embedding
-embedding direction cs =
-    let level = paragraph_level direction cs in
+-- what the rules make of a paragraph of this level
+abbrev pub embedding_at : ℕ → List Bidi → Embedding
+embedding_at level cs =
     let places = explicit_places level cs in
     record { level = level; places = places; sequences = sequences_of level cs places }
+
+abbrev pub embedding : Base → List Bidi → Embedding
+embedding direction cs = embedding_at (paragraph_level direction cs) cs
 
 -- the level of a place is at most max_depth
 abbrev pub IsWithinDepth : Option Kept → Type 0

@@ -3,6 +3,7 @@ pub mod Nesting
 pub mod Levels
 pub mod Sequences
 pub mod Extents
+pub mod Uniform
 pub mod Embedding
 pub mod Flat
 pub mod Strong

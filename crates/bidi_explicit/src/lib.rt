@@ -11,6 +11,7 @@ mod paragraph;
 mod places;
 mod sequences;
 mod stack;
+mod uniform;
 
 pub use embedded::{Embedded, Sequence};
 pub use kept::Kept;

@@ -4,13 +4,14 @@ ghost use Rattle.std.specs.Prelude.{◌≡◌, ◌≤◌, IfOk, length, map, is_
 ghost use Rattle.std.specs.List.{All};
 ghost use Rattle.paragraphs.specs.Text.{code_points};
 ghost use Rattle.paragraphs.specs.Classes.{is_removed};
-ghost use Rattle.bidi_explicit.specs.Embedding.{classes_of, embedding, IsWithinDepth};
+ghost use Rattle.bidi_explicit.specs.Embedding.{classes_of, embedding, embedding_at, IsWithinDepth};
 
 use crate::controls::controls;
 use crate::embedded::Embedded;
 use crate::level::paragraph_level;
 use crate::places::places;
 use crate::sequences::sequences;
+use crate::uniform::{has_controls, uniform};
 use bg_types::{Base, Bidi, Memory};
 use paragraphs::Para;
 use std::alloc::Global;
@@ -21,6 +22,34 @@ fn classes_of(alloc: Global, tables: &Tables, text: &str) -> Result<Vec<Bidi>, M
     ensures { IfOk result (λ classes. classes.items ≡ classes_of tables.now text.now) }
 {
     Ok(text.chars().map(|c| tables.bidi(c)).collect(alloc)?)
+}
+
+/// What the rules make of a paragraph of this level, whatever its classes.
+fn by_controls(alloc: Global, level: u8, classes: &[Bidi]) -> Result<Embedded, Memory>
+    requires { level ≤ 1 }
+    ensures { IfOk result (λ e. e ≡ embedding_at level classes.now) }
+{
+    let controls = controls(alloc, classes)?;
+    let places = places(alloc, level, classes, &controls)?;
+    let (order, extents) = sequences(alloc, level, &controls, &places)?;
+    Ok(Embedded {
+        level,
+        places,
+        order,
+        extents,
+    })
+}
+
+/// What the rules make of a paragraph of this level. Without controls all its places are one sequence.
+fn embedded_at(alloc: Global, level: u8, classes: &[Bidi]) -> Result<Embedded, Memory>
+    requires { level ≤ 1 }
+    ensures { IfOk result (λ e. e ≡ embedding_at level classes.now) }
+{
+    if has_controls(classes) {
+        by_controls(alloc, level, classes)
+    } else {
+        uniform(alloc, level, classes)
+    }
 }
 
 /// A paragraph's level, what is kept at each of its places with its level and class (X1 to X9), and its
@@ -34,13 +63,6 @@ pub fn explicit(alloc: Global, tables: &Tables, para: &Para, base: Base) -> Resu
 {
     let level = paragraph_level(tables, para, base);
     let classes = classes_of(alloc, tables, para.text())?;
-    let controls = controls(alloc, &classes)?;
-    let places = places(alloc, level, &classes, &controls)?;
-    let (order, extents) = sequences(alloc, level, &controls, &places)?;
-    Ok(Embedded {
-        level,
-        places,
-        order,
-        extents,
-    })
+    let embedded = embedded_at(alloc, level, &classes)?;
+    Ok(embedded)
 }

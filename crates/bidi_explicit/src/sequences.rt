@@ -68,7 +68,7 @@ fn level_or(level: u8, places: &[Option<Kept>], place: Option<usize>) -> u8
 }
 
 /// The direction of the higher of two levels.
-fn direction_between(a: u8, b: u8) -> Bidi
+pub(crate) fn direction_between(a: u8, b: u8) -> Bidi
     ensures { result ≡ direction_between a b }
 {
     if a.max(b) % 2 == 1 { Bidi::R } else { Bidi::L }

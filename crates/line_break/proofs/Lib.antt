@@ -1,6 +1,7 @@
 -- The modules of this crate's proofs.
 pub mod Contexts
 pub mod RuleTable
+pub mod BetweenLetters
 pub mod Marking
 pub mod Tails
 pub mod Greatest

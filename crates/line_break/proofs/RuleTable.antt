@@ -13,7 +13,7 @@ abbrev pub AllGive : Break → List Rule → Type 0
 AllGive s [] = Unit {0}
 AllGive s (r ∷ rules) = (r.status ≡ s) × AllGive s rules
 
-cases : {P : Type 0} (b : Bool) → (b ≡ true → P) → (b ≡ false → P) → P
+pub cases : {P : Type 0} (b : Bool) → (b ≡ true → P) → (b ≡ false → P) → P
 cases true f g = f refl
 cases false f g = g refl
 

@@ -254,3 +254,8 @@ item_rules = joiners ++ (enclosing ++ (spaces ++ (quotations ++ (contingent ++ (
 -- the table, in the standard's order; where none holds, LB31 allows a break
 unfoldable pub rules : List Rule
 rules = point_rules ++ item_rules
+
+-- letters stand before and after a boundary, at which no line must end (LB4, LB5) and no ZW stands (LB8)
+abbrev pub between_letters : Before → After → Bool
+between_letters b a =
+    item (Al ∷ Hl ∷ []) b && (next (Al ∷ Hl ∷ []) a && (not (point (Bk ∷ Cr ∷ Lf ∷ Nl ∷ []) b) && not (spaced (Zw ∷ []) b)))

@@ -2,7 +2,7 @@
 
 ghost use Rattle.std.specs.Prelude.{◌≡◌, ◌&&◌, [], ◌∷◌};
 ghost use Rattle.std.specs.List.{list_any};
-ghost use Rattle.line_break.specs.Rules.{holds, point, base, next_point, mark, first_rule, rules, item_rules, late_rules, joiners, enclosing, quotations, contingent, hyphens, ideographs, numbers, syllables, letters, parentheses, pairs};
+ghost use Rattle.line_break.specs.Rules.{between_letters, holds, point, base, next_point, mark, first_rule, rules, item_rules, late_rules, joiners, enclosing, quotations, contingent, hyphens, ideographs, numbers, syllables, letters, parentheses, pairs};
 
 use crate::class::is_one_of;
 use crate::context::{After, Before};
@@ -15,7 +15,30 @@ use bg_types::Lb::{
 };
 
 /// The status of a boundary that is not a paragraph's end, by the first rule that holds.
+#[inline]
 pub(crate) fn status(b: Before, a: After) -> Break
+    ensures { result ≡ first_rule rules Break.May b a }
+{
+    if is_between_letters(b, a) {
+        Break::No // LB28, or an earlier rule of this status
+    } else {
+        status_by_rules(b, a)
+    }
+}
+
+/// Whether letters stand before and after a boundary, at which no line must end and no ZW stands.
+#[inline]
+fn is_between_letters(b: Before, a: After) -> bool
+    ensures { result ≡ between_letters b a }
+{
+    is_one_of(b.item, &[Al, Hl])
+        && is_one_of(a.item, &[Al, Hl])
+        && !is_one_of(b.point, &[Bk, Cr, Lf, Nl])
+        && !is_one_of(b.spaced, &[Zw])
+}
+
+/// The same, rule by rule.
+fn status_by_rules(b: Before, a: After) -> Break
     ensures { result ≡ first_rule rules Break.May b a }
 {
     if is_one_of(b.point, &[Bk]) {

@@ -1,6 +1,7 @@
 -- The modules of this crate's proofs.
 pub mod Slices
 pub mod Cutting
+pub mod OneCodePoint
 pub mod Pieces
 pub mod ClusterPlaces
 pub mod Splitting

@@ -1,6 +1,6 @@
 //! The columns of a cluster.
 
-ghost use Rattle.std.specs.Prelude.{◌≡◌, ◌<◌, length};
+ghost use Rattle.std.specs.Prelude.{◌≡◌, ◌<◌, length, [], ◌∷◌};
 ghost use Rattle.std.specs.List.{list_all, list_any};
 ghost use Rattle.paragraphs.specs.Text.{code_points};
 ghost use Rattle.paragraphs.specs.Columns.{ends_line, begins_with_end, is_direction_mark, is_invisible, takes_two, takes_two_by_choice, columns_by_choice, columns_of};
@@ -18,6 +18,31 @@ pub fn columns(tables: &Tables, cluster: &str) -> u8
     requires { 0 < length cluster.now }
     ensures { result ≡ columns_of tables.now (code_points cluster.now) }
 {
+    let mut chars = cluster.chars();
+    match chars.next() {
+        Some(c) if chars.as_str().is_empty() => columns_of_one(tables, c),
+        _ => columns_of_several(tables, cluster),
+    }
+}
+
+/// The columns of a cluster of one code point: each of its classes is looked up once.
+#[inline]
+fn columns_of_one(tables: &Tables, c: char) -> u8
+    ensures { result ≡ columns_of tables.now (c ∷ []) }
+{
+    if ends_line(tables, c) || is_invisible(tables, c) {
+        0
+    } else if is_wide(tables.ea(c)) || takes_two_by_choice(tables, c) {
+        2
+    } else {
+        1
+    }
+}
+
+/// The columns of a cluster of any number of code points.
+fn columns_of_several(tables: &Tables, cluster: &str) -> u8
+    ensures { result ≡ columns_of tables.now (code_points cluster.now) }
+{
     if begins_with_end(tables, cluster) || is_invisible_throughout(tables, cluster) {
         0
     } else if has_wide(tables, cluster) {
@@ -27,13 +52,21 @@ pub fn columns(tables: &Tables, cluster: &str) -> u8
     }
 }
 
+/// Whether a character ends a line or a paragraph.
+#[inline]
+fn ends_line(tables: &Tables, c: char) -> bool
+    ensures { result ≡ ends_line tables.now c }
+{
+    is_separator(tables.bidi(c)) || is_line_end(tables.lb(c))
+}
+
 /// Whether the first character ends a line or a paragraph.
 #[inline]
 fn begins_with_end(tables: &Tables, cluster: &str) -> bool
     ensures { result ≡ begins_with_end tables.now (code_points cluster.now) }
 {
     match cluster.chars().next() {
-        Some(c) => is_separator(tables.bidi(c)) || is_line_end(tables.lb(c)),
+        Some(c) => ends_line(tables, c),
         None => false,
     }
 }

@@ -1,0 +1,92 @@
+//! A paragraph without controls (UAX #9, X6 and X10).
+
+ghost use Rattle.std.specs.Prelude.{◌≡◌, false, IfOk, map};
+ghost use Rattle.std.specs.List.{list_any};
+ghost use Rattle.bidi_explicit.specs.Embedding.{embedding_at};
+ghost use Rattle.bidi_explicit.specs.Sequences.{below};
+ghost use Rattle.bidi_explicit.specs.Uniform.{is_control, kept_at_level, one_extent};
+
+use crate::embedded::{Embedded, Extent};
+use crate::kept::Kept;
+use crate::sequences::direction_between;
+use bg_types::{Bidi, Memory};
+use std::alloc::Global;
+
+/// Whether X9 removes a character of this class, or it is an isolate control.
+#[inline]
+#[tactic(auto, unfolding(bg_types::specs::Classes::is_removed, bg_types::specs::Classes::is_isolate_control))]
+fn is_control(class: Bidi) -> bool
+    ensures { result ≡ is_control class }
+{
+    matches!(
+        class,
+        Bidi::Rle
+            | Bidi::Lre
+            | Bidi::Rlo
+            | Bidi::Lro
+            | Bidi::Pdf
+            | Bidi::Bn
+            | Bidi::Lri
+            | Bidi::Rli
+            | Bidi::Fsi
+            | Bidi::Pdi
+    )
+}
+
+/// Whether one of these classes is such a one.
+pub(crate) fn has_controls(classes: &[Bidi]) -> bool
+    ensures { result ≡ list_any is_control classes.now }
+{
+    classes.iter().any(|class| is_control(*class))
+}
+
+/// Places of these classes, kept at a level.
+fn kept_places(alloc: Global, level: u8, classes: &[Bidi]) -> Result<Vec<Option<Kept>>, Memory>
+    ensures { IfOk result (λ places. places.items ≡ map (kept_at_level level) classes.now) }
+{
+    let kept = |class: &Bidi| {
+        Some(Kept {
+            level,
+            class: *class,
+        })
+    };
+    Ok(classes.iter().map(kept).collect(alloc)?)
+}
+
+/// The numbers below `count`.
+fn numbers_below(alloc: Global, count: usize) -> Result<Vec<usize>, Memory>
+    ensures { IfOk result (λ numbers. numbers.items ≡ below count) }
+{
+    Ok((0..count).collect(alloc)?)
+}
+
+/// The extent of a sequence of all places at a level, where there is a place.
+fn one_extent(alloc: Global, level: u8, count: usize) -> Result<Vec<Extent>, Memory>
+    ensures { IfOk result (λ extents. extents.items ≡ one_extent level count) }
+{
+    let mut extents = Vec::new(alloc);
+    if count > 0 {
+        let direction = direction_between(level, level);
+        extents.push(Extent {
+            start: 0,
+            end: count,
+            level,
+            sos: direction,
+            eos: direction,
+        })?;
+    }
+    Ok(extents)
+}
+
+/// What the rules make of a paragraph of this level: all its places in one sequence.
+pub(crate) fn uniform(alloc: Global, level: u8, classes: &[Bidi]) -> Result<Embedded, Memory>
+    requires { list_any is_control classes.now ≡ false }
+    ensures { IfOk result (λ e. e ≡ embedding_at level classes.now) }
+{
+    Ok(Embedded {
+        level,
+        places: kept_places(alloc, level, classes)?,
+        order: numbers_below(alloc, classes.len())?,
+        extents: one_extent(alloc, level, classes.len())?,
+    })
+}
