@@ -11,10 +11,10 @@ stopped_factor : (most count : ℕ) → min (min most (2 ^ 64 - 1) * suc count) 
 stopped_factor most count = elim (leb_tells most (2 ^ 64 - 1)) [
   | inl small ↦ let is : min most (2 ^ 64 - 1) ≡ most = omega (arith, small.1) in ap (λ (n : ℕ). min (n * suc count) 1_000_000) is
   | inr great ↦
-    let is : min most (2 ^ 64 - 1) ≡ 2 ^ 64 - 1 = omega (arith, great.1) in
-    let first : min most (2 ^ 64 - 1) ≤ min most (2 ^ 64 - 1) * suc count = le-mul_of_pos_right (min most (2 ^ 64 - 1)) (omega arith) in
-    let whole : most ≤ most * suc count = le-mul_of_pos_right most (omega arith) in
-    omega (arith, is, first, whole, great.1)
+      let is : min most (2 ^ 64 - 1) ≡ 2 ^ 64 - 1 = omega (arith, great.1) in
+      let first : min most (2 ^ 64 - 1) ≤ min most (2 ^ 64 - 1) * suc count = le-mul_of_pos_right (min most (2 ^ 64 - 1)) (omega arith) in
+      let whole : most ≤ most * suc count = le-mul_of_pos_right most (omega arith) in
+      omega (arith, is, first, whole, great.1)
 ]
 
 factor : (most count : ℕ) → min (min most (2 ^ 64 - 1) * count) 1_000_000 ≡ min (most * count) 1_000_000
