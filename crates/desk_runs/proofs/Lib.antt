@@ -12,6 +12,7 @@ pub mod TextDecided
 pub mod ReadSteps
 pub mod OnePlan
 pub mod FreshDesks
+pub mod Rooms
 pub mod HandedOn
 pub mod Running
 pub mod Pieces

@@ -17,3 +17,4 @@ pub mod ReplayOutcome
 pub mod Carets
 pub mod CaretsOutcome
 pub mod Setting
+pub mod Room

@@ -19,10 +19,11 @@ use crate::reading::load;
 use crate::run_fault::RunFault;
 use bg_types::{Base, Memory, Sink, put_all};
 use caret::{Caret, at_place, down, left, right, up};
-use cell_grid::{Grid, draw};
+use cell_grid::Grid;
 use op_codec::Source;
 use std::alloc::{AllocError, Global};
 use ucd_files::{Tables, Ucd};
+use view_cache::View;
 
 /// A move of a caret.
 #[derive(Clone, Copy, Debug, PartialEq, Eq)]
@@ -153,7 +154,8 @@ fn lines_over(
     if code_points(text) < place as usize {
         return Err(RunFault::PastEnd(place));
     }
-    let grid = draw(alloc, tables, width, base, text)?;
+    let mut view = View::with_room(alloc, tables, 1)?;
+    let grid = view.draw(width, base, text)?;
     let start = at_place(&grid, place as usize);
     let lines = walk_lines(alloc, &grid, start, moves)?;
     Ok(lines)

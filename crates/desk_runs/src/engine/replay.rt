@@ -7,6 +7,7 @@ ghost use Rattle.desk_runs.specs.Files.{bytes_of};
 ghost use Rattle.desk_runs.specs.Readers.{AreWorking};
 ghost use Rattle.desk_runs.specs.ReplayOutcome.{given, IsReplayOutcome, IsReplayOutcomeOver, IsPlanOutcome};
 
+mod room;
 mod round;
 mod setting;
 mod show;
@@ -19,11 +20,13 @@ use crate::run_fault::RunFault;
 use crate::schedule::read_schedule;
 use bg_types::{Base, Sink};
 use op_codec::Source;
+use room::new_view;
 use round::run_round;
 use setting::Setting;
 use std::alloc::Global;
 use steps::run_steps;
 use ucd_files::Ucd;
+use view_cache::View;
 
 /// Does the steps of a schedule, or without one lets each desk take all files and shows it. There
 /// are as many desks as files, and desk k has site k. For each show, in order, the print of the
@@ -87,7 +90,7 @@ pub fn replay_from<R: Source, S: Sink>(
     run(key, &setting, schedule, out)
 }
 
-/// Does the steps of a schedule, or those of a run without one.
+/// Does the steps of a schedule, or those of a run without one. All shows draw from one view.
 fn run<S: Sink>(
     key: u128,
     setting: &Setting,
@@ -99,36 +102,45 @@ fn run<S: Sink>(
     ensures { IsPlanOutcome (print_in setting.now) (files_in setting.now) (option_copied schedule.entry)
         (S.written out.old) (S.written out.new) (S.has_failed out.new) result }
 {
+    let mut view = new_view(key, setting)?;
     match schedule {
-        Some(bytes) => run_schedule(key, setting, bytes, out),
-        None => run_files(key, setting, out),
+        Some(bytes) => run_schedule(key, setting, &mut view, bytes, out),
+        None => run_files(key, setting, &mut view, out),
     }
 }
 
 fn run_schedule<S: Sink>(
     key: u128,
     setting: &Setting,
+    view: &mut View,
     schedule: &[u8],
     out: &mut S,
 ) -> Result<(), RunFault>
     requires many { length setting.now.files.now ≤ 64 }
+    requires tables { view.old.tables ≡ setting.now.tables.now }
     requires working { S.has_failed out.old ≡ false }
     ensures { IsPlanOutcome (print_in setting.now) (files_in setting.now) (Some schedule.now)
         (S.written out.old) (S.written out.new) (S.has_failed out.new) result }
 {
     let steps = read_schedule(setting.alloc, schedule, setting.files)?;
     let mut desks = new_desks(setting.alloc, key, setting.files.len())?;
-    run_steps(setting, &mut desks, &steps, out)
+    run_steps(setting, view, &mut desks, &steps, out)
 }
 
-fn run_files<S: Sink>(key: u128, setting: &Setting, out: &mut S) -> Result<(), RunFault>
+fn run_files<S: Sink>(
+    key: u128,
+    setting: &Setting,
+    view: &mut View,
+    out: &mut S,
+) -> Result<(), RunFault>
     requires many { length setting.now.files.now ≤ 64 }
+    requires tables { view.old.tables ≡ setting.now.tables.now }
     requires working { S.has_failed out.old ≡ false }
     ensures { IsPlanOutcome (print_in setting.now) (files_in setting.now) None
         (S.written out.old) (S.written out.new) (S.has_failed out.new) result }
 {
     let mut desks = new_desks(setting.alloc, key, setting.files.len())?;
-    run_round(setting, &mut desks, out)
+    run_round(setting, view, &mut desks, out)
 }
 
 #[cfg(test)]

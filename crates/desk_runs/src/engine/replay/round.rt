@@ -12,35 +12,42 @@ use crate::desks::Desk;
 use crate::run_fault::RunFault;
 use crate::schedule::{Numbered, Step};
 use bg_types::Sink;
+use view_cache::View;
 
 /// Each desk takes all files, beginning with that of its own number, and then each is shown.
 pub fn run_round<S: Sink>(
     setting: &Setting,
+    view: &mut View,
     desks: &mut [Desk],
     out: &mut S,
 ) -> Result<(), RunFault>
     requires desks { length desks.old ≡ length setting.now.files.now }
+    requires tables { view.old.tables ≡ setting.now.tables.now }
     requires working { S.has_failed out.old ≡ false }
-    ensures { IsStepsOutcome (print_in setting.now) (files_in setting.now) (sets_of desks.old) (round (files_in setting.now))
+    ensures outcome { IsStepsOutcome (print_in setting.now) (files_in setting.now) (sets_of desks.old) (round (files_in setting.now))
         (sets_of desks.new) (S.written out.old) (S.written out.new) (S.has_failed out.new) result }
+    ensures tables { view.new.tables ≡ view.old.tables }
 {
-    take_everywhere(setting, desks, out)?;
-    show_all(setting, desks, out)
+    take_everywhere(setting, view, desks, out)?;
+    show_all(setting, view, desks, out)
 }
 
 /// Each desk takes all files, one desk after the other.
 fn take_everywhere<S: Sink>(
     setting: &Setting,
+    view: &mut View,
     desks: &mut [Desk],
     out: &mut S,
 ) -> Result<(), RunFault>
     requires desks { length desks.old ≡ length setting.now.files.now }
+    requires tables { view.old.tables ≡ setting.now.tables.now }
     requires working { S.has_failed out.old ≡ false }
-    ensures { IsStepsOutcome (print_in setting.now) (files_in setting.now) (sets_of desks.old) (all_takes (files_in setting.now))
+    ensures outcome { IsStepsOutcome (print_in setting.now) (files_in setting.now) (sets_of desks.old) (all_takes (files_in setting.now))
         (sets_of desks.new) (S.written out.old) (S.written out.new) (S.has_failed out.new) result }
+    ensures tables { view.new.tables ≡ view.old.tables }
 {
     for desk in 1..setting.files.len() + 1 {
-        take_files(setting, desks, desk, out)?;
+        take_files(setting, view, desks, desk, out)?;
     }
     Ok(())
 }
@@ -48,6 +55,7 @@ fn take_everywhere<S: Sink>(
 /// A desk takes all files, from that of its own number on, wrapping round.
 fn take_files<S: Sink>(
     setting: &Setting,
+    view: &mut View,
     desks: &mut [Desk],
     desk: usize,
     out: &mut S,
@@ -55,14 +63,23 @@ fn take_files<S: Sink>(
     requires first { 1 ≤ desk }
     requires desk { desk ≤ length setting.now.files.now }
     requires desks { length desks.old ≡ length setting.now.files.now }
+    requires tables { view.old.tables ≡ setting.now.tables.now }
     requires working { S.has_failed out.old ≡ false }
-    ensures { IsStepsOutcome (print_in setting.now) (files_in setting.now) (sets_of desks.old)
+    ensures outcome { IsStepsOutcome (print_in setting.now) (files_in setting.now) (sets_of desks.old)
         (files_takes (files_in setting.now) desk (turn (length (files_in setting.now)) desk))
         (sets_of desks.new) (S.written out.old) (S.written out.new) (S.has_failed out.new) result }
+    ensures tables { view.new.tables ≡ view.old.tables }
 {
     let count = setting.files.len();
     for behind in 0..count {
-        take_file(setting, desks, desk, (desk - 1 + behind) % count + 1, out)?;
+        take_file(
+            setting,
+            view,
+            desks,
+            desk,
+            (desk - 1 + behind) % count + 1,
+            out,
+        )?;
     }
     Ok(())
 }
@@ -70,6 +87,7 @@ fn take_files<S: Sink>(
 /// A desk takes all operations of a file, in order.
 fn take_file<S: Sink>(
     setting: &Setting,
+    view: &mut View,
     desks: &mut [Desk],
     desk: usize,
     file: usize,
@@ -80,27 +98,36 @@ fn take_file<S: Sink>(
     requires first_file { 1 ≤ file }
     requires file { file ≤ length setting.now.files.now }
     requires desks { length desks.old ≡ length setting.now.files.now }
+    requires tables { view.old.tables ≡ setting.now.tables.now }
     requires working { S.has_failed out.old ≡ false }
-    ensures { IsStepsOutcome (print_in setting.now) (files_in setting.now) (sets_of desks.old) (file_takes (files_in setting.now) desk file)
+    ensures outcome { IsStepsOutcome (print_in setting.now) (files_in setting.now) (sets_of desks.old) (file_takes (files_in setting.now) desk file)
         (sets_of desks.new) (S.written out.old) (S.written out.new) (S.has_failed out.new) result }
+    ensures tables { view.new.tables ≡ view.old.tables }
 {
     for op in 1..setting.files[file - 1].len() + 1 {
         let step = Step::Take { desk, file, op };
-        run_step(setting, desks, &Numbered { line: 0, step }, out)?;
+        run_step(setting, view, desks, &Numbered { line: 0, step }, out)?;
     }
     Ok(())
 }
 
 /// Each desk is shown.
-fn show_all<S: Sink>(setting: &Setting, desks: &mut [Desk], out: &mut S) -> Result<(), RunFault>
+fn show_all<S: Sink>(
+    setting: &Setting,
+    view: &mut View,
+    desks: &mut [Desk],
+    out: &mut S,
+) -> Result<(), RunFault>
     requires desks { length desks.old ≡ length setting.now.files.now }
+    requires tables { view.old.tables ≡ setting.now.tables.now }
     requires working { S.has_failed out.old ≡ false }
-    ensures { IsStepsOutcome (print_in setting.now) (files_in setting.now) (sets_of desks.old) (all_shows (files_in setting.now))
+    ensures outcome { IsStepsOutcome (print_in setting.now) (files_in setting.now) (sets_of desks.old) (all_shows (files_in setting.now))
         (sets_of desks.new) (S.written out.old) (S.written out.new) (S.has_failed out.new) result }
+    ensures tables { view.new.tables ≡ view.old.tables }
 {
     for desk in 1..setting.files.len() + 1 {
         let step = Step::Show { desk };
-        run_step(setting, desks, &Numbered { line: 0, step }, out)?;
+        run_step(setting, view, desks, &Numbered { line: 0, step }, out)?;
     }
     Ok(())
 }

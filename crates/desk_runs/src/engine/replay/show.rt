@@ -9,21 +9,23 @@ use super::setting::Setting;
 use crate::desks::{Desk, read_text};
 use crate::run_fault::RunFault;
 use bg_types::Sink;
-use cell_grid::{draw, print};
+use cell_grid::print;
+use view_cache::View;
 
-/// Writes the print of the grid of a desk's text.
-pub fn show<S: Sink>(setting: &Setting, desk: &Desk, out: &mut S) -> Result<(), RunFault>
+/// Writes the print of the grid of a desk's text, drawn from a view.
+pub fn show<S: Sink>(
+    setting: &Setting,
+    view: &mut View,
+    desk: &Desk,
+    out: &mut S,
+) -> Result<(), RunFault>
+    requires tables { view.old.tables ≡ setting.now.tables.now }
     requires working { S.has_failed out.old ≡ false }
-    ensures { IsShowOutcome (print_in setting.now (text desk.now.set)) (S.written out.old) (S.written out.new) (S.has_failed out.new) result }
+    ensures shown { IsShowOutcome (print_in setting.now (text desk.now.set)) (S.written out.old) (S.written out.new) (S.has_failed out.new) result }
+    ensures tables { view.new.tables ≡ view.old.tables }
 {
     let text = read_text(desk)?;
-    let grid = draw(
-        setting.alloc,
-        setting.tables,
-        setting.width,
-        setting.base,
-        text.as_str(),
-    )?;
+    let grid = view.draw(setting.width, setting.base, text.as_str())?;
     print(&grid, out)?;
     Ok(())
 }

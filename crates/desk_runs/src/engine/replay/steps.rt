@@ -16,22 +16,26 @@ use crate::run_fault::RunFault;
 use crate::schedule::{Numbered, Step};
 use bg_types::Sink;
 use desk_replica::{TakeFault, merge_at, take_at};
+use view_cache::View;
 
 /// Does steps in order. A fault ends them.
 pub fn run_steps<S: Sink>(
     setting: &Setting,
+    view: &mut View,
     desks: &mut [Desk],
     steps: &[Numbered],
     out: &mut S,
 ) -> Result<(), RunFault>
     requires desks { length desks.old ≡ length setting.now.files.now }
     requires steps { AllByRecursion (λ s. IsStepOf (files_in setting.now) s.step) steps.now }
+    requires tables { view.old.tables ≡ setting.now.tables.now }
     requires working { S.has_failed out.old ≡ false }
-    ensures { IsStepsOutcome (print_in setting.now) (files_in setting.now) (sets_of desks.old) steps.now
+    ensures outcome { IsStepsOutcome (print_in setting.now) (files_in setting.now) (sets_of desks.old) steps.now
         (sets_of desks.new) (S.written out.old) (S.written out.new) (S.has_failed out.new) result }
+    ensures tables { view.new.tables ≡ view.old.tables }
 {
     for at in steps {
-        run_step(setting, desks, at, out)?;
+        run_step(setting, view, desks, at, out)?;
     }
     Ok(())
 }
@@ -39,15 +43,18 @@ pub fn run_steps<S: Sink>(
 /// Does one step.
 pub fn run_step<S: Sink>(
     setting: &Setting,
+    view: &mut View,
     desks: &mut [Desk],
     at: &Numbered,
     out: &mut S,
 ) -> Result<(), RunFault>
     requires desks { length desks.old ≡ length setting.now.files.now }
     requires step { IsStepOf (files_in setting.now) at.now.step }
+    requires tables { view.old.tables ≡ setting.now.tables.now }
     requires working { S.has_failed out.old ≡ false }
-    ensures { IsStepsOutcome (print_in setting.now) (files_in setting.now) (sets_of desks.old) (at.now ∷ [])
+    ensures outcome { IsStepsOutcome (print_in setting.now) (files_in setting.now) (sets_of desks.old) (at.now ∷ [])
         (sets_of desks.new) (S.written out.old) (S.written out.new) (S.has_failed out.new) result }
+    ensures tables { view.new.tables ≡ view.old.tables }
 {
     match at.step {
         Step::Take { desk, file, op } => {
@@ -58,7 +65,7 @@ pub fn run_step<S: Sink>(
             let merged = merge_at(desks, desk - 1, from - 1);
             answer(at.line, desk, merged)
         }
-        Step::Show { desk } => show(setting, &desks[desk - 1], out),
+        Step::Show { desk } => show(setting, view, &desks[desk - 1], out),
     }
 }
 

@@ -1,5 +1,5 @@
 -- The goals of `show_all` that are answered by hand.
-use Rattle.std.proofs.Common.{◌≡◌, ◌+◌, ◌-◌, ◌<◌, ◌∷◌, ℕ, List, [], length, sym, arith}
+use Rattle.std.proofs.Common.{◌≡◌, ◌+◌, ◌-◌, ◌<◌, ◌∷◌, ℕ, List, [], length, sym, arith, ◌∙◌}
 use Rattle.std.specs.Global.{Vec}
 use Rattle.std.specs.List.{flat_map, range_with_len}
 use Rattle.std.proofs.lemmas.List.{length-map}
@@ -28,10 +28,13 @@ loop-desk-preserved g c =
     let failed = g.S.Sink.has_failed c.run_step.new.out in
     let number : c.loop-desk.desk ≡ 1 + (c.loop-desk.desk - 1) = omega arith in
     let next : (c.loop-desk.desk + 1 - 1) ≡ (c.loop-desk.desk - 1) + 1 = omega arith in
-    piece_done print files sets pieces 1 (c.loop-desk.desk - 1) mid old now before c.loop-desk.invariant c.loop-desk.desk number (c.loop-desk.desk + 1 - 1) after new failed c.in_ok-run_step.field-0 next c.in_ok-run_step.ensures
+    record {
+      done = piece_done print files sets pieces 1 (c.loop-desk.desk - 1) mid old now before c.loop-desk.invariant.done c.loop-desk.desk number (c.loop-desk.desk + 1 - 1) after new failed c.in_ok-run_step.field-0 next c.in_ok-run_step.ensures.outcome;
+      tables = c.in_ok-run_step.ensures.tables ∙ c.loop-desk.invariant.tables;
+    }
 
-pub returns-in_err-run_step : goal.returns-in_err-run_step
-returns-in_err-run_step g c =
+pub returns-in_err-run_step-clause-outcome : goal.returns-in_err-run_step-clause-outcome
+returns-in_err-run_step-clause-outcome g c =
     let print = print_in c.args.setting.now in
     let files = files_in c.args.setting.now in
     let sets = sets_of c.args.desks.now in
@@ -49,11 +52,11 @@ returns-in_err-run_step g c =
     let n : ℕ = length files in
     let whole : flat_map pieces (range_with_len 1 n) ≡ all_shows files = sym (each-flat (λ desk. unnumbered (Show desk)) (range_with_len 1 n)) in
     let within : (c.loop-desk.desk - 1) < n = let test = c.loop-desk-test.true in omega (arith, test, many, low) in
-    piece_stopped print files sets pieces 1 (c.loop-desk.desk - 1) mid old now before c.loop-desk.invariant c.loop-desk.desk number n (all_shows files) after after new failed c.from_residual.result c.in_err-run_step.field-0.0 within whole
-    c.from_residual.ensures.1 c.in_err-run_step.ensures
+    piece_stopped print files sets pieces 1 (c.loop-desk.desk - 1) mid old now before c.loop-desk.invariant.done c.loop-desk.desk number n (all_shows files) after after new failed c.from_residual.result c.in_err-run_step.field-0.0 within whole
+    c.from_residual.ensures.1 c.in_err-run_step.ensures.outcome
 
-pub returns : goal.returns
-returns g c =
+pub returns-clause-outcome : goal.returns-clause-outcome
+returns-clause-outcome g c =
     let print = print_in c.args.setting.now in
     let files = files_in c.args.setting.now in
     let sets = sets_of c.args.desks.now in
@@ -67,4 +70,4 @@ returns g c =
     let n : ℕ = length files in
     let whole : flat_map pieces (range_with_len 1 n) ≡ all_shows files = sym (each-flat (λ desk. unnumbered (Show desk)) (range_with_len 1 n)) in
     let all : (c.loop-desk.desk - 1) ≡ n = let test = c.loop-desk-test.false in let end = c.loop-desk.auto.desk-end in omega (arith, test, end, many, low) in
-    pieces_done print files sets pieces 1 (c.loop-desk.desk - 1) mid old now before c.loop-desk.invariant n (all_shows files) all whole
+    pieces_done print files sets pieces 1 (c.loop-desk.desk - 1) mid old now before c.loop-desk.invariant.done n (all_shows files) all whole

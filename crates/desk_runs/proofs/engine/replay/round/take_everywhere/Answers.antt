@@ -1,5 +1,5 @@
 -- The goals of `take_everywhere` that are answered by hand.
-use Rattle.std.proofs.Common.{◌≡◌, ◌+◌, ◌-◌, ◌<◌, ℕ, List, length, refl, arith}
+use Rattle.std.proofs.Common.{◌≡◌, ◌+◌, ◌-◌, ◌<◌, ℕ, List, length, refl, arith, ◌∙◌}
 use Rattle.std.specs.Global.{Vec}
 use Rattle.std.specs.List.{flat_map, range_with_len}
 use Rattle.std.proofs.lemmas.List.{length-map}
@@ -27,10 +27,13 @@ loop-desk-preserved g c =
     let failed = g.S.Sink.has_failed c.take_files.new.out in
     let number : c.loop-desk.desk ≡ 1 + (c.loop-desk.desk - 1) = omega arith in
     let next : (c.loop-desk.desk + 1 - 1) ≡ (c.loop-desk.desk - 1) + 1 = omega arith in
-    piece_done print files sets pieces 1 (c.loop-desk.desk - 1) mid old now before c.loop-desk.invariant c.loop-desk.desk number (c.loop-desk.desk + 1 - 1) after new failed c.in_ok-take_files.field-0 next c.in_ok-take_files.ensures
+    record {
+      done = piece_done print files sets pieces 1 (c.loop-desk.desk - 1) mid old now before c.loop-desk.invariant.done c.loop-desk.desk number (c.loop-desk.desk + 1 - 1) after new failed c.in_ok-take_files.field-0 next c.in_ok-take_files.ensures.outcome;
+      tables = c.in_ok-take_files.ensures.tables ∙ c.loop-desk.invariant.tables;
+    }
 
-pub returns-in_err-take_files : goal.returns-in_err-take_files
-returns-in_err-take_files g c =
+pub returns-in_err-take_files-clause-outcome : goal.returns-in_err-take_files-clause-outcome
+returns-in_err-take_files-clause-outcome g c =
     let print = print_in c.args.setting.now in
     let files = files_in c.args.setting.now in
     let sets = sets_of c.args.desks.now in
@@ -48,11 +51,11 @@ returns-in_err-take_files g c =
     let n : ℕ = length files in
     let whole : flat_map pieces (range_with_len 1 n) ≡ all_takes files = refl in
     let within : (c.loop-desk.desk - 1) < n = let test = c.loop-desk-test.true in omega (arith, test, many, low) in
-    piece_stopped print files sets pieces 1 (c.loop-desk.desk - 1) mid old now before c.loop-desk.invariant c.loop-desk.desk number n (all_takes files) after after new failed c.from_residual.result c.in_err-take_files.field-0.0 within whole
-    c.from_residual.ensures.1 c.in_err-take_files.ensures
+    piece_stopped print files sets pieces 1 (c.loop-desk.desk - 1) mid old now before c.loop-desk.invariant.done c.loop-desk.desk number n (all_takes files) after after new failed c.from_residual.result c.in_err-take_files.field-0.0 within whole
+    c.from_residual.ensures.1 c.in_err-take_files.ensures.outcome
 
-pub returns : goal.returns
-returns g c =
+pub returns-clause-outcome : goal.returns-clause-outcome
+returns-clause-outcome g c =
     let print = print_in c.args.setting.now in
     let files = files_in c.args.setting.now in
     let sets = sets_of c.args.desks.now in
@@ -66,4 +69,4 @@ returns g c =
     let n : ℕ = length files in
     let whole : flat_map pieces (range_with_len 1 n) ≡ all_takes files = refl in
     let all : (c.loop-desk.desk - 1) ≡ n = let test = c.loop-desk-test.false in let end = c.loop-desk.auto.desk-end in omega (arith, test, end, many, low) in
-    pieces_done print files sets pieces 1 (c.loop-desk.desk - 1) mid old now before c.loop-desk.invariant n (all_takes files) all whole
+    pieces_done print files sets pieces 1 (c.loop-desk.desk - 1) mid old now before c.loop-desk.invariant.done n (all_takes files) all whole

@@ -1,5 +1,5 @@
 -- The goals of `take_file` that are answered by hand.
-use Rattle.std.proofs.Common.{◌≡◌, ◌+◌, ◌-◌, ◌<◌, ◌∷◌, ℕ, List, [], length, get_or, sym, ap, arith}
+use Rattle.std.proofs.Common.{◌≡◌, ◌+◌, ◌-◌, ◌<◌, ◌∷◌, ℕ, List, [], length, get_or, sym, ap, arith, ◌∙◌}
 use Rattle.std.specs.Global.{Vec}
 use Rattle.std.specs.List.{flat_map, range_with_len}
 use Rattle.bg_types.specs.declared.op.OpView.{OpView}
@@ -29,10 +29,13 @@ loop-op-preserved g c =
     let failed = g.S.Sink.has_failed c.run_step.new.out in
     let number : c.loop-op.op ≡ 1 + (c.loop-op.op - 1) = omega arith in
     let next : (c.loop-op.op + 1 - 1) ≡ (c.loop-op.op - 1) + 1 = omega arith in
-    piece_done print files sets pieces 1 (c.loop-op.op - 1) mid old now before c.loop-op.invariant c.loop-op.op number (c.loop-op.op + 1 - 1) after new failed c.in_ok-run_step.field-0 next c.in_ok-run_step.ensures
+    record {
+      done = piece_done print files sets pieces 1 (c.loop-op.op - 1) mid old now before c.loop-op.invariant.done c.loop-op.op number (c.loop-op.op + 1 - 1) after new failed c.in_ok-run_step.field-0 next c.in_ok-run_step.ensures.outcome;
+      tables = c.in_ok-run_step.ensures.tables ∙ c.loop-op.invariant.tables;
+    }
 
-pub returns-in_err-run_step : goal.returns-in_err-run_step
-returns-in_err-run_step g c =
+pub returns-in_err-run_step-clause-outcome : goal.returns-in_err-run_step-clause-outcome
+returns-in_err-run_step-clause-outcome g c =
     let print = print_in c.args.setting.now in
     let files = files_in c.args.setting.now in
     let sets = sets_of c.args.desks.now in
@@ -54,11 +57,11 @@ returns-in_err-run_step g c =
     let n : ℕ = length (file_at files c.args.file) in
     let whole : flat_map pieces (range_with_len 1 n) ≡ file_takes files c.args.desk c.args.file = sym (each-flat (λ op. unnumbered (Take c.args.desk c.args.file op)) (range_with_len 1 n)) in
     let within : (c.loop-op.op - 1) < n = let test = c.loop-op-test.true in omega (arith, test, there, read, len, counted, low) in
-    piece_stopped print files sets pieces 1 (c.loop-op.op - 1) mid old now before c.loop-op.invariant c.loop-op.op number n (file_takes files c.args.desk c.args.file) after after new failed c.from_residual.result c.in_err-run_step.field-0.0 within whole
-    c.from_residual.ensures.1 c.in_err-run_step.ensures
+    piece_stopped print files sets pieces 1 (c.loop-op.op - 1) mid old now before c.loop-op.invariant.done c.loop-op.op number n (file_takes files c.args.desk c.args.file) after after new failed c.from_residual.result c.in_err-run_step.field-0.0 within whole
+    c.from_residual.ensures.1 c.in_err-run_step.ensures.outcome
 
-pub returns : goal.returns
-returns g c =
+pub returns-clause-outcome : goal.returns-clause-outcome
+returns-clause-outcome g c =
     let print = print_in c.args.setting.now in
     let files = files_in c.args.setting.now in
     let sets = sets_of c.args.desks.now in
@@ -76,4 +79,4 @@ returns g c =
     let n : ℕ = length (file_at files c.args.file) in
     let whole : flat_map pieces (range_with_len 1 n) ≡ file_takes files c.args.desk c.args.file = sym (each-flat (λ op. unnumbered (Take c.args.desk c.args.file op)) (range_with_len 1 n)) in
     let all : (c.loop-op.op - 1) ≡ n = let test = c.loop-op-test.false in let end = c.loop-op.auto.op-end in omega (arith, test, end, there, read, len, counted, low) in
-    pieces_done print files sets pieces 1 (c.loop-op.op - 1) mid old now before c.loop-op.invariant n (file_takes files c.args.desk c.args.file) all whole
+    pieces_done print files sets pieces 1 (c.loop-op.op - 1) mid old now before c.loop-op.invariant.done n (file_takes files c.args.desk c.args.file) all whole

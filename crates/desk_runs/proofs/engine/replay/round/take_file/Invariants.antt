@@ -1,5 +1,5 @@
 -- What stays true in the loop of `take_file`.
-use Rattle.std.proofs.Common.{◌-◌, ◌∷◌, []}
+use Rattle.std.proofs.Common.{◌≡◌, ◌-◌, ◌∷◌, []}
 use Rattle.desk_replica.specs.DeskSets.{sets_of}
 use Rattle.desk_runs.specs.Setting.{print_in, files_in}
 use Rattle.desk_runs.specs.declared.schedule.step.Step.TheVariants.{Take}
@@ -8,5 +8,7 @@ use Rattle.desk_runs.proofs.Pieces.{IsDoneTo}
 use Rattle.desk_runs.proofs.engine.replay.round.take_file.Given as goal
 
 abbrev pub invariant-loop-op : goal.invariant-loop-op
-invariant-loop-op g l =
-    IsDoneTo (print_in l.setting) (files_in l.setting) (sets_of l.fn.desks) (λ op. unnumbered (Take l.desk l.file op) ∷ []) 1 (l.op - 1) (sets_of l.desks) (g.S.Sink.written l.fn.out) (g.S.Sink.written l.out) (g.S.Sink.has_failed l.out)
+invariant-loop-op g l = record {
+  done : IsDoneTo (print_in l.setting) (files_in l.setting) (sets_of l.fn.desks) (λ op. unnumbered (Take l.desk l.file op) ∷ []) 1 (l.op - 1) (sets_of l.desks) (g.S.Sink.written l.fn.out) (g.S.Sink.written l.out) (g.S.Sink.has_failed l.out);
+  tables : l.view.tables ≡ l.setting.tables.now;
+}

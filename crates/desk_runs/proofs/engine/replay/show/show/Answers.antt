@@ -3,6 +3,7 @@ use Rattle.std.proofs.Common.{ap, subst, ◌∙◌}
 use Rattle.std.proofs.KnownBytes.{Appends-nil}
 use Rattle.bg_types.specs.Sink.{AppendsBeginning}
 use Rattle.rga_tree.specs.TextOf.{text}
+use Rattle.ucd_files.specs.Tables.{TableValues}
 use Rattle.cell_grid.specs.Grids.{grid_of}
 use Rattle.cell_grid.specs.Print.{printed}
 use Rattle.desk_runs.specs.declared.run_fault.RunFault.TheVariants as run
@@ -11,22 +12,23 @@ use Rattle.desk_runs.specs.Shows.{IsShowOutcome}
 use Rattle.desk_runs.proofs.HandedOn.{answer_handed}
 use Rattle.desk_runs.proofs.engine.replay.show.show.Goals as goal
 
-pub returns-in_err-text : goal.returns-in_err-text
-returns-in_err-text g c =
+pub returns-in_err-text-clause-shown : goal.returns-in_err-text-clause-shown
+returns-in_err-text-clause-shown g c =
     let old = g.S.Sink.written c.args.out.now in
     answer_handed (IsShowOutcome (print_in c.args.setting.now (text c.args.desk.now.set)) old old (g.S.Sink.has_failed c.args.out.now)) c.from_residual.result run.Memory c.from_residual.ensures.1 (c.requires.working, Appends-nil old)
 
-pub returns-in_err-grid : goal.returns-in_err-grid
-returns-in_err-grid g c =
+pub returns-in_err-grid-clause-shown : goal.returns-in_err-grid-clause-shown
+returns-in_err-grid-clause-shown g c =
     let old = g.S.Sink.written c.args.out.now in
     answer_handed (IsShowOutcome (print_in c.args.setting.now (text c.args.desk.now.set)) old old (g.S.Sink.has_failed c.args.out.now)) c.from_residual-in_err-grid.result run.Memory c.from_residual-in_err-grid.ensures.1
     (c.requires.working, Appends-nil old)
 
-pub returns-in_err-print : goal.returns-in_err-print
-returns-in_err-print g c =
+pub returns-in_err-print-clause-shown : goal.returns-in_err-print-clause-shown
+returns-in_err-print-clause-shown g c =
     let setting = c.args.setting.now in
     let old = g.S.Sink.written c.args.out.now in
     let new = g.S.Sink.written c.print.new.sink in
-    let drawn = c.in_ok-grid.ensures.grid ∙ ap (grid_of setting.tables.now setting.width setting.base) (c.as_str.ensures.value ∙ c.in_ok-text.ensures.value) in
+    let drawn = c.in_ok-grid.ensures.grid ∙ ap (λ (tables : TableValues). grid_of tables setting.width setting.base c.as_str.result.now) c.requires.tables
+    ∙ ap (grid_of setting.tables.now setting.width setting.base) (c.as_str.ensures.value ∙ c.in_ok-text.ensures.value) in
     answer_handed (IsShowOutcome (print_in setting (text c.args.desk.now.set)) old new (g.S.Sink.has_failed c.print.new.sink)) c.from_residual-in_err-print.result run.Device c.from_residual-in_err-print.ensures.1
     (c.in_err-print.ensures.failed, subst (λ grid. AppendsBeginning old new (printed grid)) drawn c.in_err-print.ensures.err)

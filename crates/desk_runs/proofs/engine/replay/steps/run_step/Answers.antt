@@ -16,8 +16,8 @@ use Rattle.desk_runs.proofs.Running.{answered, shown_is}
 use Rattle.desk_runs.proofs.StepAnswers.{operation_there, done-ok, done-accepted, done-fault, show_accepted}
 use Rattle.desk_runs.proofs.engine.replay.steps.run_step.Goals as goal
 
-pub returns-in-Take : goal.returns-in-Take
-returns-in-Take g c =
+pub returns-in-Take-clause-outcome : goal.returns-in-Take-clause-outcome
+returns-in-Take-clause-outcome g c =
     let print = print_in c.args.setting.now in
     let files = files_in c.args.setting.now in
     let sets = sets_of c.args.desks.now in
@@ -39,8 +39,8 @@ returns-in-Take g c =
     (done-ok files sets after r at.step done step c.take_at-taken.ensures.ok) (done-accepted files sets after r at.step done step c.take_at-taken.ensures.accepted)
     (done-fault files sets after r at.step done step c.take_at-taken.ensures.fault))
 
-pub returns-in-Merge : goal.returns-in-Merge
-returns-in-Merge g c =
+pub returns-in-Merge-clause-outcome : goal.returns-in-Merge-clause-outcome
+returns-in-Merge-clause-outcome g c =
     let print = print_in c.args.setting.now in
     let files = files_in c.args.setting.now in
     let sets = sets_of c.args.desks.now in
@@ -56,8 +56,8 @@ returns-in-Merge g c =
     (done-ok files sets after r at.step done step c.merge_at-merged.ensures.ok) (done-accepted files sets after r at.step done step c.merge_at-merged.ensures.accepted)
     (done-fault files sets after r at.step done step c.merge_at-merged.ensures.fault))
 
-pub returns-in-Show : goal.returns-in-Show
-returns-in-Show g c =
+pub returns-in-Show-clause-outcome : goal.returns-in-Show-clause-outcome
+returns-in-Show-clause-outcome g c =
     let print = print_in c.args.setting.now in
     let files = files_in c.args.setting.now in
     let desks = c.args.desks.now in
@@ -72,4 +72,4 @@ returns-in-Show g c =
     let here : set_at sets (desk - 1) ≡ (get_or desks (desk - 1) d).set = get_or-map (λ (x : Desk). x.set) desks (desk - 1) d no_operations lt in
     let is : print (text (get_or desks (desk - 1) d).set) ≡ shown print sets at.step = ap (λ (s : OperationSet). print (text s)) (sym here) ∙ sym (ap (shown print sets) c.in-Show.is) in
     shown_is print files sets at (g.S.Sink.written c.args.out.now) (g.S.Sink.written c.show.new.out) (g.S.Sink.has_failed c.show.new.out) (print (text (get_or desks (desk - 1) d).set)) c.show.result
-    (show_accepted files sets at.step desk c.in-Show.is) (sym (ap (sets_after_step files sets) c.in-Show.is)) is c.show.ensures
+    (show_accepted files sets at.step desk c.in-Show.is) (sym (ap (sets_after_step files sets) c.in-Show.is)) is c.show.ensures.shown

@@ -8,5 +8,6 @@ use Rattle.desk_runs.proofs.engine.replay.steps.run_steps.Given as goal
 abbrev pub invariant-loop-at : goal.invariant-loop-at
 invariant-loop-at g l = record {
   ran : Ran (print_in l.setting) (files_in l.setting) (sets_of l.fn.desks) (take l.at-index l.steps) (sets_of l.desks) (g.S.Sink.written l.fn.out) (g.S.Sink.written l.out);
+  tables : l.view.tables ≡ l.setting.tables.now;
   working : g.S.Sink.has_failed l.out ≡ false;
 }
