@@ -16,6 +16,7 @@ pub mod laws;
 mod position;
 mod run;
 mod source;
+mod stream;
 
 pub use decode::decode_file;
 pub use encode::{encode_file, encode_op};
@@ -25,6 +26,7 @@ pub use gives::Gives;
 pub use input::In;
 pub use position::Version;
 pub use source::Source;
+pub use stream::Stream;
 
 #[cfg(test)]
 mod run_tests;
