@@ -1,13 +1,12 @@
 -- What one desk that takes the operations of all files answered.
-use Rattle.std.proofs.Common.{◌≡◌, ◌<◌, ◌≤◌, get_or, ℕ, ◌+◌, List, ◌++◌, Option, length, take, drop, refl, sym, subst, inl, inr, ◌⊎◌}
-use Rattle.std.specs.Prelude.{true, false, Bool, Ok, Err, map as each, encode_utf8_all}
-use Rattle.std.specs.Global.{Vec}
+use Rattle.std.proofs.Common.{◌≡◌, ◌≤◌, ℕ, List, Option, refl, subst, inl, inr}
+use Rattle.std.specs.Prelude.{true, false, Bool, Ok, Err, encode_utf8_all}
 use Rattle.std.specs.List.{AllZip}
 use Rattle.std.specs.Io.KnownBytes.{Appends}
 use Rattle.std.proofs.KnownBytes.{Keeps-refl}
 use Rattle.bg_types.specs.OperationSet.{OperationSet, size}
 use Rattle.bg_types.specs.Sink.{AppendsBeginning}
-use Rattle.bg_types.specs.declared.op.Op.{Op}
+use Rattle.bg_types.specs.declared.op.OpView.{OpView}
 use Rattle.op_codec.specs.declared.fault.CodecFault.TheVariants as codec
 use Rattle.rga_tree.specs.TextOf.{text}
 use Rattle.desk_replica.specs.declared.answer.TakeFault.{TakeFault}
@@ -16,28 +15,15 @@ use Rattle.desk_runs.specs.declared.run_fault.RunFault.{RunFault}
 use Rattle.desk_runs.specs.declared.run_fault.RunFault.TheVariants as run
 use Rattle.desk_replica.specs.Refusal.{IsFirstRefusal}
 use Rattle.desk_runs.specs.Reading.{IsReadAs}
-use Rattle.desk_runs.specs.Files.{joined, IsSetOfFiles, AreRefused}
+use Rattle.desk_runs.specs.Files.{joined, IsSetOfFiles}
 use Rattle.desk_runs.specs.Cause.{IsTakingCaused, IsReadCaused, step_fault_of}
 use Rattle.desk_runs.specs.TextOutcome.{IsTextOutcome}
-use Rattle.desk_runs.proofs.Spelled.{joined-split}
-use Rattle.desk_runs.proofs.Taking.{IsFirstRefusal-append}
 
-refused : (files : List (List ℕ)) (all : List (Vec Op)) (i : ℕ) (ops : Vec Op) (fault : TakeFault) → AllZip IsReadAs files (each (λ o. o.items) all) → i < length all → ops ≡ get_or all i ops
-    → IsFirstRefusal (joined (each (λ o. o.items) (take i all)) ++ ops.items) fault → AreRefused files fault
-refused files all i ops fault spelled lt is first = record {
-  lists = each (λ o. o.items) all;
-  spelled = spelled;
-  first = subst (λ l. IsFirstRefusal l fault) (sym (joined-split all i ops lt is)) (IsFirstRefusal-append _ (joined (each (λ o. o.items) (drop (i + 1) all))) fault first);
-}
-
--- an operation of list i is refused
-pub taking-refused : (files : List (List ℕ)) (all : List (Vec Op)) (i : ℕ) (ops : Vec Op) (fault : TakeFault) → AllZip IsReadAs files (each (λ o. o.items) all) → i < length all → ops ≡ get_or all i ops
-    → (fault ≡ Memory) ⊎ IsFirstRefusal (joined (each (λ o. o.items) (take i all)) ++ ops.items) fault → IsTakingCaused files (step_fault_of 0 1 fault)
-taking-refused files all i ops Memory spelled lt is first = tt
-taking-refused files all i ops IdentifierReused spelled lt is (inl memory) = absurd cc
-taking-refused files all i ops Full spelled lt is (inl memory) = absurd cc
-taking-refused files all i ops IdentifierReused spelled lt is (inr first) = (refl, refl, refused files all i ops IdentifierReused spelled lt is first)
-taking-refused files all i ops Full spelled lt is (inr first) = (refl, refl, refused files all i ops Full spelled lt is first)
+-- all files are read, and an operation is refused
+pub taking-refused : (files : List (List ℕ)) (lists : List (List OpView)) (fault : TakeFault) → AllZip IsReadAs files lists → IsFirstRefusal (joined lists) fault → IsTakingCaused files (step_fault_of 0 1 fault)
+taking-refused files lists Memory spelled first = tt
+taking-refused files lists IdentifierReused spelled first = (refl, refl, record { lists = lists; spelled = spelled; first = first })
+taking-refused files lists Full spelled first = (refl, refl, record { lists = lists; spelled = spelled; first = first })
 
 -- a fault that reading the files ended with
 pub taking-unread : (files : List (List ℕ)) (fault : RunFault) → IsReadCaused files fault → IsTakingCaused files fault

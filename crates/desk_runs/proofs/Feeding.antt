@@ -1,8 +1,8 @@
 -- One operation file that is fed in pieces, up to the limit.
-use Rattle.std.proofs.Common.{◌≡◌, ◌≢◌, ◌<◌, ◌≤◌, ◌⊎◌, ℕ, ◌+◌, ◌-◌, true, false, Bool, List, [], ◌++◌, Option, Some, None, inl, inr, take, drop, length, refl, sym, ap, subst, ◌∙◌, arith, append_assoc, append-nil}
-use Rattle.std.specs.Prelude.{Result, Ok, Err, IfErr, min}
+use Rattle.std.proofs.Common.{◌≡◌, ◌≢◌, ◌<◌, ◌≤◌, ◌⊎◌, ℕ, ◌+◌, ◌-◌, ◌^◌, true, false, Bool, List, [], ◌++◌, Option, Some, None, inl, inr, take, drop, length, refl, sym, ap, subst, ◌∙◌, arith, append_assoc, append-nil}
+use Rattle.std.specs.Prelude.{Result, Ok, Err, OnOk, IfErr, IfSome, min}
 use Rattle.std.specs.Io.KnownBytes.{Consumes, IsAtEnd}
-use Rattle.std.proofs.KnownBytes.{Consumes-trans}
+use Rattle.std.proofs.KnownBytes.{Consumes-nil, Consumes-trans}
 use Rattle.std.proofs.Math.Seq.{take-append-add}
 use Rattle.std.proofs.lemmas.List.{take_all, length-append, length-take, take-append-drop}
 use Rattle.bg_types.specs.declared.op.OpView.{OpView}
@@ -10,11 +10,12 @@ use Rattle.op_codec.specs.declared.fault.Cause.{Cause}
 use Rattle.op_codec.specs.declared.fault.Cause.TheVariants.{Truncated}
 use Rattle.op_codec.specs.declared.fault.CodecFault.{CodecFault}
 use Rattle.op_codec.specs.declared.fault.CodecFault.TheVariants as codec
+use Rattle.op_codec.specs.declared.position.Position.{Position}
 use Rattle.op_codec.specs.Fault.{IsFault, TellsFault}
-use Rattle.op_codec.specs.Feed.{IsSound, IsLasting, IsFed, IsFeedOutcome}
+use Rattle.op_codec.specs.Feed.{IsSound, IsLasting, IsFed, IsFeedOutcome, Standing, StandsAfter, added}
 use Rattle.desk_runs.specs.declared.run_fault.RunFault.{RunFault}
 use Rattle.desk_runs.specs.declared.run_fault.RunFault.TheVariants.{Memory, ReadFailed}
-use Rattle.desk_runs.specs.Reading.{limit, IsReadAs, Flaw, malformed, too_long, IsFlawed, IsFlawedBy, flaw_fault}
+use Rattle.desk_runs.specs.Reading.{limit, IsReadAs, IsSoundTo, Flaw, malformed, too_long, IsFlawed, IsFlawedBy, flaw_fault}
 use Rattle.desk_runs.specs.Readers.{Tells, BeginsWith, IsToldFile, IsUnreadFile, is_flawed, is_broken, lacks_memory}
 use Rattle.desk_runs.specs.Cause.{file_fault_of}
 
@@ -82,6 +83,9 @@ module _ (faulty : (all old piece new : List ℕ) (frame : ℕ) (cause : Cause) 
     pub piece_fed : new ≡ old ++ piece
     piece_fed = h.0 ∙ ap (λ (p : List ℕ). old ++ p) (take_all taken piece all)
 
+    pub piece_sound : IsSound (old ++ piece)
+    piece_sound = subst IsSound piece_fed h.1
+
     pub piece_within : length piece ≤ left
     piece_within = omega (arith, all, taken_is)
 
@@ -138,3 +142,76 @@ module _ (start now : Option (List ℕ)) (given : List ℕ) (consumed : Consumes
   -- and then it failed
   pub broken : (n : ℕ) (failed : Bool) → failed ≡ true → length given ≤ limit → IsSound given → IsUnreadFile n start failed (ReadFailed n)
   broken n failed broke within sound = is_broken refl broke (record { given = given; begins = begins_with start now given consumed; within = within; sound = sound })
+
+-- ---- a stream that reads the file of a reader
+
+-- the reader gave these bytes so far, and a stream stands after them
+pub record IsReadTo (start now : Option (List ℕ)) (stream : Standing) (left : ℕ) (ops : List OpView) : Type 0 where
+  pub bytes : List ℕ
+  pub given : Consumes start now bytes
+  pub so : IsSoundTo bytes left
+  pub stands : StandsAfter stream bytes ops
+
+pub read_none : (start : Option (List ℕ)) (stream : Standing) → StandsAfter stream [] [] → IsReadTo start start stream limit []
+read_none start stream stands = record { bytes = []; given = Consumes-nil start; so = record { sum = refl; sound = nothing_sound }; stands = stands }
+
+few_so : (position : Option Position) (most k : ℕ) → IfSome position (λ at. at.frames ≤ most) → most + k < 2 ^ 64 - 2 → IfSome position (λ at. at.frames + k < 2 ^ 64 - 2)
+few_so None most k h le = tt
+few_so (Some at) most k h le = omega (arith, h, le)
+
+pub few_less : (position : Option Position) (j k : ℕ) → j ≤ k → IfSome position (λ at. at.frames + k < 2 ^ 64 - 2) → IfSome position (λ at. at.frames + j < 2 ^ 64 - 2)
+few_less None j k le h = tt
+few_less (Some at) j k le h = omega (arith, le, h)
+
+few_end : (position : Option Position) (most : ℕ) → IfSome position (λ at. at.frames ≤ most) → most < 2 ^ 64 - 1 → IfSome position (λ at. at.frames < 2 ^ 64 - 1)
+few_end None most h le = tt
+few_end (Some at) most h le = omega (arith, h, le)
+
+module _ (start now : Option (List ℕ)) (stream : Standing) (left : ℕ) (ops : List OpView) (h : IsReadTo start now stream left ops) where
+  pub read_few : (k : ℕ) → k ≤ 4_096 → IfSome stream.position (λ at. at.frames + k < 2 ^ 64 - 2)
+  read_few k le = let sum = h.so.sum in few_so stream.position (length h.bytes) k h.stands.few (omega (arith, sum, le))
+
+  pub end_few : IfSome stream.position (λ at. at.frames < 2 ^ 64 - 1)
+  end_few = let sum = h.so.sum in few_end stream.position (length h.bytes) h.stands.few (omega (arith, sum))
+
+  pub end_within : length h.bytes ≤ limit
+  end_within = let sum = h.so.sum in omega (arith, sum)
+
+  -- one more piece was fed
+  pub read_more : (then : Option (List ℕ)) (new : Standing) (piece : List ℕ) (room : ℕ) (all : List OpView) → Consumes now then piece → room + length piece ≡ left → StandsAfter new (h.bytes ++ piece) all → IsSound (h.bytes ++ piece)
+      → IsReadTo start then new room all
+  read_more then new piece room all gave part stands sound = record {
+    bytes = h.bytes ++ piece;
+    given = Consumes-trans start now then h.bytes piece h.given gave;
+    so = record { sum = (let size = length-append h.bytes piece in let sum = h.so.sum in omega (arith, size, sum, part)); sound = sound };
+    stands = stands;
+  }
+
+  -- and then the reader ends
+  module _ (end : Option (List ℕ)) (more : List ℕ) (nothing : more ≡ []) (last : Consumes now end more) (at_end : IsAtEnd end) where
+    pub read_told : IsReadAs h.bytes ops → IsToldFile start ops
+    read_told = told_file start now h.bytes h.given end more nothing last at_end ops
+
+    pub read_flawed : (n : ℕ) (failed : Bool) (fault : RunFault) → failed ≡ false → (flaw : Flaw) × (fault ≡ flaw_fault n flaw) × IsFlawed h.bytes flaw → IsUnreadFile n start failed fault
+    read_flawed = flawed_end start now h.bytes h.given end more nothing last at_end
+
+    pub read_ended : {A : Type 0} (n : ℕ) (failed : Bool) (r : Result A RunFault) → failed ≡ false → IfErr r (λ fault. (flaw : Flaw) × (fault ≡ flaw_fault n flaw) × IsFlawed h.bytes flaw) → IfErr r (IsUnreadFile n start failed)
+    read_ended = flawed_ends start now h.bytes h.given end more nothing last at_end
+
+  -- and then a piece is not fed
+  pub read_stopped : (then : Option (List ℕ)) (piece : List ℕ) (n : ℕ) (failed : Bool) (fault : RunFault) → failed ≡ false → Consumes now then piece → (fault ≡ Memory) ⊎ IsFlawedBy (h.bytes ++ piece) n fault
+      → IsUnreadFile n start failed fault
+  read_stopped = flawed_piece start now h.bytes h.given
+
+  -- and then the reader fails
+  pub read_lost : (n : ℕ) (failed : Bool) → failed ≡ true → IsUnreadFile n start failed (ReadFailed n)
+  read_lost n failed broke = broken start now h.bytes h.given n failed broke end_within h.so.sound
+
+-- ---- what was written
+
+pub added_all : (old new : List OpView) → take (length old) new ≡ old → old ++ added old new ≡ new
+added_all old new e = ap (λ (xs : List OpView). xs ++ drop (length old) new) (sym e) ∙ take-append-drop (length old) new
+
+pub on_ok : {E : Type 0} (r : Result (Unit {0}) E) (P Q : Type 0) → (P → Q) → OnOk r P → OnOk r Q
+on_ok (Ok done) P Q f h = f h
+on_ok (Err e) P Q f h = h

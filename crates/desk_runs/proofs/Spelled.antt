@@ -1,11 +1,7 @@
 -- Lists that are taken one after the other.
-use Rattle.std.proofs.Common.{◌≡◌, ◌<◌, get_or, ℕ, zero, suc, ◌+◌, List, [], ◌∷◌, ◌++◌, take, drop, length, sym, ap, ◌∙◌, arith, append_assoc}
-use Rattle.std.specs.Prelude.{map as each}
-use Rattle.std.specs.Global.{Vec}
-use Rattle.std.proofs.lemmas.List.{map-append}
+use Rattle.std.proofs.Common.{◌≡◌, ◌<◌, get_or, ℕ, zero, suc, ◌+◌, List, [], ◌∷◌, ◌++◌, take, drop, length, sym, ap, ◌∙◌, arith}
 use Rattle.std.proofs.lemmas.List.Concat.{flat_map-append, flat_map-cons}
 use Rattle.std.proofs.lemmas.List.{append-nil}
-use Rattle.bg_types.specs.declared.op.Op.{Op}
 use Rattle.bg_types.specs.declared.op.OpView.{OpView}
 use Rattle.desk_runs.specs.Files.{joined}
 
@@ -26,20 +22,6 @@ module _ {A : Type 0} where
   pub split-at : (xs : List A) (i : ℕ) (x : A) → i < length xs → x ≡ get_or xs i x → xs ≡ take i xs ++ x ∷ drop (i + 1) xs
   split-at xs i x lt is = let one : suc i ≡ i + 1 = omega arith in split-suc xs i x lt is ∙ ap (λ k. take i xs ++ x ∷ drop k xs) one
 
--- the operations of one more list
-pub joined-next : (all : List (Vec Op)) (i : ℕ) (ops : Vec Op) → i < length all → ops ≡ get_or all i ops
-    → joined (each (λ (o : Vec Op). o.items) (take (i + 1) all)) ≡ joined (each (λ (o : Vec Op). o.items) (take i all)) ++ ops.items
-joined-next all i ops lt is =
-    ap (λ l. joined (each (λ (o : Vec Op). o.items) l)) (take-push all i ops lt is)
-    ∙ ap joined (map-append (λ (o : Vec Op). o.items) (take i all) (ops ∷ []))
-    ∙ flat_map-append (λ (o : List OpView). o) (each (λ (o : Vec Op). o.items) (take i all)) (ops.items ∷ [])
-    ∙ ap (λ l. joined (each (λ (o : Vec Op). o.items) (take i all)) ++ l) (flat_map-cons (λ (o : List OpView). o) ops.items [] ∙ append-nil ops.items)
-
-pub joined-split : (all : List (Vec Op)) (i : ℕ) (ops : Vec Op) → i < length all → ops ≡ get_or all i ops
-    → joined (each (λ (o : Vec Op). o.items) all) ≡ (joined (each (λ (o : Vec Op). o.items) (take i all)) ++ ops.items) ++ joined (each (λ (o : Vec Op). o.items) (drop (i + 1) all))
-joined-split all i ops lt is =
-    ap (λ l. joined (each (λ (o : Vec Op). o.items) l)) (split-at all i ops lt is)
-    ∙ ap joined (map-append (λ (o : Vec Op). o.items) (take i all) (ops ∷ drop (i + 1) all))
-    ∙ flat_map-append (λ (o : List OpView). o) (each (λ (o : Vec Op). o.items) (take i all)) (ops.items ∷ each (λ (o : Vec Op). o.items) (drop (i + 1) all))
-    ∙ ap (λ l. joined (each (λ (o : Vec Op). o.items) (take i all)) ++ l) (flat_map-cons (λ (o : List OpView). o) ops.items (each (λ (o : Vec Op). o.items) (drop (i + 1) all)))
-    ∙ sym (append_assoc (joined (each (λ (o : Vec Op). o.items) (take i all))) ops.items (joined (each (λ (o : Vec Op). o.items) (drop (i + 1) all))))
+-- one more list
+pub joined-push : (lists : List (List OpView)) (ops : List OpView) → joined (lists ++ ops ∷ []) ≡ joined lists ++ ops
+joined-push lists ops = flat_map-append (λ (o : List OpView). o) lists (ops ∷ []) ∙ ap (λ l. joined lists ++ l) (flat_map-cons (λ (o : List OpView). o) ops [] ∙ append-nil ops)

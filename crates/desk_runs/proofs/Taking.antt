@@ -1,6 +1,6 @@
 -- Taking operations one after the other, and what a desk's answers mean for the files.
-use Rattle.std.proofs.Common.{◌≡◌, ℕ, ◌+◌, ◌<◌, ◌≤◌, List, [], ◌∷◌, ◌++◌, length, get_or, take, drop, refl, sym, ap, subst, ◌∙◌, inl, inr, ◌⊎◌, arith, append_assoc}
-use Rattle.std.specs.Prelude.{Contains}
+use Rattle.std.proofs.Common.{◌≡◌, true, false, ℕ, ◌+◌, ◌<◌, ◌≤◌, List, [], ◌∷◌, ◌++◌, None, length, get_or, take, drop, refl, sym, ap, subst, ◌∙◌, inl, inr, ◌⊎◌, arith, append_assoc}
+use Rattle.std.specs.Prelude.{Contains, Option, Some, is_some}
 use Rattle.std.proofs.lemmas.List.Elements.{Contains-append_left, Contains-push, Contains-push_cases}
 use Rattle.std.specs.FinMap as map
 use Rattle.std.specs.FinSet as set
@@ -15,6 +15,7 @@ use Rattle.desk_replica.specs.declared.answer.TakeFault.TheVariants.{IdentifierR
 use Rattle.desk_replica.specs.SetOf.{IsSetOf}
 use Rattle.desk_replica.specs.Reply.{IsTaken, IsRefusal, IsRefused}
 use Rattle.desk_replica.specs.Refusal.{IsFirstRefusal}
+use Rattle.desk_runs.specs.Taking.{HasTaken}
 use Rattle.desk_runs.proofs.LowerLaws.{HoldsBoth}
 use Rattle.desk_runs.proofs.Spelled.{take-push, split-at}
 
@@ -101,3 +102,18 @@ IsFirstRefusal-append ops more fault h = record {
   limited = h.limited;
   refused = h.refused;
 }
+
+-- ---- what one desk has taken
+
+pub nothing-taken : ((op : OpView) → Holds no_operations op → ⊥) → HasTaken [] no_operations None
+nothing-taken nothing = (IsSetOf-nil nothing, nothing-limited)
+
+-- one was refused
+pub taken-refused : (before ops : List OpView) (s : OperationSet) (r : Option TakeFault) → is_some r ≡ true → HasTaken before s r → HasTaken (before ++ ops) s r
+taken-refused before ops s None e h = absurd cc
+taken-refused before ops s (Some fault) e h = IsFirstRefusal-append before ops fault h
+
+-- none was refused
+pub taken-more : (before ops : List OpView) (s t : OperationSet) (r : Option TakeFault) → is_some r ≡ false → (IsSetOf before s → IsSetOf (before ++ ops) t) → (size s ≤ 1_000_000 → size t ≤ 1_000_000) → HasTaken before s r → HasTaken (before ++ ops) t r
+taken-more before ops s t None e grown limited h = (grown h.0, limited h.1)
+taken-more before ops s t (Some fault) e grown limited h = absurd cc

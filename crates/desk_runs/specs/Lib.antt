@@ -3,6 +3,7 @@ pub mod Fault
 pub mod Reading
 pub mod Readers
 pub mod Files
+pub mod Taking
 pub mod OneOutcome
 pub mod Schedule
 pub mod Cause

@@ -1,5 +1,5 @@
 -- What a run reads of an operation file: no more than its limit, and what is wrong with it first.
-use Rattle.std.specs.Prelude.{◌≡◌, ◌≢◌, ◌<◌, ◌≤◌, ℕ, List, ◌++◌, length, take}
+use Rattle.std.specs.Prelude.{◌≡◌, ◌≢◌, ◌<◌, ◌≤◌, ◌+◌, ℕ, List, ◌++◌, length, take}
 use Rattle.bg_types.specs.declared.op.OpView.{OpView}
 use Rattle.op_codec.specs.declared.fault.Cause.{Cause}
 use Rattle.op_codec.specs.declared.fault.Cause.TheVariants.{Truncated}
@@ -40,3 +40,8 @@ pub record IsFlawedBy (bytes : List ℕ) (n : ℕ) (fault : RunFault) : Type 0 w
   pub flaw : Flaw
   pub is : fault ≡ flaw_fault n flaw
   pub whatever : (rest : List ℕ) → IsFlawed (bytes ++ rest) flaw
+
+-- these bytes of a file show no fault, and it may still have so many
+pub record IsSoundTo (bytes : List ℕ) (left : ℕ) : Type 0 where
+  pub sum : length bytes + left ≡ limit
+  pub sound : IsSound bytes

@@ -1,25 +1,26 @@
 //! What a run reads before its first step: the data files, and the operation files.
 
-ghost use Rattle.std.specs.Prelude.{◌≡◌, ◌<◌, ◌≤◌, ◌⊎◌, ◌+◌, ◌++◌, ℕ, List, None, false, length, map as each, All, OnOk, IfOk, IfErr};
+ghost use Rattle.std.specs.Prelude.{◌≡◌, ◌<◌, ◌≤◌, ◌⊎◌, ◌+◌, ◌-◌, ◌^◌, ◌++◌, ℕ, List, None, false, length, take, map as each, All, OnOk, IfOk, IfErr, IfSome};
 ghost use Rattle.std.specs.List.{AllZip, AllByRecursion};
-ghost use Rattle.op_codec.specs.Feed.{IsSound};
+ghost use Rattle.bg_types.specs.declared.op.OpView.{OpView as Operation};
+ghost use Rattle.op_codec.specs.Feed.{IsSound, StandsAfter, added};
 ghost use Rattle.ucd_files.specs.Ucd.{tables_of_ucd, fault_of_ucd};
-ghost use Rattle.desk_runs.specs.Reading.{limit, IsReadAs, Flaw, IsFlawed, IsFlawedBy, flaw_fault};
+ghost use Rattle.desk_runs.specs.Reading.{limit, IsReadAs, IsSoundTo, Flaw, IsFlawed, IsFlawedBy, flaw_fault};
 ghost use Rattle.desk_runs.specs.Readers.{IsToldFile, IsUnreadFile, AreWorking, AreTold, EndsOver};
 ghost use Rattle.desk_runs.specs.Files.{lists_of};
 ghost use Rattle.desk_runs.specs.Cause.{IsTablesCaused, IsReadCaused, file_fault_of};
 
 use crate::run_fault::RunFault;
 use bg_types::Op;
-use op_codec::{CodecFault, Feed, Source, laws as codec};
+use op_codec::{CodecFault, Source, Stream, laws as codec};
 use std::alloc::Global;
 use ucd_files::{Tables, Ucd, UcdFault};
 
 /// The greatest length of an operation file, in bytes.
-const LIMIT: usize = 67_108_864;
+pub const LIMIT: usize = 67_108_864;
 
 /// The greatest number of bytes that are asked of a reader at once.
-const PIECE: usize = 4_096;
+pub const PIECE: usize = 4_096;
 
 // The bound that callers are told of.
 const _: () = prove!(PIECE <= 4_096);
@@ -61,32 +62,44 @@ fn read_file<R: Source>(alloc: Global, number: usize, reader: &mut R) -> Result<
     ensures working { OnOk result (R.has_failed reader.new ≡ false) }
     ensures fault { IfErr result (IsUnreadFile number (R.remaining reader.old) (R.has_failed reader.new)) }
 {
-    let mut feed = Feed::new(alloc);
+    let mut ops = Vec::new(alloc);
+    let mut stream = Stream::new();
     let mut piece = [0; PIECE];
     let mut left = LIMIT;
     while let Some(given) = reader.get(&mut piece) {
         if given == 0 {
-            return finish(number, feed);
+            finish(number, &stream)?;
+            return Ok(ops);
         }
-        feed_piece(number, &mut feed, left, &piece[..given])?;
+        feed_piece(number, &mut stream, left, &piece[..given], &mut ops)?;
         left -= given;
     }
     Err(RunFault::ReadFailed(number))
 }
 
-/// Feeds the next piece of a file that may still have so many bytes.
-fn feed_piece(number: usize, feed: &mut Feed, left: usize, piece: &[u8]) -> Result<(), RunFault>
-    requires left { length feed.old + left ≡ limit }
-    requires sound { IsSound feed.old }
+/// Feeds the next piece of a file that may still have so many bytes, and writes its operations after
+/// the others.
+pub fn feed_piece(
+    number: usize,
+    stream: &mut Stream,
+    left: usize,
+    piece: &[u8],
+    ops: &mut Vec<Op>,
+) -> Result<(), RunFault>
+    requires few { IfSome stream.old.position (λ at. at.frames + length piece.now < 2 ^ 64 - 2) }
     ensures within { OnOk result (length piece.now ≤ left) }
-    ensures fed { OnOk result (feed.new ≡ feed.old ++ piece.now) }
-    ensures sound { OnOk result (IsSound feed.new) }
-    ensures fault { IfErr result (λ fault. (fault ≡ RunFault.Memory) ⊎ IsFlawedBy (feed.old ++ piece.now) number fault) }
+    ensures fed { (bytes : List ℕ) (before : List Operation) → StandsAfter stream.old bytes before → IsSoundTo bytes left
+        → OnOk result (StandsAfter stream.new (bytes ++ piece.now) (before ++ added ops.old.items ops.new.items)) }
+    ensures sound { (bytes : List ℕ) (before : List Operation) → StandsAfter stream.old bytes before → IsSoundTo bytes left
+        → OnOk result (IsSound (bytes ++ piece.now)) }
+    ensures fault { (bytes : List ℕ) (before : List Operation) → StandsAfter stream.old bytes before → IsSoundTo bytes left
+        → IfErr result (λ fault. (fault ≡ RunFault.Memory) ⊎ IsFlawedBy (bytes ++ piece.now) number fault) }
+    ensures grown { take (length ops.old.items) ops.new.items ≡ ops.old.items }
 {
     codec::fed_in_pieces();
     codec::stable_faults();
     let taken = piece.len().min(left);
-    if let Err(fault) = feed.feed(&piece[..taken]) {
+    if let Err(fault) = stream.feed(&piece[..taken], ops) {
         return Err(file_fault(number, fault));
     }
     if taken < piece.len() {
@@ -95,14 +108,15 @@ fn feed_piece(number: usize, feed: &mut Feed, left: usize, piece: &[u8]) -> Resu
     Ok(())
 }
 
-/// The operations of a file that was fed whole.
-fn finish(number: usize, feed: Feed) -> Result<Vec<Op>, RunFault>
-    requires { length feed ≤ limit }
-    ensures ok { IfOk result (λ ops. IsReadAs feed ops.items) }
-    ensures fault { IfErr result (λ fault. (flaw : Flaw) × (fault ≡ flaw_fault number flaw) × IsFlawed feed flaw) }
+/// Ends a file that was fed whole.
+pub fn finish(number: usize, stream: &Stream) -> Result<(), RunFault>
+    requires few { IfSome stream.now.position (λ at. at.frames < 2 ^ 64 - 1) }
+    ensures ok { (bytes : List ℕ) (ops : List Operation) → StandsAfter stream.now bytes ops → length bytes ≤ limit → OnOk result (IsReadAs bytes ops) }
+    ensures fault { (bytes : List ℕ) (ops : List Operation) → StandsAfter stream.now bytes ops → length bytes ≤ limit
+        → IfErr result (λ fault. (flaw : Flaw) × (fault ≡ flaw_fault number flaw) × IsFlawed bytes flaw) }
 {
-    match feed.finish() {
-        Ok(ops) => Ok(ops),
+    match stream.finish() {
+        Ok(()) => Ok(()),
         Err(fault) => Err(file_fault(number, fault)),
     }
 }

@@ -36,7 +36,7 @@ more_spelled version ops f rest is free =
     ap (λ (s : List ℕ). header version ++ s) (sym (append_assoc (flat_map frame_bytes frames) (frame_bytes f) rest) ∙ ap (λ (s : List ℕ). s ++ rest) (sym last))
     ∙ ap (λ (fs : List Frame). (header version ++ flat_map frame_bytes fs) ++ rest) (sym (frames_more most ops f is free))
 
-bytes_positive : (first : OpView) (further rest : List ℕ) → length rest < length (bytes_with first further ++ rest)
+pub bytes_positive : (first : OpView) (further rest : List ℕ) → length rest < length (bytes_with first further ++ rest)
 bytes_positive (Insert id parent ch) [] rest = omega arith
 bytes_positive (Erase target) [] rest = omega arith
 bytes_positive first (c ∷ cs) rest = omega (arith, length-append (frame_fields first ++ flat_map (big_bytes 4) (c ∷ cs)) rest)

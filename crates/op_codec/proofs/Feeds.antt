@@ -13,7 +13,7 @@ use Rattle.op_codec.specs.declared.position.Version.{Version}
 use Rattle.op_codec.specs.declared.position.Position.{Position}
 use Rattle.op_codec.specs.Spelling.{Frame, frame_bytes, header, most_insertions, frames_of, tip_of, joins, spelling_in, Spells}
 use Rattle.op_codec.specs.Fault.{header_cause, cause_at, IsFault, TellsFault}
-use Rattle.op_codec.specs.Feed.{IsWhole, IsSound, IsLasting, IsFeedOutcome, bytes_of, kept_cause, IsCut, kept_fault, IsMissing, TellsKept, IsStopped, TakesFrame, IsBehind, TakesIn, AreTaken}
+use Rattle.op_codec.specs.Feed.{IsWhole, IsSound, IsLasting, IsFeedOutcome, bytes_of, kept_cause, ShowsCause, IsCut, kept_fault, IsMissing, TellsKept, IsStopped, TakesFrame, IsBehind, TakesIn, AreTaken}
 use Rattle.op_codec.proofs.Unique.{one_fault, never_both}
 use Rattle.op_codec.proofs.Faultless.{header_cause-header, cause_at-frame}
 use Rattle.op_codec.proofs.Complete.{more_spelled}
@@ -69,16 +69,23 @@ kept_spelled (Some at) ops [] cut e = record { version = at.version; spelled = r
 kept_spelled (Some at) ops (b ∷ kept) cut e = absurd (never_none (at.frames + 1) (cause_at at.version at.tip (b ∷ kept)) cut.2.0 cut.2.1 e)
 
 -- a missing byte is all that the kept bytes show
+pub shown_missing : (position : Option Position) (kept : List ℕ) → ShowsCause position kept → IsMissing (kept_fault position kept) → kept_cause position kept ≡ Some Truncated
+shown_missing None kept shown missing =
+    let some : kept_fault None kept ≡ Some (0, shown.0) = ap (with_frame 0) shown.1 in
+    let is : shown.0 ≡ Truncated = subst IsMissing some missing in
+    shown.1 ∙ ap Some is
+shown_missing (Some at) [] shown missing = refl
+shown_missing (Some at) (b ∷ kept) shown missing =
+    let some : kept_fault (Some at) (b ∷ kept) ≡ Some (at.frames + 1, shown.0) = ap (with_frame (at.frames + 1)) shown.1 in
+    let is : shown.0 ≡ Truncated = subst IsMissing some missing in
+    shown.1 ∙ ap Some is
+
+cut_shown : (position : Option Position) (ops : List OpView) (kept : List ℕ) → IsCut position ops kept → ShowsCause position kept
+cut_shown None ops kept cut = cut.1
+cut_shown (Some at) ops kept cut = cut.2
+
 pub kept_missing : (position : Option Position) (ops : List OpView) (kept : List ℕ) → IsCut position ops kept → IsMissing (kept_fault position kept) → kept_cause position kept ≡ Some Truncated
-kept_missing None ops kept cut missing =
-    let some : kept_fault None kept ≡ Some (0, cut.1.0) = ap (with_frame 0) cut.1.1 in
-    let is : cut.1.0 ≡ Truncated = subst IsMissing some missing in
-    cut.1.1 ∙ ap Some is
-kept_missing (Some at) ops [] cut missing = refl
-kept_missing (Some at) ops (b ∷ kept) cut missing =
-    let some : kept_fault (Some at) (b ∷ kept) ≡ Some (at.frames + 1, cut.2.0) = ap (with_frame (at.frames + 1)) cut.2.1 in
-    let is : cut.2.0 ≡ Truncated = subst IsMissing some missing in
-    cut.2.1 ∙ ap Some is
+kept_missing position ops kept cut missing = shown_missing position kept (cut_shown position ops kept cut) missing
 
 pub sound_kept_so : (position : Option Position) (ops : List OpView) (kept : List ℕ) → IsCut position ops kept → kept_cause position kept ≡ Some Truncated → IsSound (bytes_of position ops kept)
 sound_kept_so None ops kept cut missing n cause fault = (one_fault kept n 0 cause Truncated fault (inl (refl, missing))).1
@@ -214,10 +221,6 @@ taken_faulty old piece position ops kept (Malformed frame cause) sound h told =
     (inr (sound, record { more = h.stopped.more; begins = h.stopped.begins; up_to = inr (frame, cause, last) }), last)
 taken_faulty old piece position ops kept Memory sound h told = absurd told
 
-pub refused : (position : Option Position) (ops again : List OpView) (kept kept' piece : List ℕ) → again ≡ ops → kept' ≡ kept → IsSound (bytes_of position ops kept) → header_cause (bytes_of position ops kept ++ piece) ≡ None
-    → IsFeedOutcome (bytes_of position ops kept) piece (bytes_of position again kept') (Err Memory)
-refused position ops again kept kept' piece same same' sound right = ((λ i. bytes_of position (same i) (same' i)), sound, right)
-
 -- what the kept bytes are judged to show is what a feed answers
 pub answered : (old piece : List ℕ) (position : Option Position) (ops : List OpView) (kept : List ℕ) (r : Result (Unit {0}) CodecFault) → IsSound old → AreTaken (old ++ piece) position ops kept
     → OnOk r (IsMissing (kept_fault position kept)) → IfErr r (TellsKept (kept_fault position kept)) → IsFeedOutcome old piece (bytes_of position ops kept) r
@@ -279,7 +282,3 @@ if_none (Some x) P e h = absurd cc
 
 pub if_some : {A : Type 0} (o : Option A) (P : A → Type 0) (x : A) → o ≡ Some x → IfSome o P → P x
 if_some o P x e h = subst (λ (p : Option _). IfSome p P) e h
-
-pub on_err_any : {A E : Type 0} (r : Result A E) (P : Type 0) → P → OnErr r P
-on_err_any (Ok done) P h = tt
-on_err_any (Err e) P h = h

@@ -18,4 +18,5 @@ pub mod Settled
 pub mod Pieces
 pub mod Cuts
 pub mod Feeds
+pub mod Streams
 pub mod Rows

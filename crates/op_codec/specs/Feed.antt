@@ -1,5 +1,5 @@
 -- Files that are read piece by piece.
-use Rattle.std.specs.Prelude.{◌≡◌, ◌≢◌, ◌+◌, ◌⊎◌, false, List, [], ◌∷◌, ◌++◌, ℕ, length, Option, Some, None, option_map, Result, Ok, Err}
+use Rattle.std.specs.Prelude.{◌≡◌, ◌≢◌, ◌≤◌, ◌+◌, ◌⊎◌, false, List, [], ◌∷◌, ◌++◌, ℕ, length, drop, Option, Some, None, option_map, IfSome, Result, Ok, Err}
 use Rattle.std.specs.List.{AllByRecursion}
 use Rattle.bg_types.specs.WellFormed.{IsWellFormed}
 use Rattle.bg_types.specs.declared.op.OpView.{OpView}
@@ -68,10 +68,35 @@ abbrev pub kept_cause : Option Position → List ℕ → Option Cause
 kept_cause None kept = header_cause kept
 kept_cause (Some at) kept = cause_at at.version at.tip kept
 
--- the kept bytes are no whole header, or no whole frame
+-- they are no whole header, or no whole frame
+abbrev pub ShowsCause : Option Position → List ℕ → Type 0
+ShowsCause position kept = (cause : Cause) × (kept_cause position kept ≡ Some cause)
+
+-- the same, after these operations
 abbrev pub IsCut : Option Position → List OpView → List ℕ → Type 0
 IsCut None ops kept = (ops ≡ []) × ((cause : Cause) × (header_cause kept ≡ Some cause))
 IsCut (Some at) ops kept = AllByRecursion IsWellFormed ops × IsBehind at ops × ((cause : Cause) × (cause_at at.version at.tip kept ≡ Some cause))
+
+-- where a reader stands between two pieces: after the whole frames, once the header is whole and right, and which bytes it keeps
+pub record Standing : Type 0 where
+  pub position : Option Position
+  pub kept : List ℕ
+
+-- it stands after these bytes, and these are the operations of their whole frames; a frame has a byte at least
+pub record StandsAfter (s : Standing) (bytes : List ℕ) (ops : List OpView) : Type 0 where
+  pub read : bytes ≡ bytes_of s.position ops s.kept
+  pub cut : IsCut s.position ops s.kept
+  pub few : IfSome s.position (λ at. at.frames ≤ length bytes)
+
+-- what was written after the old operations
+abbrev pub added : (old new : List OpView) → List OpView
+added old new = drop (length old) new
+
+-- a piece was read after these bytes, with this answer, and it stands after what a feed keeps of them all, with more operations
+pub record GoesOn (bytes piece : List ℕ) (before more : List OpView) (new : Standing) (result : Result (Unit {0}) CodecFault) : Type 0 where
+  pub fed : List ℕ
+  pub outcome : IsFeedOutcome bytes piece fed result
+  pub stands : StandsAfter new fed (before ++ more)
 
 -- the fault of the kept bytes, with its frame: none where a frame may begin and no byte is kept
 abbrev pub kept_fault : Option Position → List ℕ → Option (ℕ × Cause)
@@ -114,6 +139,13 @@ pub record TakesIn (at now : Position) (old new : List OpView) (bytes rest : Lis
   pub takes : TakesFrame at bytes f rest
   pub next : IsNext at now f
   pub ops : new ≡ old ++ frame_ops f
+
+-- whole frames were read after these operations, with which there are so many then, and the rest follows them
+pub record MovesOn (at now : Position) (ops grown : List OpView) (bytes rest : List ℕ) : Type 0 where
+  pub version : now.version ≡ at.version
+  pub read : spelling_in at.version ops ++ bytes ≡ spelling_in at.version grown ++ rest
+  pub well_formed : AllByRecursion IsWellFormed grown
+  pub behind : IsBehind now grown
 
 -- the bytes are read, up to a cause
 pub record AreTaken (bytes : List ℕ) (at : Option Position) (ops : List OpView) (kept : List ℕ) : Type 0 where

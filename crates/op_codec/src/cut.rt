@@ -47,6 +47,7 @@ pub fn complete_frame<'a>(
     requires missing { cause_at at.old.version at.old.tip kept.old.items ≡ Some Truncated }
     requires counted { at.old.frames < 2 ^ 64 - 1 }
     ensures some { IfOk result (λ done. IfSome done (λ rest. TakesIn at.old at.new ops.old.items ops.new.items (kept.old.items ++ piece.now) rest.now)) }
+    ensures within { IfOk result (λ done. IfSome done (λ rest. length rest.now ≤ length piece.now)) }
     ensures none { IfOk result (λ done. IfNone done (IsStopped (kept.old.items ++ piece.now) kept.new.items (cause_at at.old.version at.old.tip kept.new.items))) }
     ensures unchanged { IfOk result (λ done. IfNone done ((ops.new.items ≡ ops.old.items) × (at.new ≡ at.old))) }
     ensures ops { take (length ops.old.items) ops.new.items ≡ ops.old.items }

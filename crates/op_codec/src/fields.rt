@@ -9,6 +9,7 @@ use crate::fault::Cause;
 use bg_types::{Id, Op, Place};
 use byteorder::{BigEndian, ByteOrder};
 
+#[inline(always)]
 pub fn read_insertion(fields: &[u8]) -> Result<Op, Cause>
     requires { length fields.now ≡ 16 }
     ensures kind { IfOk result (λ op. frame_kind op ≡ 1) }
@@ -54,8 +55,11 @@ pub fn read_place(bytes: &[u8]) -> Option<Place>
     ensures zero { is_some result ≡ not (is_half_zero (identifier_at bytes.now)) }
     ensures value { IfSome result (λ place. parent_identifier place ≡ identifier_at bytes.now) }
 {
+    if let Some(before) = read_id(bytes) {
+        return Some(Place::After(before));
+    }
     match (BigEndian::read_u32(bytes), BigEndian::read_u16(&bytes[4..])) {
         (0, 0) => Some(Place::Root),
-        (counter, site) => Id::new(counter, site).map(Place::After),
+        _ => None,
     }
 }

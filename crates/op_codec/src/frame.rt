@@ -27,6 +27,7 @@ pub struct Read<'a> {
 }
 
 /// Reads the frame at the front, which stands at this position.
+#[inline(always)]
 pub fn read_frame<'a>(at: &Position, bytes: &'a [u8]) -> Result<Read<'a>, Cause>
     ensures ok { IfOk result (λ read. TakesFrame at.now bytes.now (record { first = read.first; further = characters_in read.further.now }) read.rest.now) }
     ensures err { IfErr result (λ cause. cause_at at.now.version at.now.tip bytes.now ≡ Some cause) }
@@ -43,6 +44,7 @@ pub fn read_frame<'a>(at: &Position, bytes: &'a [u8]) -> Result<Read<'a>, Cause>
 }
 
 /// Reads the frame at the front, whatever stands before it.
+#[inline(always)]
 fn read_whole(version: Version, bytes: &[u8]) -> Result<Read<'_>, Cause>
     ensures ok { IfOk result (λ read. BeginsWith (most_insertions version) bytes.now (record { first = read.first; further = characters_in read.further.now }) read.rest.now) }
     ensures err { IfErr result (λ cause. frame_cause version bytes.now ≡ Some cause) }
@@ -58,6 +60,7 @@ fn read_whole(version: Version, bytes: &[u8]) -> Result<Read<'_>, Cause>
     }
 }
 
+#[inline(always)]
 fn read_insertion_frame(bytes: &[u8]) -> Result<Read<'_>, Cause>
     requires long { 3 ≤ length bytes.now }
     requires kind { slice_index bytes.now 2 ≡ 1 }
@@ -88,6 +91,7 @@ fn read_erasure_frame(bytes: &[u8]) -> Result<Read<'_>, Cause>
     })
 }
 
+#[inline(never)]
 fn read_run_frame(bytes: &[u8]) -> Result<Read<'_>, Cause>
     requires long { 3 ≤ length bytes.now }
     requires kind { slice_index bytes.now 2 ≡ 3 }

@@ -19,6 +19,7 @@ mod migration;
 mod position;
 mod run;
 mod source;
+mod stream;
 
 pub use decode::decode_file;
 pub use encode::{encode_file, encode_op};
@@ -30,6 +31,7 @@ pub use input::In;
 pub use migration::migrate;
 pub use position::Version;
 pub use source::Source;
+pub use stream::Stream;
 
 #[cfg(test)]
 mod migrate_tests;

@@ -1,12 +1,12 @@
 //! Runs of insertions: reading one, and what it stands for.
 
-ghost use Rattle.std.specs.Prelude.{◌≡◌, ◌<◌, ◌≤◌, ◌+◌, ◌-◌, ◌*◌, ◌^◌, ◌++◌, ℕ, Bool, length, take, drop, Some, None, IfOk, IfErr, OnOk, OnErr, IfSome, MatchResult, cond, nat_lt, nat_le, false};
+ghost use Rattle.std.specs.Prelude.{◌≡◌, ◌<◌, ◌≤◌, ◌+◌, ◌-◌, ◌*◌, ◌^◌, ◌++◌, [], ℕ, Bool, length, take, drop, Some, None, IfOk, IfErr, OnOk, OnErr, IfSome, MatchResult, cond, nat_lt, nat_le, false};
 ghost use Rattle.std.specs.List.{AllByRecursion, flat_map, list_all};
 ghost use Rattle.std.specs.Char.{IsScalar};
 ghost use Rattle.std.proofs.Math.Utf8.{scalar};
 ghost use Rattle.byteorder.specs.Endian.{big_number, big_bytes};
 ghost use Rattle.bg_types.specs.WellFormed.{IsWellFormed, MayFollow};
-ghost use Rattle.op_codec.specs.Spelling.{Frame, frame_fields, parent_identifier, frame_ops, further_ops, followers, last_id, joins as joins_tip, most_insertions};
+ghost use Rattle.op_codec.specs.Spelling.{Frame, frame_fields, parent_identifier, frame_ops, further_ops, followers, last_id, joins as joins_tip, tip, most_insertions};
 ghost use Rattle.op_codec.specs.Frames.{IsFrame, MayGoOn};
 ghost use Rattle.op_codec.specs.Fault.{identifier_at, characters_in, numbers_cause, run_cause, is_run_length as has_run_length};
 ghost use Rattle.op_codec.specs.Feed.{IsNext};
@@ -15,7 +15,7 @@ use crate::encode::parent_numbers;
 use crate::fault::Cause;
 use crate::fields::{read_id, read_place};
 use crate::format::CHARACTER_SIZE;
-use crate::position::Position;
+use crate::position::{Position, Version};
 use bg_types::{Id, Memory, Op, OpView, Place};
 use byteorder::{BigEndian, ByteOrder};
 
@@ -138,8 +138,34 @@ pub fn push_frame(
     ensures ops { OnOk result (ops.new.items ≡ ops.old.items ++ frame_ops (record { first = first.now; further = characters_in further.now })) }
     ensures grown { take (length ops.old.items) ops.new.items ≡ ops.old.items }
 {
+    if further.is_empty() {
+        ops.push(*first)?;
+        at.frames += 1;
+        at.tip = lone_tip(at.version, first);
+        return Ok(());
+    }
+    push_run(ops, at, first, further)
+}
+
+/// What the next operation may join after a frame of one.
+fn lone_tip(version: Version, op: &Op) -> Option<Id>
+    ensures { result ≡ tip (most_insertions version) (record { first = op.now; further = [] }) }
+{
+    match (version, op.view()) {
+        (Version::Two, OpView::Insert { id, .. }) => Some(id),
+        _ => None,
+    }
+}
+
+/// The same for any frame, in one growth.
+fn push_run(ops: &mut Vec<Op>, at: &mut Position, first: &Op, further: &[u8]) -> Result<(), Memory>
+    requires is_frame { IsFrame (most_insertions at.old.version) (record { first = first.now; further = characters_in further.now }) }
+    requires counted { at.old.frames < 2 ^ 64 - 1 }
+    ensures next { OnOk result (IsNext at.old at.new (record { first = first.now; further = characters_in further.now })) }
+    ensures ops { OnOk result (ops.new.items ≡ ops.old.items ++ frame_ops (record { first = first.now; further = characters_in further.now })) }
+    ensures grown { take (length ops.old.items) ops.new.items ≡ ops.old.items }
+{
     let count = further.len() / CHARACTER_SIZE + 1;
-    // One growth for all of them.
     ops.reserve(count)?;
     ops.push(*first)?;
     let last = push_further(ops, first, further)?;

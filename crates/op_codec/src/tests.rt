@@ -344,6 +344,33 @@ fn a_file_in_pieces_of_each_size(rt: HostRuntime) -> Result<(), Fail> {
 }
 
 #[test]
+fn rows_cut_into_two_pieces(rt: HostRuntime) -> Result<(), Fail> {
+    let four = [
+        insertion((1, 1), None, 'a').ok_or("well formed")?,
+        insertion((2, 2), Some((1, 1)), 'x').ok_or("well formed")?,
+        insertion((3, 2), Some((2, 2)), 'y').ok_or("well formed")?,
+        insertion((2, 1), Some((1, 1)), 'b').ok_or("well formed")?,
+    ];
+    let file = encode_file(rt.alloc(), &four)?;
+    let mut late = joined(rt.alloc(), &EMPTY, &TWO[24..])?;
+    // (2,1) after (2,2).
+    late[17] = 2;
+    late[19] = 2;
+    let bad = CodecFault::Malformed {
+        frame: 1,
+        cause: Cause::ParentNotBefore,
+    };
+    assert_eq!(rt; decode_file(rt.alloc(), &late).err(), Some(bad));
+    for bytes in [TWO.as_slice(), &file, &late] {
+        for cut in 0..bytes.len() {
+            let pieces = [&bytes[..cut], &bytes[cut..]];
+            assert!(rt; is_fed_like_whole(rt.alloc(), &pieces)?, "at {cut}");
+        }
+    }
+    Ok(())
+}
+
+#[test]
 fn a_file_cut_into_two_pieces(rt: HostRuntime) -> Result<(), Fail> {
     // Five frames of both kinds, right, and with one byte other.
     let mut file = joined(rt.alloc(), &TWO, &[0, 7, 2, 0, 0, 0, 2, 0, 1])?;

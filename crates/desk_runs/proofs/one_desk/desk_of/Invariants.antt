@@ -1,13 +1,14 @@
 -- What stays true in the loop of `desk_of`.
-use Rattle.std.proofs.Common.{◌≤◌, take}
-use Rattle.std.specs.Prelude.{map as each}
-use Rattle.bg_types.specs.OperationSet.{size}
-use Rattle.desk_replica.specs.SetOf.{IsSetOf}
+use Rattle.std.proofs.Common.{List}
+use Rattle.bg_types.specs.declared.op.OpView.{OpView}
 use Rattle.desk_runs.specs.Files.{joined}
+use Rattle.desk_runs.specs.Taking.{HasTaken}
+use Rattle.desk_runs.proofs.Readings.{ReadTo}
 use Rattle.desk_runs.proofs.one_desk.desk_of.Given as goal
 
-abbrev pub invariant-loop-ops : goal.invariant-loop-ops
-invariant-loop-ops g l = record {
-  taken : IsSetOf (joined (each (λ ops. ops.items) (take l.ops-index l.ops-items))) l.desk.set;
-  limited : size l.desk.set ≤ 1_000_000;
+abbrev pub invariant-loop-place : goal.invariant-loop-place
+invariant-loop-place g l = record {
+  lists : List (List OpView);
+  read : ReadTo g.R.Source.remaining g.R.Source.has_failed l.fn.files l.files l.place lists;
+  taken : HasTaken (joined lists) l.desk.set l.refused;
 }

@@ -8,5 +8,5 @@ use Rattle.desk_runs.proofs.one_desk.take_all.Given as goal
 abbrev pub invariant-loop-op : goal.invariant-loop-op
 invariant-loop-op l = record {
   taken : (before : List OpView) → IsSetOf before l.fn.desk.set → IsSetOf (before ++ take l.op-index l.ops) l.desk.set;
-  limited : size l.desk.set ≤ 1_000_000;
+  limited : size l.fn.desk.set ≤ 1_000_000 → size l.desk.set ≤ 1_000_000;
 }

@@ -5,7 +5,8 @@ ghost use Rattle.std.specs.Prelude.{◌≡◌, ◌<◌, false};
 use super::*;
 use bg_types::{Id, Memory, Op, Out, Place, Stops};
 use desk_replica::TakeFault;
-use op_codec::{Cause, CodecFault, Gives, encode_file};
+use op_codec::{Cause, CodecFault, Gives, In, encode_file};
+use std::io::Read;
 use std::test::Fail;
 
 /// (1,1) after the root, `a`; (2,1) after (1,1), `b`.
@@ -215,6 +216,54 @@ fn files_in_pieces_of_each_size(rt: HostRuntime) -> Result<(), Fail> {
             assert_eq!(rt; answer, wanted, "by {size}");
             assert_eq!(rt; bytes.as_slice(), text, "by {size}");
         }
+    }
+    Ok(())
+}
+
+#[test]
+fn files_cut_into_two_pieces(rt: HostRuntime) -> Result<(), Fail> {
+    let four = encode_file(rt.alloc(), &four().ok_or("well formed")?)?;
+    let late = Err(malformed(1, 1, Cause::ParentNotBefore));
+    let rows: [(&[u8], Result<(), RunFault>, &[u8]); 3] = [
+        (&TWO, Ok(()), b"ab"),
+        (&four, Ok(()), b"axyb"),
+        (&LATE_PARENT, late, b""),
+    ];
+    for (file, wanted, text) in rows {
+        for cut in 0..file.len() {
+            let mut bytes = Vec::new(rt.alloc());
+            let mut readers = [In::new(file[..cut].chain(&file[cut..]))];
+            let answer = text_from(rt.alloc(), KEY, &mut readers, &mut Out::new(&mut bytes));
+            assert_eq!(rt; answer, wanted, "at {cut}");
+            assert_eq!(rt; bytes.as_slice(), text, "at {cut}");
+        }
+    }
+    Ok(())
+}
+
+/// A refusal in a file is told after all files are read: those that follow it may be faulty, fail,
+/// or be right.
+#[test]
+fn a_refusal_waits_for_the_files_after_it(rt: HostRuntime) -> Result<(), Fail> {
+    let a = insertion((1, 1), None, 'a').ok_or("well formed")?;
+    let b = insertion((1, 1), None, 'b').ok_or("well formed")?;
+    let again = encode_file(rt.alloc(), &[a, b, a])?;
+    let refused = RunFault::Step(0, 1, TakeFault::IdentifierReused);
+    let late = malformed(2, 1, Cause::ParentNotBefore);
+    for (second, left, wanted) in [
+        (TWO.as_slice(), 43usize, RunFault::ReadFailed(2)),
+        (TWO.as_slice(), 44, refused),
+        (LATE_PARENT.as_slice(), 44, late),
+        (&TWO[..42], 44, malformed(2, 2, Cause::Truncated)),
+    ] {
+        let mut bytes = Vec::new(rt.alloc());
+        let mut readers = [
+            Gives::new(&again, 7),
+            Gives::new(second, 7).failing_after(left),
+        ];
+        let answer = text_from(rt.alloc(), KEY, &mut readers, &mut Out::new(&mut bytes));
+        assert_eq!(rt; answer, Err(wanted), "{left}");
+        assert!(rt; bytes.is_empty(), "{left}");
     }
     Ok(())
 }

@@ -1,7 +1,7 @@
--- The goals of `push_frame` that are answered by hand.
+-- The goals of `push_run` that are answered by hand.
 use Rattle.std.proofs.Common.{ℕ, refl, ap, ◌∙◌, ◌+◌, cond, None, ltb, sym}
 use Rattle.op_codec.proofs.Characters.{length-characters_in}
-use Rattle.op_codec.proofs.run.push_frame.Goals as goal
+use Rattle.op_codec.proofs.run.push_run.Goals as goal
 
 pub returns-clause-next : goal.returns-clause-next
 returns-clause-next c =

@@ -1,8 +1,0 @@
--- The goals of `read_frames` that are answered by hand.
-use Rattle.op_codec.proofs.Feeds.{frames_taken}
-use Rattle.op_codec.proofs.feed.read_frames.Goals as goal
-
-pub returns-clause-taken : goal.returns-clause-taken
-returns-clause-taken c =
-    let read = c.in_ok-rest.ensures in
-    frames_taken c.args.at.now.version c.push_frames.new.at c.args.ops.now.items c.push_frames.new.ops.items c.args.bytes.now c.in_ok-rest.rest.now c.keep.new.kept.items read.version read.well_formed read.behind read.read c.keep.ensures

@@ -1,0 +1,26 @@
+-- The goals of `push_frames` that are answered by hand.
+use Rattle.std.proofs.Common.{arith}
+use Rattle.op_codec.specs.Spelling.{Frame}
+use Rattle.op_codec.specs.Fault.{characters_in}
+use Rattle.op_codec.specs.Feed.{TakesIn}
+use Rattle.op_codec.proofs.Feeds.{grown_twice}
+use Rattle.op_codec.proofs.Streams.{moves_more, frame_shortens}
+use Rattle.op_codec.proofs.stream.push_frames.Goals as goal
+
+pub loop-read-preserved : goal.loop-read-preserved
+loop-read-preserved c =
+    let l = c.loop-read in
+    let ops = c.push_frame.new.ops.items in
+    let next = c.push_frame.new.at in
+    let rest = c.in-Ok.read.rest.now in
+    let pushed = c.in_ok-push_frame.ensures in
+    let f : Frame = record { first = c.in-Ok.read.first; further = characters_in c.in-Ok.read.further.now } in
+    let took : TakesIn l.at next l.ops.items ops l.rest.now rest = record { f = f; takes = c.in-Ok.ensures.ok; next = pushed.next; ops = pushed.ops } in
+    let shorter = frame_shortens l.at l.rest.now rest f c.in-Ok.ensures.ok in
+    let count = pushed.next.frames in
+    let few = l.invariant.few in
+    record {
+      moved = λ before ok is. moves_more c.args.at.now l.at next before c.args.ops.now.items l.ops.items ops c.args.bytes.now l.rest.now rest l.invariant.grown took (l.invariant.moved before ok is);
+      few = omega (arith, shorter, count, few);
+      grown = grown_twice c.args.ops.now.items l.ops.items ops l.invariant.grown pushed.grown;
+    }
