@@ -1,4 +1,4 @@
-//! Identifiers. 
+//! Identifiers.
 
 ghost use Rattle.std.specs.Prelude.{◌≡◌, ◌<◌, ◌↔◌, ◌==◌, ◌&&◌, ◌*◌, ◌+◌, ◌/◌, ◌%◌, ◌++◌, IsSome, IfSome, refl};
 ghost use Rattle.std.proofs.Common.{rules};
@@ -118,7 +118,6 @@ impl Id {
     }
 
     /// The counter, 1 to 4,294,967,295.
-    // x
     pub fn counter(self) -> u32
         ensures value { result ≡ self.counter }
         // What every identifier is, for the caller's proof.
