@@ -1,6 +1,6 @@
 -- What is answered to a new operation.
 use Rattle.std.proofs.Common.{◌≡◌, ◌≤◌, ◌+◌, ◌-◌, ℕ, suc, Bool, true, false, cond, List, [], ◌∷◌, length, Option, None, Some, sym, ap, subst, ◌∙◌, refl, true≢false, is_some, arith}
-use Rattle.std.specs.Prelude.{◌||◌, map as each, OnErr, Result, Ok, Err}
+use Rattle.std.specs.Prelude.{◌||◌, map as each, OnOk, OnErr, Result, Ok, Err}
 use Rattle.std.specs.FinMap as map
 use Rattle.std.specs.FinSet as set
 use Rattle.bg_types.specs.Identifier.{Identifier, same_id}
@@ -17,7 +17,7 @@ use Rattle.rga_tree.specs.Tree.{stands_in, IsTree, OnlyErasesPlaced}
 use Rattle.rga_tree.specs.Elements.{elements}
 use Rattle.rga_tree.proofs.Interface.{IsAttached-more, IsReached, IsAttached-child, AllWellFormed-with}
 use Rattle.pending_ops.specs.Waiting.{Waiting, IsNew}
-use Rattle.desk_replica.specs.Placement.{IsParted, IsSettled, MayPlace, reaches_in, whole}
+use Rattle.desk_replica.specs.Placement.{IsPaid, IsParted, IsSettled, MayPlace, reaches_in, whole}
 use Rattle.desk_replica.specs.Reply.{IsAdmitted, IsPlacing, IsHiding, IsTaken, attached_count}
 use Rattle.desk_replica.specs.declared.answer.Taken.TheVariants.{Placed}
 use Rattle.desk_replica.proofs.Whole.{some_not, contains-union}
@@ -74,6 +74,35 @@ placed_answer t w (Insert id parent ch) u v before after c d a may cu du same b 
       omega arith,
 )
 placed_answer t w (Erase target) u v before after c d a may cu du same b e le = absurd may
+
+-- ---- payment in advance changes neither what is in the tree nor what waits
+
+pub settled_as : (t u : OperationSet) (w v : Waiting) → u ≡ t → v.held ≡ w.held → v.released ≡ w.released → IsSettled t w → IsSettled u v
+settled_as t u w v e eh er d = subst (λ x. IsSettled x v) (sym e) (record {
+  parted = subst (λ h. IsParted t h (λ _. false)) (sym eh) d.parted;
+  none_released = er ∙ d.none_released;
+  well_formed = subst AllWellFormed (sym eh) d.well_formed;
+})
+
+pub whole_as : (t u : OperationSet) (w v : Waiting) → u ≡ t → v.held ≡ w.held → whole u v ≡ whole t w
+whole_as t u w v e eh i = union (e i) (eh i)
+
+pub on_ok : {A E : Type 0} (r : Result A E) (x : A) (P : Type 0) → r ≡ Ok x → OnOk r P → P
+on_ok r x P is h = subst (λ y. OnOk y P) is h
+
+-- one that is held uses up one of what is paid for
+pub held_paid : (placings : ℕ) (w v : Waiting) (op : OpView) (n : ℕ) → v.held ≡ with_operation w.held op → v.room ≡ w.room - 1 → IsPaid placings w (n + 1) → IsPaid placings v n
+held_paid placings w v (Insert id parent ch) n held room p =
+    let few = ap (λ (s : OperationSet). map.len s.ins) held ∙ map.len-insert id_cmp-total w.held.ins id (record { parent = parent; ch = ch }) in
+    let le = at_most (map.contains_key w.held.ins id) (map.len w.held.ins) in
+    record { placed = omega (arith, few, le, p.placed); held = omega (arith, room, p.held) }
+  where
+    at_most : (b : Bool) (k : ℕ) → cond b k (k + 1) ≤ k + 1
+    at_most true k = omega arith
+    at_most false k = omega arith
+held_paid placings w v (Erase target) n held room p =
+    let few = ap (λ (s : OperationSet). map.len s.ins) held in
+    record { placed = omega (arith, few, p.placed); held = omega (arith, room, p.held) }
 
 -- ---- a deletion of what is placed
 

@@ -12,7 +12,7 @@ use Rattle.bg_types.proofs.Interface.{Holds-no_operations, next-least}
 use Rattle.pending_ops.specs.Waiting.{Waiting, nothing_waits}
 use Rattle.pending_ops.specs.Releasing.{subject}
 use Rattle.desk_replica.specs.Desk.{Desk, fresh}
-use Rattle.desk_replica.specs.Placement.{IsSettled, IsCounted, IsDesk, waiting_in, whole}
+use Rattle.desk_replica.specs.Placement.{IsSettled, IsCounted, IsDesk, IsPaid, waiting_in, whole}
 use Rattle.desk_replica.specs.Reply.{IsAdmitted}
 use Rattle.rga_tree.specs.Walk.{walk}
 use Rattle.rga_tree.specs.Attached.{IsAttached}
@@ -47,26 +47,32 @@ nothing_settled = record {
 nothing_counted : IsCounted (whole no_operations nothing_waits) 0 0
 nothing_counted = subst (λ s. IsCounted s 0 0) (sym (idempotent no_operations)) (record { kept_is = sym size-nothing; limited = omega arith; next_is = next-nothing })
 
-pub IsDesk-fresh : (t : OperationSet) (w : Waiting) (site : ℕ) → t ≡ no_operations → w ≡ nothing_waits → 0 < site → IsDesk t w site 0 0
-IsDesk-fresh t w site et ew some = subst (λ x. IsDesk x w site 0 0) (sym et) (subst (λ y. IsDesk no_operations y site 0 0) (sym ew) (record { settled = nothing_settled; counted = nothing_counted; sited = some }))
+nothing_paid : (placings : ℕ) → IsPaid placings nothing_waits 0
+nothing_paid placings = record { placed = omega (arith, map.len-empty id_cmp Node); held = omega arith }
 
-abbrev pub desk_of : OperationSet → Waiting → ℕ → Desk
-desk_of t w site = record { set = whole t w; site = site; waiting = waiting_in w }
+pub IsDesk-fresh : (t : OperationSet) (placings : ℕ) (w : Waiting) (site : ℕ) → t ≡ no_operations → w ≡ nothing_waits → 0 < site → IsDesk t placings w site 0 0 0
+IsDesk-fresh t placings w site et ew some =
+    subst (λ x. IsDesk x placings w site 0 0 0) (sym et)
+    (subst (λ y. IsDesk no_operations placings y site 0 0 0) (sym ew) (record { settled = nothing_settled; counted = nothing_counted; sited = some; paid = nothing_paid placings }))
 
-pub fresh_view : (t : OperationSet) (w : Waiting) (site : ℕ) → t ≡ no_operations → w ≡ nothing_waits → desk_of t w site ≡ fresh site
+abbrev pub desk_of : OperationSet → Waiting → ℕ → ℕ → Desk
+desk_of t w site spare = record { set = whole t w; site = site; waiting = waiting_in w; spare = spare }
+
+pub fresh_view : (t : OperationSet) (w : Waiting) (site : ℕ) → t ≡ no_operations → w ≡ nothing_waits → desk_of t w site 0 ≡ fresh site
 fresh_view t w site et ew =
-    let a : desk_of t w site ≡ desk_of no_operations nothing_waits site = (λ i. desk_of (et i) (ew i) site) in
-    let b : desk_of no_operations nothing_waits site ≡ fresh site = (λ i. record { set = idempotent no_operations i; site = site; waiting = take (size-nothing i) [] }) in
+    let a : desk_of t w site 0 ≡ desk_of no_operations nothing_waits site 0 = (λ i. desk_of (et i) (ew i) site 0) in
+    let b : desk_of no_operations nothing_waits site 0 ≡ fresh site = (λ i. record { set = idempotent no_operations i; site = site; waiting = take (size-nothing i) []; spare = 0 }) in
     a ∙ b
 
 -- ---- one more operation
 
-pub IsDesk-more : (t u : OperationSet) (w v : Waiting) (site kept greatest : ℕ) (op : OpView) → IsDesk t w site kept greatest → IsAdmitted (whole t w) op → IsWellFormed op → kept < 1_000_000
-    → IsSettled u v → whole u v ≡ with_operation (whole t w) op → IsDesk u v site (kept + 1) (max greatest (subject op).counter)
-IsDesk-more t u w v site kept greatest op d a is room settled same = record {
+pub IsDesk-more : (t u : OperationSet) (old new : ℕ) (w v : Waiting) (site kept greatest spare left : ℕ) (op : OpView) → IsDesk t old w site kept greatest spare → IsAdmitted (whole t w) op → IsWellFormed op
+    → kept < 1_000_000 → IsSettled u v → whole u v ≡ with_operation (whole t w) op → IsPaid new v left → IsDesk u new v site (kept + 1) (max greatest (subject op).counter) left
+IsDesk-more t u old new w v site kept greatest spare left op d a is room settled same paid = record {
   settled = settled;
   counted = subst (λ s. IsCounted s (kept + 1) (max greatest (subject op).counter)) (sym same) (IsCounted-with (whole t w) op kept greatest d.counted a.joins a.is_new is room);
   sited = d.sited;
+  paid = paid;
 }
 
 -- ---- what is read off the tree
@@ -80,8 +86,8 @@ pub record Reads (t : OperationSet) (d : Desk) : Type 0 where
   pub placed : (q : Identifier) → map.contains_key t.ins q ≡ true → IsAttached d.set.ins q
   pub attached : (q : Identifier) → IsAttached d.set.ins q → map.contains_key t.ins q ≡ true
 
-pub reads : (t : OperationSet) (w : Waiting) (site : ℕ) (d : Desk) → IsContent t → IsSettled t w → desk_of t w site ≡ d → Reads t d
-reads t w site d c s e = subst (Reads t) e (record {
+pub reads : (t : OperationSet) (w : Waiting) (site spare : ℕ) (d : Desk) → IsContent t → IsSettled t w → desk_of t w site spare ≡ d → Reads t d
+reads t w site spare d c s e = subst (Reads t) e (record {
   walk_is = sym (walk-whole t w.held c.well s.well_formed c.tree c.only s.parted);
   elements_is = sym (elements-whole t w.held c.well s.well_formed c.tree c.only s.parted);
   visible_is = sym (visible-whole t w.held c.well s.well_formed c.tree c.only s.parted);
@@ -90,5 +96,5 @@ reads t w site d c s e = subst (Reads t) e (record {
   attached = attached_placed t w.held c.well s.well_formed c.tree c.only s.parted;
 })
 
-pub well_formed_desk : (t : OperationSet) (w : Waiting) (site : ℕ) (d : Desk) → IsContent t → IsSettled t w → desk_of t w site ≡ d → AllWellFormed d.set
-well_formed_desk t w site d c s e = subst (λ (x : Desk). AllWellFormed x.set) e (AllWellFormed-union t w.held c.well s.well_formed)
+pub well_formed_desk : (t : OperationSet) (w : Waiting) (site spare : ℕ) (d : Desk) → IsContent t → IsSettled t w → desk_of t w site spare ≡ d → AllWellFormed d.set
+well_formed_desk t w site spare d c s e = subst (λ (x : Desk). AllWellFormed x.set) e (AllWellFormed-union t w.held c.well s.well_formed)

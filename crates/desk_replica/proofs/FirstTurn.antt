@@ -1,7 +1,6 @@
 -- A new insertion is placed: the first turn of the loop, as if it had been held and ready.
-use Rattle.std.proofs.Common.{◌≡◌, ◌≤◌, ℕ, Bool, true, false, not, cond, List, [], ◌∷◌, Option, None, Some, sym, ap, subst, ◌∙◌, refl, true≢false, is_some, arith}
+use Rattle.std.proofs.Common.{◌≡◌, ◌≤◌, ℕ, Bool, true, false, not, cond, Option, None, Some, sym, ap, subst, ◌∙◌, refl, true≢false, is_some, arith}
 use Rattle.std.specs.Prelude.{◌||◌, ◌&&◌}
-use Rattle.std.specs.Option.{option_map_or}
 use Rattle.std.specs.FinMap as map
 use Rattle.bg_types.specs.Identifier.{Identifier, same_id}
 use Rattle.bg_types.specs.OperationSet.{Node, OperationSet, AllWellFormed, Holds, MayJoin, union, with_operation, size}
@@ -10,14 +9,11 @@ use Rattle.bg_types.specs.declared.op.OpView.{OpView}
 use Rattle.bg_types.specs.declared.op.OpView.TheVariants.{Insert, Erase}
 use Rattle.bg_types.proofs.Interface.{id_cmp-total, same_id-is, same_id-itself, same_sets, get-union, unwrap_first}
 use Rattle.rga_tree.specs.Tree.{stands_in}
-use Rattle.pending_ops.specs.Waiting.{Waiting, follows, is_after, is_ready}
-use Rattle.pending_ops.specs.Below.{CountsBelow, IsChain}
-use Rattle.pending_ops.specs.Releasing.{subject}
-use Rattle.desk_replica.specs.Placement.{IsParted, IsSettled, AreDue, MayPlace, Places, PlacesIn}
+use Rattle.pending_ops.specs.Waiting.{Waiting, follows, is_ready}
+use Rattle.desk_replica.specs.Placement.{IsParted, IsSettled, MayPlace, Places, PlacesIn}
 use Rattle.desk_replica.specs.Reply.{IsAdmitted}
-use Rattle.desk_replica.proofs.Sizes.{len_set-map}
+use Rattle.desk_replica.proofs.Sizes.{len_map-map}
 use Rattle.desk_replica.proofs.PlacedOne.{Stepped, parted_now, same_now, in_tree, del_tree, ins_held, del_held}
-use Rattle.desk_replica.proofs.Due.{due-start}
 use Rattle.desk_replica.proofs.Loop.{none_ready, formed_rest}
 
 -- nothing is kept at the identifier of a new insertion
@@ -39,7 +35,8 @@ not_held t h id e = both_none (map.get t.ins id) (map.get h.ins id) (sym (get-un
 pub record AfterFirst (t : OperationSet) (w : Waiting) (op : OpView) (u : OperationSet) (v : Waiting) : Type 0 where
   pub parted : IsParted u v.held (is_ready v)
   pub same : union u v.held ≡ with_operation (union t w.held) op
-  pub due : (n : ℕ) → CountsBelow w.held (subject op) n → AreDue v n
+  pub insertions : v.held.ins ≡ w.held.ins
+  pub room : v.room ≡ w.room
   pub formed : AllWellFormed v.held
 
 -- S + op, where op is held
@@ -121,9 +118,8 @@ module _ (t : OperationSet) (w : Waiting) (id : Identifier) (node : Node) (d : I
     after_first = record {
       parted = parted_now t more own id node u v.held (is_ready v) parted_more first_step;
       same = same_now t more own id node u v.held (is_ready v) parted_more first_step ∙ union-held t w.held id node absent;
-      due = λ n counts. due-start w v id n counts
-          (λ a q. ap (λ m. option_map_or (λ (x : Node). is_after x.parent a) (map.get m q) false) (ins_held t w id node u v p))
-          (λ q. p.releases.ready q ∙ (λ i. not_rest q i || option_map_or (λ (x : Node). is_after x.parent id) (map.get (rest_ins i) q) false));
+      insertions = ins_held t w id node u v p;
+      room = p.releases.room ∙ p.room;
       formed = formed_rest w.held v.held id (λ q. ap (λ m. map.get m q) (ins_held t w id node u v p) ∙ unheld q (same_id q id) refl) (del_held t w id node u v p) d.well_formed;
     }
       where
@@ -135,26 +131,13 @@ pub first_turn : (t : OperationSet) (w : Waiting) (op : OpView) (u : OperationSe
 first_turn t w (Insert id parent ch) u v d a may places = after_first t w id (record { parent = parent; ch = ch }) d (nothing_kept (union t w.held) id parent ch a.joins a.is_new) may.0 u v places
 first_turn t w (Erase target) u v d a may places = absurd may
 
--- ---- how many are due at most
-
-follows_there : (o : Option Node) (p : Identifier) → option_map_or (λ (n : Node). is_after n.parent p) o false ≡ true → is_some o ≡ true
-follows_there None p h = h
-follows_there (Some n) p h = refl
-
-chain_there : (s : OperationSet) (q : Identifier) (ps : List Identifier) (id : Identifier) → IsChain s q ps id → map.contains_key s.ins q ≡ true
-chain_there s q [] id h = follows_there (map.get s.ins q) id h
-chain_there s q (p ∷ ps) id h = follows_there (map.get s.ins q) p h.0
+-- ---- how many insertions wait at most
 
 some_second : (a b : Option Node) → is_some b ≡ true → is_some (unwrap_first a b) ≡ true
 some_second None b h = h
 some_second (Some n) b h = refl
 
-pub count_within : (t h : OperationSet) (id : Identifier) (n : ℕ) → CountsBelow h id n → n ≤ size (union t h)
-count_within t h id n counts =
-    let le = len_set-map counts.0 (union t h).ins (λ q e.
-    let b = (counts.1.0 q).0 e in ap is_some (get-union t h q) ∙ some_second (map.get t.ins q) (map.get h.ins q) (chain_there h q b.0 id b.1)) in
-    omega (arith, le, counts.1.1)
-
--- the same from what the calls before it left
-pub first_from : (t s : OperationSet) (w x : Waiting) (op : OpView) (u : OperationSet) (v : Waiting) → s ≡ t → x ≡ w → IsSettled t w → IsAdmitted (union t w.held) op → MayPlace t op → Places s x op u v → AfterFirst t w op u v
-first_from t s w x op u v es ex d a may places = first_turn t w op u v d a may (subst (λ (y : Waiting). Places t y op u v) ex (subst (λ (y : OperationSet). Places y x op u v) es places))
+pub held_within : (t h : OperationSet) → map.len h.ins ≤ size (union t h)
+held_within t h =
+    let le = len_map-map h.ins (union t h).ins (λ q e. ap is_some (get-union t h q) ∙ some_second (map.get t.ins q) (map.get h.ins q) e) in
+    omega (arith, le)

@@ -3,7 +3,6 @@ pub mod Whole
 pub mod UnionLaw
 pub mod Sizes
 pub mod PlacedOne
-pub mod Due
 pub mod Loop
 pub mod Settled
 pub mod Looks

@@ -1,5 +1,5 @@
 -- One turn of the loop that places what is ready.
-use Rattle.std.proofs.Common.{◌≡◌, ◌<◌, ◌-◌, ℕ, Bool, true, false, not, cond, Option, None, Some, sym, ap, ◌∙◌, refl, true≢false, is_some}
+use Rattle.std.proofs.Common.{◌≡◌, ◌<◌, ◌+◌, Bool, true, false, not, cond, Option, None, Some, sym, ap, ◌∙◌, refl, true≢false, is_some}
 use Rattle.std.specs.Prelude.{◌||◌, ◌&&◌}
 use Rattle.std.specs.Option.{option_map_or}
 use Rattle.std.specs.FinMap as map
@@ -12,10 +12,10 @@ use Rattle.bg_types.specs.declared.op.OpView.{OpView}
 use Rattle.bg_types.specs.declared.op.OpView.TheVariants.{Insert, Erase}
 use Rattle.bg_types.proofs.Interface.{id_cmp-total}
 use Rattle.pending_ops.specs.Waiting.{Waiting, HandsOut, TakesOut, NoneReady, follows, is_ready, is_released}
-use Rattle.desk_replica.specs.Placement.{IsParted, IsSettled, AreDue, MayPlace, Places, PlacesIn}
+use Rattle.desk_replica.specs.Placement.{IsParted, IsSettled, MayPlace, Places, PlacesIn}
 use Rattle.desk_replica.proofs.Whole.{some_not}
 use Rattle.desk_replica.proofs.PlacedOne.{Stepped, parted_now, same_now, in_tree, del_tree, ins_held, del_held}
-use Rattle.desk_replica.proofs.Due.{due-step, due-positive}
+use Rattle.desk_replica.proofs.Sizes.{of_map, map_positive}
 
 place_released : (v w : Waiting) → v.released ≡ w.released → (a : Place) → is_released v a ≡ is_released w a
 place_released v w e Root = refl
@@ -57,7 +57,8 @@ stepped t w taken id node u v out p = record {
 pub record AfterTurn (t : OperationSet) (w : Waiting) (u : OperationSet) (v : Waiting) : Type 0 where
   pub parted : IsParted u v.held (is_ready v)
   pub same : union u v.held ≡ union t w.held
-  pub due : (k : ℕ) → AreDue w k → AreDue v (k - 1)
+  pub fewer : map.len v.held.ins + 1 ≡ map.len w.held.ins
+  pub room : v.room ≡ w.room
   pub formed : AllWellFormed w.held → AllWellFormed v.held
 
 pub formed_rest : (h v : OperationSet) (id : Identifier) → ((q : Identifier) → map.get v.ins q ≡ cond (same_id q id) None (map.get h.ins q)) → ((q : Identifier) → set.contains v.del q ≡ (not (same_id q id) && set.contains h.del q))
@@ -80,7 +81,8 @@ turn t w taken (Insert id parent ch) u v d takes places =
     record {
       parted = parted_now t w.held (is_ready w) id node u v.held (is_ready v) d s;
       same = same_now t w.held (is_ready w) id node u v.held (is_ready v) d s;
-      due = due-step w v id node t u s;
+      fewer = ap (λ m. map.len m + 1) (ins_held t taken id node u v places ∙ ap (λ (x : OperationSet). x.ins) takes.held) ∙ of_map.size_cut w.held.ins id (ap is_some takes.was_held);
+      room = places.releases.room ∙ places.room ∙ takes.room;
       formed = formed_rest w.held v.held id s.held_ins s.held_del;
     }
 turn t w taken (Erase target) u v d takes places = absurd takes
@@ -95,9 +97,10 @@ may_place t w taken (Insert id parent ch) d takes = (
   by (Some n) e = some_not (record { parent = parent; ch = ch }) (map.contains_key t.ins id ≡ false) (sym (d.apart id (ap is_some e)) ∙ takes.was_held)
 may_place t w taken (Erase target) d takes = absurd takes
 
-pub some_due : (w taken : Waiting) (op : OpView) (k : ℕ) → TakesOut w op taken → AreDue w k → 0 < k
-some_due w taken (Insert id parent ch) k takes d = due-positive w id k takes.was_ready d
-some_due w taken (Erase target) k takes d = absurd takes
+-- what is taken out was held
+pub some_held : (w taken : Waiting) (op : OpView) → TakesOut w op taken → 0 < map.len w.held.ins
+some_held w taken (Insert id parent ch) takes = map_positive w.held.ins (map.len w.held.ins) id refl (ap is_some takes.was_held)
+some_held w taken (Erase target) takes = absurd takes
 
 -- where nothing is ready any more, the rest waits
 pub settled : (t : OperationSet) (w : Waiting) → IsParted t w.held (is_ready w) → w.released ≡ set.empty → AllWellFormed w.held → IsSettled t w

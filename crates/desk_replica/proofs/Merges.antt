@@ -1,12 +1,13 @@
 -- A merge takes all operations of the other desk.
-use Rattle.std.proofs.Common.{◌≡◌, ◌<◌, ◌≤◌, ◌++◌, ℕ, zero, suc, true, List, [], ◌∷◌, length, Option, None, Some, sym, ap, subst, ◌∙◌, refl, true≢false, is_some, arith, inl, inr}
+use Rattle.std.proofs.Common.{◌≡◌, ◌<◌, ◌≤◌, ◌+◌, ◌++◌, ℕ, Bool, false, cond, length-append, zero, suc, true, List, [], ◌∷◌, length, Option, None, Some, sym, ap, subst, ◌∙◌, refl, true≢false, is_some, arith, inl, inr}
 use Rattle.std.specs.Prelude.{slice_get}
 use Rattle.std.specs.FinMap as map
+use Rattle.std.specs.FinSet as set
 use Rattle.bg_types.specs.Identifier.{Identifier}
 use Rattle.bg_types.specs.OperationSet.{Node, OperationSet, Agree, Holds, MayJoin, ReusesIdentifier, union, with_operation, size}
 use Rattle.bg_types.specs.declared.op.OpView.{OpView}
 use Rattle.bg_types.specs.declared.op.OpView.TheVariants.{Insert, Erase}
-use Rattle.bg_types.proofs.Interface.{Holds-union, Holds-with_operation, same_operations, size-with_operation, some_is}
+use Rattle.bg_types.proofs.Interface.{id_cmp-total, Holds-union, Holds-with_operation, same_operations, size-with_operation, some_is}
 use Rattle.desk_replica.specs.declared.answer.TakeFault.{TakeFault}
 use Rattle.desk_replica.specs.declared.answer.TakeFault.TheVariants.{IdentifierReused, Full, Memory}
 use Rattle.pending_ops.specs.Waiting.{ListsOnce}
@@ -146,6 +147,24 @@ taken_united s t u ops agree lists taken =
     )
 
 -- where an operation of t is refused, so is the merge
+at_most : (b : Bool) (k : ℕ) → cond b k (k + 1) ≤ k + 1
+at_most true k = omega arith
+at_most false k = omega arith
+
+size-one_more : (s : OperationSet) (op : OpView) → size (with_operation s op) ≤ size s + 1
+size-one_more s (Insert id parent ch) = omega (arith, map.len-insert id_cmp-total s.ins id (record { parent = parent; ch = ch }), at_most (map.contains_key s.ins id) (map.len s.ins))
+size-one_more s (Erase target) = omega (arith, set.len-insert id_cmp-total s.del target, at_most (set.contains s.del target) (set.len s.del))
+
+size-with_operations : (s : OperationSet) (ops : List OpView) → size (with_operations s ops) ≤ size s + length ops
+size-with_operations s [] = omega arith
+size-with_operations s (op ∷ ops) = omega (arith, size-with_operations (with_operation s op) ops, size-one_more s op)
+
+-- one that was refused is left out of what was taken
+pub stopped_short : (s t u : OperationSet) (ops : List OpView) (fault : TakeFault) → ListsOnce t ops → IsStopped s ops u fault → size u < size s + size t
+stopped_short s t u ops fault once stop =
+    let all = ap length stop.in_order ∙ length-append stop.before (stop.op ∷ stop.after) in
+    omega (arith, once.all, all, ap size stop.taken, size-with_operations s stop.before)
+
 pub stopped_refused : (s t u : OperationSet) (ops : List OpView) (fault : TakeFault) → Agree s t → ListsOnce t ops → IsStopped s ops u fault → IsMergeRefused s t u fault
 stopped_refused s t u ops fault agree lists h =
     let at : (j : ℕ) (op : OpView) → slice_get (h.before ++ h.op ∷ h.after) j ≡ Some op → Holds t op = λ j op f. (lists.each op).1 (j, ap (λ l. slice_get l j) h.in_order ∙ f) in

@@ -268,7 +268,7 @@ module _ (t : OperationSet) (w : Waiting) (c : IsContent t) (d : IsSettled t w) 
 
 -- ---- the list of a desk
 
-module _ (t : OperationSet) (w : Waiting) (site : ℕ) (d : Desk) (c : IsContent t) (s : IsSettled t w) (view : desk_of t w site ≡ d) where
+module _ (t : OperationSet) (w : Waiting) (site spare : ℕ) (d : Desk) (c : IsContent t) (s : IsSettled t w) (view : desk_of t w site spare ≡ d) where
   pub told_is : told_by (elements t) (waiting_in w) ≡ told d
   told_is = ap (λ row. told_by row (waiting_in w)) (sym (elements-whole t w.held c.well s.well_formed c.tree c.only s.parted)) ∙ ap told view
 

@@ -241,11 +241,17 @@ parent_before s (suc j) id well le e =
 pub at_some : {X : Type 0} (o : Option X) (x : X) (P : X → Type 0) → o ≡ Some x → IfSome o P → P x
 at_some o x P same h = subst (λ y. IfSome y P) same h
 
-pub typed_desk : (t : OperationSet) (w : Waiting) (own : ℕ) (d : Desk) → IsContent t → IsSettled t w → desk_of t w own ≡ d → (site k ch : ℕ) → k ≤ length (visible d.set) → IsWellFormed (insertion (typed d.set site k ch))
+pub typed_desk : (t : OperationSet) (w : Waiting) (own spare : ℕ) (d : Desk) → IsContent t → IsSettled t w → desk_of t w own spare ≡ d → (site k ch : ℕ) → k ≤ length (visible d.set) → IsWellFormed (insertion (typed d.set site k ch))
     → IsTypedAt d.set (with_operation d.set (insertion (typed d.set site k ch))) k (typed d.set site k ch)
-typed_desk t w own d c s view site k ch =
+typed_desk t w own spare d c s view site k ch =
     subst (λ (x : Desk). k ≤ length (visible x.set) → IsWellFormed (insertion (typed x.set site k ch)) → IsTypedAt x.set (with_operation x.set (insertion (typed x.set site k ch))) k (typed x.set site k ch)) view
     (typed_at t w.held site k ch s.well_formed c s.parted)
+
+-- what is typed has a new identifier, so that only want of memory is left to refuse it within the limit
+pub typed_refused : (s : OperationSet) (site k ch : ℕ) (fault : TakeFault) → size s < 1_000_000 → IsRefused s (insertion (typed s site k ch)) fault → fault ≡ Memory
+typed_refused s site k ch IdentifierReused few r = some_not r.0 _ (sym (new_ins s (record { counter = next s; site = site }) refl) ∙ r.1)
+typed_refused s site k ch Full few r = absurd (omega (arith, few, r.2))
+typed_refused s site k ch Memory few r = refl
 
 -- ---- erasing at a place
 

@@ -2,13 +2,13 @@
 use Rattle.std.specs.Prelude.{◌≡◌, ◌≤◌, ◌<◌, ◌+◌, Bool, true, false, ℕ, List, Some, None, take}
 use Rattle.std.specs.FinMap as map
 use Rattle.std.specs.FinSet as set
-use Rattle.bg_types.specs.Identifier.{Identifier, id_cmp}
+use Rattle.bg_types.specs.Identifier.{Identifier}
 use Rattle.bg_types.specs.OperationSet.{Node, OperationSet, AllWellFormed, union, size, next}
 use Rattle.bg_types.specs.declared.op.OpView.{OpView}
 use Rattle.bg_types.specs.declared.op.OpView.TheVariants.{Insert, Erase}
 use Rattle.rga_tree.specs.Tree.{stands_in}
 use Rattle.rga_tree.specs.Elements.{with_element}
-use Rattle.pending_ops.specs.Waiting.{Waiting, Releases, follows, is_ready, without_erasure}
+use Rattle.pending_ops.specs.Waiting.{Waiting, Releases, without_erasure}
 
 -- no insertion is both placed and held, the parent of a ready one is there and that of another is not, and
 -- a held deletion waits for what is not placed
@@ -29,13 +29,6 @@ pub record IsCounted (s : OperationSet) (kept greatest : ℕ) : Type 0 where
   pub kept_is : kept ≡ size s
   pub limited : kept ≤ 1_000_000
   pub next_is : next s ≡ greatest + 1
-
--- k held insertions are due: the ready ones, and those that have a chain of parents to one of them
-pub record AreDue (w : Waiting) (k : ℕ) : Type 0 where
-  pub due : set.FinSet id_cmp
-  pub ready : (q : Identifier) → is_ready w q ≡ true → set.contains due q ≡ true
-  pub after : (p q : Identifier) → set.contains due p ≡ true → follows w.held p q ≡ true → set.contains due q ≡ true
-  pub many : set.len due ≡ k
 
 -- what a desk keeps: the operations in the tree and those that wait
 abbrev pub whole : OperationSet → Waiting → OperationSet
@@ -61,14 +54,22 @@ pub record PlacesIn (t : OperationSet) (w : Waiting) (e : Identifier × Node) (u
   pub tree : u ≡ with_element t (record { id = e.0; parent = e.1.parent; ch = e.1.ch; hidden = set.contains w.held.del e.0 })
   pub held : rest.held ≡ without_erasure w.held e.0
   pub released : rest.released ≡ w.released
+  pub room : rest.room ≡ w.room
   pub releases : Releases rest e.0 v
 
 abbrev pub Places : OperationSet → Waiting → OpView → OperationSet → Waiting → Type 0
 Places t w (Insert id parent ch) u v = PlacesIn t w (id, record { parent = parent; ch = ch }) u v
 Places t w (Erase target) u v = ⊥
 
+-- there is memory for n new operations, wherever they go, and for placing the insertions that wait: a sequence takes so many
+-- placings without memory, and the store of early operations has room
+pub record IsPaid (placings : ℕ) (w : Waiting) (n : ℕ) : Type 0 where
+  pub placed : map.len w.held.ins + n ≤ placings
+  pub held : n ≤ w.room
+
 -- what a desk of this site keeps true
-pub record IsDesk (t : OperationSet) (w : Waiting) (site kept greatest : ℕ) : Type 0 where
+pub record IsDesk (t : OperationSet) (placings : ℕ) (w : Waiting) (site kept greatest spare : ℕ) : Type 0 where
   pub settled : IsSettled t w
   pub counted : IsCounted (whole t w) kept greatest
   pub sited : 0 < site
+  pub paid : IsPaid placings w spare

@@ -1,6 +1,6 @@
 //! Where an operation goes: into the tree, or among those that wait.
 
-ghost use Rattle.std.specs.Prelude.{◌≡◌, ◌≤◌, ◌<◌, ◌+◌, ℕ, Some, true, false, OnOk, OnErr, IfOk};
+ghost use Rattle.std.specs.Prelude.{◌≡◌, ◌≤◌, ◌<◌, ◌+◌, ◌-◌, ℕ, Some, true, false, OnOk, OnErr, IfOk};
 ghost use Rattle.std.specs.Option.{option_map};
 ghost use Rattle.std.specs.FinMap as map;
 ghost use Rattle.std.specs.FinSet as set;
@@ -9,10 +9,9 @@ ghost use Rattle.bg_types.specs.OperationSet.{Holds, MayJoin, ReusesIdentifier, 
 ghost use Rattle.bg_types.specs.WellFormed.{IsWellFormed};
 ghost use Rattle.bg_types.specs.declared.op.OpView.TheVariants.{Insert};
 ghost use Rattle.rga_tree.specs.Tree.{stands_in};
-ghost use Rattle.pending_ops.specs.Below.{CountsBelow};
 ghost use Rattle.pending_ops.specs.Releasing.{subject};
 ghost use Rattle.pending_ops.specs.Waiting.{ListsOnce, is_ready};
-ghost use Rattle.desk_replica.specs.Placement.{IsParted, IsSettled, AreDue, MayPlace, Places, reaches_in, waiting_in, whole};
+ghost use Rattle.desk_replica.specs.Placement.{IsParted, IsSettled, IsPaid, MayPlace, Places, reaches_in, waiting_in, whole};
 ghost use Rattle.desk_replica.specs.Reply.{IsAdmitted, IsTaken, IsHiding, attached_count};
 ghost use Rattle.desk_replica.specs.Standing.{IsStanding};
 
@@ -78,11 +77,59 @@ fn stands<S: Sequence>(seq: &S, parent: &Place) -> bool
     }
 }
 
-/// Takes in a new operation. All growths come before the first change.
-pub fn admit<S: Sequence>(seq: &mut S, held: &mut Held, op: &Op) -> Result<Taken, Memory>
+/// Makes room for n new operations, wherever they go, and for placing what waits.
+pub fn make_room<S: Sequence>(seq: &mut S, held: &mut Held, n: usize) -> Result<(), Memory>
+    requires n { n ≤ 1_000_000 }
+    requires few { map.len held.old.held.ins ≤ 1_000_000 }
+    ensures content { S.content seq.new ≡ S.content seq.old }
+    ensures held { held.new.held ≡ held.old.held }
+    ensures released { held.new.released ≡ held.old.released }
+    ensures listed { held.new.listed ≡ held.old.listed }
+    ensures ok { OnOk result (IsPaid (S.free seq.new) held.new n) }
+    ensures kept { S.free seq.old ≤ S.free seq.new }
+    ensures err { OnErr result (held.new ≡ held.old) }
+{
+    seq.reserve(held.insertion_count() + n)?;
+    held.reserve(n)
+}
+
+/// Takes one from the spare operations. Where there is none, one is paid for now.
+fn pay<S: Sequence>(seq: &mut S, held: &mut Held, spare: &mut usize) -> Result<(), Memory>
+    requires paid { IsPaid (S.free seq.old) held.old spare.old }
+    requires few { map.len held.old.held.ins ≤ 1_000_000 }
+    ensures content { S.content seq.new ≡ S.content seq.old }
+    ensures held { held.new.held ≡ held.old.held }
+    ensures released { held.new.released ≡ held.old.released }
+    ensures paid { OnOk result (IsPaid (S.free seq.new) held.new (spare.new + 1)) }
+    ensures spare { OnOk result (spare.new ≡ spare.old - 1) }
+    ensures unpaid { OnErr result (spare.old ≡ 0) }
+    ensures kept { S.free seq.old ≤ S.free seq.new }
+    ensures err { OnErr result (held.new ≡ held.old) }
+    ensures same { OnErr result (spare.new ≡ spare.old) }
+{
+    if *spare == 0 {
+        make_room(seq, held, 1)?;
+        *spare = 1;
+    }
+    *spare -= 1;
+    Ok(())
+}
+
+/// Takes in a new operation. It is paid for before the first change, unless it hides an element.
+pub fn admit<S: Sequence>(
+    seq: &mut S,
+    held: &mut Held,
+    spare: &mut usize,
+    op: &Op,
+) -> Result<Taken, Memory>
     requires settled { IsSettled (S.content seq.old) held.old }
     requires admitted { IsAdmitted (whole (S.content seq.old) held.old) op.now }
+    requires paid { IsPaid (S.free seq.old) held.old spare.old }
     ensures settled { IsSettled (S.content seq.new) held.new }
+    ensures paid { IsPaid (S.free seq.new) held.new spare.new }
+    ensures spare { spare.old ≤ spare.new + 1 }
+    ensures unpaid { OnErr result (spare.old ≡ 0) }
+    ensures same { OnErr result (spare.new ≡ spare.old) }
     ensures ok { OnOk result (whole (S.content seq.new) held.new ≡ with_operation (whole (S.content seq.old) held.old) op.now) }
     ensures answer { IfOk result (IsTaken (whole (S.content seq.old) held.old) op.now) }
     ensures content { OnErr result (S.content seq.new ≡ S.content seq.old) }
@@ -90,11 +137,15 @@ pub fn admit<S: Sequence>(seq: &mut S, held: &mut Held, op: &Op) -> Result<Taken
     ensures memory { OnErr result (¬ (IsHiding (whole (S.content seq.old) held.old) op.now)) }
 {
     if !reaches(seq, op) {
-        held.hold(*op)?;
+        pay(seq, held, spare)?;
+        held.hold(*op).unwrap();
         return Ok(Taken::Held);
     }
     match op.view() {
-        OpView::Insert { .. } => place_new(seq, held, op),
+        OpView::Insert { .. } => {
+            pay(seq, held, spare)?;
+            Ok(place_new(seq, held, op))
+        }
         OpView::Erase { target } => {
             seq.hide(target);
             Ok(Taken::Hidden)
@@ -114,43 +165,31 @@ fn reaches<S: Sequence>(seq: &S, op: &Op) -> bool
 }
 
 /// Places a new insertion, and what waits for it.
-fn place_new<S: Sequence>(seq: &mut S, held: &mut Held, op: &Op) -> Result<Taken, Memory>
+fn place_new<S: Sequence>(seq: &mut S, held: &mut Held, op: &Op) -> Taken
     requires settled { IsSettled (S.content seq.old) held.old }
     requires admitted { IsAdmitted (whole (S.content seq.old) held.old) op.now }
     requires may { MayPlace (S.content seq.old) op.now }
+    requires room { map.len held.old.held.ins + 1 ≤ S.free seq.old }
     ensures settled { IsSettled (S.content seq.new) held.new }
-    ensures ok { OnOk result (whole (S.content seq.new) held.new ≡ with_operation (whole (S.content seq.old) held.old) op.now) }
-    ensures answer { IfOk result (IsTaken (whole (S.content seq.old) held.old) op.now) }
-    ensures content { OnErr result (S.content seq.new ≡ S.content seq.old) }
-    ensures held { OnErr result (held.new ≡ held.old) }
+    ensures whole { whole (S.content seq.new) held.new ≡ with_operation (whole (S.content seq.old) held.old) op.now }
+    ensures answer { IsTaken (whole (S.content seq.old) held.old) op.now result }
+    ensures paid { (n : ℕ) → IsPaid (S.free seq.old) held.old (n + 1) → IsPaid (S.free seq.new) held.new n }
 {
-    let due = count_due(held, op);
-    seq.reserve(due + 1)?;
     let before = seq.placed();
     place_one(seq, held, op);
     place_ready(seq, held);
-    Ok(Taken::Placed(seq.placed() - before - 1))
-}
-
-/// How many held insertions wait for this one, directly or through others.
-fn count_due(held: &mut Held, op: &Op) -> usize
-    ensures count { CountsBelow held.old.held (subject op.now) result }
-    ensures unchanged { held.new ≡ held.old }
-{
-    match op.view() {
-        OpView::Insert { id, .. } => held.count_below(id),
-        OpView::Erase { target } => held.count_below(target),
-    }
+    Taken::Placed(seq.placed() - before - 1)
 }
 
 /// Places ready insertions until none is ready.
 fn place_ready<S: Sequence>(seq: &mut S, held: &mut Held)
     requires parted { IsParted (S.content seq.old) held.old.held (is_ready held.old) }
     requires formed { AllWellFormed held.old.held }
-    requires room { (k : ℕ) × ((k ≤ S.free seq.old) × AreDue held.old k) }
+    requires room { map.len held.old.held.ins ≤ S.free seq.old }
     ensures settled { IsSettled (S.content seq.new) held.new }
     ensures same { whole (S.content seq.new) held.new ≡ whole (S.content seq.old) held.old }
     ensures grows { attached_count (S.content seq.old) ≤ attached_count (S.content seq.new) }
+    ensures paid { (n : ℕ) → IsPaid (S.free seq.old) held.old n → IsPaid (S.free seq.new) held.new n }
 {
     while let Some(op) = held.next_ready() {
         place_one(seq, held, &op);

@@ -1,6 +1,6 @@
 //! The desk.
 
-ghost use Rattle.std.specs.Prelude.{◌≡◌, ◌≤◌, ◌<◌, ◌↔◌, ◌^◌, Some, OnOk, OnErr, IfOk, IfErr, IfSome, IsSome, MatchResult, length, slice_get, string_bytes, encode_utf8_all};
+ghost use Rattle.std.specs.Prelude.{◌≡◌, ◌≤◌, ◌<◌, ◌+◌, ◌↔◌, ◌^◌, max, Some, OnOk, OnErr, IfOk, IfErr, IfSome, IsSome, IsOk, MatchResult, length, slice_get, string_bytes, encode_utf8_all};
 ghost use Rattle.bg_types.specs.OperationSet.{no_operations, with_operation, size, next, AllWellFormed};
 ghost use Rattle.bg_types.specs.WellFormed.{IsWellFormed};
 ghost use Rattle.rga_tree.specs.Attached.{IsAttached};
@@ -16,7 +16,7 @@ ghost use Rattle.desk_replica.specs.Typing.{typed, insertion, parent_at, IsTyped
 mod merging;
 
 use crate::answer::{TakeFault, Taken, TypeFault};
-use crate::placing::{Standing, admit, count_waiting, counter_of, look_up};
+use crate::placing::{Standing, admit, count_waiting, counter_of, look_up, make_room};
 use crate::reading::{count_before, hidden_at, insertion_of};
 use bg_types::{Id, Memory, Op, OpView, Place};
 use pending_ops::Held;
@@ -41,6 +41,8 @@ pub struct Replica<S: Sequence> {
     kept: u32,
     /// The greatest counter that one of them names, or 0.
     greatest: u32,
+    /// How many new operations are paid for.
+    spare: usize,
 }
 
 impl<S: Sequence> Model for Replica<S> {
@@ -51,9 +53,9 @@ impl<S: Sequence> Model for Replica<S> {
 
     ghost coded = { coded_desk };
 
-    ghost view = { λ a. record { set = whole (S.content a.seq) a.held; site = a.site; waiting = waiting_in a.held } };
+    ghost view = { λ a. record { set = whole (S.content a.seq) a.held; site = a.site; waiting = waiting_in a.held; spare = a.spare } };
 
-    ghost invariant = { λ a. IsDesk (S.content a.seq) a.held a.site a.kept a.greatest };
+    ghost invariant = { λ a. IsDesk (S.content a.seq) (S.free a.seq) a.held a.site a.kept a.greatest a.spare };
 }
 
 impl<S: Sequence> Replica<S> {
@@ -71,10 +73,38 @@ impl<S: Sequence> Replica<S> {
             held: Held::keyed(alloc, key),
             kept: 0,
             greatest: 0,
+            spare: 0,
         }
     }
 
-    /// Takes an operation, and answers what became of it. A fault changes nothing.
+    /// Pays for n new operations (at most 1,000,000) in advance, those that are spare counted: so
+    /// many are taken, typed or erased without memory. After `Memory` the desk is as it was.
+    pub fn reserve(&mut self, n: usize) -> Result<(), Memory>
+        requires { n ≤ 1_000_000 }
+        ensures ok { OnOk result (self.new.spare ≡ max self.old.spare n) }
+        ensures set { self.new.set ≡ self.old.set }
+        ensures site { self.new.site ≡ self.old.site }
+        ensures waiting { self.new.waiting ≡ self.old.waiting }
+        ensures err { OnErr result (self.new ≡ self.old) }
+        ensures enough { n ≤ self.old.spare → IsOk result }
+    {
+        if n <= self.spare {
+            return Ok(());
+        }
+        make_room(&mut self.seq, &mut self.held, n)?;
+        self.spare = n;
+        Ok(())
+    }
+
+    /// How many new operations are paid for.
+    pub fn spare(&self) -> usize
+        ensures { result ≡ self.now.spare }
+    {
+        self.spare
+    }
+
+    /// Takes an operation, and answers what became of it. A fault changes nothing. While one is
+    /// spare the fault is not `Memory`; a new operation lowers the spare ones by at most one.
     pub fn take(&mut self, op: &Op) -> Result<Taken, TakeFault>
         ensures answer { MatchResult result (IsTaken self.old.set op.now) (IsRefused self.old.set op.now) }
         ensures accepted { OnOk result ((fault : Fault) → ¬ (IsRefusal self.old.set op.now fault)) }
@@ -82,6 +112,8 @@ impl<S: Sequence> Replica<S> {
         ensures limited { size self.new.set ≤ 1_000_000 }
         ensures err { OnErr result (self.new ≡ self.old) }
         ensures site { self.new.site ≡ self.old.site }
+        ensures spare { size self.old.set + self.old.spare ≤ size self.new.set + self.new.spare }
+        ensures unpaid { IfErr result (λ fault. fault ≡ TakeFault.Memory → self.old.spare ≡ 0) }
     {
         match look_up(&self.seq, &self.held, op) {
             Standing::Known => return Ok(Taken::Known),
@@ -91,7 +123,7 @@ impl<S: Sequence> Replica<S> {
         if self.kept >= LIMIT {
             return Err(TakeFault::Full);
         }
-        match admit(&mut self.seq, &mut self.held, op) {
+        match admit(&mut self.seq, &mut self.held, &mut self.spare, op) {
             Ok(taken) => {
                 self.kept += 1;
                 self.greatest = self.greatest.max(counter_of(op));
@@ -113,6 +145,8 @@ impl<S: Sequence> Replica<S> {
         ensures fault { IfErr result (IsTypeRefused self.old.set) }
         ensures err { OnErr result (self.new ≡ self.old) }
         ensures site { self.new.site ≡ self.old.site }
+        ensures spare { size self.old.set + self.old.spare ≤ size self.new.set + self.new.spare }
+        ensures unpaid { IfErr result (λ fault. fault ≡ TypeFault.Memory → self.old.spare ≡ 0) }
     {
         if self.greatest == u32::MAX {
             return Err(TypeFault::CounterSpent);
@@ -170,6 +204,7 @@ impl<S: Sequence> Replica<S> {
         ensures fault { IfErr result (λ fault. (fault ≡ TypeFault.Full) × (size self.old.set ≡ 1_000_000)) }
         ensures err { OnErr result (self.new ≡ self.old) }
         ensures site { self.new.site ≡ self.old.site }
+        ensures spare { size self.old.set + self.old.spare ≤ size self.new.set + self.new.spare }
     {
         let op = Op::erase(self.id_at(place));
         match self.take(&op) {

@@ -128,6 +128,16 @@ impl<S: Fresh> Desk<S> {
         }
     }
 
+    /// Pays for four operations, at the second try where memory for it is refused.
+    fn pays(&mut self) -> bool {
+        (self.desk.reserve(4).is_ok() || self.desk.reserve(4).is_ok()) && self.desk.spare() == 4
+    }
+
+    /// Whether taking this row answers so at the first try, as what is paid for takes no memory.
+    fn takes_paid(&mut self, row: Row, answer: Answer) -> bool {
+        op(row).is_some_and(|op| self.desk.take(&op) == answer)
+    }
+
     /// Whether taking this row answers so.
     fn takes(&mut self, row: Row, answer: Answer) -> bool {
         match op(row) {
@@ -195,16 +205,34 @@ fn plays_in_order<S: Fresh>(alloc: Global) -> bool {
 
 fn plays_a_branch<S: Fresh>(alloc: Global) -> bool {
     let in_order = [(A, PLACED), (X, PLACED), (Y, PLACED), (B, PLACED)];
-    let early = [
-        (A, PLACED),
-        (Y, HELD),
-        (X, Ok(Taken::Placed(1))),
-        (B, PLACED),
-    ];
     let last = [(Y, HELD), (X, HELD), (B, HELD), (A, Ok(Taken::Placed(3)))];
     plays::<S>(alloc, &in_order, "axyb")
-        && plays::<S>(alloc, &early, "axyb")
+        && plays::<S>(alloc, &EARLY, "axyb")
         && plays::<S>(alloc, &last, "axyb")
+}
+
+/// The operations of `plays_a_branch` with one that comes early.
+const EARLY: [(Row, Answer); 4] = [
+    (A, PLACED),
+    (Y, HELD),
+    (X, Ok(Taken::Placed(1))),
+    (B, PLACED),
+];
+
+fn plays_what_is_paid_for<S: Fresh>(alloc: Global) -> bool {
+    let mut desk: Desk<S> = desk_of(alloc, 1);
+    let mut right = desk.pays();
+    for (row, answer) in EARLY {
+        right = desk.takes_paid(row, answer) && right;
+    }
+    right && desk.desk.spare() == 0 && desk.takes(A, KNOWN) && desk.reads("axyb")
+}
+
+fn merges_what_is_paid_for<S: Fresh>(alloc: Global) -> bool {
+    let mut one: Desk<S> = desk_of(alloc, 1);
+    let mut two: Desk<S> = desk_of(alloc, 2);
+    let paid = one.pays() && takes_each(&mut two, &EARLY);
+    one.desk.merge(&two.desk) == Ok(4) && paid && one.reads("axyb")
 }
 
 fn plays_erasures<S: Fresh>(alloc: Global) -> bool {
@@ -393,6 +421,14 @@ fn answers_and_reads(rt: HostRuntime) {
     assert!(rt; plays_erasures::<Plain>(rt.alloc()));
     assert!(rt; plays_again::<Blocks>(rt.alloc()));
     assert!(rt; plays_again::<Plain>(rt.alloc()));
+}
+
+#[test]
+fn takes_what_is_paid_for(rt: HostRuntime) {
+    assert!(rt; plays_what_is_paid_for::<Blocks>(rt.alloc()));
+    assert!(rt; plays_what_is_paid_for::<Plain>(rt.alloc()));
+    assert!(rt; merges_what_is_paid_for::<Blocks>(rt.alloc()));
+    assert!(rt; merges_what_is_paid_for::<Plain>(rt.alloc()));
 }
 
 #[test]

@@ -1,6 +1,6 @@
 //! Taking all operations of another desk.
 
-ghost use Rattle.std.specs.Prelude.{◌≡◌, ◌≤◌, ◌+◌, OnOk, IfOk, IfErr, IsOk, All, length};
+ghost use Rattle.std.specs.Prelude.{◌≡◌, ◌≤◌, ◌<◌, ◌+◌, OnOk, IfOk, IfErr, IsOk, All, length};
 ghost use Rattle.std.specs.Bool.{OnTrue, OnFalse};
 ghost use Rattle.bg_types.specs.OperationSet.{Holds, Agree, MayJoin, ReusesIdentifier, union, size};
 ghost use Rattle.bg_types.specs.WellFormed.{MayFollow};
@@ -23,7 +23,9 @@ use rga_tree::{Element, Sequence};
 
 impl<S: Sequence> Replica<S> {
     /// Takes all operations of another desk, and answers how many were new. After
-    /// `IdentifierReused` nothing has changed; after `Full` or `Memory` some of them are taken.
+    /// `IdentifierReused` nothing has changed; after `Full` or `Memory` some of them are taken. While
+    /// as many are spare as the other desk keeps the fault is not `Memory`; each operation that was
+    /// new lowers the spare ones by at most one.
     pub fn merge(&mut self, other: &Replica<S>) -> Result<u32, TakeFault>
         ensures ok { OnOk result (self.new.set ≡ union self.old.set other.now.set) }
         ensures agree { OnOk result (Agree self.old.set other.now.set) }
@@ -35,6 +37,8 @@ impl<S: Sequence> Replica<S> {
         ensures reused { IfErr result (λ fault. fault ≡ TakeFault.IdentifierReused → self.new ≡ self.old) }
         ensures nothing_new { ((op : OpView) → Holds other.now.set op → Holds self.old.set op) → IsOk result }
         ensures site { self.new.site ≡ self.old.site }
+        ensures spare { size self.old.set + self.old.spare ≤ size self.new.set + self.new.spare }
+        ensures unpaid { IfErr result (λ fault. fault ≡ TakeFault.Memory → self.old.spare < size other.now.set) }
     {
         if self.disagrees(other) {
             return Err(TakeFault::IdentifierReused);
@@ -104,6 +108,8 @@ impl<S: Sequence> Replica<S> {
         ensures fault { IfErr result (IsStopped self.old.set (told other.now) self.new.set) }
         ensures all { ListsOnce other.now.set (told other.now) }
         ensures site { self.new.site ≡ self.old.site }
+        ensures spare { size self.old.set + self.old.spare ≤ size self.new.set + self.new.spare }
+        ensures unpaid { IfErr result (λ fault. fault ≡ TakeFault.Memory → self.new.spare ≡ 0) }
     {
         let waiting = count_waiting(&other.held);
         self.take_insertions(&other.seq)?;
@@ -115,6 +121,8 @@ impl<S: Sequence> Replica<S> {
         ensures ok { OnOk result (self.new.set ≡ with_operations self.old.set (insertions_in (elements (S.content seq.now)))) }
         ensures fault { IfErr result (IsStopped self.old.set (insertions_in (elements (S.content seq.now))) self.new.set) }
         ensures site { self.new.site ≡ self.old.site }
+        ensures spare { size self.old.set + self.old.spare ≤ size self.new.set + self.new.spare }
+        ensures unpaid { IfErr result (λ fault. fault ≡ TakeFault.Memory → self.new.spare ≡ 0) }
     {
         for p in 0..seq.part_count() {
             self.insert_row(seq.part(p))?;
@@ -128,6 +136,8 @@ impl<S: Sequence> Replica<S> {
         ensures ok { OnOk result (self.new.set ≡ with_operations self.old.set (insertions_in row.now)) }
         ensures fault { IfErr result (IsStopped self.old.set (insertions_in row.now) self.new.set) }
         ensures site { self.new.site ≡ self.old.site }
+        ensures spare { size self.old.set + self.old.spare ≤ size self.new.set + self.new.spare }
+        ensures unpaid { IfErr result (λ fault. fault ≡ TakeFault.Memory → self.new.spare ≡ 0) }
     {
         for e in row {
             self.take(&insertion_of(e))?;
@@ -139,6 +149,8 @@ impl<S: Sequence> Replica<S> {
         ensures ok { OnOk result (self.new.set ≡ with_operations self.old.set (deletions_in (elements (S.content seq.now)))) }
         ensures fault { IfErr result (IsStopped self.old.set (deletions_in (elements (S.content seq.now))) self.new.set) }
         ensures site { self.new.site ≡ self.old.site }
+        ensures spare { size self.old.set + self.old.spare ≤ size self.new.set + self.new.spare }
+        ensures unpaid { IfErr result (λ fault. fault ≡ TakeFault.Memory → self.new.spare ≡ 0) }
     {
         for p in 0..seq.part_count() {
             self.erase_row(seq.part(p))?;
@@ -151,6 +163,8 @@ impl<S: Sequence> Replica<S> {
         ensures ok { OnOk result (self.new.set ≡ with_operations self.old.set (deletions_in row.now)) }
         ensures fault { IfErr result (IsStopped self.old.set (deletions_in row.now) self.new.set) }
         ensures site { self.new.site ≡ self.old.site }
+        ensures spare { size self.old.set + self.old.spare ≤ size self.new.set + self.new.spare }
+        ensures unpaid { IfErr result (λ fault. fault ≡ TakeFault.Memory → self.new.spare ≡ 0) }
     {
         for e in row {
             if e.hidden {
@@ -166,6 +180,8 @@ impl<S: Sequence> Replica<S> {
         ensures ok { OnOk result (self.new.set ≡ with_operations self.old.set (waiting_in held.now)) }
         ensures fault { IfErr result (IsStopped self.old.set (waiting_in held.now) self.new.set) }
         ensures site { self.new.site ≡ self.old.site }
+        ensures spare { size self.old.set + self.old.spare ≤ size self.new.set + self.new.spare }
+        ensures unpaid { IfErr result (λ fault. fault ≡ TakeFault.Memory → self.new.spare ≡ 0) }
     {
         for j in 0..count {
             self.take(&held.nth(j))?;

@@ -1,28 +1,59 @@
 -- The goals of `admit` that are answered by hand.
-use Rattle.std.proofs.Common.{◌≡◌, true, false, sym, ap, ◌∙◌, rules}
+use Rattle.std.proofs.Common.{◌≡◌, true, false, sym, ap, subst, ◌∙◌, arith, rules}
 use Rattle.bg_types.specs.OperationSet.{with_operation}
-use Rattle.desk_replica.specs.Placement.{whole}
-use Rattle.desk_replica.proofs.Admitting.{held_new, held_settled, held_whole, waits_answer, hidden_settled, hidden_whole, may_reach, hides, on_err}
+use Rattle.desk_replica.specs.Placement.{MayPlace, reaches_in, whole}
+use Rattle.desk_replica.specs.Reply.{IsAdmitted}
+use Rattle.desk_replica.proofs.FirstTurn.{held_within}
+use Rattle.desk_replica.proofs.Admitting.{settled_as, whole_as, on_ok, held_paid, held_new, held_settled, held_whole, waits_answer, hidden_settled, hidden_whole, may_reach, hides, on_err}
 use Rattle.desk_replica.proofs.placing.admit.Goals as goal
 
-pub hold-requires : goal.hold-requires
-hold-requires g c = held_new (g.S.Sequence.content c.args.seq.now) c.args.held.now c.args.op.now c.requires.admitted
+pub pay-requires-clause-few : goal.pay-requires-clause-few
+pay-requires-clause-few g c = omega (arith, held_within (g.S.Sequence.content c.args.seq.now) c.args.held.now.held, c.requires.admitted.room)
 
-pub returns-in_err-hold-clause-memory : goal.returns-in_err-hold-clause-memory
-returns-in_err-hold-clause-memory g c =
+pub pay-requires-in-Insert-clause-few : goal.pay-requires-in-Insert-clause-few
+pay-requires-in-Insert-clause-few g c = omega (arith, held_within (g.S.Sequence.content c.args.seq.now) c.args.held.now.held, c.requires.admitted.room)
+
+pub returns-in_err-pay-clause-memory : goal.returns-in_err-pay-clause-memory
+returns-in_err-pay-clause-memory g c =
     let t = g.S.Sequence.content c.args.seq.now in
     let no : c.reaches.result ≡ false = search rules in
     on_err c.from_residual.result _ (waits_answer t c.args.held.now c.args.op.now (record { well = g.met.S.Sequence.well_formed c.args.seq.now; tree = g.met.S.Sequence.is_tree c.args.seq.now; only = g.met.S.Sequence.only_placed c.args.seq.now })
     c.requires.settled c.requires.admitted c.reaches.ensures.well_formed (sym c.reaches.ensures.value ∙ no)).1
 
+pub hold-requires : goal.hold-requires
+hold-requires g c =
+    let t = g.S.Sequence.content c.args.seq.now in
+    let u = g.S.Sequence.content c.pay.new.seq in
+    let same = whole_as t u c.args.held.now c.pay.new.held c.pay.ensures.content c.pay.ensures.held in
+    held_new u c.pay.new.held c.args.op.now (subst (λ s. IsAdmitted s c.args.op.now) (sym same) c.requires.admitted)
+
 pub returns-then-not-reaches-clause-settled : goal.returns-then-not-reaches-clause-settled
 returns-then-not-reaches-clause-settled g c =
     let t = g.S.Sequence.content c.args.seq.now in
+    let u = g.S.Sequence.content c.pay.new.seq in
+    let w = c.args.held.now in
+    let v = c.pay.new.held in
     let no : c.reaches.result ≡ false = search rules in
-    held_settled t c.args.held.now c.hold.new.self c.args.op.now c.requires.settled c.requires.admitted c.reaches.ensures.well_formed (sym c.reaches.ensures.value ∙ no) c.in_ok-hold.ensures.ok c.in_ok-hold.ensures.released
+    let same = whole_as t u w v c.pay.ensures.content c.pay.ensures.held in
+    held_settled u v c.hold.new.self c.args.op.now (settled_as t u w v c.pay.ensures.content c.pay.ensures.held c.pay.ensures.released c.requires.settled)
+    (subst (λ s. IsAdmitted s c.args.op.now) (sym same) c.requires.admitted) c.reaches.ensures.well_formed
+    (subst (λ x. reaches_in x c.args.op.now ≡ false) (sym c.pay.ensures.content) (sym c.reaches.ensures.value ∙ no))
+    (on_ok c.hold.result c.unwrap.result _ c.unwrap.ensures c.hold.ensures.ok) c.hold.ensures.released
 
 pub returns-then-not-reaches-clause-ok : goal.returns-then-not-reaches-clause-ok
-returns-then-not-reaches-clause-ok g c = held_whole (g.S.Sequence.content c.args.seq.now) c.args.held.now c.hold.new.self c.args.op.now c.requires.admitted c.in_ok-hold.ensures.ok
+returns-then-not-reaches-clause-ok g c =
+    let t = g.S.Sequence.content c.args.seq.now in
+    let u = g.S.Sequence.content c.pay.new.seq in
+    let same = whole_as t u c.args.held.now c.pay.new.held c.pay.ensures.content c.pay.ensures.held in
+    held_whole u c.pay.new.held c.hold.new.self c.args.op.now (subst (λ s. IsAdmitted s c.args.op.now) (sym same) c.requires.admitted)
+    (on_ok c.hold.result c.unwrap.result _ c.unwrap.ensures c.hold.ensures.ok)
+    ∙ ap (λ s. with_operation s c.args.op.now) same
+
+pub returns-then-not-reaches-clause-paid : goal.returns-then-not-reaches-clause-paid
+returns-then-not-reaches-clause-paid g c =
+    held_paid (g.S.Sequence.free c.pay.new.seq) c.pay.new.held c.hold.new.self c.args.op.now c.pay.new.spare
+    (on_ok c.hold.result c.unwrap.result _ c.unwrap.ensures c.hold.ensures.ok)
+    (on_ok c.hold.result c.unwrap.result _ c.unwrap.ensures c.hold.ensures.room) c.in_ok-pay.ensures.paid
 
 pub returns-then-not-reaches-clause-answer : goal.returns-then-not-reaches-clause-answer
 returns-then-not-reaches-clause-answer g c =
@@ -35,7 +66,11 @@ returns-then-not-reaches-clause-answer g c =
 pub place_new-requires-clause-may : goal.place_new-requires-clause-may
 place_new-requires-clause-may g c =
     let yes : c.reaches.result ≡ true = search rules in
-    may_reach (g.S.Sequence.content c.args.seq.now) c.args.held.now c.in-Insert.id c.in-Insert.parent c.in-Insert.ch c.args.op.now c.in-Insert.ensures.value c.requires.admitted (sym c.reaches.ensures.value ∙ yes)
+    subst (λ x. MayPlace x c.args.op.now) (sym c.pay-in-Insert.ensures.content)
+    (may_reach (g.S.Sequence.content c.args.seq.now) c.args.held.now c.in-Insert.id c.in-Insert.parent c.in-Insert.ch c.args.op.now c.in-Insert.ensures.value c.requires.admitted (sym c.reaches.ensures.value ∙ yes))
+
+pub returns-in_ok-pay-in-Insert-clause-paid : goal.returns-in_ok-pay-in-Insert-clause-paid
+returns-in_ok-pay-in-Insert-clause-paid g c = c.place_new.ensures.paid c.pay-in-Insert.new.spare c.in_ok-pay-in-Insert.ensures.paid
 
 pub returns-in-Erase-clause-settled : goal.returns-in-Erase-clause-settled
 returns-in-Erase-clause-settled g c = hidden_settled (g.S.Sequence.content c.args.seq.now) (g.S.Sequence.content c.hide.new.self) c.args.held.now c.in-Erase.target c.hide.ensures.content c.requires.settled

@@ -18,6 +18,7 @@ returns-clause-places g c =
       tree = c.place.ensures.content ∙ ap (λ b. with_element t (record { id = c.in-Insert.id; parent = c.in-Insert.parent; ch = c.in-Insert.ch; hidden = b })) c.drop_erasure-hidden.ensures.found;
       held = c.drop_erasure-hidden.ensures.dropped;
       released = c.drop_erasure-hidden.ensures.released;
+      room = c.drop_erasure-hidden.ensures.room;
       releases = c.release_of.ensures;
     })
 

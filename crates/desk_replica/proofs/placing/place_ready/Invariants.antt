@@ -1,8 +1,9 @@
 -- What stays true in the loop of `place_ready`.
 use Rattle.std.proofs.Common.{◌≡◌, ◌≤◌, ℕ}
+use Rattle.std.specs.FinMap as map
 use Rattle.bg_types.specs.OperationSet.{AllWellFormed}
 use Rattle.pending_ops.specs.Waiting.{is_ready}
-use Rattle.desk_replica.specs.Placement.{IsParted, AreDue, whole}
+use Rattle.desk_replica.specs.Placement.{IsParted, IsPaid, whole}
 use Rattle.desk_replica.specs.Reply.{attached_count}
 use Rattle.desk_replica.proofs.placing.place_ready.Given as goal
 
@@ -12,7 +13,8 @@ invariant-loop-op g l = record {
   formed : AllWellFormed l.held.held;
   same : whole (g.S.Sequence.content l.seq) l.held ≡ whole (g.S.Sequence.content l.fn.seq) l.fn.held;
   grows : attached_count (g.S.Sequence.content l.fn.seq) ≤ attached_count (g.S.Sequence.content l.seq);
-  room : (k : ℕ) × ((k ≤ g.S.Sequence.free l.seq) × AreDue l.held k);
+  room : map.len l.held.held.ins ≤ g.S.Sequence.free l.seq;
+  paid : (n : ℕ) → IsPaid (g.S.Sequence.free l.fn.seq) l.fn.held n → IsPaid (g.S.Sequence.free l.seq) l.held n;
 }
 
 abbrev pub decreases-loop-op : goal.decreases-loop-op

@@ -1,8 +1,8 @@
 -- The goals of `erase_row` that are answered by hand.
-use Rattle.std.proofs.Common.{◌≡◌, [], ◌∷◌, sym, ap, subst, ◌∙◌, refl}
+use Rattle.std.proofs.Common.{◌≡◌, [], ◌∷◌, sym, ap, subst, ◌∙◌, refl, arith}
 use Rattle.std.specs.Prelude.{map as each}
 use Rattle.std.proofs.lemmas.Result.{err_from_is_err_and}
-use Rattle.bg_types.specs.OperationSet.{with_operation}
+use Rattle.bg_types.specs.OperationSet.{size, with_operation}
 use Rattle.bg_types.specs.declared.op.OpView.{OpView}
 use Rattle.bg_types.specs.declared.op.OpView.TheVariants.{Erase}
 use Rattle.desk_replica.specs.Desk.{Desk}
@@ -14,7 +14,7 @@ use Rattle.desk_replica.proofs.replica.Replica.erase_row.Goals as goal
 use Rattle.desk_replica.proofs.replica.Replica.erase_row.Goals.{then-e+in_ok-take, else-e}
 
 pub loop-e-init : goal.loop-e-init
-loop-e-init g c = record { taken = refl; site = refl }
+loop-e-init g c = record { taken = refl; site = refl; spare = omega arith }
 
 pub returns-in_err-take-clause-fault : goal.returns-in_err-take-clause-fault
 returns-in_err-take-clause-fault g c =
@@ -38,9 +38,17 @@ loop-e-preserved g c =
       | then-e+in_ok-take w ↦ record {
         taken = next (ap (λ (d : Desk). d.set) w.self-is ∙ w.in_ok-take.ensures.ok ∙ ap (with_operation u) w.erase.ensures.value ∙ ap (with_operations u) (ap (each Erase) (sym (hidden_one e w.if-e.true))));
         site = ap (λ (d : Desk). d.site) w.self-is ∙ w.in_ok-take.ensures.site ∙ c.loop-e.invariant.site;
+        spare = omega (arith, ap (λ (d : Desk). size d.set) w.self-is, ap (λ (d : Desk). d.spare) w.self-is, w.take.ensures.spare, c.loop-e.invariant.spare);
       }
       | else-e w ↦ record {
         taken = next (ap (λ (d : Desk). d.set) w.self-is ∙ ap (with_operations u) (ap (each Erase) (sym (hidden_none e w.if-e.false))));
         site = ap (λ (d : Desk). d.site) w.self-is ∙ c.loop-e.invariant.site;
+        spare = omega (arith, ap (λ (d : Desk). size d.set) w.self-is, ap (λ (d : Desk). d.spare) w.self-is, c.loop-e.invariant.spare);
       }
     ]
+
+pub returns-in_err-take-clause-spare : goal.returns-in_err-take-clause-spare
+returns-in_err-take-clause-spare g c = omega (arith, c.take.ensures.spare, c.loop-e.invariant.spare)
+
+pub returns-clause-spare : goal.returns-clause-spare
+returns-clause-spare g c = c.loop-e.invariant.spare

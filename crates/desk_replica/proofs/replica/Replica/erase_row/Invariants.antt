@@ -1,5 +1,6 @@
 -- What stays true in the loop of `erase_row`.
-use Rattle.std.proofs.Common.{◌≡◌, take}
+use Rattle.std.proofs.Common.{◌≡◌, ◌≤◌, ◌+◌, take}
+use Rattle.bg_types.specs.OperationSet.{size}
 use Rattle.desk_replica.specs.Told.{deletions_in}
 use Rattle.desk_replica.specs.Merging.{with_operations}
 use Rattle.desk_replica.proofs.replica.Replica.erase_row.Given as goal
@@ -8,4 +9,5 @@ abbrev pub invariant-loop-e : goal.invariant-loop-e
 invariant-loop-e g l = record {
   taken : l.self.set ≡ with_operations l.fn.self.set (deletions_in (take l.e-index l.row));
   site : l.self.site ≡ l.fn.self.site;
+  spare : size l.fn.self.set + l.fn.self.spare ≤ size l.self.set + l.self.spare;
 }

@@ -1,5 +1,5 @@
 -- The goals of `insert_row` that are answered by hand.
-use Rattle.std.proofs.Common.{◌≡◌, [], ◌∷◌, sym, ap, subst, ◌∙◌, refl}
+use Rattle.std.proofs.Common.{◌≡◌, [], ◌∷◌, sym, ap, subst, ◌∙◌, refl, arith}
 use Rattle.std.proofs.lemmas.Result.{err_from_is_err_and}
 use Rattle.bg_types.specs.OperationSet.{with_operation}
 use Rattle.bg_types.specs.declared.op.OpView.{OpView}
@@ -11,7 +11,7 @@ use Rattle.desk_replica.proofs.InTurn.{row_next, row_stopped}
 use Rattle.desk_replica.proofs.replica.Replica.insert_row.Goals as goal
 
 pub loop-e-init : goal.loop-e-init
-loop-e-init g c = record { taken = refl; site = refl }
+loop-e-init g c = record { taken = refl; site = refl; spare = omega arith }
 
 pub returns-in_err-take-clause-fault : goal.returns-in_err-take-clause-fault
 returns-in_err-take-clause-fault g c =
@@ -33,4 +33,11 @@ loop-e-preserved g c =
       taken = row_next insertions_in insertions-append c.args.self.now.set u c.args.row.now c.loop-e.e-index e c.loop-e-test.true c.e-item.is c.loop-e.invariant.taken c.take.new.self.set
           (c.in_ok-take.ensures.ok ∙ ap (with_operation u) c.insertion_of.ensures);
       site = c.in_ok-take.ensures.site ∙ c.loop-e.invariant.site;
+      spare = omega (arith, c.take.ensures.spare, c.loop-e.invariant.spare);
     }
+
+pub returns-in_err-take-clause-spare : goal.returns-in_err-take-clause-spare
+returns-in_err-take-clause-spare g c = omega (arith, c.take.ensures.spare, c.loop-e.invariant.spare)
+
+pub returns-clause-spare : goal.returns-clause-spare
+returns-clause-spare g c = c.loop-e.invariant.spare

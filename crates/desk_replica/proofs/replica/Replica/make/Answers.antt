@@ -16,7 +16,7 @@ pub unwrap-requires : goal.unwrap-requires
 unwrap-requires g c =
     let d : Desk = c.args.self.now in
     let same = c.self.view_is ∙ c.parent_for-parent.ensures.unchanged in
-    let well = well_formed_desk (g.S.Sequence.content c.self.inside.seq) c.self.inside.held c.self.inside.site d
+    let well = well_formed_desk (g.S.Sequence.content c.self.inside.seq) c.self.inside.held c.self.inside.site c.self.inside.spare d
     (record { well = g.met.S.Sequence.well_formed c.self.inside.seq; tree = g.met.S.Sequence.is_tree c.self.inside.seq; only = g.met.S.Sequence.only_placed c.self.inside.seq }) c.self.invariant.settled same in
     let id = at_some c.new.result c.unwrap-id.result (λ x. x ≡ record { counter = c.next_counter-counter.result; site = c.self.inside.site }) c.unwrap-id.ensures c.new.ensures.value in
     let counter : c.unwrap-id.result.counter ≡ next d.set = ap (λ (x : Identifier). x.counter) id ∙ c.next_counter-counter.ensures in

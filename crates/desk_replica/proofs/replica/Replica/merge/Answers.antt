@@ -5,7 +5,7 @@ use Rattle.bg_types.specs.OperationSet.{size}
 use Rattle.desk_replica.specs.declared.answer.TakeFault.TheVariants.{IdentifierReused}
 use Rattle.desk_replica.specs.Desk.{Desk}
 use Rattle.desk_replica.specs.Told.{told}
-use Rattle.desk_replica.proofs.Merges.{merge_accepted, nothing_refused, refused_otherwise, size_more, stopped_refused, taken_united}
+use Rattle.desk_replica.proofs.Merges.{merge_accepted, nothing_refused, refused_otherwise, size_more, stopped_refused, stopped_short, taken_united}
 use Rattle.desk_replica.proofs.replica.Replica.merge.Goals as goal
 
 pub returns-then-disagrees-clause-nothing_new : goal.returns-then-disagrees-clause-nothing_new
@@ -67,3 +67,12 @@ returns-in_err-take_told-clause-reused g c =
     let fault = c.in_err-take_told.field-0.0 in
     let p = err_from_is_err_and c.from_residual.result c.from_residual.ensures.1 in
     rw (p.1, p.2) (refused_otherwise s other.set u fault (c.take_told.new.self ≡ c.args.self.now) c.if-disagrees.ensures.no (stopped_refused s other.set u (told other) fault c.if-disagrees.ensures.no c.in_err-take_told.ensures.all c.in_err-take_told.ensures.fault))
+
+pub returns-in_err-take_told-clause-unpaid : goal.returns-in_err-take_told-clause-unpaid
+returns-in_err-take_told-clause-unpaid g c =
+    let s = c.args.self.now.set in
+    let other = c.args.other.now in
+    let u = c.take_told.new.self.set in
+    let p = err_from_is_err_and c.from_residual.result c.from_residual.ensures.1 in
+    let short = stopped_short s other.set u (told other) c.in_err-take_told.field-0.0 c.in_err-take_told.ensures.all c.in_err-take_told.ensures.fault in
+    rw (p.1, p.2) (λ memory. omega (arith, short, c.take_told.ensures.spare, c.in_err-take_told.ensures.unpaid memory))

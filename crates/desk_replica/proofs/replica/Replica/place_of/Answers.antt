@@ -7,17 +7,17 @@ use Rattle.desk_replica.proofs.replica.Replica.place_of.Goals as goal
 
 pub returns-then-not-has-clause-placed : goal.returns-then-not-has-clause-placed
 returns-then-not-has-clause-placed g c =
-    let r = reads (g.S.Sequence.content c.self.inside.seq) c.self.inside.held c.self.inside.site c.args.self.now (record { well = g.met.S.Sequence.well_formed c.self.inside.seq; tree = g.met.S.Sequence.is_tree c.self.inside.seq; only = g.met.S.Sequence.only_placed c.self.inside.seq }) c.self.invariant.settled c.self.view_is in
+    let r = reads (g.S.Sequence.content c.self.inside.seq) c.self.inside.held c.self.inside.site c.self.inside.spare c.args.self.now (record { well = g.met.S.Sequence.well_formed c.self.inside.seq; tree = g.met.S.Sequence.is_tree c.self.inside.seq; only = g.met.S.Sequence.only_placed c.self.inside.seq }) c.self.invariant.settled c.self.view_is in
     let gone : c.has.result ≡ false = c.if-not-has.true in
     ((λ no. absurd (true≢false (sym no))), (λ at. absurd (true≢false (sym (r.attached c.args.id at) ∙ sym c.has.ensures ∙ gone))))
 
 pub returns-clause-placed : goal.returns-clause-placed
 returns-clause-placed g c =
-    let r = reads (g.S.Sequence.content c.self.inside.seq) c.self.inside.held c.self.inside.site c.args.self.now (record { well = g.met.S.Sequence.well_formed c.self.inside.seq; tree = g.met.S.Sequence.is_tree c.self.inside.seq; only = g.met.S.Sequence.only_placed c.self.inside.seq }) c.self.invariant.settled c.self.view_is in
+    let r = reads (g.S.Sequence.content c.self.inside.seq) c.self.inside.held c.self.inside.site c.self.inside.spare c.args.self.now (record { well = g.met.S.Sequence.well_formed c.self.inside.seq; tree = g.met.S.Sequence.is_tree c.self.inside.seq; only = g.met.S.Sequence.only_placed c.self.inside.seq }) c.self.invariant.settled c.self.view_is in
     let there : c.has.result ≡ true = c.if-not-has.false in
     ((λ _. r.placed c.args.id (sym c.has.ensures ∙ there)), (λ _. refl))
 
 pub returns-clause-value : goal.returns-clause-value
 returns-clause-value g c =
-    let r = reads (g.S.Sequence.content c.self.inside.seq) c.self.inside.held c.self.inside.site c.args.self.now (record { well = g.met.S.Sequence.well_formed c.self.inside.seq; tree = g.met.S.Sequence.is_tree c.self.inside.seq; only = g.met.S.Sequence.only_placed c.self.inside.seq }) c.self.invariant.settled c.self.view_is in
+    let r = reads (g.S.Sequence.content c.self.inside.seq) c.self.inside.held c.self.inside.site c.self.inside.spare c.args.self.now (record { well = g.met.S.Sequence.well_formed c.self.inside.seq; tree = g.met.S.Sequence.is_tree c.self.inside.seq; only = g.met.S.Sequence.only_placed c.self.inside.seq }) c.self.invariant.settled c.self.view_is in
     c.count_before.ensures ∙ ap (λ row. count_visible (in_front c.args.id row)) r.elements_is ∙ before_elements c.args.self.now.set c.args.id

@@ -25,8 +25,8 @@ invariant_of-self g c =
     let room : c.self.inside.kept < 1_000_000 = omega arith in
     let a : IsAdmitted (whole t w) op = record { joins = c.in-New.ensures.0; is_new = c.in-New.ensures.1; room = omega arith } in
     let m : c.max-self-inside.result ≡ max c.self.inside.greatest (subject op).counter = let ct = c.counter_of.ensures.counter in let mx = c.max-self-inside.ensures in omega (arith, ct, mx) in
-    subst (λ n. IsDesk (g.S.Sequence.content c.admit.new.seq) c.admit.new.held c.self.inside.site (c.self.inside.kept + 1) n) (sym m)
-    (IsDesk-more t (g.S.Sequence.content c.admit.new.seq) w c.admit.new.held c.self.inside.site c.self.inside.kept c.self.inside.greatest op c.self.invariant a c.counter_of.ensures.well_formed room c.in-Ok.ensures.settled c.in-Ok.ensures.ok)
+    subst (λ n. IsDesk (g.S.Sequence.content c.admit.new.seq) (g.S.Sequence.free c.admit.new.seq) c.admit.new.held c.self.inside.site (c.self.inside.kept + 1) n c.admit.new.spare) (sym m)
+    (IsDesk-more t (g.S.Sequence.content c.admit.new.seq) (g.S.Sequence.free c.self.inside.seq) (g.S.Sequence.free c.admit.new.seq) w c.admit.new.held c.self.inside.site c.self.inside.kept c.self.inside.greatest c.self.inside.spare c.admit.new.spare op c.self.invariant a c.counter_of.ensures.well_formed room c.in-Ok.ensures.settled c.in-Ok.ensures.ok c.in-Ok.ensures.paid)
 
 pub returns-in-Ok-clause-limited : goal.returns-in-Ok-clause-limited
 returns-in-Ok-clause-limited g c =
@@ -36,3 +36,12 @@ returns-in-Ok-clause-limited g c =
     let kept = c.self.invariant.counted.kept_is in
     let room = c.if-self-ge-LIMIT.false in
     omega (arith, grown, new, kept, room)
+
+pub returns-in-Ok-clause-spare : goal.returns-in-Ok-clause-spare
+returns-in-Ok-clause-spare g c =
+    let before = whole (g.S.Sequence.content c.self.inside.seq) c.self.inside.held in
+    let grown = size-with_operation before c.args.op.now c.in-New.ensures.0 c.in-New.ensures.1 in
+    let new = ap size c.in-Ok.ensures.ok in
+    let set = ap (λ (d : Desk). size d.set) c.self.view_is in
+    let spare = ap (λ (d : Desk). d.spare) c.self.view_is in
+    omega (arith, grown, new, set, spare, c.in-Ok.ensures.spare)

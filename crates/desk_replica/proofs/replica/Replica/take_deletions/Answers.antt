@@ -8,7 +8,7 @@ use Rattle.desk_replica.proofs.InTurn.{part_next, part_stopped, parts_done}
 use Rattle.desk_replica.proofs.replica.Replica.take_deletions.Goals as goal
 
 pub loop-p-init : goal.loop-p-init
-loop-p-init g c = record { taken = refl; site = refl }
+loop-p-init g c = record { taken = refl; site = refl; spare = omega arith }
 
 pub returns-in_err-erase_row-clause-fault : goal.returns-in_err-erase_row-clause-fault
 returns-in_err-erase_row-clause-fault g c =
@@ -23,6 +23,7 @@ loop-p-preserved g c = record {
   taken = part_next deletions_in deletions-append c.args.self.now.set c.loop-p.self.set c.erase_row.new.self.set (g.S.Sequence.parts c.args.seq.now) c.loop-p.p c.part.result.now (omega (arith, c.loop-p-test.true, c.part_count-p-end.ensures)) c.part.ensures c.loop-p.invariant.taken
       c.in_ok-erase_row.ensures.ok;
   site = c.in_ok-erase_row.ensures.site ∙ c.loop-p.invariant.site;
+  spare = omega (arith, c.erase_row.ensures.spare, c.loop-p.invariant.spare);
 }
 
 pub returns-clause-ok : goal.returns-clause-ok
@@ -30,3 +31,9 @@ returns-clause-ok g c =
     let seq = c.args.seq.now in
     let done = c.loop-p-test.false in
     parts_done deletions_in deletions-append c.args.self.now.set c.loop-p.self.set (g.S.Sequence.parts seq) c.loop-p.p (elements (g.S.Sequence.content seq)) (g.met.S.Sequence.whole seq) (omega (arith, c.part_count-p-end.ensures)) c.loop-p.invariant.taken
+
+pub returns-in_err-erase_row-clause-spare : goal.returns-in_err-erase_row-clause-spare
+returns-in_err-erase_row-clause-spare g c = omega (arith, c.erase_row.ensures.spare, c.loop-p.invariant.spare)
+
+pub returns-clause-spare : goal.returns-clause-spare
+returns-clause-spare g c = c.loop-p.invariant.spare

@@ -1,5 +1,6 @@
 -- What stays true in the loop of `take_deletions`.
-use Rattle.std.proofs.Common.{◌≡◌, take}
+use Rattle.std.proofs.Common.{◌≡◌, ◌≤◌, ◌+◌, take}
+use Rattle.bg_types.specs.OperationSet.{size}
 use Rattle.desk_replica.specs.Told.{deletions_in}
 use Rattle.desk_replica.specs.Merging.{with_operations}
 use Rattle.desk_replica.proofs.InTurn.{joined}
@@ -9,4 +10,5 @@ abbrev pub invariant-loop-p : goal.invariant-loop-p
 invariant-loop-p g l = record {
   taken : l.self.set ≡ with_operations l.fn.self.set (deletions_in (joined (take l.p (g.S.Sequence.parts l.seq))));
   site : l.self.site ≡ l.fn.self.site;
+  spare : size l.fn.self.set + l.fn.self.spare ≤ size l.self.set + l.self.spare;
 }

@@ -9,7 +9,7 @@ use Rattle.desk_replica.proofs.InTurn.{part_next, part_stopped, parts_done}
 use Rattle.desk_replica.proofs.replica.Replica.take_insertions.Goals as goal
 
 pub loop-p-init : goal.loop-p-init
-loop-p-init g c = record { taken = refl; site = refl }
+loop-p-init g c = record { taken = refl; site = refl; spare = omega arith }
 
 pub returns-in_err-insert_row-clause-fault : goal.returns-in_err-insert_row-clause-fault
 returns-in_err-insert_row-clause-fault g c =
@@ -24,6 +24,7 @@ loop-p-preserved g c = record {
   taken = part_next insertions_in insertions-append c.args.self.now.set c.loop-p.self.set c.insert_row.new.self.set (g.S.Sequence.parts c.args.seq.now) c.loop-p.p c.part.result.now (omega (arith, c.loop-p-test.true, c.part_count-p-end.ensures)) c.part.ensures c.loop-p.invariant.taken
       c.in_ok-insert_row.ensures.ok;
   site = c.in_ok-insert_row.ensures.site ∙ c.loop-p.invariant.site;
+  spare = omega (arith, c.insert_row.ensures.spare, c.loop-p.invariant.spare);
 }
 
 pub returns-clause-ok : goal.returns-clause-ok
@@ -36,3 +37,9 @@ pub insert_row-requires : goal.insert_row-requires
 insert_row-requires g c =
     let seq = c.args.seq.now in
     part_follows (g.S.Sequence.content seq) (g.S.Sequence.parts seq) c.loop-p.p c.part.result.now (g.met.S.Sequence.well_formed seq) (g.met.S.Sequence.whole seq) (omega (arith, c.loop-p-test.true, c.part_count-p-end.ensures)) c.part.ensures
+
+pub returns-in_err-insert_row-clause-spare : goal.returns-in_err-insert_row-clause-spare
+returns-in_err-insert_row-clause-spare g c = omega (arith, c.insert_row.ensures.spare, c.loop-p.invariant.spare)
+
+pub returns-clause-spare : goal.returns-clause-spare
+returns-clause-spare g c = c.loop-p.invariant.spare

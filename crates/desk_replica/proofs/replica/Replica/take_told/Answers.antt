@@ -16,7 +16,7 @@ returns-in_err-take_insertions-clause-fault g c =
     let row = elements (g.S.Sequence.content c.other.inside.seq) in
     let fault = c.in_err-take_insertions.field-0.0 in
     let p = err_from_is_err_and c.from_residual.result c.from_residual.ensures.1 in
-    rw (p.1, p.2) (subst (λ ops. IsStopped s ops u fault) (told_is (g.S.Sequence.content c.other.inside.seq) c.other.inside.held c.other.inside.site c.args.other.now (record { well = g.met.S.Sequence.well_formed c.other.inside.seq; tree = g.met.S.Sequence.is_tree c.other.inside.seq; only = g.met.S.Sequence.only_placed c.other.inside.seq }) c.other.invariant.settled c.other.view_is)
+    rw (p.1, p.2) (subst (λ ops. IsStopped s ops u fault) (told_is (g.S.Sequence.content c.other.inside.seq) c.other.inside.held c.other.inside.site c.other.inside.spare c.args.other.now (record { well = g.met.S.Sequence.well_formed c.other.inside.seq; tree = g.met.S.Sequence.is_tree c.other.inside.seq; only = g.met.S.Sequence.only_placed c.other.inside.seq }) c.other.invariant.settled c.other.view_is)
     (stopped_first s u (insertions_in row ++ deletions_in row) (waiting_in c.other.inside.held) fault (stopped_first s u (insertions_in row) (deletions_in row) fault c.in_err-take_insertions.ensures.fault)))
 
 pub returns-in_err-take_deletions-clause-fault : goal.returns-in_err-take_deletions-clause-fault
@@ -26,7 +26,7 @@ returns-in_err-take_deletions-clause-fault g c =
     let row = elements (g.S.Sequence.content c.other.inside.seq) in
     let fault = c.in_err-take_deletions.field-0.0 in
     let p = err_from_is_err_and c.from_residual-in_err-take_deletions.result c.from_residual-in_err-take_deletions.ensures.1 in
-    rw (p.1, p.2) (subst (λ ops. IsStopped s ops u fault) (told_is (g.S.Sequence.content c.other.inside.seq) c.other.inside.held c.other.inside.site c.args.other.now (record { well = g.met.S.Sequence.well_formed c.other.inside.seq; tree = g.met.S.Sequence.is_tree c.other.inside.seq; only = g.met.S.Sequence.only_placed c.other.inside.seq }) c.other.invariant.settled c.other.view_is)
+    rw (p.1, p.2) (subst (λ ops. IsStopped s ops u fault) (told_is (g.S.Sequence.content c.other.inside.seq) c.other.inside.held c.other.inside.site c.other.inside.spare c.args.other.now (record { well = g.met.S.Sequence.well_formed c.other.inside.seq; tree = g.met.S.Sequence.is_tree c.other.inside.seq; only = g.met.S.Sequence.only_placed c.other.inside.seq }) c.other.invariant.settled c.other.view_is)
     (stopped_first s u (insertions_in row ++ deletions_in row) (waiting_in c.other.inside.held) fault
     (stopped_second s c.take_insertions.new.self.set u (insertions_in row) (deletions_in row) fault c.in_ok-take_insertions.ensures.ok c.in_err-take_deletions.ensures.fault)))
 
@@ -38,7 +38,7 @@ returns-clause-ok g c =
     let row = elements (g.S.Sequence.content c.other.inside.seq) in
     let first = taken_both s c.take_insertions.new.self.set t (insertions_in row) (deletions_in row) c.in_ok-take_insertions.ensures.ok c.in_ok-take_deletions.ensures.ok in
     on_ok_weaker c.take_waiting.result (λ h. taken_both s t u (insertions_in row ++ deletions_in row) (waiting_in c.other.inside.held) first h
-    ∙ ap (with_operations s) (told_is (g.S.Sequence.content c.other.inside.seq) c.other.inside.held c.other.inside.site c.args.other.now (record { well = g.met.S.Sequence.well_formed c.other.inside.seq; tree = g.met.S.Sequence.is_tree c.other.inside.seq; only = g.met.S.Sequence.only_placed c.other.inside.seq }) c.other.invariant.settled c.other.view_is)) c.take_waiting.ensures.ok
+    ∙ ap (with_operations s) (told_is (g.S.Sequence.content c.other.inside.seq) c.other.inside.held c.other.inside.site c.other.inside.spare c.args.other.now (record { well = g.met.S.Sequence.well_formed c.other.inside.seq; tree = g.met.S.Sequence.is_tree c.other.inside.seq; only = g.met.S.Sequence.only_placed c.other.inside.seq }) c.other.invariant.settled c.other.view_is)) c.take_waiting.ensures.ok
 
 pub returns-clause-fault : goal.returns-clause-fault
 returns-clause-fault g c =
@@ -47,14 +47,14 @@ returns-clause-fault g c =
     let u = c.take_waiting.new.self.set in
     let row = elements (g.S.Sequence.content c.other.inside.seq) in
     let first = taken_both s c.take_insertions.new.self.set t (insertions_in row) (deletions_in row) c.in_ok-take_insertions.ensures.ok c.in_ok-take_deletions.ensures.ok in
-    IfErr-weaker c.take_waiting.result _ _ (λ fault h. subst (λ ops. IsStopped s ops u fault) (told_is (g.S.Sequence.content c.other.inside.seq) c.other.inside.held c.other.inside.site c.args.other.now (record { well = g.met.S.Sequence.well_formed c.other.inside.seq; tree = g.met.S.Sequence.is_tree c.other.inside.seq; only = g.met.S.Sequence.only_placed c.other.inside.seq }) c.other.invariant.settled c.other.view_is)
+    IfErr-weaker c.take_waiting.result _ _ (λ fault h. subst (λ ops. IsStopped s ops u fault) (told_is (g.S.Sequence.content c.other.inside.seq) c.other.inside.held c.other.inside.site c.other.inside.spare c.args.other.now (record { well = g.met.S.Sequence.well_formed c.other.inside.seq; tree = g.met.S.Sequence.is_tree c.other.inside.seq; only = g.met.S.Sequence.only_placed c.other.inside.seq }) c.other.invariant.settled c.other.view_is)
     (stopped_second s t u (insertions_in row ++ deletions_in row) (waiting_in c.other.inside.held) fault first h)) c.take_waiting.ensures.fault
 
 pub returns-in_err-take_insertions-clause-all : goal.returns-in_err-take_insertions-clause-all
-returns-in_err-take_insertions-clause-all g c = told_once (g.S.Sequence.content c.other.inside.seq) c.other.inside.held c.other.inside.site c.args.other.now (record { well = g.met.S.Sequence.well_formed c.other.inside.seq; tree = g.met.S.Sequence.is_tree c.other.inside.seq; only = g.met.S.Sequence.only_placed c.other.inside.seq }) c.other.invariant.settled c.other.view_is c.count_waiting-waiting.ensures.each_once
+returns-in_err-take_insertions-clause-all g c = told_once (g.S.Sequence.content c.other.inside.seq) c.other.inside.held c.other.inside.site c.other.inside.spare c.args.other.now (record { well = g.met.S.Sequence.well_formed c.other.inside.seq; tree = g.met.S.Sequence.is_tree c.other.inside.seq; only = g.met.S.Sequence.only_placed c.other.inside.seq }) c.other.invariant.settled c.other.view_is c.count_waiting-waiting.ensures.each_once
 
 pub returns-in_err-take_deletions-clause-all : goal.returns-in_err-take_deletions-clause-all
-returns-in_err-take_deletions-clause-all g c = told_once (g.S.Sequence.content c.other.inside.seq) c.other.inside.held c.other.inside.site c.args.other.now (record { well = g.met.S.Sequence.well_formed c.other.inside.seq; tree = g.met.S.Sequence.is_tree c.other.inside.seq; only = g.met.S.Sequence.only_placed c.other.inside.seq }) c.other.invariant.settled c.other.view_is c.count_waiting-waiting.ensures.each_once
+returns-in_err-take_deletions-clause-all g c = told_once (g.S.Sequence.content c.other.inside.seq) c.other.inside.held c.other.inside.site c.other.inside.spare c.args.other.now (record { well = g.met.S.Sequence.well_formed c.other.inside.seq; tree = g.met.S.Sequence.is_tree c.other.inside.seq; only = g.met.S.Sequence.only_placed c.other.inside.seq }) c.other.invariant.settled c.other.view_is c.count_waiting-waiting.ensures.each_once
 
 pub returns-clause-all : goal.returns-clause-all
-returns-clause-all g c = told_once (g.S.Sequence.content c.other.inside.seq) c.other.inside.held c.other.inside.site c.args.other.now (record { well = g.met.S.Sequence.well_formed c.other.inside.seq; tree = g.met.S.Sequence.is_tree c.other.inside.seq; only = g.met.S.Sequence.only_placed c.other.inside.seq }) c.other.invariant.settled c.other.view_is c.count_waiting-waiting.ensures.each_once
+returns-clause-all g c = told_once (g.S.Sequence.content c.other.inside.seq) c.other.inside.held c.other.inside.site c.other.inside.spare c.args.other.now (record { well = g.met.S.Sequence.well_formed c.other.inside.seq; tree = g.met.S.Sequence.is_tree c.other.inside.seq; only = g.met.S.Sequence.only_placed c.other.inside.seq }) c.other.invariant.settled c.other.view_is c.count_waiting-waiting.ensures.each_once

@@ -9,7 +9,7 @@ use Rattle.desk_replica.proofs.InTurn.{taken_next, stopped_at}
 use Rattle.desk_replica.proofs.replica.Replica.take_waiting.Goals as goal
 
 pub loop-j-init : goal.loop-j-init
-loop-j-init g c = record { taken = refl; site = refl }
+loop-j-init g c = record { taken = refl; site = refl; spare = omega arith }
 
 pub returns-in_err-take-clause-fault : goal.returns-in_err-take-clause-fault
 returns-in_err-take-clause-fault g c =
@@ -29,4 +29,11 @@ loop-j-preserved g c =
     record {
       taken = taken_next c.args.self.now.set c.loop-j.self.set (waiting_in w) c.loop-j.j c.nth.result at.0 at.1 c.loop-j.invariant.taken c.take.new.self.set c.in_ok-take.ensures.ok;
       site = c.in_ok-take.ensures.site ∙ c.loop-j.invariant.site;
+      spare = omega (arith, c.take.ensures.spare, c.loop-j.invariant.spare);
     }
+
+pub returns-in_err-take-clause-spare : goal.returns-in_err-take-clause-spare
+returns-in_err-take-clause-spare g c = omega (arith, c.take.ensures.spare, c.loop-j.invariant.spare)
+
+pub returns-clause-spare : goal.returns-clause-spare
+returns-clause-spare g c = c.loop-j.invariant.spare
