@@ -3,6 +3,8 @@
 //! A call that memory was refused to is made again: so each test also passes with any one allocation
 //! refused (`rt try --test --fail-alloc N`).
 
+mod hostile;
+
 use super::*;
 use bg_types::{Base, Memory, Out, Stops};
 use std::alloc::Global;
