@@ -52,7 +52,7 @@ impl Stream {
 
     /// Reads on, and writes the operations of the further whole frames after the others. It answers
     /// the first fault of all bytes so far, but that a byte is missing; such a fault stays. `Memory`
-    /// changes nothing.
+    /// changes nothing. Frames are counted, so they and the piece's bytes are below 2^64 - 2.
     pub fn feed(&mut self, piece: &[u8], ops: &mut Vec<Op>) -> Result<(), CodecFault>
         requires few { IfSome self.old.position (λ at. at.frames + length piece.now < 2 ^ 64 - 2) }
         ensures outcome { (bytes : List ℕ) (before : List Operation) → StandsAfter self.old bytes before

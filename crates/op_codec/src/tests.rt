@@ -13,6 +13,12 @@ const TWO: [u8; 43] = [
     0, 17, 1, 0, 0, 0, 2, 0, 1, 0, 0, 0, 1, 0, 1, 0, 0, 0, 0x62, // frame 2
 ];
 
+/// (2,1) after (2,2), `b`: a parent of no smaller counter.
+const LATE_PARENT: [u8; 24] = [
+    0x42, 0x47, 0x4F, 0x50, 1, // BGOP, version 1
+    0, 17, 1, 0, 0, 0, 2, 0, 1, 0, 0, 0, 2, 0, 2, 0, 0, 0, 0x62, // frame 1
+];
+
 const EMPTY: [u8; 5] = [0x42, 0x47, 0x4F, 0x50, 1];
 
 fn insertion(id: (u32, u16), parent: Option<(u32, u16)>, ch: char) -> Option<Op> {
@@ -352,16 +358,12 @@ fn rows_cut_into_two_pieces(rt: HostRuntime) -> Result<(), Fail> {
         insertion((2, 1), Some((1, 1)), 'b').ok_or("well formed")?,
     ];
     let file = encode_file(rt.alloc(), &four)?;
-    let mut late = joined(rt.alloc(), &EMPTY, &TWO[24..])?;
-    // (2,1) after (2,2).
-    late[17] = 2;
-    late[19] = 2;
     let bad = CodecFault::Malformed {
         frame: 1,
         cause: Cause::ParentNotBefore,
     };
-    assert_eq!(rt; decode_file(rt.alloc(), &late).err(), Some(bad));
-    for bytes in [TWO.as_slice(), &file, &late] {
+    assert_eq!(rt; decode_file(rt.alloc(), &LATE_PARENT).err(), Some(bad));
+    for bytes in [TWO.as_slice(), &file, &LATE_PARENT] {
         for cut in 0..bytes.len() {
             let pieces = [&bytes[..cut], &bytes[cut..]];
             assert!(rt; is_fed_like_whole(rt.alloc(), &pieces)?, "at {cut}");

@@ -7,7 +7,7 @@ use Rattle.op_codec.proofs.feed.Feed.feed.Goals as goal
 pub feed-requires : goal.feed-requires
 feed-requires c =
     let old = c.self.inside in
-    record { few = position_few old.stream.position old.ops.items old.stream.kept c.args.piece.now c.self.invariant (omega (arith, old.ops.ok.0, old.ops.ok.1, old.ops.small, c.type_inv.piece)) }
+    record { few = position_few old.stream.position old.ops.items old.stream.kept c.args.piece.now c.self.invariant (omega (arith, old.ops.ok.0, old.ops.ok.1, old.ops.small)) }
 
 pub invariant_of-self : goal.invariant_of-self
 invariant_of-self c =
