@@ -1,8 +1,8 @@
 -- The operations at the front of a list that make its first frame.
-use Rattle.std.proofs.Common.{◌≡◌, ℕ, ◌+◌, ◌<◌, ◌≤◌, ◌^◌, true, false, ltb, Bool, cond, List, [], ◌∷◌, ◌++◌, length, get_or, take, drop, Option, Some, None, refl, sym, ap, subst, ◌∙◌, arith, ◌⊎◌, inl, inr}
+use Rattle.std.proofs.Common.{◌≡◌, ℕ, ◌+◌, ◌<◌, ◌≤◌, true, false, ltb, Bool, cond, List, [], ◌∷◌, ◌++◌, length, get_or, take, drop, Option, Some, None, refl, sym, ap, subst, ◌∙◌, arith, ◌⊎◌, inl, inr}
 use Rattle.std.specs.List.{AllByRecursion}
-use Rattle.std.proofs.lemmas.Bool.{lt-ltb, le-ltb, cases_Bool}
-use Rattle.std.proofs.lemmas.List.{append-nil, length-append, length-take, take_all, drop_all, take_more, drop_more, get_or_read}
+use Rattle.std.proofs.lemmas.Bool.{lt-ltb, le-ltb}
+use Rattle.std.proofs.lemmas.List.{append-nil, length-append, drop_all, take_more, drop_more}
 use Rattle.bg_types.specs.Identifier.{Identifier}
 use Rattle.bg_types.specs.WellFormed.{IsWellFormed}
 use Rattle.bg_types.specs.declared.op.OpView.{OpView}
@@ -16,10 +16,10 @@ use Rattle.op_codec.proofs.Gathered.{alone, alone_is, grows, same_id, joined_is}
 abbrev pub frame_of : OpView → List OpView → Frame
 frame_of first further = record { first = first; further = inserted_characters further }
 
-pub inserted-more : (done : List OpView) (op : OpView) → inserted_characters (done ++ op ∷ []) ≡ inserted_characters done ++ inserted_characters (op ∷ [])
-inserted-more [] op = refl
-inserted-more (Insert i p c ∷ done) op = ap (λ (s : List ℕ). c ∷ s) (inserted-more done op)
-inserted-more (Erase t ∷ done) op = inserted-more done op
+pub inserted-append : (xs ys : List OpView) → inserted_characters (xs ++ ys) ≡ inserted_characters xs ++ inserted_characters ys
+inserted-append [] ys = refl
+inserted-append (Insert i p c ∷ xs) ys = ap (λ (s : List ℕ). c ∷ s) (inserted-append xs ys)
+inserted-append (Erase t ∷ xs) ys = inserted-append xs ys
 
 -- what is true of the operations that were gathered so far
 pub record IsGathered (first : OpView) (ops : List OpView) (i : ℕ) (last : Option Identifier) : Type 0 where
@@ -59,8 +59,8 @@ last-more (Insert i q d) chars (Insert id p c) ok joined =
     site_of (Erase x) = 0
 
 grown-is : (first : OpView) (done : List OpView) (op : OpView) → grown (frame_of first done) op ≡ frame_of first (done ++ op ∷ [])
-grown-is first done (Insert i p c) = λ j. record { first = first; further = sym (inserted-more done (Insert i p c)) j }
-grown-is first done (Erase t) = λ j. record { first = first; further = (sym (append-nil (inserted_characters done)) ∙ sym (inserted-more done (Erase t))) j }
+grown-is first done (Insert i p c) = λ j. record { first = first; further = sym (inserted-append done (Insert i p c ∷ [])) j }
+grown-is first done (Erase t) = λ j. record { first = first; further = (sym (append-nil (inserted_characters done)) ∙ sym (inserted-append done (Erase t ∷ []))) j }
 
 inserted_one : (before : Option Identifier) (op : OpView) → joins before op ≡ true → length (inserted_characters (op ∷ [])) ≡ 1
 inserted_one before (Insert i p c) e = refl
@@ -83,7 +83,7 @@ gathered_one first ops i last op next g inside is few joined ok next_is =
     let at_tip : joins (tip 1024 f) op ≡ true = (λ j. joins (cond (room j) (last_id first (inserted_characters done)) None) op) ∙ at_last in
     let grew = grows 1024 f op g.is_frame at_tip ok in
     let same : grown f op ≡ frame_of first (take (i + 1) ops) = grown-is first done op ∙ ap (λ (s : List OpView). frame_of first s) (sym more) in
-    let chars : inserted_characters (take (i + 1) ops) ≡ inserted_characters done ++ inserted_characters (op ∷ []) = ap inserted_characters more ∙ inserted-more done op in
+    let chars : inserted_characters (take (i + 1) ops) ≡ inserted_characters done ++ inserted_characters (op ∷ []) = ap inserted_characters more ∙ inserted-append done (op ∷ []) in
     record {
       is_frame = subst (λ (h : Frame). IsFrame 1024 h) same grew.is_frame;
       insertions = ap (λ (s : List ℕ). length s) chars ∙ omega (arith, length-append (inserted_characters done) (inserted_characters (op ∷ [])), inserted_one last op joined, g.insertions);

@@ -1,11 +1,13 @@
 -- The definitions at files that were worked out by hand.
-use Rattle.std.proofs.Common.{◌≡◌, ℕ, List, [], ◌∷◌, take, drop, Some, None, refl}
+use Rattle.std.proofs.Common.{◌≡◌, ℕ, List, [], ◌∷◌, take, drop, true, false, Some, None, refl}
 use Rattle.bg_types.specs.declared.op.Place.TheVariants.{Root, After}
+use Rattle.bg_types.specs.declared.op.OpView.{OpView}
 use Rattle.bg_types.specs.declared.op.OpView.TheVariants.{Insert, Erase}
 use Rattle.op_codec.specs.declared.fault.Cause.TheVariants.{BadMagic, BadVersion, Truncated, UnknownKind, BadLength, ZeroField, ParentNotBefore, CounterOverflow, NotAScalar, NotJoined}
 use Rattle.op_codec.specs.declared.position.Version.TheVariants.{One, Two}
 use Rattle.op_codec.specs.Spelling.{frame, spelling, spelling_in, tip_of}
 use Rattle.op_codec.specs.Fault.{header_cause, frame_cause, cause_at}
+use Rattle.op_codec.specs.Migration.{AreApart}
 
 -- (1,1) after the root, `a`, and (2,1) after (1,1), `b`
 abbrev two : List ℕ
@@ -67,6 +69,23 @@ frame_surrogate = refl
 spelling_in-two : spelling_in Two (Insert (record { counter = 1; site = 1 }) Root 0x61 ∷ Insert (record { counter = 2; site = 1 }) (After (record { counter = 1; site = 1 })) 0x62 ∷ [])
     ≡ 0x42 ∷ 0x47 ∷ 0x4F ∷ 0x50 ∷ 2 ∷ 0 ∷ 21 ∷ 3 ∷ 0 ∷ 0 ∷ 0 ∷ 1 ∷ 0 ∷ 1 ∷ 0 ∷ 0 ∷ 0 ∷ 0 ∷ 0 ∷ 0 ∷ 0 ∷ 0 ∷ 0 ∷ 0x61 ∷ 0 ∷ 0 ∷ 0 ∷ 0x62 ∷ []
 spelling_in-two = refl
+
+-- (1,1) after the root, `a`; (2,2) after (1,1), `x`; (3,2) after (2,2), `y`: the last two are a run
+abbrev three : List OpView
+three = Insert (record { counter = 1; site = 1 }) Root 0x61 ∷ Insert (record { counter = 2; site = 2 }) (After (record { counter = 1; site = 1 })) 0x78
+    ∷ Insert (record { counter = 3; site = 2 }) (After (record { counter = 2; site = 2 })) 0x79 ∷ []
+
+spelling_in-three : spelling_in Two three
+    ≡ 0x42 ∷ 0x47 ∷ 0x4F ∷ 0x50 ∷ 2 ∷ 0 ∷ 17 ∷ 1 ∷ 0 ∷ 0 ∷ 0 ∷ 1 ∷ 0 ∷ 1 ∷ 0 ∷ 0 ∷ 0 ∷ 0 ∷ 0 ∷ 0 ∷ 0 ∷ 0 ∷ 0 ∷ 0x61
+    ∷ 0 ∷ 21 ∷ 3 ∷ 0 ∷ 0 ∷ 0 ∷ 2 ∷ 0 ∷ 2 ∷ 0 ∷ 0 ∷ 0 ∷ 1 ∷ 0 ∷ 1 ∷ 0 ∷ 0 ∷ 0 ∷ 0x78 ∷ 0 ∷ 0 ∷ 0 ∷ 0x79 ∷ []
+spelling_in-three = refl
+
+-- the first two are apart, and the last is not
+apart_two : AreApart None (take 2 three)
+apart_two = (refl, (refl, tt))
+
+joined_three : AreApart None three → ⊥
+joined_three apart = let joined : true ≡ false = apart.1.1.0 in cc
 
 -- as two frames they are not joined
 frame_not_joined : cause_at Two (tip_of 1024 (Insert (record { counter = 1; site = 1 }) Root 0x61 ∷ [])) (drop 24 two) ≡ Some NotJoined

@@ -1,16 +1,15 @@
 -- Frames that are written one after the other.
-use Rattle.std.proofs.Common.{◌≡◌, ℕ, ◌+◌, ◌*◌, ◌<◌, List, [], ◌∷◌, ◌++◌, length, get_or, take, refl, sym, ap, ◌∙◌, append_assoc, arith}
-use Rattle.std.specs.List.{flat_map, AllByRecursion}
-use Rattle.std.proofs.lemmas.List.{append-nil, take_more, length-append}
+use Rattle.std.proofs.Common.{◌≡◌, ℕ, ◌+◌, ◌*◌, ◌<◌, ◌≤◌, List, [], ◌∷◌, ◌++◌, length, get_or, take, drop, sym, ap, ◌∙◌, append_assoc, arith}
+use Rattle.std.specs.List.{flat_map}
+use Rattle.std.proofs.lemmas.List.{take_more, take-append-drop, length-append}
 use Rattle.std.proofs.lemmas.List.Concat.{flat_map-cons, flat_map-append}
 use Rattle.byteorder.specs.Endian.{big_bytes}
-use Rattle.bg_types.specs.WellFormed.{IsWellFormed}
 use Rattle.bg_types.specs.declared.op.OpView.{OpView}
 use Rattle.bg_types.specs.declared.op.OpView.TheVariants.{Insert, Erase}
 use Rattle.op_codec.specs.Spelling.{Frame, frame, frame_fields, frame_bytes, bytes_with, frames_of}
 use Rattle.op_codec.specs.Gathering.{inserted_characters}
 use Rattle.op_codec.proofs.Characters.{length-bytes}
-use Rattle.op_codec.proofs.Gathers.{frame_of, inserted-more}
+use Rattle.op_codec.proofs.Gathers.{frame_of, inserted-append}
 
 -- ---- how long a frame is
 
@@ -39,8 +38,18 @@ pub characters_next : (ops : List OpView) (i : ℕ) (op : OpView) → i < length
     → flat_map (big_bytes 4) (inserted_characters (take (i + 1) ops)) ≡ flat_map (big_bytes 4) (inserted_characters (take i ops)) ++ flat_map (big_bytes 4) (inserted_characters (op ∷ []))
 characters_next ops i op inside is =
     let more : take (i + 1) ops ≡ take i ops ++ op ∷ [] = take_more ops i op inside ∙ ap (λ (x : OpView). take i ops ++ x ∷ []) (sym is) in
-    ap (λ (s : List OpView). flat_map (big_bytes 4) (inserted_characters s)) more ∙ ap (λ (s : List ℕ). flat_map (big_bytes 4) s) (inserted-more (take i ops) op)
+    ap (λ (s : List OpView). flat_map (big_bytes 4) (inserted_characters s)) more ∙ ap (λ (s : List ℕ). flat_map (big_bytes 4) s) (inserted-append (take i ops) (op ∷ []))
     ∙ flat_map-append (big_bytes 4) (inserted_characters (take i ops)) (inserted_characters (op ∷ []))
+
+-- the next character too has its place among all
+pub characters_left : (ops : List OpView) (i : ℕ) (op : OpView) → i < length ops → op ≡ get_or ops i op → length (inserted_characters (take i ops)) + length (inserted_characters (op ∷ [])) ≤ length (inserted_characters ops)
+characters_left ops i op inside is =
+    let more : take (i + 1) ops ≡ take i ops ++ op ∷ [] = take_more ops i op inside ∙ ap (λ (x : OpView). take i ops ++ x ∷ []) (sym is) in
+    let all = ap (λ (s : List OpView). length (inserted_characters s)) (sym (take-append-drop (i + 1) ops)) in
+    let parts = ap (λ (s : List ℕ). length s) (inserted-append (take (i + 1) ops) (drop (i + 1) ops)) in
+    let front = ap (λ (s : List OpView). length (inserted_characters s)) more in
+    let both = ap (λ (s : List ℕ). length s) (inserted-append (take i ops) (op ∷ [])) in
+    omega (arith, all, parts, front, both, length-append (inserted_characters (take (i + 1) ops)) (inserted_characters (drop (i + 1) ops)), length-append (inserted_characters (take i ops)) (inserted_characters (op ∷ [])))
 
 pub characters_pushed : (first out now : List ℕ) (ops : List OpView) (i : ℕ) (op : OpView) → i < length ops → op ≡ get_or ops i op → out ≡ first ++ flat_map (big_bytes 4) (inserted_characters (take i ops))
     → now ≡ out ++ flat_map (big_bytes 4) (inserted_characters (op ∷ [])) → now ≡ first ++ flat_map (big_bytes 4) (inserted_characters (take (i + 1) ops))

@@ -1,6 +1,7 @@
 //! Writing a whole operation file of version 2.
 
-ghost use Rattle.std.specs.Prelude.{◌≡◌, ◌<◌, ◌≤◌, ◌+◌, ◌-◌, ◌*◌, ◌^◌, ◌∷◌, ◌++◌, min, length, OnOk, IfOk};
+ghost use Rattle.std.specs.Prelude.{◌≡◌, ◌≤◌, ◌+◌, ◌-◌, ◌*◌, ◌^◌, ◌∷◌, ◌++◌, min, length, OnOk, IsOk, IfOk, vec_len};
+ghost use Rattle.std.specs.Vec.{vec_capacity};
 ghost use Rattle.std.specs.List.{flat_map};
 ghost use Rattle.byteorder.specs.Endian.{big_bytes};
 ghost use Rattle.op_codec.specs.Spelling.{frame_fields, frame_bytes, spelling_in, SpellsIn};
@@ -20,13 +21,13 @@ use std::alloc::Global;
 pub fn encode_file_v2(alloc: Global, ops: &[Op]) -> Result<Vec<u8>, Memory>
     ensures spelled { IfOk result (λ file. SpellsIn Version.Two file.items ops.now) }
 {
-    // The whole file has room, so nothing below grows it.
     let mut file = Vec::with_capacity(alloc, file_size(ops))?;
-    file.extend_from_slice(&MAGIC)?;
-    file.push(Version::Two.number())?;
+    // The whole file has room, so nothing below grows it.
+    file.extend_from_slice(&MAGIC).unwrap();
+    file.push(Version::Two.number()).unwrap();
     let mut rest = ops;
     while let Some(next) = gather(rest) {
-        write_frame(&next.first, next.further, &mut file)?;
+        write_frame(&next.first, next.further, &mut file).unwrap();
         rest = next.rest;
     }
     Ok(file)
@@ -49,7 +50,10 @@ fn file_size(ops: &[Op]) -> usize
 fn write_frame(first: &Op, further: &[Op], out: &mut Vec<u8>) -> Result<(), Memory>
     requires is_frame { IsFrame 1024 (record { first = first.now; further = inserted_characters further.now }) }
     requires insertions { length (inserted_characters further.now) ≡ length further.now }
-    ensures { OnOk result (out.new.items ≡ out.old.items ++ frame_bytes (record { first = first.now; further = inserted_characters further.now })) }
+    ensures ok { OnOk result (out.new.items ≡ out.old.items ++ frame_bytes (record { first = first.now; further = inserted_characters further.now })) }
+    // It fails only where room was missing, and never gives room back.
+    ensures room { vec_len out.old + length (frame_bytes (record { first = first.now; further = inserted_characters further.now })) ≤ vec_capacity out.old → IsOk result }
+    ensures capacity { vec_capacity out.old ≤ vec_capacity out.new }
 {
     match first.view() {
         OpView::Insert { id, parent, ch } if !further.is_empty() => {
@@ -75,7 +79,10 @@ fn run_front(id: Id, parent: &Place, ch: char, further: usize) -> [u8; INSERTION
 
 /// Writes the characters of the insertions at the end.
 fn write_characters(ops: &[Op], out: &mut Vec<u8>) -> Result<(), Memory>
-    ensures { OnOk result (out.new.items ≡ out.old.items ++ flat_map (big_bytes 4) (inserted_characters ops.now)) }
+    ensures ok { OnOk result (out.new.items ≡ out.old.items ++ flat_map (big_bytes 4) (inserted_characters ops.now)) }
+    // It fails only where room was missing, and never gives room back.
+    ensures room { vec_len out.old + 4 * length (inserted_characters ops.now) ≤ vec_capacity out.old → IsOk result }
+    ensures capacity { vec_capacity out.old ≤ vec_capacity out.new }
 {
     for op in ops {
         match op.view() {

@@ -1,9 +1,9 @@
 //! Operations gathered into frames of version 2.
 
-ghost use Rattle.std.specs.Prelude.{◌≡◌, ◌≤◌, ◌+◌, [], ◌∷◌, ◌++◌, length, take, drop, IfSome, IfNone};
+ghost use Rattle.std.specs.Prelude.{◌≡◌, ◌≤◌, [], ◌∷◌, ◌++◌, length, take, drop, IfSome, IfNone};
 ghost use Rattle.std.specs.List.{AllByRecursion};
 ghost use Rattle.bg_types.specs.WellFormed.{IsWellFormed};
-ghost use Rattle.op_codec.specs.Spelling.{Frame, last_id, frames_of};
+ghost use Rattle.op_codec.specs.Spelling.{last_id, frames_of};
 ghost use Rattle.op_codec.specs.Frames.{IsFrame};
 ghost use Rattle.op_codec.specs.Gathering.{inserted_characters};
 

@@ -1,5 +1,5 @@
 -- What stays true in the loop of `file_size` in version 2.
-use Rattle.std.proofs.Common.{◌≡◌, ◌≤◌, ◌+◌, ◌-◌, ◌^◌, length}
+use Rattle.std.proofs.Common.{◌≡◌, ◌≤◌, ◌-◌, ◌^◌, length}
 use Rattle.std.specs.Prelude.{min}
 use Rattle.op_codec.specs.declared.position.Version.TheVariants.{Two}
 use Rattle.op_codec.specs.Spelling.{spelling_in}
