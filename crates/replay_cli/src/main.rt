@@ -1,8 +1,9 @@
 //! The program `bidigrid`: operation files become text, drawn grids, walks of a caret, listings and files
-//! of version 2, and listings become files.
+//! of version 2, and listings and what is typed become files.
 #![tactic(auto)]
 
 mod files;
+mod folder;
 mod key;
 mod report;
 mod request;
@@ -10,18 +11,20 @@ mod words;
 
 use bg_types::{Device, Out};
 pub use cli_support::Stop;
-use cli_support::{Unread, end, flush, read, read_data};
+use cli_support::{LIMIT, Unread, end, flush, read, read_data, read_whole, tell};
 pub use desk_runs::{
     Move, RunFault, ScheduleFault, TakeFault, Ucd, carets, carets_from, replay, replay_from,
     status, text, text_from,
 };
+pub use desk_typing::{Change, TypingFault, typed};
 use files::{open_all, path_of};
+use folder::folder_of;
 use key::draw_key;
 pub use op_listing::{LineFault, dump, migrate, pack};
 use report::PROGRAM;
 pub use report::report;
-pub use request::{Job, Replay, Walk};
-use std::io::{self, BufWriter, Write};
+pub use request::{Job, Replay, Typing, Walk};
+use std::io::{self, BufWriter, ErrorKind, Write};
 use std::process::ExitCode;
 pub use words::job;
 
@@ -34,6 +37,7 @@ fn main(rt: HostRuntime) -> ExitCode {
         Ok(Job::Text { files }) => run_text(&rt, files.as_slice()),
         Ok(Job::Replay(job)) => run_replay(&rt, &job),
         Ok(Job::Caret(job)) => run_caret(&rt, &job),
+        Ok(Job::Type(job)) => run_type(&rt, &job),
         Ok(Job::Dump { file }) => run_dump(&rt, file),
         Ok(Job::Migrate { file }) => run_migrate(&rt, file),
         Ok(Job::Pack { listing }) => run_pack(&rt, listing),
@@ -56,7 +60,11 @@ fn run_text(rt: &HostRuntime, paths: &[&str]) -> ExitCode {
 }
 
 fn run_replay(rt: &HostRuntime, job: &Replay) -> ExitCode {
-    let data = match read_data(rt, job.folder) {
+    let folder = match folder_of(rt, job.folder) {
+        Ok(folder) => folder,
+        Err(stop) => return stop_at(rt, &stop),
+    };
+    let data = match read_data(rt, folder.as_str()) {
         Ok(data) => data,
         Err(unread) => return lose(rt, &unread),
     };
@@ -65,7 +73,7 @@ fn run_replay(rt: &HostRuntime, job: &Replay) -> ExitCode {
         Err(unread) => return lose(rt, &unread),
     };
     let schedule = match job.schedule {
-        Some(path) => match read(rt, path) {
+        Some(path) => match read_one(rt, path) {
             Ok(bytes) => Some(bytes),
             Err(unread) => return lose(rt, &unread),
         },
@@ -88,7 +96,11 @@ fn run_replay(rt: &HostRuntime, job: &Replay) -> ExitCode {
 }
 
 fn run_caret(rt: &HostRuntime, job: &Walk) -> ExitCode {
-    let data = match read_data(rt, job.folder) {
+    let folder = match folder_of(rt, job.folder) {
+        Ok(folder) => folder,
+        Err(stop) => return stop_at(rt, &stop),
+    };
+    let data = match read_data(rt, folder.as_str()) {
         Ok(data) => data,
         Err(unread) => return lose(rt, &unread),
     };
@@ -113,8 +125,64 @@ fn run_caret(rt: &HostRuntime, job: &Walk) -> ExitCode {
     finish(rt, done, job.files.as_slice(), &mut buffered)
 }
 
+fn run_type(rt: &HostRuntime, job: &Typing) -> ExitCode {
+    let text = match typed_bytes(rt, job.text) {
+        Ok(bytes) => bytes,
+        Err(unread) => return lose(rt, &unread),
+    };
+    let mut files = match open_all(rt, job.files.as_slice()) {
+        Ok(files) => files,
+        Err(unread) => return lose(rt, &unread),
+    };
+    let Ok(mut buffered) = BufWriter::new(rt.alloc(), io::writer(rt)) else {
+        return refuse(rt, &RunFault::Memory, "");
+    };
+    let change = Change {
+        site: job.site,
+        place: job.place,
+        erased: job.erased,
+    };
+    let key = draw_key(rt);
+    let out = &mut Out::new(&mut buffered);
+    match typed(rt.alloc(), key, &mut files, &change, text.as_slice(), out) {
+        Ok(()) => finish(rt, Ok(()), &[], &mut buffered),
+        Err(TypingFault::Run(fault)) => {
+            finish(rt, Err(fault), job.files.as_slice(), &mut buffered)
+        }
+        Err(fault) => {
+            let _unheard = tell(PROGRAM, &fault, &mut Out::new(rt.stderr()));
+            ExitCode::from(fault.status())
+        }
+    }
+}
+
+/// The bytes that are typed: those of a word, or of standard input.
+fn typed_bytes(rt: &HostRuntime, text: Option<&str>) -> Result<Vec<u8>, Unread> {
+    match text {
+        Some(text) => Ok(text.as_bytes().to_vec(rt.alloc())?),
+        None => read_input(rt),
+    }
+}
+
+/// The bytes of the file of a path, or of standard input at `-`.
+fn read_one(rt: &HostRuntime, path: &str) -> Result<Vec<u8>, Unread> {
+    if path == "-" {
+        return read_input(rt);
+    }
+    read(rt, path)
+}
+
+/// The bytes of standard input, up to the limit of files that are read whole.
+fn read_input(rt: &HostRuntime) -> Result<Vec<u8>, Unread> {
+    match read_whole(rt.alloc(), rt.stdin(), LIMIT) {
+        Ok(Some(bytes)) => Ok(bytes),
+        Err(error) if error.kind() == ErrorKind::OutOfMemory => Err(Unread::Memory),
+        _ => Err(Unread::ReadFailed(String::from_str(rt.alloc(), "-")?)),
+    }
+}
+
 fn run_dump(rt: &HostRuntime, path: &str) -> ExitCode {
-    let file = match read(rt, path) {
+    let file = match read_one(rt, path) {
         Ok(bytes) => bytes,
         Err(unread) => return lose(rt, &unread),
     };
@@ -131,7 +199,7 @@ fn run_dump(rt: &HostRuntime, path: &str) -> ExitCode {
 }
 
 fn run_migrate(rt: &HostRuntime, path: &str) -> ExitCode {
-    let file = match read(rt, path) {
+    let file = match read_one(rt, path) {
         Ok(bytes) => bytes,
         Err(unread) => return lose(rt, &unread),
     };
@@ -148,7 +216,7 @@ fn run_migrate(rt: &HostRuntime, path: &str) -> ExitCode {
 }
 
 fn run_pack(rt: &HostRuntime, path: &str) -> ExitCode {
-    let listing = match read(rt, path) {
+    let listing = match read_one(rt, path) {
         Ok(bytes) => bytes,
         Err(unread) => return lose(rt, &unread),
     };

@@ -1,6 +1,6 @@
 //! What a command line asks for.
 
-ghost use Rattle.std.specs.Prelude.{◌≤◌, vec_len};
+ghost use Rattle.std.specs.Prelude.{◌<◌, ◌≤◌, vec_len};
 
 use bg_types::Base;
 use desk_runs::Move;
@@ -14,6 +14,8 @@ pub enum Job<'a> {
     Replay(Replay<'a>),
     /// Tell where a caret comes to.
     Caret(Walk<'a>),
+    /// Write the operation file of what a site types.
+    Type(Typing<'a>),
     /// Write the listing of this file.
     Dump { file: &'a str },
     /// Write this file in version 2.
@@ -25,8 +27,8 @@ pub enum Job<'a> {
 /// Desks, one for each file, that are to be drawn.
 #[derive(Debug, Drop)]
 pub struct Replay<'a> {
-    /// The folder of the five data files.
-    pub folder: &'a str,
+    /// The folder of the five data files; that of the environment where there is none.
+    pub folder: Option<&'a str>,
     /// The width of a row in columns.
     pub width: u16,
     /// The base direction of each paragraph.
@@ -46,8 +48,8 @@ pub struct Replay<'a> {
 /// A walk of a caret over a text that is drawn.
 #[derive(Debug, Drop)]
 pub struct Walk<'a> {
-    /// The folder of the five data files.
-    pub folder: &'a str,
+    /// The folder of the five data files; that of the environment where there is none.
+    pub folder: Option<&'a str>,
     /// The width of a row in columns.
     pub width: u16,
     /// The base direction of each paragraph.
@@ -62,5 +64,22 @@ pub struct Walk<'a> {
     ghost at_least: { 2 ≤ width },
     ghost at_most: { width ≤ 500 },
     ghost files_at_least: { 1 ≤ vec_len files },
+    ghost files_at_most: { vec_len files ≤ 64 },
+}
+
+/// A change that a site makes to the text of files.
+#[derive(Debug, Drop)]
+pub struct Typing<'a> {
+    /// Who types.
+    pub site: u16,
+    /// Where, in characters of the text; its end where there is none.
+    pub place: Option<u32>,
+    /// How many characters are erased.
+    pub erased: u32,
+    /// What is typed; standard input where there is none.
+    pub text: Option<&'a str>,
+    /// The operation files, at most 64 of them.
+    pub files: Vec<&'a str>,
+    ghost site_positive: { 0 < site },
     ghost files_at_most: { vec_len files ≤ 64 },
 }

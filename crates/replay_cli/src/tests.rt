@@ -32,6 +32,7 @@ fn outcome(alloc: Global, words: &[String]) -> Result<usize, &'static str> {
         Ok(Job::Text { files }) => Ok(files.len()),
         Ok(Job::Replay(job)) => Ok(job.files.len()),
         Ok(Job::Caret(job)) => Ok(job.files.len()),
+        Ok(Job::Type(job)) => Ok(job.files.len()),
         Ok(Job::Dump { .. } | Job::Migrate { .. } | Job::Pack { .. }) => Err("another job"),
         Err(stop) => match stop {
             Stop::Help(_text) => Err("help"),
@@ -98,8 +99,9 @@ fn put_files(alloc: Global, words: &mut Vec<String>, count: usize) -> Result<(),
 
 #[test]
 fn wrong_words_are_a_usage_fault_and_help_is_none(rt: HostRuntime) -> Result<(), Fail> {
-    let rows: [(&[&str], &str); 7] = [
+    let rows: [(&[&str], &str); 8] = [
         (&["bidigrid"], "usage"),
+        (&["bidigrid", "--version"], "help"),
         (&["bidigrid", "paint"], "usage"),
         (&["bidigrid", "text"], "usage"),
         (&["bidigrid", "text", "--width", "4", "file"], "usage"),
@@ -135,7 +137,8 @@ fn caret_takes_a_place_and_moves(rt: HostRuntime) -> Result<(), Fail> {
         let Ok(Job::Caret(job)) = job(rt.alloc(), words.as_slice()) else {
             return Err(Fail::from("no caret"));
         };
-        assert_eq!(rt; (job.folder, job.width, job.place), ("dir", 8, 3));
+        assert_eq!(rt; (job.width, job.place), (8, 3));
+        assert_eq!(rt; job.folder, Some("dir"));
         assert_eq!(rt; job.moves.as_slice(), moves);
         assert_eq!(rt; job.files.as_slice(), ["a"].as_slice());
     }
@@ -177,18 +180,17 @@ fn replay_takes_a_folder_a_width_and_a_schedule(rt: HostRuntime) -> Result<(), F
         let Ok(Job::Replay(job)) = job(rt.alloc(), words.as_slice()) else {
             return Err(Fail::from("no replay"));
         };
-        assert_eq!(rt; job.folder, "dir");
+        assert_eq!(rt; job.folder, Some("dir"));
         assert_eq!(rt; job.schedule.is_some(), has);
         assert_eq!(rt; job.schedule.unwrap_or(""), schedule);
         assert_eq!(rt; job.files.as_slice(), ["a", "b"].as_slice());
     }
-    let rows: [(&[&str], &str); 9] = [
+    let rows: [(&[&str], &str); 8] = [
         (&["--ucd", "d", "--width", "1", "a"], "usage"),
         (&["--ucd", "d", "--width", "501", "a"], "usage"),
         (&["--ucd", "d", "--width", "65536", "a"], "usage"),
         (&["--ucd", "d", "--width", "x", "a"], "usage"),
         (&["--ucd", "d", "a"], "usage"),
-        (&["--width", "4", "a"], "usage"),
         (&["--ucd", "d", "--width", "4"], "usage"),
         (&["--ucd", "d", "--width", "4", "--schedule"], "usage"),
         (&["--help"], "help"),
@@ -254,6 +256,7 @@ fn chosen(alloc: Global, words: &[String]) -> Option<(Base, bool)> {
         Ok(Job::Replay(job)) => Some((job.base, job.wide_ambiguous)),
         Ok(Job::Caret(job)) => Some((job.base, job.wide_ambiguous)),
         Ok(Job::Text { files: _files }) => None,
+        Ok(Job::Type(_job)) => None,
         Ok(Job::Dump { .. } | Job::Migrate { .. } | Job::Pack { .. }) => None,
         Err(_stop) => None,
     }
@@ -309,6 +312,45 @@ fn dump_migrate_and_pack_take_one_file(rt: HostRuntime) -> Result<(), Fail> {
         ] {
             assert_eq!(rt; outcome(rt.alloc(), words.as_slice()), Err("usage"));
         }
+    }
+    Ok(())
+}
+
+#[test]
+fn type_takes_a_site_a_change_and_files(rt: HostRuntime) -> Result<(), Fail> {
+    let rows: [(&[&str], Option<u32>, u32, Option<&str>, &[&str]); 3] = [
+        (&["--site=7"], None, 0, None, &[]),
+        (&["--site", "7", "a", "b"], None, 0, None, &["a", "b"]),
+        (
+            &["--site=7", "a", "--at=3", "--erase=2", "--text=x y"],
+            Some(3),
+            2,
+            Some("x y"),
+            &["a"],
+        ),
+    ];
+    for (more, place, erased, text, files) in rows {
+        let mut words = line(rt.alloc(), &["bidigrid", "type"])?;
+        for word in more {
+            words.push(String::from_str(rt.alloc(), word)?)?;
+        }
+        let Ok(Job::Type(job)) = job(rt.alloc(), words.as_slice()) else {
+            return Err(Fail::from("no change"));
+        };
+        assert_eq!(rt; (job.site, job.place, job.erased), (7, place, erased));
+        assert_eq!(rt; job.text, text);
+        assert_eq!(rt; job.files.as_slice(), files);
+    }
+    let rows: [&[&str]; 5] = [
+        &["bidigrid", "type", "a"],
+        &["bidigrid", "type", "--site", "0"],
+        &["bidigrid", "type", "--site", "65536"],
+        &["bidigrid", "type", "--site", "1", "--at", "-1"],
+        &["bidigrid", "type", "--site", "1", "--erase", "x"],
+    ];
+    for words in rows {
+        let words = line(rt.alloc(), words)?;
+        assert_eq!(rt; outcome(rt.alloc(), words.as_slice()), Err("usage"));
     }
     Ok(())
 }

@@ -1,8 +1,8 @@
 //! The command line, read by `clap`.
 
-ghost use Rattle.std.specs.Prelude.{◌≤◌, IfOk, vec_len};
+ghost use Rattle.std.specs.Prelude.{◌<◌, ◌≤◌, IfOk, vec_len};
 
-use crate::request::{Job, Replay, Walk};
+use crate::request::{Job, Replay, Typing, Walk};
 use bg_types::Base;
 use clap::{Arg, ArgAction, ArgMatches, Command, value_parser};
 use cli_support::Stop;
@@ -12,6 +12,9 @@ use std::alloc::{AllocError, Global};
 const ABOUT: &str = "Replays the editing operations of several desks.\n\n\
     Several desks edit one text, and each keeps what it did in operation files. Desks that hold\n\
     the same operations show the same text, whatever the order in which these came.";
+
+/// What `--version` tells after the program's name.
+const VERSION: &str = "0.1.0, Unicode 15.0";
 
 const TEXT_ABOUT: &str = "Writes the text that the operations of the files make";
 
@@ -59,7 +62,8 @@ const AT_HELP: &str = "The place where the caret begins, in code points of the t
 
 const MOVES_HELP: &str = "The moves, a letter each: l, r, u or d";
 
-const UCD_HELP: &str = "The folder of the five data files";
+const UCD_HELP: &str =
+    "The folder of the five data files; if it is left out, the one that BIDIGRID_UCD names";
 
 const WIDTH_HELP: &str = "The width of a row, 2 to 500 columns";
 
@@ -75,7 +79,33 @@ const AMBIGUOUS_HELP: &str =
 /// The words of `--ambiguous`.
 const WIDTHS: [&str; 2] = ["narrow", "wide"];
 
-const SCHEDULE_HELP: &str = "What the desks do, a line a step";
+const SCHEDULE_HELP: &str = "What the desks do, a line a step, or - for standard input";
+
+const TYPE_ABOUT: &str = "Writes the operation file of what a site types";
+
+const TYPE_LONG_ABOUT: &str =
+    "Writes the operation file of what a site types to standard output: it held all operations of the\n\
+    files, erased N characters from place P on, and typed the text there. Without files the text is\n\
+    new. The files and the new one together are then the old text with those N characters replaced\n\
+    by the typed ones, whatever the order of the files.\n\n\
+    Places count characters from 0; a character is a Unicode scalar value, and whether a place parts\n\
+    a letter from its marks is not asked. Who types gives all files that the site has typed before:\n\
+    one site is one person. Then no two insertions share an identifier. Where the text is not UTF-8, or\n\
+    a file is faulty, nothing is written.";
+
+const TYPE_EXAMPLE: &str = "Example:\n  bidigrid type --site 1 --text 'Hello' >hello.bgop\n  \
+    bidigrid type --site 2 --at 0 --erase 1 --text J hello.bgop >jello.bgop\n  \
+    bidigrid text hello.bgop jello.bgop";
+
+const SITE_HELP: &str = "The site that types, 1 to 65,535";
+
+const TYPE_AT_HELP: &str = "The place, in characters from 0; the text's end if it is left out";
+
+const ERASE_HELP: &str = "How many characters are erased from the place on";
+
+const TYPED_HELP: &str = "What is typed; standard input if it is left out";
+
+const ANY_FILES_HELP: &str = "Operation files, at most 64 of them";
 
 const DUMP_ABOUT: &str = "Writes an operation file as a listing";
 
@@ -109,11 +139,11 @@ const PACK_EXAMPLE: &str = "Example:\n  bidigrid pack examples/hello/hebrew.txt 
 
 const FILE_HELP: &str = "Operation files, 1 to 64 of them";
 
-const DUMP_HELP: &str = "An operation file";
+const DUMP_HELP: &str = "An operation file, or - for standard input";
 
-const MIGRATE_HELP: &str = "An operation file of either version";
+const MIGRATE_HELP: &str = "An operation file of either version, or - for standard input";
 
-const PACK_HELP: &str = "A listing";
+const PACK_HELP: &str = "A listing, or - for standard input";
 
 /// Reads the words of a command line, the program's name among them.
 pub fn job<'a>(alloc: Global, words: &'a [String]) -> Result<Job<'a>, Stop> {
@@ -133,8 +163,9 @@ pub fn job<'a>(alloc: Global, words: &'a [String]) -> Result<Job<'a>, Stop> {
         }),
         Some(("replay", replay)) => replay_job(alloc, replay),
         Some(("caret", caret)) => caret_job(alloc, caret),
+        Some(("type", typing)) => typing_job(alloc, typing),
         Some(("text", text)) => Ok(Job::Text {
-            files: files(alloc, text)?,
+            files: files(alloc, text, 1)?,
         }),
         _ => Ok(Job::Text {
             files: Vec::new(alloc),
@@ -144,43 +175,66 @@ pub fn job<'a>(alloc: Global, words: &'a [String]) -> Result<Job<'a>, Stop> {
 
 fn replay_job<'a>(alloc: Global, replay: &ArgMatches<'a>) -> Result<Job<'a>, Stop> {
     Ok(Job::Replay(Replay {
-        folder: replay.get_str("UCD").unwrap_or(""),
+        folder: replay.get_str("UCD"),
         width: width(alloc, replay)?,
         base: base(replay),
         wide_ambiguous: is_wide(replay),
         schedule: replay.get_str("SCHEDULE"),
-        files: files(alloc, replay)?,
+        files: files(alloc, replay, 1)?,
     }))
 }
 
 fn caret_job<'a>(alloc: Global, caret: &ArgMatches<'a>) -> Result<Job<'a>, Stop> {
     Ok(Job::Caret(Walk {
-        folder: caret.get_str("UCD").unwrap_or(""),
+        folder: caret.get_str("UCD"),
         width: width(alloc, caret)?,
         base: base(caret),
         wide_ambiguous: is_wide(caret),
         place: caret.get_one::<u32>("AT").unwrap_or(0),
         moves: moves(alloc, caret.get_str("MOVES").unwrap_or(""))?,
-        files: files(alloc, caret)?,
+        files: files(alloc, caret, 1)?,
     }))
 }
 
-/// The operation files, 1 to 64 of them in all: options may stand between them.
-fn files<'a>(alloc: Global, matches: &ArgMatches<'a>) -> Result<Vec<&'a str>, Stop>
-    ensures some { IfOk result (λ files. 1 ≤ vec_len files) }
+fn typing_job<'a>(alloc: Global, typing: &ArgMatches<'a>) -> Result<Job<'a>, Stop> {
+    Ok(Job::Type(Typing {
+        site: site(alloc, typing)?,
+        place: typing.get_one::<u32>("AT"),
+        erased: typing.get_one::<u32>("ERASE").unwrap_or(0),
+        text: typing.get_str("TEXT"),
+        files: files(alloc, typing, 0)?,
+    }))
+}
+
+/// The operation files, so many to 64 of them in all: options may stand between them.
+fn files<'a>(alloc: Global, matches: &ArgMatches<'a>, least: usize) -> Result<Vec<&'a str>, Stop>
+    ensures some { IfOk result (λ files. least ≤ vec_len files) }
     ensures at_most { IfOk result (λ files. vec_len files ≤ 64) }
 {
     let mut files = Vec::new(alloc);
     if let Some(paths) = matches.get_strs("FILE") {
         files.extend_from_slice(paths)?;
     }
-    if files.is_empty() || files.len() > 64 {
+    if files.len() < least || files.len() > 64 {
         let count = files.len();
         return Err(Stop::Usage(format!(in alloc;
-            "error: {count} values for '[FILE]...': 1 to 64 are asked for\n"
+            "error: {count} values for '[FILE]...': {least} to 64 are asked for\n"
         )?));
     }
     Ok(files)
+}
+
+/// The site is one that an identifier can have.
+fn site(alloc: Global, matches: &ArgMatches) -> Result<u16, Stop>
+    ensures { IfOk result (λ site. 0 < site) }
+{
+    let site = matches.get_one::<u16>("SITE").unwrap_or(0);
+    if site == 0 {
+        return Err(Stop::Usage(format!(in alloc;
+            "error: invalid value '{site}' for '--site <S>': {site} is not in 1..=65535\n"
+        )?));
+    }
+    Ok(site)
 }
 
 /// The width is one that the grid has.
@@ -239,10 +293,12 @@ fn command<'a>(alloc: Global) -> Result<Command<'a>, AllocError> {
     Command::new(alloc, "bidigrid")
         .bin_name("bidigrid")?
         .about(ABOUT)
+        .version(VERSION)
         .subcommand_required(true)
         .subcommand(text_command(alloc)?)?
         .subcommand(replay_command(alloc)?)?
         .subcommand(caret_command(alloc)?)?
+        .subcommand(type_command(alloc)?)?
         .subcommand(dump_command(alloc)?)?
         .subcommand(migrate_command(alloc)?)?
         .subcommand(pack_command(alloc)?)
@@ -261,7 +317,6 @@ fn ucd_arg<'a>(alloc: Global) -> Arg<'a> {
         .long("ucd")
         .value_name("DIR")
         .help(UCD_HELP)
-        .required(true)
         .action(ArgAction::Set)
 }
 
@@ -301,6 +356,52 @@ fn files_arg<'a>(alloc: Global) -> Arg<'a> {
         .required(true)
         .num_args(1..=64)
         .action(ArgAction::Append)
+}
+
+fn type_command<'a>(alloc: Global) -> Result<Command<'a>, AllocError> {
+    let site = Arg::new(alloc, "SITE")
+        .long("site")
+        .value_name("S")
+        .help(SITE_HELP)
+        .required(true)
+        .value_parser(value_parser!(u16))
+        .action(ArgAction::Set);
+    let at = number_arg(alloc, "AT", "at", "P", TYPE_AT_HELP);
+    let erase = number_arg(alloc, "ERASE", "erase", "N", ERASE_HELP);
+    let text = Arg::new(alloc, "TEXT")
+        .long("text")
+        .value_name("WORDS")
+        .help(TYPED_HELP)
+        .action(ArgAction::Set);
+    let files = Arg::new(alloc, "FILE")
+        .help(ANY_FILES_HELP)
+        .num_args(1..=64)
+        .action(ArgAction::Append);
+    Command::new(alloc, "type")
+        .about(TYPE_ABOUT)
+        .long_about(TYPE_LONG_ABOUT)
+        .after_help(TYPE_EXAMPLE)
+        .arg(site)?
+        .arg(at)?
+        .arg(erase)?
+        .arg(text)?
+        .arg(files)
+}
+
+/// An option that takes a number of characters.
+fn number_arg<'a>(
+    alloc: Global,
+    id: &'a str,
+    long: &'a str,
+    value: &'a str,
+    help: &'a str,
+) -> Arg<'a> {
+    Arg::new(alloc, id)
+        .long(long)
+        .value_name(value)
+        .help(help)
+        .value_parser(value_parser!(u32))
+        .action(ArgAction::Set)
 }
 
 fn caret_command<'a>(alloc: Global) -> Result<Command<'a>, AllocError> {
