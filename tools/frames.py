@@ -22,6 +22,21 @@ def run(first, further):
     return struct.pack(">HB", 17 + 4 * len(further), 3) + first[3:] + b"".join(further) if further else first
 
 
+def frames(file):
+    """The frames of a file of either version, each of one operation: a run's are its insertions."""
+    at = 5
+    while at < len(file):
+        end = at + 2 + int.from_bytes(file[at : at + 2], "big")
+        if file[at + 2] == 3:
+            counter, site, *parent = struct.unpack_from(">IHIH", file, at + 3)
+            for number, (scalar,) in enumerate(struct.iter_unpack(">I", file[at + 15 : end]), counter):
+                yield insertion((number, site), parent, scalar)
+                parent = (number, site)
+        else:
+            yield file[at:end]
+        at = end
+
+
 def gathered(frames):
     """Frames of version 1 as those of version 2: insertions that join the one before are one run."""
     first, further, last = None, [], None

@@ -4,7 +4,7 @@ use Rattle.std.specs.Prelude.{IfErr, IsErrAnd}
 use Rattle.std.specs.Str.{chars, IsUtf8}
 use Rattle.bg_types.specs.OperationSet.{OperationSet}
 use Rattle.bg_types.specs.declared.op.OpView.{OpView}
-use Rattle.op_codec.specs.declared.position.Version.TheVariants.{One}
+use Rattle.op_codec.specs.declared.position.Version.{Version}
 use Rattle.op_codec.specs.Spelling.{SpellsIn}
 use Rattle.desk_runs.specs.declared.run_fault.RunFault.TheVariants.{Memory}
 use Rattle.desk_runs.specs.Readers.{AreTold}
@@ -43,6 +43,6 @@ module _ (readers : List (Option (List ℕ))) (lost : List Bool) (change : Chang
   unfit Full h = unfit_for Full h
   unfit CounterSpent h = unfit_for CounterSpent h
 
-  pub file_made : (ops : List OpView) (file : List ℕ) → Fits s change (chars text) → SpellsIn One file ops → ops ≡ operations_of s change (chars text) → AreTold readers lost (λ files. IsTypedFile files change text file)
-  file_made ops file fits spelled are = told_so readers lost (λ files. IsSetOfFiles files s) (λ files. IsTypedFile files change text file)
-      (λ files of_files. record { set = s; of_files = of_files; utf8 = utf8; fits = fits; spelled = subst (SpellsIn One file) are spelled }) told
+  pub file_made : (version : Version) (ops : List OpView) (file : List ℕ) → Fits s change (chars text) → SpellsIn version file ops → ops ≡ operations_of s change (chars text) → AreTold readers lost (λ files. IsTypedFile version files change text file)
+  file_made version ops file fits spelled are = told_so readers lost (λ files. IsSetOfFiles files s) (λ files. IsTypedFile version files change text file)
+      (λ files of_files. record { set = s; of_files = of_files; utf8 = utf8; fits = fits; spelled = subst (SpellsIn version file) are spelled }) told

@@ -12,7 +12,7 @@ use Rattle.bg_types.specs.declared.op.Place.{Place}
 use Rattle.bg_types.specs.declared.op.Place.TheVariants.{Root, After}
 use Rattle.bg_types.specs.declared.op.OpView.{OpView}
 use Rattle.bg_types.specs.declared.op.OpView.TheVariants.{Erase}
-use Rattle.op_codec.specs.declared.position.Version.TheVariants.{One}
+use Rattle.op_codec.specs.declared.position.Version.{Version}
 use Rattle.op_codec.specs.Spelling.{Spells, SpellsIn, followers}
 use Rattle.rga_tree.specs.TextOf.{text, visible, visible_ids}
 use Rattle.rga_tree.proofs.Interface.{Entry}
@@ -138,16 +138,16 @@ module _ (laws : EditLaws) (s : OperationSet) (change : Change) (typed : List �
   pub size_is : size (with_operations s (operations_of s change typed)) ≤ 1_000_000
   size_is = let most = size-with_operations s (operations_of s change typed) joins in omega (arith, most, count_is, fits.room)
 
-  pub file_within : (file : List ℕ) → SpellsIn One file (operations_of s change typed) → length file ≤ limit
-  file_within file spelled =
+  pub file_within : (version : Version) (file : List ℕ) → SpellsIn version file (operations_of s change typed) → length file ≤ limit
+  file_within version file spelled =
       let same = ap length spelled.bytes in
-      let most = file_size One (operations_of s change typed) in
+      let most = file_size version (operations_of s change typed) in
       omega (arith, same, most, count_is, fits.room)
 
 -- ---- files
 
 module _ (one_list : (file : List ℕ) (a b : List OpView) → Spells file a → Spells file b → a ≡ b) (laws : EditLaws)
-    (files more : List (List ℕ)) (change : Change) (words file : List ℕ) (is_typed : IsTypedFile files change words file) (same : HaveSameFiles more (files ++ file ∷ [])) where
+    (version : Version) (files more : List (List ℕ)) (change : Change) (words file : List ℕ) (is_typed : IsTypedFile version files change words file) (same : HaveSameFiles more (files ++ file ∷ [])) where
   abbrev s : OperationSet
   s = is_typed.set
 
@@ -162,8 +162,8 @@ module _ (one_list : (file : List ℕ) (a b : List OpView) → Spells file a →
 
   read_new : IsReadAs file ops
   read_new = record {
-    spelled = record { version = One; spelled = is_typed.spelled };
-    within = file_within laws is_typed.set change (chars words) well_formed is_typed.fits is_typed.spelled.well_formed file is_typed.spelled;
+    spelled = record { version = version; spelled = is_typed.spelled };
+    within = file_within laws is_typed.set change (chars words) well_formed is_typed.fits is_typed.spelled.well_formed version file is_typed.spelled;
   }
 
   -- each of the files is read as its operations

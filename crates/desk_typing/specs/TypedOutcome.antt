@@ -5,7 +5,7 @@ use Rattle.std.specs.Str.Lossy.{utf8_valid_len}
 use Rattle.std.specs.Io.KnownBytes.{Appends}
 use Rattle.bg_types.specs.OperationSet.{OperationSet}
 use Rattle.bg_types.specs.Sink.{AppendsBeginning}
-use Rattle.op_codec.specs.declared.position.Version.TheVariants.{One}
+use Rattle.op_codec.specs.declared.position.Version.{Version}
 use Rattle.op_codec.specs.Spelling.{SpellsIn}
 use Rattle.desk_runs.specs.declared.run_fault.RunFault.TheVariants.{Device}
 use Rattle.desk_runs.specs.Readers.{AreWorking, AreTold, EndsOver}
@@ -17,13 +17,13 @@ use Rattle.desk_typing.specs.declared.typing_fault.TypingFault.{TypingFault}
 use Rattle.desk_typing.specs.declared.typing_fault.TypingFault.TheVariants.{NotUtf8, Run, PastEnd, Full, CounterSpent}
 use Rattle.desk_typing.specs.Changing.{operations_of, Fits, IsUnfit}
 
--- the file spells what a site makes that holds all operations of the files, and types this text, in UTF-8
-pub record IsTypedFile (files : List (List ℕ)) (change : Change) (text file : List ℕ) : Type 0 where
+-- the file spells, in this version, what a site makes that holds all operations of the files, and types this text, in UTF-8
+pub record IsTypedFile (version : Version) (files : List (List ℕ)) (change : Change) (text file : List ℕ) : Type 0 where
   pub set : OperationSet
   pub of_files : IsSetOfFiles files set
   pub utf8 : IsUtf8 text
   pub fits : Fits set change (chars text)
-  pub spelled : SpellsIn One file (operations_of set change (chars text))
+  pub spelled : SpellsIn version file (operations_of set change (chars text))
 
 -- the text is UTF-8, and the change does not fit the set of all operations of the files
 pub record IsUnfitFor (files : List (List ℕ)) (change : Change) (text : List ℕ) (fault : TypingFault) : Type 0 where
@@ -42,21 +42,21 @@ IsUntyped readers lost change text Full = AreTold readers lost (λ files. IsUnfi
 IsUntyped readers lost change text CounterSpent = AreTold readers lost (λ files. IsUnfitFor files change text CounterSpent)
 
 -- the written bytes grew by the file of the change
-pub record WritesTyped (files : List (List ℕ)) (change : Change) (text : List ℕ) (old new : Option (List ℕ)) : Type 0 where
+pub record WritesTyped (version : Version) (files : List (List ℕ)) (change : Change) (text : List ℕ) (old new : Option (List ℕ)) : Type 0 where
   pub file : List ℕ
-  pub is_typed : IsTypedFile files change text file
+  pub is_typed : IsTypedFile version files change text file
   pub written : Appends old new file
 
 -- the written bytes grew by a beginning of that file
-pub record WritesTypedBeginning (files : List (List ℕ)) (change : Change) (text : List ℕ) (old new : Option (List ℕ)) : Type 0 where
+pub record WritesTypedBeginning (version : Version) (files : List (List ℕ)) (change : Change) (text : List ℕ) (old new : Option (List ℕ)) : Type 0 where
   pub file : List ℕ
-  pub is_typed : IsTypedFile files change text file
+  pub is_typed : IsTypedFile version files change text file
   pub written : AppendsBeginning old new file
 
 -- the outcome of a run over readers, by its answer: the file of the change is written; or nothing, where there is none; or a
 -- beginning of it, for a failed write
-abbrev pub IsTypedOutcome : (readers : List (Option (List ℕ))) (lost : List Bool) → Change → (text : List ℕ) (old new : Option (List ℕ)) (failed : Bool) → Result (Unit {0}) TypingFault → Type 0
-IsTypedOutcome readers lost change text old new failed (Ok done) = (failed ≡ false) × AreTold readers lost (λ files. WritesTyped files change text old new)
-IsTypedOutcome readers lost change text old new failed (Err fault) =
+abbrev pub IsTypedOutcome : Version → (readers : List (Option (List ℕ))) (lost : List Bool) → Change → (text : List ℕ) (old new : Option (List ℕ)) (failed : Bool) → Result (Unit {0}) TypingFault → Type 0
+IsTypedOutcome version readers lost change text old new failed (Ok done) = (failed ≡ false) × AreTold readers lost (λ files. WritesTyped version files change text old new)
+IsTypedOutcome version readers lost change text old new failed (Err fault) =
     (IsUntyped readers lost change text fault × IsSilent old new failed)
-    ⊎ ((fault ≡ Run Device) × (failed ≡ true) × AreTold readers lost (λ files. WritesTypedBeginning files change text old new))
+    ⊎ ((fault ≡ Run Device) × (failed ≡ true) × AreTold readers lost (λ files. WritesTypedBeginning version files change text old new))

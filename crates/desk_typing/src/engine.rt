@@ -2,6 +2,7 @@
 
 ghost use Rattle.std.specs.Prelude.{◌≡◌, ◌<◌, ◌⊎◌, false, map as each, IfOk, IfErr};
 ghost use Rattle.std.specs.Str.{chars};
+ghost use Rattle.op_codec.specs.Spelling.{SpellsIn};
 ghost use Rattle.desk_runs.specs.Readers.{AreWorking, AreTold};
 ghost use Rattle.desk_runs.specs.declared.run_fault.RunFault.TheVariants.{Memory as run_memory};
 ghost use Rattle.desk_typing.specs.declared.typing_fault.TypingFault.TheVariants.{Run as typing_run};
@@ -10,15 +11,16 @@ ghost use Rattle.desk_typing.specs.TypedOutcome.{IsTypedFile, IsUntyped, IsTyped
 use crate::change::Change;
 use crate::operations::operations;
 use crate::typing_fault::TypingFault;
-use bg_types::{Sink, put_all};
+use bg_types::{Memory, Op, Sink, put_all};
 use desk_runs::desk_of;
-use op_codec::{Source, encode_file};
+use op_codec::{Source, Version, encode_file, encode_file_v2};
 use std::alloc::Global;
 
 /// Writes the operation file of a change that a site makes to the text of all operations of the
 /// files: deletions, and then the insertions of the characters of a text in UTF-8, each after the one
-/// before. Nothing is written before all is made. The key keeps who does not know it from writing
-/// files that make the run slow.
+/// before. The file is of the version asked for; in version 2 what is typed has four bytes a character.
+/// Nothing is written before all is made. The key keeps who does not know it from writing files that
+/// make the run slow.
 ///
 /// What the files and the new one read as together is `laws::typed_text`; that its identifiers are new
 /// `laws::new_identifiers`.
@@ -28,31 +30,33 @@ pub fn typed<R: Source, S: Sink>(
     files: &mut [R],
     change: &Change,
     text: &[u8],
+    version: Version,
     out: &mut S,
 ) -> Result<(), TypingFault>
     requires site { 0 < change.now.site }
     requires readers { AreWorking (each R.has_failed files.old) }
     requires working { S.has_failed out.old ≡ false }
-    ensures { IsTypedOutcome (each R.remaining files.old) (each R.has_failed files.new) change.now text.now
+    ensures { IsTypedOutcome version (each R.remaining files.old) (each R.has_failed files.new) change.now text.now
         (S.written out.old) (S.written out.new) (S.has_failed out.new) result }
 {
-    let file = typed_file(alloc, key, files, change, text)?;
+    let file = typed_file(alloc, key, files, change, text, version)?;
     put_all(out, file.as_slice())?;
     Ok(())
 }
 
-/// The operation file of the change.
+/// The operation file of the change, of a version.
 fn typed_file<R: Source>(
     alloc: Global,
     key: u128,
     files: &mut [R],
     change: &Change,
     text: &[u8],
+    version: Version,
 ) -> Result<Vec<u8>, TypingFault>
     requires site { 0 < change.now.site }
     requires readers { AreWorking (each R.has_failed files.old) }
     ensures ok { IfOk result (λ file. AreTold (each R.remaining files.old) (each R.has_failed files.new)
-        (λ told. IsTypedFile told change.now text.now file.items)) }
+        (λ told. IsTypedFile version told change.now text.now file.items)) }
     ensures fault { IfErr result (IsUntyped (each R.remaining files.old) (each R.has_failed files.new) change.now text.now) }
 {
     let text = match std::str::from_utf8(text) {
@@ -65,8 +69,18 @@ fn typed_file<R: Source>(
     };
     let typed = code_points(alloc, text)?;
     let ops = operations(alloc, &mut desk, change, typed.as_slice())?;
-    let file = encode_file(alloc, ops.as_slice())?;
+    let file = encoded(alloc, version, ops.as_slice())?;
     Ok(file)
+}
+
+/// The file of operations, of a version.
+fn encoded(alloc: Global, version: Version, ops: &[Op]) -> Result<Vec<u8>, Memory>
+    ensures spelled { IfOk result (λ file. SpellsIn version file.items ops.now) }
+{
+    match version {
+        Version::One => encode_file(alloc, ops),
+        Version::Two => encode_file_v2(alloc, ops),
+    }
 }
 
 /// The code points of a text.

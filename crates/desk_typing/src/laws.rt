@@ -8,6 +8,7 @@ ghost use Rattle.bg_types.specs.OperationSet.{OperationSet, Holds, named_counter
 ghost use Rattle.bg_types.specs.declared.op.Place.{Place};
 ghost use Rattle.bg_types.specs.declared.op.OpView.{OpView};
 ghost use Rattle.bg_types.specs.declared.op.OpView.TheVariants.{Insert};
+ghost use Rattle.op_codec.specs.declared.position.Version.{Version};
 ghost use Rattle.rga_tree.specs.TextOf.{text};
 ghost use Rattle.desk_runs.specs.Files.{IsSetOfFiles};
 ghost use Rattle.desk_typing.specs.declared.change.Change.{Change};
@@ -20,10 +21,11 @@ use desk_runs::laws as runs;
 use op_codec::laws as codec;
 
 /// The files and the file of a change together read as the text of the files, with the erased
-/// characters replaced by the typed ones: in whatever order, and however often, the files are given.
+/// characters replaced by the typed ones: in whichever version it is written, in whatever order, and
+/// however often, the files are given.
 pub fn typed_text()
-    ensures { (files more : List (List ℕ)) (change : Change) (words file : List ℕ) (s : OperationSet)
-        → IsTypedFile files change words file → IsSetOfFiles files s → HaveSameFiles more (files ++ file ∷ [])
+    ensures { (version : Version) (files more : List (List ℕ)) (change : Change) (words file : List ℕ) (s : OperationSet)
+        → IsTypedFile version files change words file → IsSetOfFiles files s → HaveSameFiles more (files ++ file ∷ [])
         → ReadAs more (replaced (text s) (place_in s change) change.erased (chars words)) }
 {
     desks::typed_and_erased();

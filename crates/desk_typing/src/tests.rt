@@ -5,7 +5,7 @@ ghost use Rattle.std.specs.Prelude.{◌≡◌, ◌<◌, false};
 use super::*;
 use bg_types::{Out, Stops};
 use desk_runs::RunFault;
-use op_codec::{Gives, Source};
+use op_codec::{Gives, Source, Version};
 use op_listing::pack;
 use std::alloc::Global;
 use std::test::Fail;
@@ -41,9 +41,10 @@ fn run(
     listing: &str,
     change: &Change,
     text: &[u8],
+    version: Version,
 ) -> Result<(Result<(), TypingFault>, Vec<u8>), Fail> {
     let file = file_of(alloc, listing)?;
-    run_from(alloc, Gives::new(file.as_slice(), 7), change, text)
+    run_from(alloc, Gives::new(file.as_slice(), 7), change, text, version)
 }
 
 /// The same over the file of a reader.
@@ -52,6 +53,7 @@ fn run_from<'a>(
     reader: Gives<'a>,
     change: &Change,
     text: &[u8],
+    version: Version,
 ) -> Result<(Result<(), TypingFault>, Vec<u8>), Fail>
     requires { ⟦<Gives<'a> as Source>⟧.has_failed reader ≡ false }
 {
@@ -61,7 +63,7 @@ fn run_from<'a>(
     let mut bytes = Vec::new(alloc);
     let mut readers = [reader];
     let out = &mut Out::new(&mut bytes);
-    let answer = typed(alloc, KEY, &mut readers, change, text, out);
+    let answer = typed(alloc, KEY, &mut readers, change, text, version, out);
     Ok((answer, bytes))
 }
 
@@ -98,7 +100,7 @@ fn changes_become_operations(rt: HostRuntime) -> Result<(), Fail> {
         ),
     ];
     for (listing, change, text, wanted) in rows {
-        let (answer, bytes) = run(rt.alloc(), listing, &change, text.as_bytes())?;
+        let (answer, bytes) = run(rt.alloc(), listing, &change, text.as_bytes(), Version::One)?;
         let wanted = file_of(rt.alloc(), wanted)?;
         assert_eq!(rt; answer, Ok(()), "{listing} {change:?} {text}");
         assert_eq!(rt;
@@ -106,6 +108,43 @@ fn changes_become_operations(rt: HostRuntime) -> Result<(), Fail> {
             wanted.as_slice(),
             "{listing} {change:?} {text}"
         );
+    }
+    Ok(())
+}
+
+#[test]
+fn the_version_says_how_the_file_is_spelled(rt: HostRuntime) -> Result<(), Fail> {
+    let rows: [(Version, &str, Change, &[u8], &[u8]); 5] = [
+        (Version::One, "", change(1, None, 0), b"", b"BGOP\x01"),
+        (Version::Two, "", change(1, None, 0), b"", b"BGOP\x02"),
+        // The two files of docs/FORMATS.md.
+        (
+            Version::One,
+            "",
+            change(1, None, 0),
+            b"ab",
+            b"BGOP\x01\0\x11\x01\0\0\0\x01\0\x01\0\0\0\0\0\0\0\0\0a\0\x11\x01\0\0\0\x02\0\x01\0\0\0\x01\0\x01\0\0\0b",
+        ),
+        (
+            Version::Two,
+            "",
+            change(1, None, 0),
+            b"ab",
+            b"BGOP\x02\0\x15\x03\0\0\0\x01\0\x01\0\0\0\0\0\0\0\0\0a\0\0\0b",
+        ),
+        // A deletion, and then a run.
+        (
+            Version::Two,
+            ABC,
+            change(2, Some(1), 1),
+            b"xy",
+            b"BGOP\x02\0\x07\x02\0\0\0\x02\0\x01\0\x15\x03\0\0\0\x04\0\x02\0\0\0\x01\0\x01\0\0\0x\0\0\0y",
+        ),
+    ];
+    for (version, listing, change, text, wanted) in rows {
+        let (answer, bytes) = run(rt.alloc(), listing, &change, text, version)?;
+        assert_eq!(rt; answer, Ok(()), "{version:?} {text:?}");
+        assert_eq!(rt; bytes.as_slice(), wanted, "{version:?} {text:?}");
     }
     Ok(())
 }
@@ -125,12 +164,12 @@ fn faults_write_nothing(rt: HostRuntime) -> Result<(), Fail> {
         (ABC, change(2, Some(9), 0), b"\xD7", TypingFault::NotUtf8(0)),
     ];
     for (listing, change, text, wanted) in rows {
-        let (answer, bytes) = run(rt.alloc(), listing, &change, text)?;
+        let (answer, bytes) = run(rt.alloc(), listing, &change, text, Version::Two)?;
         assert_eq!(rt; answer, Err(wanted), "{change:?} {text:?}");
         assert_eq!(rt; bytes.is_empty(), true, "{change:?} {text:?}");
     }
     let lost = Gives::new(b"BGOP", 1).failing_after(3);
-    let (answer, bytes) = run_from(rt.alloc(), lost, &change(1, None, 0), b"x")?;
+    let (answer, bytes) = run_from(rt.alloc(), lost, &change(1, None, 0), b"x", Version::Two)?;
     assert_eq!(rt; answer, Err(TypingFault::Run(RunFault::ReadFailed(1))));
     assert_eq!(rt; bytes.is_empty(), true);
     Ok(())
@@ -142,9 +181,17 @@ fn a_write_that_fails_leaves_a_beginning(rt: HostRuntime) -> Result<(), Fail> {
     let mut readers: [Gives; 0] = [];
     let out = &mut Stops::new(Out::new(&mut bytes), 3, 7);
     let change = change(1, None, 0);
-    let answer = typed(rt.alloc(), KEY, &mut readers, &change, b"x", out);
+    let answer = typed(
+        rt.alloc(),
+        KEY,
+        &mut readers,
+        &change,
+        b"x",
+        Version::Two,
+        out,
+    );
     assert_eq!(rt; answer, Err(TypingFault::Run(RunFault::Device)));
-    assert_eq!(rt; bytes.as_slice(), b"BGOP\x01\x00\x11".as_slice());
+    assert_eq!(rt; bytes.as_slice(), b"BGOP\x02\x00\x11".as_slice());
     Ok(())
 }
 

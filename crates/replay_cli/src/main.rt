@@ -144,7 +144,15 @@ fn run_type(rt: &HostRuntime, job: &Typing) -> ExitCode {
     };
     let key = draw_key(rt);
     let out = &mut Out::new(&mut buffered);
-    match typed(rt.alloc(), key, &mut files, &change, text.as_slice(), out) {
+    match typed(
+        rt.alloc(),
+        key,
+        &mut files,
+        &change,
+        text.as_slice(),
+        job.version,
+        out,
+    ) {
         Ok(()) => finish(rt, Ok(()), &[], &mut buffered),
         Err(TypingFault::Run(fault)) => {
             finish(rt, Err(fault), job.files.as_slice(), &mut buffered)

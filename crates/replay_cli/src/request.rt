@@ -4,6 +4,7 @@ ghost use Rattle.std.specs.Prelude.{◌<◌, ◌≤◌, vec_len};
 
 use bg_types::Base;
 use desk_runs::Move;
+use op_codec::Version;
 
 /// The work to be done.
 #[derive(Debug, Drop)]
@@ -78,6 +79,8 @@ pub struct Typing<'a> {
     pub erased: u32,
     /// What is typed; standard input where there is none.
     pub text: Option<&'a str>,
+    /// The version of the file that is written.
+    pub version: Version,
     /// The operation files, at most 64 of them.
     pub files: Vec<&'a str>,
     ghost site_positive: { 0 < site },

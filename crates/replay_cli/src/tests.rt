@@ -2,7 +2,7 @@
 
 use super::*;
 use bg_types::{Base, Stops};
-use op_codec::{Cause, CodecFault};
+use op_codec::{Cause, CodecFault, Version};
 use std::alloc::Global;
 use std::test::Fail;
 use ucd_files::{UcdFault, UcdFile};
@@ -341,16 +341,38 @@ fn type_takes_a_site_a_change_and_files(rt: HostRuntime) -> Result<(), Fail> {
         assert_eq!(rt; job.text, text);
         assert_eq!(rt; job.files.as_slice(), files);
     }
-    let rows: [&[&str]; 5] = [
+    let rows: [&[&str]; 7] = [
         &["bidigrid", "type", "a"],
         &["bidigrid", "type", "--site", "0"],
         &["bidigrid", "type", "--site", "65536"],
         &["bidigrid", "type", "--site", "1", "--at", "-1"],
         &["bidigrid", "type", "--site", "1", "--erase", "x"],
+        &["bidigrid", "type", "--site", "1", "--version"],
+        &["bidigrid", "type", "--site", "1", "--version", "3"],
     ];
     for words in rows {
         let words = line(rt.alloc(), words)?;
         assert_eq!(rt; outcome(rt.alloc(), words.as_slice()), Err("usage"));
+    }
+    Ok(())
+}
+
+#[test]
+fn type_writes_version_2_if_it_is_not_told(rt: HostRuntime) -> Result<(), Fail> {
+    for (version, wanted) in [
+        (None, Version::Two),
+        (Some("1"), Version::One),
+        (Some("2"), Version::Two),
+    ] {
+        let mut words = line(rt.alloc(), &["bidigrid", "type", "--site=7"])?;
+        if let Some(version) = version {
+            words.push(String::from_str(rt.alloc(), "--version")?)?;
+            words.push(String::from_str(rt.alloc(), version)?)?;
+        }
+        let Ok(Job::Type(job)) = job(rt.alloc(), words.as_slice()) else {
+            return Err(Fail::from("no change"));
+        };
+        assert_eq!(rt; job.version, wanted);
     }
     Ok(())
 }

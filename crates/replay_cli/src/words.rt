@@ -7,6 +7,7 @@ use bg_types::Base;
 use clap::{Arg, ArgAction, ArgMatches, Command, value_parser};
 use cli_support::Stop;
 use desk_runs::Move;
+use op_codec::Version;
 use std::alloc::{AllocError, Global};
 
 const ABOUT: &str = "Replays the editing operations of several desks.\n\n\
@@ -91,7 +92,7 @@ const TYPE_LONG_ABOUT: &str =
     Places count characters from 0; a character is a Unicode scalar value, and whether a place parts\n\
     a letter from its marks is not asked. Who types gives all files that the site has typed before:\n\
     one site is one person. Then no two insertions share an identifier. Where the text is not UTF-8, or\n\
-    a file is faulty, nothing is written.";
+    a file is faulty, nothing is written. A further character has 4 bytes in version 2, 19 in version 1.";
 
 const TYPE_EXAMPLE: &str = "Example:\n  bidigrid type --site 1 --text 'Hello' >hello.bgop\n  \
     bidigrid type --site 2 --at 0 --erase 1 --text J hello.bgop >jello.bgop\n  \
@@ -104,6 +105,11 @@ const TYPE_AT_HELP: &str = "The place, in characters from 0; the text's end if i
 const ERASE_HELP: &str = "How many characters are erased from the place on";
 
 const TYPED_HELP: &str = "What is typed; standard input if it is left out";
+
+const TYPED_VERSION_HELP: &str = "The version of the file that is written";
+
+/// The words of `--version` of `type`.
+const VERSIONS: [&str; 2] = ["1", "2"];
 
 const ANY_FILES_HELP: &str = "Operation files, at most 64 of them";
 
@@ -202,6 +208,10 @@ fn typing_job<'a>(alloc: Global, typing: &ArgMatches<'a>) -> Result<Job<'a>, Sto
         place: typing.get_one::<u32>("AT"),
         erased: typing.get_one::<u32>("ERASE").unwrap_or(0),
         text: typing.get_str("TEXT"),
+        version: match typing.get_str("VERSION") {
+            Some("1") => Version::One,
+            _ => Version::Two,
+        },
         files: files(alloc, typing, 0)?,
     }))
 }
@@ -373,6 +383,13 @@ fn type_command<'a>(alloc: Global) -> Result<Command<'a>, AllocError> {
         .value_name("WORDS")
         .help(TYPED_HELP)
         .action(ArgAction::Set);
+    let version = Arg::new(alloc, "VERSION")
+        .long("version")
+        .value_name("V")
+        .help(TYPED_VERSION_HELP)
+        .value_parser(VERSIONS.as_slice())
+        .default_value("2")
+        .action(ArgAction::Set);
     let files = Arg::new(alloc, "FILE")
         .help(ANY_FILES_HELP)
         .num_args(1..=64)
@@ -385,6 +402,7 @@ fn type_command<'a>(alloc: Global) -> Result<Command<'a>, AllocError> {
         .arg(at)?
         .arg(erase)?
         .arg(text)?
+        .arg(version)?
         .arg(files)
 }
 

@@ -31,6 +31,6 @@ returns-in_err-file-clause-fault g c =
 pub returns-clause-ok : goal.returns-clause-ok
 returns-clause-ok g c =
     let typed : c.as_slice.result.now ≡ chars c.args.text.now = c.as_slice.ensures.value ∙ c.in_ok-typed.ensures.ok ∙ ap chars c.in-Ok.ensures.cases.0 in
-    file_made _ _ c.args.change.now c.args.text.now c.in-Ok.ensures.cases.1 c.in-Ok-desk_of.desk.set c.in-Ok-desk_of.ensures.ok c.as_slice-2.result.now c.in_ok-file.file.items
+    file_made _ _ c.args.change.now c.args.text.now c.in-Ok.ensures.cases.1 c.in-Ok-desk_of.desk.set c.in-Ok-desk_of.ensures.ok c.args.version c.as_slice-2.result.now c.in_ok-file.file.items
     (subst (λ (t : List ℕ). Fits c.in-Ok-desk_of.desk.set c.args.change.now t) typed c.in_ok-ops.ensures.fits) c.in_ok-file.ensures.spelled
     (c.as_slice-2.ensures.value ∙ c.in_ok-ops.ensures.ok ∙ ap (operations_of c.in-Ok-desk_of.desk.set c.args.change.now) typed)

@@ -10,8 +10,8 @@ use Rattle.desk_typing.proofs.Together.{read_together}
 use Rattle.desk_typing.proofs.laws.typed_text.Goals as goal
 
 pub returns : goal.returns
-returns c = λ files more change words file s is_typed of_files same.
+returns c = λ version files more change words file s is_typed of_files same.
     let laws : EditLaws = record { typed = c.typed_and_erased.ensures.typed; erased = c.typed_and_erased.ensures.erased; counter = c.typed_and_erased.ensures.counter } in
     subst (λ (x : OperationSet). ReadAs more (replaced (text x) (place_in x change) change.erased (chars words)))
     ((c.one_outcome.ensures files).one_set is_typed.set s is_typed.of_files of_files)
-    (read_together c.one_spelling.ensures.one_list laws files more change words file is_typed same)
+    (read_together c.one_spelling.ensures.one_list laws version files more change words file is_typed same)
