@@ -31,14 +31,36 @@ pub fn run<S: Sink>(alloc: Global, key: u128, out: &mut S) -> Result<(), Fault>
 {
     let tables = load_tables(alloc)?;
     let mut view = View::keyed(alloc, key, &tables, ROOM)?;
+    with_desks(alloc, key, &mut view, out)
+}
+
+/// Makes two desks, and lets them write and meet. There is one way out, since for each of a function
+/// that owns desks it is proved anew that they are freed.
+fn with_desks<S: Sink>(alloc: Global, key: u128, view: &mut View, out: &mut S) -> Result<(), Fault>
+    requires { S.has_failed out.old ≡ false }
+{
     let mut one = new_desk(alloc, 1, key);
     let mut other = new_desk(alloc, 2, key);
-    write_apart(alloc, &mut one, &mut other)?;
-    look(&mut view, &one, out)?;
-    look(&mut view, &other, out)?;
-    meet(&mut one, &mut other)?;
-    look(&mut view, &other, out)?;
-    point(alloc, &mut view, &one, out)
+    write_and_meet(alloc, &mut one, &mut other, view, out)
+}
+
+/// Lets two desks write apart and meet. What each shows before is written, then what both show, and
+/// where the caret and the mouse are in it.
+fn write_and_meet<S: Sink>(
+    alloc: Global,
+    one: &mut Desk,
+    other: &mut Desk,
+    view: &mut View,
+    out: &mut S,
+) -> Result<(), Fault>
+    requires { S.has_failed out.old ≡ false }
+{
+    write_apart(alloc, one, other)?;
+    look(view, one, out)?;
+    look(view, other, out)?;
+    meet(one, other)?;
+    look(view, other, out)?;
+    point(alloc, view, one, out)
 }
 
 /// The tables of the small data files that the tests use.
