@@ -1,0 +1,34 @@
+//! A program on the core: two desks write one text, which is drawn, walked through and pointed at.
+#![tactic(auto)]
+
+mod desks;
+mod fault;
+mod mouse;
+mod picture;
+mod session;
+mod walk;
+
+use bg_types::Out;
+pub use desks::{Desk, meet, new_desk, read_text, take_all, type_words};
+pub use fault::Fault;
+pub use mouse::{caret_before, place_under};
+pub use picture::{picture, show};
+pub use session::run;
+use std::io;
+use std::process::ExitCode;
+pub use walk::steps_right;
+
+/// The key of the hash tables. A program that takes operations from strangers draws it at random, so
+/// that they can't choose identifiers that share a slot.
+const KEY: u128 = 0;
+
+fn main(rt: HostRuntime) -> ExitCode {
+    let mut out = Out::new(io::writer(&rt));
+    match run(rt.alloc(), KEY, &mut out) {
+        Ok(()) => ExitCode::SUCCESS,
+        Err(fault) => {
+            let _unheard = rt.eprintln(fault);
+            ExitCode::FAILURE
+        }
+    }
+}
