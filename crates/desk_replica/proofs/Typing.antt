@@ -247,7 +247,7 @@ typed_desk t w own spare d c s view site k ch =
     subst (λ (x : Desk). k ≤ length (visible x.set) → IsWellFormed (insertion (typed x.set site k ch)) → IsTypedAt x.set (with_operation x.set (insertion (typed x.set site k ch))) k (typed x.set site k ch)) view
     (typed_at t w.held site k ch s.well_formed c s.parted)
 
--- what is typed has a new identifier, so that only want of memory is left to refuse it within the limit
+-- what is typed has a new identifier, so that only lack of memory is left to refuse it within the limit
 pub typed_refused : (s : OperationSet) (site k ch : ℕ) (fault : TakeFault) → size s < 1_000_000 → IsRefused s (insertion (typed s site k ch)) fault → fault ≡ Memory
 typed_refused s site k ch IdentifierReused few r = some_not r.0 _ (sym (new_ins s (record { counter = next s; site = site }) refl) ∙ r.1)
 typed_refused s site k ch Full few r = absurd (omega (arith, few, r.2))
