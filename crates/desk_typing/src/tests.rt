@@ -195,6 +195,32 @@ fn a_write_that_fails_leaves_a_beginning(rt: HostRuntime) -> Result<(), Fail> {
     Ok(())
 }
 
+/// With ample memory a change of a file is right, and where a growth is refused it says so, and nothing
+/// is written.
+#[test]
+fn a_change_is_right_or_says_memory(rt: HostRuntime) {
+    const FILE: &[u8] =
+        b"BGOP\x01\x00\x11\x01\x00\x00\x00\x01\x00\x01\x00\x00\x00\x00\x00\x00\x00\x00\x00\x61";
+    const MADE: &[u8] =
+        b"BGOP\x02\x00\x07\x02\x00\x00\x00\x01\x00\x01\x00\x11\x01\x00\x00\x00\x02\x00\x02\x00\x00\x00\x00\x00\x00\x00\x00\x00\x62";
+    let mut room = [0u8; 64];
+    let mut readers = [Gives::new(FILE, 7)];
+    let change = change(2, Some(0), 1);
+    let out = &mut Out::new(room.as_mut_slice());
+    match typed(
+        rt.alloc(),
+        KEY,
+        &mut readers,
+        &change,
+        b"b",
+        Version::Two,
+        out,
+    ) {
+        Ok(()) => assert!(rt; room.starts_with(MADE)),
+        Err(fault) => assert_eq!(rt; (fault, room[0]), (TypingFault::Run(RunFault::Memory), 0)),
+    }
+}
+
 #[test]
 fn faults_have_lines_numbers_and_statuses(rt: HostRuntime) -> Result<(), Fail> {
     let past = TypingFault::PastEnd {
