@@ -3,17 +3,17 @@
 
 mod desks;
 mod fault;
+mod meeting;
 mod mouse;
 mod picture;
-mod session;
 mod walk;
 
 use bg_types::Out;
 pub use desks::{Desk, meet, new_desk, read_text, take_all, type_words};
 pub use fault::Fault;
+pub use meeting::run;
 pub use mouse::{caret_before, place_under};
 pub use picture::{picture, show};
-pub use session::run;
 use std::io;
 use std::process::ExitCode;
 pub use walk::steps_right;

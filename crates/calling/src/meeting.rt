@@ -1,4 +1,4 @@
-//! The session: what the program does, one step after the other.
+//! The meeting: what the program does, one step after the other.
 
 ghost use Rattle.std.specs.Prelude.{◌≡◌, false, OnOk, encode_utf8_all};
 ghost use Rattle.std.specs.Io.KnownBytes.{Appends};
@@ -25,7 +25,7 @@ const ROOM: usize = 100;
 /// How far the caret walks from the text's start.
 const STEPS: usize = 5;
 
-/// Does the session, and writes what is seen, up to the first fault.
+/// Does it all, and writes what is seen, up to the first fault.
 pub fn run<S: Sink>(alloc: Global, key: u128, out: &mut S) -> Result<(), Fault>
     requires { S.has_failed out.old ≡ false }
 {
