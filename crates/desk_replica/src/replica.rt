@@ -59,8 +59,8 @@ impl<S: Sequence> Model for Replica<S> {
 }
 
 impl<S: Sequence> Replica<S> {
-    /// A desk of this site (at least 1) without operations, over an empty sequence. The key keeps
-    /// who does not know it from choosing identifiers that make the calls slow.
+    /// A desk of this site (at least 1) without operations, over an empty sequence. Where the
+    /// key is secret, nobody can choose identifiers that make the calls slow.
     pub fn new(alloc: Global, site: u16, seq: S, key: u128) -> Replica<S>
         requires site { 0 < site }
         requires empty { S.content seq ≡ no_operations }

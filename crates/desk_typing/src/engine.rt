@@ -19,8 +19,8 @@ use std::alloc::Global;
 /// Writes the operation file of a change that a site makes to the text of all operations of the
 /// files: deletions, and then the insertions of the characters of a text in UTF-8, each after the one
 /// before. The file is of the version asked for; in version 2 what is typed has four bytes a character.
-/// Nothing is written before all is made. The key keeps who does not know it from writing files that
-/// make the run slow.
+/// Nothing is written before all is made. Where the key is secret, nobody can write files that make the
+/// run slow.
 ///
 /// What the files and the new one read as together is `laws::typed_text`; that its identifiers are new
 /// `laws::new_identifiers`.

@@ -13,8 +13,8 @@ use op_codec::Source;
 use std::alloc::Global;
 
 /// Writes the text of all operations of the files, which one desk takes in order. Nothing is
-/// written before all are taken. Files are numbered from 1. The key keeps who does not know it
-/// from writing files that make the run slow.
+/// written before all are taken. Files are numbered from 1. Where the key is secret, nobody can
+/// write files that make the run slow.
 ///
 /// Which answer the files have is `laws::text_is_decided`.
 pub fn text<S: Sink>(
