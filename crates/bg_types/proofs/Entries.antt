@@ -1,4 +1,4 @@
--- The entries of a finite map by identifier: each stands there once, and is found.
+-- The entries of a finite map by identifier: each is there once, and is found.
 use Rattle.std.proofs.Common.{◌≡◌, Bool, true, false, cond, T, List, [], ◌∷◌, Some, refl, ap, ◌∙◌}
 use Rattle.std.specs.Prelude.{◌&&◌}
 use Rattle.std.specs.Ordering.{is_lt, is_eq, ordering_reverse}

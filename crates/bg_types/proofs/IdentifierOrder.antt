@@ -19,7 +19,7 @@ is_tied Less h = absurd cc
 is_tied Equal h = refl
 is_tied Greater h = absurd cc
 
--- the test tells equal identifiers
+-- the test recognizes equal identifiers
 pub same_id-is : (a b : Identifier) → same_id a b ≡ true → a ≡ b
 same_id-is a b h = id_cmp-exact a b (is_tied (id_cmp a b) h)
 

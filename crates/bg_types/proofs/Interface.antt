@@ -1,4 +1,4 @@
--- What proofs of the crates above may import of this crate's proofs. They import nothing else of them.
+-- What the proofs of crates above may import from this crate's proofs, and nothing else.
 pub use Rattle.bg_types.proofs.Bools.{neither, one_of, and_parts, or_left, or_right, or_swap}
 pub use Rattle.bg_types.proofs.IdentifierOrder.{id_cmp-total, id_cmp-exact, same_id-is, same_id-itself}
 pub use Rattle.bg_types.proofs.NextCounter.{next-above, next-least}

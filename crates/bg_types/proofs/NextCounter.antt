@@ -38,7 +38,7 @@ greatest-append : (xs ys : List ℕ) → greatest (xs ++ ys) ≡ max (greatest x
 greatest-append [] ys = omega arith
 greatest-append (x ∷ xs) ys = let rest = greatest-append xs ys in omega arith
 
--- ---- each named counter is up to the greatest
+-- ---- each named counter is at most the greatest
 
 named_first : (op : OpView) (ops : List OpView) → AreUpTo (greatest (counters (op ∷ ops))) (named_counters op)
 named_first op ops =

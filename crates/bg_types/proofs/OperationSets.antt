@@ -131,7 +131,7 @@ Holds-union s t agree (Erase target) =
     let b = set.contains t.del target in
     (λ h. either a b (sym known ∙ h), λ w. known ∙ elim w as (λ _. (a || b) ≡ true) [ inl h ↦ or_first a b h | inr h ↦ or_second a b h ])
 
--- an operation that is there may join
+-- an operation that the set holds may join
 pub Holds-may_join : (s : OperationSet) (op : OpView) → Holds s op → MayJoin s op
 Holds-may_join s (Insert id parent ch) h = λ kept found. some_is kept (node parent ch) (sym found ∙ h)
 Holds-may_join s (Erase target) h = tt

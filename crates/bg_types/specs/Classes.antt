@@ -13,7 +13,7 @@ is_removed Pdf = true
 is_removed Bn = true
 is_removed _ = false
 
--- UAX #9, BD8: the initiators of an isolate, and what ends it
+-- UAX #9, BD8: the isolate initiators, and what ends an isolate
 unfoldable pub is_isolate_control : Bidi → Bool
 is_isolate_control Lri = true
 is_isolate_control Rli = true

@@ -15,8 +15,8 @@ use std::marker::Model;
 
 /// Names one insertion: a counter (1 to 4,294,967,295) and the site that drew it (1 to 65,535).
 /// Identifiers are ordered by counter, and at equal counters by site.
-// The counter stands in two halves, so that an identifier has 6 bytes and not 8. The low one is first:
-// on this machine the compiled code then reads both at once.
+// The counter is kept in two halves, so that an identifier takes 6 bytes, not 8. The low half is first:
+// compiled code on this machine then reads both at once.
 #[derive(Clone, Copy)]
 pub struct Id {
     low: u16,
@@ -31,7 +31,7 @@ impl Model for Id {
 
     ghost view = { λ a. record { counter = a.high * 65_536 + a.low; site = a.site } };
 
-    // What the type of `low` says is said again, since a view sees plain numbers.
+    // The bound that the type of `low` gives is repeated, since a view sees plain numbers.
     ghost invariant = { λ a. (a.low < 65_536) × IsIdentifier (record { counter = a.high * 65_536 + a.low; site = a.site }) };
 
     ghost inverse = { λ v. record { high = v.counter / 65_536; low = v.counter % 65_536; site = v.site } };
@@ -99,10 +99,10 @@ impl Hash for Id {
 }
 
 impl Id {
-    /// How many values a half of a counter has.
+    /// How many values half a counter has.
     const HALF_VALUES: u32 = 65_536;
 
-    /// The identifier of this counter and this site, or `None` where one of them is 0.
+    /// The identifier with this counter and this site, or `None` where either is 0.
     pub fn new(counter: u32, site: u16) -> Option<Id>
         ensures valid { IsSome result ↔ ((0 < counter) × (0 < site)) }
         ensures value { IfSome result (λ id. id ≡ record { counter = counter; site = site }) }
@@ -120,7 +120,7 @@ impl Id {
     /// The counter, 1 to 4,294,967,295.
     pub fn counter(self) -> u32
         ensures value { result ≡ self.counter }
-        // What every identifier is, for the caller's proof.
+        // What is true of every identifier, for the caller's proof.
         ensures identifier { IsIdentifier self }
     {
         u32::from(self.high) * Self::HALF_VALUES + u32::from(self.low)

@@ -8,14 +8,14 @@ use std::hash::{BuildHasher, Hasher};
 
 const WORD: u128 = 0x1_0000_0000_0000_0000;
 
-// Added to the key's halves, so that the key 0 has two factors above 0 as well.
+// Added to the key's halves, so that even the key 0 gives two factors above 0.
 const FIRST: u64 = 0x9e37_79b9_7f4a_7c15;
 
 const NEXT: u64 = 0x2545_f491_4f6c_dd1d;
 
-/// Hashes by multiplication with a key (multiply-shift). Of identifiers that were chosen without
-/// the key, any two share one of n slots (a power of two) with a probability of at most 2 / n, so
-/// that no choice of identifiers makes the calls slow.
+/// Hashes by multiplying with a key (multiply-shift). Any two identifiers chosen without knowing
+/// the key share one of n slots (n a power of two) with a probability of at most 2 / n, so no
+/// choice of identifiers makes the calls slow.
 #[derive(Clone, Copy)]
 pub struct Keyed {
     start: KeyedHasher,
@@ -36,7 +36,7 @@ impl Keyed {
     }
 }
 
-/// What has tables by identifier, hashed with a key.
+/// Something with tables by identifier, hashed with a key.
 pub trait Hashed {
     /// The hasher of the tables.
     ghost hasher: { Self → Keyed };

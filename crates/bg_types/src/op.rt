@@ -89,7 +89,7 @@ impl Op {
     /// What it does, to match on.
     pub fn view(self) -> OpView
         ensures value { result ≡ self }
-        // What every operation is, for the caller's proof.
+        // What is true of every operation, for the caller's proof.
         ensures well_formed { IsWellFormed self }
     {
         self.parts

@@ -13,7 +13,7 @@ pub trait Sink {
 
     ghost has_failed: { Self → Bool };
 
-    /// Whether a put has failed. It stays so.
+    /// Whether a put has failed. Once true, it stays true.
     fn failed(&self) -> bool
         ensures { result ≡ has_failed self.now };
 
@@ -28,7 +28,7 @@ pub trait Sink {
         ensures failed { has_failed self.new ≡ is_none result };
 }
 
-/// Writes all of the bytes, or a beginning of them before the sink fails.
+/// Writes all of the bytes, or a beginning of them if the sink fails.
 pub fn put_all<S: Sink>(sink: &mut S, bytes: &[u8]) -> Result<(), Device>
     requires working { S.has_failed sink.old ≡ false }
     ensures ok { OnOk result (Appends (S.written sink.old) (S.written sink.new) bytes.now) }

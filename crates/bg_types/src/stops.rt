@@ -1,12 +1,12 @@
-//! A sink that stops, for tests of what is left written.
+//! A sink that stops, to test what has been written by then.
 
 ghost use Rattle.std.specs.Prelude.{◌≡◌, ◌<◌, ◌≤◌, ◌+◌, ◌⊎◌, ◌||◌, false, true, length, take, is_none, IfSome, IfNone};
 ghost use Rattle.std.specs.Io.KnownBytes.{Appends, Keeps};
 
 use crate::sink::Sink;
 
-/// A sink round another, for tests: it takes at most `piece` bytes a call, and fails for good at
-/// the put after it has taken all `left` bytes.
+/// A sink around another, for tests: it takes at most `piece` bytes a call, and fails for good at
+/// the first put after it has taken `left` bytes.
 #[derive(Drop)]
 pub struct Stops<S> {
     /// The sink that it writes to.
