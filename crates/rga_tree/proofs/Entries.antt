@@ -18,7 +18,7 @@ use Rattle.rga_tree.specs.Walk.{same_place}
 use Rattle.rga_tree.specs.Tree.{stands_in, IsTree}
 use Rattle.rga_tree.proofs.WalkAmong.{Entry, Rises, AreAbove, AreWellFounded, IsLow, IsChildless}
 
--- the identifier stands at none of these
+-- none of these has the identifier
 abbrev pub IsAbsent : Identifier → List Entry → Type 0
 IsAbsent a es = AllByRecursion (λ e. same_id a e.0 ≡ false) es
 
@@ -84,7 +84,7 @@ low_of (After a) k h = ap (λ o. ordering_then o (nat_cmp a.site k.site)) (sym (
 pub AreWellFounded-entries : (s : OperationSet) → AllWellFormed s → AreWellFounded (entries_of s)
 AreWellFounded-entries s well = all_entries s (λ e. IsLow e.1.parent e.0) (λ e held. low_of e.1.parent e.0 (well (Insert e.0 e.1.parent e.1.ch) held).1)
 
--- a place that stands is not after a new identifier
+-- a place in the set is not after a new identifier
 no_parent : (s : OperationSet) (p : Place) (n : Identifier) → stands_in s p ≡ true → map.contains_key s.ins n ≡ false → same_place p (After n) ≡ false
 no_parent s Root n stands new = refl
 no_parent s (After a) n stands new =
@@ -93,6 +93,6 @@ no_parent s (After a) n stands new =
       | false ↦ λ _. refl
     ] refl
 
--- where each parent stands, a new identifier has no child
+-- where each parent is in the set, a new identifier has no child
 pub IsChildless-entries : (s : OperationSet) (n : Identifier) → IsTree s → map.contains_key s.ins n ≡ false → IsChildless n (entries_of s)
 IsChildless-entries s n tree new = all_entries s (λ e. same_place e.1.parent (After n) ≡ false) (λ e held. no_parent s e.1.parent n (tree e.0 e.1 held) new)

@@ -1,4 +1,4 @@
--- What proofs of the crates above may import of this crate's proofs. They import nothing else of them.
+-- What the proofs of crates above may import from this crate's proofs, and nothing else.
 pub use Rattle.rga_tree.proofs.WalkAmong.{Entry}
 pub use Rattle.rga_tree.proofs.Entries.{IsAbsent, entries_of, Rises-entries, AreWellFounded-entries}
 pub use Rattle.rga_tree.proofs.Depth.{walk-among}

@@ -66,7 +66,7 @@ either_way a b (x ∷ ids) differ at_a at_b = by_test (same_id a x) (same_id b x
 
 -- ---- never both ways, and in turn
 
--- an identifier stands nowhere among those that differ from it
+-- an identifier is not among those that differ from it
 not_among : (x a : Identifier) (ids : Ids) → AllByRecursion (λ y. same_id x y ≡ false) ids → is_among a ids ≡ true → x ≡ a → ⊥
 not_among x a [] apart at is = absurd cc
 not_among x a (y ∷ ids) apart at is = by_test (same_id a y) refl at (λ h. not_among x a ids apart.1 h is) where

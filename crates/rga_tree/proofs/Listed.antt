@@ -37,7 +37,7 @@ IsIn-filter e p (x ∷ xs) passes (inr h) =
     let rest = IsIn-filter e p xs passes h in
     elim (p x) as (λ b. IsIn e (cond b (x ∷ filter p xs) (filter p xs))) [ true ↦ inr rest | false ↦ rest ]
 
--- what is found at an identifier stands in the list
+-- what is found at an identifier is in the list
 pub IsIn-found : (q : Identifier) (node : Node) (es : List Entry) → find id_cmp q es ≡ Some node → IsIn (q, node) es
 IsIn-found q node [] h = absurd cc
 IsIn-found q node (x ∷ es) h =

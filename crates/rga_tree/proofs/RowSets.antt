@@ -1,4 +1,4 @@
--- The operations that a row tells, and what one more element does to them.
+-- The operations that a row stands for, and what one more element does to them.
 use Rattle.std.proofs.Common.{◌≡◌, ℕ, Bool, true, false, cond, ◌||◌, List, [], ◌∷◌, ◌++◌, take, drop, Option, Some, None, refl, sym, ap, subst, ◌∙◌}
 use Rattle.std.specs.Prelude.{map as each, filter, insert, is_some}
 use Rattle.std.specs.Ordering.{eq_by_cmp}

@@ -1,4 +1,4 @@
--- The walk of a part of a set: that of the set, with all left out that is not attached in the part.
+-- The walk of a part of a set: that of the set, without what is not attached in the part.
 use Rattle.std.proofs.Common.{◌≡◌, ℕ, zero, suc, ◌≤◌, Bool, true, false, cond, ◌||◌, List, [], ◌∷◌, ◌++◌, length, Option, Some, None, refl, sym, ap, subst, ◌∙◌, arith}
 use Rattle.std.specs.Prelude.{◌↔◌, map as each, filter, reverse, is_some}
 use Rattle.std.specs.List.{AllByRecursion, flat_map, list_any}
@@ -61,7 +61,7 @@ pub filter_all : (p : Entry → Bool) (es : List Entry) → AllByRecursion (λ e
 filter_all p [] h = refl
 filter_all p (e ∷ es) h = ap (λ b. cond b (e ∷ filter p es) (filter p es)) h.0 ∙ ap (λ r. e ∷ r) (filter_all p es h.1)
 
--- a filter of what the elements give, where it keeps all of what some give, and nothing of the others'
+-- a filter of what the elements give, where it keeps all that some give and nothing that the others give
 filter-flat_map : (p q : Entry → Bool) (f g : Entry → List Entry) (es : List Entry) → AllByRecursion (λ e. filter p (f e) ≡ cond (q e) (g e) []) es
     → filter p (flat_map f es) ≡ flat_map g (filter q es)
 filter-flat_map p q f g [] h = refl
@@ -115,7 +115,7 @@ pub is_had : (ins : map.FinMap id_cmp Node) {id : Identifier} → IsAttached ins
 is_had ins (below_root id ch is) = ap is_some is
 is_had ins (below id parent ch is up) = ap is_some is
 
--- where t names p as the parent, s that has it attached has p attached
+-- where t names p as q's parent and q is attached in s, p is attached in s
 pub attached_parent : (s t : OperationSet) (p q : Identifier) (node : Node) → IsInsertedPart s t → map.get t.ins q ≡ Some node → node.parent ≡ After p → IsAttached s.ins q → IsAttached s.ins p
 attached_parent s t p q node part held at (below_root id ch is) =
     let same : Some node ≡ Some (record { parent = Root; ch = ch }) = sym held ∙ part q (record { parent = Root; ch = ch }) is in absurd cc

@@ -43,7 +43,7 @@ or_true : (b : Bool) → (b || true) ≡ true
 or_true true = refl
 or_true false = refl
 
--- where both agree with one set, the next one takes the place of none
+-- where both agree with one set, the next operation replaces none
 Holds-still : (s t : OperationSet) (new op : OpView) → IsWithin s t → Holds t new → Holds s op → Holds (with_operation s new) op
 Holds-still s t (Insert id parent ch) (Erase target) within known held = held
 Holds-still s t (Erase target) (Insert id parent ch) within known held = held

@@ -1,4 +1,4 @@
--- Where an insertion stands whose counter is above all that the set names.
+-- Where an insertion goes whose counter is above all that the set names.
 use Rattle.std.proofs.Common.{◌≡◌, ℕ, ◌≤◌, ◌<◌, false, cond, List, [], ◌∷◌, ◌++◌, Some, refl, sym, ap, subst, ◌∙◌, append_assoc, arith}
 use Rattle.std.specs.Prelude.{All, map as each}
 use Rattle.std.specs.List.{AllByRecursion}
@@ -33,7 +33,7 @@ absent_there : (a : Identifier) (front back : List Entry) (x : Entry) → IsAbse
 absent_there a [] back x h = h.0
 absent_there a (y ∷ front) back x h = absent_there a front back x h.1
 
--- what is put after one that stands once
+-- what is put after one that occurs once
 below_at : (n x : Entry) (front back : List Entry) → AreDistinct (front ++ x ∷ back) → below (After x.0) n (front ++ x ∷ back) ≡ front ++ x ∷ skip n back
 below_at n x [] back distinct =
     ap (λ b. cond b (x ∷ skip n (below (After x.0) n back)) (x ∷ below (After x.0) n back)) (same_id-itself x.0) ∙ ap (λ r. x ∷ skip n r) (below_absent x.0 n back distinct.0)

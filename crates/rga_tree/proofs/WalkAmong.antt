@@ -115,7 +115,7 @@ same_is Root (After b) h = absurd cc
 same_is (After a) Root h = absurd cc
 same_is (After a) (After b) h = ap After (same_id-is a b h)
 
--- no insertion has the identifier for parent
+-- no insertion has the identifier as its parent
 abbrev pub IsChildless : Identifier → List Entry → Type 0
 IsChildless k es = AllByRecursion (λ e. same_place e.1.parent (After k) ≡ false) es
 

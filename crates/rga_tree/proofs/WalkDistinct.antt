@@ -52,7 +52,7 @@ AreDistinct-append : (xs ys : List Entry) → AreDistinct xs → AreDistinct ys 
 AreDistinct-append [] ys p q apart = q
 AreDistinct-append (x ∷ xs) ys p q apart = (all_append (λ e. same_id x.0 e.0 ≡ false) xs ys p.0 apart.0, AreDistinct-append xs ys p.1 q apart.1)
 
--- what has another top is another
+-- an identifier with another top is another identifier
 other_top : (es ys : List Entry) (a : Entry) (p q : Place) → same_place p q ≡ false → top_among es (After a.0) ≡ p → AllByRecursion (λ y. top_among es (After y.0) ≡ q) ys → IsAbsent a.0 ys
 other_top es ys a p q apart at h =
     all_weaker (λ y. top_among es (After y.0) ≡ q) (λ y. same_id a.0 y.0 ≡ false)

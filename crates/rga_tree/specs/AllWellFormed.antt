@@ -1,4 +1,4 @@
--- That each operation is well formed has one proof at most, so that a ghost field may say it.
+-- That each operation is well formed has at most one proof, so that a ghost field may say it.
 use mathlib.Core.Bool.{Bool-set}
 use Rattle.std.specs.Coded.{×_prop, Unit-prop, le_prop}
 use Rattle.bg_types.specs.Identifier.{Identifier, IsIdentifier}

@@ -1,4 +1,4 @@
--- Small sets of operations, by which the definitions are tried.
+-- Small sets of operations on which the definitions are tried.
 use Rattle.std.specs.Prelude.{ℕ, ◌↔◌, List, [], ◌∷◌, fold, Contains}
 use Rattle.bg_types.specs.Identifier.{Identifier}
 use Rattle.bg_types.specs.OperationSet.{OperationSet, no_operations, with_operation}

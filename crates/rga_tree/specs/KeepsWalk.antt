@@ -16,6 +16,6 @@ pub record KeepsWalk (row : List Element) : Type 0 where
   pub only_placed : OnlyErasesPlaced (operations_of row)
   pub well_formed : AllWellFormed (operations_of row)
 
--- it has one proof at most, so that a ghost field may say it
+-- it has at most one proof, so that a ghost field may say it
 pub KeepsWalk-prop : (row : List Element) → IsProp (KeepsWalk row)
 KeepsWalk-prop row = hlevel (props, AllWellFormed-prop)

@@ -7,7 +7,7 @@ use Rattle.bg_types.specs.declared.op.Place.{Place}
 use Rattle.bg_types.specs.declared.op.Place.TheVariants.{Root, After}
 use Rattle.rga_tree.specs.Attached.{IsAttached}
 
--- an insertion of S has the identifier for parent
+-- an insertion of S has the identifier as its parent
 abbrev pub IsParent : OperationSet → Identifier → Type 0
 IsParent s id = (child : Identifier) × (node : Node) × (map.get s.ins child ≡ Some node) × (node.parent ≡ After id)
 

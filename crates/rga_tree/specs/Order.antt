@@ -1,4 +1,4 @@
--- The order in which a set's walk reads its characters, erased ones with them.
+-- The order in which a set's walk reads its characters, erased ones included.
 use Rattle.std.specs.Prelude.{◌≡◌, ◌++◌, ◌∷◌, List}
 use Rattle.bg_types.specs.Identifier.{Identifier}
 use Rattle.bg_types.specs.OperationSet.{OperationSet}

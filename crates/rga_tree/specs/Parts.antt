@@ -1,4 +1,4 @@
--- Sets of operations of which one is part of the other.
+-- Sets of operations, one of them part of the other.
 use Rattle.bg_types.specs.OperationSet.{OperationSet, Holds}
 use Rattle.bg_types.specs.declared.op.OpView.{OpView}
 

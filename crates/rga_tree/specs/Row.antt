@@ -1,4 +1,4 @@
--- A row of elements, and the operations that it tells.
+-- A row of elements, and the operations that it stands for.
 use Rattle.std.specs.Prelude.{◌+◌, ◌&&◌, drop, not, true, ℕ, Bool, List, [], ◌∷◌, map as each, filter}
 use Rattle.std.specs.List.{list_any, prefix_len}
 use Rattle.std.specs.Ordering.{is_lt}
@@ -24,7 +24,7 @@ shown_of row = each (λ e. e.ch) (filter (λ e. not e.hidden) row)
 abbrev pub operations_of : List Element → OperationSet
 operations_of row = record { ins = map.from_entries (each entry_of row); del = set.from_list (hidden_ids row) }
 
--- no identifier stands twice
+-- no identifier occurs twice
 abbrev pub is_distinct : List Identifier → Bool
 is_distinct [] = true
 is_distinct (x ∷ xs) = not (list_any (same_id x) xs) && is_distinct xs

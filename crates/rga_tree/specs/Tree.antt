@@ -12,7 +12,7 @@ abbrev pub stands_in : OperationSet → Place → Bool
 stands_in s Root = true
 stands_in s (After parent) = map.contains_key s.ins parent
 
--- the parent of each insertion stands in S
+-- the parent of each insertion is in S
 abbrev pub IsTree : OperationSet → Type 0
 IsTree s = (id : Identifier) (node : Node) → map.get s.ins id ≡ Some node → stands_in s node.parent ≡ true
 

@@ -39,7 +39,7 @@ pub fn attached_once()
         → Contains (walk s Root) e → map.get s.ins e.0 ≡ Some e.1 }
 {}
 
-/// Where each parent stands in the set, every insertion is attached.
+/// Where each parent is in the set, every insertion is attached.
 pub fn tree_attached()
     ensures { (s : OperationSet) → AllWellFormed s → IsTree s → (id : Identifier)
         → map.contains_key s.ins id ≡ true → IsAttached s.ins id }
@@ -62,7 +62,7 @@ pub fn attached_alone()
 {}
 
 /// The walk of a tree with one more insertion is the old walk with it put in: after its parent,
-/// and after all greater identifiers that follow there directly.
+/// and after all greater identifiers that directly follow it.
 pub fn one_more_leaf()
     ensures { (s : OperationSet) → AllWellFormed s → IsTree s → (id : Identifier) (node : Node)
         → IsWellFormed (Insert id node.parent node.ch) → stands_in s node.parent ≡ true
@@ -71,8 +71,8 @@ pub fn one_more_leaf()
         ≡ insert (walk s Root) (place_of node.parent id (elements s)) (id, node) }
 {}
 
-/// The sub-walk law: the walk of a part of a set is the walk of the set with all left out that is
-/// not attached in the part.
+/// The sub-walk law: the walk of a part of a set is the walk of the set without what is not
+/// attached in the part.
 pub fn sub_walk()
     ensures walk { (s t : OperationSet) → AllWellFormed t → IsPartOf s t
         → walk s Root ≡ filter (λ e. is_attached s e.0) (walk t Root) }
@@ -82,8 +82,8 @@ pub fn sub_walk()
         → IsAttached s.ins id → IsAttached t.ins id }
 {}
 
-/// The walk puts the attached identifiers, and no others, into one line: of two that differ one
-/// precedes the other, and never each the other.
+/// The walk puts the attached identifiers, and no others, in one line: of two different ones,
+/// exactly one precedes the other.
 pub fn walk_order()
     ensures attached { (s : OperationSet) → AllWellFormed s → (a b : Identifier)
         → Precedes s a b → IsAttached s.ins a × IsAttached s.ins b }
@@ -95,8 +95,8 @@ pub fn walk_order()
         → Precedes s a b → Precedes s b c → Precedes s a c }
 {}
 
-/// Sets that agree read all characters that both have attached, erased ones too, in one order. So
-/// a character that stands between two others stands between them wherever the three are.
+/// Sets that agree read all characters attached in both, erased ones too, in the same order. So a
+/// character that stands between two others stands between them wherever all three are.
 pub fn one_order()
     ensures agree { (s t : OperationSet) → AllWellFormed s → AllWellFormed t → Agree s t
         → (a b : Identifier) → IsAttached s.ins a → IsAttached s.ins b
@@ -108,10 +108,10 @@ pub fn one_order()
         → Precedes s a b → Precedes t a b }
 {}
 
-/// The unbroken-stretch law: an attached identifier and all below it stand in one unbroken stretch
-/// of the walk. So two runs whose first ones stand apart never mix; of two runs after one place,
-/// the one whose first identifier is greater is wholly left of the other. A run of a part is a run
-/// of the set, so all this holds of it wherever it comes to.
+/// The unbroken-stretch law: an attached identifier and all below it form one unbroken stretch of
+/// the walk. So two runs, neither of them below the first of the other, never mix; of two runs after
+/// one place, the one whose first identifier is greater is wholly left of the other. A run of a part
+/// is a run of the set, so all this holds of it wherever it arrives.
 pub fn unbroken_stretch()
     ensures stretch { (s : OperationSet) → AllWellFormed s → (top : Identifier)
         → IsAttached s.ins top → IsStretch s top }
@@ -128,9 +128,9 @@ pub fn unbroken_stretch()
         → IsRun s.ins ids → IsRun t.ins ids }
 {}
 
-/// An insertion whose counter is above all that a set names, as each is that is typed, is read
-/// directly after its parent, and first of all if that is the root. So it stands between its
-/// parent and each character that stood after that.
+/// An insertion whose counter is above all that a set names, as that of a typed character is, is read
+/// directly after its parent, or first of all if the parent is the root. So it stands between its
+/// parent and each character that stood after the parent.
 pub fn typed_place()
     ensures behind { (s : OperationSet) → AllWellFormed s → (id : Identifier) (node : Node)
         → IsWellFormed (Insert id node.parent node.ch) → next s ≤ id.counter
@@ -165,7 +165,7 @@ pub fn examples()
         → text (set_of ops) ≡ codes "ayb" }
 {}
 
-/// What the laws' words say of two runs at the root, `ab` and `xy`, and of a part that has no x.
+/// What the laws' words say of two runs at the root, `ab` and `xy`, and of a part without x.
 pub fn examples_of_order()
     ensures walk { walked_ids (set_of two_runs) ≡ stamp 1 2 ∷ stamp 2 2 ∷ stamp 1 1 ∷ stamp 2 1 ∷ [] }
     ensures part { IsPartOf (set_of one_waits) (set_of two_runs) }

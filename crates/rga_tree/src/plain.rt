@@ -17,7 +17,7 @@ use bg_types::{Id, Memory, Place};
 use std::alloc::Global;
 
 /// A sequence as one row, in the order of the walk. `room`, `placed` and `nth` read one number or
-/// element; each other call goes over the row, and `place` shifts what stands after the new one.
+/// element; every other call goes over the row, and `place` shifts what stands after the new one.
 #[derive(Drop)]
 pub struct Plain {
     row: Vec<Element>,
@@ -62,7 +62,7 @@ impl Sequence for Plain {
     }
 
     fn place(&mut self, id: Id, parent: Place, ch: char, hidden: bool) {
-        // The identifier is known to be well formed where it is read.
+        // Reading the identifier tells the proof that it is well formed.
         let _known = id.counter();
         let at = place_for(&self.row, id, &parent);
         put_in(&mut self.row, at, id, parent, ch, hidden);

@@ -30,11 +30,11 @@ pub trait Sequence {
     /// The elements in parts, each in one piece of memory.
     ghost parts: { Self → List (List Element) };
 
-    /// How often it was looked at for a visible element, where that is counted. Only `id_at` and
-    /// `char_at` change it.
+    /// How many looks the search for visible elements took, where they are counted. Only `id_at` and
+    /// `char_at` change the number.
     ghost looked: { Self → ℕ } = { λ _. 0 };
 
-    /// Makes room for n placings (at most 4,000,000). Where memory is refused, content and room
+    /// Makes room for n placings (at most 4,000,000). If memory is refused, content and room
     /// stay as they were.
     fn reserve(&mut self, n: usize) -> Result<(), Memory>
         requires { n ≤ 4_000_000 }
@@ -49,8 +49,8 @@ pub trait Sequence {
     fn room(&self) -> usize
         ensures { result ≡ free self.now };
 
-    /// Places a new element below its parent, which is the root or placed already. Takes no
-    /// memory, and one from the room.
+    /// Places a new element below its parent, which is the root or already placed. Takes no
+    /// memory, and uses up one placing of the room.
     fn place(&mut self, id: Id, parent: Place, ch: char, hidden: bool)
         requires parent { stands_in (content self.old) parent ≡ true }
         requires before { MayFollow parent id }
@@ -61,7 +61,7 @@ pub trait Sequence {
         ensures room { free self.new + 1 ≡ free self.old }
         ensures looked { looked self.new ≡ looked self.old };
 
-    /// Hides a placed element, which may be hidden already. It stays where it stands.
+    /// Hides a placed element, which may be hidden already. It stays where it is.
     fn hide(&mut self, id: Id)
         requires { map.contains_key (content self.old).ins id ≡ true }
         ensures content { content self.new ≡ with_operation (content self.old) (OpView.Erase id) }
@@ -86,20 +86,20 @@ pub trait Sequence {
         ensures content { content self.new ≡ content self.old }
         ensures room { free self.new ≡ free self.old };
 
-    /// How many elements are placed, hidden ones with them.
+    /// How many elements are placed, hidden ones included.
     fn placed(&self) -> usize
         ensures { result ≡ length (elements (content self.now)) };
 
-    /// Element j, hidden ones counted.
+    /// Element j, counting hidden ones.
     fn nth(&self, j: usize) -> Element
         requires { j < length (elements (content self.now)) }
         ensures { slice_get (elements (content self.now)) j ≡ Some result };
 
-    /// In how many parts the elements lie. Together, in order, the parts are the elements.
+    /// How many parts the elements are in. Joined in order, the parts are the elements.
     fn part_count(&self) -> usize
         ensures { result ≡ length (parts self.now) };
 
-    /// The elements of part p. Who reads all elements in order reads part after part.
+    /// The elements of part p. To read all elements in order, read part after part.
     fn part(&self, p: usize) -> &[Element]
         requires { p < length (parts self.now) }
         ensures { result.now ≡ get_or (parts self.now) p [] };

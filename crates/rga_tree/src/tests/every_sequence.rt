@@ -1,6 +1,6 @@
 //! Tests of any sequence, through the trait alone.
 //!
-//! A refused growth is seen to leave all as it was, and then the call is made again: so each test
+//! A refused growth is seen to leave everything as it was, and the call is made again: so each test
 //! also passes with any one allocation refused (`rt try --test --fail-alloc N`).
 
 ghost use Rattle.std.specs.Prelude.{◌≡◌};
@@ -73,7 +73,7 @@ impl<S: Fresh> Tried<S> {
         }
     }
 
-    /// Makes room, at the second try where memory is refused: then all is as it was.
+    /// Makes room, on a second try where memory is refused, which must change nothing.
     pub fn reserve(&mut self, n: usize) -> bool {
         let (placed, room) = (self.seq.placed(), self.seq.room());
         if n > 4_000_000 {
@@ -85,7 +85,7 @@ impl<S: Fresh> Tried<S> {
         self.seq.placed() == placed && self.seq.room() == room && self.seq.reserve(n).is_ok()
     }
 
-    /// Places the element of a row, if it may be.
+    /// Places the element of a row, if it may be placed.
     pub fn put(&mut self, row: Row) -> bool {
         let Some(e) = element(row) else {
             return false;
@@ -150,7 +150,7 @@ impl<S: Fresh> Tried<S> {
         }
     }
 
-    /// Visible element k, as far as it is told.
+    /// Visible element k, if there is one.
     pub fn at(&mut self, k: usize) -> Option<(Id, char)> {
         if k >= self.seq.len() {
             return None;
@@ -159,7 +159,7 @@ impl<S: Fresh> Tried<S> {
         Some((id, self.seq.char_at(k)))
     }
 
-    /// The text, at the second try where memory for it is refused.
+    /// The text, on a second try where memory for it is refused.
     pub fn text(&self) -> Result<String, Memory> {
         match text_of(self.alloc, &self.seq) {
             Err(Memory) => text_of(self.alloc, &self.seq),
@@ -171,7 +171,7 @@ impl<S: Fresh> Tried<S> {
         self.text().is_ok_and(|read| read.as_str() == text)
     }
 
-    /// Whether an element stands at place j, by each call that tells it.
+    /// Whether an element stands at place j, by every call that shows it.
     pub fn stands_at(&self, j: usize, row: Row) -> bool {
         self.nth(j) == Some(row) && self.has(row.0) && self.told(row.0) == Some(row)
     }
@@ -192,7 +192,7 @@ impl<S: Fresh> Tried<S> {
         right
     }
 
-    /// Whether the sequence has these elements and this text, by each call that tells of them.
+    /// Whether the sequence has these elements and this text, by every call that shows them.
     fn shows(&mut self, rows: &[Row], text: &str) -> bool {
         let many = self.seq.len() == text.chars().count();
         many && self.reads(text) && self.shows_all(rows) && self.shows_visible(rows)
@@ -217,7 +217,7 @@ const B_AT_ROOT: Row = ((1, 2), (0, 0), 'b', false);
 
 const ORPHAN: Row = ((9, 1), (8, 1), 'z', false);
 
-/// The elements as they are placed, the identifiers that are hidden then, the elements as they
+/// The elements as they are placed, the identifiers hidden after that, the elements as they
 /// stand afterwards, and the text. An element may be hidden as it is placed.
 type Line = (
     &'static [Row],
@@ -245,8 +245,8 @@ static LINES: [Line; 11] = [
     (&[A_HIDDEN, B], &[(2, 1), (1, 1)], &[A_HIDDEN, B_HIDDEN], ""),
 ];
 
-/// Whether the elements stand as a line says. One that is there already and one whose parent is
-/// not there change nothing.
+/// Whether the elements end up as a line says. One that is there already and one whose parent is
+/// missing change nothing.
 fn keeps_line<S: Fresh>(alloc: Global, line: Line) -> bool {
     let (placed, erased, standing, text) = line;
     let mut seq: Tried<S> = Tried::new(alloc);
@@ -276,8 +276,8 @@ fn counter_of(k: u32, rising: bool) -> u32 {
     }
 }
 
-/// Whether 1,000 elements, placed in this order, stand by their counters in that one. In a chain
-/// each is after the one before, else all are after the root.
+/// Whether 1,000 elements placed in this order of counters stand in the order of the walk. In a
+/// chain each is after the one before, otherwise all are after the root.
 fn keeps_thousand<S: Fresh>(alloc: Global, chain: bool, rising: bool) -> bool {
     let mut seq: Tried<S> = Tried::new(alloc);
     let mut right = true;
@@ -300,7 +300,7 @@ pub fn keeps_long_rows<S: Fresh>(alloc: Global) -> bool {
         && keeps_thousand::<S>(alloc, false, false)
 }
 
-/// With ample memory there is room afterwards. Where a growth is refused, all is as it was.
+/// With ample memory there is room afterwards. Where a growth is refused, everything is as it was.
 pub fn keeps_all_where_room_is_refused<S: Fresh>(alloc: Global) -> bool {
     let mut seq: Tried<S> = Tried::new(alloc);
     let mut right = seq.put_all(&[A, B]);
