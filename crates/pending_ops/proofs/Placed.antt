@@ -52,7 +52,7 @@ placed_held old (Insert id parent ch ∷ ops) new h q m =
     (λ later. (some_back (same_id q id) (map.get old.held.ins q) (sym (ap is_some (s.ins q)) ∙ placed_held h.0 ops new h.1.1 q later)).1)
 placed_held old (Erase target ∷ ops) new h q m = absurd (no_erasure old h.0 target h.1.0)
 
--- each stands once
+-- each occurs once
 pub apart : (old : Waiting) (ops : List OpView) (new : Waiting) → PlacesEach old ops new → AreApart (ids ops)
 apart old [] new h = tt
 apart old (Insert id parent ch ∷ ops) new h =

@@ -61,7 +61,7 @@ is_in-later q x xs m = ap (λ b. same_id q x || b) m ∙ or-true (same_id q x)
 pub is_in-here : (x : Identifier) (xs : List Identifier) → is_in (x ∷ xs) x ≡ true
 is_in-here x xs = ap (λ b. b || is_in xs x) (same_id-itself x)
 
--- each stands once in both together
+-- each occurs once in both together
 pub AreApart-append : (xs ys : List Identifier) → AreApart xs → AreApart ys → ((q : Identifier) → is_in xs q ≡ true → is_in ys q ≡ false) → AreApart (xs ++ ys)
 AreApart-append [] ys h k others = k
 AreApart-append (x ∷ xs) ys h k others =
@@ -90,7 +90,7 @@ eq_none : (x : Identifier) (xs : List Identifier) → AllByRecursion (λ y. id_e
 eq_none x [] h = refl
 eq_none x (y ∷ ys) h = λ i. (sym (id_eq-is x y) ∙ h.0) i || eq_none x ys h.1 i
 
--- the keys of a table stand once each
+-- the keys of a table occur once each
 pub IsDistinct-id_eq : (xs : List Identifier) → IsDistinct id_eq xs → AreApart xs
 unfolding IsDistinct
 IsDistinct-id_eq [] h = tt
@@ -147,13 +147,13 @@ pub one_less_at_most : (b : Bool) (n m : ℕ) → n + cond b 1 0 ≡ m → m ≤
 one_less_at_most true n m e = omega arith
 one_less_at_most false n m e = omega arith
 
--- to write a key that is there adds no entry
+-- writing a key that is there adds no entry
 pub no_more : {X E : Type 0} (r : Result (Option X) E) (o : Option X) (n m : ℕ) → IsOk r → is_some o ≡ true → IfOk r (λ old. old ≡ o)
     → IfOk r (λ old. n ≡ m + cond (is_some old) 0 1) → n ≡ m
 no_more (Ok old) o n m ok some was len = len ∙ ap (λ b. m + cond b 0 1) (ap is_some was ∙ some) ∙ omega arith
 no_more (Err e) o n m ok some was len = absurd (true≢false (sym ok))
 
--- to write a key adds at most one
+-- writing a key adds at most one
 pub one_more : {X E : Type 0} (r : Result (Option X) E) (n m : ℕ) → IsOk r → IfOk r (λ old. n ≡ m + cond (is_some old) 0 1) → n ≤ m + 1
 one_more (Ok None) n m ok e = omega arith
 one_more (Ok (Some old)) n m ok e = omega arith

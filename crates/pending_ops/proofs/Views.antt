@@ -1,4 +1,4 @@
--- What the tables of a store tell of the operations that it holds.
+-- What the tables of a store say of the operations that it holds.
 use Rattle.std.proofs.Common.{◌≡◌, Bool, true, false, not, ℕ, cond, ◌&&◌, ◌||◌, List, [], ◌∷◌, Option, None, Some, sym, ap, subst, ◌∙◌, refl, true≢false, is_some}
 use Rattle.std.specs.Option.{option_map, option_map_or}
 use Rattle.std.specs.FinMap as map
@@ -92,7 +92,7 @@ told : (id : Identifier) (o : Option Slot) → option_map (λ (s : Slot). Insert
 told id None = refl
 told id (Some s) = refl
 
--- what a slot tells is what the map has
+-- what a slot holds is what the map has
 pub insertion-get : (slots : List (Identifier × Slot)) (id : Identifier)
     → option_map (λ (s : Slot). Insert id s.parent s.ch) (slot_in slots id) ≡ option_map (λ (n : Node). Insert id n.parent n.ch) (map.get (insertions_of slots) id)
 insertion-get slots id = told id (slot_in slots id) ∙ ap (option_map (λ (n : Node). Insert id n.parent n.ch)) (sym (get-insertions_of slots id))

@@ -5,7 +5,7 @@ use Rattle.bg_types.specs.Identifier.{Identifier, id_cmp}
 use Rattle.bg_types.specs.OperationSet.{OperationSet}
 use Rattle.pending_ops.specs.Waiting.{follows}
 
--- of q, these and id each one is an insertion of S right after the next one, id itself apart
+-- of q, these and id, each one but id itself is an insertion of S right after the next one
 abbrev pub IsChain : OperationSet → Identifier → List Identifier → Identifier → Type 0
 IsChain s q [] id = follows s id q ≡ true
 IsChain s q (p ∷ ps) id = (follows s p q ≡ true) × IsChain s p ps id

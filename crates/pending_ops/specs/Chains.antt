@@ -28,7 +28,7 @@ first_in es p = lookup (same_id p) es
 abbrev pub is_in : List Identifier → Identifier → Bool
 is_in xs q = list_any (same_id q) xs
 
--- each stands once
+-- each occurs once
 abbrev pub AreApart : List Identifier → Type 0
 AreApart [] = Unit {0}
 AreApart (x ∷ xs) = (is_in xs x ≡ false) × AreApart xs
@@ -55,7 +55,7 @@ pub record AreLinked (slots : List (Identifier × Slot)) (firsts : List (Identif
   pub needed : (p : Identifier) → is_in released p ≡ true → is_some (first_in firsts p) ≡ true
   pub formed : (q : Identifier) (s : Slot) → slot_in slots q ≡ Some s → MayFollow s.parent q
 
--- n more operations can be held, released and counted without memory
+-- n more operations can be held, released and counted without taking memory
 abbrev pub HasRoom : IndexMap Identifier Slot Keyed → IndexMap Identifier Identifier Keyed → index_set.IndexSet Identifier Keyed → index_set.IndexSet Identifier Keyed → ℕ → ℕ → Type 0
 HasRoom slots firsts released erased queue n =
     (n ≤ spare slots) × (n ≤ spare firsts) × (n ≤ index_set.spare erased) × (length slots.entries + n ≤ queue)
@@ -67,7 +67,7 @@ insertion_of e = Insert e.0 e.1.parent e.1.ch
 abbrev pub nodes_of : List (Identifier × Slot) → List (Identifier × Node)
 nodes_of slots = each (λ e. (e.0, node_in e.1)) slots
 
--- the insertions that the slots tell
+-- the insertions that the slots hold
 abbrev pub insertions_of : List (Identifier × Slot) → map.FinMap id_cmp Node
 insertions_of slots = map.from_entries (nodes_of slots)
 

@@ -10,8 +10,8 @@ use Rattle.bg_types.specs.declared.op.Place.TheVariants.{Root, After}
 use Rattle.bg_types.specs.declared.op.OpView.{OpView}
 use Rattle.bg_types.specs.declared.op.OpView.TheVariants.{Insert, Erase}
 
--- held: the operations that wait. released: the identifiers whose next ones need not wait any more.
--- listed: the operations that wait, in some order. room: how many more can be held without memory
+-- held: the operations that wait. released: the identifiers whose followers need not wait any more.
+-- listed: the operations that wait, in some order. room: how many more can be held without taking memory
 pub record Waiting : Type 0 where
   pub held : OperationSet
   pub released : set.FinSet id_cmp
@@ -45,7 +45,7 @@ is_ready w q = option_map_or (λ node. is_released w node.parent) (map.get w.hel
 abbrev pub NoneReady : Waiting → Type 0
 NoneReady w = (q : Identifier) → is_ready w q ≡ false
 
--- the insertions right after this identifier are ready, beside those that were
+-- the insertions right after this identifier are ready, besides those that were
 pub record Releases (old : Waiting) (id : Identifier) (new : Waiting) : Type 0 where
   pub held : new.held ≡ old.held
   pub listed : new.listed ≡ old.listed

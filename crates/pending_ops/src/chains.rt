@@ -14,7 +14,7 @@ ghost use Rattle.pending_ops.specs.Chains.{AreLinked, Links, first_in, is_in, sl
 use bg_types::{Id, Keyed, Memory, Op, Place};
 use indexmap::{IndexMap, IndexSet};
 
-/// A table by identifier. Its memory can be paid in advance, and a removal gives none back.
+/// A table by identifier. Its memory can be reserved in advance, and a removal gives none back.
 pub type Table<V> = IndexMap<Id, V, Keyed>;
 
 /// A set of identifiers.
@@ -28,12 +28,12 @@ pub struct Slot {
     pub next: Option<Id>,
 }
 
-/// The insertion that a slot tells.
+/// The insertion that a slot holds.
 pub fn insertion_in(slots: &Table<Slot>, id: Id) -> Option<Op>
     requires { (s : Slot) → slot_in slots.now.entries id ≡ Some s → MayFollow s.parent id }
     ensures { result ≡ option_map (λ s. Insert id s.parent s.ch) (slot_in slots.now.entries id) }
 {
-    // Of an empty table nothing is hashed: mostly nothing waits.
+    // With an empty table nothing is hashed: mostly nothing waits.
     if slots.is_empty() {
         return None;
     }
@@ -43,7 +43,7 @@ pub fn insertion_in(slots: &Table<Slot>, id: Id) -> Option<Op>
     }
 }
 
-/// Puts an insertion in front of those that name its parent, and answers which was the first of
+/// Puts an insertion in front of those that name its parent, and returns which was the first of
 /// them.
 pub fn link(firsts: &mut Table<Id>, parent: &Place, id: Id) -> Option<Id>
     requires { 0 < spare firsts.old }
@@ -90,7 +90,7 @@ pub fn append_chain(slots: &Table<Slot>, firsts: &Table<Id>, parent: Id, queue: 
     }
 }
 
-/// The first of those that the last released parent's chain leads to.
+/// The front of the last released parent's chain.
 #[derive(Clone, Copy, Debug)]
 pub struct Front {
     pub parent: Id,
@@ -113,7 +113,7 @@ pub fn first_ready(slots: &Table<Slot>, firsts: &Table<Id>, released: &Names) ->
     Some(Front { parent, id, slot })
 }
 
-/// Takes the front of a released parent's chain off the chain. The parent of an empty chain is no
+/// Takes the front off a released parent's chain. The parent of an empty chain is no
 /// longer released.
 pub fn unlink(firsts: &mut Table<Id>, released: &mut Names, front: &Front)
     requires first { IsSome (first_in firsts.old.entries front.now.parent) }

@@ -32,14 +32,14 @@ use std::marker::Model;
 #[derive(Drop)]
 pub struct Held {
     slots: Table<Slot>,
-    /// For each parent of a held insertion, the first of the chain of those that name it.
+    /// For each parent of a held insertion, the first in the chain of those that name it.
     firsts: Table<Id>,
     /// The parents whose chains are handed out, the next one last.
     released: Names,
     erased: Names,
     /// Where `count_below` lists what it counts. Empty between calls.
     queue: Vec<Id>,
-    /// How many more operations can be held without memory.
+    /// How many more operations can be held without taking memory.
     room: usize,
 }
 
@@ -62,8 +62,8 @@ impl Model for Held {
         × HasRoom a.slots a.firsts a.released a.erased (vec_capacity a.queue) a.room) };
 }
 
-/// Makes room for n more operations, wherever holding, releasing and counting them will need some.
-/// A growth that was made stays where a later one is refused.
+/// Makes room for n more operations in each table that holding, releasing and counting them needs.
+/// A growth stays even if a later one is refused.
 fn make_room(
     slots: &mut Table<Slot>,
     firsts: &mut Table<Id>,
@@ -98,15 +98,15 @@ fn make_room(
 }
 
 impl Held {
-    /// An empty store. Its tables are hashed with the key 0: a store that holds what strangers
-    /// sent is made by `keyed`.
+    /// An empty store. Its tables are hashed with the key 0: for operations from strangers make the
+    /// store by `keyed`.
     pub fn new(alloc: Global) -> Held
         ensures { result ≡ nothing_waits }
     {
         Held::keyed(alloc, 0)
     }
 
-    /// An empty store whose tables are hashed with this key. Who does not know the key cannot
+    /// An empty store whose tables are hashed with this key. Without knowing the key, nobody can
     /// choose identifiers that make the calls slow.
     pub fn keyed(alloc: Global, key: u128) -> Held
         ensures { result ≡ nothing_waits }
@@ -148,14 +148,14 @@ impl Held {
         Ok(())
     }
 
-    /// How many more operations can be held without memory.
+    /// How many more operations can be held without taking memory.
     pub fn room(&self) -> usize
         ensures { result ≡ self.now.room }
     {
         self.room
     }
 
-    /// Holds an operation, and takes one from the room. Where there is none it is made first. After
+    /// Holds an operation, which uses up one of the room; where none is left, room is made first. After
     /// `Memory` the store is as it was.
     pub fn hold(&mut self, op: Op) -> Result<(), Memory>
         requires { IsNew self.old.held op }
@@ -230,8 +230,8 @@ impl Held {
         self.slots.len()
     }
 
-    /// The held operation at place `j` of a list of them all. While the store does not change the
-    /// list does not either; its order is open.
+    /// The held operation at place `j` of a list of them all. While the store does not change,
+    /// neither does the list; its order is not specified.
     pub fn nth(&self, j: usize) -> Op
         requires { j < size self.now.held }
         ensures listed { slice_get self.now.listed j ≡ Some result }
@@ -257,8 +257,8 @@ impl Held {
         count
     }
 
-    /// Makes the held insertions right after this identifier ready. As long as one of them is, so
-    /// is an insertion that is held right after it later.
+    /// Makes the held insertions right after this identifier ready. As long as one of them is ready,
+    /// so is an insertion that is held right after the identifier later.
     pub fn release_of(&mut self, id: Id)
         ensures { Releases self.old id self.new }
     {
@@ -271,7 +271,7 @@ impl Held {
         self.released.insert(id).unwrap();
     }
 
-    /// Takes a ready insertion out. Those after it stay held, and are not ready before they are
+    /// Takes a ready insertion out. Those after it stay held, and are not ready until they are
     /// released.
     pub fn next_ready(&mut self) -> Option<Op>
         ensures some { IfSome result (λ op. TakesOut self.old op self.new) }
@@ -285,7 +285,7 @@ impl Held {
         Op::insert(front.id, front.slot.parent, front.slot.ch)
     }
 
-    /// Whether a deletion of this target was held. It no longer is.
+    /// Whether a deletion of this target was held. Afterwards none is.
     pub fn drop_erasure(&mut self, id: Id) -> bool
         ensures found { result ≡ set.contains self.old.held.del id }
         ensures dropped { self.new.held ≡ without_erasure self.old.held id }

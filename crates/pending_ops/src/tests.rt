@@ -1,13 +1,13 @@
 //! What no clause says: that memory suffices, and which order and numbers come out.
 //!
-//! A refused growth is told to leave the store as it was, and tried again: so each test also passes
+//! A refused growth must leave the store as it was, and the call is made again: so each test also passes
 //! with any one allocation refused (`rt try --test --fail-alloc N`).
 
 use super::Held;
 use bg_types::{Id, Op, OpView, Place};
 use std::alloc::Global;
 
-/// The identifier with this counter; those with odd and those with even counters are of two sites.
+/// The identifier with this counter; odd and even counters are of two sites.
 fn id(counter: u32) -> Option<Id> {
     Id::new(counter, if counter % 2 == 0 { 2 } else { 1 })
 }
@@ -43,7 +43,7 @@ impl Store {
         }
     }
 
-    /// Holds an operation, unless it or another insertion of its identifier is held.
+    /// Holds an operation, unless it or another insertion with its identifier is held.
     fn try_hold(&mut self, op: Op) -> bool {
         let is_new = match op.view() {
             OpView::Insert { id, .. } => self.held.insertion(id).is_none(),
@@ -52,7 +52,7 @@ impl Store {
         is_new && self.held.hold(op).is_ok()
     }
 
-    /// The same, at the second try where the first one failed and changed nothing.
+    /// The same, on a second try where the first one failed and changed nothing.
     fn hold(&mut self, op: Op) -> bool {
         let before = self.seen();
         if self.try_hold(op) {
@@ -69,7 +69,7 @@ impl Store {
         }
     }
 
-    /// Makes room for three operations, at the second try where the first one failed.
+    /// Makes room for three operations, on a second try where the first one failed.
     fn reserve(&mut self) -> bool {
         let before = self.seen();
         (self.held.reserve(3).is_ok() || self.held.reserve(3).is_ok())
@@ -119,7 +119,7 @@ impl Store {
         }
     }
 
-    /// In how many places of the list an operation stands.
+    /// How many places of the list hold an operation.
     fn times(&self, op: Option<Op>) -> usize {
         let mut times = 0usize;
         for j in 0..self.held.count() {
@@ -137,8 +137,8 @@ impl Store {
         Some(counter)
     }
 
-    /// Whether the loop of a desk, once `root` is placed, places so many insertions, each with a
-    /// counter that is greater by `step` than the one before, and no further one.
+    /// Whether the loop of a desk, once `root` is placed, places this many insertions, each with a
+    /// counter greater by `step` than the one before, and no further one.
     fn places_row(&mut self, root: u32, step: u32, count: u32) -> bool {
         self.release(root);
         let mut last = root;
@@ -151,7 +151,7 @@ impl Store {
     }
 }
 
-/// Any key serves.
+/// Any key will do.
 const KEY: u128 = 0x0123_4567_89ab_cdef;
 
 fn empty_store(alloc: Global) -> Store {
@@ -160,7 +160,7 @@ fn empty_store(alloc: Global) -> Store {
     }
 }
 
-/// What is paid for is held at the first try.
+/// What room was made for is held at the first try.
 fn paid_in_advance(store: &mut Store) -> bool {
     let mut all = store.reserve();
     for op in [id(2).map(Op::erase), insertion(3, 2), insertion(2, 1)] {
@@ -182,7 +182,7 @@ fn reversed_chain(store: &mut Store) -> bool {
     all && store.places_row(1, 1, 999) && store.held.count() == 0
 }
 
-/// A bush is handed out once each.
+/// Each insertion of a bush is handed out once.
 fn bush(store: &mut Store) -> bool {
     let mut all = store.insert_down(1001, 2, 1001)
         && store.below(1) == Some(1000)

@@ -21,7 +21,7 @@ returns-clause-dropped c =
 abbrev from_ids : List Identifier → set.FinSet id_cmp
 from_ids xs = set.from_list xs
 
--- of none none can be dropped
+-- where there is none, none can be dropped
 none_kept : (xs : List Identifier) (id : Identifier) → length xs ≡ 0 → from_ids xs ≡ set.remove (from_ids xs) id
 none_kept [] id none = from_list-removed [] [] id (λ q. nothing (id_eq id q)) where
   nothing : (b : Bool) → false ≡ cond b false false

@@ -58,7 +58,7 @@ returns-then-is_none c =
     subst (λ w. Releases w c.args.id w) c.self.view_is
     (Releases-none c.self.inside.slots.entries firsts c.self.inside.released.keys c.self.inside.erased.keys c.self.inside.room c.args.id c.self.invariant.0 none)
 
--- an identifier that is among them is none more
+-- an identifier that is among them adds none
 stays : (xs : List Identifier) (id q : Identifier) → is_in xs id ≡ true → is_in xs q ≡ cond (same_id id q) true (is_in xs q)
 stays xs id q there =
     elim (same_id id q) as (λ b. same_id id q ≡ b → is_in xs q ≡ cond b true (is_in xs q)) [
