@@ -30,7 +30,7 @@ pub trait Sequence {
     /// The elements in parts, each in one piece of memory.
     ghost parts: { Self → List (List Element) };
 
-    /// How many looks the search for visible elements took, where they are counted. Only `id_at` and
+    /// How often it was looked at in search of a visible element, where that is counted. Only `id_at` and
     /// `char_at` change the number.
     ghost looked: { Self → ℕ } = { λ _. 0 };
 
