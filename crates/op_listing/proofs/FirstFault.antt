@@ -1,4 +1,4 @@
--- Of lines, either none has a fault or one is the first that has; and reading lines one after the other.
+-- Of lines, either none has a fault or one is the first with a fault; and reading lines one after the other.
 use Rattle.std.proofs.Common.{◌≡◌, ℕ, suc, ◌+◌, List, [], ◌∷◌, ◌++◌, ◌⊎◌, inl, inr, length, Option, Some, None, refl, sym, ap, subst, ◌∙◌, append_assoc, arith}
 use Rattle.std.specs.Str.Lines.{lines}
 use Rattle.std.proofs.lemmas.List.{append-nil, length-append}

@@ -42,7 +42,7 @@ above-less : (m n : ℕ) (xs : List ℕ) → n ≤ m → AllAbove m xs → AllAb
 above-less m n [] le h = tt
 above-less m n (x ∷ xs) le h = (let first = h.0 in omega (arith, first, le), above-less m n xs le h.1)
 
--- ---- cutting at a byte that stands nowhere before
+-- ---- cutting at a byte that does not occur before
 
 module _ (c m : ℕ) (low : c ≤ m) where
   split_before : (w ys : List ℕ) → AllAbove m w → slice_split (λ b. b == c) (w ++ c ∷ ys) ≡ w ∷ slice_split (λ b. b == c) ys

@@ -1,4 +1,4 @@
--- Numbers that were read from a word are those that the word writes.
+-- The numbers read from a word are those that the word writes.
 use Rattle.std.proofs.Common.{◌≡◌, ℕ, ◌+◌, ◌*◌, ◌^◌, ◌<◌, ◌≤◌, Bool, true, false, cond, ◌&&◌, ltb, leb, List, [], ◌∷◌, length, get_or, take, Option, Some, None, refl, sym, ap, ◌∙◌, inl, inr, ◌⊎◌, arith, subst, suc, zero, lit<}
 use Rattle.std.proofs.Math.Nat.{pow-le-pow_right}
 use Rattle.std.specs.Prelude.{SomeIff}
@@ -82,7 +82,7 @@ up_to-above limit n lt = ap (λ t. cond t (Some n) None) (lt-leb n limit lt)
 
 -- ---- counters and characters
 
--- what was read of a word of a right length
+-- what was read from a word of a right length
 read_number_is : (base least most : ℕ) (word : List ℕ) (r : Option ℕ) → SomeIff r (AllDigits base word × (digits_value base word < 2 ^ 32)) (digits_value base word) → least ≤ length word → length word ≤ most
     → r ≡ up_to 4_294_967_295 (number_in base least most word)
 read_number_is base least most word (Some x) h long short =

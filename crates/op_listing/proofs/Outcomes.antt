@@ -1,4 +1,4 @@
--- What a file or a listing has decides the answer, memory aside.
+-- The bytes of a file or a listing decide the answer, memory aside.
 use Rattle.std.proofs.Common.{◌≡◌, ℕ, ◌⊎◌, inl, inr, Bool, true, List, Option, Result, Ok, Err, refl, ap, subst, ◌∙◌}
 use Rattle.std.specs.Prelude.{◌↔◌, MatchResult}
 use Rattle.std.specs.Io.KnownBytes.{Appends, Keeps}

@@ -11,7 +11,7 @@ use Rattle.op_listing.specs.Line.{line_fault}
 use Rattle.op_listing.specs.Listed.{line_operations, Lists, IsFaultyLine}
 use Rattle.op_listing.proofs.FirstFault.{begin, more, faulty, end}
 
--- the lines before the rest are read: so many, none faulty, and they write these operations
+-- the lines before the rest are read: this many, none faulty, and they write these operations
 pub record IsReadTo (text rest : List ℕ) (number : ℕ) (ops : List OpView) : Type 0 where
   pub done : List (List ℕ)
   pub read : AreRead line_fault text rest number done

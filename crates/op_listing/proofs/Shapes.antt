@@ -1,4 +1,4 @@
--- What a line's words were read as is what they write.
+-- A line's words are read as what they write.
 use Rattle.std.proofs.Common.{◌≡◌, ◌≢◌, ℕ, zero, suc, ◌+◌, ◌<◌, ◌≤◌, List, [], ◌∷◌, length, Option, Some, None, refl, ap, ◌∙◌, inl, inr, ◌⊎◌, arith}
 use Rattle.bg_types.specs.Identifier.{Identifier}
 use Rattle.bg_types.specs.declared.op.Place.{Place}

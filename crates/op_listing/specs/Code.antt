@@ -20,7 +20,7 @@ file_code (file.Malformed frame cause) = 2
 file_code file.Device = 7
 file_code file.Memory = 9
 
--- a faulty file stays faulty, and lack of memory is that
+-- a faulty file stays faulty, and lack of memory stays lack of memory
 abbrev pub file_fault_of : CodecFault → FileFault
 file_fault_of (codec.Malformed frame cause) = file.Malformed frame cause
 file_fault_of codec.Memory = file.Memory

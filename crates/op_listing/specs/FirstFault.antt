@@ -17,7 +17,7 @@ pub record IsFirstFault {F : Type 0} (fault_of : List ℕ → Option F) (all : L
   pub faultless : AreFaultless fault_of before
   pub shown : fault_of line ≡ Some fault
 
--- the lines before the rest are read: so many, and none has a fault
+-- the lines before the rest are read: this many, and none has a fault
 pub record AreRead {F : Type 0} (fault_of : List ℕ → Option F) (text rest : List ℕ) (number : ℕ) (done : List (List ℕ)) : Type 0 where
   pub in_order : lines text ≡ done ++ lines rest
   pub count : number ≡ length done

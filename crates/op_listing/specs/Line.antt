@@ -1,4 +1,4 @@
--- What one line of a listing says, with the freedoms that a reader of listings gives.
+-- What one line of a listing says, with the freedoms that a reader of listings allows.
 use Rattle.std.specs.Prelude.{◌==◌, ◌||◌, not, true, false, Bool, ℕ, List, [], ◌∷◌, Option, Some, None, option_map, nat_lt, bytes_eq, codes, if◌then◌else◌}
 use Rattle.std.specs.List.{before_first, after_first}
 use Rattle.std.proofs.Math.Utf8.{scalar}
@@ -82,7 +82,7 @@ abbrev pub is_before : Place → Identifier → Bool
 is_before Root id = true
 is_before (After parent) id = nat_lt parent.counter id.counter
 
--- what keeps an operation from being well formed, first
+-- the first thing that keeps an operation from being well formed
 abbrev pub operation_fault : OpView → Option LineFault
 operation_fault (Insert id parent ch) = first_fault (
     (has_zero id || parent_has_zero parent, ZeroField)

@@ -12,8 +12,8 @@ use Rattle.op_listing.specs.Line.{operation_in, line_fault}
 abbrev pub line_operations : List ℕ → List OpView
 line_operations line = option_to_list (operation_in (words line))
 
--- no line is faulty, and the lines with words write these operations in order. Lines end by LF or CR LF, and the last
--- may end without
+-- no line is faulty, and the lines with words write these operations in order. Lines end in LF or CR LF, and the last
+-- may end in neither
 pub record Lists (bytes : List ℕ) (ops : List OpView) : Type 0 where
   pub faultless : AreFaultless line_fault (lines bytes)
   pub written : ops ≡ flat_map line_operations (lines bytes)

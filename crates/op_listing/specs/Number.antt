@@ -8,7 +8,7 @@ use Rattle.std.specs.Str.Parse.{digits_value}
 abbrev pub is_digits : ℕ → List ℕ → Bool
 is_digits base word = list_all (λ b. nat_lt (digit_value b) base) word
 
--- the number of a word that is so many digits of the base, from the least to the most, zeros before it among them
+-- the number of a word that has from `least` to `most` digits of the base, leading zeros included
 abbrev pub number_in : (base least most : ℕ) → List ℕ → Option ℕ
 number_in base least most word =
     if is_digits base word && nat_le least (length word) && nat_le (length word) most then Some (digits_value base word) else None

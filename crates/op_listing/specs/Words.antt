@@ -2,7 +2,7 @@
 use Rattle.std.specs.Prelude.{◌≡◌, ◌==◌, true, false, Bool, ℕ, List, [], ◌∷◌, filter}
 use Rattle.std.specs.List.{slice_split}
 
--- there is a byte in the word
+-- the word has a byte
 abbrev pub is_word : List ℕ → Bool
 is_word [] = false
 is_word (b ∷ word) = true

@@ -1,4 +1,4 @@
-//! The engines: each reads one file whole, and writes what it was converted into.
+//! The engines: each reads one whole file, and writes what it is converted into.
 
 pub mod dump;
 pub mod migrate;

@@ -8,11 +8,11 @@ use bg_types::{Device, Memory};
 use op_codec::{Cause, CodecFault};
 use thiserror::Error;
 
-/// Why an operation file was not converted. Each prints as the line on standard error says it,
+/// Why an operation file was not converted. Each prints as in the line on standard error,
 /// without the program's name; the file has number 1.
 #[derive(Clone, Copy, Debug, PartialEq, Eq, Hash, Error)]
 pub enum FileFault {
-    /// The file is faulty: this is the first cause that it shows. Frame 0 is the header, frames
+    /// The file is faulty: this is its first cause. Frame 0 is the header, frames
     /// count from 1.
     #[error("file 1 frame {frame}: {cause}")]
     Malformed { frame: usize, cause: Cause },

@@ -24,7 +24,7 @@ ghost use Rattle.op_listing.specs.Outcome.{IsDumpOutcome, IsMigrateOutcome, IsPa
 
 use op_codec::laws as codec;
 
-/// Of lines, either none has a fault or one is the first that has, never both, and never two.
+/// Of lines, either none has a fault or one is the first with a fault, never both, and never two.
 pub fn first_fault<F>()
     ensures either { (fault_of : List ℕ → Option F) (all : List (List ℕ))
         → AreFaultless fault_of all ⊎ ((n : ℕ) × (fault : F) × IsFirstFault fault_of all n fault) }
@@ -34,7 +34,7 @@ pub fn first_fault<F>()
         → IsFirstFault fault_of all m f → IsFirstFault fault_of all n g → (m ≡ n) × (f ≡ g) }
 {}
 
-/// Lines that are read one after the other, to the first with a fault or to the end.
+/// Lines read one after the other, up to the first with a fault or to the end.
 pub fn lines_read<F>()
     ensures begin { (fault_of : List ℕ → Option F) (text : List ℕ) → AreRead fault_of text text 0 [] }
     ensures more { (fault_of : List ℕ → Option F) (text rest after line : List ℕ) (number : ℕ) (done : List (List ℕ))
@@ -54,7 +54,7 @@ pub fn listed_again()
     ensures reads_back { (file : List ℕ) (ops again : List OpView) → Spells file ops → Lists (listing_of ops) again → again ≡ ops }
 {}
 
-/// A listing lists one list of operations or has one first faulty line, never both.
+/// A listing either lists one list of operations or has one first faulty line, never both.
 pub fn listed_or_faulty()
     ensures either { (bytes : List ℕ)
         → ((ops : List OpView) × Lists bytes ops) ⊎ ((n : ℕ) × (fault : LineFault) × IsFaultyLine bytes n fault) }
@@ -65,8 +65,8 @@ pub fn listed_or_faulty()
         → IsFaultyLine bytes m f → IsFaultyLine bytes n g → (m ≡ n) × (f ≡ g) }
 {}
 
-/// What a file has decides the answer of `dump`, memory aside: a spelled one is written whole, or a
-/// beginning of it up to a failed write; a faulty one has its fault told. `Device` is answered exactly
+/// The bytes of a file decide the answer of `dump`, memory aside: a spelled one is written whole, or a
+/// beginning of it up to a failed write; of a faulty one the fault is reported. `Device` is answered exactly
 /// where the sink has failed.
 pub fn dump_outcomes()
     ensures spelled { (bytes : List ℕ) (old new : Option (List ℕ)) (failed : Bool) (result : Result (Unit {0}) FaultOfFile) (ops : List OpView)
@@ -83,8 +83,8 @@ pub fn dump_outcomes()
     codec::spelled_or_faulty();
 }
 
-/// What a file has decides the answer of `migrate`, memory aside: what it spells is written whole in
-/// version 2, or a beginning of it up to a failed write; a faulty one has its fault told. `Device` is
+/// The bytes of a file decide the answer of `migrate`, memory aside: what it spells is written whole in
+/// version 2, or a beginning of it up to a failed write; of a faulty one the fault is reported. `Device` is
 /// answered exactly where the sink has failed.
 pub fn migrate_outcomes()
     ensures spelled { (bytes : List ℕ) (old new : Option (List ℕ)) (failed : Bool) (result : Result (Unit {0}) FaultOfFile) (ops : List OpView)
@@ -101,9 +101,9 @@ pub fn migrate_outcomes()
     codec::spelled_or_faulty();
 }
 
-/// What a listing has decides the answer of `pack`, memory aside: one that lists operations is written
-/// whole as their file, or a beginning of it up to a failed write; a faulty one has its first faulty
-/// line told. `Device` is answered exactly where the sink has failed.
+/// The bytes of a listing decide the answer of `pack`, memory aside: one that lists operations is written
+/// whole as their file, or a beginning of it up to a failed write; of a faulty one the first faulty
+/// line is reported. `Device` is answered exactly where the sink has failed.
 pub fn pack_outcomes()
     ensures listed { (bytes : List ℕ) (old new : Option (List ℕ)) (failed : Bool) (result : Result (Unit {0}) FaultOfListing) (ops : List OpView)
         → IsPackOutcome bytes old new failed result → Lists bytes ops

@@ -13,7 +13,7 @@ use crate::words::{next_word, one_word, three_words};
 use bg_types::{Id, Op, OpView, Place};
 use std::alloc::AllocError;
 
-/// Writes an operation's line at the end.
+/// Appends an operation's line.
 pub fn push_line(op: &Op, text: &mut String) -> Result<(), AllocError>
     ensures { OnOk result (string_bytes text.new ≡ string_bytes text.old ++ line_of op.now) }
 {
@@ -48,7 +48,7 @@ fn push_scalar(ch: char, text: &mut String) -> Result<(), AllocError>
     write!(text, "{:04X}", u32::from(ch))
 }
 
-/// The operation of a line, which has none where it has no words, or the line's first fault.
+/// The operation of a line, none where the line has no words, or the line's first fault.
 pub fn read_line(line: &[u8]) -> Result<Option<Op>, LineFault>
     ensures ok { IfOk result (λ op. line_operations line.now ≡ option_to_list op) }
     ensures fault { MatchResult result (λ _. line_fault line.now ≡ None) (λ fault. line_fault line.now ≡ Some fault) }

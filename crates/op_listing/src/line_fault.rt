@@ -8,11 +8,11 @@ use thiserror::Error;
 /// What is wrong with a line of a listing. Each prints its bare name.
 #[derive(Clone, Copy, Debug, PartialEq, Eq, Hash, Error)]
 pub enum LineFault {
-    /// Another shape than that of an operation, a counter above 4,294,967,295 or a site above
+    /// The line hasn't the shape of an operation, or a counter is above 4,294,967,295 or a site above
     /// 65,535.
     #[error("BadLine")]
     BadLine,
-    /// A counter or a site is 0, also one of a parent.
+    /// A counter or a site is 0, that of the parent included.
     #[error("ZeroField")]
     ZeroField,
     /// The parent's counter isn't below the insertion's.

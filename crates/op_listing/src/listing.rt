@@ -17,7 +17,7 @@ const LONGEST_LINE: usize = 43;
 /// How many bytes the shortest line of an insertion has: `i 1.1 root 0061` and its LF.
 const INSERTION_LINE: usize = 16;
 
-/// The listing of the operations. Memory is asked for once.
+/// The listing of the operations. Memory is taken once.
 pub fn write_listing(alloc: Global, ops: &[Op]) -> Result<String, Memory>
     ensures { IfOk result (λ text. string_bytes text ≡ listing_of ops.now) }
 {
@@ -33,7 +33,7 @@ pub fn read_listing(alloc: Global, listing: &[u8]) -> Result<Vec<Op>, ListingFau
     ensures ok { IfOk result (λ ops. Lists listing.now ops.items) }
     ensures fault { IfErr result (TellsLine listing.now) }
 {
-    // One growth where all are insertions, and at most two more where many are deletions.
+    // One growth if all are insertions, and at most two more if many are deletions.
     let mut ops = Vec::with_capacity(alloc, listing.len() / INSERTION_LINE)?;
     let mut number = 0;
     let mut rest = listing;

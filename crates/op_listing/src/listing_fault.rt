@@ -9,11 +9,11 @@ use bg_types::{Device, Memory};
 use std::alloc::{AllocError, AllocFailed};
 use thiserror::Error;
 
-/// Why a listing was not converted. Each prints as the line on standard error says it, without the
+/// Why a listing was not converted. Each prints as in the line on standard error, without the
 /// program's name.
 #[derive(Clone, Copy, Debug, PartialEq, Eq, Hash, Error)]
 pub enum ListingFault {
-    /// The first faulty line, from 1, and its first fault.
+    /// The first faulty line, counted from 1, and its first fault.
     #[error("listing line {line}: {fault}")]
     Malformed { line: usize, fault: LineFault },
     /// A write failed.

@@ -16,8 +16,8 @@ pub fn read_decimal(word: &[u8], most: usize) -> Option<u32>
     read_number(word, 10)
 }
 
-/// The number that the digits of a base write. There is none where another byte is among them, or
-/// where it is above `u32::MAX`.
+/// The number that a word writes in a base: none where a byte is not a digit of the base, or
+/// where the number is above `u32::MAX`.
 pub fn read_number(word: &[u8], base: u32) -> Option<u32>
     requires low { 2 ≤ base }
     requires high { base ≤ 16 }

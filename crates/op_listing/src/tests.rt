@@ -219,7 +219,7 @@ fn a_sink_that_stops_keeps_a_beginning(rt: HostRuntime) {
     }
 }
 
-/// With ample memory each call is right, and where a growth is refused it says so, and nothing is
+/// With ample memory each call is right; where a growth is refused it says so, and nothing is
 /// written.
 #[test]
 fn a_call_is_right_or_says_memory(rt: HostRuntime) {

@@ -4,8 +4,8 @@ ghost use Rattle.std.specs.Prelude.{◌≡◌, ◌≢◌, ◌≤◌, ◌==◌, �
 ghost use Rattle.std.specs.List.{prefix_len, position_or_len};
 ghost use Rattle.op_listing.specs.Words.{words, TakesWord};
 
-/// The first word of a line, which is empty where there is none, and what follows it. Spaces alone
-/// part words.
+/// The first word of a line, empty where there is none, and what follows it. Only spaces
+/// separate words.
 pub fn next_word(line: &[u8]) -> (&[u8], &[u8])
     ensures { TakesWord result.0.now (words line.now) (words result.1.now) }
 {
@@ -13,7 +13,7 @@ pub fn next_word(line: &[u8]) -> (&[u8], &[u8])
     line.split_at(first_place(line, b' '))
 }
 
-/// The one word of a line that has no other.
+/// The word of a line that has exactly one.
 pub fn one_word(line: &[u8]) -> Option<&[u8]>
     ensures { MatchOption result (length (words line.now) ≢ 1) (λ word. words line.now ≡ word.now ∷ []) }
 {
@@ -62,7 +62,7 @@ fn count_spaces(line: &[u8]) -> usize
     line.iter().take_while(|b| **b == b' ').count()
 }
 
-/// Where the first byte of this value stands, or how many bytes there are.
+/// The place of the first byte of this value, or the number of bytes if there is none.
 pub fn first_place(bytes: &[u8], value: u8) -> usize
     ensures place { result ≡ position_or_len (λ b. b == value) bytes.now }
     ensures within { result ≤ length bytes.now }

@@ -9,7 +9,7 @@ use bg_types::{Sink, put_all};
 use op_codec::decode_file;
 use std::alloc::Global;
 
-/// Writes the listing of an operation file, one line an operation. Nothing is written before the
+/// Writes the listing of an operation file, a line an operation. Nothing is written before the
 /// whole file is read.
 pub fn dump<S: Sink>(alloc: Global, file: &[u8], out: &mut S) -> Result<(), FileFault>
     requires { S.has_failed out.old ≡ false }
