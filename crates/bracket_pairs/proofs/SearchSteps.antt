@@ -124,7 +124,7 @@ pub searched-is : (rs : List Role) (n j : ℕ) (stack stack' : List Waiting) (cl
     IsSearched rs n j stack' closings' → IsSearched rs n j stack closings
 searched-is rs n j stack stack' closings closings' e f s = rw (e, f) s
 
--- what a stack's length is
+-- the length of a stack
 pub stacked-length : (rs : List Role) (n j : ℕ) (stack : List Waiting) (closings : List (Option ℕ)) → IsSearched rs n j stack closings →
     length stack ≡ length (open_at rs (pairs_before rs j) j)
 stacked-length rs n j stack closings s =
@@ -153,7 +153,7 @@ step-open rs n j c stack closings s role few =
       room = room-more rs j s.room (and_right (opens (role_at rs j)) _ (lt-leb 63 (length (open_at rs (pairs_before rs j) j)) (omega arith)));
     })
 
--- where no pair is made and nothing opens, all stays
+-- where no pair is made and nothing opens, all stays the same
 pub step-same : (rs : List Role) (n j : ℕ) (stack : List Waiting) (closings : List (Option ℕ)) → IsSearched rs n j stack closings →
     opens (role_at rs j) ≡ false → match_at rs (pairs_before rs j) j ≡ None → IsSearched rs n (j + 1) stack closings
 step-same rs n j stack closings s shut none =
@@ -234,7 +234,7 @@ covers-added i (q ∷ pairs) p =
     or-assoc true b c = refl
     or-assoc false b c = refl
 
--- from the opening bracket of a new pair on nothing is open, and before it what was
+-- from the opening bracket of a new pair on nothing is open, and before it what was open
 cut-none : (rs : List Role) (pairs : List Pair) (x j i : ℕ) → opens (role_at rs j) ≡ false → x ≤ i → i < suc j →
     is_open rs (pairs ++ (record { opening = x; closing = j }) ∷ []) i ≡ false
 cut-none rs pairs x j i shut from to =

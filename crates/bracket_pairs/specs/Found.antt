@@ -13,7 +13,7 @@ abbrev pub pair_from : ℕ → Option ℕ → Option Pair
 pair_from i None = None
 pair_from i (Some j) = Some (pair_of i j)
 
--- the pairs that open before place n, where a list tells for each place where its closing bracket is, if it opens a pair
+-- the pairs that open before place n, where a list has for each place that opens a pair the place of its closing bracket
 abbrev pub pairs_told : List (Option ℕ) → ℕ → List Pair
 pairs_told closings n = filter_map (λ i. pair_from i (slice_index_or closings i None)) (places n)
 

@@ -42,7 +42,7 @@ is_direction RightToLeft (Some RightToLeft) = true
 abbrev pub has_strong : Direction → List Bidi → Bool
 has_strong d types = list_any (λ t. is_direction d (direction_of t)) types
 
--- the direction of the last strong type, or where there is none the given one
+-- the direction of the last strong type, or the given one where there is none
 abbrev pub last_strong : Option Direction → List Bidi → Option Direction
 last_strong before [] = before
 last_strong before (t ∷ types) = last_strong (option_or (direction_of t) before) types
@@ -89,6 +89,6 @@ abbrev pub pairs_resolved : (level : ℕ) → (sos : Bidi) → List Role → (be
 pairs_resolved level sos rs before_w1 types =
     fold (pair_resolved (direction_of_level level) (direction_of sos) before_w1) types (pairs_in_order rs)
 
--- N0: the types of a sequence, of which W7 left these
+-- N0: the types of a sequence whose types after W7 are these
 unfoldable pub n0 : TableValues → (level : ℕ) → (sos : Bidi) → (chars : List ℕ) → (before_w1 types : List Bidi) → List Bidi
 n0 tables level sos chars before_w1 types = pairs_resolved level sos (roles tables chars types) before_w1 types

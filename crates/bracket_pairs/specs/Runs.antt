@@ -5,7 +5,7 @@ use Rattle.bg_types.specs.declared.class.Bidi.TheVariants.{On}
 use Rattle.bracket_pairs.specs.declared.n0.Run.{Run}
 use Rattle.bracket_pairs.specs.N0.{is_nonspacing}
 
--- all places of a run have its type; after the first stand the marks, and after the last none
+-- all places of a run have its type; after the first come the marks, and no mark comes after the last
 pub record IsRun (before_w1 types : List Bidi) (r : Run) : Type 0 where
   pub within : r.end ≤ length types
   pub marks : (k : ℕ) → r.start < k → k < r.end → is_nonspacing (slice_index_or before_w1 k On) ≡ true

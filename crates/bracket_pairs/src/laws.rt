@@ -7,7 +7,7 @@ ghost use Rattle.bracket_pairs.specs.Pairs.{pair_of, pairs_in_order, search_end}
 ghost use Rattle.bracket_pairs.specs.N0.{pairs_resolved};
 ghost use Rattle.bracket_pairs.specs.Examples.{ascii_pairs, ascii_roles};
 
-/// After the examples of UAX #9, BD16, with places from 0.
+/// Modelled on the examples of UAX #9, BD16, with places from 0.
 pub fn pairs()
     ensures unopened { ascii_pairs (codes "a)b(c") ≡ [] }
     ensures unlike { ascii_pairs (codes "a(b]c") ≡ [] }

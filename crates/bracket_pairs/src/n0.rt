@@ -61,7 +61,7 @@ fn set_bracket(class: Bidi, place: usize, before_w1: &[Bidi], types: &mut [Bidi]
     Run { start, end, class }
 }
 
-/// Gives a pair's opening bracket a type, with its marks, unless the run before has them. Answers the run that does.
+/// Gives a pair's opening bracket and its marks a type, unless the run before covers them. Returns the run that does.
 fn set_opening(run: Run, class: Bidi, place: usize, before_w1: &[Bidi], types: &mut [Bidi]) -> Run
     requires same { length before_w1.now ≡ length types.old }
     requires within { place < length types.old }
@@ -76,7 +76,7 @@ fn set_opening(run: Run, class: Bidi, place: usize, before_w1: &[Bidi], types: &
     set_bracket(class, place, before_w1, types)
 }
 
-/// Gives a pair's closing bracket a type, with its marks, unless the run of its opening bracket has them.
+/// Gives a pair's closing bracket and its marks a type, unless the run of its opening bracket covers them.
 fn set_closing(run: Run, place: usize, before_w1: &[Bidi], types: &mut [Bidi])
     requires same { length before_w1.now ≡ length types.old }
     requires within { place < length types.old }
@@ -148,10 +148,10 @@ fn resolve_pair(
     }
 }
 
-/// Takes the pairs in the order of their opening brackets. `closings` tells for each place where its closing bracket is.
+/// Takes the pairs in the order of their opening brackets. `closings` has for each place that of its closing bracket.
 ///
-/// Where a table makes brackets nonspacing marks, pairs may stand among the marks of a pair before. The run of the last
-/// opening bracket is remembered, so that those marks are not walked again for each of them.
+/// Where a table makes brackets nonspacing marks, pairs may stand among the marks of an earlier pair. The run of the last
+/// opening bracket is remembered, so that those marks are not walked again for each such pair.
 fn resolve_pairs(
     embedding: Direction,
     sos: Option<Direction>,
@@ -185,7 +185,7 @@ fn resolve_pairs(
 ///
 /// The three lists have one entry for each character of the sequence: the characters, their types before W1,
 /// and their types after W7, which are changed. `level` and `sos` are those of the sequence. Only brackets whose type
-/// is ON count. Of a sequence in which a 64th opening bracket would wait, only the pairs that are closed before it count.
+/// is ON count. Where a 64th opening bracket would wait, only the pairs that are closed before it count.
 /// After `Memory` the types are as before. Memory is taken only where an opening bracket is.
 #[tactic(auto, unfolding(crate::specs::N0::n0))]
 pub fn resolve(

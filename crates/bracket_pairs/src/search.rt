@@ -34,7 +34,7 @@ pub(crate) fn has_opening(tables: &Tables, chars: &[char], types: &[Bidi]) -> bo
     false
 }
 
-/// Takes the topmost that waits for a closing bracket from the stack, with all above it.
+/// Takes the topmost entry that waits for a closing bracket off the stack, with all above it.
 fn close(stack: &mut ArrayVec<Waiting, MOST_OPEN>, c: char) -> Option<usize>
     ensures { MatchOption result
         ((closed_by c (reverse stack.old.items) ≡ None) × (stack.new.items ≡ stack.old.items))
@@ -50,7 +50,7 @@ fn close(stack: &mut ArrayVec<Waiting, MOST_OPEN>, c: char) -> Option<usize>
     None
 }
 
-/// For each character the place of the closing bracket that it is paired with, if it opens a pair.
+/// For each character that opens a pair, the place of the closing bracket it is paired with.
 pub(crate) fn closings(
     alloc: Global,
     tables: &Tables,

@@ -181,7 +181,7 @@ fn a_character_that_opens_for_itself_is_never_closed(rt: HostRuntime) -> Result<
     )
 }
 
-/// A beginning, and so many times a part.
+/// A beginning, and a part repeated.
 fn repeated(alloc: Global, begin: &str, part: &str, count: usize) -> Result<String, Fail> {
     let mut text = String::new(alloc);
     text.push_str(begin)?;
@@ -191,7 +191,7 @@ fn repeated(alloc: Global, begin: &str, part: &str, count: usize) -> Result<Stri
     Ok(text)
 }
 
-/// So many opening brackets, a letter and as many closing ones, and the type of each bracket after N0.
+/// A number of opening brackets, a letter and as many closing ones, and the type of each bracket after N0.
 fn assert_nested(rt: &(impl Abort + AllocGlobal), count: usize, bracket: &str) -> Result<(), Fail> {
     let tables = tables(rt.alloc(), vectors::BRACKETS)?;
     let mut text = repeated(rt.alloc(), "a", "(", count)?;
@@ -203,7 +203,7 @@ fn assert_nested(rt: &(impl Abort + AllocGlobal), count: usize, bracket: &str) -
     assert_resolved(rt, &tables, (0, "L", &text, &types, &types), &after)
 }
 
-/// A pair, then so many opening brackets, of which the last is closed.
+/// A pair, then a number of opening brackets, the last of which is closed.
 fn assert_closed_before(rt: &(impl Abort + AllocGlobal), count: usize) -> Result<(), Fail> {
     let tables = tables(rt.alloc(), vectors::BRACKETS)?;
     let mut text = repeated(rt.alloc(), "a(\u{5D0})\u{5D0}", "(", count)?;
@@ -222,7 +222,7 @@ fn sixty_three_may_wait(rt: HostRuntime) -> Result<(), Fail> {
     assert_closed_before(&rt, 64)
 }
 
-/// A beginning and so many times a part, with their types after N0.
+/// A beginning and a part repeated, with their types after N0.
 fn assert_many(
     rt: &(impl Abort + AllocGlobal),
     count: usize,
@@ -246,7 +246,7 @@ fn assert_many(
     Ok(())
 }
 
-/// In time that grows with the text: many pairs, and many that stand among the marks of one.
+/// In time proportional to the text: many pairs, and many that stand among the marks of one.
 #[test]
 fn many_small_pairs_are_cheap(rt: HostRuntime) -> Result<(), Fail> {
     let none = ((1, "L", "", "", ""), "");
