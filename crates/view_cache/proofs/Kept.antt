@@ -57,7 +57,7 @@ module _ (tables : TableValues) where
       let d = length-take cap (s ∷ without s ks) in
       omega (arith, d)
 
-  -- what one use makes of a cache
+  -- what one use does to a cache
   pub record IsUsed (c : Cache) (k : Key) (d : Cache) : Type 0 where
     pub kept : IsKept tables d
     pub cap : d.cap ≡ c.cap

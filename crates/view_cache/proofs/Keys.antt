@@ -98,7 +98,7 @@ module _ {V : Type 0} where
       (λ t. let miss : lookup ((key_eq.eq-value).it k) (e ∷ es) ≡ lookup ((key_eq.eq-value).it k) es = rw (same-is k e.0 ∙ t, lookup) in
       ap is_some miss ∙ is_kept-lookup k es ∙ sym (is_kept-miss (said k) (said e.0) (keys es) t))
 
-  -- the two look-ups find together
+  -- the two look-ups find the same
   found-together : (test : Key → Bool) (es : List (Key × V)) → is_some (lookup test es) ≡ is_some (lookup_entry test es)
   found-together test [] = refl
   found-together test (e ∷ es) = two_cases (test e.0)

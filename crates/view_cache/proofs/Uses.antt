@@ -35,7 +35,7 @@ pub same-itself : (a : ParagraphKey) → same_key a a ≡ true
 unfolding same_key
 same-itself a = search rules
 
--- ---- a key that was used lately is kept
+-- ---- a recently used key is kept
 
 kept-first : (a k : ParagraphKey) (ks : List ParagraphKey) → same_key a k ≡ true → is_kept a (k ∷ ks) ≡ true
 kept-first a k ks h = rw (h, is_kept)
@@ -108,7 +108,7 @@ kept-lately a (suc room) uses ks lt =
     kept-take a (1 + length uses) (all_used (suc room) uses (used (suc room) a ks))
     (kept-all_used a 1 (suc room) uses (used (suc room) a ks) (omega arith) (kept-first a a [] (same-itself a)))
 
--- ---- uses that were made lately find their keys
+-- ---- keys used recently are found
 
 -- what was used, and then what fits beside it, is found when it is used again
 pub found-again : (room : ℕ) (again between kept : List ParagraphKey) → length (again ++ between) ≤ room

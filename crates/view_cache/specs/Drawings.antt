@@ -8,7 +8,7 @@ use Rattle.cell_grid.specs.Grids.{DrawnGrid, grid_of}
 use Rattle.view_cache.specs.Keys.{ParagraphKey, paragraph_key}
 use Rattle.view_cache.specs.Uses.{all_used, laid_anew}
 
--- a view: its tables, how many keys it has room for, the keys that it keeps, latest used first, and how many paragraphs the last draw that answered Ok laid out
+-- a view: its tables, how many keys it has room for, the keys that it keeps, most recently used first, and how many paragraphs the last draw that answered Ok laid out
 pub record KeptView : Type 0 where
   pub tables : TableValues
   pub room : ℕ

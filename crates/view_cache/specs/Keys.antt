@@ -1,4 +1,4 @@
--- What the rows of a paragraph are kept by.
+-- The key under which the rows of a paragraph are kept.
 use Rattle.std.specs.Prelude.{ℕ, Bool, ◌&&◌, List, string_bytes, nat_eq}
 use Rattle.std.specs.Cmp.Lexicographic.{pointwise}
 use denote.Enum.Bare.{sameb}

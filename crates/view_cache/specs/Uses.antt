@@ -7,7 +7,7 @@ abbrev pub is_kept : ParagraphKey → List ParagraphKey → Bool
 is_kept key [] = false
 is_kept key (k ∷ kept) = if same_key key k then true else is_kept key kept
 
--- these without the first that is this key
+-- these without the first one equal to this key
 abbrev pub without : ParagraphKey → List ParagraphKey → List ParagraphKey
 without key [] = []
 without key (k ∷ kept) = if same_key key k then kept else k ∷ without key kept

@@ -2,7 +2,7 @@
 
 use std::hash::{BuildHasher, FoldHasher, Hasher};
 
-/// Hashes texts from a start that a key decides. Who doesn't know the key can't choose paragraphs
+/// Hashes texts from a start that a key decides. Without knowing the key, nobody can choose paragraphs
 /// that share a slot.
 #[derive(Clone, Copy)]
 pub struct KeyedText {

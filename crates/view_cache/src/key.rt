@@ -1,4 +1,4 @@
-//! What a paragraph's rows are kept by.
+//! The key under which a paragraph's rows are kept.
 
 ghost use Rattle.std.specs.Prelude.{◌≡◌, IfOk};
 ghost use Rattle.view_cache.specs.Keys.{said, paragraph_key};
@@ -6,7 +6,7 @@ ghost use Rattle.view_cache.specs.Keys.{said, paragraph_key};
 use bg_types::{Base, Memory};
 use std::alloc::Global;
 
-/// What a paragraph's rows depend on beside the tables: its text, the width in columns and the
+/// What a paragraph's rows depend on besides the tables: its text, the width in columns and the
 /// base.
 #[derive(PartialEq, Eq, Hash, Drop)]
 pub struct Key {

@@ -17,9 +17,9 @@ pub fn drawn_after_edits()
         → IfOk answer (λ grid. grid ≡ grid_of first.tables width base last) }
 {}
 
-/// An edit costs what it puts in: where a text was drawn and then edited, the next draw at the same
-/// width and base lays out at most as many paragraphs as the edit put in place of others, as long as
-/// the view has room for all paragraphs of each of the two texts.
+/// An edit costs what it puts in: after a text was drawn and then edited, the next draw at the same
+/// width and base lays out at most as many paragraphs as the edit put in place of others, provided that
+/// the view has room for all paragraphs of either text.
 pub fn edits_cost_what_they_put_in()
     ensures { (first view after : KeptView) (text later : List ℕ) (width : ℕ) (base : Base) (old new : List (List ℕ))
         → (drawn again : DrawnGrid) → IsDrawing first width base text (Ok drawn) view → IsDrawing view width base later (Ok again) after
@@ -28,7 +28,7 @@ pub fn edits_cost_what_they_put_in()
         → after.laid ≤ length new }
 {}
 
-/// Keys are told apart exactly where they differ.
+/// Keys compare as unequal exactly where they differ.
 pub fn keys_compared()
     ensures { (one other : ParagraphKey) → (same_key one other ≡ true) ↔ (one ≡ other) }
 {}

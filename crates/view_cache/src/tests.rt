@@ -1,6 +1,6 @@
 //! What no clause says: texts drawn again and again, with small tables, beside `cell_grid::draw`.
 //!
-//! A draw that memory was refused to is made again, and not counted: so each test also passes with
+//! A draw that was refused memory is made again, and not counted: so each test also passes with
 //! any one allocation of its draws refused (`rt try --test --fail-alloc N`).
 
 use super::*;
@@ -29,7 +29,7 @@ fn tables(alloc: Global) -> Result<Tables, UcdFault> {
     }
 }
 
-/// A view with room for so many paragraphs, or for 1,024.
+/// A view with room for this many paragraphs, or for 1,024.
 fn view_of<'a>(
     rt: &impl Abort,
     alloc: Global,
@@ -58,8 +58,8 @@ fn assert_same(rt: &impl Abort, one: &Grid, other: &Grid) {
     }
 }
 
-/// Draws a text from a view, and compares the grid with that of `cell_grid::draw`. How many
-/// paragraphs were laid out, where no growth was refused.
+/// Draws a text from a view, and compares the grid with that of `cell_grid::draw`. Returns how many
+/// paragraphs were laid out, if no growth was refused.
 fn draw_both(
     rt: &(impl Abort + AllocGlobal),
     tables: &Tables,
@@ -159,7 +159,7 @@ fn numbers(alloc: Global, last: usize) -> Result<String, AllocError> {
 #[test]
 fn beyond_its_room_a_view_keeps_the_latest(rt: HostRuntime) -> Result<(), Fail> {
     let tables = tables(rt.alloc())?;
-    // With the last, empty paragraph there is one more than there are numbers.
+    // With the empty last paragraph there is one more than there are numbers.
     let rows = [
         (None, 1_100, 1_101, 1_101),
         (None, 1_023, 1_024, 0),

@@ -26,8 +26,8 @@ use ucd_files::Tables;
 /// How many paragraphs `View::new` has room for.
 const ROOM: usize = 1_024;
 
-/// Draws texts as `cell_grid::draw` does, and keeps the rows of the paragraphs that were drawn last,
-/// by the paragraph's text, the width and the base. A paragraph that is kept is not laid out again:
+/// Draws texts as `cell_grid::draw` does, and keeps the rows of the paragraphs drawn last,
+/// by the paragraph's text, the width and the base. A kept paragraph is not laid out again:
 /// its rows are copied to where it stands now.
 #[derive(Drop)]
 pub struct View<'a> {
@@ -56,16 +56,16 @@ impl<'a> Model for View<'a> {
 }
 
 impl<'a> View<'a> {
-    /// A view with room for 1,024 paragraphs. Its table is hashed with the key 0: a view of texts
-    /// that strangers wrote is made by `keyed`.
+    /// A view with room for 1,024 paragraphs. Its table is hashed with the key 0: for texts from
+    /// strangers make the view by `keyed`.
     pub fn new(alloc: Global, tables: &'a Tables) -> Result<View<'a>, Memory>
         ensures { IfOk result (λ view. view ≡ empty_view tables.now 1024) }
     {
         View::with_room(alloc, tables, ROOM)
     }
 
-    /// A view with room for so many paragraphs, 1 to 1,000,000. A text of more different ones than that
-    /// finds none of its paragraphs when it is drawn again: each was dropped before its turn.
+    /// A view with room for this many paragraphs, 1 to 1,000,000. A text of more different ones than that
+    /// finds none of its paragraphs kept when it is drawn again: each was dropped before its turn.
     pub fn with_room(alloc: Global, tables: &'a Tables, room: usize) -> Result<View<'a>, Memory>
         requires some { 1 ≤ room }
         requires most { room ≤ 1_000_000 }
@@ -74,7 +74,7 @@ impl<'a> View<'a> {
         View::keyed(alloc, 0, tables, room)
     }
 
-    /// The same, its table hashed with this key. Who does not know the key cannot choose paragraphs
+    /// The same, its table hashed with this key. Without knowing the key, nobody can choose paragraphs
     /// that make the draws slow.
     pub fn keyed(
         alloc: Global,
@@ -98,7 +98,7 @@ impl<'a> View<'a> {
         })
     }
 
-    /// How many paragraphs the last draw that answered Ok laid out anew, 0 before the first.
+    /// How many paragraphs the last draw that answered Ok laid out anew, or 0 before the first.
     #[inline]
     pub fn laid(&self) -> usize
         ensures { result ≡ self.now.laid }
@@ -106,8 +106,8 @@ impl<'a> View<'a> {
         self.laid
     }
 
-    /// Draws a text on a grid of a width in columns, as `cell_grid::draw` does. After `Memory` what
-    /// is kept is right still, and the next draw goes on from there.
+    /// Draws a text on a grid of a width in columns, as `cell_grid::draw` does. After `Memory`, what
+    /// is kept is still right, and the next draw goes on from there.
     pub fn draw<'t>(&mut self, width: u16, base: Base, text: &'t str) -> Result<Grid<'t>, Memory>
     where
         'a: 't,
@@ -117,7 +117,7 @@ impl<'a> View<'a> {
         ensures { IsDrawing self.old width base text.now result self.new }
     {
         let paragraphs = split(self.alloc, self.tables, text)?;
-        // Each paragraph has a row at least.
+        // Each paragraph has at least one row.
         let mut rows = Vec::with_capacity(self.alloc, paragraphs.len())?;
         let mut laid = 0;
         for para in &paragraphs {
@@ -129,7 +129,7 @@ impl<'a> View<'a> {
         Ok(Grid::of(self.tables, text, rows))
     }
 
-    /// Uses the key of a paragraph, and puts its rows at the end, where they stand in the text. Tells
+    /// Uses the key of a paragraph, and appends its rows, moved to where they stand in the text. Returns
     /// whether they were laid out anew. After `Memory` the view is as it was.
     fn push_rows(
         &mut self,
@@ -162,7 +162,7 @@ impl<'a> View<'a> {
     }
 }
 
-/// Puts copies of a paragraph's rows at the end, where the paragraph stands in its text.
+/// Appends copies of a paragraph's rows, moved to where the paragraph stands in its text.
 fn push_shifted(
     alloc: Global,
     rows: &[Row],
