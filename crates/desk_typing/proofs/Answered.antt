@@ -25,7 +25,7 @@ pub answer_handed : {A : Type 0} (P : Result A TypingFault → Type 0) (r : Resu
 answer_handed P (Ok done) fault h p = absurd h
 answer_handed P (Err e) fault h p = subst (λ f. P (Err f)) (sym h) p
 
--- of the files that readers tell, more holds
+-- more holds of the files that readers give
 pub told_so : (readers : List (Option (List ℕ))) (lost : List Bool) (A B : List (List ℕ) → Type 0) → ((files : List (List ℕ)) → A files → B files) → AreTold readers lost A → AreTold readers lost B
 told_so readers lost A B f t = record { files = t.files; told = t.told; working = t.working; so = f t.files t.so }
 

@@ -52,9 +52,9 @@ within-at [] k h = absurd (omega arith)
 within-at (x ∷ xs) zero h = (x, refl)
 within-at (x ∷ xs) (suc k) h = within-at xs k (omega arith)
 
--- ---- so many are erased
+-- ---- a number of them are erased
 
--- t has what s has without so many from a place on
+-- t has what s has without a number of characters from a place on
 pub record IsErased (s t : OperationSet) (k n : ℕ) : Type 0 where
   pub visible_is : visible t ≡ take k (visible s) ++ drop (k + n) (visible s)
   pub next_is : next t ≡ next s

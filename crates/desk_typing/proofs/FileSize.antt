@@ -1,4 +1,4 @@
--- A file has at most 19 bytes for each of its operations, and 5 more.
+-- A file has at most 19 bytes for each of its operations, plus 5.
 use Rattle.std.proofs.Common.{◌≡◌, ◌≤◌, ◌+◌, ◌*◌, ℕ, true, false, cond, List, [], ◌∷◌, ◌++◌, length, refl, length-append, arith}
 use Rattle.std.specs.List.{flat_map}
 use Rattle.byteorder.specs.Endian.{big_bytes}

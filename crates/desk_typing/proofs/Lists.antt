@@ -15,7 +15,7 @@ drop-at [] (suc k) x h = absurd (let e : None ≡ Some x = h in cc)
 drop-at (y ∷ xs) zero x h = let e : y ≡ x = cc in ap (λ z. z ∷ xs) e
 drop-at (y ∷ xs) (suc k) x h = drop-at xs k x h
 
--- the deletions of so many from a place on begin with that of the one there
+-- the deletions from a place on begin with that of the character there
 pub deletions-at : (ids : List Identifier) (k n m : ℕ) (x : Identifier) → slice_get ids k ≡ Some x → n ≡ suc m → each Erase (take n (drop k ids)) ≡ Erase x ∷ each Erase (take m (drop (k + 1) ids))
 deletions-at ids k n m x at is =
     let up : suc k ≡ k + 1 = omega arith in

@@ -82,7 +82,7 @@ module _ (s : OperationSet) (id : Identifier) (is : id.counter ≡ next s) (pare
           (All-cons (λ c. c < next s + 1) id.counter (parent_counters parent) (omega arith) (parents_below parent follows))
       grown x (inr h) = more (named_counters x) (next-above s x h)
 
--- ---- so many are typed
+-- ---- a number of them are typed
 
 -- the text has the characters at place k, and each insertion may join
 pub record IsTyped (s : OperationSet) (ops : List OpView) (k : ℕ) (typed : List ℕ) : Type 0 where

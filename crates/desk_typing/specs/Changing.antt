@@ -13,7 +13,7 @@ use Rattle.desk_typing.specs.declared.change.Change.{Change}
 use Rattle.desk_typing.specs.declared.typing_fault.TypingFault.{TypingFault}
 use Rattle.desk_typing.specs.declared.typing_fault.TypingFault.TheVariants.{NotUtf8, Run, PastEnd, Full, CounterSpent}
 
--- the list with so many elements from a place on replaced by others
+-- the list with a number of elements from a place on replaced by others
 abbrev pub replaced : {T : Type 0} → List T → (place count : ℕ) → List T → List T
 replaced xs place count new = take place xs ++ (new ++ drop (place + count) xs)
 
@@ -21,7 +21,7 @@ replaced xs place count new = take place xs ++ (new ++ drop (place + count) xs)
 abbrev pub place_in : OperationSet → Change → ℕ
 place_in s change = unwrap_or change.place (length (visible s))
 
--- the deletions of so many visible characters from a place on
+-- the deletions of a number of visible characters from a place on
 abbrev pub deletions : OperationSet → (place count : ℕ) → List OpView
 deletions s place count = each Erase (take count (drop place (visible_ids s)))
 
@@ -34,18 +34,18 @@ insertions first parent (ch ∷ typed) = Insert first parent ch ∷ followers fi
 abbrev pub first_id : OperationSet → Change → Identifier
 first_id s change = record { counter = next s; site = change.site }
 
--- what the site makes where it holds S: it erases, and types after the visible character before the place
+-- what the site makes if it holds S: it erases, and types after the visible character before the place
 abbrev pub operations_of : OperationSet → Change → List ℕ → List OpView
 operations_of s change typed =
     deletions s (place_in s change) change.erased ++ insertions (first_id s change) (parent_at (visible_ids s) (place_in s change)) typed
 
--- what is erased is there, each character gets a counter, and there are at most 1,000,000 operations together
+-- what is erased is there, each character gets a counter, and the operations together are at most 1,000,000
 pub record Fits (s : OperationSet) (change : Change) (typed : List ℕ) : Type 0 where
   pub within : place_in s change + change.erased ≤ length (visible s)
   pub room : size s + change.erased + length typed ≤ 1_000_000
   pub counters : length typed ≤ 2 ^ 32 - next s
 
--- the first of these that the change does not meet. Lack of memory has no cause
+-- the first of these conditions that the change does not meet. Lack of memory has no cause
 abbrev pub IsUnfit : OperationSet → Change → List ℕ → TypingFault → Type 0
 IsUnfit s change typed (PastEnd place erased) = (place ≡ place_in s change) × (erased ≡ change.erased) × (length (visible s) < place + erased)
 IsUnfit s change typed Full = (place_in s change + change.erased ≤ length (visible s)) × (1_000_000 < size s + change.erased + length typed)

@@ -1,4 +1,4 @@
--- What lists of files that hold the same files read as.
+-- What lists of the same files read as.
 use Rattle.std.specs.Prelude.{◌≡◌, ◌≤◌, ◌↔◌, ℕ, List, Contains}
 use Rattle.bg_types.specs.OperationSet.{OperationSet, size}
 use Rattle.rga_tree.specs.TextOf.{text}
@@ -8,7 +8,7 @@ use Rattle.desk_runs.specs.Files.{IsSetOfFiles}
 abbrev pub HaveSameFiles : List (List ℕ) → List (List ℕ) → Type 0
 HaveSameFiles xs ys = (file : List ℕ) → Contains xs file ↔ Contains ys file
 
--- the files hold a set of at most 1,000,000 operations, whose text this is: so `text` writes it
+-- the files hold a set of at most 1,000,000 operations with this text: so `text` writes it
 pub record ReadAs (files : List (List ℕ)) (characters : List ℕ) : Type 0 where
   pub set : OperationSet
   pub of_files : IsSetOfFiles files set

@@ -17,7 +17,7 @@ use Rattle.desk_typing.specs.declared.typing_fault.TypingFault.{TypingFault}
 use Rattle.desk_typing.specs.declared.typing_fault.TypingFault.TheVariants.{NotUtf8, Run, PastEnd, Full, CounterSpent}
 use Rattle.desk_typing.specs.Changing.{operations_of, Fits, IsUnfit}
 
--- the file spells, in this version, what a site makes that holds all operations of the files, and types this text, in UTF-8
+-- the file spells, in this version, what a site that holds all operations of the files makes by typing this text, in UTF-8
 pub record IsTypedFile (version : Version) (files : List (List ℕ)) (change : Change) (text file : List ℕ) : Type 0 where
   pub set : OperationSet
   pub of_files : IsSetOfFiles files set
@@ -32,7 +32,7 @@ pub record IsUnfitFor (files : List (List ℕ)) (change : Change) (text : List �
   pub utf8 : IsUtf8 text
   pub unfit : IsUnfit set change (chars text) fault
 
--- why there is no file, by what is still to come of each reader and which have failed. The text is looked at first, then the
+-- why there is no file, by what each reader still has to give and which have failed. The text is looked at first, then the
 -- files, then the change. Lack of memory has no cause
 abbrev pub IsUntyped : (readers : List (Option (List ℕ))) (lost : List Bool) → Change → (text : List ℕ) → TypingFault → Type 0
 IsUntyped readers lost change text (NotUtf8 byte) = AreWorking lost × (¬ (IsUtf8 text)) × (byte ≡ utf8_valid_len text)

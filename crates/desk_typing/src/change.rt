@@ -2,13 +2,13 @@
 
 ghost use Rattle.std.specs.Prelude.{◌<◌};
 
-/// A change of a text: characters from a place on are erased, and others are typed there. Places
+/// A change of a text: characters from a place on are erased, and others typed there. Places
 /// count visible characters, from 0. A character is a Unicode scalar value.
 #[derive(Clone, Copy, Debug)]
 pub struct Change {
-    /// Who changes it, at least 1.
+    /// The site that makes the change, at least 1.
     pub site: u16,
-    /// Where; at the text's end where there is none.
+    /// Where the change is made: at the text's end if `None`.
     pub place: Option<u32>,
     /// How many characters are erased.
     pub erased: u32,

@@ -17,13 +17,13 @@ use op_codec::{Source, Version, encode_file, encode_file_v2};
 use std::alloc::Global;
 
 /// Writes the operation file of a change that a site makes to the text of all operations of the
-/// files: deletions, and then the insertions of the characters of a text in UTF-8, each after the one
-/// before. The file is of the version asked for; in version 2 what is typed has four bytes a character.
-/// Nothing is written before all is made. Where the key is secret, nobody can write files that make the
+/// files: deletions, then the insertions of the characters of a text in UTF-8, each after the one
+/// before. The file is of the version asked for; version 2 takes four bytes a typed character.
+/// Nothing is written before all is made. With a secret key, nobody can write files that make the
 /// run slow.
 ///
-/// What the files and the new one read as together is `laws::typed_text`; that its identifiers are new
-/// `laws::new_identifiers`.
+/// `laws::typed_text` says what the files and the new one read as together; `laws::new_identifiers` says
+/// that the new identifiers are new.
 pub fn typed<R: Source, S: Sink>(
     alloc: Global,
     key: u128,

@@ -20,9 +20,9 @@ use desk_replica::laws as desks;
 use desk_runs::laws as runs;
 use op_codec::laws as codec;
 
-/// The files and the file of a change together read as the text of the files, with the erased
-/// characters replaced by the typed ones: in whichever version it is written, in whatever order, and
-/// however often, the files are given.
+/// The files and the file of a change together read as the text of the files with the erased
+/// characters replaced by the typed ones, in whichever version it is written, in whatever order and
+/// however often the files are given.
 pub fn typed_text()
     ensures { (version : Version) (files more : List (List ℕ)) (change : Change) (words file : List ℕ) (s : OperationSet)
         → IsTypedFile version files change words file → IsSetOfFiles files s → HaveSameFiles more (files ++ file ∷ [])
@@ -33,9 +33,9 @@ pub fn typed_text()
     runs::one_outcome();
 }
 
-/// What is typed has counters above each that the files name, as an identifier, a parent or a target,
-/// and the site of the change; no two of its insertions share an identifier. So where no insertion
-/// of that site is known elsewhere that the files lack, none of all has an identifier of them.
+/// What is typed has counters above each one that the files name, as an identifier, a parent or a target,
+/// and the site of the change; no two of its insertions share an identifier. So if no insertion of
+/// that site is known elsewhere that the files lack, no insertion anywhere has one of their identifiers.
 pub fn new_identifiers()
     ensures above { (s : OperationSet) (change : Change) (typed : List ℕ) (id : Identifier) (p : Place) (ch : ℕ)
         → Contains (operations_of s change typed) (Insert id p ch) → (op : OpView) → Holds s op → All (λ c. c < id.counter) (named_counters op) }

@@ -19,7 +19,7 @@ use std::alloc::Global;
 /// How many operations a desk keeps at most.
 const LIMIT: usize = 1_000_000;
 
-/// What the site of a change makes where it holds what the desk holds: deletions, and then the
+/// What the site of a change makes if it holds what the desk holds: deletions, then the
 /// insertions of the characters. The desk may take one of them.
 pub fn operations(
     alloc: Global,
@@ -98,8 +98,8 @@ fn push_insertions(
     push_run(Id::new(counter, site).unwrap(), parent, typed, ops)
 }
 
-/// The counter and the parent of what is typed next at a place. The desk takes the character there,
-/// at its own site, to tell them: they are of no site.
+/// The counter and the parent of what is typed next at a place. To find them the desk types the
+/// character there at its own site: they don't depend on the site.
 fn next_insertion(desk: &mut Desk, place: usize, ch: char) -> Result<(u32, Place), TypingFault>
     requires place { place ≤ length (visible desk.old.set) }
     requires room { size desk.old.set < 1_000_000 }
@@ -119,7 +119,7 @@ fn next_insertion(desk: &mut Desk, place: usize, ch: char) -> Result<(u32, Place
     }
 }
 
-/// Adds the insertions of characters, each after the one before, with the counters from the first
+/// Adds the insertions of characters, each after the one before, with counters from the first
 /// one's on.
 fn push_run(first: Id, parent: Place, typed: &[char], ops: &mut Vec<Op>) -> Result<(), TypingFault>
     requires follows { MayFollow parent first }

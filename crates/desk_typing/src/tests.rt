@@ -10,7 +10,7 @@ use op_listing::pack;
 use std::alloc::Global;
 use std::test::Fail;
 
-/// Any key.
+/// Any key will do.
 const KEY: u128 = 0x2545_F491_4F6C_DD1D;
 
 /// `abc`, typed at site 1.
@@ -85,7 +85,7 @@ fn changes_become_operations(rt: HostRuntime) -> Result<(), Fail> {
             "\u{5D0}\u{628}",
             "i 4.1 3.1 05D0\ni 5.1 4.1 0628\n",
         ),
-        // Beside what is erased, and what waits.
+        // Next to what is erased, and to what waits.
         (
             "i 1.1 root 0061\ne 1.1\ni 9.3 8.3 007A\n",
             change(2, Some(0), 0),
@@ -195,7 +195,7 @@ fn a_write_that_fails_leaves_a_beginning(rt: HostRuntime) -> Result<(), Fail> {
     Ok(())
 }
 
-/// With ample memory a change of a file is right, and where a growth is refused it says so, and nothing
+/// With ample memory a change of a file is right; where a growth is refused it says so, and nothing
 /// is written.
 #[test]
 fn a_change_is_right_or_says_memory(rt: HostRuntime) {

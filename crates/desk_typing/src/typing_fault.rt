@@ -11,18 +11,18 @@ use std::alloc::{AllocError, AllocFailed};
 use std::error::Error;
 use std::fmt;
 
-/// Why a change is not written. Each prints as the line on standard error says it, without the
+/// Why a change is not written. Each prints as in the line on standard error, without the
 /// program's name.
 #[derive(Clone, Copy, Debug, PartialEq, Eq)]
 pub enum TypingFault {
-    /// The text is not UTF-8: how many of its bytes stand before the first that is wrong.
+    /// The text is not UTF-8: how many of its bytes come before the first wrong one.
     NotUtf8(usize),
-    /// A run over the files ends so: a file is faulty, a desk refuses what they hold, a read or a
+    /// A run over the files ends like this: a file is faulty, a desk refuses what they hold, a read or a
     /// write failed, or a growth was refused.
     Run(RunFault),
-    /// The place, or so many characters from it on, are past the text's end.
+    /// The place, or the end of the characters to be erased from it on, is past the text's end.
     PastEnd { place: usize, erased: u32 },
-    /// The files and the change have more than 1,000,000 operations together.
+    /// The files and the change together have more than 1,000,000 operations.
     Full,
     /// A character would need a counter above 4,294,967,295.
     CounterSpent,
@@ -45,7 +45,7 @@ impl fmt::Display for TypingFault {
 impl Error for TypingFault {}
 
 impl TypingFault {
-    /// The number of this fault: that of the run's fault, 1 to 10; 6 for `PastEnd`; else 11 to 13.
+    /// The number of this fault: that of the run's fault, 1 to 10; 6 for `PastEnd`; otherwise 11 to 13.
     pub fn code(&self) -> u8
         ensures { result ≡ typing_code self.now }
     {
@@ -58,7 +58,7 @@ impl TypingFault {
         }
     }
 
-    /// The status that the program ends with: that of the run's fault, else 1.
+    /// The status that the program ends with: that of the run's fault, otherwise 1.
     pub fn status(&self) -> u8
         ensures { result ≡ typing_status self.now }
     {
