@@ -35,7 +35,7 @@ module _ (grid : DrawnGrid) (p : ℕ) (row : DrawnRow) (follow : RowsFollow 0 gr
       let at = eq-eqb p (length (chars grid.text)) (end-at_last_place (length (chars grid.text)) p grid.rows row follow is same) in
       sym (caret_at-row ∙ ap (λ b. cond b (at_end (row_at grid.rows p) row) (at_cluster p (row_at grid.rows p) row)) at)
 
-  -- and else it isn't
+  -- and otherwise it isn't
   pub caret_at-cluster : (p ≡ row.last_place → ⊥) → at_cluster p (row_at grid.rows p) row ≡ caret_at grid p
   caret_at-cluster other =
       let at = ne_eqb p (length (chars grid.text)) (λ end. other (last_place-at_end (length (chars grid.text)) p grid.rows row follow is end)) in

@@ -34,7 +34,7 @@ begins_by-at rows p k d within =
 abbrev pub Splits : List DrawnRow → ℕ → ℕ → Type 0
 Splits rows p i = IsPartitionPoint (λ (r : DrawnRow). nat_le r.first_place p ≡ true) (λ (r : DrawnRow). nat_le r.first_place p ≡ false) rows i
 
--- row 0 begins at place 0, so it is among the former
+-- row 0 begins at place 0, so it is among those before
 pub some-splits : (to p i : ℕ) (rows : List DrawnRow) → RowsFollow 0 rows to → 0 < length rows → Splits rows p i → 0 < i
 some-splits to p i [] follow some splits = absurd (omega arith)
 some-splits to p zero (r ∷ later) follow some splits =
@@ -42,7 +42,7 @@ some-splits to p zero (r ∷ later) follow some splits =
     absurd (omega (arith, follow.0))
 some-splits to p (suc i) (r ∷ later) follow some splits = omega arith
 
--- and the last of the former is the row of p
+-- and the last of those before is the row of p
 pub row_at-splits : (to p i : ℕ) (rows : List DrawnRow) → RowsFollow 0 rows to → 0 < length rows → i ≤ length rows → Splits rows p i → row_at rows p ≡ i - 1
 row_at-splits to p i [] follow some within splits = absurd (omega arith)
 row_at-splits to p i (r ∷ later) follow some within splits =

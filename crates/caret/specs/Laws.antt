@@ -8,7 +8,7 @@ use Rattle.caret.specs.declared.caret.Caret.{Caret}
 use Rattle.caret.specs.Moves.{over_to_right, over_to_left, right_of, left_of}
 use Rattle.caret.specs.Places.{gap_zero, before_cluster, behind_cluster, caret_at}
 
--- a move, made so many times
+-- a move, made a number of times
 abbrev pub moved : (Caret → Caret) → (steps : ℕ) → Caret → Caret
 moved move zero caret = caret
 moved move (suc steps) caret = move (moved move steps caret)
@@ -25,7 +25,7 @@ CrossesOneEntry =
     → (slice_get row.entries caret.gap ≡ Some entry → right_of rows caret ≡ over_to_right caret entry)
     × (0 < caret.gap → slice_get row.entries (caret.gap - 1) ≡ Some entry → left_of rows caret ≡ over_to_left caret entry)
 
--- so many steps to the right from gap 0 lead to the gap of that number, and from gap n as many to the left to the gap of that number from there
+-- from gap 0 a number of steps to the right leads to the gap of that number, and from gap n as many to the left lead to the gap that far from it
 abbrev pub VisitsEveryGap : Type 0
 VisitsEveryGap =
     (rows : List DrawnRow) (row : DrawnRow) (number place steps : ℕ) → slice_get rows number ≡ Some row → steps ≤ length row.entries

@@ -50,7 +50,7 @@ at_cluster p number row = option_map_or (before_cluster number) (entry_where (ho
 abbrev pub at_end : ℕ → DrawnRow → Caret
 at_end number row = option_map_or (behind_cluster number) (entry_where (ends_at row.last_place) row.entries) (gap_zero number row.last_place)
 
--- the caret at place p, in this row of a text of so many code points
+-- the caret at place p, in this row of a text of this many code points
 abbrev pub caret_in : ℕ → ℕ → ℕ → DrawnRow → Caret
 caret_in code_points p number row = if p == code_points then at_end number row else at_cluster p number row
 

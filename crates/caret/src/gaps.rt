@@ -8,7 +8,7 @@ ghost use Rattle.caret.specs.Moves.{caret_by};
 use crate::caret::Caret;
 use cell_grid::{Entry, Row};
 
-/// Whether a level is odd: of a cluster that is read from right to left, or of a paragraph that begins at the right edge.
+/// Whether a level is odd: a cluster of it is read from right to left, and a paragraph of it begins at the right edge.
 pub(crate) fn is_odd(level: u8) -> bool
     ensures { result ≡ is_odd level }
 {
@@ -46,7 +46,7 @@ fn end_column(entry: &Entry) -> usize
     column as usize + columns as usize
 }
 
-/// The column where the entries of a row end; an empty row has its start there.
+/// The column where the entries of a row end; for an empty row, where it starts.
 fn row_end(row: &Row) -> usize
     ensures { result ≡ row_end row.now }
 {
@@ -57,7 +57,7 @@ fn row_end(row: &Row) -> usize
     }
 }
 
-/// The column of a gap: that of the entry right of it, and of the last gap the row's end.
+/// The column of a gap: that of the entry right of it, or the row's end for the last gap.
 pub(crate) fn gap_column(row: &Row, gap: usize) -> usize
     ensures { result ≡ gap_column row.now gap }
 {
@@ -85,7 +85,7 @@ fn last_gap_by(row: &Row, column: usize) -> usize
     last
 }
 
-/// The place at a gap: on the side of the entry left of it, at gap 0 on that of entry 0, else the empty row's.
+/// The place at a gap: the right side of the entry left of it, at gap 0 the left side of entry 0, in an empty row the row's.
 fn gap_place(row: &Row, gap: usize) -> usize
     ensures { result ≡ gap_place row.now gap }
 {

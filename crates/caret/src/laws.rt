@@ -9,12 +9,12 @@ pub fn one_entry()
     ensures { CrossesOneEntry }
 {}
 
-/// As many steps as a row has entries, from one edge of the row, visit each of its gaps.
+/// From one edge of a row, as many steps as the row has entries visit each of its gaps.
 pub fn every_gap()
     ensures { VisitsEveryGap }
 {}
 
-/// A step inside a row and its opposite give back row and gap.
+/// A step inside a row and then its opposite give back row and gap.
 pub fn opposites()
     ensures { UndoneByOpposite }
 {}

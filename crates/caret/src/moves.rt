@@ -64,9 +64,9 @@ fn backwards(rows: &[Row], caret: Caret) -> Caret
 
 /// The caret after one step to the right.
 ///
-/// In a row it crosses the entry right of it. From a row's right edge it goes to the next row's
+/// Inside a row it crosses the entry right of it. From a row's right edge it goes to the next row's
 /// logical start in a paragraph of even level, and to the logical end of the row before in one of
-/// odd level; where there is no such row nothing changes.
+/// odd level; if there is no such row, nothing changes.
 pub fn right(grid: &Grid, caret: Caret) -> Caret
     requires { IsCaretOf grid.now.rows caret }
     ensures caret { result ≡ right_of grid.now.rows caret }
@@ -87,9 +87,9 @@ pub fn right(grid: &Grid, caret: Caret) -> Caret
 
 /// The caret after one step to the left.
 ///
-/// In a row it crosses the entry left of it. From a row's left edge it goes to the logical end of
+/// Inside a row it crosses the entry left of it. From a row's left edge it goes to the logical end of
 /// the row before in a paragraph of even level, and to the next row's logical start in one of odd
-/// level; where there is no such row nothing changes.
+/// level; if there is no such row, nothing changes.
 pub fn left(grid: &Grid, caret: Caret) -> Caret
     requires { IsCaretOf grid.now.rows caret }
     ensures caret { result ≡ left_of grid.now.rows caret }

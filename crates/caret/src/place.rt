@@ -99,9 +99,9 @@ fn at_end(row: &Row, number: usize) -> Caret
     }
 }
 
-/// The caret at a place of the text, which counts code points and is at most the text's length.
+/// The caret at a place of the text, counted in code points and at most the text's length.
 ///
-/// It stands in the last row whose first place is at most `place`, at the start of the cluster that
+/// It is in the last row whose first place is at most `place`, at the start of the cluster that
 /// holds the place; at the text's end, after the row's logically last cluster. The row is found by
 /// binary search.
 pub fn at_place(grid: &Grid, place: usize) -> Caret

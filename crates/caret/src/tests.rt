@@ -1,6 +1,6 @@
 //! What no clause says: lines walked by hand.
 //!
-//! A call that memory was refused to is made again: so each test also passes with any one allocation
+//! A call that was refused memory is made again: so each test also passes with any one allocation
 //! refused (`rt try --test --fail-alloc N`).
 
 ghost use Rattle.std.specs.Prelude.{◌≡◌, ◌≤◌, length};
@@ -33,7 +33,7 @@ fn tables(alloc: Global) -> Result<Tables, UcdFault> {
     }
 }
 
-/// The grid of a text by a base direction, after a test of what the call asks for.
+/// The grid of a text by a base direction, after a test of the call's preconditions.
 fn drawn<'a>(
     rt: &impl Abort,
     alloc: Global,
@@ -50,7 +50,7 @@ fn drawn<'a>(
     }
 }
 
-/// The caret at a place, after a test of what the call asks for.
+/// The caret at a place, after a test of the call's preconditions.
 fn placed(rt: &impl Abort, grid: &Grid, place: usize) -> Caret
     ensures { IsCaretOf grid.now.rows result }
 {
@@ -159,7 +159,7 @@ fn edges_lead_on_and_back(rt: HostRuntime) -> Result<(), Fail> {
         ("a\n", 2, 0, "rrrrl", "000 011 022 102 102 022"),
         ("abcdef", 4, 4, "llrrrrr", "104 044 033 044 104 115 126 126"),
         ("abcdef", 4, 0, "l", "000 000"),
-        // Two rows of a paragraph of level 1; such a row before one of level 0, and after one.
+        // Two rows of a paragraph of level 1; such a row before one of level 0, and after it.
         (
             "\u{5D0}\u{5D1}\u{5D2}\u{5D3}",
             2,
