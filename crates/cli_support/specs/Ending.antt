@@ -1,10 +1,10 @@
--- How a run ends that has nothing to do.
+-- How a run that has nothing to do ends.
 use Rattle.std.specs.Prelude.{◌≡◌, ℕ, Bool, false, List, [], Option, string_bytes, if◌then◌else◌}
 use Rattle.std.specs.Io.KnownBytes.{Appends, Keeps}
 use Rattle.cli_support.specs.declared.command_line.Stop.{Stop}
 use Rattle.cli_support.specs.declared.command_line.Stop.TheVariants.{Help, Usage, Memory}
 
--- the status, where the help was lost or not
+-- the status, by whether the help was lost
 abbrev pub status_of : Stop → Bool → ℕ
 status_of (Help text) lost = if lost then 3 else 0
 status_of (Usage text) lost = 2
@@ -16,7 +16,7 @@ help_of (Help text) = string_bytes text
 help_of (Usage text) = []
 help_of Memory = []
 
--- what standard error gets: the text about the command line, unless a write of it fails; nothing beside the whole help
+-- what standard error gets: the text about the command line, unless a write of it fails; nothing besides the whole help
 abbrev pub IsTold : Stop → (out_failed err_failed : Bool) → (old new : Option (List ℕ)) → Type 0
 IsTold (Help text) out_failed err_failed old new = out_failed ≡ false → Keeps old new
 IsTold (Usage text) out_failed err_failed old new = err_failed ≡ false → Appends old new (string_bytes text)

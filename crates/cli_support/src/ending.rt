@@ -42,10 +42,10 @@ impl<S: Sink> fmt::Write for Text<'_, S> {
     }
 }
 
-/// Ends a run that has nothing to do, and gives its status. The help goes to `out`, with status 0;
-/// what is wrong with the command line to `err`, with status 2. Where memory is wanting, or the
+/// Ends a run that has nothing to do, and returns its status. The help goes to `out`, with status 0;
+/// what is wrong with the command line to `err`, with status 2. Where memory is lacking, or the
 /// help can't be written, `err` gets the line about it, and the status is 3. A failure of `err`
-/// goes unheard: the status tells it alone.
+/// goes unreported: only the status shows it.
 pub fn end<O: Sink, E: Sink>(program: &str, stop: &Stop, out: &mut O, err: &mut E) -> u8
     requires out { O.has_failed out.old ≡ false }
     requires err { E.has_failed err.old ≡ false }

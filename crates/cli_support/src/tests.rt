@@ -138,7 +138,7 @@ fn a_file_that_cannot_be_read_is_named(rt: HostRuntime) -> Result<(), Fail> {
     assert!(rt; file.is_empty());
     assert!(rt; open(&rt, "/dev/zero").is_ok());
     assert_eq!(rt; path_of(open(&rt, "/nowhere/a"))?.as_str(), "/nowhere/a");
-    // A folder opens, and can't be read; this device gives bytes without end.
+    // A folder opens but can't be read; this device gives bytes without end.
     assert_eq!(rt; path_of(read(&rt, "/dev"))?.as_str(), "/dev");
     assert_eq!(rt; path_of(read(&rt, "/dev/zero"))?.as_str(), "/dev/zero");
     let first = path_of(read_data(&rt, "/nowhere"))?;
