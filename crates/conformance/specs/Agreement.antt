@@ -1,4 +1,4 @@
--- When what came is what a test file wants.
+-- When what came is what the test file wants.
 use Rattle.std.specs.Prelude.{◌≡◌, ℕ, Bool, true, false, List, length, ◌==◌, Option, Some, None, EachIndex, slice_index, slice_index_or}
 use Rattle.conformance.specs.declared.case.Wanted.{Wanted}
 use Rattle.conformance.specs.declared.bidi.BidiLine.{BidiLine}
@@ -16,12 +16,12 @@ EachIsLevel wanted came = EachIndex came (λ k. is_level (slice_index_or wanted 
 abbrev pub AreLevels : List (Option ℕ) → List ℕ → Type 0
 AreLevels wanted came = (length wanted ≡ length came) × EachIsLevel wanted came
 
--- the paragraph's level, where one is wanted, the levels, and the order of the places with one
+-- the paragraph's level, where one is wanted, the levels, and the order of the places that have one
 abbrev pub IsAsWanted : Wanted → BidiLine → List ℕ → Type 0
 IsAsWanted wanted came places =
     (is_level wanted.level came.level ≡ true) × AreLevels wanted.levels.items came.levels.items × (places ≡ wanted.order.items)
 
--- whether a level is wanted; an `x` is none
+-- whether a level is wanted; an `x` wants none
 abbrev pub is_wanted : Option ℕ → Bool
 is_wanted None = false
 is_wanted (Some level) = true

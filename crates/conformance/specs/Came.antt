@@ -32,7 +32,7 @@ pub record IsLineOf (tables : TableValues) (base : Base) (text : List ℕ) (line
   pub levels : line.levels.items ≡ line_levels_of tables text (levels_of tables base text) (replicate (length (code_points text)) 1) line.level
   pub order : line.order.items ≡ visual_list line.levels.items
 
--- the paragraph's level, the levels and the order came that are wanted
+-- the paragraph's level, the levels and the order that came are those wanted
 pub record CameAsWanted (tables : TableValues) (base : Base) (text : List ℕ) (wanted : Wanted) : Type 0 where
   pub line : BidiLine
   pub is : IsLineOf tables base text line

@@ -1,4 +1,4 @@
--- How a choice of the profile of line breaking explains that breaks differ from those of the test file.
+-- How a choice of the profile of line breaking explains breaks that differ from those of the test file.
 use Rattle.std.specs.Prelude.{◌≡◌, ℕ, Bool, true, false, not, ◌+◌, ◌&&◌, ◌||◌, List, [], ◌∷◌, length, take, drop, reverse, slice_index_or, EachIndex, Option, Some, None, if◌then◌else◌}
 use Rattle.bg_types.specs.declared.class.Lb.{Lb}
 use Rattle.bg_types.specs.declared.class.Lb.TheVariants.{Cl, Cp, Eb, Em, Hy, Is, Nu, Op, Po, Pr, Sy}
@@ -73,7 +73,7 @@ makes Pictographs before after false = is_pictograph before && begins (Em ∷ []
 abbrev pub makes_at : TableValues → List ℕ → Choice → ℕ → Bool → Bool
 makes_at tables points choice end wanted = makes choice (reverse (items_of tables (take end points))) (items_of tables (drop end points)) wanted
 
--- there as many breaks are wanted as came, or the choice makes the difference
+-- at that boundary a break came exactly if one is wanted, or the choice makes the difference
 abbrev pub explains_at : TableValues → List ℕ → Choice → ℕ → Bool → Bool → Bool
 explains_at tables points choice end true came = came || makes_at tables points choice end true
 explains_at tables points choice end false came = not came || makes_at tables points choice end false

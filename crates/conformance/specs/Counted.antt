@@ -5,14 +5,14 @@ use Rattle.conformance.specs.declared.tally.Verdict.{Verdict}
 use Rattle.conformance.specs.declared.tally.Verdict.TheVariants.{Agrees, Differs, Chosen}
 use Rattle.conformance.specs.declared.tally.Choice.TheVariants.{Pairs, Pictographs}
 
--- how many cases came to a verdict
+-- how many cases had each verdict
 abbrev pub number_of : Verdict → Tally → ℕ
 number_of Agrees t = t.agree
 number_of Differs t = t.differ
 number_of (Chosen Pairs) t = t.pairs
 number_of (Chosen Pictographs) t = t.pictographs
 
--- the tally with one case more of a verdict, and all others as they were
+-- the tally with one more case of a verdict, and all others as they were
 abbrev pub counted : Verdict → Tally → Tally
 counted Agrees t = record t { agree = t.agree + 1 }
 counted Differs t = record t { differ = t.differ + 1 }

@@ -72,7 +72,7 @@ fn paragraph_line(
     })
 }
 
-/// The sizes of so many clusters of one code point.
+/// The sizes of a number of clusters of one code point.
 #[tactic(auto, using(crate::proofs::Ones::ones_positive, crate::proofs::Ones::ones_sum))]
 fn ones(alloc: Global, count: usize) -> Result<Vec<u32>, Memory>
     ensures positive { IfOk result (λ sizes. All (λ size. 0 < size) sizes.items) }
@@ -82,7 +82,7 @@ fn ones(alloc: Global, count: usize) -> Result<Vec<u32>, Memory>
     Ok(vec![in alloc; 1; count]?)
 }
 
-/// Whether a level came that is wanted. `None`, an `x`, wants none.
+/// Whether the level that came is the one wanted. `None`, an `x`, wants none.
 pub fn is_level(wanted: Option<u8>, came: u8) -> bool
     ensures { result ≡ is_level wanted came }
 {

@@ -18,7 +18,7 @@ fn may_end(status: Break) -> bool
     !matches!(status, Break::No)
 }
 
-/// Puts the breaks of a paragraph after others.
+/// Appends the breaks of a paragraph to others.
 fn push_breaks(
     alloc: Global,
     tables: &Tables,

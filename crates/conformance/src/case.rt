@@ -6,7 +6,7 @@ use crate::field;
 use bg_types::Base;
 use std::alloc::Global;
 
-/// The levels and the order that are wanted of a line of text.
+/// The levels and the order that are wanted for a line of text.
 #[derive(Drop)]
 pub struct Wanted {
     /// The paragraph's level, where the file gives it.

@@ -14,7 +14,7 @@ use std::alloc::Global;
 use ucd_emoji::is_extended_pictographic;
 use ucd_files::Tables;
 
-/// A code point with what belongs to it by LB9.
+/// A code point with those that belong to it by LB9.
 #[derive(Clone, Copy)]
 struct Item {
     first: char,
@@ -73,7 +73,7 @@ fn explains(
     Ok(true)
 }
 
-/// Whether nothing differs at the boundary after so many code points, or a choice makes the
+/// Whether nothing differs at the boundary after a number of code points, or a choice makes the
 /// difference.
 fn explains_at(
     alloc: Global,
@@ -93,7 +93,7 @@ fn explains_at(
     makes_at(alloc, tables, points, choice, end, wanted)
 }
 
-/// Whether a choice makes a difference at the boundary after so many code points.
+/// Whether a choice makes a difference at the boundary after a number of code points.
 fn makes_at(
     alloc: Global,
     tables: &Tables,

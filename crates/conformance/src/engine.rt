@@ -26,7 +26,7 @@ use ucd_files::Tables;
 /// The greatest length of a line, in bytes, its end included.
 const BOUND: u64 = 65_536;
 
-/// How many of the cases that differ are told.
+/// How many of the cases that differ are reported.
 const TOLD: u64 = 20;
 
 /// The bits of a line of `BidiTest.txt`.
@@ -44,11 +44,11 @@ struct Comparison<'a> {
     tally: Tally,
     /// What the last lines `@Levels` and `@Reorder` said.
     wanted: Wanted,
-    /// What is told of the case that differed last.
+    /// The report of the last case that differed.
     told: Option<String>,
 }
 
-/// Compares the cases of a test file, writes the first 20 that differ, and then the line that
+/// Compares the cases of a test file, writes the first 20 that differ, and then the line of
 /// counts.
 pub fn run<B: BufRead, S: Sink>(
     alloc: Global,
@@ -144,7 +144,7 @@ impl<'a> Comparison<'a> {
         Ok(())
     }
 
-    /// Counts a case, and keeps what is told of it unless enough were told.
+    /// Counts a case, and keeps its report unless enough have been reported.
     fn keep(&mut self, found: Found) -> Result<(), RunFault>
         ensures counted { OnOk result (self.new.tally ≡ counted found.verdict self.old.tally) }
         ensures once { OnOk result (cases_of self.new.tally ≡ cases_of self.old.tally + 1) }
@@ -211,7 +211,7 @@ impl<'a> Comparison<'a> {
     }
 }
 
-/// What came of a case, and what is told of it where it differs.
+/// What came of a case, and its report if it differs.
 #[derive(Drop)]
 struct Found {
     verdict: Verdict,

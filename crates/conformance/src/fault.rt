@@ -15,7 +15,7 @@ pub enum LineFault {
     /// The line isn't UTF-8.
     #[error("BadUtf8")]
     BadUtf8,
-    /// The line has another shape than the file's lines.
+    /// The line hasn't the shape of the file's lines.
     #[error("BadLine")]
     BadLine,
 }
@@ -31,7 +31,7 @@ pub enum RunFault {
     Name,
     /// A line of the test file, counted from 1, is faulty.
     Line(u64, LineFault),
-    /// There are more cases than are counted.
+    /// There are more cases than can be counted.
     TooMany,
     /// A write failed.
     Device,

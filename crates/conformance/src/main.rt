@@ -28,7 +28,7 @@ pub use tally::{Choice, Tally, Verdict};
 pub use test_file::TestFile;
 use ucd_files::Tables;
 
-/// The name that stands before the line about a fault.
+/// The name at the front of the line about a fault.
 const NAME: &str = "conformance";
 
 fn main(rt: HostRuntime) -> ExitCode {
@@ -92,7 +92,7 @@ fn refuse_at(rt: &HostRuntime, path: &str, fault: RunFault) -> ExitCode {
     refuse(rt, &FaultAt { path, fault })
 }
 
-/// Writes the line about a fault. Where it can't be written, the status tells it alone.
+/// Writes the line about a fault. Where it can't be written, only the status shows the fault.
 fn refuse<F: Display>(rt: &HostRuntime, fault: &F) -> ExitCode {
     let _unheard = tell(NAME, fault, &mut Out::new(rt.stderr()));
     ExitCode::from(3)

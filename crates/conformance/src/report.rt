@@ -1,4 +1,4 @@
-//! What is told of a case that differs, and the line that counts.
+//! The report of a case that differs, and the line of counts.
 
 use crate::bidi::BidiLine;
 use crate::case::Wanted;
@@ -58,7 +58,7 @@ fn put_numbers(text: &mut String, numbers: &[u32]) -> Result<(), RunFault> {
     Ok(())
 }
 
-/// Writes code points, each with its mark after it.
+/// Writes code points, each followed by its mark.
 fn put_marks(told: &mut String, text: &str, breaks: &[bool]) -> Result<(), RunFault> {
     for (i, c) in text.chars().enumerate() {
         let code = u32::from(c);
@@ -72,7 +72,7 @@ fn put_marks(told: &mut String, text: &str, breaks: &[bool]) -> Result<(), RunFa
     Ok(())
 }
 
-/// The line that counts.
+/// The line of counts.
 pub fn summary(alloc: Global, name: &str, tally: &Tally) -> Result<String, RunFault> {
     let cases = tally.cases();
     let agree = tally.agree;

@@ -1,4 +1,4 @@
-//! What came of the cases, counted.
+//! Counts of what came of the cases.
 
 ghost use Rattle.std.specs.Prelude.{◌≡◌, ◌+◌, ◌<◌, ◌^◌, IfSome, SomeIff};
 ghost use Rattle.conformance.specs.Counted.{number_of, counted, cases_of};
@@ -22,7 +22,7 @@ pub enum Verdict {
     Chosen(Choice),
 }
 
-/// How many cases came to what.
+/// How many cases had each verdict.
 #[derive(Clone, Copy, Default)]
 pub struct Tally {
     pub agree: u64,
