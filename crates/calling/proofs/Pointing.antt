@@ -11,7 +11,7 @@ use Rattle.calling.specs.Mouse.{entry_number, entry_under}
 all_at : {A : Type 0} (P : A → Type 0) (xs : List A) (k : ℕ) (x : A) → All P xs → slice_get xs k ≡ Some x → P x
 all_at P xs k x all is = subst P (get_or_from_slice_get xs k x x is) (all k x (slice_get_within xs k x is))
 
--- the rows end where the text ends, or before
+-- the rows end where the text ends, or earlier
 from-to : (from to : ℕ) (rows : List DrawnRow) → RowsFollow from rows to → from ≤ to
 from-to from to [] follow = omega (arith, follow)
 from-to from to (r ∷ later) follow = let rest : r.last_place ≤ to = from-to r.last_place to later follow.2 in omega (arith, follow.0, follow.1)

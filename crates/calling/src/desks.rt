@@ -16,7 +16,7 @@ use std::alloc::Global;
 /// A desk over the sequence in blocks, the fast one.
 pub type Desk = Replica<Blocks>;
 
-/// A desk of this site (at least 1) without operations. No two desks of one text have the same site.
+/// A desk of this site (at least 1) without operations. No two desks of one text may have the same site.
 pub fn new_desk(alloc: Global, site: u16, key: u128) -> Desk
     requires { 0 < site }
     ensures { result ≡ fresh site }
@@ -24,7 +24,7 @@ pub fn new_desk(alloc: Global, site: u16, key: u128) -> Desk
     Replica::new(alloc, site, Blocks::keyed(alloc, key), key)
 }
 
-/// Types words at the end of a desk's text, and puts the operations that this made at the end of
+/// Types words at the end of a desk's text, and appends the operations that this made to
 /// `made`, to be sent to the other desks.
 pub fn type_words(desk: &mut Desk, words: &str, made: &mut Vec<Op>) -> Result<(), Fault>
     ensures { OnOk result (text desk.new.set ≡ text desk.old.set ++ chars words.now) }
@@ -46,8 +46,8 @@ pub fn take_all(desk: &mut Desk, ops: &[Op]) -> Result<(), Fault>
     Ok(())
 }
 
-/// Lets two desks meet: each takes all that the other one holds. Then both hold what either held, and
-/// so they show one text.
+/// Lets two desks meet: each takes all that the other holds. Then both hold what either held, so
+/// they show the same text.
 pub fn meet(one: &mut Desk, other: &mut Desk) -> Result<(), Fault>
     ensures all { OnOk result (one.new.set ≡ union one.old.set other.old.set) }
     ensures same { OnOk result (one.new.set ≡ other.new.set) }

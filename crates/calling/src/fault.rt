@@ -6,7 +6,7 @@ use std::alloc::{AllocError, AllocFailed};
 use thiserror::Error;
 use ucd_files::UcdFault;
 
-/// Why the program ended early: one variant for each kind of fault that the core answers, and one of its own.
+/// Why the program ended early: one variant for each kind of fault that the core returns, and one of its own.
 #[derive(Clone, Copy, Debug, PartialEq, Eq, Error)]
 pub enum Fault {
     /// A data file is faulty.

@@ -34,8 +34,8 @@ pub fn run<S: Sink>(alloc: Global, key: u128, out: &mut S) -> Result<(), Fault>
     with_desks(alloc, key, &mut view, out)
 }
 
-/// Makes two desks, and lets them write and meet. There is one way out, since for each of a function
-/// that owns desks it is proved anew that they are freed.
+/// Makes two desks, and lets them write and meet. There is one way out: each way out of a function
+/// that owns desks takes its own proof that they are freed.
 fn with_desks<S: Sink>(alloc: Global, key: u128, view: &mut View, out: &mut S) -> Result<(), Fault>
     requires { S.has_failed out.old ≡ false }
 {
@@ -44,7 +44,7 @@ fn with_desks<S: Sink>(alloc: Global, key: u128, view: &mut View, out: &mut S) -
     write_and_meet(alloc, &mut one, &mut other, view, out)
 }
 
-/// Lets two desks write apart and meet. What each shows before is written, then what both show, and
+/// Lets two desks write apart and meet. Writes what each shows before, then what both show, and
 /// where the caret and the mouse are in it.
 fn write_and_meet<S: Sink>(
     alloc: Global,
@@ -69,8 +69,8 @@ fn load_tables(alloc: Global) -> Result<Tables, Fault> {
     Ok(tables)
 }
 
-/// Two desks write at once: the other one has seen the first words, and neither what the other
-/// writes after them.
+/// Two desks write at once: `other` has seen the first words of `one`, and neither has seen what the
+/// other writes after them.
 fn write_apart(alloc: Global, one: &mut Desk, other: &mut Desk) -> Result<(), Fault> {
     let mut made = Vec::new(alloc);
     type_words(one, "tea ", &mut made)?;
@@ -79,7 +79,7 @@ fn write_apart(alloc: Global, one: &mut Desk, other: &mut Desk) -> Result<(), Fa
     type_words(other, "תה", &mut made)
 }
 
-/// Draws a desk's text, and writes the picture: it follows from the operations that the desk holds, and
+/// Draws a desk's text, and writes the picture, which follows from the operations that the desk holds and
 /// from nothing else.
 fn look<S: Sink>(view: &mut View, desk: &Desk, out: &mut S) -> Result<(), Fault>
     requires { S.has_failed out.old ≡ false }

@@ -20,8 +20,8 @@ fn entry_under(row: &Row, column: usize) -> Option<Entry>
     }
 }
 
-/// The place of the cluster that is seen in a cell, counted in code points: none in a blank cell, and
-/// none outside of the grid.
+/// The place of the cluster seen in a cell, counted in code points: none in a blank cell, and
+/// none outside the grid.
 pub fn place_under(grid: &Grid, row: usize, column: usize) -> Option<usize>
     ensures place { result ≡ place_under grid.now row column }
     ensures within { IfSome result (λ place. place < length (chars grid.now.text)) }
@@ -40,7 +40,7 @@ pub fn caret_before(grid: &Grid, place: usize) -> Caret
     ensures within { IsCaretOf grid.now.rows result }
 {
     each_place();
-    // A grid's rows tell that it is drawn, as the law asks.
+    // Reading a grid's rows tells the proof that it is drawn, as the law asks.
     let _rows = grid.rows();
     at_place(grid, place)
 }

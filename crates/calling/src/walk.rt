@@ -8,7 +8,7 @@ ghost use Rattle.caret.specs.Laws.{moved};
 use caret::{Caret, right};
 use cell_grid::Grid;
 
-/// The caret after so many steps to the right, as the eye sees it.
+/// The caret after a number of steps to the right, as the eye sees it.
 pub fn steps_right(grid: &Grid, from: Caret, steps: usize) -> Caret
     requires { IsCaretOf grid.now.rows from }
     ensures caret { result ≡ moved (right_of grid.now.rows) steps from }
