@@ -1,4 +1,4 @@
--- A stretch of a line splits at a cluster of its least level: at an even level the two sides keep their places, at an odd one they change them.
+-- A stretch of a line splits at a cluster of its least level: at an even level the two sides keep their places, at an odd one they swap them.
 use Rattle.std.proofs.Common.{ℕ, zero, suc, ◌≡◌, ◌+◌, ◌-◌, ◌<◌, ◌≤◌, refl, ap, sym, ◌∙◌, subst, List, [], ◌∷◌, ◌++◌, reverse, Bool, true, false, append_assoc, arith, ◌%◌, ◌⊎◌, inl, inr, length, get_or, add-zero, add-suc, min}
 use Rattle.std.specs.Prelude.{not, if◌then◌else◌}
 use Rattle.std.proofs.lemmas.List.{reverse-append}

@@ -103,7 +103,7 @@ low-between n k a x m y b least is low = elim is.met [
 le-trans : {a b c : ℕ} → a ≤ b → b ≤ c → a ≤ c
 le-trans h j = omega arith
 
--- in a high line the last round turns all
+-- in a high line the last round reverses all
 order-core : (n k : ℕ) (a : List Cluster) (x : Cluster) (m : List Cluster) (y : Cluster) (b : List Cluster) (least : ℕ) →
     IsLeast least x m y → k ≤ least → High k a → High k b →
     Order (is_odd_count (suc least - suc k)) x y (reversed_from n (suc k) (line a x m y b)) →

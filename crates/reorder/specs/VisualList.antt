@@ -37,12 +37,12 @@ abbrev pub greatest : List ℕ → ℕ
 greatest [] = 0
 greatest (l ∷ ls) = max l (greatest ls)
 
--- the lowest odd level, or where there is none the given number
+-- the lowest odd level, or the given number where there is none
 abbrev pub lowest_odd : ℕ → List ℕ → ℕ
 lowest_odd none [] = none
 lowest_odd none (l ∷ ls) = if is_odd l then min l (lowest_odd none ls) else lowest_odd none ls
 
--- what the reversals of a line with these levels make of some of its clusters
+-- what the reversals of a line with these levels do to some of its clusters
 unfoldable pub arranged : List ℕ → List Cluster → List Cluster
 arranged levels clusters =
     let above = suc (greatest levels) in

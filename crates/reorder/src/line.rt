@@ -9,7 +9,7 @@ use bg_types::{Bidi, Memory};
 use std::alloc::Global;
 use ucd_files::Tables;
 
-/// Whether L1 resets a code point of a class, where what follows it in the line begins with one that is reset, or not.
+/// Whether L1 resets a code point of a class, given whether the one after it in the line is reset.
 #[tactic(auto, unfolding(crate::specs::LineLevels::is_separator, crate::specs::LineLevels::is_run_class, bg_types::specs::Classes::is_removed, bg_types::specs::Classes::is_isolate_control))]
 fn is_reset(class: Bidi, follower_is_reset: bool) -> bool
     ensures { result ≡ (is_separator class || (is_run_class class && follower_is_reset)) }

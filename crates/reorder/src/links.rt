@@ -27,7 +27,7 @@ impl Piece {
         }
     }
 
-    /// Both pieces as one, of which `right` stands on the right.
+    /// Both pieces as one, with `right` on the right.
     #[inline]
     fn before(self, right: Piece, links: &mut [u32]) -> Piece
         requires { self.last < length links.old }
@@ -42,7 +42,7 @@ impl Piece {
         }
     }
 
-    /// This piece and a later one of the line as one piece of a level: the later one stands right of it, at an odd level left of it.
+    /// This piece and a later one of the line as one piece of a level: the later one goes to its right, at an odd level to its left.
     #[inline]
     pub(crate) fn then(self, later: Piece, level: u8, links: &mut [u32]) -> Piece
         requires own { self.last < length links.old }

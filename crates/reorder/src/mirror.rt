@@ -5,7 +5,7 @@ ghost use Rattle.reorder.specs.Mirrored.{mirrored_of};
 
 use ucd_files::Tables;
 
-/// A character as it is shown at a level (UAX #9, L4): at an odd one its mirror, where the mirroring file lists one.
+/// A character as it is shown at a level (UAX #9, L4): at an odd one its mirror, if the mirroring file lists one.
 pub fn mirrored(tables: &Tables, c: char, level: u8) -> char
     ensures { result ≡ mirrored_of tables.now c level }
 {

@@ -21,7 +21,7 @@ struct Stretch {
 
 /// The longest stretch of levels from `floor` up that begins at `start`.
 ///
-/// Each call of itself has a higher floor, so the calls are at most 256 deep; each cluster is joined once.
+/// Each recursive call has a higher floor, so the calls are at most 256 deep; each cluster is joined once.
 fn stretch_from(levels: &[u8], links: &mut [u32], start: usize, floor: u8) -> Stretch
     requires size { length levels.now ≤ CLUSTERS }
     requires links { length links.old ≡ length levels.now }

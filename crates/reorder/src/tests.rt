@@ -1,6 +1,6 @@
 //! What no clause says: rows of the standard, and calls that succeed.
 //!
-//! A call that memory was refused to is made again: so each test also passes with any one allocation
+//! A call that was refused memory is made again: so each test also passes with any one allocation
 //! refused (`rt try --test --fail-alloc N`).
 
 ghost use Rattle.std.specs.Prelude.{◌≡◌, ◌<◌, length, All, sum};
@@ -76,7 +76,7 @@ fn assert_lines(rt: &(impl Abort + AllocGlobal), rows: &str) -> Result<(), Fail>
     Ok(())
 }
 
-/// After the examples of UAX #9, section 3.4, L2, from memory, with its signs > < = for LRI, RLI and PDI. Levels and order
+/// Modelled from memory on the examples of UAX #9, section 3.4, L2, with its signs > < = for LRI, RLI and PDI. Levels and order
 /// are what GNU FriBidi 1.0.8 answers for these texts.
 #[test]
 fn the_standards_examples_are_shown_in_its_order(rt: HostRuntime) -> Result<(), Fail> {
@@ -169,7 +169,7 @@ fn total(sizes: &[u32]) -> usize
     total
 }
 
-/// The levels of a line's clusters, after a test of what the call asks for.
+/// The levels of a line's clusters, after a test of the call's preconditions.
 fn cluster_levels(
     rt: &impl Abort,
     alloc: Global,
