@@ -31,12 +31,12 @@ split-append p (x ∷ xs) y ys e =
           ∙ ap (λ parts. parts ++ slice_split p ys) (sym (slice_split-cons_no p x xs e0))
     ]
 
--- a text without a line feed from its start on is one line
+-- a text without a line feed is one line
 pub lines_of-one : (text : List ℕ) (start : ℕ) → start ≡ 0 → ((k : ℕ) → start ≤ k → k < length text → (get_or text k 0 == 10) ≡ false) → lines_of text ≡ text ∷ []
 lines_of-one text start at none =
     slice_split_none is_feed text (λ k d h. ap is_feed (get_or_default text k d 0 h) ∙ none k (omega arith) h)
 
--- else the last line begins after the last line feed
+-- otherwise the last line begins after the last line feed
 pub lines_of-back : (text : List ℕ) (start : ℕ) → 0 < start → start ≤ length text → get_or text (start - 1) 0 ≡ 10 →
     ((k : ℕ) → start ≤ k → k < length text → (get_or text k 0 == 10) ≡ false) →
     lines_of text ≡ lines_of (take (start - 1) text) ++ take (length text - start) (drop start text) ∷ []

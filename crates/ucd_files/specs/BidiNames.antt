@@ -30,7 +30,7 @@ bidi_names =
     (codes "FSI", Fsi) ∷
     (codes "PDI", Pdi) ∷ []
 
--- the long names, which `@missing` lines may have in their place
+-- the long names, which `@missing` lines may use instead
 abbrev pub bidi_long_names : List (List ℕ × Bidi)
 bidi_long_names =
     (codes "Left_To_Right", L) ∷

@@ -13,7 +13,7 @@ ea_names =
     (codes "Na", Na) ∷
     (codes "W", W) ∷ []
 
--- the long names, which `@missing` lines may have in their place
+-- the long names, which `@missing` lines may use instead
 abbrev pub ea_long_names : List (List ℕ × Ea)
 ea_long_names =
     (codes "Ambiguous", A) ∷

@@ -1,4 +1,4 @@
--- The names of the values of Line_Break (UAX #14, table 1). Of the long names only those that its file uses.
+-- The names of the values of Line_Break (UAX #14, table 1). Only those long names that its file uses.
 use Rattle.std.specs.Prelude.{ℕ, List, [], ◌∷◌, codes}
 use Rattle.bg_types.specs.declared.class.Lb.{Lb}
 use Rattle.bg_types.specs.declared.class.Lb.TheVariants.{Ai, Al, B2, Ba, Bb, Bk, Cb, Cj, Cl, Cm, Cp, Cr, Eb, Em, Ex, Gl, H2, H3, Hl, Hy, Id, In, Is, Jl, Jt, Jv, Lf, Nl, Ns, Nu, Op, Po, Pr, Qu, Ri, Sa, Sg, Sp, Sy, Wj, Xx, Zw, Zwj}
@@ -50,7 +50,7 @@ lb_names =
     (codes "ZW", Zw) ∷
     (codes "ZWJ", Zwj) ∷ []
 
--- the long names, which `@missing` lines may have in their place
+-- the long names, which `@missing` lines may use instead
 abbrev pub lb_long_names : List (List ℕ × Lb)
 lb_long_names =
     (codes "Ideographic", Id) ∷

@@ -15,22 +15,22 @@ lines_left (Some rest) = lines_of rest.now
 abbrev pub is_among : List ℕ → ℕ → Bool
 is_among blanks b = list_any (λ x. x == b) blanks
 
--- bytes without those of the blanks at their end
+-- bytes without the blanks at their end
 abbrev pub end_trimmed : List ℕ → List ℕ → List ℕ
 end_trimmed blanks bytes = take (length bytes - suffix_len (is_among blanks) bytes) bytes
 
--- bytes without those of the blanks at both ends
+-- bytes without the blanks at both ends
 abbrev pub trimmed : List ℕ → List ℕ → List ℕ
 trimmed blanks bytes = end_trimmed blanks (drop (prefix_len (is_among blanks) bytes) bytes)
 
--- space and tab, which are dropped round a field; and CR, which is dropped with them at a line's ends
+-- space and tab, which are dropped around a field; and CR, which is dropped with them at a line's ends
 abbrev pub blanks : List ℕ
 blanks = 32 ∷ 9 ∷ []
 
 abbrev pub line_blanks : List ℕ
 line_blanks = 32 ∷ 9 ∷ 13 ∷ []
 
--- what stands before the first `#` of a line, and what after it, each without blanks at its ends
+-- what stands before the first `#` of a line, and what stands after it, each without blanks at its ends
 abbrev pub text_of : List ℕ → List ℕ
 text_of line = trimmed line_blanks (before_first (λ b. b == 35) line)
 

@@ -27,7 +27,7 @@ data_lines reading bytes = filter_map (λ line. said (reading.line line)) (lines
 abbrev pub missing_lines : {V : Type 0} → Reading V → List ℕ → List (Entry V)
 missing_lines reading bytes = filter_map reading.missing (lines_of bytes)
 
--- TableValue: the value at c is that of the last data line that covers it, else of the last `@missing` line, else the default
+-- TableValue: the value at c is that of the last data line that covers it, else that of the last such `@missing` line, else the default
 unfoldable pub value_at : {V : Type 0} → Reading V → List ℕ → ℕ → V
 value_at reading bytes c = last_value (data_lines reading bytes) c (last_value (missing_lines reading bytes) c reading.absent)
 

@@ -28,7 +28,7 @@ pub enum Cause {
     /// A byte is not part of UTF-8.
     #[error("BadUtf8")]
     BadUtf8,
-    /// A code has not 4 to 6 hexadecimal digits, is above 10FFFF or, as a paired or mirrored code,
+    /// A code doesn't have 4 to 6 hexadecimal digits, is above 10FFFF or, as a paired or mirrored code,
     /// is a surrogate.
     #[error("BadCode")]
     BadCode,

@@ -30,7 +30,7 @@ pub(crate) fn last_line(bytes: &[u8]) -> usize
     start
 }
 
-/// What stands before the first of these bytes, and what after it.
+/// What stands before the first of these bytes, and what stands after it.
 pub(crate) fn cut(bytes: &[u8], at: u8) -> (&[u8], &[u8])
     ensures before { result.0.now ≡ before_first (λ b. b == at) bytes.now }
     ensures after { result.1.now ≡ after_first (λ b. b == at) bytes.now }

@@ -13,7 +13,7 @@ use crate::lines::Lines;
 use crate::unset::fill_unset;
 use std::alloc::{AllocError, Global};
 
-/// How many code points the lines of a file may cover, each line counted for itself, before each code point is
+/// How many code points the lines of a file may cover, each line counted by itself, before each code point is
 /// written once: eight times all of them.
 const MOST_COVERED: usize = 8 * 0x110000;
 
@@ -81,7 +81,7 @@ struct Extent {
     /// One more than the last code point that a line covers, or 0.
     reach: usize,
 
-    /// How many code points the lines cover, each line counted for itself.
+    /// How many code points the lines cover, each line counted by itself.
     covered: usize,
 }
 
@@ -158,7 +158,7 @@ fn fill_over<V: FileValue>(table: &mut [V], bytes: &[u8])
     fill(table, Pass::DataLines, bytes);
 }
 
-/// Fills a table by the shorter way. True files cover each code point a few times at most, and are written line over
+/// Fills a table the shorter way. Real files cover each code point a few times at most, and are written line over
 /// line. Where lines cover many code points again and again, each code point is written once.
 fn fill_both<V: FileValue>(
     alloc: Global,
@@ -198,7 +198,7 @@ fn checked<V: FileValue>(file: UcdFile, bytes: &[u8]) -> Result<Extent, UcdFault
     }
 }
 
-/// The values of a file at the code points that its lines reach; after them stands the absent
+/// The values of a file at the code points that its lines reach; after them comes the absent
 /// value.
 pub(crate) fn read<V: FileValue>(
     alloc: Global,

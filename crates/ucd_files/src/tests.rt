@@ -3,7 +3,7 @@ use bg_types::{Bidi, Ea, Lb};
 use std::alloc::Global;
 use std::test::Fail;
 
-/// Loads one file beside four empty ones.
+/// Loads one file with four empty ones.
 fn load(alloc: Global, file: UcdFile, bytes: &[u8]) -> Result<Tables, UcdFault> {
     match file {
         UcdFile::Bidi => Tables::load(alloc, bytes, b"", b"", b"", b""),
@@ -270,7 +270,7 @@ fn faults_print_their_names(rt: HostRuntime) -> Result<(), Fail> {
     Ok(())
 }
 
-/// A line that names all code points, as often as that fills a table from the last line to the first, and then these
+/// A line that names all code points, often enough that a table is filled from the last line to the first, and then these
 /// lines.
 fn crowded(alloc: Global, line: &[u8], lines: &[u8]) -> Result<Vec<u8>, Fail> {
     let mut bytes = Vec::new(alloc);
@@ -281,7 +281,7 @@ fn crowded(alloc: Global, line: &[u8], lines: &[u8]) -> Result<Vec<u8>, Fail> {
     Ok(bytes)
 }
 
-/// The last data line decides, else the last default, however often the lines name all code points.
+/// The last data line decides, or else the last default, however often the lines name all code points.
 #[test]
 fn lines_that_name_all_code_points_again_and_again(rt: HostRuntime) -> Result<(), Fail> {
     let over: &[u8] = b"0041..0043;AL\n0042;EN\n# @missing: 0000..10FFFF; AN\n10FFFF;NSM";

@@ -11,7 +11,7 @@ use crate::read::{FileValue, Pass, said_in};
 use std::alloc::{AllocError, Global};
 
 /// The first unset code point from here on, or the number of all. `next` has for each unset code point the code point
-/// itself, and for each other one a later one, before which none is unset. Each look-up halves the way that it takes.
+/// itself, and for each other one a later one, before which none is unset. Each look-up halves the path that it takes.
 fn first_unset(next: &mut [usize], from: usize) -> usize
     requires within { from < length next.old }
     requires skips { Skips next.old }

@@ -1,4 +1,4 @@
-//! Five small data files, for tests. A code point that they do not name has the default.
+//! Five small data files, for tests. A code point that a file does not name has the default.
 
 use crate::files::Ucd;
 
