@@ -25,11 +25,11 @@ is_invisible tables c = is_removed (bidi_of tables c) || is_isolate_control (bid
 abbrev pub takes_two : TableValues → ℕ → Bool
 takes_two tables c = is_wide (ea_of tables c)
 
--- own: c is East Asian A, and the tables have such code points wide
+-- own: c is East Asian A, and the tables make such code points wide
 abbrev pub takes_two_by_choice : TableValues → ℕ → Bool
 takes_two_by_choice tables c = tables.wide_ambiguous && is_ambiguous (ea_of tables c)
 
--- the columns of a cluster in which something is seen and nothing is wide: the choice reads its first code point alone
+-- the columns of a cluster in which something is seen and nothing is wide: the choice reads only its first code point
 abbrev pub columns_by_choice : TableValues → List ℕ → ℕ
 columns_by_choice tables [] = 1
 columns_by_choice tables (c ∷ rest) = if takes_two_by_choice tables c then 2 else 1

@@ -54,7 +54,7 @@ pub record StandsIn (text : List ℕ) (p : Paragraph) : Type 0 where
   pub bytes : p.text ≡ slice_range text p.first_byte (p.first_byte + length p.text)
   pub place : p.first_place ≡ length (code_points (take p.first_byte text))
 
--- the first of these paragraphs stands after so many bytes and code points, each other one where the one before it ends
+-- the first of these paragraphs stands after this many bytes and code points, each other one where the one before it ends
 abbrev pub ParagraphsFollow : (byte place : ℕ) → List Paragraph → Type 0
 ParagraphsFollow byte place [] = Unit {0}
 ParagraphsFollow byte place (p ∷ later) =

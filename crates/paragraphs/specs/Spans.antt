@@ -4,7 +4,7 @@ use Rattle.paragraphs.specs.declared.span.Span.{Span}
 use Rattle.paragraphs.specs.Text.{code_points}
 use Rattle.paragraphs.specs.Clusters.{clusters}
 
--- where a cluster stands that has so many bytes and code points before it
+-- where a cluster stands that has this many bytes and code points before it
 abbrev pub span_at : (byte place : ℕ) → List ℕ → Span
 span_at byte place cluster = record {
   first_byte = byte;
@@ -13,7 +13,7 @@ span_at byte place cluster = record {
   end_place = place + length (code_points cluster);
 }
 
--- where clusters stand that follow one another, the first of them after so many bytes and code points
+-- where clusters stand that follow one another, the first of them after this many bytes and code points
 abbrev pub spans_from : (byte place : ℕ) → List (List ℕ) → List Span
 spans_from byte place [] = []
 spans_from byte place (cluster ∷ later) =

@@ -26,7 +26,7 @@ pub(crate) fn is_removed(class: Bidi) -> bool
     )
 }
 
-/// Whether the class is that of an isolate's initiator or of what ends it (BD8).
+/// Whether the class is that of an isolate initiator, or of what ends an isolate (BD8).
 #[inline]
 #[tactic(auto, unfolding(bg_types::specs::Classes::is_isolate_control))]
 pub(crate) fn is_isolate_control(class: Bidi) -> bool
@@ -53,7 +53,7 @@ pub(crate) fn is_wide(width: Ea) -> bool
     matches!(width, Ea::W | Ea::F)
 }
 
-/// Whether the context decides how wide a character of this width is.
+/// Whether the context decides how wide a character of this East_Asian_Width is.
 #[inline]
 #[tactic(auto, unfolding(crate::specs::Classes::is_ambiguous))]
 pub(crate) fn is_ambiguous(width: Ea) -> bool

@@ -16,7 +16,7 @@ impl<'a> Model for Clusters<'a> {
     ghost use Rattle.std.specs.Prelude.{List, ℕ};
     ghost use Rattle.unicode_segmentation.specs.Iter.{graphemes_left};
 
-    // The clusters that are still to come, each as its bytes.
+    // The clusters still to come, each as its bytes.
     ghost Value = { List (List ℕ) };
 
     ghost view = { λ s. graphemes_left s.graphemes };

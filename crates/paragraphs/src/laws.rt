@@ -9,7 +9,7 @@ ghost use Rattle.paragraphs.specs.Clusters.{clusters, cluster_code_points, clust
 ghost use Rattle.paragraphs.specs.Spans.{spans};
 ghost use Rattle.paragraphs.specs.Paragraphs.{paragraphs, ParagraphsFollow, StandsIn};
 
-/// The clusters of a text take up its code points, each at least one. A cluster stands after the
+/// The clusters of a text make up its code points, and each has at least one. A cluster stands after the
 /// code points of all earlier ones, and ends after its own.
 pub fn cluster_places()
     ensures joined { (text : List ℕ) → IsUtf8 text → concat (cluster_code_points text) ≡ code_points text }
@@ -21,15 +21,15 @@ pub fn cluster_places()
         → slice_index (map (λ s. s.end_place) (spans text)) k ≡ sum (take (k + 1) (cluster_sizes text)) }
 {}
 
-/// The clusters of a text are text themselves, none of them empty, and join to it.
+/// The clusters of a text are texts themselves, none of them empty, and joined they are the text.
 pub fn clusters_join()
     ensures joined { (text : List ℕ) → IsUtf8 text → concat (clusters text) ≡ text }
     ensures utf8 { (text : List ℕ) → IsUtf8 text → All IsUtf8 (clusters text) }
     ensures some { (text : List ℕ) → All (λ cluster. 0 < length cluster) (clusters text) }
 {}
 
-/// A text has a paragraph. Its paragraphs join to it, are slices of it between characters, and
-/// stand one after the other from its start.
+/// A text has a paragraph. Joined, its paragraphs are the text; each is a slice of it between
+/// characters, and they follow one another from its start.
 pub fn paragraphs_join()
     ensures joined { (tables : TableValues) (text : List ℕ) → IsUtf8 text
         → concat (map (λ p. p.text) (paragraphs tables text)) ≡ text }

@@ -60,7 +60,7 @@ impl<'a> Para<'a> {
         self.first_place
     }
 
-    /// Its extended grapheme clusters, in order. The other paragraphs have no part in them.
+    /// Its extended grapheme clusters, in order. They don't depend on the other paragraphs.
     #[inline]
     pub fn clusters(&self) -> Clusters<'a>
         ensures clusters { result ≡ clusters self.now.text }

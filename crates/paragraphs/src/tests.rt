@@ -1,6 +1,6 @@
 //! What no clause says: rows of the standards, and calls that succeed.
 //!
-//! A call that memory was refused to is made again: so each test also passes with any one allocation
+//! A call that was refused memory is made again: so each test also passes with any one allocation
 //! refused (`rt try --test --fail-alloc N`).
 
 use super::*;
@@ -175,7 +175,7 @@ fn columns_by_cases(rt: HostRuntime) -> Result<(), Fail> {
     for (cluster, want) in rows {
         assert_columns(&rt, &tables, cluster, want);
     }
-    // An isolate control is one by its class, and a wide character by its width.
+    // The class makes an isolate control, and the width a wide character.
     let isolating = tables_of(rt.alloc(), b"0061;RLI")?;
     assert_columns(&rt, &isolating, "a", 0);
     assert_columns(&rt, &isolating, "\u{2067}", 1);
@@ -193,7 +193,7 @@ fn ambiguous_characters_are_wide_by_choice(rt: HostRuntime) -> Result<(), Fail> 
     for (cluster, without, with) in [
         ("\u{E9}", 1, 2),
         ("\u{E9}\u{301}", 1, 2),
-        // The first code point decides alone.
+        // Only the first code point decides.
         ("e\u{301}", 1, 1),
         ("\u{301}", 1, 2),
         ("\u{200E}\u{301}", 1, 2),

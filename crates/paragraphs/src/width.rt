@@ -10,9 +10,9 @@ use crate::class::{
 };
 use ucd_files::Tables;
 
-/// The columns of a cluster, 0 to 2. It has none where it begins with what ends a line or a
-/// paragraph, or where each of its characters is invisible; and two where one of them is wide, or
-/// where the first is ambiguous and the tables have such ones wide.
+/// The columns of a cluster, 0 to 2. It has none if it begins with what ends a line or a
+/// paragraph, or if each of its characters is invisible; and two if one of them is wide, or
+/// if the first is ambiguous and the tables make such characters wide.
 pub fn columns(tables: &Tables, cluster: &str) -> u8
     // At least one code point.
     requires { 0 < length cluster.now }
@@ -112,7 +112,7 @@ fn columns_by_choice(tables: &Tables, cluster: &str) -> u8
     }
 }
 
-/// Whether a character is ambiguous, and the tables have such ones wide.
+/// Whether a character is ambiguous, and the tables make such characters wide.
 #[inline]
 fn takes_two_by_choice(tables: &Tables, c: char) -> bool
     ensures { result ≡ takes_two_by_choice tables.now c }

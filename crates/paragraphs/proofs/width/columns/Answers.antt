@@ -1,4 +1,4 @@
--- Of a cluster of one code point nothing is left after it.
+-- In a cluster of one code point nothing is left after it.
 use Rattle.std.proofs.Common.{ap, sym, ◌∙◌}
 use Rattle.paragraphs.specs.Columns.{columns_of}
 use Rattle.paragraphs.proofs.OneCodePoint.{one-code-point}
