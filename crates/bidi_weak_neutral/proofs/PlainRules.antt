@@ -1,4 +1,4 @@
--- What the rules make of a sequence of plain types at level 0 between L and L: no direction but L, and no number.
+-- What the rules do to a sequence of plain types at level 0 between L and L: no direction but L, and no number.
 use Rattle.std.proofs.Common.{ℕ, suc, ◌+◌, ◌≡◌, refl, ap, sym, subst, ◌∙◌, List, [], ◌∷◌, map, fold, take, drop, slice_range, Bool, true, false, Some, None}
 use Rattle.std.specs.Prelude.{not, ◌&&◌, ◌||◌, if◌then◌else◌}
 use Rattle.std.specs.List.{All}
@@ -35,7 +35,7 @@ is_calm _ = false
 abbrev Calm : Bidi → Type 0
 Calm c = is_calm c ≡ true
 
--- maps of a list in context
+-- maps over a list in context
 in_context_from-all : {A B : Type 0} (P : A → Type 0) (Q : B → Type 0) (f : List A → A → List A → B)
     → ((before : List A) (x : A) (after : List A) → All P before → P x → All P after → Q (f before x after))
     → (before xs : List A) → All P before → All P xs → All Q (in_context_from f before xs)

@@ -1,4 +1,4 @@
--- Maps of a list in which each place reads the list on both sides of it.
+-- Maps over a list in which each place reads the list on both sides of it.
 use Rattle.std.specs.Prelude.{Bool, List, [], ◌∷◌, if◌then◌else◌}
 
 -- each element by the elements before it, the nearest first, by itself and by those after it

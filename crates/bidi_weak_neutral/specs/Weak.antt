@@ -1,4 +1,4 @@
--- WeakTypes: W1 to W7 of UAX #9, seven maps of a sequence's types, each of which reads only the list before it.
+-- WeakTypes: W1 to W7 of UAX #9, seven maps over a sequence's types, each of which reads only the result of the one before.
 use Rattle.std.specs.Prelude.{Bool, true, not, ◌&&◌, ◌||◌, List, map, if◌then◌else◌}
 use Rattle.bg_types.specs.declared.class.Bidi.{Bidi}
 use Rattle.bg_types.specs.declared.class.Bidi.TheVariants.{L, R, Al, En, Es, Et, An, Cs, Nsm, On}

@@ -15,7 +15,7 @@ pub(crate) fn is_strong(class: Bidi) -> bool
     matches!(class, Bidi::L | Bidi::R | Bidi::Al)
 }
 
-/// Whether a type is that of an isolate's initiator or of a PDI.
+/// Whether a type is that of an isolate initiator or a PDI.
 #[inline]
 #[tactic(auto, unfolding(bg_types::specs::Classes::is_isolate_control))]
 pub(crate) fn is_isolate_control(class: Bidi) -> bool
@@ -33,7 +33,7 @@ pub(crate) fn is_number(class: Bidi) -> bool
     matches!(class, Bidi::En | Bidi::An)
 }
 
-/// Whether a type is neutral, or an isolate's.
+/// Whether a type is neutral, or that of an isolate control.
 #[inline]
 #[tactic(auto, unfolding(crate::specs::Classes::is_neutral))]
 pub(crate) fn is_neutral(class: Bidi) -> bool
@@ -45,8 +45,8 @@ pub(crate) fn is_neutral(class: Bidi) -> bool
     )
 }
 
-/// Whether a class neither goes right to left nor changes a level: L, European numbers and what stands
-/// with them, marks, and neutrals that are no isolate controls.
+/// Whether a class neither goes right to left nor changes a level: L, European numbers and what goes
+/// with them, marks, and neutrals that are not isolate controls.
 #[inline]
 #[tactic(auto, unfolding(crate::specs::Classes::is_plain))]
 pub(crate) fn is_plain(class: Bidi) -> bool

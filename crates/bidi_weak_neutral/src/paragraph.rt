@@ -14,7 +14,7 @@ use paragraphs::Para;
 use std::alloc::Global;
 use ucd_files::Tables;
 
-/// What is kept from one sequence to the next, so that memory is taken for the longest alone.
+/// What is kept from one sequence to the next, so that memory is taken only for the longest.
 #[derive(Drop)]
 struct Buffers {
     characters: Vec<char>,
@@ -61,7 +61,7 @@ fn put_levels(levels: &mut [u8], places: &[usize], level: u8, types: &[Bidi])
     }
 }
 
-/// Gives each removed place the level of the one before it, else the paragraph level.
+/// Gives each removed place the level of the one before it, or else the paragraph level.
 fn fill_removed(levels: &mut [u8], places: &[Option<Kept>], paragraph_level: u8)
     requires { length levels.old ≡ length places.now }
     ensures { levels.new ≡ filled_levels paragraph_level (kept_levels places.now levels.old) }
