@@ -51,7 +51,7 @@ same_rest : (f : ℕ → Option ℕ) (m n : ℕ) (o : Option ℕ) → ((j : ℕ)
 same_rest f m n None h = refl
 same_rest f m n (Some j) h = h j refl
 
--- enough is enough
+-- beyond the chain's length, a greater bound changes nothing
 chain-enough : (nexts : List (Option ℕ)) → IsForward nexts → (f g i : ℕ) → i < length nexts → length nexts ≤ f + i → length nexts ≤ g + i →
     chain (following nexts) f i ≡ chain (following nexts) g i
 chain-enough nexts forward zero g i inside enough more = absurd (omega arith)

@@ -12,7 +12,7 @@ use Rattle.bidi_explicit.specs.Flat.{content}
 abbrev pub control : ℕ → Bidi → List Bidi → Control
 control i c rest = record { kind = kind (base (content (nest rest)) == 1) c; pdi = matched i c rest }
 
--- the same of each of a list, the first of them at place i
+-- the same for each class of a list, the first at place i
 abbrev pub controls_from : ℕ → List Bidi → List Control
 controls_from i [] = []
 controls_from i (c ∷ cs) = control i c cs ∷ controls_from (suc i) cs

@@ -29,7 +29,7 @@ IsStretch order e = (e.start ≤ e.end) × (e.end ≤ length order)
 abbrev pub IsKept : List (Option Kept) → ℕ → Type 0
 IsKept places i = is_kept places i ≡ true
 
--- each sequence is a stretch of the order, in which kept places alone stand
+-- each sequence is a stretch of the order, which has only kept places
 pub record IsWithin (places : List (Option Kept)) (order : List ℕ) (extents : List Extent) : Type 0 where
   pub stretches : All (IsStretch order) extents
   pub kept : All (IsKept places) order

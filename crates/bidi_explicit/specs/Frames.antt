@@ -1,4 +1,4 @@
--- How the flat rules stand while they are inside one list of nodes.
+-- The state of the flat rules while they are inside one list of nodes.
 use Rattle.std.specs.Prelude.{ℕ, suc, ◌≡◌, Bool, true, false, List, [], ◌∷◌, ◌++◌}
 use Rattle.bg_types.specs.declared.class.Bidi.{Bidi}
 use Rattle.bg_types.specs.declared.class.Bidi.TheVariants.{Pdi}
@@ -69,7 +69,7 @@ IsClosed (char c rest) = IsClosed rest
 IsClosed (isolate i held rest) = IsClosed rest
 IsClosed (unclosed i held) = ⊥
 
--- initiators stand before isolates, and what a closed isolate holds has no PDI of its own and only closed isolates
+-- an initiator begins each isolate, and what a closed isolate holds has no PDI of its own and only closed isolates
 abbrev pub IsNested : Nodes → Type 0
 IsNested end = Unit {0}
 IsNested (char c rest) = (is_initiator c ≡ false) × IsNested rest
@@ -77,7 +77,7 @@ IsNested (isolate i held rest) =
     (is_initiator i ≡ true) × IsNested held × HasNoPdi held × IsClosed held × IsNested rest
 IsNested (unclosed i held) = (is_initiator i ≡ true) × IsNested held × HasNoPdi held
 
--- a PDI stands alone in the paragraph's own list only
+-- only the paragraph's own list may have a PDI of its own
 abbrev pub MayHold : Frame → Nodes → Type 0
 MayHold (bottom d) ns = Unit {0}
 MayHold (inside d below valid) ns = HasNoPdi ns

@@ -24,7 +24,7 @@ overflows m odd =
       | suc n ↦ true
     ]
 
--- over an overflowed isolate and its PDI the flat rules keep the stack and all counts
+-- over an overflowed isolate and its PDI, the flat rules keep the stack and all counts
 abbrev pub KeepsAllOverOverflow : Type 0
 KeepsAllOverOverflow =
     (m : Machine) (i : Bidi) (held : Nodes) → IsNested held → HasNoPdi held → IsClosed held →

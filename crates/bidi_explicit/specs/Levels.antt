@@ -56,7 +56,7 @@ abbrev pub current : Direction → List Direction → Direction
 current d [] = d
 current d (e ∷ es) = e
 
--- a new level may be entered in a list with this count of overflowed embeddings
+-- a new level may be entered in a list with this number of overflowed embeddings
 abbrev pub fits : ℕ → ℕ → Bool
 fits level zero = nat_le level 125
 fits level (suc overflowed) = false

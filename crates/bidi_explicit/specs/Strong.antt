@@ -10,7 +10,7 @@ strong_level R = Some 1
 strong_level Al = Some 1
 strong_level _ = None
 
--- how many isolates are open after a character, before which `depth` are
+-- how many isolates are open after a character, where `depth` are open before it
 abbrev pub depth_behind : ℕ → Bidi → ℕ
 depth_behind depth Lri = depth + 1
 depth_behind depth Rli = depth + 1

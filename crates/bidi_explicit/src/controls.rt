@@ -17,7 +17,7 @@ pub(crate) struct Control {
     pub(crate) pdi: Option<usize>,
 }
 
-/// A PDI that no initiator after it has matched, and whether what stands after it, up to the next such
+/// A PDI that no initiator read so far has matched, and whether what stands after it, up to the next such
 /// one, is right to left.
 #[derive(Clone, Copy, Default)]
 struct OpenPdi {
@@ -52,7 +52,7 @@ impl Matcher {
         }
     }
 
-    /// Passes from the place after a character to the place of it.
+    /// Moves from the place after a character to its own place.
     fn pass(&mut self, place: usize, class: Bidi) -> Result<Control, Memory>
         ensures control { IfOk result (λ control. control ≡ control_by class self.old) }
         ensures after { OnOk result (self.new ≡ moved place class self.old) }

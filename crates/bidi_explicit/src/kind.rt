@@ -2,7 +2,7 @@
 
 use bg_types::Bidi;
 
-/// A level, and the class that an override gives to what stands there.
+/// A level, and the class that an override gives to the characters at it.
 #[derive(Clone, Copy, Default)]
 pub(crate) struct Direction {
     pub(crate) level: u8,

@@ -52,7 +52,7 @@ fn strong_level(class: Bidi) -> Option<u8>
     }
 }
 
-/// How many isolates are open after a character, before which `depth` are. An unmatched PDI ends none.
+/// How many isolates are open after a character, where `depth` are open before it. An unmatched PDI ends none.
 #[inline]
 fn depth_behind(depth: usize, class: Bidi) -> usize
     requires { depth + 1 < 2 ^ 64 }

@@ -137,7 +137,7 @@ fn linked_places(
     Ok(Links { nexts, follows })
 }
 
-/// Appends the places of the chain that begins at `first`, and answers its last one.
+/// Appends the places of the chain that begins at `first`, and returns the last.
 fn append_chain(
     order: &mut Vec<usize>,
     nexts: &[Option<usize>],
@@ -167,7 +167,7 @@ fn sos(level: u8, places: &[Option<Kept>], first: usize) -> Bidi
     direction_between(level_or(level, places, Some(first)), before)
 }
 
-/// The direction after a sequence that ends at `last`, where this is its control.
+/// The direction after a sequence that ends at `last`, given the control of `last`.
 fn eos(level: u8, control: Control, places: &[Option<Kept>], last: usize) -> Bidi
     requires { last < length places.now }
     ensures { result ≡ eos_of level (is_unclosed control) places.now last }
@@ -180,7 +180,7 @@ fn eos(level: u8, control: Control, places: &[Option<Kept>], last: usize) -> Bid
     direction_between(level_or(level, places, Some(last)), behind)
 }
 
-/// Whether it is that of an initiator that no PDI matches.
+/// Whether the control is that of an initiator that no PDI matches.
 fn is_unclosed(control: Control) -> bool
     ensures { result ≡ is_unclosed control }
 {
@@ -190,7 +190,7 @@ fn is_unclosed(control: Control) -> bool
     }
 }
 
-/// Whether a place begins a sequence, where it follows one or not.
+/// Whether a place begins a sequence, given whether it follows another place.
 fn begins(place: Option<Kept>, follows: bool) -> bool
     ensures { result ≡ (is_some place && not follows) }
 {

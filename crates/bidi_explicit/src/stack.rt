@@ -178,8 +178,8 @@ impl LevelStack {
         }
     }
 
-    /// Does what a character does, and answers the direction that it takes: the one before it, for a
-    /// PDI the one after it (X6: every other character takes the last entry's).
+    /// Does what a character does, and returns the direction that it takes: the one before it, or for a
+    /// PDI the one after it (X6: every other character takes that of the last entry).
     pub(crate) fn advance(&mut self, kind: Kind) -> Direction
         requires embeddings { self.old.overflow_embeddings + 1 < 2 ^ 64 }
         requires overflow { self.old.overflow_isolates + 1 < 2 ^ 64 }

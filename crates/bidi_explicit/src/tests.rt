@@ -105,7 +105,7 @@ a\u{2067}\u{200B}\u{2069}b|0 L0 Rli0 - Pdi0 L0| 0 1 3 4 at 0 L L",
     )
 }
 
-/// An FSI goes by what it holds, whatever the base is.
+/// An FSI takes its direction from what it holds, whatever the base is.
 #[test]
 fn a_base_gives_the_level_of_each_paragraph(rt: HostRuntime) -> Result<(), Fail> {
     assert_rows(
@@ -132,14 +132,14 @@ a!|1 L1 On1| 0 1 at 1 R R;
     )
 }
 
-/// So many times a part, then an end.
+/// A part repeated, then an end.
 fn repeated(alloc: Global, part: &str, count: usize, end: &str) -> Result<String, Fail> {
     let mut text = part.repeat(alloc, count)?;
     text.push_str(end)?;
     Ok(text)
 }
 
-/// Compares how that ends which is told of a part so many times and an end.
+/// Compares the end of the report on a repeated part and an end.
 fn assert_deep(
     rt: &(impl Abort + AllocGlobal),
     (part, count, end): (&str, usize, &str),
@@ -162,7 +162,7 @@ fn the_greatest_depth(rt: HostRuntime) -> Result<(), Fail> {
     assert_deep(&rt, ("\u{202B}", 63, end), wanted)
 }
 
-/// So many times RLI, a letter and as many times PDI.
+/// RLI repeated, a letter, and PDI as many times.
 fn assert_isolates(rt: &(impl Abort + AllocGlobal), count: usize) -> Result<(), Fail> {
     let tables = small_tables(rt.alloc())?;
     let closed = repeated(rt.alloc(), "\u{2069}", count, "")?;

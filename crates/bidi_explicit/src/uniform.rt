@@ -33,7 +33,7 @@ fn is_control(class: Bidi) -> bool
     )
 }
 
-/// Whether one of these classes is such a one.
+/// Whether one of these classes is such a class.
 pub(crate) fn has_controls(classes: &[Bidi]) -> bool
     ensures { result ≡ list_any is_control classes.now }
 {
