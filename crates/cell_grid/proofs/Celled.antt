@@ -47,7 +47,7 @@ column-rises from to (x ∷ es) f zero j d le within = let least = from-at from 
 column-rises from to (x ∷ es) f (suc i) zero d le within = absurd (omega arith)
 column-rises from to (x ∷ es) f (suc i) (suc j) d le within = column-rises (x.column + x.columns) to es f.1 i j d (omega arith) (omega arith)
 
--- the last entry ends with all
+-- the last entry ends where all end
 pub last-ends : (from to : ℕ) (es : List Entry) → ColumnsFollow from es to → (e : Entry) → slice_get es (length es - 1) ≡ Some e → e.column + e.columns ≡ to
 last-ends from to [] f e is = cc
 last-ends from to (x ∷ []) f e is =
@@ -65,7 +65,7 @@ pub none-total : (es : List Entry) → None ≡ slice_get es (length es - 1) →
 none-total [] is = refl
 none-total (x ∷ es) is = let last = get-some (x ∷ es) (length (x ∷ es) - 1) (omega arith) in let own = last.1 in cc
 
--- so many entries begin by this column, and the others after it
+-- this many entries begin at this column or before, and the others after it
 abbrev pub BeginBy : List Entry → (column count : ℕ) → Type 0
 BeginBy entries column count = IsPartitionPoint (λ (e : Entry). nat_le e.column column ≡ true) (λ (e : Entry). nat_le e.column column ≡ false) entries count
 
@@ -84,12 +84,12 @@ module _ (entries : List Entry) (column count : ℕ) (by : BeginBy entries colum
       false-is : false ≡ true → ⊥
       false-is e = cc
 
-  -- where none begins by the column, none is seen there
+  -- where none begins at the column or before, none is seen there
   pub none-begins : count ≡ 0 → IsSeenAt entries column Blank
   none-begins z = λ n e is low high. let lt = begin-before n e is low in absurd (omega arith)
 
   module _ (last : Entry) (is_last : slice_get entries (count - 1) ≡ Some last) (some : 0 < count) where
-    -- the last one that begins by the column does so
+    -- the last one counted begins at the column or before
     pub last-begins : last.column ≤ column
     last-begins =
         let yes = by.0 (count - 1) last (omega arith) (omega arith) in

@@ -149,7 +149,7 @@ rows-follow below g d =
 
 -- ---- a grid has a row
 
--- lines that join to some clusters, or the one of none
+-- lines that join to some clusters, or the one line of none
 some-lines : (below : LawsBelow) (tables : TableValues) (text : List ℕ) (width : ℕ) → 0 < length (lines tables text width)
 some-lines below tables text width = elim (leb_tells 1 (length (clusters text))) [
   | inl some ↦ has_line (lines tables text width) (length (clusters text)) (below.lines_follow tables text width some.1) some.1

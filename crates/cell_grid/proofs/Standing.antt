@@ -104,7 +104,7 @@ extent-spans b p (c ∷ cs) some =
     extent-fold b (b + length c) p (p + length (code_points c)) cs
     ∙ same_ends b (b + length c + bytes cs) (b + (length c + bytes cs)) p (p + length (code_points c) + points cs) (p + (length (code_points c) + points cs)) (omega arith) (omega arith)
 
--- from the start also where there is none
+-- from the start even where there is none
 pub extent-from_start : (cs : List (List ℕ)) → extent (spans_from 0 0 cs) ≡ span_of 0 (0 + bytes cs) 0 (0 + points cs)
 extent-from_start [] = refl
 extent-from_start (c ∷ cs) = extent-spans 0 0 (c ∷ cs) (omega arith)

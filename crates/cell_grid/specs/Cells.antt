@@ -4,7 +4,7 @@ use Rattle.cell_grid.specs.declared.entry.Entry.{Entry}
 use Rattle.cell_grid.specs.declared.cell.Cell.{Cell}
 use Rattle.cell_grid.specs.declared.cell.Cell.TheVariants.{Blank, Head, Tail}
 
--- the cells of an entry with this number and so many columns: its head, and after it its tail
+-- the cells of an entry with this number and this many columns: its head, and after it its tail
 abbrev pub entry_cells : (number columns : ℕ) → List Cell
 entry_cells number zero = []
 entry_cells number (suc n) = Head number ∷ replicate n (Tail number)

@@ -21,7 +21,7 @@ paragraph_rows tables width base p = map (shifted p.first_byte p.first_place) (r
 abbrev pub grid_rows : TableValues → (width : ℕ) → Base → List ℕ → List DrawnRow
 grid_rows tables width base text = flat_map (paragraph_rows tables width base) (paragraphs tables text)
 
--- Grid: what is drawn of a text at a width and a base
+-- Grid: what is drawn from a text at a width and a base
 abbrev pub grid_of : TableValues → (width : ℕ) → Base → List ℕ → DrawnGrid
 grid_of tables width base text = record { tables = tables; text = text; rows = grid_rows tables width base text }
 

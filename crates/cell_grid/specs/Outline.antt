@@ -1,4 +1,4 @@
--- What the rows of a paragraph are made of.
+-- What the rows of a paragraph are made from.
 use Rattle.std.specs.Prelude.{◌≡◌, ℕ, ◌-◌, ◌<◌, ◌≤◌, true, List, map, length, sum, slice_range}
 use Rattle.std.specs.List.{All}
 use Rattle.std.specs.Str.{IsCharBoundary, chars}

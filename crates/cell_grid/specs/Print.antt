@@ -40,7 +40,7 @@ abbrev pub entry_text : TableValues → (text : List ℕ) → Option Entry → L
 entry_text tables text None = []
 entry_text tables text (Some e) = cluster_text tables e.level e.columns (cluster_of text e)
 
--- a text over so many columns: none where there is no column
+-- a text over this many columns: none where there is no column
 abbrev pub text_over : (columns : ℕ) → List ℕ → List ℕ
 text_over zero shown = []
 text_over (suc n) shown = shown

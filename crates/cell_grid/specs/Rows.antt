@@ -35,11 +35,11 @@ entries_from spans levels columns column (k ∷ order) =
       columns = slice_index columns k;
     } ∷ entries_from spans levels columns (column + slice_index columns k) order
 
--- where a row begins: on the left in a paragraph of even level, else so that it ends on the right
+-- where a row begins: on the left in a paragraph of even level, otherwise so that it ends on the right
 abbrev pub start_column : (width para_level : ℕ) → (columns : List ℕ) → ℕ
 start_column width para_level columns = if is_odd para_level then width - sum columns else 0
 
--- the row of clusters that stand there, with their levels and their columns
+-- the row of clusters with these spans, levels and columns
 abbrev pub row_with : (width para_level : ℕ) → List Span → (levels columns : List ℕ) → DrawnRow
 row_with width para_level spans levels columns =
     let start = start_column width para_level columns in
@@ -52,7 +52,7 @@ row_with width para_level spans levels columns =
       cells = cells_of width start entries;
     }
 
--- the levels of clusters of these sizes, which stand there in the paragraph's text, by the levels of its code points
+-- the levels of clusters of these sizes, which have this extent in the paragraph's text, by the levels of its code points
 abbrev pub levels_in_line : TableValues → (text levels : List ℕ) → (para_level : ℕ) → List Span → (sizes : List ℕ) → List ℕ
 levels_in_line tables text levels para_level spans sizes =
     line_levels_of tables
@@ -77,7 +77,7 @@ rows_of tables width base text =
 abbrev pub shifted_entry : (bytes places : ℕ) → Entry → Entry
 shifted_entry bytes places e = record e { span = shifted_span bytes places e.span }
 
--- a row that stands so many bytes and places later
+-- a row moved this many bytes and places later
 abbrev pub shifted : (bytes places : ℕ) → DrawnRow → DrawnRow
 shifted bytes places r = record r {
   first_place = r.first_place + places;

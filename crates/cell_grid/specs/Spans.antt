@@ -1,4 +1,4 @@
--- Where clusters stand together, and where they stand a way further.
+-- The extent of clusters that follow one another, and spans moved later in the text.
 use Rattle.std.specs.Prelude.{ℕ, ◌+◌, List, [], ◌∷◌, fold}
 use Rattle.paragraphs.specs.declared.span.Span.{Span}
 pub use Rattle.paragraphs.specs.Spans.{span_at, spans_from, spans}
@@ -7,12 +7,12 @@ pub use Rattle.paragraphs.specs.Spans.{span_at, spans_from, spans}
 abbrev pub up_to : Span → Span → Span
 up_to whole s = record whole { end_byte = s.end_byte; end_place = s.end_place }
 
--- where clusters stand together that follow one another; where there is none, the paragraph's start
+-- the extent of clusters that follow one another; the paragraph's start if there are none
 abbrev pub extent : List Span → Span
 extent [] = record { first_byte = 0; end_byte = 0; first_place = 0; end_place = 0 }
 extent (s ∷ later) = fold up_to s later
 
--- so many bytes and places later
+-- the span this many bytes and places later
 abbrev pub shifted_span : (bytes places : ℕ) → Span → Span
 shifted_span bytes places s = record {
   first_byte = s.first_byte + bytes;

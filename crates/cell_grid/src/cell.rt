@@ -7,7 +7,7 @@ use crate::entry::Entry;
 use crate::row::Row;
 use std::marker::Model;
 
-/// A cell: blank, or the first (a head) or a further one (a tail) of the entry with this number,
+/// A cell: blank, or the first (the head) or a further one (a tail) of the entry with this number,
 /// which counts the row's entries from the left, from 0.
 #[derive(Clone, Copy, Debug, PartialEq, Eq, Hash)]
 pub enum Cell {
@@ -27,7 +27,7 @@ pub(crate) fn cell_in(entries: &[Entry], column: usize) -> Cell
     if count == 0 {
         return Cell::Blank;
     }
-    // Of the entries that begin by this column only the last one can reach it.
+    // Of the entries that begin at this column or before, only the last can reach it.
     let first = entries[count - 1].column as usize;
     let end = first + entries[count - 1].columns as usize;
     if column >= end {
@@ -50,7 +50,7 @@ impl<'a> Model for Cells<'a> {
     ghost use Rattle.std.specs.Prelude.{List, drop};
     ghost use Rattle.cell_grid.specs.declared.cell.Cell.{Cell};
 
-    // The cells that are still to come.
+    // The cells still to come.
     ghost Value = { List Cell };
 
     ghost view = { λ s. drop s.column s.row.now.cells };

@@ -10,7 +10,7 @@ use bg_types::Memory;
 use line_break::Cluster;
 use std::alloc::Global;
 
-/// Each cluster takes its columns while there is room: the first that does not fit and all later
+/// Each cluster takes its columns while there is room; the first that does not fit and all later
 /// ones take 0. In a line that fits these are spaces at its end.
 pub(crate) fn hung(alloc: Global, width: u16, clusters: &[Cluster]) -> Result<Vec<u8>, Memory>
     ensures { IfOk result (λ hanging. hanging.items ≡ hung width (map (λ c. c.columns) clusters.now)) }
@@ -38,7 +38,7 @@ fn total_columns(columns: &[u8]) -> u16
     columns.iter().map(|n| u16::from(*n)).sum()
 }
 
-/// The column at which a row begins: on the left in a paragraph of even level, else so that the
+/// The column at which a row begins: on the left in a paragraph of even level, otherwise so that the
 /// row ends at the width.
 pub(crate) fn start_column(width: u16, para_level: u8, columns: &[u8]) -> u16
     requires room { sum columns.now ≤ width }
@@ -52,7 +52,7 @@ pub(crate) fn start_column(width: u16, para_level: u8, columns: &[u8]) -> u16
     }
 }
 
-/// The column where entries end that stand side by side from column `start` on.
+/// The column where entries side by side from column `start` on end.
 pub(crate) fn end_column(entries: &[Entry], start: u16) -> u16
     requires follow { ColumnsFollow start entries.now (start + total entries.now) }
     requires fits { start + total entries.now < 2 ^ 16 }

@@ -34,7 +34,7 @@ impl<'a> Model for Grid<'a> {
 }
 
 impl<'a> Grid<'a> {
-    /// The grid of these rows, which are the text's at one width and base. Takes no memory.
+    /// The grid of these rows, which are those of the text at one width and base. Takes no memory.
     #[inline]
     pub fn of(tables: &'a Tables, text: &'a str, rows: Vec<Row>) -> Grid<'a>
         requires { IsDrawn (record { tables = tables.now; text = text.now; rows = rows.items }) }
@@ -63,7 +63,7 @@ impl<'a> Grid<'a> {
     #[inline]
     pub fn rows(&self) -> &[Row]
         ensures rows { result.now ≡ self.now.rows }
-        // What every grid is, for the caller's proof.
+        // What is true of every grid, for the caller's proof.
         ensures drawn { IsDrawn self.now }
     {
         &self.rows
@@ -87,7 +87,7 @@ pub fn draw<'a>(
     ensures drawn { IfOk result IsDrawn }
 {
     let paragraphs = split(alloc, tables, text)?;
-    // Each paragraph has a row at least.
+    // Each paragraph has at least one row.
     let mut rows = Vec::with_capacity(alloc, paragraphs.len())?;
     for para in &paragraphs {
         push_rows(alloc, tables, width, base, para, &mut rows)?;
@@ -95,7 +95,7 @@ pub fn draw<'a>(
     Ok(Grid::of(tables, text, rows))
 }
 
-/// Puts the rows of a paragraph after the others, where they stand in the text.
+/// Appends the rows of a paragraph, moved to where they stand in the text.
 fn push_rows(
     alloc: Global,
     tables: &Tables,

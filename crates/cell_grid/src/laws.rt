@@ -35,7 +35,7 @@ pub fn rows_at_their_edge()
     laws_below();
 }
 
-/// A grid has a row. The rows take up the text's places in order.
+/// A grid has at least one row. The rows take up the text's places in order.
 pub fn rows_follow()
     ensures some { (g : DrawnGrid) → IsDrawn g → 0 < length g.rows }
     ensures follow { (g : DrawnGrid) → IsDrawn g → RowsFollow 0 g.rows (length (code_points g.text)) }
@@ -50,7 +50,7 @@ pub fn places_once()
     laws_below();
 }
 
-/// The rows of a paragraph, counted from its start, may be shifted to wherever the paragraph ends at
+/// The rows of a paragraph, counted from its start, may be shifted as long as the paragraph ends at
 /// 4,000,000 or before.
 pub fn rows_may_shift()
     ensures { (tables : TableValues) (width : ℕ) (base : Base) (text : List ℕ) → 2 ≤ width → IsUtf8 text

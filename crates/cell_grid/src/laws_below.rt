@@ -6,8 +6,8 @@ use line_break::laws::{each_measured, empty_line, lines_fit, lines_follow};
 use paragraphs::laws::{cluster_places, clusters_join, paragraphs_join};
 use reorder::laws::rearrangement;
 
-/// What the crates below promise of clusters, paragraphs, lines and the visual order. Called for its
-/// contract alone.
+/// What the crates below promise of clusters, paragraphs, lines and the visual order. Called only for
+/// its contract.
 #[inline]
 pub(crate) fn laws_below()
     ensures { LawsBelow }

@@ -34,7 +34,7 @@ struct Material<'a> {
     clusters: Outline,
 }
 
-/// The levels of a line's clusters, which stand there in the paragraph's text (L1).
+/// The levels of a line's clusters, which have these spans in the paragraph's text (L1).
 fn levels_in_line(
     alloc: Global,
     material: &Material,
@@ -57,7 +57,7 @@ fn levels_in_line(
     )
 }
 
-/// What a list with an element for each cluster has of a line.
+/// The part of a list with an element for each cluster that belongs to a line.
 #[inline]
 fn part<T>(all: &[T], line: Line) -> &[T]
     requires order { line.start ≤ line.end }
@@ -88,7 +88,7 @@ fn row_of(alloc: Global, material: &Material, width: u16, line: Line) -> Result<
     Row::with(alloc, width, material.para_level, spans, &levels, &columns)
 }
 
-/// The rows of a paragraph of at most 4,000,000 bytes at a width in columns, from the top, bytes and
+/// The rows of a paragraph of at most 4,000,000 bytes at a width in columns, from the top, with bytes and
 /// places counted from the paragraph's start.
 pub fn rows(
     alloc: Global,

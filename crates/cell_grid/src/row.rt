@@ -47,7 +47,7 @@ impl Model for Row {
 }
 
 impl Row {
-    /// The row of a line whose clusters stand there, in logical order, with their levels and their
+    /// The row of a line whose clusters have these spans, in logical order, with their levels and their
     /// columns.
     pub(crate) fn with(
         alloc: Global,
@@ -78,7 +78,7 @@ impl Row {
         })
     }
 
-    /// A copy that stands so many bytes and places later. Nothing of it may pass 4,000,000.
+    /// A copy that stands this many bytes and places later. No number of it may pass 4,000,000.
     pub fn shifted(&self, alloc: Global, bytes: u32, places: u32) -> Result<Row, Memory>
         requires { MayShiftRow bytes places self.now }
         ensures { IfOk result (λ row. row ≡ shifted bytes places self.now) }
@@ -95,7 +95,7 @@ impl Row {
         Ok(row)
     }
 
-    /// Lets the row stand so many bytes and places later.
+    /// Moves the row this many bytes and places later.
     pub(crate) fn shift(&mut self, bytes: u32, places: u32)
         requires { MayShiftRow bytes places self.old }
         ensures { self.new ≡ shifted bytes places self.old }
@@ -165,7 +165,7 @@ impl Row {
         }
     }
 
-    /// The cell in a column that it has.
+    /// The cell in a column of the row.
     pub(crate) fn cell_at(&self, column: usize) -> Cell
         requires { column < length self.now.cells }
         ensures { slice_get self.now.cells column ≡ Some result }

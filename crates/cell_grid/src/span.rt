@@ -1,4 +1,4 @@
-//! Where clusters stand together, and where they stand a way further.
+//! The extent of clusters that follow one another, and spans moved later in the text.
 
 ghost use Rattle.std.specs.Prelude.{◌≡◌};
 ghost use Rattle.cell_grid.specs.Spans.{extent, shifted_span};
@@ -6,7 +6,7 @@ ghost use Rattle.cell_grid.specs.Shifting.{MayShift};
 
 use paragraphs::Span;
 
-/// Where clusters of a paragraph stand together that follow one another. Where there is none, the
+/// The extent of clusters of a paragraph that follow one another. If there are none, the
 /// paragraph's start.
 pub(crate) fn extent(spans: &[Span]) -> Span
     ensures { result ≡ extent spans.now }
@@ -26,7 +26,7 @@ pub(crate) fn extent(spans: &[Span]) -> Span
     }
 }
 
-/// So many bytes and places later.
+/// The span this many bytes and places later.
 #[inline]
 pub(crate) fn shifted(span: Span, bytes: u32, places: u32) -> Span
     requires { MayShift bytes places span }

@@ -1,6 +1,6 @@
 //! What no clause says: rows drawn and printed, with small tables, and calls that succeed.
 //!
-//! A call that memory was refused to is made again: so each test also passes with any one allocation
+//! A call that was refused memory is made again: so each test also passes with any one allocation
 //! refused (`rt try --test --fail-alloc N`).
 
 mod hostile;
@@ -60,7 +60,7 @@ fn grid_of<'a>(
     grid_by(rt, alloc, tables, width, Base::Auto, text)
 }
 
-/// Prints a grid through a sink that takes at most `piece` bytes a call and `left` in all. The
+/// Prints a grid through a sink that takes at most `piece` bytes a call and `left` in all. Returns the
 /// bytes written, and whether the print was whole.
 fn printed(
     rt: &impl Abort,
@@ -155,7 +155,7 @@ const PRINTED: [(&str, u16, &str); 21] = [
     ("\u{5D0}\tb", 4, " b \u{5D0}\n"),
     // Spaces that hang in a paragraph of odd level stand on its left.
     ("\u{5D0}   ", 3, "  \u{5D0}\n"),
-    // A bracket is mirrored at an odd level alone.
+    // A bracket is mirrored only at an odd level.
     ("\u{5D0}(", 2, ")\u{5D0}\n"),
     ("a(", 2, "a(\n"),
     ("\u{5D0}\u{4E16}", 2, " \u{5D0}\n\u{4E16}\n"),
@@ -185,7 +185,7 @@ fn a_base_puts_each_row_at_its_edge(rt: HostRuntime) -> Result<(), Fail> {
             "\u{5D0}!\n\n\u{5D1}!",
             "\u{5D0}!  \n    \n\u{5D1}!  \n",
         ),
-        // An FSI goes by what it holds.
+        // An FSI takes its direction from what it holds.
         (Base::Right, "\u{2068}\u{5D0}!\u{2069}a", " a!\u{5D0}\n"),
         (Base::Right, "\u{2068}b!\u{2069}a", " ab!\n"),
         (Base::Left, "\u{2068}\u{5D0}!\u{2069}a", "!\u{5D0}a \n"),

@@ -14,8 +14,8 @@ fn tables_of(alloc: Global, bidi: &[u8], brackets: &[u8]) -> Result<Tables, UcdF
     }
 }
 
-/// A letter that ends a paragraph, begins or ends an isolate, or is a mark; and a digit that opens a bracket that it would
-/// close itself.
+/// A letter that ends a paragraph, begins or ends an isolate, or is a mark; and a digit that opens a bracket pair that it
+/// would close itself.
 #[test]
 fn letters_that_tables_make_controls(rt: HostRuntime) -> Result<(), Fail> {
     let rows: [(&[u8], &[u8], &str, &str); 5] = [
@@ -32,7 +32,7 @@ fn letters_that_tables_make_controls(rt: HostRuntime) -> Result<(), Fail> {
     Ok(())
 }
 
-/// A letter in so many isolates.
+/// A letter in this many isolates.
 fn isolated(alloc: Global, count: usize) -> Result<String, Memory> {
     let mut text = String::with_capacity(alloc, 6 * count.min(1_000) + 1)?;
     for _ in 0..count {

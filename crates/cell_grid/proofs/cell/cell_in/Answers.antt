@@ -1,4 +1,4 @@
--- Of the entries that begin by the column only the last one can reach it.
+-- Of the entries that begin at the column or before, only the last can reach it.
 use Rattle.std.proofs.Common.{[], ◌<◌, ◌-◌, length, get_or, rules, arith}
 use Rattle.std.specs.Prelude.{nat_le}
 use Rattle.std.proofs.lemmas.List.Sorted.{IsPartitionPoint-from_clause, IsPartitionedBy-leb}

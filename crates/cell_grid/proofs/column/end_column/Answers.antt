@@ -1,4 +1,4 @@
--- The last entry ends with all.
+-- The last entry ends where all end.
 use Rattle.std.proofs.Common.{sym, arith}
 use Rattle.cell_grid.proofs.Celled.{last-ends, none-total}
 use Rattle.cell_grid.proofs.column.end_column.Goals as goal
