@@ -33,7 +33,7 @@ letter-is Al h = inl refl
 letter-is Hl h = inr refl
 letter-is _ h = absurd (cc)
 
--- it is of no class of these, where they have no letters
+-- it is of none of these classes, where they have no letters
 no-other : (classes : List Lb) (x : Lb) → one_of (Al ∷ Hl ∷ []) x ≡ true → one_of classes Al ≡ false → one_of classes Hl ≡ false → one_of classes x ≡ false
 no-other classes x h al hl = elim (letter-is x h) [ inl e ↦ ap (one_of classes) e ∙ al | inr e ↦ ap (one_of classes) e ∙ hl ]
 
@@ -49,7 +49,7 @@ module _ (b : Before) (a : After) where
       (λ e. at_section b a No May section rest g (sym e))
       (λ e. past_section b a No May section rest (sym e) k)
 
-  -- a rule that does not hold, as what it asks of the left is false
+  -- a rule that does not hold, since what it asks of the left is false
   past-left : (r : Rule) (rest : List Rule) → r.left b ≡ false → No ≡ first_rule rest May b a → No ≡ first_rule (r ∷ rest) May b a
   past-left r rest h k = past_rule b a No May r rest (sym (ap (λ t. t && r.right a) h)) k
 

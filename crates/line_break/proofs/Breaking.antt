@@ -230,7 +230,7 @@ is_must-true Must e = refl
 is_must-true May e = absurd (cc)
 is_must-true No e = absurd (cc)
 
--- a line that was cut, and what is left behind it
+-- a line that was cut, and what is left after it
 pub line-cut : (cl : List Cluster) (w : ℕ) (first start end next : Boundary) (line : Line) → start ≡ first
     → lines_left cl w start.clusters ≡ record { start = start.clusters; end = end.clusters } ∷ lines_left cl w end.clusters
     → line ≡ record { start = start.clusters; end = end.clusters } → next ≡ end

@@ -33,7 +33,7 @@ module _ (passes : ℕ → Bool) where
             greatest-below n (h (suc n) (omega arith) (omega arith)) ∙ greatest-is n e low le here (λ j above upto. h j above (omega arith))
       ]
 
-  -- it, or else d, lies within
+  -- it, or d if none passes, lies within
   pub greatest-within : (n d bound : ℕ) → 1 ≤ d → d ≤ bound → n ≤ bound
       → (1 ≤ unwrap_or (greatest passes n) d) × (unwrap_or (greatest passes n) d ≤ bound)
   unfolding greatest

@@ -179,7 +179,7 @@ module _ (cl : List Cluster) (w : ℕ) where
         (greatest-is (is_in_reach w (drop s cl)) (length (drop s cl)) e low (omega arith) here (λ j above upto. later j above (omega arith)))
 
   module _ (s k : ℕ) (small : solid (take k cl) ≤ columns (take s cl) + w) where
-    -- a boundary up to which the line fits, no line having to end before it
+    -- a boundary up to which the line fits, where no line must end before it
     fit : (e : ℕ) → s < e → e ≤ k → ((i : ℕ) → s < i → i < e → status_at cl i ≢ Must) → is_in_reach w (drop s cl) (e - s) ≡ true
     fit e low high none =
         let at : s + (e - s) ≡ e = omega arith in

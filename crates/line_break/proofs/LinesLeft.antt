@@ -13,7 +13,7 @@ abbrev pub line_of : ℕ → ℕ → Line
 line_of start end = record { start = start; end = end }
 
 module _ (w : ℕ) where
-  -- a line has a cluster, and no more than there are
+  -- a line has at least one cluster, and no more than there are
   pub line_len-within : (xs : List Cluster) → 0 < length xs → (1 ≤ line_len w xs) × (line_len w xs ≤ length xs)
   unfolding line_len
   line_len-within xs some =
@@ -21,7 +21,7 @@ module _ (w : ℕ) where
       greatest-within (λ end. is_in_reach w xs end && is_opportunity xs end) (length xs)
       (unwrap_or (greatest (is_in_reach w xs) (length xs)) 1) (length xs) inner.0 inner.1 (omega arith)
 
-  -- at most so many lines as clusters
+  -- at most as many lines as clusters
   pub lines_from-enough : (n m s : ℕ) (xs : List Cluster) → length xs ≤ n → length xs ≤ m → lines_from n w s xs ≡ lines_from m w s xs
   unfolding lines_from
   lines_from-enough zero zero s xs a b = refl

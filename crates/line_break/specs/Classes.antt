@@ -19,7 +19,7 @@ unfoldable pub is_nonspacing : Bidi → Bool
 is_nonspacing Nsm = true
 is_nonspacing _ = false
 
--- LB1: AI, SG and XX become AL, CJ becomes NS, and SA becomes CM where the Bidi class is NSM, else AL (the last is own)
+-- LB1: AI, SG and XX become AL, CJ becomes NS, and SA becomes CM where the Bidi class is NSM, otherwise AL (AL for SA is own)
 unfoldable pub resolved : Bidi → Lb → Lb
 resolved bidi Ai = Al
 resolved bidi Sg = Al

@@ -8,7 +8,7 @@ use Rattle.line_break.specs.declared.context.After.{After}
 use Rattle.line_break.specs.Classes.{one_of}
 use Rattle.line_break.specs.Items.{as_base, items}
 
--- the class of the first item, and SP where there is none: no rule that looks past an item asks for SP
+-- the class of the first item, or SP where there is none: no rule that looks past an item asks for SP
 abbrev pub class_of : List Item → Lb
 class_of [] = Sp
 class_of (i ∷ items) = i.class

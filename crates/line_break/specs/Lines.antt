@@ -33,7 +33,7 @@ abbrev pub is_break : Break → Bool
 is_break No = false
 is_break _ = true
 
--- the status at the boundary after the first `end` of these clusters, of which there is one at least
+-- the status at the boundary after the first `end` of these clusters, at least one
 abbrev pub status_at : List Cluster → ℕ → Break
 status_at clusters end = slice_index_or (map (λ (c : Cluster). c.after) clusters) (end - 1) Must
 

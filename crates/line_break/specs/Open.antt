@@ -1,4 +1,4 @@
--- What the state of the line that is open says.
+-- What the state of the open line says.
 use Rattle.std.specs.Prelude.{◌≡◌, ◌≢◌, ℕ, ◌+◌, ◌<◌, ◌≤◌, true, List, Some, take, drop, length, MatchOption, if◌then◌else◌}
 use Rattle.line_break.specs.declared.cluster.Cluster.{Cluster}
 use Rattle.line_break.specs.declared.line.Line.{Line}

@@ -9,11 +9,11 @@ use Rattle.line_break.specs.Items.{point_of}
 use Rattle.line_break.specs.Context.{before, after}
 use Rattle.line_break.specs.Rules.{first_rule, rules}
 
--- the status of the boundary between the code points `front`, of which there is one at least, and those after it
+-- the status of the boundary between the code points `front`, at least one, and those after it
 abbrev pub status : List Item → List Item → Break
 -- LB3
 status front [] = Must
--- LB4 to LB30b, else LB31
+-- LB4 to LB30b, or else LB31
 status front (next ∷ later) = first_rule rules May (before front) (after next)
 
 -- the statuses after each of the code points after `front`

@@ -33,7 +33,7 @@ pub(crate) fn resolved(tables: &Tables, c: char) -> Lb
     match tables.lb(c) {
         Lb::Ai | Lb::Sg | Lb::Xx => Lb::Al,
         Lb::Cj => Lb::Ns,
-        // That SA becomes AL and not ID or another class of a dictionary is own.
+        // Own: SA becomes AL, not ID or a class from a dictionary.
         Lb::Sa => {
             if is_nonspacing(tables.bidi(c)) {
                 Lb::Cm

@@ -19,7 +19,7 @@ pub(crate) struct Before {
     pub(crate) spaced: Lb,
     /// Whether an odd number of RI items in a row ends there.
     pub(crate) odd_regional: bool,
-    /// Whether HL and then HY or BA end there.
+    /// Whether HL and then HY or BA stand right before it.
     pub(crate) hebrew_hyphen: bool,
 }
 
@@ -43,7 +43,7 @@ impl Before {
         }
     }
 
-    /// What stands before the next boundary, `point` being the character between.
+    /// What stands before the next boundary, with `point` the character between.
     pub(crate) fn next(self, point: Item) -> Before
         ensures { (front : List Item) → self ≡ before front → result ≡ before (front ++ point ∷ []) }
     {
@@ -97,7 +97,7 @@ impl Before {
 pub(crate) struct After {
     /// The class of the code point right after it.
     pub(crate) point: Lb,
-    /// The class of the item that it begins, where it belongs to none.
+    /// The class of the item that this code point begins if it belongs to none.
     pub(crate) item: Lb,
     /// Whether that item is East Asian F, W or H.
     pub(crate) wide: bool,

@@ -8,7 +8,7 @@ ghost use Rattle.line_break.specs.LineClusters.{line_clusters};
 ghost use Rattle.line_break.specs.Lines.{fits, lines};
 ghost use Rattle.line_break.specs.Ranges.{Follow};
 
-/// The lines of a paragraph join to its clusters.
+/// The lines of a paragraph, joined, are its clusters.
 pub fn lines_join()
     ensures { (tables : TableValues) (text : List ℕ) (width : ℕ)
         → flat_map (λ line. slice_range (clusters text) line.start line.end) (lines tables text width) ≡ clusters text }
@@ -22,7 +22,7 @@ pub fn lines_follow()
         → Follow 0 (lines tables text width) (length (clusters text)) }
 {}
 
-/// A line fits the width, spaces at its end not counted.
+/// A line fits the width, not counting spaces at its end.
 pub fn lines_fit()
     ensures { (tables : TableValues) (text : List ℕ) (width : ℕ) → 2 ≤ width
         → All (λ line. fits width (slice_range (line_clusters tables text) line.start line.end) ≡ true) (lines tables text width) }

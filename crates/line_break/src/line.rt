@@ -22,8 +22,8 @@ pub struct Line {
 }
 
 /// The lines of a paragraph of at most 4,000,000 bytes at a width in columns, in order. Each ends at
-/// the greatest break opportunity up to which it fits, spaces at its end not counted, else at the
-/// greatest cluster boundary. An empty paragraph has one empty line.
+/// the last break opportunity up to which it fits, not counting spaces at its end, or else at the
+/// last such cluster boundary. An empty paragraph has one empty line.
 pub fn lines(alloc: Global, tables: &Tables, para: &Para, width: u16) -> Result<Vec<Line>, Memory>
     requires at_least { 2 ≤ width }
     requires at_most { width ≤ 500 }

@@ -1,4 +1,4 @@
-//! The line that is open, while clusters are read in order.
+//! The open line, while clusters are read in order.
 
 ghost use Rattle.std.specs.Prelude.{◌≡◌, ℕ, ◌+◌, ◌^◌, ◌<◌, ◌≤◌, List, ◌∷◌, [], length, MatchOption};
 ghost use Rattle.std.specs.List.{All};
@@ -15,12 +15,12 @@ pub(crate) struct Boundary {
     pub(crate) columns: usize,
 }
 
-/// The line that is open, up to the last cluster that was read.
+/// The open line, up to the last cluster that was read.
 #[derive(Clone, Copy)]
 pub(crate) struct Open {
     /// Where the line starts.
     pub(crate) start: Boundary,
-    /// The greatest opportunity after the start, if there is one.
+    /// The last opportunity after the start, if there is one.
     pub(crate) opportunity: Option<Boundary>,
     /// After the last cluster that was read.
     pub(crate) reached: Boundary,

@@ -26,7 +26,7 @@ pub(crate) fn status(b: Before, a: After) -> Break
     }
 }
 
-/// Whether letters stand before and after a boundary, at which no line must end and no ZW stands.
+/// Whether letters stand before and after a boundary that has no mandatory break and no ZW.
 #[inline]
 fn is_between_letters(b: Before, a: After) -> bool
     ensures { result ≡ between_letters b a }

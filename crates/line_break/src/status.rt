@@ -12,14 +12,14 @@ use paragraphs::Para;
 use std::alloc::Global;
 use ucd_files::Tables;
 
-/// What the boundary after a code point is to a line (UAX #14, LD).
+/// What the boundary after a code point means for a line (UAX #14, LD).
 #[derive(Clone, Copy, Debug, PartialEq, Eq, Hash)]
 pub enum Break {
     /// A line must end there.
     Must,
     /// A line may end there.
     May,
-    /// No line ends there, unless nothing else fits.
+    /// No line ends there unless nothing else fits.
     No,
 }
 

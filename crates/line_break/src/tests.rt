@@ -348,7 +348,7 @@ const LINES: &[(&str, u16, &[(usize, usize)])] = &[
     ("a   ", 3, &[(0, 4)]),
     ("a \u{5D0}\u{5D1} \u{5D2}\u{5D3}", 5, &[(0, 5), (5, 7)]),
     ("     ", 2, &[(0, 5)]),
-    // The greatest opportunity, and not a cut, wherever one fits.
+    // The last opportunity, not a cut, wherever one fits.
     ("a b c", 3, &[(0, 4), (4, 5)]),
     ("ab cdef", 4, &[(0, 3), (3, 7)]),
     // A wide cluster at the last column, with a break before it and without.
