@@ -22,9 +22,6 @@ pub const LIMIT: usize = 67_108_864;
 /// The greatest number of bytes that are asked of a reader at once.
 pub const PIECE: usize = 4_096;
 
-// The bound that callers are told of.
-const _: () = prove!(PIECE <= 4_096);
-
 /// The tables of the data files, or the first fault of the first faulty one.
 pub fn load(alloc: Global, ucd: &Ucd) -> Result<Tables, RunFault>
     ensures ok { IfOk result (λ tables. tables ≡ tables_of_ucd ucd.now) }

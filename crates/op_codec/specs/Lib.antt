@@ -6,4 +6,5 @@ pub mod Gathering
 pub mod Migration
 pub mod Fault
 pub mod Feed
+pub mod Source
 pub mod Gives

@@ -2,6 +2,7 @@
 
 ghost use Rattle.std.specs.Prelude.{◌≡◌, ◌<◌, ◌≤◌, ◌+◌, Some, None, false, length, take, is_none, option_map, IfSome, IfNone};
 ghost use Rattle.std.specs.Io.KnownBytes.{Consumes, IsAtEnd, Keeps};
+ghost use Rattle.op_codec.specs.Source.{greatest_piece};
 ghost use Rattle.op_codec.specs.Gives.{bytes_to_come};
 
 use crate::source::Source;
@@ -74,6 +75,7 @@ impl<'a> Source for Gives<'a> {
 
     fn get(&mut self, piece: &mut [u8]) -> Option<usize>
         requires some { 0 < length piece.old }
+        requires at_most { length piece.old ≤ greatest_piece }
         requires working { ⟦<Gives<'a> as Source>⟧.has_failed self.old ≡ false }
         ensures within { IfSome result (λ n. n ≤ length piece.new) }
         ensures given { IfSome result (λ n. Consumes (⟦<Gives<'a> as Source>⟧.remaining self.old) (⟦<Gives<'a> as Source>⟧.remaining self.new) (take n piece.new)) }
