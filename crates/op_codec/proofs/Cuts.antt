@@ -15,7 +15,7 @@ use Rattle.op_codec.specs.Feed.{IsStopped, TakesFrame}
 use Rattle.op_codec.proofs.Faultless.{header_cause-header, cause_at-frame}
 use Rattle.op_codec.proofs.Settled.{Settles, missing, settled, header_settles, cause_settles}
 
--- a beginning that shows a cause is kept, and is all where it shows but a missing byte
+-- a beginning that shows a cause is kept, and is all the bytes if it shows only a missing one
 stopped : (cause_of : List ℕ → Option Cause) (most : ℕ) (bytes kept more : List ℕ) (cause : Cause) → Settles cause_of most kept [] → cause_of kept ≡ Some cause → bytes ≡ kept ++ more
     → (length kept < most → more ≡ []) → IsStopped bytes kept (cause_of kept)
 stopped cause_of most bytes kept more cause (missing e few) shown begins all = record { cause = cause; more = more; is_shown = shown; begins = begins; all = λ _. all few }

@@ -41,7 +41,7 @@ pub insertion_fields : (f : List ℕ) (id : Identifier) (parent : Place) (ch : �
 insertion_fields f id parent ch fits sixteen id_is parent_is ch_is =
     (λ i. identifier_bytes (id_is i) ++ (identifier_bytes (parent_is i) ++ big_bytes 4 (ch_is i))) ∙ sym (insertion_takes f fits sixteen)
 
--- bytes begin with a frame: its length, its kind, and so many bytes as fields
+-- bytes begin with a frame: its length, its kind, and this many bytes as fields
 frame_takes : (bytes fields : List ℕ) (size kind m : ℕ) → IsBytes bytes → 3 ≤ length bytes → slice_index bytes 2 ≡ kind → big_number 2 bytes ≡ size
     → fields ≡ take m (drop 3 bytes) → bytes ≡ (big_bytes 2 size ++ kind ∷ fields) ++ drop (3 + m) bytes
 frame_takes bytes fields size kind m fits long kind_is size_is fields_are =
@@ -70,7 +70,7 @@ insertion_made f id parent ch None r fault fields is value = rw is tt
 
 -- ---- runs
 
--- a run's length is 13 and four for each insertion
+-- a run's length is 13 plus four for each insertion
 pub run_parts : (size : ℕ) → is_run_length size ≡ true → (size ≡ 13 + 4 * run_count size) × (2 ≤ run_count size) × (run_count size ≤ 1024)
 run_parts size right =
     let last = and_parts (leb 2 (run_count size) && leb (run_count size) 1024) (eqb (13 + 4 * run_count size) size) right in

@@ -1,4 +1,4 @@
--- Operations gathered into frames: they are frames of which none could go on with the one before, and no other such frames stand
+-- Operations gathered into frames: no frame could go on with the one before, and no other such frames stand
 -- for these operations.
 use Rattle.std.proofs.Common.{◌≡◌, ℕ, ◌+◌, ◌<◌, ◌≤◌, ◌^◌, true, false, eqb, ltb, Bool, cond, List, [], ◌∷◌, ◌++◌, length, Option, Some, None, refl, sym, ap, ◌∙◌, append_assoc, arith}
 use Rattle.std.specs.Prelude.{◌&&◌}

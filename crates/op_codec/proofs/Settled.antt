@@ -1,4 +1,4 @@
--- What a beginning of a header or of a frame shows, it shows with more bytes after it too, but that a byte is missing.
+-- What a beginning of a header or of a frame shows, it also shows with more bytes after it, except a missing byte.
 use Rattle.std.proofs.Common.{◌≡◌, ◌≢◌, ℕ, ◌+◌, ◌-◌, ◌^◌, ◌<◌, ◌≤◌, true, false, eqb, ltb, Bool, cond, List, [], ◌∷◌, ◌++◌, length, slice_index, take, drop, Option, Some, None, refl, sym, ap, ◌∙◌, arith, inl, inr, ◌⊎◌}
 use Rattle.std.specs.Prelude.{◌||◌, ◌&&◌, not, nat_le}
 use Rattle.std.specs.List.{starts_with, list_all}
@@ -240,7 +240,7 @@ later_identifier : (n : ℕ) (b more : List ℕ) → n + 6 ≤ length b → iden
 later_identifier n b more long =
     ap identifier_at (drop-append-le n b more (omega (arith, long))) ∙ identifier_again (drop n b) more (omega (arith, long, length-drop n b))
 
--- a whole frame, but that of a deletion, has its two identifiers
+-- a whole frame, except that of a deletion, has its two identifiers
 whole_enough : (version : Version) (xs : List ℕ) → frame_cause version xs ≡ None → (3 ≤ length xs) × ((two_of xs ≡ true) ⊎ (15 ≤ length xs))
 whole_enough version xs none = (three, by_one (cases_Bool (one_of xs))) where
   three : 3 ≤ length xs

@@ -1,4 +1,4 @@
--- How long the spelling of a list is, against that of its beginnings.
+-- How long the spelling of a list is, compared with that of its beginnings.
 use Rattle.std.proofs.Common.{◌≡◌, ℕ, ◌+◌, ◌<◌, ◌≤◌, List, length, get_or, take, arith, ap}
 use Rattle.std.proofs.lemmas.List.Folds.{length-flat_map-take}
 use Rattle.bg_types.specs.declared.op.OpView.{OpView}

@@ -1,4 +1,4 @@
--- What follows for a decoder that reads only what is spelled, and tells only first faults.
+-- What follows for a decoder that reads only what is spelled, and reports only first faults.
 use Rattle.std.proofs.Common.{◌≡◌, ℕ, List, Result, Ok, Err, refl, ◌⊎◌, inl, inr}
 use Rattle.std.specs.Prelude.{IfOk, IfErr, MatchResult}
 use Rattle.std.specs.Global.{Vec}

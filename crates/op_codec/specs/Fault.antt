@@ -23,7 +23,7 @@ abbrev pub or_else : Option Cause → Option Cause → Option Cause
 or_else (Some first) second = Some first
 or_else None second = second
 
--- what the header shows: a magic byte that differs, as far as there are any; a missing byte; a fifth byte other than 1 and 2
+-- what the header shows: a magic byte that differs, among those that are there; a missing byte; a fifth byte other than 1 and 2
 abbrev pub header_cause : List ℕ → Option Cause
 header_cause bytes = first_cause (
     (not (starts_with nat_eq magic (take 4 bytes)), BadMagic)
@@ -58,14 +58,14 @@ insertion_cause fields =
     ∷ (not (scalar (big_number 4 (drop 12 fields))), NotAScalar)
     ∷ [])
 
--- what the length of a frame shows, where its kind asks for this one: another length, or fewer bytes than it
+-- what the length of a frame shows, where its kind asks for this length: another length, or fewer bytes than it says
 abbrev pub length_cause : ℕ → List ℕ → Option Cause
 length_cause wanted bytes = first_cause (
     (not (big_number 2 bytes == wanted), BadLength)
     ∷ (nat_lt (length bytes) (2 + wanted), Truncated)
     ∷ [])
 
--- so many characters in the bytes at the front, four bytes each
+-- this many characters in the bytes at the front, four bytes each
 abbrev pub characters_at : ℕ → List ℕ → List ℕ
 characters_at zero bytes = []
 characters_at (suc n) bytes = big_number 4 bytes ∷ characters_at n (drop 4 bytes)
@@ -77,7 +77,7 @@ characters_in bytes = characters_at (length bytes / 4) bytes
 abbrev pub run_count : ℕ → ℕ
 run_count size = (size - 13) / 4
 
--- a run has 2 to 1,024 insertions: its length is 13 and four for each
+-- a run has 2 to 1,024 insertions: its length is 13 plus four for each
 abbrev pub is_run_length : ℕ → Bool
 is_run_length size = nat_le 2 (run_count size) && nat_le (run_count size) 1024 && (13 + 4 * run_count size == size)
 
@@ -116,7 +116,7 @@ kind_cause version kind bytes =
     else (if kind == 2 then erasure_frame_cause bytes
     else (if kind == 3 && nat_lt 1 (most_insertions version) then run_frame_cause bytes else Some UnknownKind))
 
--- what the frame at the front shows by itself: a missing length or kind, else by its kind
+-- what the frame at the front shows by itself: a missing length or kind, or else what it shows by its kind
 abbrev pub frame_cause : Version → List ℕ → Option Cause
 frame_cause version bytes = if nat_lt (length bytes) 3 then Some Truncated else kind_cause version (slice_index bytes 2) bytes
 
@@ -144,7 +144,7 @@ pub record IsFrameFault (bytes : List ℕ) (n : ℕ) (cause : Cause) : Type 0 wh
 abbrev pub IsFault : List ℕ → ℕ → Cause → Type 0
 IsFault bytes n cause = ((n ≡ 0) × (header_cause bytes ≡ Some cause)) ⊎ IsFrameFault bytes n cause
 
--- the fault tells the first of the bytes; lack of memory says nothing of them
+-- the fault is the first of the bytes; lack of memory says nothing of them
 abbrev pub TellsFault : List ℕ → CodecFault → Type 0
 TellsFault bytes (faults.Malformed frame cause) = IsFault bytes frame cause
 TellsFault bytes faults.Memory = Unit {0}

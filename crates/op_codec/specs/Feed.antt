@@ -28,7 +28,7 @@ pub record AreFrames (bytes : List ℕ) (ops : List OpView) : Type 0 where
 abbrev pub IsWhole : List ℕ → List OpView → Type 0
 IsWhole bytes ops = ((ops ≡ []) × ((cause : Cause) × (header_cause bytes ≡ Some cause))) ⊎ AreFrames bytes ops
 
--- the bytes show no fault, but that a byte may be missing
+-- the bytes show no fault, except that a byte may be missing
 abbrev pub IsSound : List ℕ → Type 0
 IsSound bytes = (n : ℕ) (cause : Cause) → IsFault bytes n cause → cause ≡ Truncated
 
@@ -82,7 +82,7 @@ pub record Standing : Type 0 where
   pub position : Option Position
   pub kept : List ℕ
 
--- it stands after these bytes, and these are the operations of their whole frames; a frame has a byte at least
+-- it stands after these bytes, and these are the operations of their whole frames; a frame has at least one byte
 pub record StandsAfter (s : Standing) (bytes : List ℕ) (ops : List OpView) : Type 0 where
   pub read : bytes ≡ bytes_of s.position ops s.kept
   pub cut : IsCut s.position ops s.kept
@@ -109,12 +109,12 @@ abbrev pub IsMissing : Option (ℕ × Cause) → Type 0
 IsMissing None = Unit {0}
 IsMissing (Some fault) = fault.1 ≡ Truncated
 
--- a fault that more bytes can't mend is answered
+-- the answer is a fault that more bytes can't mend
 abbrev pub TellsKept : Option (ℕ × Cause) → CodecFault → Type 0
 TellsKept kept (Malformed frame cause) = (kept ≡ Some (frame, cause)) × (cause ≢ Truncated)
 TellsKept kept Memory = ⊥
 
--- of these bytes a beginning is kept, up to a cause: all of them, where that is a missing byte
+-- a beginning of these bytes is kept, up to a cause: all of them, if that is a missing byte
 pub record IsStopped (bytes kept : List ℕ) (shown : Option Cause) : Type 0 where
   pub cause : Cause
   pub more : List ℕ
@@ -140,7 +140,7 @@ pub record TakesIn (at now : Position) (old new : List OpView) (bytes rest : Lis
   pub next : IsNext at now f
   pub ops : new ≡ old ++ frame_ops f
 
--- whole frames were read after these operations, with which there are so many then, and the rest follows them
+-- whole frames were read after these operations, which makes this many in all, and the rest follows them
 pub record MovesOn (at now : Position) (ops grown : List OpView) (bytes rest : List ℕ) : Type 0 where
   pub version : now.version ≡ at.version
   pub read : spelling_in at.version ops ++ bytes ≡ spelling_in at.version grown ++ rest

@@ -1,4 +1,4 @@
--- What becomes of a file that is migrated, and where it stays as long.
+-- What becomes of a migrated file, and when it stays as long.
 use Rattle.std.specs.Prelude.{◌≡◌, false, List, [], ◌∷◌, ℕ, Option}
 use Rattle.bg_types.specs.Identifier.{Identifier}
 use Rattle.bg_types.specs.declared.op.OpView.{OpView}

@@ -29,7 +29,7 @@ header version = magic ++ version_number version ∷ []
 abbrev pub identifier_bytes : Identifier → List ℕ
 identifier_bytes id = big_bytes 4 id.counter ++ big_bytes 2 id.site
 
--- the root stands as two zeros
+-- the root is spelled as two zeros
 abbrev pub parent_identifier : Place → Identifier
 parent_identifier Root = record { counter = 0; site = 0 }
 parent_identifier (After id) = id
@@ -110,7 +110,7 @@ joins (Some before) (Insert id parent ch) = follows before id (parent_identifier
 joins (Some before) (Erase target) = false
 joins None op = false
 
--- what the next operation may join: the last one of the frame before, where that is no full run
+-- what the next operation may join: the last one of the frame before, unless that is a full run
 abbrev pub tip : ℕ → Frame → Option Identifier
 tip most f = cond (nat_lt (length f.further + 1) most) (last_id f.first f.further) None
 
@@ -124,7 +124,7 @@ abbrev pub gathered : ℕ → Frame → List OpView → List Frame
 gathered most f [] = f ∷ []
 gathered most f (op ∷ ops) = cond (joins (tip most f) op) (gathered most (grown f op) ops) (f ∷ gathered most (record { first = op; further = [] }) ops)
 
--- the longest chains of joined insertions, cut after so many
+-- the longest chains of joined insertions, cut after a number of them
 abbrev pub frames_of : ℕ → List OpView → List Frame
 frames_of most [] = []
 frames_of most (op ∷ ops) = gathered most (record { first = op; further = [] }) ops

@@ -20,7 +20,7 @@ use bg_types::{Memory, Op};
 /// A beginning of a header or of a frame.
 pub type Cut = ArrayVec<u8, LONGEST_FRAME>;
 
-/// The version, and what follows the header that the kept bytes begin, if the piece completes it.
+/// The version, and what follows the header that the kept bytes begin, if the piece completes the header.
 pub fn complete_header<'a>(kept: &mut Cut, piece: &'a [u8]) -> Option<(Version, &'a [u8])>
     requires { header_cause kept.old.items ≡ Some Truncated }
     ensures some { IfSome result (λ read. kept.old.items ++ piece.now ≡ header read.0 ++ read.1.now) }
@@ -36,8 +36,8 @@ pub fn complete_header<'a>(kept: &mut Cut, piece: &'a [u8]) -> Option<(Version, 
     }
 }
 
-/// What follows the frame that the kept bytes begin, if the piece completes it; its operations are
-/// written after the others then, and the position is moved after it.
+/// What follows the frame that the kept bytes begin, if the piece completes it. Its operations are
+/// then appended to the others, and the position is moved after it.
 pub fn complete_frame<'a>(
     ops: &mut Vec<Op>,
     kept: &mut Cut,
@@ -64,7 +64,7 @@ pub fn complete_frame<'a>(
     }
 }
 
-/// Keeps the bytes where no frame begins, up to what shows that.
+/// Keeps bytes at which no whole frame begins, or a beginning that shows it.
 pub fn keep(kept: &mut Cut, at: &Position, rest: &[u8])
     requires { (cause : CauseOf) × (cause_at at.now.version at.now.tip rest.now ≡ Some cause) }
     ensures { IsStopped rest.now kept.new.items (cause_at at.now.version at.now.tip kept.new.items) }
@@ -98,7 +98,7 @@ pub fn first_fault(position: &Option<Position>, kept: &[u8]) -> Option<(usize, C
     }
 }
 
-/// Answers the fault of the kept bytes, but that a byte is missing.
+/// Returns the fault of the kept bytes, except a missing byte.
 pub fn judge(position: &Option<Position>, kept: &[u8]) -> Result<(), CodecFault>
     requires { IfSome position.now (λ at. at.frames < 2 ^ 64 - 1) }
     ensures ok { OnOk result (IsMissing (kept_fault position.now kept.now)) }

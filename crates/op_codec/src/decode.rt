@@ -13,13 +13,13 @@ use std::alloc::Global;
 
 /// The operations that the bytes spell, or their first fault with its frame (docs/FORMATS.md).
 pub fn decode_file(alloc: Global, bytes: &[u8]) -> Result<Vec<Op>, CodecFault>
-    // What is read is spelled so, and a fault is the first one.
+    // What is read is what the bytes spell, and a fault is the first one.
     ensures ok { IfOk result (λ ops. Spells bytes.now ops.items) }
     ensures fault { IfErr result (TellsFault bytes.now) }
-    // Memory is asked for only after a right header.
+    // Memory is taken only after a right header.
     ensures memory { IsErrOf result CodecFault.Memory → header_cause bytes.now ≡ None }
 
-    // What is spelled is read, and a fault is told, unless memory runs out.
+    // What is spelled is read, and a fault is reported, unless memory runs out.
     ensures spelled { (ops : List Operation) → Spells bytes.now ops
         → MatchResult result (λ read. read.items ≡ ops) (λ fault. fault ≡ CodecFault.Memory) }
     ensures faulty { (frame : ℕ) (cause : CauseOf) → IsFault bytes.now frame cause

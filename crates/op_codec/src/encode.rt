@@ -14,15 +14,15 @@ use bg_types::{Id, Memory, Op, OpView, Place};
 use byteorder::{BigEndian, ByteOrder};
 use std::alloc::Global;
 
-/// Writes an operation's frame at the end (docs/FORMATS.md): 19 bytes for an insertion, 9 for a
+/// Appends an operation's frame (docs/FORMATS.md): 19 bytes for an insertion, 9 for a
 /// deletion. `Memory` leaves `out` as it was.
 pub fn encode_op(op: &Op, out: &mut Vec<u8>) -> Result<(), Memory>
     ensures ok { OnOk result (out.new.items ≡ out.old.items ++ frame op.now) }
     ensures err { OnErr result (out.new.items ≡ out.old.items) }
-    // It fails only where room was missing, and never gives room back.
+    // It fails only where room is missing, and never gives room back.
     ensures room { vec_len out.old + length (frame op.now) ≤ vec_capacity out.old → IsOk result }
     ensures capacity { vec_capacity out.old ≤ vec_capacity out.new }
-    // What every operation is, for the caller's proof.
+    // What is true of every operation, for the caller's proof.
     ensures well_formed { IsWellFormed op.now }
 {
     match op.view() {
@@ -34,7 +34,7 @@ pub fn encode_op(op: &Op, out: &mut Vec<u8>) -> Result<(), Memory>
     Ok(())
 }
 
-/// The file of the operations, of version 1 (docs/FORMATS.md). Memory is asked for once.
+/// The file of the operations, in version 1 (docs/FORMATS.md). Memory is taken once.
 pub fn encode_file(alloc: Global, ops: &[Op]) -> Result<Vec<u8>, Memory>
     ensures spelled { IfOk result (λ file. SpellsIn Version.One file.items ops.now) }
     ensures frames { IfOk result (λ file. file.items ≡ spelling ops.now) }
@@ -49,7 +49,7 @@ pub fn encode_file(alloc: Global, ops: &[Op]) -> Result<Vec<u8>, Memory>
     Ok(file)
 }
 
-/// How many bytes the file of the operations has, or `usize::MAX` where it has more.
+/// How many bytes the file of the operations has, or `usize::MAX` if it has more.
 fn file_size(ops: &[Op]) -> usize
     ensures { result ≡ min (length (spelling ops.now)) (2 ^ 64 - 1) }
 {

@@ -16,8 +16,8 @@ use bg_types::{Id, Memory, Op, OpView, Place};
 use byteorder::{BigEndian, ByteOrder};
 use std::alloc::Global;
 
-/// The file of the operations, of version 2 (docs/FORMATS.md): what was typed in one go is a frame of
-/// four bytes a character, and fifteen more. Memory is asked for once.
+/// The file of the operations, in version 2 (docs/FORMATS.md): what was typed in one go is a frame of
+/// four bytes a character, plus fifteen. Memory is taken once.
 pub fn encode_file_v2(alloc: Global, ops: &[Op]) -> Result<Vec<u8>, Memory>
     ensures spelled { IfOk result (λ file. SpellsIn Version.Two file.items ops.now) }
 {
@@ -46,7 +46,7 @@ fn file_size(ops: &[Op]) -> usize
     size
 }
 
-/// Writes the frame of an operation and a run's further insertions at the end.
+/// Appends the frame of an operation and a run's further insertions.
 fn write_frame(first: &Op, further: &[Op], out: &mut Vec<u8>) -> Result<(), Memory>
     requires is_frame { IsFrame 1024 (record { first = first.now; further = inserted_characters further.now }) }
     requires insertions { length (inserted_characters further.now) ≡ length further.now }
@@ -65,7 +65,7 @@ fn write_frame(first: &Op, further: &[Op], out: &mut Vec<u8>) -> Result<(), Memo
     Ok(())
 }
 
-/// A run's frame up to its first character, the one of this insertion, which so many others follow.
+/// A run's frame up to its first character, that of this insertion, which `further` others follow.
 fn run_front(id: Id, parent: &Place, ch: char, further: usize) -> [u8; INSERTION_SIZE]
     requires { further ≤ 1023 }
     ensures { result ≡ big_bytes 2 (17 + 4 * further) ++ 3 ∷ frame_fields (OpView.Insert id parent.now ch) }
@@ -77,7 +77,7 @@ fn run_front(id: Id, parent: &Place, ch: char, further: usize) -> [u8; INSERTION
     front
 }
 
-/// Writes the characters of the insertions at the end.
+/// Appends the characters of the insertions.
 fn write_characters(ops: &[Op], out: &mut Vec<u8>) -> Result<(), Memory>
     ensures ok { OnOk result (out.new.items ≡ out.old.items ++ flat_map (big_bytes 4) (inserted_characters ops.now)) }
     // It fails only where room was missing, and never gives room back.

@@ -20,7 +20,7 @@ pub enum Cause {
     /// A byte is missing.
     #[error("Truncated")]
     Truncated,
-    /// The kind is neither 1 nor 2, nor in version 2 a run's 3.
+    /// The kind is neither 1 nor 2, nor a run's 3 in version 2.
     #[error("UnknownKind")]
     UnknownKind,
     /// The length isn't that of the kind.
@@ -38,7 +38,7 @@ pub enum Cause {
     /// A character is above 10FFFF or a surrogate.
     #[error("NotAScalar")]
     NotAScalar,
-    /// The first insertion joins the last operation of the frame before, which has room for it.
+    /// The first insertion joins the last operation of the frame before, which still has room for it.
     #[error("NotJoined")]
     NotJoined,
 }
@@ -66,7 +66,7 @@ impl Cause {
 /// Why a file was not read. It prints the bare name of its cause, or `Memory`.
 #[derive(Clone, Copy, Debug, PartialEq, Eq, Hash, Error)]
 pub enum CodecFault {
-    /// The bytes are faulty: this is the first cause that they show. Frame 0 is the header, frames
+    /// The bytes are faulty: this is their first cause. Frame 0 is the header, frames
     /// count from 1.
     #[error("{cause}")]
     Malformed { frame: usize, cause: Cause },
@@ -86,7 +86,7 @@ impl CodecFault {
         }
     }
 
-    /// The frame that is faulty, from 1; 0 for the header; `None` for `Memory`.
+    /// The faulty frame, counted from 1; 0 for the header; `None` for `Memory`.
     pub fn frame(self) -> Option<usize>
         ensures { result ≡ frame_number self }
     {

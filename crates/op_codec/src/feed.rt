@@ -18,7 +18,7 @@ use std::marker::Model;
 pub struct Feed {
     /// The operations of the whole frames.
     ops: Vec<Op>,
-    /// Where it stands after them.
+    /// Where the reading stands after them.
     stream: Stream,
 }
 
@@ -41,7 +41,7 @@ impl Feed {
         }
     }
 
-    /// Reads on. It answers the first fault of all bytes so far, but that a byte is missing; such a
+    /// Reads on. Returns the first fault of all bytes so far, except a missing byte; such a
     /// fault stays. `Memory` changes nothing.
     pub fn feed(&mut self, piece: &[u8]) -> Result<(), CodecFault>
         ensures outcome { IsFeedOutcome self.old piece.now self.new result }

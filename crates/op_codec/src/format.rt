@@ -33,9 +33,9 @@ pub const CHARACTER_SIZE: usize = 4;
 /// The most insertions that a run has after its first.
 pub const MOST_FURTHER: usize = 1_023;
 
-/// How many bytes of a run's frame stand before its further characters, its length excluded but for
-/// the kind: the fields of its first insertion.
+/// How many bytes of a run's frame stand between its kind and its further characters:
+/// the fields of its first insertion.
 pub const INSERTION_FIELDS: usize = 16;
 
-/// How many bytes the longest frame has, a run of 1,024.
+/// How many bytes the longest frame has, that of a run of 1,024.
 pub const LONGEST_FRAME: usize = 4_111;

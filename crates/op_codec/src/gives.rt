@@ -7,8 +7,8 @@ ghost use Rattle.op_codec.specs.Gives.{bytes_to_come};
 
 use crate::source::Source;
 
-/// A source for tests: it gives some bytes, at most `piece` a call, and then ends, gives others for
-/// ever, or fails for good at the get after `left` bytes.
+/// A source for tests: it gives some bytes, at most `piece` a call, and then ends, gives others
+/// forever, or fails for good at the get after `left` bytes.
 #[derive(Drop)]
 pub struct Gives<'a> {
     bytes: &'a [u8],
@@ -39,8 +39,7 @@ impl<'a> Gives<'a> {
         }
     }
 
-    /// The same, but that it gives `again` for ever after them, if it has a byte, in place of its
-    /// end.
+    /// The same, but instead of ending it gives `again` forever, if `again` has a byte.
     pub fn then_for_ever(self, again: &'a [u8]) -> Gives<'a>
         ensures working { ⟦<Gives<'a> as Source>⟧.has_failed result ≡ ⟦<Gives<'a> as Source>⟧.has_failed self.entry }
         ensures piece { result.piece ≡ self.entry.piece }
@@ -51,7 +50,7 @@ impl<'a> Gives<'a> {
         gives
     }
 
-    /// The same, but that it fails at the get after `left` more bytes.
+    /// The same, but it fails at the get after `left` more bytes.
     pub fn failing_after(self, left: usize) -> Gives<'a>
         ensures remaining { ⟦<Gives<'a> as Source>⟧.remaining result ≡ ⟦<Gives<'a> as Source>⟧.remaining self.entry }
         ensures working { ⟦<Gives<'a> as Source>⟧.has_failed result ≡ ⟦<Gives<'a> as Source>⟧.has_failed self.entry }

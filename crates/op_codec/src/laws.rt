@@ -32,14 +32,14 @@ pub fn spelled_or_faulty()
         → IsFault bytes m c → IsFault bytes n d → (m ≡ n) × (c ≡ d) }
 {}
 
-/// What a beginning of the bytes shows, all its continuations show, but that a byte is missing.
+/// What a beginning of the bytes shows, all its continuations show, except a missing byte.
 pub fn stable_faults()
     ensures { (bytes more : List ℕ) (frame : ℕ) (cause : Cause)
         → IsFault bytes frame cause → cause ≢ Truncated → IsFault (bytes ++ more) frame cause }
 {}
 
-/// Bytes have one list of operations of whole frames. Those of a file are all its operations, and
-/// after a lasting fault there come no more.
+/// Bytes have one list of operations of whole frames. For a file these are all its operations, and
+/// after a lasting fault no more are added.
 pub fn whole_frames()
     ensures one_list { (bytes : List ℕ) (a b : List OpView) → IsWhole bytes a → IsWhole bytes b → a ≡ b }
     ensures spelled { (bytes : List ℕ) (ops : List OpView) → Spells bytes ops → IsWhole bytes ops }
@@ -49,7 +49,7 @@ pub fn whole_frames()
 
 /// What a feed keeps stands for all bytes that it was fed, for every list of pieces: `begin` and one
 /// of `taken`, `faulty` and `refused` for each piece say so, with the answer by the first fault of all
-/// bytes so far; `ops`, `spelled` and `told` say what its operations and its end tell of them.
+/// bytes so far; `ops`, `spelled` and `told` say what its operations and its end say of them.
 pub fn fed_in_pieces()
     ensures begin { IsFed [] [] }
     ensures taken { (all old piece new : List ℕ) → IsFed all old → IsFeedOutcome old piece new (Ok tt)
@@ -64,7 +64,7 @@ pub fn fed_in_pieces()
     ensures told { (all kept : List ℕ) (frame : ℕ) (cause : Cause) → IsFed all kept → IsFault kept frame cause → IsFault all frame cause }
 {}
 
-/// A file and its migration spell the same operations, so that nothing that reads operations can tell
+/// A file and its migration spell the same operations, so nothing that reads operations can tell
 /// the versions apart. A file that spells operations has one migration, which is never longer and
 /// migrates to itself, as every file of version 2 does.
 pub fn migrated_file()

@@ -13,7 +13,7 @@ fn insertion(id: (u32, u16), parent: (u32, u16), ch: char) -> Option<Op> {
     Op::insert(Id::new(id.0, id.1)?, place, ch)
 }
 
-/// So many insertions at site 1, each after the one before.
+/// This many insertions at site 1, each after the one before.
 fn chain(alloc: Global, count: u32) -> Result<Vec<Op>, AllocError> {
     let mut ops = Vec::new(alloc);
     for counter in 1..=count {
@@ -26,7 +26,7 @@ fn chain(alloc: Global, count: u32) -> Result<Vec<Op>, AllocError> {
 
 #[test]
 fn a_chain_is_cut_after_each_1_024(rt: HostRuntime) -> Result<(), Fail> {
-    // 15 bytes and four a character, or 19 for one alone, after the header.
+    // 15 bytes plus four a character, or 19 for one alone, after the header.
     let rows: [(u32, usize); 6] = [
         (0, 5),
         (1, 24),
@@ -116,7 +116,7 @@ fn a_faulty_file_is_not_migrated(rt: HostRuntime) -> Result<(), Fail> {
     Ok(())
 }
 
-/// With ample memory each call is right, and where a growth is refused it says so.
+/// With ample memory each call is right; where a growth is refused it says so.
 #[test]
 fn a_migration_is_right_or_says_memory(rt: HostRuntime) -> Result<(), Fail> {
     match migrate(rt.alloc(), &FOUR) {

@@ -18,10 +18,10 @@ use std::alloc::Global;
 pub fn migrate(alloc: Global, bytes: &[u8]) -> Result<Vec<u8>, CodecFault>
     ensures ok { IfOk result (λ migrated. IsMigration bytes.now migrated.items) }
     ensures fault { IfErr result (TellsFault bytes.now) }
-    // Memory is asked for only after a right header.
+    // Memory is taken only after a right header.
     ensures memory { IsErrOf result CodecFault.Memory → header_cause bytes.now ≡ None }
 
-    // What is spelled is migrated, and a fault is told, unless memory runs out.
+    // What is spelled is migrated, and a fault is reported, unless memory runs out.
     ensures spelled { (ops : List Operation) → Spells bytes.now ops
         → MatchResult result (λ migrated. SpellsIn Version.Two migrated.items ops) (λ fault. fault ≡ CodecFault.Memory) }
     ensures faulty { (frame : ℕ) (cause : CauseOf) → IsFault bytes.now frame cause

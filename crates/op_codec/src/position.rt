@@ -42,7 +42,7 @@ pub struct Position {
     pub version: Version,
     /// How many frames stand before.
     pub frames: usize,
-    /// The insertion that the next one must not join: the last one, but that of a full frame.
+    /// The insertion that the next one must not join: the last one, unless its frame is full.
     pub tip: Option<Id>,
 }
 

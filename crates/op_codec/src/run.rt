@@ -110,7 +110,7 @@ fn is_scalar(code: u32) -> bool
     char::from_u32(code).is_some()
 }
 
-/// Whether the bytes, four for each, have characters alone.
+/// Whether the bytes, four for each, are all characters.
 fn are_scalars(bytes: &[u8]) -> bool
     ensures { result ≡ list_all scalar (characters_in bytes.now) }
 {
@@ -124,8 +124,8 @@ fn are_scalars(bytes: &[u8]) -> bool
     true
 }
 
-/// Writes the operations of a frame after the others, and moves the position after it. Where memory
-/// is refused the operations have only grown.
+/// Appends the operations of a frame, and moves the position after it. Where memory
+/// is refused, the operations have only grown.
 pub fn push_frame(
     ops: &mut Vec<Op>,
     at: &mut Position,
@@ -174,14 +174,14 @@ fn push_run(ops: &mut Vec<Op>, at: &mut Position, first: &Op, further: &[u8]) ->
     Ok(())
 }
 
-/// The last identifier of a run of so many insertions, where it has room for more.
+/// The last identifier of a run of `count` insertions, if it has room for more.
 fn open_tip(count: usize, most: usize, last: Option<Id>) -> Option<Id>
     ensures { result ≡ cond (nat_lt count most) last None }
 {
     if count < most { last } else { None }
 }
 
-/// Writes the further insertions of a run after the others, and gives the last identifier.
+/// Appends the further insertions of a run, and returns the last identifier.
 fn push_further(ops: &mut Vec<Op>, first: &Op, further: &[u8]) -> Result<Option<Id>, Memory>
     requires goes_on { MayGoOn first.now (characters_in further.now) }
     requires scalars { AllByRecursion IsScalar (characters_in further.now) }
@@ -198,7 +198,7 @@ fn push_further(ops: &mut Vec<Op>, first: &Op, further: &[u8]) -> Result<Option<
     }
 }
 
-/// Writes insertions of these characters, each after the one before, and gives the last identifier.
+/// Appends insertions of these characters, each after the one before, and returns the last identifier.
 fn push_followers(ops: &mut Vec<Op>, id: Id, further: &[u8]) -> Result<Id, Memory>
     requires fits { id.counter + length (characters_in further.now) < 2 ^ 32 }
     requires scalars { AllByRecursion IsScalar (characters_in further.now) }

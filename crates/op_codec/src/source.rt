@@ -6,12 +6,12 @@ ghost use Rattle.op_codec.specs.Source.{greatest_piece};
 
 /// Gives bytes in order, until its end or until it fails for good.
 pub trait Source {
-    /// What is still to come, or `None` where that is not known, as of a file, or has no end.
+    /// What is still to come, or `None` where that is not known, as for a file, or has no end.
     ghost remaining: { Self → Option (List ℕ) };
 
     ghost has_failed: { Self → Bool };
 
-    /// Whether a read has failed. It stays so.
+    /// Whether a read has failed. Once true, it stays true.
     fn failed(&self) -> bool
         ensures { result ≡ has_failed self.now };
 

@@ -1,4 +1,4 @@
-//! Operation files that are read piece by piece, and of which no operation is kept.
+//! Operation files read piece by piece, without keeping the operations.
 
 ghost use Rattle.std.specs.Prelude.{◌≡◌, ◌≢◌, ◌<◌, ◌≤◌, ◌+◌, ◌-◌, ◌^◌, ◌++◌, [], List, ℕ, length, take, None, Some, IfOk, IfErr, OnOk, OnErr, IfSome};
 ghost use Rattle.std.specs.List.{AllByRecursion};
@@ -21,13 +21,13 @@ use bg_types::{Memory, Op};
 use std::marker::Model;
 
 /// Reads an operation file (docs/FORMATS.md) in pieces of any size, and hands the operations on as
-/// they come. Clauses see where it stands: after some bytes, and the operations of their whole frames.
+/// they come. Clauses see where it stands: after which bytes, and the operations of their whole frames.
 #[derive(Drop)]
 pub struct Stream {
-    /// The bytes after the whole frames: of a header or a frame that isn't whole yet, or that is
+    /// The bytes after the whole frames: those of a header or a frame that isn't whole yet, or is
     /// faulty.
     kept: Cut,
-    /// Where those stand, once the header is whole and right.
+    /// Where they stand, once the header is whole and right.
     position: Option<Position>,
 }
 
@@ -50,9 +50,9 @@ impl Stream {
         }
     }
 
-    /// Reads on, and writes the operations of the further whole frames after the others. It answers
-    /// the first fault of all bytes so far, but that a byte is missing; such a fault stays. `Memory`
-    /// changes nothing. Frames are counted, so they and the piece's bytes are below 2^64 - 2.
+    /// Reads on, and appends the operations of the further whole frames to the others. Returns
+    /// the first fault of all bytes so far, except a missing byte; such a fault stays. `Memory`
+    /// changes nothing. Frames are counted, so their number plus the piece's bytes is below 2^64 - 2.
     pub fn feed(&mut self, piece: &[u8], ops: &mut Vec<Op>) -> Result<(), CodecFault>
         requires few { IfSome self.old.position (λ at. at.frames + length piece.now < 2 ^ 64 - 2) }
         ensures outcome { (bytes : List ℕ) (before : List Operation) → StandsAfter self.old bytes before
@@ -74,7 +74,7 @@ impl Stream {
         }
     }
 
-    /// Answers the first fault of all bytes, where they end here: none where they are a file of the
+    /// Returns the first fault of all bytes if they end here: none if they are a file of the
     /// operations that were handed on.
     pub fn finish(&self) -> Result<(), CodecFault>
         requires few { IfSome self.now.position (λ at. at.frames < 2 ^ 64 - 1) }
@@ -89,8 +89,8 @@ impl Stream {
     }
 }
 
-/// Reads a piece after the kept bytes, writes the operations of the whole frames after the others,
-/// and answers the position of what is kept then. Where memory is refused both have only grown.
+/// Reads a piece after the kept bytes, appends the operations of the whole frames to the others,
+/// and returns the position of what is then kept. Where memory is refused, both have only grown.
 fn read_on(
     ops: &mut Vec<Op>,
     kept: &mut Cut,
@@ -178,7 +178,7 @@ fn read_frames(
     Ok(())
 }
 
-/// Reads the whole frames at the front, and gives what follows them. It moves the position there.
+/// Reads the whole frames at the front, and returns what follows them. It moves the position there.
 fn push_frames<'a>(
     ops: &mut Vec<Op>,
     at: &mut Position,
@@ -191,7 +191,7 @@ fn push_frames<'a>(
     ensures few { IfOk result (λ rest. at.new.frames + length rest.now ≤ at.old.frames + length bytes.now) }
     ensures grown { take (length ops.old.items) ops.new.items ≡ ops.old.items }
 {
-    // One growth where all are insertions of one frame each, and at most a few more elsewhere.
+    // One growth if each insertion is a frame of its own, and at most a few more otherwise.
     ops.reserve(bytes.len() / INSERTION_SIZE)?;
     let mut rest = bytes;
     while let Ok(read) = read_frame(at, rest) {

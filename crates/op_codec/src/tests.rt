@@ -270,8 +270,8 @@ fn a_fault_has_a_number_a_name_and_a_frame(rt: HostRuntime) -> Result<(), Fail> 
     Ok(())
 }
 
-/// With ample memory each call is right, and where a growth is refused it says so, and no half is
-/// left behind.
+/// With ample memory each call is right; where a growth is refused it says so, and nothing is left
+/// half done.
 #[test]
 fn a_call_is_right_or_says_memory(rt: HostRuntime) -> Result<(), Fail> {
     let ops = two().ok_or("well formed")?;
@@ -292,8 +292,8 @@ fn a_call_is_right_or_says_memory(rt: HostRuntime) -> Result<(), Fail> {
     Ok(())
 }
 
-/// Whether bytes that are fed in these pieces are answered as `decode_file` answers all bytes so far,
-/// but that `Truncated` is Ok.
+/// Whether feeding bytes in these pieces answers as `decode_file` answers all bytes so far,
+/// except that `Truncated` is Ok.
 fn is_fed_like_whole(alloc: Global, pieces: &[&[u8]]) -> Result<bool, AllocError> {
     let mut feed = Feed::new(alloc);
     let mut bytes = Vec::new(alloc);
@@ -374,7 +374,7 @@ fn rows_cut_into_two_pieces(rt: HostRuntime) -> Result<(), Fail> {
 
 #[test]
 fn a_file_cut_into_two_pieces(rt: HostRuntime) -> Result<(), Fail> {
-    // Five frames of both kinds, right, and with one byte other.
+    // Five frames of both kinds, right, and with one byte changed.
     let mut file = joined(rt.alloc(), &TWO, &[0, 7, 2, 0, 0, 0, 2, 0, 1])?;
     file.extend_from_slice(&TWO[5..])?;
     for other in [255, 0, 3, 4, 6, 7, 9, 20, 27, 41, 45, 50] {
@@ -425,7 +425,7 @@ fn a_feed_is_as_before_after_memory(rt: HostRuntime) -> Result<(), Fail> {
     Ok(())
 }
 
-/// What a source gives by thirty pieces of ten bytes, and whether it failed.
+/// What a source gives in thirty pieces of ten bytes, and whether it failed.
 fn given<S: Source>(alloc: Global, source: &mut S) -> Result<(Vec<u8>, bool), AllocError> {
     let mut bytes = Vec::new(alloc);
     for _ in 0..30 {

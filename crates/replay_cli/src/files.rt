@@ -20,7 +20,7 @@ pub fn open_all<R: Files + AllocGlobal>(rt: &R, paths: &[&str]) -> Result<Vec<In
     Ok(files)
 }
 
-/// The path of the file of which a read failed, or nothing after another fault.
+/// The path of the file that a read failed on, or nothing after another fault.
 pub fn path_of<'a>(fault: &RunFault, paths: &[&'a str]) -> &'a str
     ensures { (k : ℕ) → k < length paths.now → fault.now ≡ RunFault.ReadFailed (k + 1) → slice_get paths.now k ≡ Some result }
 {

@@ -5,12 +5,12 @@ use std::alloc::Global;
 use std::env::{self, VarError};
 use std::rt::Env;
 
-/// What in the environment names the folder where the command line does not.
+/// The environment variable that names the folder where the command line does not.
 const VARIABLE: &str = "BIDIGRID_UCD";
 
 const NO_FOLDER: &str = "error: --ucd <DIR> is left out, and BIDIGRID_UCD names no folder\n";
 
-/// The folder that the command line names, or else the environment.
+/// The folder that the command line names, or else the one that the environment names.
 pub fn folder_of<R: Env + Alloc<A = Global>>(rt: &R, folder: Option<&str>) -> Result<String, Stop> {
     if let Some(folder) = folder {
         return Ok(String::from_str(rt.alloc(), folder)?);

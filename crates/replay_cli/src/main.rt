@@ -240,8 +240,8 @@ fn run_pack(rt: &HostRuntime, path: &str) -> ExitCode {
     )
 }
 
-/// Ends a run of an engine that read the files of these paths, and wrote to this writer. What was
-/// written before a refusal comes before the line about it, and a device that loses it is told first.
+/// Ends a run of an engine that read the files at these paths and wrote to this writer. What was
+/// written before a refusal comes before the line about it, and a device that loses it is reported first.
 fn finish<W: Write>(
     rt: &HostRuntime,
     done: Result<(), RunFault>,
@@ -272,8 +272,8 @@ fn lose(rt: &HostRuntime, unread: &Unread) -> ExitCode {
     }
 }
 
-/// Writes the line about a fault, and gives its status. Where the line can't be written, the
-/// status tells it alone.
+/// Writes the line about a fault, and returns its status. Where the line can't be written, only the
+/// status shows the fault.
 fn refuse(rt: &HostRuntime, fault: &RunFault, path: &str) -> ExitCode {
     let mut err = Out::new(rt.stderr());
     let _unheard = report(fault, path, &mut err);

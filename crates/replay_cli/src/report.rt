@@ -6,7 +6,7 @@ use bg_types::{Device, Sink};
 use cli_support::{CannotRead, tell};
 use desk_runs::RunFault;
 
-/// The name that the program goes by in its lines.
+/// The program's name in its lines.
 pub const PROGRAM: &str = "bidigrid";
 
 /// Writes the line about a fault, as `bidigrid: file 2 frame 1: Truncated`, without memory. The path

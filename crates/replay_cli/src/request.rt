@@ -13,7 +13,7 @@ pub enum Job<'a> {
     Text { files: Vec<&'a str> },
     /// Draw the texts of desks.
     Replay(Replay<'a>),
-    /// Tell where a caret comes to.
+    /// Tell where a caret goes.
     Caret(Walk<'a>),
     /// Write the operation file of what a site types.
     Type(Typing<'a>),
@@ -25,7 +25,7 @@ pub enum Job<'a> {
     Pack { listing: &'a str },
 }
 
-/// Desks, one for each file, that are to be drawn.
+/// Desks to be drawn, one for each file.
 #[derive(Debug, Drop)]
 pub struct Replay<'a> {
     /// The folder of the five data files; that of the environment where there is none.
@@ -71,13 +71,13 @@ pub struct Walk<'a> {
 /// A change that a site makes to the text of files.
 #[derive(Debug, Drop)]
 pub struct Typing<'a> {
-    /// Who types.
+    /// The site that types.
     pub site: u16,
-    /// Where, in characters of the text; its end where there is none.
+    /// Where, in characters of the text: its end if `None`.
     pub place: Option<u32>,
     /// How many characters are erased.
     pub erased: u32,
-    /// What is typed; standard input where there is none.
+    /// What is typed: standard input if `None`.
     pub text: Option<&'a str>,
     /// The version of the file that is written.
     pub version: Version,

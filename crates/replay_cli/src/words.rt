@@ -14,7 +14,7 @@ const ABOUT: &str = "Replays the editing operations of several desks.\n\n\
     Several desks edit one text, and each keeps what it did in operation files. Desks that hold\n\
     the same operations show the same text, whatever the order in which these came.";
 
-/// What `--version` tells after the program's name.
+/// What `--version` writes after the program's name.
 const VERSION: &str = "0.1.0, Unicode 15.0";
 
 const TEXT_ABOUT: &str = "Writes the text that the operations of the files make";
@@ -216,7 +216,7 @@ fn typing_job<'a>(alloc: Global, typing: &ArgMatches<'a>) -> Result<Job<'a>, Sto
     }))
 }
 
-/// The operation files, so many to 64 of them in all: options may stand between them.
+/// The operation files, from a least number to 64 in all: options may stand between them.
 fn files<'a>(alloc: Global, matches: &ArgMatches<'a>, least: usize) -> Result<Vec<&'a str>, Stop>
     ensures some { IfOk result (λ files. least ≤ vec_len files) }
     ensures at_most { IfOk result (λ files. vec_len files ≤ 64) }
@@ -270,7 +270,7 @@ fn base(matches: &ArgMatches) -> Base {
     }
 }
 
-/// Whether ambiguous characters are asked for wide.
+/// Whether ambiguous characters are asked to be wide.
 fn is_wide(matches: &ArgMatches) -> bool {
     matches.get_str("AMBIGUOUS") == Some("wide")
 }

@@ -28,7 +28,7 @@ pub record IsVisiblePlace (bs : List (List Element)) (k b j : ℕ) (e : Element)
   pub visible : e.hidden ≡ false
   pub before : seen_all (take b bs) + seen (take j (get_or bs b [])) ≡ k
 
--- so many looks find visible element k, which is e: the place of its block and its place there, both from 1
+-- this many looks find visible element k, which is e: the place of its block plus its place there, both from 1
 abbrev pub FindsBy : List (List Element) → ℕ → Element → ℕ → Type 0
 FindsBy bs k e n = (b : ℕ) × (j : ℕ) × IsVisiblePlace bs k b j e × (n ≡ (b + 1) + (j + 1))
 

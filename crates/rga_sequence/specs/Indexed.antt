@@ -14,7 +14,7 @@ blocks_in r = items_of r.blocks.items
 abbrev pub elements_in : Row → List Element
 elements_in r = joined (blocks_in r)
 
--- the index tells the number of the block of each identifier, and `places` the place of each number's block
+-- the index has the number of each identifier's block, and `places` the place of each number's block
 pub record IsIndexed (eq : Identifier → Identifier → Bool) (r : Row) : Type 0 where
   pub homes : (q : Identifier) → get eq r.index q ≡ home_of (blocks_in r) (numbers_of r.blocks.items) q
   pub places : (p : ℕ) → p < length r.blocks.items → slice_get r.places.items (get_or (numbers_of r.blocks.items) p 0) ≡ Some p
@@ -29,7 +29,7 @@ pub record HasRoom (r : Row) (n : ℕ) : Type 0 where
   pub blocks : vec_len r.blocks + vec_len r.spares ≤ vec_capacity r.blocks
   pub places : vec_len r.blocks + vec_len r.spares ≤ vec_capacity r.places
 
--- each has one proof at most, so that a ghost field may say it
+-- each has at most one proof, so that a ghost field may say it
 pub IsIndexed-prop : (eq : Identifier → Identifier → Bool) (r : Row) → IsProp (IsIndexed eq r)
 IsIndexed-prop eq r = hlevel props
 

@@ -88,7 +88,7 @@ impl Block {
             .unwrap();
     }
 
-    /// Hides an element, and answers how many visible ones are fewer then.
+    /// Hides an element, and returns how many fewer are visible.
     pub fn hide(&mut self, at: usize) -> usize
         requires { at < length self.old.elements.items }
         ensures items { (d : Element) → let e = slice_index_or self.old.elements.items at d in
@@ -102,8 +102,8 @@ impl Block {
         gone
     }
 
-    /// Moves the upper half of a full block to a new one. The new memory is for the lower half: of
-    /// blocks that grow at their end alone the half that stays empty was never written.
+    /// Moves the upper half of a full block to a new one. The new memory is for the lower half: in
+    /// blocks that grow only at their end, the half that stays empty was never written.
     pub fn split(&mut self, mut lower: Vec<Element>, number: usize) -> Block
         requires full { length self.old.elements.items ≡ 512 }
         requires empty { lower.items ≡ [] }
@@ -137,7 +137,7 @@ fn count_visible(row: &[Element]) -> usize
     row.iter().filter(|e| !e.hidden).count()
 }
 
-/// How many visible elements an element is.
+/// How many visible elements an element counts as.
 pub fn weight(hidden: bool) -> usize
     ensures { result ≡ (if hidden then 0 else 1) }
 {

@@ -38,8 +38,8 @@ pub struct Blocks {
 }
 
 impl Blocks {
-    /// An empty sequence, which takes no memory. Its index is hashed with the key 0: a sequence of
-    /// what strangers sent is made by `keyed`.
+    /// An empty sequence, which takes no memory. Its index is hashed with the key 0: for operations
+    /// from strangers make the sequence by `keyed`.
     pub fn new(alloc: Global) -> Blocks
         ensures content { ⟦<Blocks as Sequence>⟧.content result ≡ no_operations }
         ensures room { ⟦<Blocks as Sequence>⟧.free result ≡ 0 }
@@ -49,8 +49,8 @@ impl Blocks {
         Blocks::keyed(alloc, 0)
     }
 
-    /// An empty sequence, which takes no memory and whose index is hashed with this key. Who does
-    /// not know the key cannot choose identifiers that make the calls slow.
+    /// An empty sequence, which takes no memory and whose index is hashed with this key. Without
+    /// knowing the key, nobody can choose identifiers that make the calls slow.
     pub fn keyed(alloc: Global, key: u128) -> Blocks
         ensures content { ⟦<Blocks as Sequence>⟧.content result ≡ no_operations }
         ensures room { ⟦<Blocks as Sequence>⟧.free result ≡ 0 }
@@ -148,7 +148,7 @@ impl Sequence for Blocks {
     }
 
     fn place(&mut self, id: Id, parent: Place, ch: char, hidden: bool) {
-        // The identifier is known to be well formed where it is read.
+        // Reading the identifier tells the proof that it is well formed.
         let _known = id.counter();
         put(&mut self.row, id, parent, ch, hidden);
         self.placed = self.row.index.len();

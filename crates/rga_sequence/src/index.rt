@@ -1,4 +1,4 @@
-//! Where identifiers are at home, and where blocks stand.
+//! Which block each identifier is in, and where blocks stand.
 
 ghost use Rattle.std.specs.Prelude.{◌≡◌, ◌-◌, ◌<◌, ◌≤◌, ℕ, length, get_or, slice_get, IsSome, if◌then◌else◌, Some};
 ghost use Rattle.std.specs.List.{AllByRecursion};

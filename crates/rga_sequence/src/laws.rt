@@ -12,9 +12,9 @@ ghost use Rattle.rga_tree.specs.Elements.{elements};
 ghost use Rattle.rga_tree.specs.Row.{place_of};
 ghost use Rattle.rga_tree.specs.Leaf.{IsParent, StandsAttached};
 
-/// The skipping law. A new insertion that is no parent, below the root or an attached parent, is
+/// The skipping law. A new insertion that is no parent yet, below the root or an attached parent, is
 /// put into the old walk after its parent (the root: at the front), and after all greater
-/// identifiers that follow there directly.
+/// identifiers that directly follow it.
 pub fn skipping()
     ensures { (s : OperationSet) → AllWellFormed s → (id : Identifier) (node : Node)
         → IsWellFormed (Insert id node.parent node.ch) → map.contains_key s.ins id ≡ false

@@ -53,7 +53,7 @@ fn put_in(blocks: &mut [Block], q: usize, at: usize, id: Id, parent: Place, ch: 
     blocks[q].insert(at, id, parent, ch, hidden);
 }
 
-/// Hides an element of block q, and answers how many visible ones are fewer then.
+/// Hides an element of block q, and returns how many fewer are visible.
 pub fn hide_at(blocks: &mut Vec<Block>, q: usize, at: usize) -> usize
     requires block { q < vec_len blocks.old }
     requires within { at < length (get_or (items_of blocks.old.items) q []) }

@@ -58,7 +58,7 @@ fn before(row: &[Element], likely: usize, id: Id) -> usize
     row.iter().take_while(|e| id != e.id).count()
 }
 
-/// Puts in a new element: after its parent, and after all greater ones that follow there.
+/// Puts in a new element: after its parent, and after all greater ones that directly follow it.
 pub fn put(row: &mut Row, id: Id, parent: Place, ch: char, hidden: bool)
     requires indexed { IsIndexed ⟦<Id as Eq>⟧.eq row.old }
     requires distinct { is_distinct (ids_of (elements_in row.old)) ≡ true }
@@ -183,7 +183,7 @@ fn put_into(row: &mut Row, q: usize, at: usize, id: Id, parent: Place, ch: char,
     kept.unwrap();
 }
 
-/// Hides an element, and answers how many visible ones are fewer then.
+/// Hides an element, and returns how many fewer are visible.
 pub fn hide(row: &mut Row, id: Id) -> usize
     requires indexed { IsIndexed ⟦<Id as Eq>⟧.eq row.old }
     requires distinct { is_distinct (ids_of (elements_in row.old)) ≡ true }

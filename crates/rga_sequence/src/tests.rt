@@ -52,7 +52,7 @@ fn chain(alloc: Global, count: u32) -> Option<Tried<Blocks>> {
     Some(seq)
 }
 
-/// Whether both calls find this element at visible place k, each with so many looks.
+/// Whether both calls find this element at visible place k, each with this many looks.
 fn is_found(seq: &mut Tried<Blocks>, k: usize, name: Name, looks: u64) -> bool {
     if k >= seq.seq.len() {
         return false;
@@ -61,8 +61,8 @@ fn is_found(seq: &mut Tried<Blocks>, k: usize, name: Name, looks: u64) -> bool {
     found && seq.at(k).is_some() && seq.seq.looks() == looks
 }
 
-/// How many elements a chain has, which of them are erased, what is placed then, how many blocks
-/// there are, how many elements are visible, and some visible places: who stands there, and how
+/// How many elements a chain has, which of them are erased, what is then placed, how many blocks
+/// there are, how many elements are visible, and some visible places: which element is there, and how
 /// many looks find it.
 type Split = (
     u32,
@@ -91,7 +91,7 @@ static SPLITS: [Split; 4] = [
         513,
         &[(0, (1, 1), 2), (512, (513, 1), 259)],
     ),
-    // After the last of a block, also where all that follow are less.
+    // After the last of a block, even where all that follow are less.
     (
         513,
         &[],
@@ -208,7 +208,7 @@ fn many_children_stand_in_falling_order(rt: HostRuntime) {
     assert!(rt; puts_children(rt.alloc(), true) == Some(true));
 }
 
-/// A number that looks random, from the one before.
+/// A number that looks random, made from the one before.
 fn stir(seed: u64) -> u64 {
     seed.wrapping_mul(6_364_136_223_846_793_005)
         .wrapping_add(1_442_695_040_888_963_407)
@@ -226,7 +226,7 @@ fn random_row(seq: &Tried<Plain>, seed: u64) -> Row {
     ((counter, site), parent, letter(counter), seed % 7 == 0)
 }
 
-/// Makes 2,500 changes of both, and answers whether both answered the same.
+/// Makes 2,500 changes to both, and returns whether both answered the same.
 fn change_both(blocks: &mut Tried<Blocks>, plain: &mut Tried<Plain>) -> bool {
     let mut seed = 20;
     let mut same = true;
@@ -241,7 +241,7 @@ fn change_both(blocks: &mut Tried<Blocks>, plain: &mut Tried<Plain>) -> bool {
     same
 }
 
-/// Whether both tell the same at each place.
+/// Whether both show the same at each place.
 fn show_the_same(blocks: &mut Tried<Blocks>, plain: &mut Tried<Plain>) -> bool {
     let mut same = blocks.seq.placed() == plain.seq.placed();
     for j in 0..plain.seq.placed() {
