@@ -15,7 +15,7 @@ sets_of desks = each (λ d. d.set) desks
 abbrev pub sites_of : List Desk → List ℕ
 sites_of desks = each (λ d. d.site) desks
 
--- so many desks that hold nothing
+-- `count` desks that hold nothing
 abbrev pub empty_desks : ℕ → List OperationSet
 empty_desks count = replicate count no_operations
 

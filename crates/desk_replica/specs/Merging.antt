@@ -43,13 +43,13 @@ pub record IsBetween (s t u : OperationSet) : Type 0 where
   pub of_both : (op : OpView) → Holds u op → Holds s op ⊎ Holds t op
 
 -- S refuses to meet t: an identifier is kept by both, with another parent or character; or the union has more than
--- 1,000,000 operations. Want of memory is of no merge
+-- 1,000,000 operations. Lack of memory is no refusal of a merge
 abbrev pub IsMergeRefusal : OperationSet → OperationSet → TakeFault → Type 0
 IsMergeRefusal s t IdentifierReused = Disagree s t
 IsMergeRefusal s t Full = Agree s t × (1_000_000 < size (union s t))
 IsMergeRefusal s t Memory = ⊥
 
--- s met t, ended with the fault, and is u now. Want of memory leaves out an operation of t
+-- s met t, ended with the fault, and is u now. Lack of memory leaves out an operation of t
 abbrev pub IsMergeRefused : OperationSet → OperationSet → OperationSet → TakeFault → Type 0
 IsMergeRefused s t u IdentifierReused = IsMergeRefusal s t IdentifierReused × (u ≡ s)
 IsMergeRefused s t u Full = IsMergeRefusal s t Full × IsBetween s t u × (size u ≡ 1_000_000)

@@ -61,8 +61,8 @@ abbrev pub Places : OperationSet → Waiting → OpView → OperationSet → Wai
 Places t w (Insert id parent ch) u v = PlacesIn t w (id, record { parent = parent; ch = ch }) u v
 Places t w (Erase target) u v = ⊥
 
--- there is memory for n new operations, wherever they go, and for placing the insertions that wait: a sequence takes so many
--- placings without memory, and the store of early operations has room
+-- there is memory for n new operations, wherever they go, and for placing the insertions that wait: a sequence has room for
+-- that many placings, and the store of early operations has room
 pub record IsPaid (placings : ℕ) (w : Waiting) (n : ℕ) : Type 0 where
   pub placed : map.len w.held.ins + n ≤ placings
   pub held : n ≤ w.room

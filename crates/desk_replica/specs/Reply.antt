@@ -39,7 +39,7 @@ IsTaken s op Hidden = IsAdmitted s op × IsHiding s op
 IsTaken s op Held = IsAdmitted s op × (¬ (IsPlacing s op)) × (¬ (IsHiding s op))
 
 -- S refuses the operation: it inserts a kept identifier with another parent or character, or is new where 1,000,000 are
--- kept. Want of memory is of no operation
+-- kept. Lack of memory is no refusal of an operation
 abbrev pub IsRefusal : OperationSet → OpView → TakeFault → Type 0
 IsRefusal s op IdentifierReused = ReusesIdentifier s op
 IsRefusal s op Full = MayJoin s op × (¬ (Holds s op)) × (size s ≡ 1_000_000)

@@ -55,7 +55,7 @@ pub fn one_refusal()
     ensures first { (ops : List OpView) (f g : TakeFault) → IsFirstRefusal ops f → IsFirstRefusal ops g → f ≡ g }
 {}
 
-/// Of operations that a set within the limit holds a desk refuses none.
+/// Of the operations that a set within the limit holds, a desk refuses none.
 pub fn none_refused()
     ensures { (ops : List OpView) (s : OperationSet) (fault : TakeFault)
         → IsSetOf ops s → size s ≤ 1_000_000 → IsFirstRefusal ops fault → ⊥ }
@@ -74,7 +74,7 @@ pub fn typed_and_erased()
         → next (with_operation s (Erase target)) ≡ next s }
 {}
 
-/// No two insertions that are made in a world have one identifier.
+/// No two insertions made in a world have the same identifier.
 pub fn own_identifiers()
     ensures { (sites : List ℕ) (w : WorldState) → IsWorld sites w
         → (i j : ℕ) (id : Identifier) (p q : Place) (a b : ℕ)
@@ -92,7 +92,7 @@ pub fn no_reuse()
         → slice_get steps k ≡ Some (Merge desk from) → slice_get replies k ≡ Some (Refused 1) → ⊥ }
 {}
 
-/// Each desk of a world holds part of what was made before, and so any two agree, also at different
+/// Each desk of a world holds part of what was made before, so any two agree, even at different
 /// times. A desk reads all characters, erased ones too, in the order of the walk of all operations
 /// made, with some left out.
 pub fn worlds_agree()
@@ -119,7 +119,7 @@ pub fn one_order_of_worlds()
 {}
 
 /// Desks of a world that hold the same operations show the same text. Where all that was made has
-/// come to a desk, in whatever order, it shows the text of all.
+/// reached a desk, in whatever order, it shows the text of all.
 pub fn one_text_of_worlds()
     ensures same { (sites : List ℕ) (w v : WorldState) → IsWorld sites w → IsLater sites w v
         → (desk other : ℕ) → IsPartOf (set_at w.sets desk) (set_at v.sets other)

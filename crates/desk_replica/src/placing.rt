@@ -67,7 +67,7 @@ fn is_erased<S: Sequence>(seq: &S, held: &Held, target: Id) -> bool
     }
 }
 
-/// Whether the root or a placed element is there to stand below.
+/// Whether a parent is there: the root, or a placed element.
 fn stands<S: Sequence>(seq: &S, parent: &Place) -> bool
     ensures { result ≡ stands_in (S.content seq.now) parent.now }
 {
@@ -196,7 +196,7 @@ fn place_ready<S: Sequence>(seq: &mut S, held: &mut Held)
     }
 }
 
-/// Places an insertion that does not wait any more, and makes those right after it ready.
+/// Places an insertion that no longer waits, and makes those right after it ready.
 fn place_one<S: Sequence>(seq: &mut S, held: &mut Held, op: &Op)
     requires may { MayPlace (S.content seq.old) op.now }
     requires room { 1 ≤ S.free seq.old }
@@ -232,7 +232,7 @@ pub fn count_waiting(held: &Held) -> usize
 {
     let count = held.count();
     if count > 0 {
-        // The list is known to be whole where one of it is read.
+        // Reading one operation of the list tells the proof that it is whole.
         let _first = held.nth(0);
     }
     count

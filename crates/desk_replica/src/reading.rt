@@ -22,7 +22,7 @@ pub fn insertion_of(e: &Element) -> Op
 pub fn count_before<S: Sequence>(seq: &S, id: Id) -> usize
     ensures { result ≡ count_visible (in_front id (elements (S.content seq.now))) }
 {
-    // No more are counted than are placed, so that no sum is too great.
+    // At most as many are counted as are placed, so no sum is too great.
     let _placed = seq.placed();
     let mut count = 0;
     for p in 0..seq.part_count() {
@@ -69,7 +69,7 @@ pub fn hidden_at<S: Sequence>(seq: &S, k: usize) -> Id
     unreachable!()
 }
 
-/// The identifier of hidden element k of a row, or, where there are not so many, how many k is
+/// The identifier of hidden element k of a row, or, where the row has too few, how much k is
 /// greater than their number.
 fn hidden_in(row: &[Element], k: usize) -> Result<Id, usize>
     ensures ok { IfOk result (λ id. slice_get (hidden_ids row.now) k ≡ Some id) }

@@ -77,8 +77,8 @@ impl<S: Sequence> Replica<S> {
         }
     }
 
-    /// Pays for n new operations (at most 1,000,000) in advance, those that are spare counted: so
-    /// many are taken, typed or erased without memory. After `Memory` the desk is as it was.
+    /// Pays in advance for n new operations (at most 1,000,000), those that are spare included: then
+    /// n are taken, typed or erased without memory. After `Memory` the desk is as it was.
     pub fn reserve(&mut self, n: usize) -> Result<(), Memory>
         requires { n ≤ 1_000_000 }
         ensures ok { OnOk result (self.new.spare ≡ max self.old.spare n) }
@@ -103,8 +103,8 @@ impl<S: Sequence> Replica<S> {
         self.spare
     }
 
-    /// Takes an operation, and answers what became of it. A fault changes nothing. While one is
-    /// spare the fault is not `Memory`; a new operation lowers the spare ones by at most one.
+    /// Takes an operation, and returns what became of it. A fault changes nothing. While one is
+    /// spare, the fault is not `Memory`; a new operation lowers the spare ones by at most one.
     pub fn take(&mut self, op: &Op) -> Result<Taken, TakeFault>
         ensures answer { MatchResult result (IsTaken self.old.set op.now) (IsRefused self.old.set op.now) }
         ensures accepted { OnOk result ((fault : Fault) → ¬ (IsRefusal self.old.set op.now fault)) }
@@ -133,7 +133,7 @@ impl<S: Sequence> Replica<S> {
         }
     }
 
-    /// Types a character at a place: makes the insertion, takes it, and answers it. A fault changes
+    /// Types a character at a place: makes the insertion, takes it, and returns it. A fault changes
     /// nothing.
     pub fn type_char(&mut self, place: usize, ch: char) -> Result<Op, TypeFault>
         requires { place ≤ length (visible self.old.set) }
@@ -183,7 +183,7 @@ impl<S: Sequence> Replica<S> {
         self.greatest + 1
     }
 
-    /// What a character that is typed at a place follows.
+    /// What a character typed at a place follows.
     fn parent_for(&mut self, place: usize) -> Place
         requires { place ≤ length (visible self.old.set) }
         ensures parent { result ≡ parent_at (visible_ids self.old.set) place }
@@ -195,7 +195,7 @@ impl<S: Sequence> Replica<S> {
         Place::After(self.id_at(place - 1))
     }
 
-    /// Erases the visible character at a place: makes the deletion, takes it, and answers it. The
+    /// Erases the visible character at a place: makes the deletion, takes it, and returns it. The
     /// only fault is `Full`, which changes nothing.
     pub fn erase_at(&mut self, place: usize) -> Result<Op, TypeFault>
         requires { place < length (visible self.old.set) }
@@ -233,7 +233,7 @@ impl<S: Sequence> Replica<S> {
         requires { place < length (visible self.old.set) }
         ensures value { slice_get (visible_ids self.old.set) place ≡ Some result }
         ensures unchanged { self.new ≡ self.old }
-        // What every desk's set is, for the caller's proof.
+        // What is true of every desk's set, for the caller's proof.
         ensures well_formed { AllWellFormed self.old.set }
     {
         self.seq.id_at(place)
@@ -262,7 +262,7 @@ impl<S: Sequence> Replica<S> {
 
     /// The kept operation at place `j` of a list of them all: the placed insertions in the order of
     /// the walk, then the deletions of placed ones in that order, then those that wait. While the
-    /// desk does not change the list does not either. Goes over the elements where it is a deletion
+    /// desk does not change, neither does the list. Goes over the elements if it is a deletion
     /// of a placed one.
     pub fn op_at(&self, j: usize) -> Op
         requires { j < size self.now.set }

@@ -11,7 +11,7 @@ use crate::replica::Replica;
 use bg_types::Op;
 use rga_tree::Sequence;
 
-/// Lets a desk take an operation, and answers what became of it. A fault changes nothing.
+/// Lets a desk take an operation, and returns what became of it. A fault changes nothing.
 pub fn take_at<S: Sequence>(
     desks: &mut [Replica<S>],
     desk: usize,
@@ -27,7 +27,7 @@ pub fn take_at<S: Sequence>(
     desks[desk].take(op)
 }
 
-/// Lets a desk take all that another one holds, and answers how many operations were new. A desk
+/// Lets a desk take all that another one holds, and returns how many operations were new. A desk
 /// that meets itself stays as it is. After `IdentifierReused` nothing has changed; after `Full` or
 /// `Memory` some of them are taken.
 pub fn merge_at<S: Sequence>(
@@ -55,7 +55,7 @@ fn meet_itself<S: Sequence>(desk: &Replica<S>) -> u32
     ensures meets { IsMerge desk.now desk.now desk.now (Ok result) }
 {
     laws::union_law();
-    // The count tells that the desk keeps its limit.
+    // Reading the count tells the proof that the desk keeps its limit.
     let _kept = desk.op_count();
     0
 }

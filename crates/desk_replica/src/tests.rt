@@ -1,6 +1,6 @@
 //! What no clause says: that memory suffices, and which answers and texts come out.
 //!
-//! A refused growth is told to leave the desk as it was, and the call is tried again: so each test
+//! A refused growth must leave the desk as it was, and the call is made again: so each test
 //! also passes with any one allocation refused (`rt try --test --fail-alloc N`).
 
 ghost use Rattle.std.specs.Prelude.{◌≡◌, ◌<◌};
@@ -65,7 +65,7 @@ struct Desk<S: Fresh> {
 }
 
 impl<S: Fresh> Desk<S> {
-    /// The text, at the second try where memory for it is refused.
+    /// The text, on a second try where memory for it is refused.
     fn text(&self) -> Result<String, Memory> {
         match self.desk.text() {
             Err(Memory) => self.desk.text(),
@@ -128,7 +128,7 @@ impl<S: Fresh> Desk<S> {
         }
     }
 
-    /// Pays for four operations, at the second try where memory for it is refused.
+    /// Pays for four operations, on a second try where memory for it is refused.
     fn pays(&mut self) -> bool {
         (self.desk.reserve(4).is_ok() || self.desk.reserve(4).is_ok()) && self.desk.spare() == 4
     }
@@ -303,7 +303,7 @@ fn merges<S: Fresh>(alloc: Global, mine: &[Row], others: &[Row], merged: Merged)
     taken && others_taken && right
 }
 
-/// So many are new, and this text is read and so many operations are kept then.
+/// This many are new, and then this text is read and this many operations are kept.
 fn all_new(new: usize, text: &'static str, kept: usize) -> Merged {
     Merged {
         answer: Ok(new),
@@ -392,7 +392,7 @@ fn holds(desk: &mut Desk<Plain>, counter: u32) -> bool {
     answer == HELD
 }
 
-/// Whether a desk holds so many early deletions.
+/// Whether a desk holds this many early deletions.
 fn holds_all(desk: &mut Desk<Plain>, count: u32) -> bool {
     let mut all = true;
     for counter in 1..=count {

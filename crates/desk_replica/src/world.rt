@@ -27,7 +27,7 @@ pub struct World {
     pub desks: Vec<Replica<Blocks>>,
     /// All operations made, in the order in which they were made.
     pub made: Vec<Op>,
-    /// What each step came to.
+    /// What became of each step.
     pub replies: Vec<Reply>,
 }
 
@@ -70,8 +70,8 @@ impl From<AllocError> for WorldFault {
     }
 }
 
-/// Does steps in order at fresh desks with these sites, each step at one desk. The key keeps who
-/// does not know it from choosing identifiers that make the steps slow.
+/// Does steps in order at fresh desks with these sites, each step at one desk. Without knowing the
+/// key, nobody can choose identifiers that make the steps slow.
 ///
 /// `BadSites` where a site is 0 or stands twice, which is tested before the first step; `Memory` where
 /// a growth is refused, which ends the run. What a desk refuses is a reply, and the run goes on.

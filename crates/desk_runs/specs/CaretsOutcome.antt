@@ -86,14 +86,14 @@ pub record WritesLinesBeginning (a : Asked) (old new : Option (List ℕ)) : Type
   pub within : a.place ≤ length (chars (text_bytes set))
   pub written : AppendsBeginning old new (lines_over a (text_bytes set))
 
--- the place is above the number of the code points of the set's text
+-- the place is above the number of code points of the set's text
 pub record IsBeyondText (a : Asked) : Type 0 where
   pub set : OperationSet
   pub read : IsRead a set
   pub past : length (chars (text_bytes set)) < a.place
 
 -- there are no lines: the first fault of the data files, else of the operation files, else a step of desk 1 without a
--- schedule, which is line 0, else the place. Want of memory has no cause
+-- schedule, which is line 0, else the place. Lack of memory has no cause
 abbrev pub IsWalkCaused : Asked → RunFault → Type 0
 IsWalkCaused a (Tables fault) = a.fault ≡ Some fault
 IsWalkCaused a (File n (codec.Malformed frame cause)) = (a.fault ≡ None) × IsFaultyFile a.files n (malformed frame cause)

@@ -71,12 +71,12 @@ IsUnwalked bytes place Memory = Unit {0}
 
 -- ---- the answer of a run
 
--- to the fault of a file: lack of memory is of no file
+-- to the fault of a file: lack of memory is the fault of no file
 abbrev pub file_fault_of : ℕ → CodecFault → RunFault
 file_fault_of n (codec.Malformed frame cause) = File n (codec.Malformed frame cause)
 file_fault_of n codec.Memory = Memory
 
--- to what a desk answered to the step of a line: lack of memory is of no step
+-- to what a desk answered to the step of a line: lack of memory is the fault of no step
 abbrev pub step_fault_of : (line desk : ℕ) → TakeFault → RunFault
 step_fault_of line desk take.IdentifierReused = Step line desk take.IdentifierReused
 step_fault_of line desk take.Full = Step line desk take.Full

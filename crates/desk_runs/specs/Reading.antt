@@ -41,7 +41,7 @@ pub record IsFlawedBy (bytes : List ℕ) (n : ℕ) (fault : RunFault) : Type 0 w
   pub is : fault ≡ flaw_fault n flaw
   pub whatever : (rest : List ℕ) → IsFlawed (bytes ++ rest) flaw
 
--- these bytes of a file show no fault, and it may still have so many
+-- these bytes of a file show no fault, and it may still have `left` more
 pub record IsSoundTo (bytes : List ℕ) (left : ℕ) : Type 0 where
   pub sum : length bytes + left ≡ limit
   pub sound : IsSound bytes

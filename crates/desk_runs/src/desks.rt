@@ -14,7 +14,7 @@ use std::alloc::Global;
 /// A desk of a run.
 pub type Desk = Replica<Elements>;
 
-/// So many desks without operations; desk k, from 1, has site k. The key is that of the run's hash
+/// This many desks without operations; desk k, from 1, has site k. The key is that of the run's hash
 /// tables.
 pub fn new_desks(alloc: Global, key: u128, count: usize) -> Result<Vec<Desk>, Memory>
     requires { count ≤ 64 }

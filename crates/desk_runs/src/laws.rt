@@ -48,7 +48,7 @@ pub fn one_outcome()
     codec::spelled_or_faulty();
 }
 
-/// Of the desks of a run, desk k, from 1, has site k, and all begin with nothing.
+/// In a run, desk k, from 1, has site k, and all desks begin with nothing.
 pub fn desks_of_a_run()
     ensures count { (count : ℕ) → length (fresh_desks count) ≡ count }
     ensures desk { (count k : ℕ) → k < count → slice_get (fresh_desks count) k ≡ Some (fresh (k + 1)) }

@@ -21,8 +21,8 @@ use std::alloc::Global;
 /// The site of the one desk.
 const SITE: u16 = 1;
 
-/// A desk that has taken the operations of the files of all readers, as they come. A refusal is told
-/// only once all files are read, as a faulty file is told first.
+/// A desk that has taken the operations of the files of all readers, as they come. A refusal is
+/// reported only once all files are read, since a faulty file is reported first.
 pub fn desk_of<R: Source>(alloc: Global, key: u128, files: &mut [R]) -> Result<Desk, RunFault>
     requires { AreWorking (each R.has_failed files.old) }
     ensures ok { IfOk result (λ desk. AreTold (each R.remaining files.old) (each R.has_failed files.new) (λ told. IsSetOfFiles told desk.set)) }
@@ -103,7 +103,7 @@ fn take_all(desk: &mut Desk, ops: &[Op]) -> Result<(), TakeFault>
     Ok(())
 }
 
-/// The answer of a run to what a desk answered to the step of a line: lack of memory is of no step.
+/// The fault of a run for a fault of a desk at the step of a line: lack of memory is the fault of no step.
 pub fn step_fault(line: usize, desk: usize, fault: TakeFault) -> RunFault
     ensures { result ≡ step_fault_of line desk fault }
 {

@@ -19,7 +19,7 @@ use ucd_files::{Tables, Ucd, UcdFault};
 /// The greatest length of an operation file, in bytes.
 pub const LIMIT: usize = 67_108_864;
 
-/// The greatest number of bytes that are asked of a reader at once.
+/// How many bytes a reader is asked for at once.
 pub const PIECE: usize = 4_096;
 
 /// The tables of the data files, or the first fault of the first faulty one.
@@ -74,7 +74,7 @@ fn read_file<R: Source>(alloc: Global, number: usize, reader: &mut R) -> Result<
     Err(RunFault::ReadFailed(number))
 }
 
-/// Feeds the next piece of a file that may still have so many bytes, and writes its operations after
+/// Feeds the next piece of a file that may still have `left` bytes, and appends its operations to
 /// the others.
 pub fn feed_piece(
     number: usize,
@@ -118,7 +118,7 @@ pub fn finish(number: usize, stream: &Stream) -> Result<(), RunFault>
     }
 }
 
-/// The answer to the fault of a file: lack of memory is of no file.
+/// The fault of a run for the fault of a file: lack of memory is the fault of no file.
 fn file_fault(number: usize, fault: CodecFault) -> RunFault
     ensures { result ≡ file_fault_of number fault }
 {

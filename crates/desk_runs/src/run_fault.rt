@@ -15,7 +15,7 @@ use std::fmt;
 use ucd_files::UcdFault;
 
 /// Why a run ended early. Files, frames, lines and desks are counted from 1; frame 0 is a file's
-/// header, and line 0 stands for no schedule. Each prints as the line on standard error says it,
+/// header, and line 0 stands for no schedule. Each prints as in the line on standard error,
 /// without the program's name.
 #[derive(Clone, Copy, Debug, PartialEq, Eq)]
 pub enum RunFault {
@@ -29,7 +29,7 @@ pub enum RunFault {
     Step(usize, usize, TakeFault),
     /// A listing is faulty: its first faulty line, and why.
     Listing(usize, LineFault),
-    /// A place is beyond the text's end.
+    /// A place is past the text's end.
     PastEnd(u32),
     /// A write failed.
     Device,

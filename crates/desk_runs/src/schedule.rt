@@ -28,7 +28,7 @@ pub fn read_schedule(
     ensures fault { IfErr result (IsUnplanned (lists_of files.now) (Some schedule.now)) }
 {
     laws::lines_read::<ScheduleFault>();
-    // Room for a step a line is asked for once.
+    // Room for a step a line is taken once.
     let mut steps = Vec::with_capacity(alloc, count_lines(schedule))?;
     let mut number = 0;
     let mut rest = schedule;

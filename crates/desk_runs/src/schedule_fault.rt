@@ -9,10 +9,10 @@ pub enum ScheduleFault {
     /// The first word is none of `take`, `merge` and `show`.
     #[error("UnknownStep")]
     UnknownStep,
-    /// Another count of words than the step has.
+    /// The step has another number of words.
     #[error("WrongWords")]
     WrongWords,
-    /// A word that is not 1 to 7 decimal digits, where a number has to stand.
+    /// A word that is not 1 to 7 decimal digits, where a number is needed.
     #[error("BadNumber")]
     BadNumber,
     /// There is no desk of this number.

@@ -22,9 +22,9 @@ use pending_ops::Held;
 use rga_tree::{Element, Sequence};
 
 impl<S: Sequence> Replica<S> {
-    /// Takes all operations of another desk, and answers how many were new. After
+    /// Takes all operations of another desk, and returns how many were new. After
     /// `IdentifierReused` nothing has changed; after `Full` or `Memory` some of them are taken. While
-    /// as many are spare as the other desk keeps the fault is not `Memory`; each operation that was
+    /// as many are spare as the other desk keeps, the fault is not `Memory`; each operation that was
     /// new lowers the spare ones by at most one.
     pub fn merge(&mut self, other: &Replica<S>) -> Result<u32, TakeFault>
         ensures ok { OnOk result (self.new.set ≡ union self.old.set other.now.set) }
@@ -102,7 +102,7 @@ impl<S: Sequence> Replica<S> {
     }
 
     /// Takes the operations of another desk in the order in which `op_at` tells them. The elements
-    /// are read part after part, since `nth` of each may cost more than to read it.
+    /// are read part after part, since `nth` of each may cost more than reading it.
     fn take_told(&mut self, other: &Replica<S>) -> Result<(), TakeFault>
         ensures ok { OnOk result (self.new.set ≡ with_operations self.old.set (told other.now)) }
         ensures fault { IfErr result (IsStopped self.old.set (told other.now) self.new.set) }
@@ -174,7 +174,7 @@ impl<S: Sequence> Replica<S> {
         Ok(())
     }
 
-    /// Takes the operations that wait in a store of so many.
+    /// Takes the operations that wait in a store of this many.
     fn take_waiting(&mut self, held: &Held, count: usize) -> Result<(), TakeFault>
         requires { count ≡ size held.now.held }
         ensures ok { OnOk result (self.new.set ≡ with_operations self.old.set (waiting_in held.now)) }

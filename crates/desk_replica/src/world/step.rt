@@ -1,4 +1,4 @@
-//! The steps of a world of desks, and what they come to.
+//! The steps of a world of desks, and what becomes of them.
 
 /// A step of a world. Desks count from 0, and so do the operations made so far; places count
 /// visible characters, from 0.
@@ -14,7 +14,7 @@ pub enum Step {
     Merge { desk: usize, from: usize },
 }
 
-/// What a step came to.
+/// What became of a step.
 #[derive(Clone, Copy, Debug, PartialEq, Eq)]
 pub enum Reply {
     /// It was done.

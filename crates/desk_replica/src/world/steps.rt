@@ -12,8 +12,8 @@ use bg_types::{Memory, Op};
 use rga_tree::Sequence;
 use std::alloc::Global;
 
-/// Does steps in order, adds the operations that they make to those made before, and answers what
-/// each came to.
+/// Does steps in order, adds the operations that they make to those made before, and returns what
+/// became of each.
 pub fn do_steps<S: Sequence>(
     alloc: Global,
     desks: &mut [Replica<S>],

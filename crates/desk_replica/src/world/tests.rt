@@ -45,7 +45,7 @@ fn shows(world: &World, texts: &[&str]) -> bool {
     right
 }
 
-/// Whether the last of the steps has this row's reply, and the desks its texts then.
+/// Whether the last of the steps has this row's reply, and the desks then have its texts.
 fn ends(alloc: Global, sites: &[u16], steps: &[Step], row: &Row<'_>) -> bool {
     let (_, reply, texts) = row;
     match world(alloc, sites, steps) {
@@ -54,7 +54,7 @@ fn ends(alloc: Global, sites: &[u16], steps: &[Step], row: &Row<'_>) -> bool {
     }
 }
 
-/// The steps of a table, and more that are not asked for.
+/// The steps of a table, and others that fill the array.
 fn steps_of(rows: &[Row<'_>]) -> [Step; ROWS] {
     let mut steps = [Merge { desk: 0, from: 0 }; ROWS];
     for (step, row) in steps.iter_mut().zip(rows) {
@@ -140,7 +140,7 @@ fn makes_two(alloc: Global) -> Option<bool> {
     Some(world.made.as_slice() == &made[..])
 }
 
-/// What comes to three desks: `b` before its parent and twice, the erasure of `a` before it, and `b`
+/// What reaches three desks: `b` before its parent and twice, the erasure of `a` before it, and `b`
 /// after its parent was erased.
 const THREE: [Row<'static>; 13] = [
     (
@@ -245,7 +245,7 @@ const ONE_PLACE: [Row<'static>; 11] = [
     (Deliver { desk: 2, op: 3 }, Done, &["pstrq", "prq", "pstrq"]),
 ];
 
-/// What no desk, operation or place is there for.
+/// Steps that name a desk, an operation or a place that is not there.
 const NOT_THERE: [Row<'static>; 9] = [
     (
         Typed {
@@ -307,7 +307,7 @@ fn answers(desk: &mut Replica<Plain>, alloc: Global, step: Step, reply: Reply) -
     false
 }
 
-/// Takes an operation, at the second try where memory is refused.
+/// Takes an operation, on a second try where memory is refused.
 fn takes(desk: &mut Replica<Plain>, op: Option<Op>) -> bool {
     let Some(op) = op else {
         return false;

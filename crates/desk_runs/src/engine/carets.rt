@@ -182,7 +182,7 @@ fn moved(grid: &Grid, caret: Caret, step: Move) -> Caret
     }
 }
 
-/// Writes a caret's line at the end: `row gap place`.
+/// Appends a caret's line: `row gap place`.
 fn push_line(caret: Caret, lines: &mut String) -> Result<(), AllocError>
     ensures { OnOk result (string_bytes lines.new ≡ string_bytes lines.old ++ caret_line caret) }
 {

@@ -112,7 +112,7 @@ fn read_count(word: &[u8]) -> Option<usize>
     Some(read_decimal(word, COUNT_DIGITS)? as usize)
 }
 
-/// Whether a number, counted from 1, is one of so many.
+/// Whether a number, counted from 1, is at most `count`.
 fn is_among(number: usize, count: usize) -> bool
     ensures { result ≡ is_one_of number count }
 {

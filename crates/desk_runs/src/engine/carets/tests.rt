@@ -60,7 +60,7 @@ fn run(
     run_until(alloc, 1_000, 1_000, ucd, file, width, place, moves)
 }
 
-/// A walk into a sink that takes at most so many bytes a call, and stops after so many.
+/// A walk into a sink that takes at most `most` bytes a call, and stops after `left`.
 fn run_until(
     alloc: Global,
     most: usize,
@@ -171,7 +171,7 @@ fn a_sink_that_stops_keeps_a_beginning_of_the_lines(rt: HostRuntime) -> Result<(
     Ok(())
 }
 
-/// With ample memory a walk is right, and where a growth is refused it says so, and nothing is
+/// With ample memory a walk is right; where a growth is refused it says so, and nothing is
 /// written.
 #[test]
 fn a_walk_is_right_or_says_memory(rt: HostRuntime) -> Result<(), Fail> {

@@ -9,15 +9,15 @@ use bg_types::{Bidi, Memory, Op, OpView};
 use ucd_files::Tables;
 use view_cache::View;
 
-/// An empty view with room for the paragraphs of all desks, up to 1,000,000. Who does not know the
-/// key cannot choose texts that make the shows slow.
+/// An empty view with room for the paragraphs of all desks, up to 1,000,000. Without knowing the
+/// key, nobody can choose texts that make the shows slow.
 pub fn new_view<'a>(key: u128, setting: &Setting<'a>) -> Result<View<'a>, Memory>
     ensures { IfOk result (λ view. view ≡ empty_view setting.now.tables.now (room_in setting.now)) }
 {
     View::keyed(setting.alloc, key, setting.tables, room(setting))
 }
 
-/// How many paragraphs the texts of all desks can have together, but 1 to 1,000,000. There are as
+/// How many paragraphs the texts of all desks can have together, from 1 to 1,000,000. There are as
 /// many desks as files.
 fn room(setting: &Setting) -> usize
     ensures { result ≡ room_in setting.now }

@@ -69,7 +69,7 @@ pub fn run_step<S: Sink>(
     }
 }
 
-/// The answer of a run to what a desk answered to the step of a line.
+/// The fault of a run for a fault of a desk at the step of a line.
 fn answer<T: Drop>(line: usize, desk: usize, done: Result<T, TakeFault>) -> Result<(), RunFault>
     ensures { result ≡ answer_of line desk done }
 {

@@ -24,7 +24,7 @@ const KEY: u128 = 0x2545_F491_4F6C_DD1D;
 /// What a run answers, and what is written.
 type Outcome = (Result<(), RunFault>, Vec<u8>);
 
-/// A run into a sink that stops after so many bytes.
+/// A run into a sink that stops after `left` bytes.
 fn run_until(
     alloc: Global,
     left: usize,
@@ -62,7 +62,7 @@ fn run(
     run_until(alloc, 1_000, &SMALL, width, files, schedule)
 }
 
-/// The file of a text that a site types from its front on, with counters from 1.
+/// The file of a text that a site types from its start, with counters from 1.
 fn typed(alloc: Global, site: u16, text: &str) -> Result<Vec<u8>, Fail> {
     let mut ops = Vec::new(alloc);
     let mut place = Place::Root;
@@ -333,7 +333,7 @@ const SHOWS: [&[u8; 15]; 4] = [
     b"    \nab  \nab  \n",
 ];
 
-/// With ample memory a run is right, and where a growth is refused it says so, and whole shows are
+/// With ample memory a run is right; where a growth is refused it says so, and whole shows are
 /// written.
 #[test]
 fn a_run_is_right_or_says_memory(rt: HostRuntime) -> Result<(), Fail> {

@@ -186,7 +186,7 @@ fn a_sink_that_stops_keeps_a_beginning(rt: HostRuntime) -> Result<(), Fail> {
     Ok(())
 }
 
-/// With ample memory a run is right, and where a growth is refused it says so, and nothing is
+/// With ample memory a run is right; where a growth is refused it says so, and nothing is
 /// written.
 #[test]
 fn a_run_is_right_or_says_memory(rt: HostRuntime) -> Result<(), Fail> {
@@ -241,7 +241,7 @@ fn files_cut_into_two_pieces(rt: HostRuntime) -> Result<(), Fail> {
     Ok(())
 }
 
-/// A refusal in a file is told after all files are read: those that follow it may be faulty, fail,
+/// A refusal in a file is reported after all files are read: those that follow it may be faulty, fail,
 /// or be right.
 #[test]
 fn a_refusal_waits_for_the_files_after_it(rt: HostRuntime) -> Result<(), Fail> {
