@@ -15,7 +15,7 @@ pub record AreSites (sites : List ℕ) : Type 0 where
   pub positive : All (λ site. 0 < site) sites
   pub apart : AllPairs (λ a b. a ≢ b) sites
 
--- so many desks that hold nothing, and nothing made
+-- `count` desks that hold nothing, and nothing made
 abbrev pub empty_world : ℕ → WorldState
 empty_world count = record { sets = empty_desks count; made = [] }
 

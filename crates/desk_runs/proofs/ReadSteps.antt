@@ -9,7 +9,7 @@ use Rattle.desk_runs.specs.declared.schedule.step.Numbered.{Numbered}
 use Rattle.desk_runs.specs.Schedule.{line_says, fault_in, step_said, with_line, steps_from, IsStepOf, Schedules}
 
 module _ (files : List (List OpView)) where
-  -- the lines before the rest are read: so many, none faulty, and they say these steps
+  -- the lines before the rest are read: this many, none faulty, and they say these steps
   pub record AreStepsRead (text rest : List ℕ) (number : ℕ) (steps : List Numbered) : Type 0 where
     pub done : List (List ℕ)
     pub lines_are : AreRead (fault_in files) text rest number done

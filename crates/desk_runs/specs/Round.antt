@@ -19,11 +19,11 @@ file_takes files desk file = each (λ op. unnumbered (Take desk file op)) (range
 abbrev pub files_takes : List (List OpView) → ℕ → List ℕ → List Numbered
 files_takes files desk numbers = flat_map (file_takes files desk) numbers
 
--- of so many files the one so far after that of the desk's own number, wrapping round
+-- of `count` files the one so far after that of the desk's own number, wrapping round
 abbrev pub nth_turn : (count desk behind : ℕ) → ℕ
 nth_turn count desk behind = (desk - 1 + behind) % count + 1
 
--- the numbers of so many files from the desk's own on, wrapping round
+-- the numbers of `count` files from the desk's own on, wrapping round
 abbrev pub turn : (count desk : ℕ) → List ℕ
 turn count desk = each (nth_turn count desk) (range_with_len 0 count)
 

@@ -17,7 +17,7 @@ use Rattle.op_listing.specs.FirstFault.{AreFaultless, IsFirstFault}
 abbrev pub file_at : List (List OpView) → ℕ → List OpView
 file_at files file = slice_index_or files (file - 1) []
 
--- one of so many
+-- a number from 1 to `count`
 abbrev pub is_among : ℕ → ℕ → Bool
 is_among n count = nat_le 1 n && nat_le n count
 
