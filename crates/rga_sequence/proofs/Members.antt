@@ -149,7 +149,7 @@ until-in q (e ∷ x) y h =
       | false ↦ λ h. ap (λ n. 1 + n) (rest h)
     ] h
 
-has-there : (es : List Element) (q : Identifier) (i : ℕ) (d : Element) → i < length es → same_id q (get_or es i d).id ≡ true → has q es ≡ true
+pub has-there : (es : List Element) (q : Identifier) (i : ℕ) (d : Element) → i < length es → same_id q (get_or es i d).id ≡ true → has q es ≡ true
 has-there [] q i d h is = absurd (omega arith)
 has-there (e ∷ es) q zero d h is = or_left (same_id q e.id) (has q es) is
 has-there (e ∷ es) q (suc i) d h is = or_right (same_id q e.id) (has q es) (has-there es q i d (omega arith) is)

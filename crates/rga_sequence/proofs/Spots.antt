@@ -2,11 +2,15 @@
 use Rattle.std.proofs.Common.{◌≡◌, ℕ, zero, suc, ◌<◌, ◌≤◌, ◌+◌, true, false, cond, not, List, [], ◌∷◌, ◌++◌, length, take, get_or, Option, Some, None, refl, sym, ap, subst, ◌∙◌, zero-add, length-append, arith}
 use Rattle.std.specs.Prelude.{filter, set, slice_get, IsSome}
 use Rattle.std.specs.Option.{IfNone}
-use Rattle.bg_types.specs.Identifier.{Identifier}
 use Rattle.rga_tree.specs.declared.element.Element.{Element}
 use Rattle.rga_sequence.specs.Blocks.{seen, joined, offset}
-use Rattle.rga_sequence.specs.BlockRows.{has, home_of}
-use Rattle.rga_sequence.proofs.Members.{IsFirst, home-first, until, until_none}
+use Rattle.rga_sequence.specs.declared.block.Block.{Block}
+use Rattle.rga_sequence.specs.BlockRows.{items_of, has, home_of}
+use Rattle.rga_tree.specs.Row.{ids_of, is_distinct}
+use Rattle.bg_types.specs.Identifier.{Identifier, same_id}
+use Rattle.rga_sequence.proofs.Members.{IsFirst, home-first, until, until_none, until-there, has-there}
+use Rattle.rga_sequence.proofs.Numbers.{length-items}
+use Rattle.rga_sequence.proofs.Passing.{items_there}
 use Rattle.rga_sequence.proofs.Places.{slice_get-within}
 
 get_or-some : (xs : List ℕ) (i v d : ℕ) → slice_get xs i ≡ Some v → get_or xs i d ≡ v
@@ -114,3 +118,29 @@ pub offset_less : (xs : List (List Element)) (p j : ℕ) → p < length xs → j
 offset_less [] p j there within = absurd (omega arith)
 offset_less (x ∷ xs) zero j there within = omega (arith, length-append x (joined xs))
 offset_less (x ∷ xs) (suc p) j there within = omega (arith, offset_less xs p j (omega arith) within, length-append x (joined xs), length-append x (joined (take p xs)))
+
+-- ---- an element that was read in its block
+
+-- it stands where it was read, as no other has its identifier
+pub record IsReadAt (xs : List (List Element)) (p j : ℕ) (q : Identifier) : Type 0 where
+  pub block : p < length xs
+  pub within : j < length (get_or xs p [])
+  pub stands : has q (joined xs) ≡ true
+  pub place : is_distinct (ids_of (joined xs)) ≡ true → offset xs p j ≡ until q (joined xs)
+
+pub read_at : (bs : List Block) (p j : ℕ) (x : Block) (e : Element) (q : Identifier) → p < length bs → x ≡ get_or bs p x → j < length x.elements.items → e ≡ get_or x.elements.items j e → same_id q e.id ≡ true
+    → IsReadAt (items_of bs) p j q
+read_at bs p j x e q some block inside element same =
+    let xs = items_of bs in
+    let items : get_or xs p [] ≡ x.elements.items = items_there bs p x some ∙ ap (λ (b : Block). b.elements.items) (sym block) in
+    let there : p < length xs = omega (arith, length-items bs, some) in
+    let within : j < length (get_or xs p []) = omega (arith, ap length items, inside) in
+    let less = offset_less xs p j there within in
+    let is : get_or (joined xs) (offset xs p j) e ≡ e = get_or_joined xs p j e there within ∙ ap (λ es. get_or es j e) items ∙ sym element in
+    let it : same_id q (get_or (joined xs) (offset xs p j) e).id ≡ true = ap (λ (z : Element). same_id q z.id) is ∙ same in
+    record {
+      block = there;
+      within = within;
+      stands = has-there (joined xs) q (offset xs p j) e less it;
+      place = λ distinct. sym (until-there q (joined xs) (offset xs p j) e distinct less it);
+    }

@@ -15,7 +15,7 @@ ghost use Rattle.rga_sequence.specs.Indexed.{blocks_in, elements_in, IsIndexed, 
 
 use crate::block::{HALF, weight};
 use crate::look::{Look, find};
-use crate::row::{Row, block_at, hide, make_memory, put, spot};
+use crate::row::{Row, block_at, hide, make_memory, put, spot, stands};
 use bg_types::{Hashed, Id, Keyed, Memory, Place};
 use rga_tree::{Element, Sequence};
 use std::alloc::Global;
@@ -64,6 +64,7 @@ impl Blocks {
                 spares: Vec::new(alloc),
                 index: HashMap::with_hasher(alloc, hasher),
                 places: Vec::new(alloc),
+                recent: 0,
             },
             alloc,
             placed: 0,
@@ -202,7 +203,7 @@ impl Sequence for Blocks {
     }
 
     fn has(&self, id: Id) -> bool {
-        self.row.index.contains_key(&id)
+        stands(&self.row, id)
     }
 
     fn element(&self, id: Id) -> Option<Element> {

@@ -25,6 +25,17 @@ pub struct Row {
     pub spares: Vec<Spare>,
     pub index: Index,
     pub places: Vec<usize>,
+    /// The block where an element was put in last. The next one is often put after it.
+    pub recent: usize,
+}
+
+/// Whether an element has this identifier. The one that was put in last is known without a hash.
+pub fn stands(row: &Row, id: Id) -> bool
+    requires indexed { IsIndexed ⟦<Id as Eq>⟧.eq row.now }
+    requires distinct { is_distinct (ids_of (elements_in row.now)) ≡ true }
+    ensures { result ≡ has id (elements_in row.now) }
+{
+    recent_spot(row, id).is_some() || row.index.contains_key(&id)
 }
 
 /// The block of an identifier, and its place there.
@@ -37,6 +48,9 @@ pub fn spot(row: &Row, id: Id) -> Option<(usize, usize)>
     ensures place { IfSome result (λ s. offset (blocks_in row.now) s.0 s.1
         ≡ prefix_len (λ e. not (same_id id e.id)) (elements_in row.now)) }
 {
+    if let Some(found) = recent_spot(row, id) {
+        return Some(found);
+    }
     match row.index.get(&id) {
         None => None,
         Some(&number) => {
@@ -44,6 +58,26 @@ pub fn spot(row: &Row, id: Id) -> Option<(usize, usize)>
             let block = &row.blocks[p];
             Some((p, before(&block.elements, block.recent, id)))
         }
+    }
+}
+
+/// The block of the element that was put in last, and its place there, if it has this identifier.
+/// Identifiers are distinct, so that no other can stand where it is read.
+fn recent_spot(row: &Row, id: Id) -> Option<(usize, usize)>
+    requires distinct { is_distinct (ids_of (elements_in row.now)) ≡ true }
+    ensures stands { IfSome result (λ _. has id (elements_in row.now) ≡ true) }
+    ensures block { IfSome result (λ s. s.0 < vec_len row.now.blocks) }
+    ensures within { IfSome result (λ s. s.1 < length (get_or (blocks_in row.now) s.0 [])) }
+    ensures place { IfSome result (λ s. offset (blocks_in row.now) s.0 s.1
+        ≡ prefix_len (λ e. not (same_id id e.id)) (elements_in row.now)) }
+{
+    let p = row.recent;
+    let block = row.blocks.get(p)?;
+    let at = block.recent;
+    if block.elements.get(at)?.id == id {
+        Some((p, at))
+    } else {
+        None
     }
 }
 
@@ -96,6 +130,7 @@ fn put_first(row: &mut Row, id: Id, parent: Place, ch: char, hidden: bool)
     row.places.push(0).unwrap();
     let kept: Result<_, _> = row.index.insert(id, 0);
     kept.unwrap();
+    row.recent = 0;
 }
 
 /// Right after the parent: a block, and a place there.
@@ -181,6 +216,7 @@ fn put_into(row: &mut Row, q: usize, at: usize, id: Id, parent: Place, ch: char,
     let number = row.blocks[q].number;
     let kept: Result<_, _> = row.index.insert(id, number);
     kept.unwrap();
+    row.recent = q;
 }
 
 /// Hides an element, and returns how many fewer are visible.

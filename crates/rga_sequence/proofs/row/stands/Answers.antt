@@ -1,0 +1,14 @@
+-- The goals of `stands` that are answered by hand.
+use Rattle.std.proofs.Common.{◌≡◌, ◌∙◌, length, ap, arith}
+use Rattle.std.specs.Prelude.{is_some}
+use Rattle.rga_sequence.specs.BlockRows.{items_of, numbers_of}
+use Rattle.rga_sequence.proofs.Members.{is_some-home}
+use Rattle.rga_sequence.proofs.Numbers.{length-items, length-numbers}
+use Rattle.rga_sequence.proofs.row.stands.Goals as goal
+
+pub returns-else-is_some : goal.returns-else-is_some
+returns-else-is_some c =
+    let bs = c.args.row.now.blocks.items in
+    let len_xs : length (items_of bs) ≡ length bs = length-items bs in
+    let len_ns : length (numbers_of bs) ≡ length bs = length-numbers bs in
+    c.contains_key.ensures ∙ ap is_some (c.requires.indexed.homes c.args.id) ∙ is_some-home (items_of bs) (numbers_of bs) c.args.id (omega (arith, len_xs, len_ns))
