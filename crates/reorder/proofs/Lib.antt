@@ -1,6 +1,7 @@
 -- The modules of this crate's proofs.
 pub mod Arranged
 pub mod Between
+pub mod InOrder
 pub mod L1
 pub mod Least
 pub mod Left

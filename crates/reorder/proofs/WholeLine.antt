@@ -1,5 +1,5 @@
 -- The walk along the links of a whole line.
-use Rattle.std.proofs.Common.{ℕ, ◌≡◌, ◌<◌, ◌≤◌, inl, inr, refl, ap, sym, ◌∙◌, subst, List, [], ◌∷◌, ◌++◌, length, get_or, take, drop, arith}
+use Rattle.std.proofs.Common.{ℕ, ◌≡◌, ◌<◌, ◌≤◌, inl, inr, ap, sym, ◌∙◌, subst, List, ◌++◌, length, get_or, take, drop, arith}
 use Rattle.std.proofs.lemmas.List.{take_at}
 use Rattle.std.specs.List.{range_with_len}
 use Rattle.std.proofs.lemmas.List.FromFn.{length-range_with_len, get_or-range_with_len}
@@ -33,11 +33,6 @@ visual_list-within levels =
     (λ k lt. let n = length-range_with_len 0 (length levels) in
     let lt' : k < length levels = omega arith in
     subst (λ v. v < length levels) (sym (get_or-range_with_len 0 (length levels) k 0 lt')) (omega arith)))
-
-pub visual_list-empty : (levels : List ℕ) → length levels ≡ 0 → visual_list levels ≡ []
-unfolding visual_list arranged
-visual_list-empty [] e = refl
-visual_list-empty (l ∷ ls) e = absurd (omega arith)
 
 pub walk-now : (levels items links now : List ℕ) (len f l end : ℕ) → now ≡ take len (links ++ drop (length links) items) →
     length links ≡ len → len ≡ length levels → end ≤ length levels → (end < length levels → get_or levels end 0 < 0) →

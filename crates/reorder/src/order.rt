@@ -1,8 +1,8 @@
 //! The visual order of a line: L2.
 
 ghost use Rattle.std.specs.Prelude.{◌≡◌, ℕ, ◌<◌, ◌≤◌, length, All, IfOk, IsPermutation, slice_index};
-ghost use Rattle.std.specs.List.{range_with_len};
-ghost use Rattle.reorder.specs.VisualList.{arranged, numbers, visual_list};
+ghost use Rattle.std.specs.List.{list_any, range_with_len};
+ghost use Rattle.reorder.specs.VisualList.{arranged, is_odd, numbers, visual_list};
 ghost use Rattle.reorder.specs.Links.{IsLinked, clusters_between};
 
 use crate::links::{Piece, walked};
@@ -54,14 +54,29 @@ fn stretch_from(levels: &[u8], links: &mut [u32], start: usize, floor: u8) -> St
     Stretch { piece, end }
 }
 
+/// Whether one of these levels is odd.
+fn has_odd(levels: &[u8]) -> bool
+    ensures { result ≡ list_any is_odd levels.now }
+{
+    levels.iter().any(|level| *level % 2 == 1)
+}
+
+/// The numbers below `count`: the order of a line in which nothing is reversed.
+fn numbers_below(alloc: Global, count: usize) -> Result<Vec<u32>, Memory>
+    requires { count ≤ CLUSTERS }
+    ensures { IfOk result (λ order. order.items ≡ range_with_len 0 count) }
+{
+    Ok((0..count as u32).collect(alloc)?)
+}
+
 /// The numbers of a line's clusters from left to right, by their levels (UAX #9, L2).
 pub fn visual(alloc: Global, levels: &[u8]) -> Result<Vec<u32>, Memory>
     requires { length levels.now ≤ CLUSTERS }
     ensures list { IfOk result (λ order. order.items ≡ visual_list levels.now) }
     ensures rearrangement { IfOk result (λ order. IsPermutation (range_with_len 0 (length levels.now)) order.items) }
 {
-    if levels.is_empty() {
-        return Ok(Vec::new(alloc));
+    if !has_odd(levels) {
+        return numbers_below(alloc, levels.len());
     }
     let mut links = vec![in alloc; 0; levels.len()]?;
     let line = stretch_from(levels, &mut links, 0, 0);

@@ -2,15 +2,25 @@
 use Rattle.std.proofs.Common.{sym, ◌∙◌, ◌≡◌, subst, length}
 use Rattle.std.specs.Prelude.{IfOk, IsPermutation}
 use Rattle.std.specs.List.{range_with_len}
-use Rattle.std.proofs.lemmas.Bool.{eqb-true}
 use Rattle.std.proofs.lemmas.Result.{IfOk-weaker}
+use Rattle.std.proofs.lemmas.List.Sorted.{IsPermutation-refl}
+use Rattle.reorder.specs.VisualList.{visual_list}
+use Rattle.reorder.proofs.InOrder.{visual_list-even}
 use Rattle.reorder.proofs.Rearranged.{visual_list-permutes}
-use Rattle.reorder.proofs.WholeLine.{visual_list-empty, walk-now, walk-within}
+use Rattle.reorder.proofs.WholeLine.{walk-now, walk-within}
 use Rattle.reorder.proofs.order.visual.Goals as goal
 
-pub returns-then-is_empty-clause-list : goal.returns-then-is_empty-clause-list
-returns-then-is_empty-clause-list c =
-    c.new.ensures.items ∙ sym (visual_list-empty c.args.levels.now (eqb-true (length c.args.levels.now) 0 (sym c.is_empty.ensures ∙ c.if-is_empty.true)))
+pub returns-then-not-has_odd-clause-list : goal.returns-then-not-has_odd-clause-list
+returns-then-not-has_odd-clause-list c =
+    let is = visual_list-even c.args.levels.now (sym c.has_odd.ensures ∙ c.if-not-has_odd.true) in
+    IfOk-weaker c.numbers_below.result (λ order. order.items ≡ _) (λ order. order.items ≡ visual_list c.args.levels.now)
+    (λ order e. e ∙ sym is) c.numbers_below.ensures
+
+pub returns-then-not-has_odd-clause-rearrangement : goal.returns-then-not-has_odd-clause-rearrangement
+returns-then-not-has_odd-clause-rearrangement c =
+    let numbers = range_with_len 0 (length c.args.levels.now) in
+    IfOk-weaker c.numbers_below.result (λ order. order.items ≡ _) (λ order. IsPermutation numbers order.items)
+    (λ order e. subst (IsPermutation numbers) (sym e) (IsPermutation-refl numbers)) c.numbers_below.ensures
 
 pub walked-requires : goal.walked-requires
 walked-requires c =
