@@ -147,6 +147,9 @@ fn print_mirrored<W: Sink>(
     ensures err { OnErr result (AppendsBeginning (W.written sink.old) (W.written sink.new) (mirrored_text tables.now level (code_points cluster.now))) }
     ensures failed { W.has_failed sink.new ≡ is_err result }
 {
+    if level % 2 == 0 {
+        return put_all(sink, cluster.as_bytes());
+    }
     for c in cluster.chars() {
         let mut buffer = [0; 4];
         let shown = mirrored(tables, c, level).encode_utf8(&mut buffer);

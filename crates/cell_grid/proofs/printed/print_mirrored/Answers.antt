@@ -1,13 +1,36 @@
--- One code point at a time.
-use Rattle.std.proofs.Common.{ℕ, ◌++◌, ◌+◌, length, drop, chars, encode_utf8, map-id, ap, sym, subst, ◌∙◌}
+-- At an even level the bytes as they are, else one code point at a time.
+use Rattle.std.proofs.Common.{◌≡◌, ℕ, List, ◌%◌, ◌==◌, map, ◌++◌, ◌+◌, length, drop, chars, encode_utf8, map-id, ap, sym, subst, ◌∙◌}
 use Rattle.std.proofs.KnownBytes.{Appends-nil}
 use Rattle.std.proofs.lemmas.Iterator.{YieldsList-from_chars}
 use Rattle.std.proofs.lemmas.Iterator.Consumers.{YieldsList-so_far, YieldsList-turn, YieldsList-end}
+use Rattle.std.proofs.lemmas.Str.{encodes-chars}
+use Rattle.std.specs.Prelude.{if◌then◌else◌, unwrap_or, OnOk, OnErr, encode_utf8_all}
+use Rattle.std.specs.Str.{IsUtf8}
 use Rattle.std.specs.Str.Iter.{chars_rest}
 use Rattle.std.specs.Io.KnownBytes.{Appends}
+use Rattle.bg_types.specs.Sink.{AppendsBeginning}
+use Rattle.ucd_files.specs.Tables.{TableValues, mirror_of}
+use Rattle.paragraphs.specs.Text.{code_points}
 use Rattle.reorder.specs.Mirrored.{mirrored_of}
+use Rattle.cell_grid.specs.Print.{mirrored_text}
 use Rattle.cell_grid.proofs.Writing.{on_err, Appends-on, Begins-on, shown, shown-on, shown-split}
 use Rattle.cell_grid.proofs.printed.print_mirrored.Goals as goal
+
+-- at an even level nothing is mirrored
+even-text : (tables : TableValues) (level : ℕ) (bytes : List ℕ) → level % 2 ≡ 0 → IsUtf8 bytes → mirrored_text tables level (code_points bytes) ≡ bytes
+even-text tables level bytes even u =
+    ap (λ n. encode_utf8_all (map (λ c. if n == 1 then unwrap_or (mirror_of tables c) c else c) (chars bytes))) even
+    ∙ ap encode_utf8_all (map-id (chars bytes)) ∙ encodes-chars bytes u
+
+pub returns-then-level-eq0-clause-ok : goal.returns-then-level-eq0-clause-ok
+returns-then-level-eq0-clause-ok g c =
+    subst (λ t. OnOk c.put_all.result (Appends (g.W.Sink.written c.args.sink.now) (g.W.Sink.written c.put_all.new.sink) t))
+    (c.as_bytes.ensures.value ∙ sym (even-text c.args.tables.now c.args.level c.args.cluster.now c.if-level-eq0.true c.utf8.cluster)) c.put_all.ensures.ok
+
+pub returns-then-level-eq0-clause-err : goal.returns-then-level-eq0-clause-err
+returns-then-level-eq0-clause-err g c =
+    subst (λ t. OnErr c.put_all.result (AppendsBeginning (g.W.Sink.written c.args.sink.now) (g.W.Sink.written c.put_all.new.sink) t))
+    (c.as_bytes.ensures.value ∙ sym (even-text c.args.tables.now c.args.level c.args.cluster.now c.if-level-eq0.true c.utf8.cluster)) c.put_all.ensures.err
 
 pub loop-c-init : goal.loop-c-init
 loop-c-init g c = record { working = c.requires.working; so_far = Appends-nil (g.W.Sink.written c.args.sink.now) }
@@ -15,7 +38,7 @@ loop-c-init g c = record { working = c.requires.working; so_far = Appends-nil (g
 pub loop-c-preserved : goal.loop-c-preserved
 loop-c-preserved g c =
     let f : ℕ → ℕ = λ x. mirrored_of c.args.tables.now x c.args.level in
-    let put = c.as_bytes.ensures.value ∙ c.encode_utf8-shown.ensures.value ∙ ap encode_utf8 c.mirrored.ensures in
+    let put = c.as_bytes-in-loop-c.ensures.value ∙ c.encode_utf8-shown.ensures.value ∙ ap encode_utf8 c.mirrored.ensures in
     record {
       working = c.in_ok-put_all.ensures.failed;
       so_far = Appends-on _ _ _ (shown f c.loop-c.yielded) _ _ c.loop-c.invariant.so_far c.in_ok-put_all.ensures.ok
@@ -25,7 +48,7 @@ loop-c-preserved g c =
 pub returns-in_err-put_all-clause-err : goal.returns-in_err-put_all-clause-err
 returns-in_err-put_all-clause-err g c =
     let f : ℕ → ℕ = λ x. mirrored_of c.args.tables.now x c.args.level in
-    let put = c.as_bytes.ensures.value ∙ c.encode_utf8-shown.ensures.value ∙ ap encode_utf8 c.mirrored.ensures in
+    let put = c.as_bytes-in-loop-c.ensures.value ∙ c.encode_utf8-shown.ensures.value ∙ ap encode_utf8 c.mirrored.ensures in
     let list = YieldsList-from_chars c.args.cluster.now c.utf8.cluster (ap chars_rest c.into_iter-c-iterator.ensures.into_iter_gives ∙ c.chars-c-items.ensures.rest) in
     let turn = YieldsList-turn list c.loop-c.yielded _ c.loop-c.yielded_by _ _ c.in-Some.c c.in-Some.is c.next.ensures.steps in
     let so_far = YieldsList-so_far list c.loop-c.yielded _ c.loop-c.yielded_by in
