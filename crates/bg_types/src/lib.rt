@@ -20,6 +20,3 @@ pub use op::{Op, OpView, Place};
 pub use out::Out;
 pub use sink::{Sink, put_all};
 pub use stops::Stops;
-
-#[cfg(test)]
-mod tests;

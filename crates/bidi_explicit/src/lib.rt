@@ -17,6 +17,3 @@ pub use embedded::{Embedded, Sequence};
 pub use kept::Kept;
 pub use level::paragraph_level;
 pub use paragraph::explicit;
-
-#[cfg(test)]
-mod tests;

@@ -8,6 +8,3 @@ mod sequence;
 mod weak;
 
 pub use paragraph::levels;
-
-#[cfg(test)]
-mod tests;

@@ -8,6 +8,3 @@ mod role;
 mod search;
 
 pub use n0::resolve;
-
-#[cfg(test)]
-mod tests;

@@ -10,6 +10,3 @@ mod place;
 pub use caret::Caret;
 pub use moves::{down, left, right, up};
 pub use place::at_place;
-
-#[cfg(test)]
-mod tests;

@@ -19,6 +19,3 @@ pub use paragraph::rows;
 pub use paragraphs::Span;
 pub use printed::print;
 pub use row::Row;
-
-#[cfg(test)]
-mod tests;

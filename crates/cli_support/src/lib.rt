@@ -12,6 +12,3 @@ pub use data::{DATA_FILES, Data, read_data};
 pub use ending::{end, flush, tell};
 pub use reading::{LIMIT, open, read, read_whole};
 pub use unread::{CannotRead, Unread};
-
-#[cfg(test)]
-mod tests;

@@ -13,6 +13,3 @@ pub use answer::{TakeFault, Taken, TypeFault};
 pub use replica::Replica;
 pub use taking::{merge_at, take_at};
 pub use world::{Reply, Step, World, WorldFault, run_world};
-
-#[cfg(test)]
-mod tests;

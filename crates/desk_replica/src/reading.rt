@@ -86,6 +86,3 @@ fn hidden_in(row: &[Element], k: usize) -> Result<Id, usize>
     }
     Err(left)
 }
-
-#[cfg(test)]
-mod tests;

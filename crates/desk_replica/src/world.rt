@@ -111,6 +111,3 @@ fn fresh_desks(alloc: Global, key: u128, sites: &[u16]) -> Result<Vec<Replica<Bl
     }
     Ok(desks)
 }
-
-#[cfg(test)]
-mod tests;

@@ -21,6 +21,3 @@ pub use one_desk::desk_of;
 pub use run_fault::{RunFault, status};
 pub use schedule_fault::ScheduleFault;
 pub use ucd_files::Ucd;
-
-#[cfg(test)]
-mod tests;

@@ -10,6 +10,3 @@ mod typing_fault;
 pub use change::Change;
 pub use engine::typed;
 pub use typing_fault::TypingFault;
-
-#[cfg(test)]
-mod tests;

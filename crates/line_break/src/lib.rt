@@ -16,6 +16,3 @@ pub use cluster::{Cluster, is_space};
 pub use line::{Line, lines, lines_of};
 pub use outline::{Outline, outline_of};
 pub use status::{Break, opportunities};
-
-#[cfg(test)]
-mod tests;

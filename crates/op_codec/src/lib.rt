@@ -32,10 +32,3 @@ pub use migration::migrate;
 pub use position::Version;
 pub use source::Source;
 pub use stream::Stream;
-
-#[cfg(test)]
-mod migrate_tests;
-#[cfg(test)]
-mod run_tests;
-#[cfg(test)]
-mod tests;

@@ -23,6 +23,3 @@ pub use lines::split_line;
 pub use listing_fault::ListingFault;
 pub use number::read_decimal;
 pub use words::{next_word, one_word, three_words, two_words};
-
-#[cfg(test)]
-mod tests;

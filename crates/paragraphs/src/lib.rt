@@ -14,6 +14,3 @@ pub use cuts::split;
 pub use para::Para;
 pub use span::Span;
 pub use width::columns;
-
-#[cfg(test)]
-mod tests;

@@ -6,6 +6,3 @@ mod held;
 pub mod laws;
 
 pub use held::Held;
-
-#[cfg(test)]
-mod tests;

@@ -10,6 +10,3 @@ mod order;
 pub use line::line_levels;
 pub use mirror::mirrored;
 pub use order::visual;
-
-#[cfg(test)]
-mod tests;

@@ -2,31 +2,25 @@
 //! of version 2, and listings and what is typed become files.
 #![tactic(auto)]
 
-mod files;
-mod folder;
 mod key;
-mod report;
-mod request;
-mod words;
 
-use bg_types::{Device, Out};
+ghost use Rattle.std.specs.Prelude.{◌≡◌, false};
+
+use bg_types::{Device, Out, Sink};
 pub use cli_support::Stop;
 use cli_support::{LIMIT, Unread, end, flush, read, read_data, read_whole, tell};
+pub use command_line::{Job, Replay, Typing, Walk, job, report};
+use command_line::{PROGRAM, folder_of, open_all, path_of};
 pub use desk_runs::{
     Move, RunFault, ScheduleFault, TakeFault, Ucd, carets, carets_from, replay, replay_from,
     status, text, text_from,
 };
 pub use desk_typing::{Change, TypingFault, typed};
-use files::{open_all, path_of};
-use folder::folder_of;
 use key::draw_key;
 pub use op_listing::{LineFault, dump, migrate, pack};
-use report::PROGRAM;
-pub use report::report;
-pub use request::{Job, Replay, Typing, Walk};
+use std::alloc::Global;
 use std::io::{self, BufWriter, ErrorKind, Write};
 use std::process::ExitCode;
-pub use words::job;
 
 fn main(rt: HostRuntime) -> ExitCode {
     let words = match cli_support::words(&rt) {
@@ -38,9 +32,9 @@ fn main(rt: HostRuntime) -> ExitCode {
         Ok(Job::Replay(job)) => run_replay(&rt, &job),
         Ok(Job::Caret(job)) => run_caret(&rt, &job),
         Ok(Job::Type(job)) => run_type(&rt, &job),
-        Ok(Job::Dump { file }) => run_dump(&rt, file),
-        Ok(Job::Migrate { file }) => run_migrate(&rt, file),
-        Ok(Job::Pack { listing }) => run_pack(&rt, listing),
+        Ok(Job::Dump { file }) => run_over_one(&rt, file, Engine::Dump),
+        Ok(Job::Migrate { file }) => run_over_one(&rt, file, Engine::Migrate),
+        Ok(Job::Pack { listing }) => run_over_one(&rt, listing, Engine::Pack),
         Err(stop) => stop_at(&rt, &stop),
     }
 }
@@ -189,55 +183,37 @@ fn read_input(rt: &HostRuntime) -> Result<Vec<u8>, Unread> {
     }
 }
 
-fn run_dump(rt: &HostRuntime, path: &str) -> ExitCode {
-    let file = match read_one(rt, path) {
+/// Runs `dump`, `migrate` or `pack` over the one file that it asks for.
+fn run_over_one(rt: &HostRuntime, path: &str, engine: Engine) -> ExitCode {
+    let bytes = match read_one(rt, path) {
         Ok(bytes) => bytes,
         Err(unread) => return lose(rt, &unread),
     };
     let Ok(mut buffered) = BufWriter::new(rt.alloc(), io::writer(rt)) else {
         return refuse(rt, &RunFault::Memory, "");
     };
-    let done = dump(rt.alloc(), file.as_slice(), &mut Out::new(&mut buffered));
-    finish(
-        rt,
-        done.map_err(|fault| RunFault::from(fault)),
-        &[],
-        &mut buffered,
-    )
+    let done = engine.run(rt.alloc(), bytes.as_slice(), &mut Out::new(&mut buffered));
+    finish(rt, done, &[], &mut buffered)
 }
 
-fn run_migrate(rt: &HostRuntime, path: &str) -> ExitCode {
-    let file = match read_one(rt, path) {
-        Ok(bytes) => bytes,
-        Err(unread) => return lose(rt, &unread),
-    };
-    let Ok(mut buffered) = BufWriter::new(rt.alloc(), io::writer(rt)) else {
-        return refuse(rt, &RunFault::Memory, "");
-    };
-    let done = migrate(rt.alloc(), file.as_slice(), &mut Out::new(&mut buffered));
-    finish(
-        rt,
-        done.map_err(|fault| RunFault::from(fault)),
-        &[],
-        &mut buffered,
-    )
+/// The engines over one file.
+#[derive(Clone, Copy)]
+enum Engine {
+    Dump,
+    Migrate,
+    Pack,
 }
 
-fn run_pack(rt: &HostRuntime, path: &str) -> ExitCode {
-    let listing = match read_one(rt, path) {
-        Ok(bytes) => bytes,
-        Err(unread) => return lose(rt, &unread),
-    };
-    let Ok(mut buffered) = BufWriter::new(rt.alloc(), io::writer(rt)) else {
-        return refuse(rt, &RunFault::Memory, "");
-    };
-    let done = pack(rt.alloc(), listing.as_slice(), &mut Out::new(&mut buffered));
-    finish(
-        rt,
-        done.map_err(|fault| RunFault::from(fault)),
-        &[],
-        &mut buffered,
-    )
+impl Engine {
+    fn run<S: Sink>(self, alloc: Global, bytes: &[u8], out: &mut S) -> Result<(), RunFault>
+        requires { S.has_failed out.old ≡ false }
+    {
+        match self {
+            Engine::Dump => Ok(dump(alloc, bytes, out)?),
+            Engine::Migrate => Ok(migrate(alloc, bytes, out)?),
+            Engine::Pack => Ok(pack(alloc, bytes, out)?),
+        }
+    }
 }
 
 /// Ends a run of an engine that read the files at these paths and wrote to this writer. What was
@@ -279,6 +255,3 @@ fn refuse(rt: &HostRuntime, fault: &RunFault, path: &str) -> ExitCode {
     let _unheard = report(fault, path, &mut err);
     ExitCode::from(status(fault))
 }
-
-#[cfg(test)]
-mod tests;

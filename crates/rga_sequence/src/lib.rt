@@ -12,6 +12,3 @@ mod skip;
 
 pub use blocks::Blocks;
 pub use look::{Look, find};
-
-#[cfg(test)]
-mod tests;

@@ -9,6 +9,3 @@ mod sequence;
 pub use element::Element;
 pub use plain::Plain;
 pub use sequence::{Sequence, text_of};
-
-#[cfg(test)]
-mod tests;

@@ -21,6 +21,3 @@ pub use fault::{Cause, UcdFault, UcdFile};
 pub use files::Ucd;
 pub use tables::Tables;
 pub use value::Bracket;
-
-#[cfg(test)]
-mod tests;

@@ -7,6 +7,3 @@ pub mod laws;
 mod view;
 
 pub use view::View;
-
-#[cfg(test)]
-mod tests;

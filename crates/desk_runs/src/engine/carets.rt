@@ -204,6 +204,3 @@ fn walk_lines(alloc: Global, grid: &Grid, start: Caret, moves: &[Move]) -> Resul
     }
     Ok(lines)
 }
-
-#[cfg(test)]
-mod tests;

@@ -142,6 +142,3 @@ fn run_files<S: Sink>(
     let mut desks = new_desks(setting.alloc, key, setting.files.len())?;
     run_round(setting, view, &mut desks, out)
 }
-
-#[cfg(test)]
-mod tests;

@@ -48,6 +48,3 @@ pub fn text_from<R: Source, S: Sink>(
     put_all(out, read.as_bytes())?;
     Ok(())
 }
-
-#[cfg(test)]
-mod tests;

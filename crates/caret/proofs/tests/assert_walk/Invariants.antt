@@ -1,6 +1,0 @@
--- The caret stays one of the grid.
-use Rattle.caret.specs.Gaps.{IsCaretOf}
-use Rattle.caret.proofs.tests.assert_walk.Given as goal
-
-abbrev pub invariant-loop-stop : goal.invariant-loop-stop
-invariant-loop-stop g l = IsCaretOf l.grid.rows l.caret

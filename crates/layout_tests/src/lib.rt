@@ -1,0 +1,23 @@
+//! What no clause says of the crates of the layout, as tables of rows.
+#![tactic(auto)]
+
+#[cfg(test)]
+mod bidi_explicit_tests;
+#[cfg(test)]
+mod bidi_weak_neutral_tests;
+#[cfg(test)]
+mod bracket_pairs_tests;
+#[cfg(test)]
+mod caret_tests;
+#[cfg(test)]
+mod cell_grid_tests;
+#[cfg(test)]
+mod line_break_tests;
+#[cfg(test)]
+mod paragraphs_tests;
+#[cfg(test)]
+mod reorder_tests;
+#[cfg(test)]
+mod ucd_files_tests;
+#[cfg(test)]
+mod view_cache_tests;

@@ -1,0 +1,25 @@
+//! What no clause says of the crates on operations, sequences and desks, as tables of rows.
+#![tactic(auto)]
+
+#[cfg(test)]
+mod bg_types_tests;
+#[cfg(test)]
+mod desk_replica_tests;
+#[cfg(test)]
+mod every_sequence;
+#[cfg(test)]
+mod migrate_tests;
+#[cfg(test)]
+mod op_codec_tests;
+#[cfg(test)]
+mod op_listing_tests;
+#[cfg(test)]
+mod pending_ops_tests;
+#[cfg(test)]
+mod reading_tests;
+#[cfg(test)]
+mod rga_sequence_tests;
+#[cfg(test)]
+mod run_tests;
+#[cfg(test)]
+mod world_tests;

@@ -1,0 +1,271 @@
+//! Files and listings worked out by hand, both ways.
+
+use LineFault::{BadLine, NotAScalar, ParentNotBefore, ZeroField};
+use bg_types::{Out, Stops};
+use op_codec::{Cause, CodecFault};
+use op_listing::*;
+use std::alloc::Global;
+use std::test::Fail;
+
+const EMPTY: [u8; 5] = *b"BGOP\x01";
+
+/// Two children of (1,1), of which the greater has a child; then (2,2) is erased.
+const TREE: [u8; 90] = [
+    0x42, 0x47, 0x4F, 0x50, 1, // BGOP, version 1
+    0, 17, 1, 0, 0, 0, 1, 0, 1, 0, 0, 0, 0, 0, 0, 0, 0, 0, 0x61, // frame 1
+    0, 17, 1, 0, 0, 0, 2, 0, 2, 0, 0, 0, 1, 0, 1, 0, 0, 0, 0x78, // frame 2
+    0, 17, 1, 0, 0, 0, 3, 0, 2, 0, 0, 0, 2, 0, 2, 0, 0, 0, 0x79, // frame 3
+    0, 17, 1, 0, 0, 0, 2, 0, 1, 0, 0, 0, 1, 0, 1, 0, 0, 0, 0x62, // frame 4
+    0, 7, 2, 0, 0, 0, 2, 0, 2, // frame 5
+];
+
+const TREE_LISTING: &[u8] =
+    b"i 1.1 root 0061\ni 2.2 1.1 0078\ni 3.2 2.2 0079\ni 2.1 1.1 0062\ne 2.2\n";
+
+/// The same operations in version 2: the second and the third are a run.
+const TREE_MIGRATED: [u8; 75] = [
+    0x42, 0x47, 0x4F, 0x50, 2, // BGOP, version 2
+    0, 17, 1, 0, 0, 0, 1, 0, 1, 0, 0, 0, 0, 0, 0, 0, 0, 0, 0x61, // frame 1
+    0, 21, 3, 0, 0, 0, 2, 0, 2, 0, 0, 0, 1, 0, 1, 0, 0, 0, 0x78, 0, 0, 0, 0x79, // frame 2
+    0, 17, 1, 0, 0, 0, 2, 0, 1, 0, 0, 0, 1, 0, 1, 0, 0, 0, 0x62, // frame 3
+    0, 7, 2, 0, 0, 0, 2, 0, 2, // frame 4
+];
+
+/// What `dump` answers, and what is written.
+fn dumped(alloc: Global, file: &[u8]) -> (Result<(), FileFault>, Vec<u8>) {
+    let mut bytes = Vec::new(alloc);
+    let answer = dump(alloc, file, &mut Out::new(&mut bytes));
+    (answer, bytes)
+}
+
+/// What `migrate` answers, and what is written.
+fn migrated(alloc: Global, file: &[u8]) -> (Result<(), FileFault>, Vec<u8>) {
+    let mut bytes = Vec::new(alloc);
+    let answer = migrate(alloc, file, &mut Out::new(&mut bytes));
+    (answer, bytes)
+}
+
+/// What `pack` answers, and what is written.
+fn packed(alloc: Global, listing: &[u8]) -> (Result<(), ListingFault>, Vec<u8>) {
+    let mut bytes = Vec::new(alloc);
+    let answer = pack(alloc, listing, &mut Out::new(&mut bytes));
+    (answer, bytes)
+}
+
+#[test]
+fn files_and_listings_worked_out_by_hand(rt: HostRuntime) {
+    let rows: [(&[u8], &[u8]); 4] = [
+        (&EMPTY, b""),
+        (&TREE, TREE_LISTING),
+        (&TREE[..81], &TREE_LISTING[..61]),
+        (
+            b"BGOP\x01\x00\x11\x01\xFF\xFF\xFF\xFF\xFF\xFF\xFF\xFF\xFF\xFE\x00\x01\x00\x10\xFF\xFF",
+            b"i 4294967295.65535 4294967294.1 10FFFF\n",
+        ),
+    ];
+    for (file, listing) in rows {
+        let (answer, bytes) = dumped(rt.alloc(), file);
+        assert_eq!(rt; (answer, bytes.as_slice()), (Ok(()), listing));
+        let (answer, bytes) = packed(rt.alloc(), listing);
+        assert_eq!(rt; (answer, bytes.as_slice()), (Ok(()), file));
+    }
+}
+
+#[test]
+fn a_file_and_its_migration_have_one_listing(rt: HostRuntime) {
+    for file in [TREE.as_slice(), TREE_MIGRATED.as_slice()] {
+        let (answer, bytes) = migrated(rt.alloc(), file);
+        assert_eq!(rt;
+            (answer, bytes.as_slice()),
+            (Ok(()), TREE_MIGRATED.as_slice())
+        );
+        let (answer, bytes) = dumped(rt.alloc(), file);
+        assert_eq!(rt; (answer, bytes.as_slice()), (Ok(()), TREE_LISTING));
+    }
+    let fault = FileFault::Malformed {
+        frame: 2,
+        cause: Cause::Truncated,
+    };
+    let (answer, bytes) = migrated(rt.alloc(), &TREE_MIGRATED[..40]);
+    assert_eq!(rt; (answer, bytes.is_empty()), (Err(fault), true));
+}
+
+#[test]
+fn a_listing_is_read_with_its_freedoms(rt: HostRuntime) {
+    let rows: [(&[u8], &[u8]); 9] = [
+        (b"i  01.1  root  000061", b"i 1.1 root 0061\n"),
+        (b"e 0000000001.0000000001\n", b"e 1.1\n"),
+        (b"e 4294967295.65535", b"e 4294967295.65535\n"),
+        (b"i 2.1 1.1 10ffff\n", b"i 2.1 1.1 10FFFF\n"),
+        (b"i 1.1 root 1f600\n", b"i 1.1 root 1F600\n"),
+        (b"i 1.1 root 0000\n", b"i 1.1 root 0000\n"),
+        (b"e 1.1\r\ne 2.1\r\n", b"e 1.1\ne 2.1\n"),
+        (b"\n   \n\r\n  e 1.1  \n\n e 2.1", b"e 1.1\ne 2.1\n"),
+        (b"\n\r\n", b""),
+    ];
+    for (listing, plain) in rows {
+        let (answer, file) = packed(rt.alloc(), listing);
+        assert_eq!(rt; answer, Ok(()), "{listing:?}");
+        let (_, same) = packed(rt.alloc(), plain);
+        assert_eq!(rt; file.as_slice(), same.as_slice(), "{listing:?}");
+        let (answer, bytes) = dumped(rt.alloc(), &file);
+        assert_eq!(rt; (answer, bytes.as_slice()), (Ok(()), plain));
+    }
+}
+
+/// Listings, the number of their first faulty line, and its fault.
+const FAULTY_LINES: [(&[u8], usize, LineFault); 40] = [
+    (b"i 1.1 root 61", 1, BadLine),
+    (b"i 1.1 root 0000061", 1, BadLine),
+    (b"i 1.1 root 006G", 1, BadLine),
+    (b"i 1.1 root", 1, BadLine),
+    (b"i 1.1", 1, BadLine),
+    (b"i", 1, BadLine),
+    (b"i 1.1 root 0061 x", 1, BadLine),
+    (b"i 1.1 Root 0061", 1, BadLine),
+    (b"i 1.1 roots 0061", 1, BadLine),
+    (b"i 4294967296.1 root 0061", 1, BadLine),
+    (b"i 9999999999.1 root 0061", 1, BadLine),
+    (b"i 1.65536 root 0061", 1, BadLine),
+    (b"i 2.1 1.65536 0061", 1, BadLine),
+    (b"i 1.1.1 root 0061", 1, BadLine),
+    (b"i\t1.1 root 0061", 1, BadLine),
+    (b"i 1.1\troot 0061", 1, BadLine),
+    (b"e 1.1 x", 1, BadLine),
+    (b"e", 1, BadLine),
+    (b"e 1", 1, BadLine),
+    (b"e 1.", 1, BadLine),
+    (b"e .1", 1, BadLine),
+    (b"e +1.1", 1, BadLine),
+    (b"e 1.1.1", 1, BadLine),
+    (b"e 00000000001.1", 1, BadLine),
+    (b"e 1.00000000001", 1, BadLine),
+    (b"E 1.1", 1, BadLine),
+    (b"\xFF 1.1", 1, BadLine),
+    (b"e 1.1\r", 1, BadLine),
+    (b"e 1.1\r\r\n", 1, BadLine),
+    (b"e 1.1\n\r\n\ne 0.1\nx", 4, ZeroField),
+    (b"e 1.1\ne 1.1\nx", 3, BadLine),
+    (b"i 0.1 root 0061", 1, ZeroField),
+    (b"i 1.0 root 0061", 1, ZeroField),
+    (b"i 2.1 0.0 0061", 1, ZeroField),
+    (b"i 2.1 1.0 0061", 1, ZeroField),
+    (b"i 0.1 root 61", 1, BadLine),
+    (b"i 0.1 5.1 D800", 1, ZeroField),
+    (b"i 2.1 2.2 D800", 1, ParentNotBefore),
+    (b"i 1.1 root D800", 1, NotAScalar),
+    (b"i 2.1 1.2 110000", 1, NotAScalar),
+];
+
+#[test]
+fn a_faulty_line_shows_its_first_fault(rt: HostRuntime) {
+    for (listing, line, fault) in FAULTY_LINES {
+        let (answer, bytes) = packed(rt.alloc(), listing);
+        assert_eq!(rt;
+            answer,
+            Err(ListingFault::Malformed { line, fault }),
+            "{listing:?}"
+        );
+        assert!(rt; bytes.is_empty(), "{listing:?}");
+    }
+}
+
+#[test]
+fn a_faulty_file_shows_its_first_fault(rt: HostRuntime) {
+    let rows = [
+        (0, 0, Cause::Truncated),
+        (4, 0, Cause::Truncated),
+        (6, 1, Cause::Truncated),
+        (80, 4, Cause::Truncated),
+        (89, 5, Cause::Truncated),
+    ];
+    for (length, frame, cause) in rows {
+        let fault = FileFault::Malformed { frame, cause };
+        let (answer, bytes) = dumped(rt.alloc(), &TREE[..length]);
+        assert_eq!(rt; answer, Err(fault), "at {length}");
+        assert!(rt; bytes.is_empty(), "at {length}");
+    }
+}
+
+#[test]
+fn a_sink_that_stops_keeps_a_beginning(rt: HostRuntime) {
+    for left in [0, 1, 60, 66, 67, 89, 90, 91] {
+        let mut bytes = Vec::new(rt.alloc());
+        let answer = dump(
+            rt.alloc(),
+            &TREE,
+            &mut Stops::new(Out::new(&mut bytes), 7, left),
+        );
+        assert_eq!(rt; answer.is_ok(), left >= TREE_LISTING.len(), "{left}");
+        let whole = &TREE_LISTING[..left.min(TREE_LISTING.len())];
+        assert_eq!(rt; bytes.as_slice(), whole, "{left}");
+        let mut bytes = Vec::new(rt.alloc());
+        let answer = migrate(
+            rt.alloc(),
+            &TREE,
+            &mut Stops::new(Out::new(&mut bytes), 7, left),
+        );
+        assert_eq!(rt; answer.is_ok(), left >= TREE_MIGRATED.len(), "{left}");
+        let whole = &TREE_MIGRATED[..left.min(TREE_MIGRATED.len())];
+        assert_eq!(rt; bytes.as_slice(), whole, "{left}");
+        let mut bytes = Vec::new(rt.alloc());
+        let answer = pack(
+            rt.alloc(),
+            TREE_LISTING,
+            &mut Stops::new(Out::new(&mut bytes), 7, left),
+        );
+        assert_eq!(rt; answer.is_ok(), left >= TREE.len(), "{left}");
+        assert_eq!(rt; bytes.as_slice(), &TREE[..left.min(TREE.len())], "{left}");
+    }
+}
+
+/// With ample memory each call is right; where a growth is refused it says so, and nothing is
+/// written.
+#[test]
+fn a_call_is_right_or_says_memory(rt: HostRuntime) {
+    let mut room = [0u8; 128];
+    match dump(rt.alloc(), &TREE, &mut Out::new(room.as_mut_slice())) {
+        Ok(()) => assert!(rt; room.starts_with(TREE_LISTING)),
+        Err(fault) => assert_eq!(rt; (fault, room[0]), (FileFault::Memory, 0)),
+    }
+    let mut room = [0u8; 128];
+    match migrate(rt.alloc(), &TREE, &mut Out::new(room.as_mut_slice())) {
+        Ok(()) => assert!(rt; room.starts_with(&TREE_MIGRATED)),
+        Err(fault) => assert_eq!(rt; (fault, room[0]), (FileFault::Memory, 0)),
+    }
+    let mut room = [0u8; 128];
+    match pack(rt.alloc(), TREE_LISTING, &mut Out::new(room.as_mut_slice())) {
+        Ok(()) => assert!(rt; room.starts_with(&TREE)),
+        Err(fault) => assert_eq!(rt; (fault, room[0]), (ListingFault::Memory, 0)),
+    }
+}
+
+#[test]
+fn faults_print_what_the_line_about_them_says(rt: HostRuntime) -> Result<(), Fail> {
+    use LineFault::{BadLine, NotAScalar, ParentNotBefore, ZeroField};
+    let names = format!(in rt.alloc(); "{BadLine} {ZeroField} {ParentNotBefore} {NotAScalar}")?;
+    assert_eq!(rt;
+        names.as_str(),
+        "BadLine ZeroField ParentNotBefore NotAScalar"
+    );
+    let frame = FileFault::from(CodecFault::Malformed {
+        frame: 3,
+        cause: Cause::ZeroField,
+    });
+    let file = format!(in rt.alloc(); "{frame}; {}; {}", FileFault::Device, FileFault::Memory)?;
+    assert_eq!(rt; file.as_str(), "file 1 frame 3: ZeroField; device; memory");
+    let line = ListingFault::Malformed {
+        line: 12,
+        fault: BadLine,
+    };
+    let listing = format!(in rt.alloc();
+        "{line}; {}; {}",
+        ListingFault::Device,
+        ListingFault::Memory
+    )?;
+    assert_eq!(rt;
+        listing.as_str(),
+        "listing line 12: BadLine; device; memory"
+    );
+    Ok(())
+}

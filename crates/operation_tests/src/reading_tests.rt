@@ -1,0 +1,96 @@
+//! What no clause says: that the calls answer for real desks.
+
+ghost use Rattle.std.specs.Prelude.{◌≡◌};
+ghost use Rattle.bg_types.specs.OperationSet.{no_operations};
+
+use bg_types::{Id, Op, Place};
+use desk_replica::{Replica, TakeFault};
+use rga_sequence::Blocks;
+use rga_tree::{Plain, Sequence};
+use std::alloc::Global;
+
+/// Counter and site.
+type Name = (u32, u16);
+
+fn id(of: Name) -> Option<Id> {
+    Id::new(of.0, of.1)
+}
+
+fn behind(of: Name, above: Name, ch: char) -> Option<Op> {
+    Op::insert(id(of)?, Place::After(id(above)?), ch)
+}
+
+/// The deletion of `x`, then `a`, `x` and `b` after it, `y` after `x`, and two that wait.
+fn operations() -> Option<[Op; 7]> {
+    Some([
+        Op::erase(id((2, 2))?),
+        Op::insert(id((1, 1))?, Place::Root, 'a')?,
+        behind((2, 2), (1, 1), 'x')?,
+        behind((3, 2), (2, 2), 'y')?,
+        behind((2, 1), (1, 1), 'b')?,
+        behind((5, 1), (4, 1), 'z')?,
+        Op::erase(id((7, 3))?),
+    ])
+}
+
+/// A desk that took them. A call that memory was refused to left the desk as it was, and is made again.
+fn desk<S: Sequence + Drop>(alloc: Global, seq: S) -> Option<Replica<S>>
+    requires { S.content seq ≡ no_operations }
+{
+    let mut desk = Replica::new(alloc, 1, seq, 7);
+    for op in operations()? {
+        match desk.take(&op) {
+            Err(TakeFault::Memory) => desk.take(&op).ok()?,
+            answer => answer.ok()?,
+        };
+    }
+    Some(desk)
+}
+
+fn places<S: Sequence>(desk: &Replica<S>) -> Option<bool> {
+    let lines = [
+        ((1, 1), Some(0)),
+        ((2, 2), Some(1)),
+        ((3, 2), Some(1)),
+        ((2, 1), Some(2)),
+        ((9, 9), None),
+        ((5, 1), None),
+        ((7, 3), None),
+    ];
+    let mut right = true;
+    for (of, place) in lines {
+        right = desk.place_of(id(of)?) == place && right;
+    }
+    Some(right)
+}
+
+/// The placed ones in the order of the walk, the deletion, and those that wait in either order.
+fn lists<S: Sequence>(desk: &Replica<S>) -> Option<bool> {
+    let [gone, a, x, y, b, early, unplaced] = operations()?;
+    let late = [early, unplaced];
+    let told = [[a, a], [x, x], [y, y], [b, b], [gone, gone], late, late];
+    let mut right = desk.op_count() == told.len();
+    for j in 0..desk.op_count() {
+        let op = desk.op_at(j);
+        right = told.get(j).is_some_and(|either| either.contains(&op)) && right;
+    }
+    Some(right)
+}
+
+#[test]
+fn finds_places(rt: HostRuntime) {
+    let alloc = rt.alloc();
+    let blocks = desk(alloc, Blocks::new(alloc)).and_then(|desk| places(&desk));
+    assert_eq!(rt; blocks, Some(true));
+    let plain = desk(alloc, Plain::new(alloc)).and_then(|desk| places(&desk));
+    assert_eq!(rt; plain, Some(true));
+}
+
+#[test]
+fn tells_each_operation(rt: HostRuntime) {
+    let alloc = rt.alloc();
+    let blocks = desk(alloc, Blocks::new(alloc)).and_then(|desk| lists(&desk));
+    assert_eq!(rt; blocks, Some(true));
+    let plain = desk(alloc, Plain::new(alloc)).and_then(|desk| lists(&desk));
+    assert_eq!(rt; plain, Some(true));
+}

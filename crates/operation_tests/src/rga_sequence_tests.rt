@@ -1,0 +1,266 @@
+use crate::every_sequence::*;
+use rga_sequence::*;
+use rga_tree::{Plain, Sequence};
+use std::alloc::Global;
+
+impl Fresh for Plain {
+    fn fresh(alloc: Global) -> Plain {
+        Plain::new(alloc)
+    }
+}
+
+impl Fresh for Blocks {
+    fn fresh(alloc: Global) -> Blocks {
+        Blocks::keyed(alloc, 7)
+    }
+}
+
+#[test]
+fn both_keep_every_line(rt: HostRuntime) {
+    assert!(rt; keeps_every_line::<Blocks>(rt.alloc()));
+    assert!(rt; keeps_every_line::<Plain>(rt.alloc()));
+}
+
+#[test]
+fn both_keep_long_rows(rt: HostRuntime) {
+    assert!(rt; keeps_long_rows::<Blocks>(rt.alloc()));
+    assert!(rt; keeps_long_rows::<Plain>(rt.alloc()));
+}
+
+#[test]
+fn both_keep_all_where_room_is_refused(rt: HostRuntime) {
+    assert!(rt; keeps_all_where_room_is_refused::<Blocks>(rt.alloc()));
+    assert!(rt; keeps_all_where_room_is_refused::<Plain>(rt.alloc()));
+}
+
+fn letter(counter: u32) -> char {
+    (b'a' + (counter % 26) as u8) as char
+}
+
+/// (1,1) after the root, and then each after the one before.
+fn chain(alloc: Global, count: u32) -> Option<Tried<Blocks>> {
+    let mut seq = Tried::new(alloc);
+    let mut above = (0, 0);
+    for counter in 1..=count {
+        let name = (counter, 1);
+        if !seq.put((name, above, letter(counter), false)) {
+            return None;
+        }
+        above = name;
+    }
+    Some(seq)
+}
+
+/// Whether both calls find this element at visible place k, each with this many looks.
+fn is_found(seq: &mut Tried<Blocks>, k: usize, name: Name, looks: u64) -> bool {
+    if k >= seq.seq.len() {
+        return false;
+    }
+    let found = id(name) == Some(seq.seq.id_at(k)) && seq.seq.looks() == looks;
+    found && seq.at(k).is_some() && seq.seq.looks() == looks
+}
+
+/// How many elements a chain has, which of them are erased, what is then placed, how many blocks
+/// there are, how many elements are visible, and some visible places: which element is there, and how
+/// many looks find it.
+type Split = (
+    u32,
+    &'static [u32],
+    &'static [Row],
+    usize,
+    usize,
+    &'static [(usize, Name, u64)],
+);
+
+static SPLITS: [Split; 4] = [
+    (
+        512,
+        &[],
+        &[],
+        1,
+        512,
+        &[(0, (1, 1), 2), (511, (512, 1), 513)],
+    ),
+    // A full block is split for one more.
+    (
+        512,
+        &[],
+        &[((513, 1), (512, 1), 'z', false)],
+        2,
+        513,
+        &[(0, (1, 1), 2), (512, (513, 1), 259)],
+    ),
+    // After the last of a block, even where all that follow are less.
+    (
+        513,
+        &[],
+        &[((600, 2), (256, 1), 'z', false)],
+        2,
+        514,
+        &[(256, (600, 2), 258), (257, (257, 1), 3)],
+    ),
+    // Erased ones stay erased across a split.
+    (
+        512,
+        &[1, 256, 257, 512],
+        &[((513, 1), (512, 1), 'z', true)],
+        2,
+        508,
+        &[
+            (0, (2, 1), 3),
+            (253, (255, 1), 256),
+            (254, (258, 1), 4),
+            (507, (511, 1), 257),
+        ],
+    ),
+];
+
+fn keeps_split(alloc: Global, split: Split) -> Option<bool> {
+    let (count, erased, more, blocks, visible, finds) = split;
+    let mut seq = chain(alloc, count)?;
+    let mut right = true;
+    for counter in erased {
+        right = seq.erase((*counter, 1)) && right;
+    }
+    right = seq.put_all(more) && right;
+    right = seq.seq.blocks() == blocks && seq.seq.len() == visible && right;
+    for (k, name, looks) in finds {
+        right = is_found(&mut seq, *k, *name, *looks) && right;
+    }
+    Some(right)
+}
+
+#[test]
+fn a_full_block_is_split_for_one_more(rt: HostRuntime) {
+    let mut right = true;
+    for split in &SPLITS {
+        right = keeps_split(rt.alloc(), *split) == Some(true) && right;
+    }
+    assert!(rt; right);
+}
+
+/// Whether (600,2), put after this parent into a chain of 512, stands at this place then.
+fn is_split_at(alloc: Global, parent: Name, place: usize) -> Option<bool> {
+    let mut seq = chain(alloc, 512)?;
+    let mut right = seq.put(((600, 2), parent, 'z', false)) && seq.seq.blocks() == 2;
+    for j in 0..513usize {
+        let before = if j < place { j + 1 } else { j };
+        let counter = if j == place { 600 } else { before };
+        let row = seq.nth(j)?;
+        right = row.0.0 as usize == counter && seq.stands_at(j, row) && right;
+    }
+    Some(right)
+}
+
+#[test]
+fn a_block_is_split_at_any_place(rt: HostRuntime) {
+    let lines = [
+        (0, 0),
+        (1, 1),
+        (255, 255),
+        (256, 256),
+        (257, 257),
+        (512, 512),
+    ];
+    let mut right = true;
+    for (counter, place) in lines {
+        let site = if counter == 0 { 0 } else { 1 };
+        right = is_split_at(rt.alloc(), (counter, site), place) == Some(true) && right;
+    }
+    assert!(rt; right);
+}
+
+/// Whether the text is the character of (1,1), and then those of 1,300 down to 2.
+fn is_falling(seq: &Tried<Blocks>) -> bool {
+    let Ok(text) = seq.text() else {
+        return false;
+    };
+    let mut right = text.len() == 1300;
+    for (k, ch) in text.as_str().chars().enumerate() {
+        let counter = if k == 0 {
+            1
+        } else {
+            1301usize.saturating_sub(k)
+        };
+        right = ch == letter((counter % 26) as u32) && right;
+    }
+    right
+}
+
+/// Whether 1,299 children of (1,1), placed in this order, stand in falling order.
+fn puts_children(alloc: Global, falling: bool) -> Option<bool> {
+    let mut seq = chain(alloc, 1)?;
+    let mut right = true;
+    for k in 0..1299u32 {
+        let counter = if falling { 1300 - k } else { 2 + k };
+        right = seq.put(((counter, 2), (1, 1), letter(counter), false)) && right;
+    }
+    right = is_falling(&seq) && right;
+    right = seq.put(((2, 1), (1, 1), 'z', false)) && right;
+    right = seq.seq.placed() == 1301 && seq.seq.blocks() <= 6 && right;
+    Some(seq.nth(1300)?.0 == (2, 1) && right)
+}
+
+#[test]
+fn many_children_stand_in_falling_order(rt: HostRuntime) {
+    assert!(rt; puts_children(rt.alloc(), false) == Some(true));
+    assert!(rt; puts_children(rt.alloc(), true) == Some(true));
+}
+
+/// A number that looks random, made from the one before.
+fn stir(seed: u64) -> u64 {
+    seed.wrapping_mul(6_364_136_223_846_793_005)
+        .wrapping_add(1_442_695_040_888_963_407)
+}
+
+/// An element below element j, or below the root. Its identifier is above its parent's by little.
+fn random_row(seq: &Tried<Plain>, seed: u64) -> Row {
+    let j = (seed >> 20) as usize % seq.seq.placed().max(1);
+    let parent = match seq.nth(j) {
+        Some(row) if seed % 13 > 0 => row.0,
+        _ => (0, 0),
+    };
+    let counter = parent.0.saturating_add(1 + ((seed >> 40) % 30) as u32);
+    let site = 1 + ((seed >> 48) % 60_000) as u16;
+    ((counter, site), parent, letter(counter), seed % 7 == 0)
+}
+
+/// Makes 2,500 changes to both, and returns whether both answered the same.
+fn change_both(blocks: &mut Tried<Blocks>, plain: &mut Tried<Plain>) -> bool {
+    let mut seed = 20;
+    let mut same = true;
+    for _ in 0..2_500 {
+        seed = stir(seed);
+        let row = random_row(plain, seed);
+        same = blocks.put(row) == plain.put(row) && same;
+        if seed % 11 == 0 {
+            same = blocks.erase(row.0) == plain.erase(row.0) && same;
+        }
+    }
+    same
+}
+
+/// Whether both show the same at each place.
+fn show_the_same(blocks: &mut Tried<Blocks>, plain: &mut Tried<Plain>) -> bool {
+    let mut same = blocks.seq.placed() == plain.seq.placed();
+    for j in 0..plain.seq.placed() {
+        same = match plain.nth(j) {
+            Some(row) => blocks.stands_at(j, row) && same,
+            None => false,
+        };
+    }
+    for k in 0..=plain.seq.len() {
+        same = blocks.at(k) == plain.at(k) && same;
+        same = blocks.seq.looks() <= (blocks.seq.blocks() as u64).saturating_add(512) && same;
+    }
+    same
+}
+
+#[test]
+fn blocks_stand_as_the_plain_row(rt: HostRuntime) {
+    let mut plain = Tried::new(rt.alloc());
+    let mut blocks = Tried::new(rt.alloc());
+    assert!(rt; change_both(&mut blocks, &mut plain));
+    assert!(rt; 2_000 < blocks.seq.placed() && 5 < blocks.seq.blocks());
+    assert!(rt; show_the_same(&mut blocks, &mut plain));
+}

@@ -1,0 +1,157 @@
+//! Files of version 2 that were worked out by hand.
+
+use bg_types::{Id, Op, Place};
+use op_codec::*;
+use std::alloc::{AllocError, Global};
+use std::test::*;
+
+/// (1,1) after the root, `a`; (2,1) after (1,1), `b`: one run.
+const RUN: [u8; 28] = [
+    0x42, 0x47, 0x4F, 0x50, 2, // BGOP, version 2
+    0, 21, 3, 0, 0, 0, 1, 0, 1, 0, 0, 0, 0, 0, 0, 0, 0, 0, 0x61, 0, 0, 0, 0x62, // frame 1
+];
+
+/// (1,1) after the root, `a`, and its deletion, in version 2.
+const TYPED_AND_ERASED: [u8; 33] = [
+    0x42, 0x47, 0x4F, 0x50, 2, // BGOP, version 2
+    0, 17, 1, 0, 0, 0, 1, 0, 1, 0, 0, 0, 0, 0, 0, 0, 0, 0, 0x61, // frame 1
+    0, 7, 2, 0, 0, 0, 1, 0, 1, // frame 2
+];
+
+fn joined(alloc: Global, front: &[u8], back: &[u8]) -> Result<Vec<u8>, AllocError> {
+    let mut file = Vec::from_slice(alloc, front)?;
+    file.extend_from_slice(back)?;
+    Ok(file)
+}
+
+#[test]
+fn a_run_stands_for_its_insertions(rt: HostRuntime) -> Result<(), Fail> {
+    let first = Id::new(1, 1).ok_or("not 0")?;
+    let second = Id::new(2, 1).ok_or("not 0")?;
+    let ops = [
+        Op::insert(first, Place::Root, 'a').ok_or("well formed")?,
+        Op::insert(second, Place::After(first), 'b').ok_or("well formed")?,
+    ];
+    assert_eq!(rt; decode_file(rt.alloc(), &RUN)?.as_slice(), ops.as_slice());
+    Ok(())
+}
+
+#[test]
+fn a_run_cut_at_each_byte(rt: HostRuntime) -> Result<(), Fail> {
+    for k in 0..28usize {
+        let frame = usize::from(k > 5);
+        let cause = Cause::Truncated;
+        let read = decode_file(rt.alloc(), &RUN[..k]);
+        if k == 5 {
+            assert!(rt; read?.is_empty());
+        } else {
+            assert_eq!(rt;
+                read.err(),
+                Some(CodecFault::Malformed { frame, cause }),
+                "at {k}"
+            );
+        }
+        let mut feed = Feed::new(rt.alloc());
+        feed.feed(&RUN[..k])?;
+        feed.feed(&RUN[k..])?;
+        assert_eq!(rt; feed.finish()?.len(), 2, "at {k}");
+    }
+    Ok(())
+}
+
+#[test]
+fn a_frame_of_version_2_shows_its_first_fault(rt: HostRuntime) -> Result<(), Fail> {
+    let rows: [(&[u8], Cause); 13] = [
+        (&[0, 21, 3], Cause::Truncated),
+        (&[0, 21, 4], Cause::UnknownKind),
+        (&[0, 17, 3], Cause::BadLength),
+        (&[0, 22, 3], Cause::BadLength),
+        (&[0x10, 0x11, 3], Cause::BadLength),
+        (&[0x10, 0x0D, 3], Cause::Truncated),
+        (&[0, 18, 1], Cause::BadLength),
+        (
+            &[
+                0, 21, 3, 0, 0, 0, 0, 0, 1, 0, 0, 0, 0, 0, 0, 0, 0, 0, 0x61, 0, 0, 0xD8, 0,
+            ],
+            Cause::ZeroField,
+        ),
+        (
+            &[
+                0, 21, 3, 0, 0, 0, 2, 0, 1, 0, 0, 0, 2, 0, 2, 0, 0, 0, 0x61, 0, 0, 0xD8, 0,
+            ],
+            Cause::ParentNotBefore,
+        ),
+        (
+            &[
+                0, 21, 3, 255, 255, 255, 255, 0, 1, 0, 0, 0, 1, 0, 1, 0, 0, 0xD8, 0, 0, 0, 0xD8, 0,
+            ],
+            Cause::CounterOverflow,
+        ),
+        (
+            &[
+                0, 21, 3, 255, 255, 255, 254, 0, 1, 0, 0, 0, 1, 0, 1, 0, 0, 0, 0x61, 0, 0, 0xD8, 0,
+            ],
+            Cause::NotAScalar,
+        ),
+        (
+            &[
+                0, 21, 3, 0, 0, 0, 2, 0, 1, 0, 0, 0, 1, 0, 2, 0, 0x11, 0, 0, 0, 0, 0, 0x61,
+            ],
+            Cause::NotAScalar,
+        ),
+        (
+            &[0, 17, 1, 0, 0, 0, 2, 0, 1, 0, 0, 0, 1, 0, 2, 0, 0, 0xD8, 0],
+            Cause::NotAScalar,
+        ),
+    ];
+    for (bytes, cause) in rows {
+        for (front, frame) in [(&RUN[..5], 1), (TYPED_AND_ERASED.as_slice(), 3)] {
+            let file = joined(rt.alloc(), front, bytes)?;
+            let fault = CodecFault::Malformed { frame, cause };
+            assert_eq!(rt;
+                decode_file(rt.alloc(), &file).err(),
+                Some(fault),
+                "{bytes:?} at {frame}"
+            );
+        }
+    }
+    Ok(())
+}
+
+#[test]
+fn what_could_be_one_frame_is_not_joined(rt: HostRuntime) -> Result<(), Fail> {
+    // (3,1) after (2,1), alone and as a run; of another site; after another parent; with a greater counter.
+    let rows: [(&[u8], bool); 5] = [
+        (
+            &[0, 17, 1, 0, 0, 0, 3, 0, 1, 0, 0, 0, 2, 0, 1, 0, 0, 0, 0x63],
+            true,
+        ),
+        (
+            &[
+                0, 21, 3, 0, 0, 0, 3, 0, 1, 0, 0, 0, 2, 0, 1, 0, 0, 0, 0x63, 0, 0, 0, 0x64,
+            ],
+            true,
+        ),
+        (
+            &[0, 17, 1, 0, 0, 0, 3, 0, 2, 0, 0, 0, 2, 0, 1, 0, 0, 0, 0x63],
+            false,
+        ),
+        (
+            &[0, 17, 1, 0, 0, 0, 3, 0, 1, 0, 0, 0, 1, 0, 1, 0, 0, 0, 0x63],
+            false,
+        ),
+        (
+            &[0, 17, 1, 0, 0, 0, 4, 0, 1, 0, 0, 0, 2, 0, 1, 0, 0, 0, 0x63],
+            false,
+        ),
+    ];
+    for (bytes, is_joined) in rows {
+        let file = joined(rt.alloc(), &RUN, bytes)?;
+        let fault = is_joined.then_some(CodecFault::Malformed {
+            frame: 2,
+            cause: Cause::NotJoined,
+        });
+        assert_eq!(rt; decode_file(rt.alloc(), &file).err(), fault, "{bytes:?}");
+    }
+    Ok(())
+}

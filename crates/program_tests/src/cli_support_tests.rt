@@ -1,0 +1,188 @@
+//! What no clause says: the texts, what a command line comes to, and files that can't be read.
+
+use bg_types::{Device, Out, Stops};
+use clap::{Arg, ArgAction, Command};
+use cli_support::*;
+use std::alloc::Global;
+use std::env::FillError;
+use std::io::{self, ErrorKind, Read};
+use std::rt::Env;
+use std::test::Fail;
+
+/// What a program with one option `--at` is stopped by.
+fn stop_at(alloc: Global, words: &[&str]) -> Result<Stop, Fail> {
+    let at = Arg::new(alloc, "AT").long("at").action(ArgAction::Set);
+    let command = Command::new(alloc, "named").arg(at)?;
+    match command.try_get_matches_from(words) {
+        Ok(_matches) => Err(Fail::from("nothing stops it")),
+        Err(error) => Ok(Stop::of(alloc, &error)),
+    }
+}
+
+#[test]
+fn help_and_usage_end_a_run(rt: HostRuntime) -> Result<(), Fail> {
+    let cases: [(Stop, usize, u8, &str, &str); 5] = [
+        (
+            stop_at(rt.alloc(), &["named", "--help"])?,
+            10_000,
+            0,
+            "Usage: named [OPTIONS]",
+            "",
+        ),
+        (
+            stop_at(rt.alloc(), &["named", "--help"])?,
+            10,
+            3,
+            "Usage: nam",
+            "named: device\n",
+        ),
+        (
+            stop_at(rt.alloc(), &["named", "--to", "3"])?,
+            0,
+            2,
+            "",
+            "error: unexpected argument '--to' found",
+        ),
+        (
+            stop_at(rt.alloc(), &["named", "--at"])?,
+            0,
+            2,
+            "",
+            "error: a value is required for '--at <AT>'",
+        ),
+        (Stop::Memory, 0, 3, "", "named: memory\n"),
+    ];
+    for (stop, left, status, output, error) in cases {
+        let mut written = Vec::new(rt.alloc());
+        let mut told = Vec::new(rt.alloc());
+        let mut out = Stops::new(Out::new(&mut written), 7, left);
+        let came = end("named", &stop, &mut out, &mut Out::new(&mut told));
+        assert_eq!(rt; came, status, "{stop:?}");
+        assert!(rt;
+            written.starts_with(output.as_bytes()),
+            "{stop:?}: {written:?}"
+        );
+        assert!(rt; told.starts_with(error.as_bytes()), "{stop:?}: {told:?}");
+        assert_eq!(rt; told.is_empty(), error.is_empty(), "{stop:?}");
+    }
+    Ok(())
+}
+
+#[test]
+fn a_fault_is_one_line(rt: HostRuntime) -> Result<(), Fail> {
+    let path = String::from_str(rt.alloc(), "a/b")?;
+    for (fault, line) in [
+        (Unread::ReadFailed(path), "named: cannot read a/b\n"),
+        (Unread::Memory, "named: memory\n"),
+    ] {
+        let mut told = Vec::new(rt.alloc());
+        let done = tell("named", &fault, &mut Out::new(&mut told));
+        assert_eq!(rt; done, Ok(()));
+        assert_eq!(rt; told.as_slice(), line.as_bytes());
+    }
+    let mut told = Vec::new(rt.alloc());
+    let done = tell(
+        "named",
+        &CannotRead("c"),
+        &mut Stops::new(Out::new(&mut told), 3, 9),
+    );
+    assert_eq!(rt; done, Err(Device));
+    assert_eq!(rt; told.as_slice(), b"named: ca".as_slice());
+    Ok(())
+}
+
+/// A reader that fails after it has given these bytes.
+#[derive(Drop)]
+struct Breaks<'a>(&'a [u8]);
+
+impl Read for Breaks<'_> {
+    fn read(&mut self, buf: &mut [u8]) -> io::Result<usize> {
+        match self.0.read(buf) {
+            Ok(0) => Err(io::Error::from(ErrorKind::Other)),
+            read => read,
+        }
+    }
+}
+
+#[test]
+fn a_reader_is_read_up_to_the_limit(rt: HostRuntime) -> Result<(), Fail> {
+    for (bytes, limit, wanted) in [
+        (b"".as_slice(), 0, Some(b"".as_slice())),
+        (b"abc", 4, Some(b"abc")),
+        (b"abc", 3, Some(b"abc")),
+        (b"abc", 2, None),
+        (b"abc", 0, None),
+    ] {
+        let read = read_whole(rt.alloc(), bytes, limit)?;
+        assert_eq!(rt; read.as_deref(), wanted, "{bytes:?} up to {limit}");
+    }
+    let Err(error) = read_whole(rt.alloc(), Breaks(b"abc"), 8) else {
+        return Err(Fail::from("a reader that fails was read"));
+    };
+    assert_eq!(rt; error.kind(), ErrorKind::Other);
+    Ok(())
+}
+
+/// The path of the file that can't be read.
+fn path_of<T: Drop>(read: Result<T, Unread>) -> Result<String, Fail> {
+    match read {
+        Err(Unread::ReadFailed(path)) => Ok(path),
+        Err(Unread::Memory) => Err(Fail::from("memory")),
+        Ok(_) => Err(Fail::from("read")),
+    }
+}
+
+#[test]
+fn a_file_that_cannot_be_read_is_named(rt: HostRuntime) -> Result<(), Fail> {
+    let file = read(&rt, "/dev/null").map_err(|_| Fail::from("unread"))?;
+    assert!(rt; file.is_empty());
+    assert!(rt; open(&rt, "/dev/zero").is_ok());
+    assert_eq!(rt; path_of(open(&rt, "/nowhere/a"))?.as_str(), "/nowhere/a");
+    // A folder opens but can't be read; this device gives bytes without end.
+    assert_eq!(rt; path_of(read(&rt, "/dev"))?.as_str(), "/dev");
+    assert_eq!(rt; path_of(read(&rt, "/dev/zero"))?.as_str(), "/dev/zero");
+    let first = path_of(read_data(&rt, "/nowhere"))?;
+    assert_eq!(rt; first.as_str(), "/nowhere/DerivedBidiClass.txt");
+    Ok(())
+}
+
+/// The words of a command line.
+#[derive(Drop)]
+struct Line<'a>(&'a [&'a [u8]]);
+
+impl Env for Line<'_> {
+    fn arg(&self, i: usize, buf: &mut [u8]) -> Result<usize, FillError> {
+        let Some(word) = self.0.get(i) else {
+            return Err(FillError::NotPresent);
+        };
+        if word.len() > buf.len() {
+            return Err(FillError::TooLong);
+        }
+        buf[..word.len()].copy_from_slice(word);
+        Ok(word.len())
+    }
+
+    fn var(&self, _name: &str, _buf: &mut [u8]) -> Result<usize, FillError> {
+        Err(FillError::NotPresent)
+    }
+
+    fn var_at(&self, _i: usize, _buf: &mut [u8]) -> Result<usize, FillError> {
+        Err(FillError::NotPresent)
+    }
+}
+
+#[test]
+fn words_are_utf_8(rt: HostRuntime) -> Result<(), Fail> {
+    let Ok(line) = words(&(Line(&[b"named", b"\xD7\x90"]), rt.alloc())) else {
+        return Err(Fail::from("no words"));
+    };
+    assert_eq!(rt; line.len(), 2);
+    assert_eq!(rt; line.as_slice()[1].as_str(), "\u{5D0}");
+    match words(&(Line(&[b"named", b"\xFF"]), rt.alloc())) {
+        Err(Stop::Usage(text)) => {
+            assert_eq!(rt; text.as_str(), "error: an argument is not valid UTF-8\n");
+        }
+        _ => return Err(Fail::from("another end")),
+    }
+    Ok(())
+}

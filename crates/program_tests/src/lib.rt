@@ -1,0 +1,17 @@
+//! What no clause says of the runs and of what the programs stand on, as tables of rows.
+#![tactic(auto)]
+
+#[cfg(test)]
+mod carets_tests;
+#[cfg(test)]
+mod cli_support_tests;
+#[cfg(test)]
+mod command_line_tests;
+#[cfg(test)]
+mod desk_typing_tests;
+#[cfg(test)]
+mod replay_tests;
+#[cfg(test)]
+mod run_fault_tests;
+#[cfg(test)]
+mod text_tests;
