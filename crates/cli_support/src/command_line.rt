@@ -12,7 +12,7 @@ use std::rt::Env;
 const NOT_UTF_8: &str = "error: an argument is not valid UTF-8\n";
 
 /// Why there is no work to do.
-#[derive(Debug, Drop)]
+#[derive(Drop)]
 pub enum Stop {
     /// The help that was asked for, for standard output.
     Help(String),

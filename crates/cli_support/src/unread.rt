@@ -8,7 +8,7 @@ use std::error::Error;
 use std::fmt;
 
 /// The path of a file that can't be read. It prints as `cannot read PATH`.
-#[derive(Clone, Copy, Debug, PartialEq, Eq)]
+#[derive(Clone, Copy)]
 pub struct CannotRead<'a>(pub &'a str);
 
 impl fmt::Display for CannotRead<'_> {

@@ -7,7 +7,7 @@ use desk_runs::Move;
 use op_codec::Version;
 
 /// The work to be done.
-#[derive(Debug, Drop)]
+#[derive(Drop)]
 pub enum Job<'a> {
     /// Write the text of the operations of these files.
     Text { files: Vec<&'a str> },
@@ -26,7 +26,7 @@ pub enum Job<'a> {
 }
 
 /// Desks to be drawn, one for each file.
-#[derive(Debug, Drop)]
+#[derive(Drop)]
 pub struct Replay<'a> {
     /// The folder of the five data files; that of the environment where there is none.
     pub folder: Option<&'a str>,
@@ -47,7 +47,7 @@ pub struct Replay<'a> {
 }
 
 /// A walk of a caret over a text that is drawn.
-#[derive(Debug, Drop)]
+#[derive(Drop)]
 pub struct Walk<'a> {
     /// The folder of the five data files; that of the environment where there is none.
     pub folder: Option<&'a str>,
@@ -69,7 +69,7 @@ pub struct Walk<'a> {
 }
 
 /// A change that a site makes to the text of files.
-#[derive(Debug, Drop)]
+#[derive(Drop)]
 pub struct Typing<'a> {
     /// The site that types.
     pub site: u16,

@@ -314,50 +314,49 @@ fn command<'a>(alloc: Global) -> Result<Command<'a>, AllocError> {
         .subcommand(pack_command(alloc)?)
 }
 
-fn text_command<'a>(alloc: Global) -> Result<Command<'a>, AllocError> {
-    Command::new(alloc, "text")
-        .about(TEXT_ABOUT)
-        .long_about(TEXT_LONG_ABOUT)
-        .after_help(TEXT_EXAMPLE)
-        .arg(files_arg(alloc))
+/// A subcommand, with what its help says.
+fn subcommand<'a>(
+    alloc: Global,
+    name: &'a str,
+    about: &'a str,
+    long_about: &'a str,
+    example: &'a str,
+) -> Command<'a> {
+    Command::new(alloc, name)
+        .about(about)
+        .long_about(long_about)
+        .after_help(example)
 }
 
-fn ucd_arg<'a>(alloc: Global) -> Arg<'a> {
-    Arg::new(alloc, "UCD")
-        .long("ucd")
-        .value_name("DIR")
-        .help(UCD_HELP)
-        .action(ArgAction::Set)
+fn text_command<'a>(alloc: Global) -> Result<Command<'a>, AllocError> {
+    subcommand(alloc, "text", TEXT_ABOUT, TEXT_LONG_ABOUT, TEXT_EXAMPLE).arg(files_arg(alloc))
+}
+
+/// A subcommand that draws, with what a grid asks for.
+fn with_grid<'a>(alloc: Global, command: Command<'a>) -> Result<Command<'a>, AllocError> {
+    command
+        .arg(word_arg(alloc, "UCD", "ucd", "DIR", UCD_HELP))?
+        .arg(width_arg(alloc))?
+        .arg(base_arg(alloc))?
+        .arg(ambiguous_arg(alloc))
 }
 
 fn width_arg<'a>(alloc: Global) -> Arg<'a> {
-    Arg::new(alloc, "WIDTH")
-        .long("width")
-        .value_name("N")
-        .help(WIDTH_HELP)
+    word_arg(alloc, "WIDTH", "width", "N", WIDTH_HELP)
         .required(true)
         .value_parser(value_parser!(u16))
-        .action(ArgAction::Set)
 }
 
 fn base_arg<'a>(alloc: Global) -> Arg<'a> {
-    Arg::new(alloc, "BASE")
-        .long("base")
-        .value_name("DIRECTION")
-        .help(BASE_HELP)
+    word_arg(alloc, "BASE", "base", "DIRECTION", BASE_HELP)
         .value_parser(BASES.as_slice())
         .default_value("auto")
-        .action(ArgAction::Set)
 }
 
 fn ambiguous_arg<'a>(alloc: Global) -> Arg<'a> {
-    Arg::new(alloc, "AMBIGUOUS")
-        .long("ambiguous")
-        .value_name("WIDTH")
-        .help(AMBIGUOUS_HELP)
+    word_arg(alloc, "AMBIGUOUS", "ambiguous", "WIDTH", AMBIGUOUS_HELP)
         .value_parser(WIDTHS.as_slice())
         .default_value("narrow")
-        .action(ArgAction::Set)
 }
 
 fn files_arg<'a>(alloc: Global) -> Arg<'a> {
@@ -369,41 +368,32 @@ fn files_arg<'a>(alloc: Global) -> Arg<'a> {
 }
 
 fn type_command<'a>(alloc: Global) -> Result<Command<'a>, AllocError> {
-    let site = Arg::new(alloc, "SITE")
-        .long("site")
-        .value_name("S")
-        .help(SITE_HELP)
+    subcommand(alloc, "type", TYPE_ABOUT, TYPE_LONG_ABOUT, TYPE_EXAMPLE)
+        .arg(site_arg(alloc))?
+        .arg(number_arg(alloc, "AT", "at", "P", TYPE_AT_HELP))?
+        .arg(number_arg(alloc, "ERASE", "erase", "N", ERASE_HELP))?
+        .arg(word_arg(alloc, "TEXT", "text", "WORDS", TYPED_HELP))?
+        .arg(version_arg(alloc))?
+        .arg(any_files_arg(alloc))
+}
+
+fn site_arg<'a>(alloc: Global) -> Arg<'a> {
+    word_arg(alloc, "SITE", "site", "S", SITE_HELP)
         .required(true)
         .value_parser(value_parser!(u16))
-        .action(ArgAction::Set);
-    let at = number_arg(alloc, "AT", "at", "P", TYPE_AT_HELP);
-    let erase = number_arg(alloc, "ERASE", "erase", "N", ERASE_HELP);
-    let text = Arg::new(alloc, "TEXT")
-        .long("text")
-        .value_name("WORDS")
-        .help(TYPED_HELP)
-        .action(ArgAction::Set);
-    let version = Arg::new(alloc, "VERSION")
-        .long("version")
-        .value_name("V")
-        .help(TYPED_VERSION_HELP)
+}
+
+fn version_arg<'a>(alloc: Global) -> Arg<'a> {
+    word_arg(alloc, "VERSION", "version", "V", TYPED_VERSION_HELP)
         .value_parser(VERSIONS.as_slice())
         .default_value("2")
-        .action(ArgAction::Set);
-    let files = Arg::new(alloc, "FILE")
+}
+
+fn any_files_arg<'a>(alloc: Global) -> Arg<'a> {
+    Arg::new(alloc, "FILE")
         .help(ANY_FILES_HELP)
         .num_args(1..=64)
-        .action(ArgAction::Append);
-    Command::new(alloc, "type")
-        .about(TYPE_ABOUT)
-        .long_about(TYPE_LONG_ABOUT)
-        .after_help(TYPE_EXAMPLE)
-        .arg(site)?
-        .arg(at)?
-        .arg(erase)?
-        .arg(text)?
-        .arg(version)?
-        .arg(files)
+        .action(ArgAction::Append)
 }
 
 /// An option that takes a number of characters.
@@ -414,81 +404,74 @@ fn number_arg<'a>(
     value: &'a str,
     help: &'a str,
 ) -> Arg<'a> {
+    word_arg(alloc, id, long, value, help).value_parser(value_parser!(u32))
+}
+
+/// An option that takes a word.
+fn word_arg<'a>(
+    alloc: Global,
+    id: &'a str,
+    long: &'a str,
+    value: &'a str,
+    help: &'a str,
+) -> Arg<'a> {
     Arg::new(alloc, id)
         .long(long)
         .value_name(value)
         .help(help)
-        .value_parser(value_parser!(u32))
         .action(ArgAction::Set)
 }
 
 fn caret_command<'a>(alloc: Global) -> Result<Command<'a>, AllocError> {
-    let at = Arg::new(alloc, "AT")
-        .long("at")
-        .value_name("P")
-        .help(AT_HELP)
-        .required(true)
-        .value_parser(value_parser!(u32))
-        .action(ArgAction::Set);
-    let moves = Arg::new(alloc, "MOVES")
-        .long("moves")
-        .value_name("M")
-        .help(MOVES_HELP)
-        .required(true)
-        .action(ArgAction::Set);
-    Command::new(alloc, "caret")
-        .about(CARET_ABOUT)
-        .long_about(CARET_LONG_ABOUT)
-        .after_help(CARET_EXAMPLE)
-        .arg(ucd_arg(alloc))?
-        .arg(width_arg(alloc))?
-        .arg(base_arg(alloc))?
-        .arg(ambiguous_arg(alloc))?
-        .arg(at)?
-        .arg(moves)?
+    let caret = subcommand(alloc, "caret", CARET_ABOUT, CARET_LONG_ABOUT, CARET_EXAMPLE);
+    with_grid(alloc, caret)?
+        .arg(caret_at_arg(alloc))?
+        .arg(moves_arg(alloc))?
         .arg(files_arg(alloc))
 }
 
+fn caret_at_arg<'a>(alloc: Global) -> Arg<'a> {
+    number_arg(alloc, "AT", "at", "P", AT_HELP).required(true)
+}
+
+fn moves_arg<'a>(alloc: Global) -> Arg<'a> {
+    word_arg(alloc, "MOVES", "moves", "M", MOVES_HELP).required(true)
+}
+
 fn replay_command<'a>(alloc: Global) -> Result<Command<'a>, AllocError> {
-    let schedule = Arg::new(alloc, "SCHEDULE")
-        .long("schedule")
-        .value_name("FILE")
-        .help(SCHEDULE_HELP)
-        .action(ArgAction::Set);
-    Command::new(alloc, "replay")
-        .about(REPLAY_ABOUT)
-        .long_about(REPLAY_LONG_ABOUT)
-        .after_help(REPLAY_EXAMPLE)
-        .arg(ucd_arg(alloc))?
-        .arg(width_arg(alloc))?
-        .arg(base_arg(alloc))?
-        .arg(ambiguous_arg(alloc))?
-        .arg(schedule)?
+    let replay = subcommand(
+        alloc,
+        "replay",
+        REPLAY_ABOUT,
+        REPLAY_LONG_ABOUT,
+        REPLAY_EXAMPLE,
+    );
+    with_grid(alloc, replay)?
+        .arg(word_arg(alloc, "SCHEDULE", "schedule", "FILE", SCHEDULE_HELP))?
         .arg(files_arg(alloc))
 }
 
 fn dump_command<'a>(alloc: Global) -> Result<Command<'a>, AllocError> {
-    Command::new(alloc, "dump")
-        .about(DUMP_ABOUT)
-        .long_about(DUMP_LONG_ABOUT)
-        .after_help(DUMP_EXAMPLE)
-        .arg(one_file(alloc, DUMP_HELP))
+    subcommand(alloc, "dump", DUMP_ABOUT, DUMP_LONG_ABOUT, DUMP_EXAMPLE).arg(one_file(
+        alloc, DUMP_HELP,
+    ))
 }
 
 fn migrate_command<'a>(alloc: Global) -> Result<Command<'a>, AllocError> {
-    Command::new(alloc, "migrate")
-        .about(MIGRATE_ABOUT)
-        .long_about(MIGRATE_LONG_ABOUT)
-        .after_help(MIGRATE_EXAMPLE)
-        .arg(one_file(alloc, MIGRATE_HELP))
+    subcommand(
+        alloc,
+        "migrate",
+        MIGRATE_ABOUT,
+        MIGRATE_LONG_ABOUT,
+        MIGRATE_EXAMPLE,
+    )
+    .arg(one_file(alloc, MIGRATE_HELP))
 }
 
 fn pack_command<'a>(alloc: Global) -> Result<Command<'a>, AllocError> {
-    Command::new(alloc, "pack")
-        .about(PACK_ABOUT)
-        .long_about(PACK_LONG_ABOUT)
-        .after_help(PACK_EXAMPLE)
-        .arg(one_file(alloc, PACK_HELP))
+    subcommand(alloc, "pack", PACK_ABOUT, PACK_LONG_ABOUT, PACK_EXAMPLE).arg(one_file(
+        alloc, PACK_HELP,
+    ))
 }
 
 fn one_file<'a>(alloc: Global, help: &'a str) -> Arg<'a> {

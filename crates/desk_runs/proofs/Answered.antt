@@ -1,6 +1,6 @@
 -- What one desk that takes the operations of all files answered.
-use Rattle.std.proofs.Common.{◌≡◌, ◌≤◌, ℕ, List, Option, refl, subst, inl, inr}
-use Rattle.std.specs.Prelude.{true, false, Bool, Ok, Err, encode_utf8_all}
+use Rattle.std.proofs.Common.{◌≡◌, ◌≤◌, ℕ, List, Option, Result, refl, sym, subst, inl, inr}
+use Rattle.std.specs.Prelude.{true, false, Bool, Ok, Err, IfOk, IfErr, encode_utf8_all}
 use Rattle.std.specs.List.{AllZip}
 use Rattle.std.specs.Io.KnownBytes.{Appends}
 use Rattle.std.proofs.KnownBytes.{Keeps-refl}
@@ -17,6 +17,7 @@ use Rattle.desk_replica.specs.Refusal.{IsFirstRefusal}
 use Rattle.desk_runs.specs.Reading.{IsReadAs}
 use Rattle.desk_runs.specs.Files.{joined, IsSetOfFiles}
 use Rattle.desk_runs.specs.Cause.{IsTakingCaused, IsReadCaused, step_fault_of}
+use Rattle.desk_runs.specs.CaretsOutcome.{IsTextOfFiles}
 use Rattle.desk_runs.specs.TextOutcome.{IsTextOutcome}
 
 -- all files are read, and an operation is refused
@@ -39,14 +40,25 @@ taking-unread files (run.ReadFailed file) h = h
 taking-unread files run.Memory h = tt
 taking-unread files (run.TooLong n) h = h
 
+-- ---- the text of the desk
+
+pub text-read : {A : Type 0} (files : List (List ℕ)) (s : OperationSet) (bytes_of : A → List ℕ) (r : Result A RunFault) → IsSetOfFiles files s → size s ≤ 1_000_000
+    → IfOk r (λ t. bytes_of t ≡ encode_utf8_all (text s)) → IfOk r (λ t. IsTextOfFiles files (bytes_of t))
+text-read files s bytes_of (Ok t) of_files limited is = record { set = s; of_files = of_files; limited = limited; is = is }
+text-read files s bytes_of (Err fault) of_files limited is = tt
+
+pub text-unread : {A : Type 0} (files : List (List ℕ)) (r : Result A RunFault) → IfErr r (λ fault. fault ≡ run.Memory) → IfErr r (IsTakingCaused files)
+text-unread files (Ok t) is = tt
+text-unread files (Err fault) is = subst (IsTakingCaused files) (sym is) tt
+
 -- ---- what `text` writes
 
 pub text_unwritten : (files : List (List ℕ)) (old : Option (List ℕ)) (failed : Bool) (fault : RunFault) → failed ≡ false → IsTakingCaused files fault → IsTextOutcome files old old failed (Err fault)
 text_unwritten files old failed fault working h = inl (h, (working, Keeps-refl old))
 
-module _ (files : List (List ℕ)) (kept : OperationSet) (bytes : List ℕ) (old new : Option (List ℕ)) (failed : Bool) (of_files : IsSetOfFiles files kept) (limited : size kept ≤ 1_000_000) (is : bytes ≡ encode_utf8_all (text kept)) where
+module _ (files : List (List ℕ)) (bytes : List ℕ) (old new : Option (List ℕ)) (failed : Bool) (read : IsTextOfFiles files bytes) where
   pub text_written : failed ≡ false → Appends old new bytes → IsTextOutcome files old new failed (Ok tt)
-  text_written working written = (working, record { set = kept; of_files = of_files; limited = limited; written = subst (Appends old new) is written })
+  text_written working written = (working, record { set = read.set; of_files = read.of_files; limited = read.limited; written = subst (Appends old new) read.is written })
 
   pub text_begun : failed ≡ true → AppendsBeginning old new bytes → IsTextOutcome files old new failed (Err run.Device)
-  text_begun failing written = inr (refl, failing, record { set = kept; of_files = of_files; limited = limited; written = subst (AppendsBeginning old new) is written })
+  text_begun failing written = inr (refl, failing, record { set = read.set; of_files = read.of_files; limited = read.limited; written = subst (AppendsBeginning old new) read.is written })

@@ -1,5 +1,5 @@
 -- Numbers that stop at the greatest one of 64 bits.
-use Rattle.std.proofs.Common.{◌≡◌, ◌≤◌, ◌<◌, ◌*◌, ◌-◌, ◌^◌, ℕ, zero, suc, min, max, inl, inr, ap, ◌∙◌, arith}
+use Rattle.std.proofs.Common.{◌≡◌, ◌≤◌, ◌*◌, ◌-◌, ◌^◌, ℕ, zero, suc, min, max, inl, inr, ap, ◌∙◌, arith}
 use Rattle.std.proofs.Math.Nat.{le-mul_of_pos_right}
 use Rattle.std.proofs.lemmas.Bool.Decides.{leb_tells}
 

@@ -1,16 +1,19 @@
 //! One desk that takes the operations of all files.
 
-ghost use Rattle.std.specs.Prelude.{◌≡◌, ◌≤◌, ◌⊎◌, ◌++◌, false, List, map as each, OnOk, IfOk, IfErr};
+ghost use Rattle.std.specs.Prelude.{◌≡◌, ◌≤◌, ◌⊎◌, ◌++◌, [], false, List, None, map as each, OnOk, IfOk, IfErr, length, string_bytes, encode_utf8_all};
 ghost use Rattle.bg_types.specs.OperationSet.{size};
 ghost use Rattle.bg_types.specs.declared.op.OpView.{OpView as Operation};
 ghost use Rattle.desk_replica.specs.SetOf.{IsSetOf};
 ghost use Rattle.desk_replica.specs.Refusal.{IsFirstRefusal};
+ghost use Rattle.rga_tree.specs.TextOf.{text};
 ghost use Rattle.desk_runs.specs.Readers.{IsToldFile, IsUnreadFile, AreWorking, AreTold, EndsOver};
 ghost use Rattle.desk_runs.specs.Files.{IsSetOfFiles};
 ghost use Rattle.desk_runs.specs.Taking.{HasTaken};
 ghost use Rattle.desk_runs.specs.Cause.{IsTakingCaused, step_fault_of};
+ghost use Rattle.desk_runs.specs.CaretsOutcome.{IsTextOfFiles};
+ghost use Rattle.desk_runs.specs.declared.run_fault.RunFault.TheVariants.{Memory as run_memory};
 
-use crate::desks::{Desk, new_desk};
+use crate::desks::{Desk, new_desk, read_text};
 use crate::reading::{LIMIT, PIECE, feed_piece, finish};
 use crate::run_fault::RunFault;
 use bg_types::{Memory, Op, laws as sets};
@@ -20,6 +23,28 @@ use std::alloc::Global;
 
 /// The site of the one desk.
 const SITE: u16 = 1;
+
+/// The text of all operations of the files, which one desk takes in order: at most 4,000,000 bytes.
+pub fn joined_text<R: Source>(alloc: Global, key: u128, files: &mut [R]) -> Result<String, RunFault>
+    requires { AreWorking (each R.has_failed files.old) }
+    ensures ok { IfOk result (λ text. AreTold (each R.remaining files.old) (each R.has_failed files.new)
+        (λ told. IsTextOfFiles told (string_bytes text))) }
+    ensures size { IfOk result (λ text. length (string_bytes text) ≤ 4_000_000) }
+    ensures fault { IfErr result (EndsOver (each R.remaining files.old) (each R.has_failed files.new) IsTakingCaused) }
+{
+    let desk = desk_of(alloc, key, files)?;
+    text_of(&desk)
+}
+
+/// A desk's text, or the fault of a run that lacks memory for it.
+fn text_of(desk: &Desk) -> Result<String, RunFault>
+    ensures value { IfOk result (λ t. string_bytes t ≡ encode_utf8_all (text desk.now.set)) }
+    ensures size { IfOk result (λ t. length (string_bytes t) ≤ 4_000_000) }
+    ensures fault { IfErr result (λ fault. fault ≡ run_memory) }
+{
+    let text = read_text(desk)?;
+    Ok(text)
+}
 
 /// A desk that has taken the operations of the files of all readers, as they come. A refusal is
 /// reported only once all files are read, since a faulty file is reported first.
@@ -31,13 +56,25 @@ pub fn desk_of<R: Source>(alloc: Global, key: u128, files: &mut [R]) -> Result<D
 {
     sets::nothing_held();
     let mut desk = new_desk(alloc, SITE, key);
+    take_files(alloc, files, &mut desk)?;
+    Ok(desk)
+}
+
+/// Lets a desk without operations take those of the files of all readers, as they come.
+fn take_files<R: Source>(alloc: Global, files: &mut [R], desk: &mut Desk) -> Result<(), RunFault>
+    requires working { AreWorking (each R.has_failed files.old) }
+    requires empty { HasTaken [] desk.old.set None }
+    ensures ok { OnOk result (AreTold (each R.remaining files.old) (each R.has_failed files.new) (λ told. IsSetOfFiles told desk.new.set)) }
+    ensures limited { OnOk result (size desk.new.set ≤ 1_000_000) }
+    ensures fault { IfErr result (EndsOver (each R.remaining files.old) (each R.has_failed files.new) IsTakingCaused) }
+{
     let mut refused = None;
     for place in 0..files.len() {
-        take_file(alloc, place + 1, &mut files[place], &mut desk, &mut refused)?;
+        take_file(alloc, place + 1, &mut files[place], desk, &mut refused)?;
     }
     match refused {
         Some(fault) => Err(step_fault(0, 1, fault)),
-        None => Ok(desk),
+        None => Ok(()),
     }
 }
 

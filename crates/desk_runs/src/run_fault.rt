@@ -17,7 +17,7 @@ use ucd_files::UcdFault;
 /// Why a run ended early. Files, frames, lines and desks are counted from 1; frame 0 is a file's
 /// header, and line 0 stands for no schedule. Each prints as in the line on standard error,
 /// without the program's name.
-#[derive(Clone, Copy, Debug, PartialEq, Eq)]
+#[derive(Clone, Copy, PartialEq, Eq)]
 pub enum RunFault {
     /// A data file of Unicode is faulty: the first fault of the first faulty one.
     Tables(UcdFault),
@@ -58,6 +58,13 @@ impl fmt::Display for RunFault {
             RunFault::Memory => write!(f, "memory"),
             RunFault::TooLong(file) => write!(f, "file {file}: TooLong"),
         }
+    }
+}
+
+/// As it prints.
+impl fmt::Debug for RunFault {
+    fn fmt<W: fmt::Write>(&self, f: &mut fmt::Formatter<W>) -> fmt::Result {
+        fmt::Display::fmt(self, f)
     }
 }
 

@@ -4,7 +4,7 @@ ghost use Rattle.std.specs.Prelude.{◌≡◌};
 ghost use Rattle.desk_runs.specs.Fault.{schedule_code};
 
 /// What is wrong with a line of a schedule. Each prints its bare name.
-#[derive(Clone, Copy, Debug, PartialEq, Eq, Hash, thiserror::Error)]
+#[derive(Clone, Copy, Debug, PartialEq, Eq, thiserror::Error)]
 pub enum ScheduleFault {
     /// The first word is none of `take`, `merge` and `show`.
     #[error("UnknownStep")]

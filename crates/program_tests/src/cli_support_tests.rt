@@ -3,67 +3,73 @@
 use bg_types::{Device, Out, Stops};
 use clap::{Arg, ArgAction, Command};
 use cli_support::*;
-use std::alloc::Global;
+use std::alloc::{AllocError, Global};
 use std::env::FillError;
 use std::io::{self, ErrorKind, Read};
 use std::rt::Env;
 use std::test::Fail;
 
-/// What a program with one option `--at` is stopped by.
-fn stop_at(alloc: Global, words: &[&str]) -> Result<Stop, Fail> {
+/// A program with one option `--at`.
+fn named<'a>(alloc: Global) -> Result<Command<'a>, AllocError> {
     let at = Arg::new(alloc, "AT").long("at").action(ArgAction::Set);
-    let command = Command::new(alloc, "named").arg(at)?;
-    match command.try_get_matches_from(words) {
+    Command::new(alloc, "named").arg(at)
+}
+
+/// What stops the program at these words: lack of memory, where it has no words.
+fn stop_at(alloc: Global, words: &[&str]) -> Result<Stop, Fail> {
+    if words.is_empty() {
+        return Ok(Stop::Memory);
+    }
+    match named(alloc)?.try_get_matches_from(words) {
         Ok(_matches) => Err(Fail::from("nothing stops it")),
         Err(error) => Ok(Stop::of(alloc, &error)),
     }
 }
 
+/// The status of a run that is stopped at these words and may write this many bytes, with what it
+/// writes to standard output and to standard error.
+fn ended(alloc: Global, words: &[&str], left: usize) -> Result<(u8, Vec<u8>, Vec<u8>), Fail> {
+    let stop = stop_at(alloc, words)?;
+    let mut written = Vec::new(alloc);
+    let mut told = Vec::new(alloc);
+    let mut out = Stops::new(Out::new(&mut written), 7, left);
+    let status = end("named", &stop, &mut out, &mut Out::new(&mut told));
+    Ok((status, written, told))
+}
+
 #[test]
 fn help_and_usage_end_a_run(rt: HostRuntime) -> Result<(), Fail> {
-    let cases: [(Stop, usize, u8, &str, &str); 5] = [
+    let rows: [(&[&str], usize, u8, &str, &str); 5] = [
         (
-            stop_at(rt.alloc(), &["named", "--help"])?,
+            &["named", "--help"],
             10_000,
             0,
             "Usage: named [OPTIONS]",
             "",
         ),
+        (&["named", "--help"], 10, 3, "Usage: nam", "named: device\n"),
         (
-            stop_at(rt.alloc(), &["named", "--help"])?,
-            10,
-            3,
-            "Usage: nam",
-            "named: device\n",
-        ),
-        (
-            stop_at(rt.alloc(), &["named", "--to", "3"])?,
+            &["named", "--to", "3"],
             0,
             2,
             "",
             "error: unexpected argument '--to' found",
         ),
         (
-            stop_at(rt.alloc(), &["named", "--at"])?,
+            &["named", "--at"],
             0,
             2,
             "",
             "error: a value is required for '--at <AT>'",
         ),
-        (Stop::Memory, 0, 3, "", "named: memory\n"),
+        (&[], 0, 3, "", "named: memory\n"),
     ];
-    for (stop, left, status, output, error) in cases {
-        let mut written = Vec::new(rt.alloc());
-        let mut told = Vec::new(rt.alloc());
-        let mut out = Stops::new(Out::new(&mut written), 7, left);
-        let came = end("named", &stop, &mut out, &mut Out::new(&mut told));
-        assert_eq!(rt; came, status, "{stop:?}");
-        assert!(rt;
-            written.starts_with(output.as_bytes()),
-            "{stop:?}: {written:?}"
-        );
-        assert!(rt; told.starts_with(error.as_bytes()), "{stop:?}: {told:?}");
-        assert_eq!(rt; told.is_empty(), error.is_empty(), "{stop:?}");
+    for (words, left, status, output, error) in rows {
+        let (came, written, told) = ended(rt.alloc(), words, left)?;
+        assert_eq!(rt; came, status, "{words:?}");
+        assert!(rt; written.starts_with(output.as_bytes()), "{words:?}");
+        assert!(rt; told.starts_with(error.as_bytes()), "{words:?}");
+        assert_eq!(rt; told.is_empty(), error.is_empty(), "{words:?}");
     }
     Ok(())
 }
@@ -123,12 +129,11 @@ fn a_reader_is_read_up_to_the_limit(rt: HostRuntime) -> Result<(), Fail> {
     Ok(())
 }
 
-/// The path of the file that can't be read.
-fn path_of<T: Drop>(read: Result<T, Unread>) -> Result<String, Fail> {
+/// Whether the file of this path can't be read.
+fn is_unread<T>(read: &Result<T, Unread>, path: &str) -> bool {
     match read {
-        Err(Unread::ReadFailed(path)) => Ok(path),
-        Err(Unread::Memory) => Err(Fail::from("memory")),
-        Ok(_) => Err(Fail::from("read")),
+        Err(Unread::ReadFailed(named)) => named.as_str() == path,
+        _ => false,
     }
 }
 
@@ -137,12 +142,12 @@ fn a_file_that_cannot_be_read_is_named(rt: HostRuntime) -> Result<(), Fail> {
     let file = read(&rt, "/dev/null").map_err(|_| Fail::from("unread"))?;
     assert!(rt; file.is_empty());
     assert!(rt; open(&rt, "/dev/zero").is_ok());
-    assert_eq!(rt; path_of(open(&rt, "/nowhere/a"))?.as_str(), "/nowhere/a");
+    assert!(rt; is_unread(&open(&rt, "/nowhere/a"), "/nowhere/a"));
     // A folder opens but can't be read; this device gives bytes without end.
-    assert_eq!(rt; path_of(read(&rt, "/dev"))?.as_str(), "/dev");
-    assert_eq!(rt; path_of(read(&rt, "/dev/zero"))?.as_str(), "/dev/zero");
-    let first = path_of(read_data(&rt, "/nowhere"))?;
-    assert_eq!(rt; first.as_str(), "/nowhere/DerivedBidiClass.txt");
+    assert!(rt; is_unread(&read(&rt, "/dev"), "/dev"));
+    assert!(rt; is_unread(&read(&rt, "/dev/zero"), "/dev/zero"));
+    let first = "/nowhere/DerivedBidiClass.txt";
+    assert!(rt; is_unread(&read_data(&rt, "/nowhere"), first));
     Ok(())
 }
 

@@ -4,11 +4,12 @@
 
 mod key;
 
-ghost use Rattle.std.specs.Prelude.{◌≡◌, false};
+ghost use Rattle.std.specs.Prelude.{◌≡◌, false, length, map as each, vec_len};
+ghost use Rattle.desk_runs.specs.Readers.{AreWorking};
 
 use bg_types::{Device, Out, Sink};
 pub use cli_support::Stop;
-use cli_support::{LIMIT, Unread, end, flush, read, read_data, read_whole, tell};
+use cli_support::{Data, LIMIT, Unread, end, flush, read, read_data, read_whole, tell};
 pub use command_line::{Job, Replay, Typing, Walk, job, report};
 use command_line::{PROGRAM, folder_of, open_all, path_of};
 pub use desk_runs::{
@@ -17,6 +18,7 @@ pub use desk_runs::{
 };
 pub use desk_typing::{Change, TypingFault, typed};
 use key::draw_key;
+use op_codec::Source;
 pub use op_listing::{LineFault, dump, migrate, pack};
 use std::alloc::Global;
 use std::io::{self, BufWriter, ErrorKind, Write};
@@ -54,69 +56,102 @@ fn run_text(rt: &HostRuntime, paths: &[&str]) -> ExitCode {
 }
 
 fn run_replay(rt: &HostRuntime, job: &Replay) -> ExitCode {
-    let folder = match folder_of(rt, job.folder) {
-        Ok(folder) => folder,
-        Err(stop) => return stop_at(rt, &stop),
-    };
-    let data = match read_data(rt, folder.as_str()) {
-        Ok(data) => data,
-        Err(unread) => return lose(rt, &unread),
-    };
+    match data_of(rt, job.folder) {
+        Ok(data) => replay_files(rt, job, &data.ucd(job.wide_ambiguous)),
+        Err(status) => status,
+    }
+}
+
+fn replay_files(rt: &HostRuntime, job: &Replay, ucd: &Ucd) -> ExitCode {
     let mut files = match open_all(rt, job.files.as_slice()) {
         Ok(files) => files,
         Err(unread) => return lose(rt, &unread),
     };
-    let schedule = match job.schedule {
-        Some(path) => match read_one(rt, path) {
-            Ok(bytes) => Some(bytes),
-            Err(unread) => return lose(rt, &unread),
-        },
-        None => None,
+    let schedule = match schedule_of(rt, job.schedule) {
+        Ok(schedule) => schedule,
+        Err(unread) => return lose(rt, &unread),
     };
+    replay_over(rt, job, ucd, &mut files, schedule.as_deref())
+}
+
+fn replay_over<R: Source>(
+    rt: &HostRuntime,
+    job: &Replay,
+    ucd: &Ucd,
+    files: &mut [R],
+    schedule: Option<&[u8]>,
+) -> ExitCode
+    requires count { length files.old ≡ vec_len job.now.files }
+    requires working { AreWorking (each R.has_failed files.old) }
+{
     let Ok(mut buffered) = BufWriter::new(rt.alloc(), io::writer(rt)) else {
         return refuse(rt, &RunFault::Memory, "");
     };
     let done = replay_from(
         rt.alloc(),
         draw_key(rt),
-        &data.ucd(job.wide_ambiguous),
+        ucd,
         job.width,
         job.base,
-        &mut files,
-        schedule.as_deref(),
+        files,
+        schedule,
         &mut Out::new(&mut buffered),
     );
     finish(rt, done, job.files.as_slice(), &mut buffered)
 }
 
 fn run_caret(rt: &HostRuntime, job: &Walk) -> ExitCode {
-    let folder = match folder_of(rt, job.folder) {
-        Ok(folder) => folder,
-        Err(stop) => return stop_at(rt, &stop),
-    };
-    let data = match read_data(rt, folder.as_str()) {
-        Ok(data) => data,
-        Err(unread) => return lose(rt, &unread),
-    };
-    let mut files = match open_all(rt, job.files.as_slice()) {
-        Ok(files) => files,
-        Err(unread) => return lose(rt, &unread),
-    };
+    match data_of(rt, job.folder) {
+        Ok(data) => walk_files(rt, job, &data.ucd(job.wide_ambiguous)),
+        Err(status) => status,
+    }
+}
+
+fn walk_files(rt: &HostRuntime, job: &Walk, ucd: &Ucd) -> ExitCode {
+    match open_all(rt, job.files.as_slice()) {
+        Ok(mut files) => walk_over(rt, job, ucd, &mut files),
+        Err(unread) => lose(rt, &unread),
+    }
+}
+
+fn walk_over<R: Source>(rt: &HostRuntime, job: &Walk, ucd: &Ucd, files: &mut [R]) -> ExitCode
+    requires { AreWorking (each R.has_failed files.old) }
+{
     let Ok(mut buffered) = BufWriter::new(rt.alloc(), io::writer(rt)) else {
         return refuse(rt, &RunFault::Memory, "");
     };
     let done = carets_from(
         rt.alloc(),
         draw_key(rt),
-        &data.ucd(job.wide_ambiguous),
+        ucd,
         job.width,
         job.base,
-        &mut files,
+        files,
         job.place,
         job.moves.as_slice(),
         &mut Out::new(&mut buffered),
     );
     finish(rt, done, job.files.as_slice(), &mut buffered)
+}
+
+/// The data files of the folder that is asked for, or the status of a run that ends without them.
+fn data_of(rt: &HostRuntime, folder: Option<&str>) -> Result<Data, ExitCode> {
+    let folder = match folder_of(rt, folder) {
+        Ok(folder) => folder,
+        Err(stop) => return Err(stop_at(rt, &stop)),
+    };
+    match read_data(rt, folder.as_str()) {
+        Ok(data) => Ok(data),
+        Err(unread) => Err(lose(rt, &unread)),
+    }
+}
+
+/// The bytes of the schedule, if there is one.
+fn schedule_of(rt: &HostRuntime, path: Option<&str>) -> Result<Option<Vec<u8>>, Unread> {
+    match path {
+        Some(path) => Ok(Some(read_one(rt, path)?)),
+        None => Ok(None),
+    }
 }
 
 fn run_type(rt: &HostRuntime, job: &Typing) -> ExitCode {

@@ -8,13 +8,12 @@ ghost use Rattle.cell_grid.specs.Grids.{grid_of};
 ghost use Rattle.caret.specs.Gaps.{IsCaretOf};
 ghost use Rattle.desk_runs.specs.Files.{bytes_of};
 ghost use Rattle.desk_runs.specs.Readers.{AreWorking, AreTold, EndsOver};
-ghost use Rattle.desk_runs.specs.Cause.{IsTakingCaused, IsUnwalked};
+ghost use Rattle.desk_runs.specs.Cause.{IsUnwalked};
 ghost use Rattle.desk_runs.specs.Carets.{moved, walk, caret_line, walk_lines};
-ghost use Rattle.desk_runs.specs.CaretsOutcome.{asked, IsTextOfFiles, IsWalked, IsWalkCaused, IsCaretsOutcome, IsCaretsOutcomeOver};
+ghost use Rattle.desk_runs.specs.CaretsOutcome.{asked, IsWalked, IsWalkCaused, IsCaretsOutcome, IsCaretsOutcomeOver};
 
-use crate::desks::read_text;
 use crate::in_memory::readers_of;
-use crate::one_desk::desk_of;
+use crate::one_desk::joined_text;
 use crate::reading::load;
 use crate::run_fault::RunFault;
 use bg_types::{Base, Memory, Sink, put_all};
@@ -119,19 +118,6 @@ fn read_and_walk<R: Source>(
     let tables = load(alloc, ucd)?;
     let text = joined_text(alloc, key, files)?;
     lines_over(alloc, &tables, width, base, text.as_str(), place, moves)
-}
-
-/// The text of all operations of the files, which one desk takes in order: at most 4,000,000 bytes.
-fn joined_text<R: Source>(alloc: Global, key: u128, files: &mut [R]) -> Result<String, RunFault>
-    requires { AreWorking (each R.has_failed files.old) }
-    ensures ok { IfOk result (λ text. AreTold (each R.remaining files.old) (each R.has_failed files.new)
-        (λ told. IsTextOfFiles told (string_bytes text))) }
-    ensures size { IfOk result (λ text. length (string_bytes text) ≤ 4_000_000) }
-    ensures fault { IfErr result (EndsOver (each R.remaining files.old) (each R.has_failed files.new) IsTakingCaused) }
-{
-    let desk = desk_of(alloc, key, files)?;
-    let text = read_text(&desk)?;
-    Ok(text)
 }
 
 /// The lines of a walk over the grid of a text of at most 4,000,000 bytes.

@@ -6,7 +6,7 @@ ghost use Rattle.desk_runs.specs.Readers.{AreWorking};
 ghost use Rattle.desk_runs.specs.TextOutcome.{IsTextOutcome, IsTextOutcomeOver};
 
 use crate::in_memory::readers_of;
-use crate::one_desk::desk_of;
+use crate::one_desk::joined_text;
 use crate::run_fault::RunFault;
 use bg_types::{Sink, put_all};
 use op_codec::Source;
@@ -43,8 +43,7 @@ pub fn text_from<R: Source, S: Sink>(
     ensures { IsTextOutcomeOver (each R.remaining files.old) (each R.has_failed files.new)
         (S.written out.old) (S.written out.new) (S.has_failed out.new) result }
 {
-    let desk = desk_of(alloc, key, files)?;
-    let read = desk.text()?;
+    let read = joined_text(alloc, key, files)?;
     put_all(out, read.as_bytes())?;
     Ok(())
 }

@@ -1,7 +1,7 @@
 //! The steps of a run.
 
 /// A step of a run. Desks, files and the operations of a file are counted from 1.
-#[derive(Clone, Copy, Debug, PartialEq, Eq)]
+#[derive(Clone, Copy)]
 pub enum Step {
     /// The desk takes an operation of a file.
     Take { desk: usize, file: usize, op: usize },
@@ -12,7 +12,7 @@ pub enum Step {
 }
 
 /// A step with the number of its line in the schedule, or 0 where there is no schedule.
-#[derive(Clone, Copy, Debug, PartialEq, Eq)]
+#[derive(Clone, Copy)]
 pub struct Numbered {
     pub line: usize,
     pub step: Step,

@@ -1,9 +1,9 @@
 //! A run without a schedule.
 
-ghost use Rattle.std.specs.Prelude.{◌≡◌, ◌≤◌, false, length};
+ghost use Rattle.std.specs.Prelude.{◌≡◌, ◌≤◌, ◌<◌, ◌^◌, false, length};
 ghost use Rattle.desk_replica.specs.DeskSets.{sets_of};
 ghost use Rattle.desk_runs.specs.Setting.{print_in, files_in};
-ghost use Rattle.desk_runs.specs.Round.{file_takes, files_takes, turn, all_takes, all_shows, round};
+ghost use Rattle.desk_runs.specs.Round.{file_takes, files_takes, nth_turn, turn, all_takes, all_shows, round};
 ghost use Rattle.desk_runs.specs.Shows.{IsStepsOutcome};
 
 use super::setting::Setting;
@@ -72,16 +72,23 @@ fn take_files<S: Sink>(
 {
     let count = setting.files.len();
     for behind in 0..count {
-        take_file(
-            setting,
-            view,
-            desks,
-            desk,
-            (desk - 1 + behind) % count + 1,
-            out,
-        )?;
+        let file = nth_turn(count, desk, behind);
+        take_file(setting, view, desks, desk, file, out)?;
     }
     Ok(())
+}
+
+/// Of this many files the one so far after that of the desk's own number, wrapping round.
+fn nth_turn(count: usize, desk: usize, behind: usize) -> usize
+    requires first { 1 ≤ desk }
+    requires desk { desk ≤ count }
+    requires behind { behind < count }
+    requires few { count < 2 ^ 63 }
+    ensures turn { result ≡ nth_turn count desk behind }
+    ensures at_least { 1 ≤ result }
+    ensures at_most { result ≤ count }
+{
+    (desk - 1 + behind) % count + 1
 }
 
 /// A desk takes all operations of a file, in order.

@@ -1,11 +1,11 @@
 -- The goals of `room` that are answered by hand.
-use Rattle.std.proofs.Common.{◌≡◌, ◌+◌, ◌*◌, ◌-◌, ◌^◌, ℕ, List, length, get_or, take, max, min, sym, ap, ◌∙◌, arith}
+use Rattle.std.proofs.Common.{◌≡◌, ◌+◌, ◌*◌, ◌-◌, ◌^◌, ℕ, List, length, get_or, max, min, ap, ◌∙◌, arith}
 use Rattle.std.specs.Prelude.{sum_by}
 use Rattle.std.specs.Global.{Vec}
 use Rattle.std.proofs.lemmas.List.{take_all}
 use Rattle.std.proofs.lemmas.List.Sums.{sum_by_more}
 use Rattle.bg_types.specs.declared.op.OpView.{OpView}
-use Rattle.desk_runs.specs.Room.{separators, room_in}
+use Rattle.desk_runs.specs.Room.{separators}
 use Rattle.desk_runs.proofs.Rooms.{stopped_product}
 use Rattle.desk_runs.proofs.engine.replay.room.room.Goals as goal
 

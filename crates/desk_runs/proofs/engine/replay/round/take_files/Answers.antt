@@ -1,5 +1,5 @@
 -- The goals of `take_files` that are answered by hand.
-use Rattle.std.proofs.Common.{◌≡◌, ◌+◌, ◌<◌, ℕ, List, length, sym, subst, arith, Ok, Err, ◌∙◌}
+use Rattle.std.proofs.Common.{◌≡◌, ◌+◌, ◌<◌, ℕ, List, length, sym, ap, subst, arith, Ok, Err, ◌∙◌}
 use Rattle.std.specs.Global.{Vec}
 use Rattle.std.specs.List.{flat_map, range_with_len}
 use Rattle.std.proofs.lemmas.List.{length-map}
@@ -28,7 +28,8 @@ loop-behind-preserved g c =
     let number : c.loop-behind.behind ≡ 0 + c.loop-behind.behind = omega arith in
     let next : (c.loop-behind.behind + 1) ≡ c.loop-behind.behind + 1 = omega arith in
     let many = length-map c.args.setting.now.files.now (λ (f : Vec OpView). f.items) in
-    let done = subst (λ k. IsStepsOutcome print files mid (file_takes files c.args.desk (nth_turn k c.args.desk c.loop-behind.behind)) after now new failed (Ok c.in_ok-take_file.field-0)) (sym many) c.in_ok-take_file.ensures.outcome in
+    let file = c.nth_turn-file.ensures.turn ∙ ap (λ k. nth_turn k c.args.desk c.loop-behind.behind) (sym many) in
+    let done = subst (λ file. IsStepsOutcome print files mid (file_takes files c.args.desk file) after now new failed (Ok c.in_ok-take_file.field-0)) file c.in_ok-take_file.ensures.outcome in
     record {
       done = piece_done print files sets pieces 0 c.loop-behind.behind mid old now before c.loop-behind.invariant.done c.loop-behind.behind number (c.loop-behind.behind + 1) after new failed c.in_ok-take_file.field-0 next done;
       tables = c.in_ok-take_file.ensures.tables ∙ c.loop-behind.invariant.tables;
@@ -52,7 +53,8 @@ returns-in_err-take_file-clause-outcome g c =
     let n : ℕ = length files in
     let whole : flat_map pieces (range_with_len 0 n) ≡ files_takes files c.args.desk (turn (length files) c.args.desk) = sym (flat-each (file_takes files c.args.desk) (nth_turn n c.args.desk) (range_with_len 0 n)) in
     let within : c.loop-behind.behind < n = let test = c.loop-behind-test.true in omega (arith, test, many) in
-    let stopped = subst (λ k. IsStepsOutcome print files mid (file_takes files c.args.desk (nth_turn k c.args.desk c.loop-behind.behind)) after now new failed (Err c.in_err-take_file.field-0.0)) (sym many) c.in_err-take_file.ensures.outcome in
+    let file = c.nth_turn-file.ensures.turn ∙ ap (λ k. nth_turn k c.args.desk c.loop-behind.behind) (sym many) in
+    let stopped = subst (λ file. IsStepsOutcome print files mid (file_takes files c.args.desk file) after now new failed (Err c.in_err-take_file.field-0.0)) file c.in_err-take_file.ensures.outcome in
     piece_stopped print files sets pieces 0 c.loop-behind.behind mid old now before c.loop-behind.invariant.done c.loop-behind.behind number n (files_takes files c.args.desk (turn (length files) c.args.desk)) after after new failed c.from_residual.result c.in_err-take_file.field-0.0 within whole
     c.from_residual.ensures.1 stopped
 
@@ -71,3 +73,6 @@ returns-clause-outcome g c =
     let whole : flat_map pieces (range_with_len 0 n) ≡ files_takes files c.args.desk (turn (length files) c.args.desk) = sym (flat-each (file_takes files c.args.desk) (nth_turn n c.args.desk) (range_with_len 0 n)) in
     let all : c.loop-behind.behind ≡ n = let test = c.loop-behind-test.false in let end = c.loop-behind.auto.behind-end in omega (arith, test, end, many) in
     pieces_done print files sets pieces 0 c.loop-behind.behind mid old now before c.loop-behind.invariant.done n (files_takes files c.args.desk (turn (length files) c.args.desk)) all whole
+
+pub returns-in_err-take_file-clause-tables : goal.returns-in_err-take_file-clause-tables
+returns-in_err-take_file-clause-tables g c = c.in_err-take_file.ensures.tables ∙ c.loop-behind.invariant.tables ∙ sym c.requires.tables

@@ -1,10 +1,10 @@
--- What stays true in the loop of `desk_of`.
+-- What stays true in the loop of `take_files`.
 use Rattle.std.proofs.Common.{List}
 use Rattle.bg_types.specs.declared.op.OpView.{OpView}
 use Rattle.desk_runs.specs.Files.{joined}
 use Rattle.desk_runs.specs.Taking.{HasTaken}
 use Rattle.desk_runs.proofs.Readings.{ReadTo}
-use Rattle.desk_runs.proofs.one_desk.desk_of.Given as goal
+use Rattle.desk_runs.proofs.one_desk.take_files.Given as goal
 
 abbrev pub invariant-loop-place : goal.invariant-loop-place
 invariant-loop-place g l = record {
