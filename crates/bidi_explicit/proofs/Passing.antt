@@ -1,14 +1,19 @@
 -- One pass of the flat rules gives the levels of the tree.
-use Rattle.std.proofs.Common.{ℕ, zero, suc, ◌≡◌, ◌+◌, ◌<◌, ◌≤◌, ◌==◌, ap, sym, ◌∙◌, List, [], ◌∷◌, ◌++◌, length, get_or, drop, drop-cons, append_assoc, append-nil, Option, Bool, true, false, arith, if◌then◌else◌}
+use Rattle.std.proofs.Common.{ℕ, zero, suc, ◌≡◌, ◌+◌, ◌<◌, ◌≤◌, ◌==◌, refl, ap, sym, ◌∙◌, List, [], ◌∷◌, ◌++◌, length, get_or, drop, drop-cons, append_assoc, append-nil, Option, Bool, true, false, arith, if◌then◌else◌}
 use Rattle.std.proofs.lemmas.List.{drop_all}
+use Rattle.std.proofs.lemmas.Bool.{false≢true}
 use Rattle.bg_types.specs.declared.class.Bidi.{Bidi}
+use Rattle.bg_types.specs.declared.class.Bidi.TheVariants.{Rle, Lre, Rlo, Lro, Pdf, Bn, B, Lri, Rli, Fsi, Pdi}
+use Rattle.paragraphs.specs.Classes.{is_removed, is_isolate_control, is_separator}
+use Rattle.bidi_explicit.specs.declared.kind.Direction.{Direction}
 use Rattle.bidi_explicit.specs.declared.controls.Control.{Control}
 use Rattle.bidi_explicit.specs.declared.kind.Kind.{Kind}
 use Rattle.bidi_explicit.specs.declared.kind.Kind.TheVariants.{Embedding, Initiator, PopIsolate, PopEmbedding, Other}
 use Rattle.bidi_explicit.specs.declared.kind.Entry.{Entry}
 use Rattle.bidi_explicit.specs.declared.kept.Kept.{Kept}
 use Rattle.bidi_explicit.specs.Nesting.{nest, base}
-use Rattle.bidi_explicit.specs.Levels.{kind, place_of, fits, next_level, explicit_places}
+use Rattle.bidi_explicit.specs.Levels.{kind, place_of, kept_under, fits, next_level, explicit_places}
+use Rattle.bidi_explicit.specs.Uniform.{is_apart}
 use Rattle.bidi_explicit.specs.Flat.{Machine, advance, seen, run, tokens, content, initial, top}
 use Rattle.bidi_explicit.specs.Controls.{controls_from}
 use Rattle.bidi_explicit.proofs.Matching.{get_or-controls}
@@ -91,3 +96,47 @@ module _ (p : ℕ) (cs : List Bidi) (i : ℕ) (m : Machine) (done : List (Option
         overflow = (let a = s.overflow in let b = near.overflow in omega arith);
         valid = (let a = s.valid in let b = near.valid in omega arith);
       }
+
+-- a class that takes the top's direction does nothing
+apart-no-other : (b : Bool) (c : Bidi) → is_apart c ≡ false → kind b c ≡ Other
+unfolding is_removed is_isolate_control is_separator
+apart-no-other b Rle h = absurd (false≢true (sym h))
+apart-no-other b Lre h = absurd (false≢true (sym h))
+apart-no-other b Rlo h = absurd (false≢true (sym h))
+apart-no-other b Lro h = absurd (false≢true (sym h))
+apart-no-other b Pdf h = absurd (false≢true (sym h))
+apart-no-other b Lri h = absurd (false≢true (sym h))
+apart-no-other b Rli h = absurd (false≢true (sym h))
+apart-no-other b Fsi h = absurd (false≢true (sym h))
+apart-no-other b Pdi h = absurd (false≢true (sym h))
+apart-no-other b c h = refl
+
+apart-no-place : (p : ℕ) (d : Direction) (c : Bidi) → is_apart c ≡ false → place_of p d c ≡ kept_under d c
+unfolding is_removed is_isolate_control is_separator
+apart-no-place p d Rle h = absurd (false≢true (sym h))
+apart-no-place p d Lre h = absurd (false≢true (sym h))
+apart-no-place p d Rlo h = absurd (false≢true (sym h))
+apart-no-place p d Lro h = absurd (false≢true (sym h))
+apart-no-place p d Pdf h = absurd (false≢true (sym h))
+apart-no-place p d Bn h = absurd (false≢true (sym h))
+apart-no-place p d B h = absurd (false≢true (sym h))
+apart-no-place p d c h = refl
+
+pub IsPassedTo-plain : (p : ℕ) (cs : List Bidi) (i : ℕ) (m : Machine) (done : List (Option Kept)) → IsPassedTo p cs i m done → i < length cs
+    → (d : Bidi) (t : Direction) → t ≡ top m.stack → is_apart (get_or cs i d) ≡ false
+    → IsPassedTo p cs (suc i) m (done ++ kept_under t (get_or cs i d) ∷ [])
+IsPassedTo-plain p cs i m done s inside d t is apart =
+    let c = get_or cs i d in
+    let b = base (content (nest (drop (suc i) cs))) == 1 in
+    let rest = run p m (tokens (drop (suc i) cs)) in
+    record {
+      so_far = append_assoc done (kept_under t c ∷ []) rest
+          ∙ ap (λ t. done ++ kept_under t c ∷ rest) is
+          ∙ ap (λ y. done ++ y ∷ rest) (sym (apart-no-place p (top m.stack) c apart))
+          ∙ ap (λ k. done ++ place_of p (top (seen k m).stack) c ∷ run p (advance k m) (tokens (drop (suc i) cs))) (sym (apart-no-other b c apart))
+          ∙ ap (λ ds. done ++ run p m (tokens ds)) (sym (drop-cons cs i d inside))
+          ∙ s.so_far;
+      embeddings = (let a = s.embeddings in omega arith);
+      overflow = (let a = s.overflow in omega arith);
+      valid = (let a = s.valid in omega arith);
+    }

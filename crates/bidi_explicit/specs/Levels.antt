@@ -32,12 +32,16 @@ abbrev pub overridden : Option Bidi → Bidi → Bidi
 overridden None c = c
 overridden (Some d) c = d
 
+-- a place of class c that takes a direction
+abbrev pub kept_under : Direction → Bidi → Option Kept
+kept_under d c = Some (record { level = d.level; class = overridden d.forced c })
+
 -- a place of class c under a direction, in a paragraph of level p
 abbrev pub place_of : ℕ → Direction → Bidi → Option Kept
 place_of p d c =
     if is_removed c then None
     else (if is_separator c then Some (record { level = p; class = c })
-    else Some (record { level = d.level; class = overridden d.forced c }))
+    else kept_under d c)
 
 -- a list's own open embeddings, the innermost first, and how many of its embeddings overflowed
 pub record Open : Type 0 where

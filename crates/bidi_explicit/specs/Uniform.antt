@@ -1,7 +1,7 @@
 -- A paragraph without controls: each place is kept at the paragraph's level (UAX #9, X6), and all of them are one sequence (X10).
 use Rattle.std.specs.Prelude.{ℕ, zero, suc, ◌≡◌, ◌==◌, ◌||◌, Bool, false, if◌then◌else◌, List, [], ◌∷◌, Option, Some}
 use Rattle.bg_types.specs.declared.class.Bidi.{Bidi}
-use Rattle.paragraphs.specs.Classes.{is_removed, is_isolate_control}
+use Rattle.paragraphs.specs.Classes.{is_removed, is_isolate_control, is_separator}
 use Rattle.bidi_explicit.specs.declared.embedded.Extent.{Extent}
 use Rattle.bidi_explicit.specs.declared.kept.Kept.{Kept}
 use Rattle.bidi_explicit.specs.Sequences.{RunSequence, below, direction_between}
@@ -12,6 +12,10 @@ is_control c = is_removed c || is_isolate_control c
 
 abbrev pub IsNoControl : Bidi → Type 0
 IsNoControl c = is_control c ≡ false
+
+-- a class that X1 to X9 do not simply give the direction of the stack's last entry
+abbrev pub is_apart : Bidi → Bool
+is_apart c = is_control c || is_separator c
 
 -- a place of this class, kept at a level
 abbrev pub kept_at_level : ℕ → Bidi → Option Kept

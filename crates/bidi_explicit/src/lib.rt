@@ -16,4 +16,4 @@ mod uniform;
 pub use embedded::{Embedded, Sequence};
 pub use kept::Kept;
 pub use level::paragraph_level;
-pub use paragraph::explicit;
+pub use paragraph::{explicit, explicit_at};

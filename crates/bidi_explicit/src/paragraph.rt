@@ -52,6 +52,17 @@ fn embedded_at(alloc: Global, level: u8, classes: &[Bidi]) -> Result<Embedded, M
     }
 }
 
+/// What `explicit` answers for a paragraph of this level, 0 or 1, whose code points have these classes.
+pub fn explicit_at(alloc: Global, level: u8, classes: &[Bidi]) -> Result<Embedded, Memory>
+    requires { level ≤ 1 }
+    ensures embedding { IfOk result (λ e. e ≡ embedding_at level classes.now) }
+    ensures places { IfOk result (λ e. length e.places ≡ length classes.now) }
+    ensures sequence_depth { IfOk result (λ e. All (λ s. s.level ≤ 125) e.sequences) }
+{
+    let embedded = embedded_at(alloc, level, classes)?;
+    Ok(embedded)
+}
+
 /// A paragraph's level, what is kept at each of its places with its level and class (X1 to X9), and its
 /// isolating run sequences (X10).
 pub fn explicit(alloc: Global, tables: &Tables, para: &Para, base: Base) -> Result<Embedded, Memory>

@@ -1,7 +1,8 @@
 //! The explicit level and class of each place (UAX #9, X1 to X9).
 
-ghost use Rattle.std.specs.Prelude.{◌≡◌, ◌≤◌, IfOk};
-ghost use Rattle.bidi_explicit.specs.Levels.{place_of, explicit_places};
+ghost use Rattle.std.specs.Prelude.{◌≡◌, ◌≤◌, IfOk, length};
+ghost use Rattle.bidi_explicit.specs.Levels.{place_of, kept_under, explicit_places};
+ghost use Rattle.bidi_explicit.specs.Uniform.{is_apart};
 ghost use Rattle.bidi_explicit.specs.Controls.{controls_from};
 
 use crate::controls::Control;
@@ -26,7 +27,61 @@ fn place_of(level: u8, direction: Direction, class: Bidi) -> Option<Kept>
     }
 }
 
-/// What is kept at each place of a paragraph of this level, in one pass from its start.
+/// Whether a class does not simply take the direction of the stack's last entry (X6).
+#[inline]
+#[tactic(auto, unfolding(bg_types::specs::Classes::is_removed, bg_types::specs::Classes::is_isolate_control, paragraphs::specs::Classes::is_separator))]
+fn is_apart(class: Bidi) -> bool
+    ensures { result ≡ is_apart class }
+{
+    matches!(
+        class,
+        Bidi::Rle
+            | Bidi::Lre
+            | Bidi::Rlo
+            | Bidi::Lro
+            | Bidi::Pdf
+            | Bidi::Bn
+            | Bidi::Lri
+            | Bidi::Rli
+            | Bidi::Fsi
+            | Bidi::Pdi
+            | Bidi::B
+    )
+}
+
+/// A place of a class that takes a direction.
+#[inline]
+fn kept_under(direction: Direction, class: Bidi) -> Option<Kept>
+    ensures { result ≡ kept_under direction class }
+{
+    Some(Kept {
+        level: direction.level,
+        class: direction.forced.unwrap_or(class),
+    })
+}
+
+/// Puts what is kept at each place of a paragraph of this level, in one pass from its start.
+fn put_places(places: &mut [Option<Kept>], level: u8, classes: &[Bidi], controls: &[Control])
+    requires level { level ≤ 1 }
+    requires long { length places.old ≡ length classes.now }
+    requires matched { controls.now ≡ controls_from 0 classes.now }
+    ensures { places.new ≡ explicit_places level classes.now }
+{
+    let mut stack = LevelStack::new(level);
+    let mut direction = stack.top();
+    for (i, control) in controls.iter().enumerate() {
+        let class = classes[i];
+        if !is_apart(class) {
+            places[i] = kept_under(direction, class);
+            continue;
+        }
+        let taken = stack.advance(control.kind);
+        places[i] = place_of(level, taken, class);
+        direction = stack.top();
+    }
+}
+
+/// What is kept at each place of a paragraph of this level.
 pub(crate) fn places(
     alloc: Global,
     level: u8,
@@ -37,11 +92,7 @@ pub(crate) fn places(
     requires matched { controls.now ≡ controls_from 0 classes.now }
     ensures { IfOk result (λ places. places.items ≡ explicit_places level classes.now) }
 {
-    let mut stack = LevelStack::new(level);
-    let mut places = Vec::with_capacity(alloc, classes.len())?;
-    for (i, control) in controls.iter().enumerate() {
-        let direction = stack.advance(control.kind);
-        places.push(place_of(level, direction, classes[i]))?;
-    }
+    let mut places = vec![in alloc; None; classes.len()]?;
+    put_places(&mut places, level, classes, controls);
     Ok(places)
 }

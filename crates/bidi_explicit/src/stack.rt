@@ -94,7 +94,7 @@ impl LevelStack {
 
     /// The direction of the entry pushed last.
     #[inline]
-    fn top(&self) -> Direction
+    pub(crate) fn top(&self) -> Direction
         ensures { result ≡ top self.now.stack }
     {
         match self.stack.last() {

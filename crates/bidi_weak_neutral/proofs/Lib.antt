@@ -1,6 +1,7 @@
 -- The modules of this crate's proofs.
 pub mod Scan
 pub mod WeakScans
+pub mod WeakPass
 pub mod Runs
 pub mod NeutralScans
 pub mod Filling

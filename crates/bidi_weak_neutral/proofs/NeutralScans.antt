@@ -1,42 +1,95 @@
--- N1 as a scan.
-use Rattle.std.proofs.Common.{ℕ, ◌+◌, ◌<◌, ◌≡◌, refl, ap, sym, ◌∙◌, List, [], ◌++◌, take, drop, set, length, get_or, true, false}
+-- N1, N2, I1 and I2 in one pass.
+use Rattle.std.proofs.Common.{ℕ, ◌+◌, ◌<◌, ◌≡◌, refl, ap, sym, ◌∙◌, List, [], ◌∷◌, map, drop, set, length, get_or, Bool, true, false}
 use Rattle.std.specs.Prelude.{not, ◌&&◌, if◌then◌else◌}
-use Rattle.std.proofs.lemmas.List.{get_or_default}
+use Rattle.std.proofs.lemmas.List.{drop_more}
+use Rattle.std.proofs.lemmas.Bool.{false≢true}
 use Rattle.bg_types.specs.declared.class.Bidi.{Bidi}
 use Rattle.bg_types.specs.declared.class.Bidi.TheVariants.{L}
-use Rattle.bidi_weak_neutral.specs.Classes.{is, is_neutral, direction}
+use Rattle.bidi_weak_neutral.specs.Classes.{is, is_neutral, direction, embedding_direction}
 use Rattle.bidi_weak_neutral.specs.Context.{nearest}
-use Rattle.bidi_weak_neutral.specs.Neutral.{side, n1}
-use Rattle.bidi_weak_neutral.proofs.Runs.{IsRun}
-use Rattle.bidi_weak_neutral.proofs.Scan.{scan, in_context_from-scan, scan-set, scan-keep}
+use Rattle.bidi_weak_neutral.specs.Neutral.{side, n1, n2, implicit_level}
+use Rattle.bidi_weak_neutral.specs.Pass.{neutral_type}
+use Rattle.bidi_weak_neutral.specs.Levels.{levels_at}
+use Rattle.bidi_weak_neutral.proofs.Scan.{scan, in_context_from-scan}
 
 -- the nearest earlier type that isn't neutral
-abbrev pub n1_at : Bidi → Bidi → Bidi → List Bidi → Bidi
+abbrev n1_at : Bidi → Bidi → Bidi → List Bidi → Bidi
 n1_at eos before c after = if is_neutral c && is (direction before) (side eos after) then direction before else c
 
 abbrev pub n1_step : Bidi → Bidi → Bidi
 n1_step before c = if not (is_neutral c) then c else before
 
-pub n1-is : (sos eos : Bidi) (types : List Bidi) → n1 sos eos types ≡ scan (n1_at eos) n1_step sos types
+n1-is : (sos eos : Bidi) (types : List Bidi) → n1 sos eos types ≡ scan (n1_at eos) n1_step sos types
 n1-is sos eos types = in_context_from-scan _ (nearest (λ x. not (is_neutral x)) sos) (n1_at eos) n1_step (λ b x a. refl) (λ b x. refl) [] types
 
-pub n1-step : (eos : Bidi) (types whole : List Bidi) (i end : ℕ) (before y : Bidi) → i < length types → is_neutral (get_or types i L) ≡ true
-    → IsRun (λ x. not (is_neutral x)) eos types (i + 1) end
-    → y ≡ (if is (direction before) (direction (get_or types end eos)) then direction before else get_or types i L)
-    → take i types ++ scan (n1_at eos) n1_step before (drop i types) ≡ whole
-    → take (i + 1) (set types i y) ++ scan (n1_at eos) n1_step before (drop (i + 1) (set types i y)) ≡ whole
-n1-step eos types whole i end before y lt neutral run new so_far =
-    let x = get_or types i L in
-    scan-set (n1_at eos) n1_step before before types whole i x y lt (get_or_default types i L x lt)
-    (new ∙ ap (λ a. if is (direction before) (direction a) then direction before else x) (sym run.ahead)
-    ∙ ap (λ b. if b && is (direction before) (side eos (drop (i + 1) types)) then direction before else x) (sym neutral))
-    (ap (λ b. if not b then x else before) (sym neutral)) so_far
+-- N2
+abbrev n2_at : ℕ → Bidi → Bidi
+n2_at level c = if is_neutral c then embedding_direction level else c
 
-pub n1-kept : (eos : Bidi) (types whole : List Bidi) (i : ℕ) (before : Bidi) → i < length types → is_neutral (get_or types i L) ≡ false
-    → take i types ++ scan (n1_at eos) n1_step before (drop i types) ≡ whole
-    → take (i + 1) types ++ scan (n1_at eos) n1_step (get_or types i L) (drop (i + 1) types) ≡ whole
-n1-kept eos types whole i before lt other so_far =
-    let x = get_or types i L in
-    scan-keep (n1_at eos) n1_step before x types whole i x lt (get_or_default types i L x lt)
-    (ap (λ b. if b && is (direction before) (side eos (drop (i + 1) types)) then direction before else x) (sym other))
-    (ap (λ b. if not b then x else before) (sym other)) so_far
+-- the levels of these types, where `before` is the nearest earlier type that isn't neutral
+abbrev pub levels_from : ℕ → Bidi → Bidi → List Bidi → List ℕ
+levels_from level eos before [] = []
+levels_from level eos before (c ∷ cs) = implicit_level level (n2_at level (n1_at eos before c cs)) ∷ levels_from level eos (n1_step before c) cs
+
+levels-scan : (level : ℕ) (eos before : Bidi) (types : List Bidi)
+    → map (implicit_level level) (n2 level (scan (n1_at eos) n1_step before types)) ≡ levels_from level eos before types
+levels-scan level eos before [] = refl
+levels-scan level eos before (c ∷ cs) =
+    ap (λ t. implicit_level level (n2_at level (n1_at eos before c cs)) ∷ t) (levels-scan level eos (n1_step before c) cs)
+
+pub levels_from-is : (level : ℕ) (sos eos : Bidi) (types : List Bidi)
+    → map (implicit_level level) (n2 level (n1 sos eos types)) ≡ levels_from level eos sos types
+levels_from-is level sos eos types =
+    ap (λ t. map (implicit_level level) (n2 level t)) (n1-is sos eos types) ∙ levels-scan level eos sos types
+
+if-same : (b : Bool) (x y : Bidi) → b ≡ false → (if b then x else y) ≡ y
+if-same b x y e = ap (λ b. if b then x else y) e
+
+-- a neutral has the type of its run
+type-of-neutral : (level : ℕ) (c d : Bidi) (same neutral : Bool) → is_neutral c ≡ true → is_neutral d ≡ neutral
+    → n2_at level (if same then d else c) ≡ (if same && not neutral then d else embedding_direction level)
+type-of-neutral level c d true true n m = ap (λ b. if b then embedding_direction level else d) m
+type-of-neutral level c d true false n m = ap (λ b. if b then embedding_direction level else d) m
+type-of-neutral level c d false neutral n m = ap (λ b. if b then embedding_direction level else c) n
+
+neutral-level : (level : ℕ) (eos before c after : Bidi) (cs : List Bidi) → is_neutral c ≡ true → nearest (λ x. not (is_neutral x)) eos cs ≡ after
+    → levels_from level eos before (c ∷ cs) ≡ implicit_level level (neutral_type level before after) ∷ levels_from level eos before cs
+neutral-level level eos before c after cs neutral ahead =
+    ap (λ b. implicit_level level (n2_at level (if b && is (direction before) (side eos cs) then direction before else c)) ∷ levels_from level eos (if not b then c else before) cs) neutral
+    ∙ ap (λ a. implicit_level level (n2_at level (if is (direction before) (direction a) then direction before else c)) ∷ levels_from level eos before cs) ahead
+    ∙ ap (λ t. implicit_level level t ∷ levels_from level eos before cs)
+    (type-of-neutral level c (direction before) (is (direction before) (direction after)) (is_neutral (direction before)) neutral refl)
+
+other-level : (level : ℕ) (eos before c : Bidi) (cs : List Bidi) → is_neutral c ≡ false
+    → levels_from level eos before (c ∷ cs) ≡ implicit_level level c ∷ levels_from level eos c cs
+other-level level eos before c cs other =
+    ap (λ b. implicit_level level (n2_at level (if b && is (direction before) (side eos cs) then direction before else c)) ∷ levels_from level eos (if not b then c else before) cs) other
+    ∙ ap (λ b. implicit_level level (if b then embedding_direction level else c) ∷ levels_from level eos c cs) other
+
+-- one step of the pass
+module _ (level : ℕ) (eos before : Bidi) (types : List Bidi) (places levels whole : List ℕ) (k : ℕ) (in_types : k < length types) (in_places : k < length places) where
+  put : (v : ℕ) (b : Bidi) → levels_from level eos before (get_or types k L ∷ drop (k + 1) types) ≡ v ∷ levels_from level eos b (drop (k + 1) types)
+      → levels_at levels (drop k places) (levels_from level eos before (drop k types)) ≡ whole
+      → levels_at (set levels (get_or places k 0) v) (drop (k + 1) places) (levels_from level eos b (drop (k + 1) types)) ≡ whole
+  put v b here so_far =
+      sym
+      (ap (λ p. levels_at levels p (levels_from level eos before (drop k types))) (drop_more places k 0 in_places)
+      ∙ ap (λ t. levels_at levels (get_or places k 0 ∷ drop (k + 1) places) (levels_from level eos before t)) (drop_more types k L in_types)
+      ∙ ap (levels_at levels (get_or places k 0 ∷ drop (k + 1) places)) here)
+      ∙ so_far
+
+  pub put-other : (v : ℕ) → is_neutral (get_or types k L) ≡ false → v ≡ implicit_level level (get_or types k L)
+      → levels_at levels (drop k places) (levels_from level eos before (drop k types)) ≡ whole
+      → levels_at (set levels (get_or places k 0) v) (drop (k + 1) places) (levels_from level eos (get_or types k L) (drop (k + 1) types)) ≡ whole
+  put-other v other is =
+      put v (get_or types k L)
+      (other-level level eos before (get_or types k L) (drop (k + 1) types) other ∙ ap (λ v. v ∷ levels_from level eos (get_or types k L) (drop (k + 1) types)) (sym is))
+
+  pub put-neutral : (v : ℕ) (after : Bidi) → is_neutral (get_or types k L) ≡ true → nearest (λ x. not (is_neutral x)) eos (drop (k + 1) types) ≡ after
+      → v ≡ implicit_level level (neutral_type level before after)
+      → levels_at levels (drop k places) (levels_from level eos before (drop k types)) ≡ whole
+      → levels_at (set levels (get_or places k 0) v) (drop (k + 1) places) (levels_from level eos before (drop (k + 1) types)) ≡ whole
+  put-neutral v after neutral ahead is =
+      put v before
+      (neutral-level level eos before (get_or types k L) after (drop (k + 1) types) neutral ahead
+      ∙ ap (λ v. v ∷ levels_from level eos before (drop (k + 1) types)) (sym is))

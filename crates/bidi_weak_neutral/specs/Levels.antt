@@ -28,10 +28,13 @@ types_before places s = map (λ i. type_of (kept_at places i)) s.places
 abbrev pub characters_of : List ℕ → RunSequence → List ℕ
 characters_of points s = map (slice_index points) s.places
 
--- the types of a sequence by its characters and its types before W1: W1 to W7, N0, N1, N2
+-- the types of a sequence by its characters and its types before W1: W1 to W7, N0
+abbrev pub types_after_n0 : TableValues → RunSequence → (characters : List ℕ) → (before : List Bidi) → List Bidi
+types_after_n0 tables s characters before = n0 tables s.level s.sos characters before (weak_types s.sos before)
+
+-- the same after N1 and N2
 abbrev pub types_after : TableValues → RunSequence → (characters : List ℕ) → (before : List Bidi) → List Bidi
-types_after tables s characters before =
-    n2 s.level (n1 s.sos s.eos (n0 tables s.level s.sos characters before (weak_types s.sos before)))
+types_after tables s characters before = n2 s.level (n1 s.sos s.eos (types_after_n0 tables s characters before))
 
 -- the types of a sequence of a paragraph
 abbrev pub types_of_sequence : TableValues → List ℕ → List (Option Kept) → RunSequence → List Bidi

@@ -2,5 +2,6 @@
 pub mod Classes
 pub mod Context
 pub mod Weak
+pub mod Pass
 pub mod Neutral
 pub mod Levels

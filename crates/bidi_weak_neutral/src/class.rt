@@ -3,6 +3,7 @@
 ghost use Rattle.std.specs.Prelude.{◌≡◌, slice_index_or};
 ghost use Rattle.bg_types.specs.Classes.{is_isolate_control};
 ghost use Rattle.bidi_weak_neutral.specs.Classes.{is_strong, is_number, is_neutral, is_plain, direction, embedding_direction};
+ghost use Rattle.bidi_weak_neutral.specs.Pass.{is_weak};
 
 use bg_types::Bidi;
 
@@ -13,6 +14,15 @@ pub(crate) fn is_strong(class: Bidi) -> bool
     ensures { result ≡ is_strong class }
 {
     matches!(class, Bidi::L | Bidi::R | Bidi::Al)
+}
+
+/// Whether W1 to W7 may change a type, or read it beside another.
+#[inline]
+#[tactic(auto, unfolding(crate::specs::Pass::is_weak))]
+pub(crate) fn is_weak(class: Bidi) -> bool
+    ensures { result ≡ is_weak class }
+{
+    matches!(class, Bidi::Nsm | Bidi::En | Bidi::Es | Bidi::Et | Bidi::Cs)
 }
 
 /// Whether a type is that of an isolate initiator or a PDI.

@@ -1,11 +1,13 @@
 //! 3.3.5 and 3.3.6 Resolving Neutral and Isolate Formatting Types, and Implicit Levels: N1, N2, I1, I2.
 
-ghost use Rattle.std.specs.Prelude.{◌≡◌, ℕ, ◌<◌, ◌≤◌, ◌==◌, ◌+◌, ◌%◌, true, not, length, drop, slice_index_or, if◌then◌else◌};
+ghost use Rattle.std.specs.Prelude.{◌≡◌, ℕ, ◌<◌, ◌≤◌, All, true, not, length, map, drop, slice_index_or};
 ghost use Rattle.bg_types.specs.declared.class.Bidi.{Bidi};
 ghost use Rattle.bg_types.specs.declared.class.Bidi.TheVariants.{L};
-ghost use Rattle.bidi_weak_neutral.specs.Classes.{is, is_neutral, embedding_direction};
+ghost use Rattle.bidi_weak_neutral.specs.Classes.{is_neutral};
 ghost use Rattle.bidi_weak_neutral.specs.Context.{nearest};
 ghost use Rattle.bidi_weak_neutral.specs.Neutral.{n1, n2, i1, i2, implicit_level};
+ghost use Rattle.bidi_weak_neutral.specs.Pass.{neutral_type};
+ghost use Rattle.bidi_weak_neutral.specs.Levels.{levels_at};
 
 use crate::class::{direction, embedding_direction, is_neutral, is_number, type_at};
 use bg_types::Bidi;
@@ -25,43 +27,16 @@ fn run_end(types: &[Bidi], start: usize) -> usize
     end
 }
 
-/// The new type of a neutral between two directions.
+/// The type that N1 and N2 give each neutral of a run between two types: the direction of both, or else the embedding direction.
 #[inline]
-fn between(class: Bidi, before: Bidi, after: Bidi) -> Bidi
-    ensures { result ≡ (if is before after then before else class) }
+fn neutral_type(level: u8, before: Bidi, after: Bidi) -> Bidi
+    ensures { result ≡ neutral_type level before after }
 {
-    if before == after { before } else { class }
-}
-
-/// N1: neutrals between two sides of one direction take it.
-pub(crate) fn n1(types: &mut [Bidi], sos: Bidi, eos: Bidi)
-    ensures { types.new ≡ n1 sos eos types.old }
-{
-    let mut before = sos;
-    let mut end = 0;
-    for place in 0..types.len() {
-        let class = types[place];
-        if !is_neutral(class) {
-            before = class;
-            continue;
-        }
-        if end <= place {
-            end = run_end(types, place + 1);
-        }
-        let after = type_at(types, end, eos);
-        types[place] = between(class, direction(before), direction(after));
-    }
-}
-
-/// N2: the neutrals that are left take the embedding direction.
-pub(crate) fn n2(types: &mut [Bidi], level: u8)
-    ensures { types.new ≡ n2 level types.old }
-{
-    let embedding = embedding_direction(level);
-    for class in types.iter_mut() {
-        if is_neutral(*class) {
-            *class = embedding;
-        }
+    let side = direction(before);
+    if side == direction(after) && !is_neutral(side) {
+        side
+    } else {
+        embedding_direction(level)
     }
 }
 
@@ -95,7 +70,7 @@ fn i2(level: u8, class: Bidi) -> u8
 
 /// I1 and I2: the level of a type in a sequence of this level.
 #[inline]
-pub(crate) fn implicit_level(level: u8, class: Bidi) -> u8
+fn implicit_level(level: u8, class: Bidi) -> u8
     requires { level ≤ 125 }
     ensures level { result ≡ implicit_level level class }
     ensures bound { result ≤ 126 }
@@ -104,5 +79,38 @@ pub(crate) fn implicit_level(level: u8, class: Bidi) -> u8
         i2(level, class)
     } else {
         i1(level, class)
+    }
+}
+
+/// Puts the levels of a sequence's types at its places (N1, N2, I1, I2).
+pub(crate) fn put_levels(
+    levels: &mut [u8],
+    places: &[usize],
+    types: &[Bidi],
+    level: u8,
+    sos: Bidi,
+    eos: Bidi,
+)
+    requires places { All (λ i. i < length levels.old) places.now }
+    requires types { length types.now ≡ length places.now }
+    requires level { level ≤ 125 }
+    ensures { levels.new ≡ levels_at levels.old places.now (map (implicit_level level) (n2 level (n1 sos eos types.now))) }
+{
+    let mut before = sos;
+    let mut end = 0;
+    let mut neutral = level;
+    for (k, place) in places.iter().enumerate() {
+        let class = types[k];
+        if !is_neutral(class) {
+            before = class;
+            levels[*place] = implicit_level(level, class);
+            continue;
+        }
+        if end <= k {
+            end = run_end(types, k + 1);
+            let after = type_at(types, end, eos);
+            neutral = implicit_level(level, neutral_type(level, before, after));
+        }
+        levels[*place] = neutral;
     }
 }

@@ -1,15 +1,15 @@
 //! The resolved levels of a paragraph.
 
 ghost use Rattle.std.specs.Prelude.{◌≡◌, ◌<◌, ◌≤◌, IfOk, OnOk, All, Some, None, length, map, replicate, if◌then◌else◌};
+ghost use Rattle.ucd_files.specs.Tables.{bidi_of};
 ghost use Rattle.paragraphs.specs.Text.{code_points};
-ghost use Rattle.bidi_weak_neutral.specs.Neutral.{implicit_level};
-ghost use Rattle.bidi_weak_neutral.specs.Levels.{levels_at, kept_levels, filled_levels, types_of_sequence, put_back, resolved_levels, levels_of, is_plain_text};
+ghost use Rattle.bidi_weak_neutral.specs.Levels.{kept_levels, filled_levels, types_before, characters_of, types_after_n0, put_back, resolved_levels, levels_of, is_plain_text};
 
 use crate::class::is_plain;
-use crate::neutral::implicit_level;
-use crate::sequence::{characters, resolve_types, types_before};
+use crate::neutral::put_levels;
+use crate::sequence::{gather, resolve_types};
 use bg_types::{Base, Bidi, Memory};
-use bidi_explicit::{Embedded, Kept, Sequence, explicit};
+use bidi_explicit::{Embedded, Kept, Sequence, explicit_at, paragraph_level};
 use paragraphs::Para;
 use std::alloc::Global;
 use ucd_files::Tables;
@@ -22,7 +22,7 @@ struct Buffers {
     types: Vec<Bidi>,
 }
 
-/// The types of a sequence of the paragraph after N2, in the buffer of types.
+/// The types of a sequence of the paragraph after N0, in the buffer of types.
 fn resolve_sequence(
     alloc: Global,
     tables: &Tables,
@@ -32,13 +32,20 @@ fn resolve_sequence(
     buffers: &mut Buffers,
 ) -> Result<(), Memory>
     requires { All (λ i. i < length points.now) sequence.now.places }
-    ensures types { OnOk result (buffers.new.types.items ≡ types_of_sequence tables.now points.now places.now sequence.now) }
+    ensures types { OnOk result (buffers.new.types.items ≡ types_after_n0 tables.now sequence.now (characters_of points.now sequence.now) (types_before places.now sequence.now)) }
     ensures one_each { OnOk result (length buffers.new.types.items ≡ length sequence.now.places) }
 {
-    characters(&mut buffers.characters, points, sequence.places())?;
-    types_before(&mut buffers.before, places, sequence.places())?;
-    buffers.types.clear();
-    buffers.types.extend_from_slice(&buffers.before)?;
+    let count = sequence.places().len();
+    buffers.characters.resize(count, ' ')?;
+    buffers.before.resize(count, Bidi::On)?;
+    buffers.types.resize(count, Bidi::On)?;
+    gather(
+        points,
+        places,
+        sequence.places(),
+        &mut buffers.characters,
+        &mut buffers.before,
+    );
     resolve_types(
         alloc,
         tables,
@@ -47,18 +54,6 @@ fn resolve_sequence(
         &buffers.before,
         &mut buffers.types,
     )
-}
-
-/// Puts the levels of a sequence's types at its places (I1, I2).
-fn put_levels(levels: &mut [u8], places: &[usize], level: u8, types: &[Bidi])
-    requires places { All (λ i. i < length levels.old) places.now }
-    requires types { length types.now ≡ length places.now }
-    requires level { level ≤ 125 }
-    ensures { levels.new ≡ levels_at levels.old places.now (map (implicit_level level) types.now) }
-{
-    for (k, place) in places.iter().enumerate() {
-        levels[*place] = implicit_level(level, types[k]);
-    }
 }
 
 /// Gives each removed place the level of the one before it, or else the paragraph level.
@@ -98,7 +93,14 @@ fn put_back(
         let sequence = embedded.sequence(number);
         let places = embedded.places();
         resolve_sequence(alloc, tables, points, places, &sequence, &mut buffers)?;
-        put_levels(levels, sequence.places(), sequence.level(), &buffers.types);
+        put_levels(
+            levels,
+            sequence.places(),
+            &buffers.types,
+            sequence.level(),
+            sequence.sos(),
+            sequence.eos(),
+        );
     }
     Ok(())
 }
@@ -128,6 +130,13 @@ fn code_points_of(alloc: Global, text: &str) -> Result<Vec<char>, Memory>
     Ok(text.chars().collect(alloc)?)
 }
 
+/// The classes of code points.
+fn classes_of(alloc: Global, tables: &Tables, points: &[char]) -> Result<Vec<Bidi>, Memory>
+    ensures { IfOk result (λ classes. classes.items ≡ map (bidi_of tables.now) points.now) }
+{
+    Ok(points.iter().map(|c| tables.bidi(*c)).collect(alloc)?)
+}
+
 /// The resolved levels of any paragraph.
 fn levels_by_sequences(
     alloc: Global,
@@ -139,8 +148,10 @@ fn levels_by_sequences(
     ensures one_each { IfOk result (λ levels. length levels.items ≡ length (code_points para.now.text)) }
     ensures bound { IfOk result (λ levels. All (λ level. level ≤ 126) levels.items) }
 {
-    let embedded = explicit(alloc, tables, para, base)?;
     let points = code_points_of(alloc, para.text())?;
+    let classes = classes_of(alloc, tables, &points)?;
+    let level = paragraph_level(tables, para, base);
+    let embedded = explicit_at(alloc, level, &classes)?;
     let mut levels = vec![in alloc; embedded.level(); points.len()]?;
     resolve_levels(alloc, tables, &points, &embedded, &mut levels)?;
     Ok(levels)

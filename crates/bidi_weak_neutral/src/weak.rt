@@ -1,51 +1,55 @@
-//! 3.3.4 Resolving Weak Types: W1 to W7, each in place.
+//! 3.3.4 Resolving Weak Types: W1 to W7 in one pass.
 
-ghost use Rattle.std.specs.Prelude.{◌≡◌, ℕ, ◌<◌, ◌≤◌, length, true, drop, slice_index_or, ◌||◌, if◌then◌else◌};
-ghost use Rattle.bg_types.specs.declared.class.Bidi.TheVariants.{En, Et, On};
-ghost use Rattle.bidi_weak_neutral.specs.Classes.{is};
-ghost use Rattle.bidi_weak_neutral.specs.Weak.{is_joined, past_terminators, w1, w2, w3, w4, w5, w6, w7};
+ghost use Rattle.std.specs.Prelude.{◌≡◌, ℕ, ◌<◌, ◌≤◌, length, true, false, drop, slice_index_or};
+ghost use Rattle.bg_types.specs.declared.class.Bidi.TheVariants.{On};
+ghost use Rattle.bidi_weak_neutral.specs.Context.{nearest};
+ghost use Rattle.bidi_weak_neutral.specs.Weak.{is_joined, weak_types};
+ghost use Rattle.bidi_weak_neutral.specs.Pass.{marked, unmarked, strong_behind, lettered, joined, terminated, unterminated, separated, settled, is_past_terminators};
 
-use crate::class::{is_isolate_control, is_strong, type_at};
+use crate::class::{is_isolate_control, is_strong, is_weak, type_at};
 use bg_types::Bidi;
 
 /// W1: a mark takes the type before it, ON after an isolate control.
-pub(crate) fn w1(types: &mut [Bidi], sos: Bidi)
-    ensures { types.new ≡ w1 sos types.old }
+#[inline]
+fn marked(base: Bidi, class: Bidi) -> Bidi
+    ensures { result ≡ marked base class }
 {
-    let mut base = sos;
-    for class in types.iter_mut() {
-        if *class != Bidi::Nsm {
-            base = *class;
-        } else if is_isolate_control(base) {
-            *class = Bidi::On;
-        } else {
-            *class = base;
-        }
+    if class != Bidi::Nsm {
+        class
+    } else if is_isolate_control(base) {
+        Bidi::On
+    } else {
+        base
     }
 }
 
-/// W2: EN becomes AN where the last strong type is AL.
-pub(crate) fn w2(types: &mut [Bidi], sos: Bidi)
-    ensures { types.new ≡ w2 sos types.old }
+/// The nearest type that isn't NSM, after this one.
+#[inline]
+fn unmarked(base: Bidi, class: Bidi) -> Bidi
+    ensures { result ≡ unmarked base class }
 {
-    let mut strong = sos;
-    for class in types.iter_mut() {
-        if is_strong(*class) {
-            strong = *class;
-        } else if *class == Bidi::En && strong == Bidi::Al {
-            *class = Bidi::An;
-        }
-    }
+    if class != Bidi::Nsm { class } else { base }
 }
 
-/// W3: AL becomes R.
-pub(crate) fn w3(types: &mut [Bidi])
-    ensures { types.new ≡ w3 types.old }
+/// The nearest strong type, after this one.
+#[inline]
+fn strong_behind(strong: Bidi, class: Bidi) -> Bidi
+    ensures { result ≡ strong_behind strong class }
 {
-    for class in types.iter_mut() {
-        if *class == Bidi::Al {
-            *class = Bidi::R;
-        }
+    if is_strong(class) { class } else { strong }
+}
+
+/// W2, W3: EN becomes AN where the last strong type is AL, and AL becomes R.
+#[inline]
+fn lettered(strong: Bidi, class: Bidi) -> Bidi
+    ensures { result ≡ lettered strong class }
+{
+    if class == Bidi::Al {
+        Bidi::R
+    } else if class == Bidi::En && strong == Bidi::Al {
+        Bidi::An
+    } else {
+        class
     }
 }
 
@@ -60,85 +64,101 @@ fn is_joined(before: Bidi, class: Bidi, after: Bidi) -> bool
 }
 
 /// W4: one separator between two numbers of one type becomes that type.
-pub(crate) fn w4(types: &mut [Bidi])
-    ensures { types.new ≡ w4 types.old }
+#[inline]
+fn joined(before: Bidi, class: Bidi, after: Bidi) -> Bidi
+    ensures { result ≡ joined before class after }
 {
-    let mut before = Bidi::On;
-    for place in 0..types.len() {
-        let class = types[place];
-        if is_joined(before, class, type_at(types, place + 1, Bidi::On)) {
-            types[place] = before;
-        }
-        before = class;
+    if is_joined(before, class, after) {
+        before
+    } else {
+        class
     }
 }
 
-/// The first place from `start` on whose type is no terminator.
+/// W5: a terminator next to EN becomes EN, by the nearest types that are no terminators.
+#[inline]
+fn terminated(before: Bidi, class: Bidi, after: Bidi) -> Bidi
+    ensures { result ≡ terminated before class after }
+{
+    if class == Bidi::Et && (before == Bidi::En || after == Bidi::En) {
+        Bidi::En
+    } else {
+        class
+    }
+}
+
+/// The nearest type that isn't ET, after this one.
+#[inline]
+fn unterminated(beside: Bidi, class: Bidi) -> Bidi
+    ensures { result ≡ unterminated beside class }
+{
+    if class != Bidi::Et { class } else { beside }
+}
+
+/// W6, W7: separators and terminators that are left become ON, and EN becomes L where the last strong type is L.
+#[inline]
+fn settled(strong: Bidi, class: Bidi) -> Bidi
+    ensures { result ≡ settled strong (separated class) }
+{
+    match class {
+        Bidi::Es | Bidi::Et | Bidi::Cs => Bidi::On,
+        Bidi::En if strong == Bidi::L => Bidi::L,
+        _ => class,
+    }
+}
+
+/// The first place from `start` on whose type is neither a terminator nor a mark.
 fn run_end(types: &[Bidi], start: usize) -> usize
     requires { start ≤ length types.now }
     ensures from { start ≤ result }
-    ensures run { (k : ℕ) → start ≤ k → k < result → is (slice_index_or types.now k On) Et ≡ true }
-    ensures end { past_terminators (drop start types.now) ≡ slice_index_or types.now result On }
+    ensures run { (k : ℕ) → start ≤ k → k < result → is_past_terminators (slice_index_or types.now k On) ≡ false }
+    ensures end { nearest is_past_terminators On (drop start types.now) ≡ slice_index_or types.now result On }
 {
     let mut end = start;
-    while end < types.len() && types[end] == Bidi::Et {
+    while end < types.len() && (types[end] == Bidi::Et || types[end] == Bidi::Nsm) {
         end += 1;
     }
     end
 }
 
-/// The new type of a terminator, by the nearest types that are no terminators.
-#[inline]
-fn terminator(before: Bidi, after: Bidi) -> Bidi
-    ensures { result ≡ (if is before En || is after En then En else Et) }
+/// The types of a sequence after W7: `before` are those before W1.
+pub(crate) fn resolve_weak(before: &[Bidi], types: &mut [Bidi], sos: Bidi)
+    requires { length types.old ≡ length before.now }
+    ensures { types.new ≡ weak_types sos before.now }
 {
-    if before == Bidi::En || after == Bidi::En {
-        Bidi::En
-    } else {
-        Bidi::Et
-    }
-}
-
-/// W5: terminators next to EN become EN.
-pub(crate) fn w5(types: &mut [Bidi])
-    ensures { types.new ≡ w5 types.old }
-{
-    let mut before = Bidi::On;
+    let (mut base, mut strong) = (sos, sos);
+    let (mut last, mut beside) = (Bidi::On, Bidi::On);
     let mut end = 0;
-    for place in 0..types.len() {
-        let class = types[place];
-        if class != Bidi::Et {
-            before = class;
+    for place in 0..before.len() {
+        let class = before[place];
+        if is_strong(class) {
+            base = class;
+            strong = class;
+            last = lettered(class, class);
+            beside = last;
+            types[place] = last;
             continue;
         }
+        if !is_weak(class) {
+            base = class;
+            last = class;
+            beside = class;
+            types[place] = class;
+            continue;
+        }
+        let mark = marked(base, class);
+        base = unmarked(base, class);
+        let behind = strong_behind(strong, mark);
+        let letter = lettered(strong, mark);
+        let next = lettered(behind, marked(base, type_at(before, place + 1, Bidi::On)));
+        let number = joined(last, letter, next);
         if end <= place {
-            end = run_end(types, place + 1);
+            end = run_end(before, place + 1);
         }
-        types[place] = terminator(before, type_at(types, end, Bidi::On));
-    }
-}
-
-/// W6: the separators and terminators that are left become ON.
-pub(crate) fn w6(types: &mut [Bidi])
-    ensures { types.new ≡ w6 types.old }
-{
-    for class in types.iter_mut() {
-        if *class == Bidi::Es || *class == Bidi::Et || *class == Bidi::Cs {
-            *class = Bidi::On;
-        }
-    }
-}
-
-/// W7: EN becomes L where the last strong type is L.
-pub(crate) fn w7(types: &mut [Bidi], sos: Bidi)
-    ensures { types.new ≡ w7 sos types.old }
-{
-    let mut strong = sos;
-    for class in types.iter_mut() {
-        if is_strong(*class) {
-            strong = *class;
-        } else if *class == Bidi::En && strong == Bidi::L {
-            *class = Bidi::L;
-        }
+        let after = lettered(behind, marked(base, type_at(before, end, Bidi::On)));
+        types[place] = settled(strong, terminated(beside, number, after));
+        strong = behind;
+        last = letter;
+        beside = unterminated(beside, number);
     }
 }

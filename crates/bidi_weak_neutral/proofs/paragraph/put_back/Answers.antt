@@ -1,7 +1,8 @@
 -- The goals of `put_back` that are answered by hand.
-use Rattle.std.proofs.Common.{◌+◌, ◌≤◌, ◌∙◌, drop, ap, ap₂, sym, subst, map}
-use Rattle.bidi_weak_neutral.specs.Neutral.{implicit_level}
-use Rattle.bidi_weak_neutral.specs.Levels.{levels_at, put_back, types_of_sequence}
+use Rattle.std.proofs.Common.{ℕ, List, ◌+◌, ◌≤◌, ◌∙◌, drop, ap, sym, subst, map}
+use Rattle.bg_types.specs.declared.class.Bidi.{Bidi}
+use Rattle.bidi_weak_neutral.specs.Neutral.{n1, n2, implicit_level}
+use Rattle.bidi_weak_neutral.specs.Levels.{levels_at, put_back, types_before, characters_of, types_after_n0}
 use Rattle.bidi_weak_neutral.proofs.PuttingBack.{drop-slice_get, All-slice_get}
 use Rattle.bidi_weak_neutral.proofs.paragraph.put_back.Goals as goal
 
@@ -13,12 +14,18 @@ put_levels-requires-clause-level c =
 pub loop-number-preserved : goal.loop-number-preserved
 loop-number-preserved c =
     let e = c.args.embedded.now in
-    let step = drop-slice_get e.sequences c.loop-number.number c.sequence-sequence.result c.sequence-sequence.ensures.value in
+    let s = c.sequence-sequence.result in
+    let step = drop-slice_get e.sequences c.loop-number.number s c.sequence-sequence.ensures.value in
+    let made = λ (places : List ℕ) (types : List Bidi) (level : ℕ) (sos eos : Bidi).
+    levels_at c.loop-number.levels places (map (implicit_level level) (n2 level (n1 sos eos types))) in
     ap (λ levels. put_back c.args.tables.now c.args.points.now e.places levels (drop (c.loop-number.number + 1) e.sequences))
     (c.put_levels.ensures
-    ∙ ap (λ p. levels_at c.loop-number.levels p (map (implicit_level c.level.result) c.deref.result.now)) c.places.ensures
-    ∙ ap₂ (λ l t. levels_at c.loop-number.levels c.sequence-sequence.result.places (map (implicit_level l) t)) c.level.ensures
+    ∙ ap (λ p. made p c.deref.result.now c.level.result c.sos.result c.eos.result) c.places.ensures
+    ∙ ap (λ l. made s.places c.deref.result.now l c.sos.result c.eos.result) c.level.ensures
+    ∙ ap (λ d. made s.places c.deref.result.now s.level d c.eos.result) c.sos.ensures
+    ∙ ap (λ d. made s.places c.deref.result.now s.level s.sos d) c.eos.ensures
+    ∙ ap (λ t. made s.places t s.level s.sos s.eos)
     (c.deref.ensures.value ∙ c.in_ok-resolve_sequence.ensures.types
-    ∙ ap (λ p. types_of_sequence c.args.tables.now c.args.points.now p c.sequence-sequence.result) c.places-places.ensures))
+    ∙ ap (λ p. types_after_n0 c.args.tables.now s (characters_of c.args.points.now s) (types_before p s)) c.places-places.ensures))
     ∙ ap (put_back c.args.tables.now c.args.points.now e.places c.loop-number.levels) (sym step)
     ∙ c.loop-number.invariant

@@ -1,0 +1,83 @@
+-- The goals of `resolve_weak` that are answered by hand.
+use Rattle.std.proofs.Common.{arith, ◌+◌, ◌<◌, ◌≤◌, ◌≡◌, ◌∙◌, ap, sym, subst, length, get_or, drop, ◌∷◌, true, false}
+use Rattle.bg_types.specs.declared.class.Bidi.TheVariants.{L, On}
+use Rattle.bidi_weak_neutral.specs.Classes.{is_strong}
+use Rattle.bidi_weak_neutral.specs.Pass.{is_past_terminators, is_weak}
+use Rattle.bidi_weak_neutral.proofs.Runs.{IsRun, IsRun-on}
+use Rattle.bidi_weak_neutral.proofs.WeakPass.{weak_types-is, weak_from, weak-step, weak-read, strong-step, neutral-step}
+use Rattle.bidi_weak_neutral.proofs.weak.resolve_weak.Goals as goal
+use Rattle.bidi_weak_neutral.proofs.weak.resolve_weak.Goals.{then-end-place, else-end-place}
+
+pub loop-place-init : goal.loop-place-init
+loop-place-init c = record { so_far = sym (weak_types-is c.args.sos c.args.before.now); run = λ lt. absurd (omega arith) }
+
+pub loop-place-preserved-then-is_strong : goal.loop-place-preserved-then-is_strong
+loop-place-preserved-then-is_strong c =
+    let h = c.loop-place.invariant in
+    let i = c.loop-place.place in
+    let before = c.args.before.now in
+    let lt : c.loop-place.place < length c.args.before.now = omega arith in
+    let long : length c.loop-place.types ≡ length c.args.before.now = omega arith in
+    let x = get_or before i L in
+    let strong : is_strong (get_or c.args.before.now c.loop-place.place L) ≡ true = sym c.is_strong.ensures ∙ c.if-is_strong.true in
+    record {
+      so_far =
+          weak-step c.loop-place.base c.loop-place.strong c.loop-place.last c.loop-place.beside x x c.lettered-last.result c.lettered-last.result c.lettered-last.result
+          c.loop-place.types _ before i lt long
+          (strong-step c.loop-place.base c.loop-place.strong c.loop-place.last c.loop-place.beside x (drop (i + 1) before) strong
+          ∙ ap (λ z. z ∷ weak_from x x z z (drop (i + 1) before)) (sym c.lettered-last.ensures))
+          h.so_far;
+      run = λ more. IsRun-on _ _ _ _ _ lt (omega arith) (h.run (omega arith));
+    }
+
+pub loop-place-preserved-then-not-is_weak : goal.loop-place-preserved-then-not-is_weak
+loop-place-preserved-then-not-is_weak c =
+    let h = c.loop-place.invariant in
+    let i = c.loop-place.place in
+    let before = c.args.before.now in
+    let lt : c.loop-place.place < length c.args.before.now = omega arith in
+    let long : length c.loop-place.types ≡ length c.args.before.now = omega arith in
+    let x = get_or before i L in
+    let other : is_strong (get_or c.args.before.now c.loop-place.place L) ≡ false = sym c.is_strong.ensures ∙ c.if-is_strong.false in
+    let calm : is_weak (get_or c.args.before.now c.loop-place.place L) ≡ false = sym c.is_weak.ensures ∙ c.if-not-is_weak.true in
+    record {
+      so_far =
+          weak-step c.loop-place.base c.loop-place.strong c.loop-place.last c.loop-place.beside x c.loop-place.strong x x x c.loop-place.types _ before i lt long
+          (neutral-step c.loop-place.base c.loop-place.strong c.loop-place.last c.loop-place.beside x (drop (i + 1) before) other calm) h.so_far;
+      run = λ more. IsRun-on _ _ _ _ _ lt (omega arith) (h.run (omega arith));
+    }
+
+pub loop-place-preserved : goal.loop-place-preserved
+loop-place-preserved c =
+    let h = c.loop-place.invariant in
+    let i = c.loop-place.place in
+    let before = c.args.before.now in
+    let lt : c.loop-place.place < length c.args.before.now = omega arith in
+    let long : length c.loop-place.types ≡ length c.args.before.now = omega arith in
+    let run : (c.loop-place.place + 1 ≤ c.if-end-place.end) × IsRun is_past_terminators On c.args.before.now (c.loop-place.place + 1) c.if-end-place.end =
+    elim c.if-end-place.branch [
+      | then-end-place w ↦ (
+        omega arith,
+        subst (IsRun is_past_terminators On c.args.before.now (c.loop-place.place + 1)) (sym w.end-is)
+            (record { inside = λ k from to. w.run_end-end.ensures.run k from to; ahead = w.run_end-end.ensures.end }),
+      )
+      | else-end-place w ↦ (
+        omega arith,
+        subst (IsRun is_past_terminators On c.args.before.now (c.loop-place.place + 1)) (sym w.end-is)
+            (IsRun-on _ _ _ _ _ lt w.if-end-place.false (h.run w.if-end-place.false)),
+      )
+    ] in
+    record {
+      so_far =
+          weak-step c.loop-place.base c.loop-place.strong c.loop-place.last c.loop-place.beside c.unmarked-base.result c.strong_behind-behind.result
+          c.lettered-letter.result c.unterminated-beside.result c.settled.result c.loop-place.types _ before i lt long
+          (weak-read c.loop-place.base c.loop-place.strong c.loop-place.last c.loop-place.beside (get_or before i L) c.marked-mark.result c.unmarked-base.result
+          c.strong_behind-behind.result c.lettered-letter.result c.type_at.result c.marked.result c.lettered-next.result c.joined-number.result
+          c.type_at-in-loop-place.result c.marked-in-loop-place.result c.lettered-after.result c.terminated.result c.settled.result c.unterminated-beside.result
+          before (i + 1) c.marked-mark.ensures c.unmarked-base.ensures c.strong_behind-behind.ensures c.lettered-letter.ensures
+          c.type_at.ensures c.marked.ensures c.lettered-next.ensures c.joined-number.ensures
+          (c.type_at-in-loop-place.ensures ∙ sym run.1.ahead) c.marked-in-loop-place.ensures c.lettered-after.ensures c.terminated.ensures
+          c.settled.ensures c.unterminated-beside.ensures)
+          h.so_far;
+      run = λ more. run.1;
+    }

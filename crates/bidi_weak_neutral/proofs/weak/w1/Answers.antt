@@ -1,7 +1,0 @@
--- The goals of `w1` that are answered by hand.
-use Rattle.std.proofs.Common.{sym}
-use Rattle.bidi_weak_neutral.proofs.WeakScans.{w1-is}
-use Rattle.bidi_weak_neutral.proofs.weak.w1.Goals as goal
-
-pub loop-class-init : goal.loop-class-init
-loop-class-init c = sym (w1-is c.args.sos c.args.types.now)
