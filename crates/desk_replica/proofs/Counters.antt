@@ -51,3 +51,11 @@ IsCounted-with s op kept greatest c may is_new is room = record {
   limited = omega arith;
   next_is = let e = next-with s op may is in let k = c.next_is in omega arith;
 }
+
+-- an operation whose subject's counter is above all that S names is new
+not_held : (s : OperationSet) (op : OpView) → next s ≤ (subject op).counter → ¬ (Holds s op)
+not_held s op above h = let below = named_first op (next s) (next-above s op h) in absurd (omega arith)
+
+pub newest-is_new : (s : OperationSet) (op : OpView) → next s ≤ (subject op).counter → MayJoin s op × (¬ (Holds s op))
+newest-is_new s (Insert id parent ch) above = ((λ kept e. absurd (not_held s (Insert id kept.parent kept.ch) above e)), not_held s (Insert id parent ch) above)
+newest-is_new s (Erase target) above = (tt, not_held s (Erase target) above)

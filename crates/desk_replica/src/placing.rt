@@ -5,7 +5,7 @@ ghost use Rattle.std.specs.Option.{option_map};
 ghost use Rattle.std.specs.FinMap as map;
 ghost use Rattle.std.specs.FinSet as set;
 ghost use Rattle.bg_types.specs.Identifier.{Identifier};
-ghost use Rattle.bg_types.specs.OperationSet.{Holds, MayJoin, ReusesIdentifier, AllWellFormed, with_operation, size, union};
+ghost use Rattle.bg_types.specs.OperationSet.{Holds, MayJoin, ReusesIdentifier, AllWellFormed, with_operation, next, size, union};
 ghost use Rattle.bg_types.specs.WellFormed.{IsWellFormed};
 ghost use Rattle.bg_types.specs.declared.op.OpView.TheVariants.{Insert};
 ghost use Rattle.rga_tree.specs.Tree.{stands_in};
@@ -41,10 +41,15 @@ fn kept_at<S: Sequence>(seq: &S, held: &Held, id: Id) -> Option<Op>
     }
 }
 
-pub fn look_up<S: Sequence>(seq: &S, held: &Held, op: &Op) -> Standing
-    requires { IsSettled (S.content seq.now) held.now }
+/// How an operation stands to those that are kept, of which none names a counter above `greatest`.
+pub fn look_up<S: Sequence>(seq: &S, held: &Held, greatest: u32, op: &Op) -> Standing
+    requires settled { IsSettled (S.content seq.now) held.now }
+    requires greatest { next (whole (S.content seq.now) held.now) ≡ greatest + 1 }
     ensures { IsStanding (whole (S.content seq.now) held.now) op.now result }
 {
+    if counter_of(op) > greatest {
+        return Standing::New;
+    }
     match op.view() {
         OpView::Insert { id, .. } => match kept_at(seq, held, id) {
             None => Standing::New,
@@ -107,12 +112,14 @@ fn pay<S: Sequence>(seq: &mut S, held: &mut Held, spare: &mut usize) -> Result<(
     ensures err { OnErr result (held.new ≡ held.old) }
     ensures same { OnErr result (spare.new ≡ spare.old) }
 {
-    if *spare == 0 {
-        make_room(seq, held, 1)?;
-        *spare = 1;
+    if *spare > 0 {
+        *spare -= 1;
+        return Ok(());
     }
-    *spare -= 1;
-    Ok(())
+    if seq.room() > held.insertion_count() && held.room() > 0 {
+        return Ok(());
+    }
+    make_room(seq, held, 1)
 }
 
 /// Takes in a new operation. It is paid for before the first change, unless it hides an element.

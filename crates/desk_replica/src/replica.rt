@@ -115,7 +115,7 @@ impl<S: Sequence> Replica<S> {
         ensures spare { size self.old.set + self.old.spare ≤ size self.new.set + self.new.spare }
         ensures unpaid { IfErr result (λ fault. fault ≡ TakeFault.Memory → self.old.spare ≡ 0) }
     {
-        match look_up(&self.seq, &self.held, op) {
+        match look_up(&self.seq, &self.held, self.greatest, op) {
             Standing::Known => return Ok(Taken::Known),
             Standing::Reused => return Err(TakeFault::IdentifierReused),
             Standing::New => {}

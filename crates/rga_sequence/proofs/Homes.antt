@@ -1,5 +1,5 @@
 -- Where elements are at home.
-use Rattle.std.proofs.Common.{◌≡◌, ℕ, zero, suc, ◌<◌, ◌+◌, ◌||◌, Bool, true, false, cond, List, [], ◌∷◌, length, take, get_or, Option, Some, None, refl, sym, ap, subst, ◌∙◌, arith}
+use Rattle.std.proofs.Common.{◌≡◌, ℕ, zero, suc, ◌<◌, ◌+◌, ◌||◌, Bool, true, false, cond, List, [], ◌∷◌, length, take, get_or, Option, Some, refl, sym, ap, subst, ◌∙◌, arith}
 use Rattle.std.specs.Prelude.{IsSome}
 use Rattle.std.specs.List.{list_any, AllByRecursion}
 use Rattle.std.proofs.lemmas.List.Folds.{list_any_more}
@@ -7,8 +7,7 @@ use Rattle.bg_types.specs.Identifier.{Identifier, same_id}
 use Rattle.rga_tree.specs.declared.element.Element.{Element}
 use Rattle.bg_types.proofs.Interface.{id_cmp-total}
 use Rattle.std.specs.Cmp.{eq_by_cmp_equiv}
-use Rattle.std.specs.Option.{option_copied_mut}
-use Rattle.std.proofs.Common.{rules, MutBor}
+use Rattle.std.proofs.Common.{rules}
 use Rattle.std.proofs.lemmas.Grind.{common_steps}
 use Rattle.bg_types.specs.contracts.id.IdPartialEq.TheImpl.{eq-value}
 
@@ -17,10 +16,6 @@ id_eq = eq-value.it
 
 pub eq_same : (a b : Identifier) → id_eq a b ≡ same_id a b
 eq_same a b = search (rules, common_steps)
-
-pub some_of : (r : Option (MutBor ℕ)) → IsSome (option_copied_mut r) → IsSome r
-some_of None h = h
-some_of (Some x) h = refl
 
 some_at : (P : Element → Type 0) (es : List Element) (i : ℕ) (d : Element) → AllByRecursion P es → i < length es → P (get_or es i d)
 some_at P [] i d all within = absurd (omega arith)
@@ -41,13 +36,13 @@ or_last false b n o = refl
 
 pub home_step : (old new was : Identifier → Option ℕ) (moved : List Element) (i : ℕ) (e : Element) (n : ℕ) → i < length moved → e ≡ get_or moved i e
     → ((q : Identifier) → old q ≡ cond (list_any (λ e. same_id q e.id) (take i moved)) (Some n) (was q))
-    → ((q : Identifier) → new q ≡ cond (id_eq e.id q) (Some n) (old q))
+    → ((q : Identifier) → new q ≡ cond (same_id q e.id) (Some n) (old q))
     → (q : Identifier) → new q ≡ cond (list_any (λ e. same_id q e.id) (take (i + 1) moved)) (Some n) (was q)
 home_step old new was moved i e n within is so_far now q =
     let a = list_any (λ e. same_id q e.id) (take i moved) in
     let more : list_any (λ e. same_id q e.id) (take (i + 1) moved) ≡ (a || same_id q e.id) =
     list_any_more (λ e. same_id q e.id) moved i e within ∙ ap (λ (x : Element). a || same_id q x.id) (sym is) in
-    now q ∙ (λ j. cond ((eq_same e.id q ∙ (eq_by_cmp_equiv id_cmp-total).symm e.id q) j) (Some n) (so_far q j)) ∙ or_last a (same_id q e.id) n (was q) ∙ ap (λ b. cond b (Some n) (was q)) (sym more)
+    now q ∙ ap (cond (same_id q e.id) (Some n)) (so_far q) ∙ or_last a (same_id q e.id) n (was q) ∙ ap (λ b. cond b (Some n) (was q)) (sym more)
 
 -- the map with one more home
 pub put_home : (a b : Identifier) (n : ℕ) (o : Option ℕ) → cond (id_eq a b) (Some n) o ≡ cond (same_id b a) (Some n) o

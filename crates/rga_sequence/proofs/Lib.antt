@@ -1,6 +1,7 @@
 -- The modules of this crate's proofs.
 pub mod Grown
 pub mod Homes
+pub mod Groups
 pub mod Joined
 pub mod Least
 pub mod Seen

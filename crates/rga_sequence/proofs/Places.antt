@@ -59,7 +59,7 @@ at_here ns i p m is w = ap (λ k. get_or (insert ns i m) k 0) is ∙ get_or-inse
 at_behind : (ns : List ℕ) (i p r m : ℕ) → p ≡ r + 1 → i ≤ r → i ≤ length ns → get_or (insert ns i m) p 0 ≡ get_or ns r 0
 at_behind ns i p r m is le w = ap (λ k. get_or (insert ns i m) k 0) is ∙ get_or-insert_above ns i m 0 r le w
 
-few_numbers : (ns places : List ℕ) (p : ℕ) → Inverts ns places → length places ≡ length ns → p < length ns → get_or ns p 0 < length ns
+pub few_numbers : (ns places : List ℕ) (p : ℕ) → Inverts ns places → length places ≡ length ns → p < length ns → get_or ns p 0 < length ns
 few_numbers ns places p inverts many h = let few = slice_get-within places (get_or ns p 0) p (inverts p h) in omega arith
 
 -- a new number among the others: all are below their count

@@ -19,7 +19,7 @@ seen_all-joined [] = refl
 seen_all-joined (x ∷ xs) = omega (arith, seen-append x (joined xs), seen_all-joined xs)
 
 pub less_room : (r : Row) (n m : ℕ) → HasRoom r n → m ≤ n → HasRoom r m
-less_room r n m room less = record { paid = omega (arith, room.paid); index = omega (arith, room.index); blocks = room.blocks; places = room.places }
+less_room r n m room less = record { paid = omega (arith, room.paid); index = (omega (arith, room.index.0), omega (arith, room.index.1)); blocks = room.blocks; places = room.places; few = room.few }
 
 pub any_default : (es : List Element) (i : ℕ) (d : Element) → i < length es → get_or es i d ≡ get_or es i (get_or es i d)
 any_default [] i d h = absurd (omega arith)

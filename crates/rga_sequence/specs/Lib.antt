@@ -1,5 +1,6 @@
 -- The modules of this crate's definitions.
 pub mod Blocks
 pub mod BlockRows
+pub mod Grouped
 pub mod Indexed
 pub mod Few

@@ -75,17 +75,7 @@ impl Block {
         self.least = lesser(id, self.least);
         self.visible += weight(hidden);
         self.recent = at;
-        self.elements
-            .insert(
-                at,
-                Element {
-                    id,
-                    parent,
-                    ch,
-                    hidden,
-                },
-            )
-            .unwrap();
+        insert_element(&mut self.elements, at, id, parent, ch, hidden);
     }
 
     /// Hides an element, and returns how many fewer are visible.
@@ -115,7 +105,7 @@ impl Block {
     {
         lower.extend_from_slice(&self.elements[..HALF]).unwrap();
         let mut upper = replace(&mut self.elements, lower);
-        upper.rotate_left(HALF);
+        upper.copy_within(HALF.., 0);
         upper.truncate(HALF);
         self.least = least_of(&self.elements);
         self.visible = count_visible(&self.elements);
@@ -128,6 +118,27 @@ impl Block {
             number,
             recent: HALF - 1,
         }
+    }
+}
+
+/// Puts an element into a row that has memory for it. At the end nothing moves.
+fn insert_element(row: &mut Vec<Element>, at: usize, id: Id, parent: Place, ch: char, hidden: bool)
+    requires within { at ≤ length row.old.items }
+    requires room { length row.old.items < vec_capacity row.old }
+    ensures items { row.new.items ≡ insert row.old.items at
+        (record { id = id; parent = parent; ch = ch; hidden = hidden }) }
+    ensures capacity { vec_capacity row.old ≤ vec_capacity row.new }
+{
+    let element = Element {
+        id,
+        parent,
+        ch,
+        hidden,
+    };
+    if at == row.len() {
+        row.push_reserved(element);
+    } else {
+        row.insert(at, element).unwrap();
     }
 }
 

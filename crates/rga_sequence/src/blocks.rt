@@ -14,12 +14,12 @@ ghost use Rattle.rga_sequence.specs.Few.{few_items};
 ghost use Rattle.rga_sequence.specs.Indexed.{blocks_in, elements_in, IsIndexed, IsIndexed-prop, HasRoom, HasRoom-prop};
 
 use crate::block::{HALF, weight};
+use crate::index::empty;
 use crate::look::{Look, find};
 use crate::row::{Row, block_at, hide, make_memory, put, spot, stands};
 use bg_types::{Hashed, Id, Keyed, Memory, Place};
 use rga_tree::{Element, Sequence};
 use std::alloc::Global;
-use std::collections::HashMap;
 
 /// A sequence in blocks.
 #[derive(Drop)]
@@ -62,7 +62,7 @@ impl Blocks {
             row: Row {
                 blocks: Vec::new(alloc),
                 spares: Vec::new(alloc),
-                index: HashMap::with_hasher(alloc, hasher),
+                index: empty(alloc, hasher),
                 places: Vec::new(alloc),
                 recent: 0,
             },
@@ -97,7 +97,7 @@ impl Blocks {
 }
 
 impl Hashed for Blocks {
-    ghost hasher = { λ s. hasher_of s.row.index };
+    ghost hasher = { λ s. hasher_of s.row.index.groups };
 }
 
 impl Look for Blocks {
@@ -152,7 +152,7 @@ impl Sequence for Blocks {
         // Reading the identifier tells the proof that it is well formed.
         let _known = id.counter();
         put(&mut self.row, id, parent, ch, hidden);
-        self.placed = self.row.index.len();
+        self.placed += 1;
         self.visible += weight(hidden);
         self.room -= 1;
     }

@@ -1,30 +1,159 @@
 //! Which block each identifier is in, and where blocks stand.
 
-ghost use Rattle.std.specs.Prelude.{◌≡◌, ◌-◌, ◌<◌, ◌≤◌, ℕ, length, get_or, slice_get, IsSome, if◌then◌else◌, Some};
+ghost use Rattle.std.specs.Prelude.{◌≡◌, ◌+◌, ◌*◌, ◌-◌, ◌%◌, ◌^◌, ◌<◌, ◌≤◌, ℕ, length, get_or, slice_get, IsSome, None, OnOk, if◌then◌else◌, Some};
 ghost use Rattle.std.specs.List.{AllByRecursion};
-ghost use Rattle.std.specs.HashMap.{get, hash_map_len, spare};
-ghost use Rattle.bg_types.specs.Identifier.{Identifier};
+ghost use Rattle.std.specs.HashMap.{get, hash_map_len, hasher_of};
+ghost use Rattle.bg_types.specs.Identifier.{Identifier, same_id};
 ghost use Rattle.rga_sequence.specs.BlockRows.{has, numbers_of};
+ghost use Rattle.rga_sequence.specs.Grouped.{group_of, home_in, IsGrouped, HasIndexRoom};
 
 use crate::block::Block;
-use bg_types::{Id, Keyed};
+use bg_types::{Id, Keyed, Memory};
 use rga_tree::Element;
+use std::alloc::Global;
 use std::collections::HashMap;
 
-/// The number of the block of each identifier.
-pub type Index = HashMap<Id, usize, Keyed>;
+/// How many identifiers a group has: those of one site whose counters are neighbours.
+const GROUP: usize = 8;
+
+/// The number of the block of each identifier, by groups: so what is typed in a run is hashed once a group.
+#[derive(Drop)]
+pub struct Index {
+    /// The place of each group, in the order in which they came.
+    pub groups: HashMap<Id, usize, Keyed>,
+    /// For each identifier of each group 1 more than its block's number, or 0 where it does not stand.
+    pub numbers: Vec<u32>,
+    /// The group that was written last, and its place. The next identifier is often of it too.
+    pub recent: Option<(Id, usize)>,
+}
+
+/// An index without identifiers, which takes no memory.
+pub fn empty(alloc: Global, hasher: Keyed) -> Index
+    ensures homes { (q : Identifier) → home_in ⟦<Id as Eq>⟧.eq result q ≡ None }
+    ensures grouped { IsGrouped ⟦<Id as Eq>⟧.eq result }
+    ensures room { HasIndexRoom result 0 }
+    ensures hasher { hasher_of result.groups ≡ hasher }
+{
+    Index {
+        groups: HashMap::with_hasher(alloc, hasher),
+        numbers: Vec::new(alloc),
+        recent: None,
+    }
+}
+
+/// Makes memory for n more identifiers, wherever they belong.
+pub fn reserve(index: &mut Index, n: usize) -> Result<(), Memory>
+    requires few { n ≤ 2 ^ 40 }
+    requires grouped { IsGrouped ⟦<Id as Eq>⟧.eq index.old }
+    ensures homes { (q : Identifier) → home_in ⟦<Id as Eq>⟧.eq index.new q ≡ home_in ⟦<Id as Eq>⟧.eq index.old q }
+    ensures grouped { IsGrouped ⟦<Id as Eq>⟧.eq index.new }
+    ensures ok { OnOk result (HasIndexRoom index.new n) }
+    ensures kept { (m : ℕ) → HasIndexRoom index.old m → HasIndexRoom index.new m }
+{
+    index.groups.reserve(n)?;
+    index.numbers.reserve(GROUP * n)?;
+    Ok(())
+}
+
+/// The number of the block of an identifier.
+pub fn home(index: &Index, id: Id) -> Option<usize>
+    requires { IsGrouped ⟦<Id as Eq>⟧.eq index.now }
+    ensures { result ≡ home_in ⟦<Id as Eq>⟧.eq index.now id }
+{
+    let place = find(index, group(id))?;
+    match index.numbers[slot(place, id)] {
+        0 => None,
+        number => Some(number as usize - 1),
+    }
+}
+
+/// Writes down the block of an identifier.
+pub fn put(index: &mut Index, id: Id, number: usize)
+    requires grouped { IsGrouped ⟦<Id as Eq>⟧.eq index.old }
+    requires few { number + 1 < 2 ^ 32 }
+    requires room { HasIndexRoom index.old 1 }
+    ensures homes { (q : Identifier) → home_in ⟦<Id as Eq>⟧.eq index.new q
+        ≡ (if same_id q id then Some number else home_in ⟦<Id as Eq>⟧.eq index.old q) }
+    ensures grouped { IsGrouped ⟦<Id as Eq>⟧.eq index.new }
+    ensures room { (n : ℕ) → HasIndexRoom index.old (n + 1) → HasIndexRoom index.new n }
+{
+    let place = find_or_add(index, group(id));
+    write(index, place, id, number);
+}
 
 /// The elements stand in another block now.
 pub fn rehome(index: &mut Index, moved: &[Element], number: usize)
-    requires { AllByRecursion (λ e. IsSome (get ⟦<Id as Eq>⟧.eq index.old e.id)) moved.now }
-    ensures home { (q : Identifier) → get ⟦<Id as Eq>⟧.eq index.new q
-        ≡ (if has q moved.now then Some number else get ⟦<Id as Eq>⟧.eq index.old q) }
-    ensures spare { spare index.new ≡ spare index.old }
-    ensures len { hash_map_len index.new ≡ hash_map_len index.old }
+    requires grouped { IsGrouped ⟦<Id as Eq>⟧.eq index.old }
+    requires few { number + 1 < 2 ^ 32 }
+    requires known { AllByRecursion (λ e. IsSome (home_in ⟦<Id as Eq>⟧.eq index.old e.id)) moved.now }
+    ensures home { (q : Identifier) → home_in ⟦<Id as Eq>⟧.eq index.new q
+        ≡ (if has q moved.now then Some number else home_in ⟦<Id as Eq>⟧.eq index.old q) }
+    ensures grouped { IsGrouped ⟦<Id as Eq>⟧.eq index.new }
+    ensures room { (n : ℕ) → HasIndexRoom index.old n → HasIndexRoom index.new n }
 {
     for e in moved {
-        *index.get_mut(&e.id).unwrap() = number;
+        let place = find(index, group(e.id)).unwrap();
+        write(index, place, e.id, number);
     }
+}
+
+/// The group of an identifier, named by the identifier that its number and its site make.
+fn group(id: Id) -> Id
+    ensures { result ≡ group_of id }
+{
+    Id::new(id.counter() / GROUP as u32 + 1, id.site()).unwrap()
+}
+
+/// Where the number of an identifier stands, of the group at a place.
+fn slot(place: usize, id: Id) -> usize
+    requires { 8 * place + 8 < 2 ^ 64 }
+    ensures { result ≡ 8 * place + id.counter % 8 }
+{
+    GROUP * place + id.counter() as usize % GROUP
+}
+
+/// The place of a group. The one that was written last is known without a hash.
+fn find(index: &Index, group: Id) -> Option<usize>
+    requires { IsGrouped ⟦<Id as Eq>⟧.eq index.now }
+    ensures { result ≡ get ⟦<Id as Eq>⟧.eq index.now.groups group }
+{
+    match index.recent {
+        Some((recent, place)) if recent == group => Some(place),
+        _ => index.groups.get(&group).copied(),
+    }
+}
+
+/// The place of a group, which is added where it is new.
+fn find_or_add(index: &mut Index, group: Id) -> usize
+    requires grouped { IsGrouped ⟦<Id as Eq>⟧.eq index.old }
+    requires room { HasIndexRoom index.old 1 }
+    ensures place { get ⟦<Id as Eq>⟧.eq index.new.groups group ≡ Some result }
+    ensures homes { (q : Identifier) → home_in ⟦<Id as Eq>⟧.eq index.new q ≡ home_in ⟦<Id as Eq>⟧.eq index.old q }
+    ensures grouped { IsGrouped ⟦<Id as Eq>⟧.eq index.new }
+    ensures room { (n : ℕ) → HasIndexRoom index.old (n + 1) → HasIndexRoom index.new n }
+{
+    if let Some(place) = find(index, group) {
+        return place;
+    }
+    let place = index.groups.len();
+    let kept: Result<_, _> = index.groups.insert(group, place);
+    kept.unwrap();
+    index.numbers.extend_from_slice(&[0; GROUP]).unwrap();
+    place
+}
+
+/// Writes down the block of an identifier, whose group stands at this place.
+fn write(index: &mut Index, place: usize, id: Id, number: usize)
+    requires grouped { IsGrouped ⟦<Id as Eq>⟧.eq index.old }
+    requires place { get ⟦<Id as Eq>⟧.eq index.old.groups (group_of id) ≡ Some place }
+    requires few { number + 1 < 2 ^ 32 }
+    ensures homes { (q : Identifier) → home_in ⟦<Id as Eq>⟧.eq index.new q
+        ≡ (if same_id q id then Some number else home_in ⟦<Id as Eq>⟧.eq index.old q) }
+    ensures grouped { IsGrouped ⟦<Id as Eq>⟧.eq index.new }
+    ensures room { (n : ℕ) → HasIndexRoom index.old n → HasIndexRoom index.new n }
+{
+    index.numbers[slot(place, id)] = (number + 1) as u32;
+    index.recent = Some((group(id), place));
 }
 
 /// Writes down the place of each block from one on. Those before it are written down already.

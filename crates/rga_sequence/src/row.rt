@@ -1,6 +1,6 @@
 //! The row of blocks with its index.
 
-ghost use Rattle.std.specs.Prelude.{◌≡◌, ◌+◌, ◌*◌, ◌<◌, ◌≤◌, ◌∷◌, take, drop, ℕ, length, get_or, slice_index_or, [], insert, slice_set, true, false, not, IfSome, IfNone, OnOk, vec_len, vec_capacity};
+ghost use Rattle.std.specs.Prelude.{◌≡◌, ◌+◌, ◌*◌, ◌^◌, ◌<◌, ◌≤◌, ◌∷◌, take, drop, ℕ, length, get_or, slice_index_or, [], insert, slice_set, true, false, not, IfSome, IfNone, OnOk, vec_len, vec_capacity};
 ghost use Rattle.std.specs.List.{prefix_len};
 ghost use Rattle.bg_types.specs.Identifier.{same_id};
 ghost use Rattle.rga_tree.specs.declared.element.Element.{Element};
@@ -10,12 +10,15 @@ ghost use Rattle.rga_sequence.specs.BlockRows.{has, items_of};
 ghost use Rattle.rga_sequence.specs.Indexed.{blocks_in, elements_in, IsIndexed, HasRoom};
 
 use crate::block::{Block, FULL, HALF, Spare};
-use crate::index::{Index, rehome, renumber};
+use crate::index::{self, Index, home, rehome, renumber};
 use crate::order::{count_in, hide_at, put_at, split_at};
 use crate::skip::place_from;
 use bg_types::{Id, Memory, Place};
 use rga_tree::Element;
 use std::alloc::Global;
+
+/// How many blocks there are at most: more than any memory holds. So the index has a block's number in 32 bits.
+const MOST: usize = 4_294_967_295;
 
 /// Blocks in order, memory for more, the number of the block of each identifier, and the place of
 /// the block of each number.
@@ -35,7 +38,7 @@ pub fn stands(row: &Row, id: Id) -> bool
     requires distinct { is_distinct (ids_of (elements_in row.now)) ≡ true }
     ensures { result ≡ has id (elements_in row.now) }
 {
-    recent_spot(row, id).is_some() || row.index.contains_key(&id)
+    recent_spot(row, id).is_some() || home(&row.index, id).is_some()
 }
 
 /// The block of an identifier, and its place there.
@@ -51,9 +54,9 @@ pub fn spot(row: &Row, id: Id) -> Option<(usize, usize)>
     if let Some(found) = recent_spot(row, id) {
         return Some(found);
     }
-    match row.index.get(&id) {
+    match home(&row.index, id) {
         None => None,
-        Some(&number) => {
+        Some(number) => {
             let p = row.places[number];
             let block = &row.blocks[p];
             Some((p, before(&block.elements, block.recent, id)))
@@ -128,8 +131,7 @@ fn put_first(row: &mut Row, id: Id, parent: Place, ch: char, hidden: bool)
     let block = Block::lone(elements, 0, id, parent, ch, hidden);
     row.blocks.push(block).unwrap();
     row.places.push(0).unwrap();
-    let kept: Result<_, _> = row.index.insert(id, 0);
-    kept.unwrap();
+    index::put(&mut row.index, id, 0);
     row.recent = 0;
 }
 
@@ -214,8 +216,7 @@ fn put_into(row: &mut Row, q: usize, at: usize, id: Id, parent: Place, ch: char,
 {
     put_at(&mut row.blocks, q, at, id, parent, ch, hidden);
     let number = row.blocks[q].number;
-    let kept: Result<_, _> = row.index.insert(id, number);
-    kept.unwrap();
+    index::put(&mut row.index, id, number);
     row.recent = q;
 }
 
@@ -253,13 +254,18 @@ pub fn block_at(blocks: &[Block], j: usize) -> (usize, usize)
 
 /// Makes memory for `more` more blocks, and for n more identifiers.
 pub fn make_memory(row: &mut Row, alloc: Global, n: usize, more: usize) -> Result<(), Memory>
-    requires { IsIndexed ⟦<Id as Eq>⟧.eq row.old }
+    requires indexed { IsIndexed ⟦<Id as Eq>⟧.eq row.old }
+    requires few { n ≤ 2 ^ 40 }
     ensures blocks { row.new.blocks.items ≡ row.old.blocks.items }
     ensures indexed { IsIndexed ⟦<Id as Eq>⟧.eq row.new }
     ensures ok { OnOk result ((m : ℕ) → HasRoom row.old m → m + 256 * more ≤ n → HasRoom row.new (m + 256 * more)) }
     ensures kept { (m : ℕ) → HasRoom row.old m → HasRoom row.new m }
 {
-    row.index.reserve(n)?;
+    let most = MOST.saturating_sub(row.blocks.len());
+    if most.saturating_sub(row.spares.len()) < more {
+        return Err(Memory);
+    }
+    index::reserve(&mut row.index, n)?;
     row.spares.reserve(more)?;
     row.blocks.reserve(row.spares.capacity())?;
     row.places.reserve(row.spares.capacity())?;
@@ -271,6 +277,7 @@ fn add_spares(spares: &mut Vec<Spare>, alloc: Global, more: usize) -> Result<(),
     requires { vec_len spares.old + more ≤ vec_capacity spares.old }
     ensures ok { OnOk result (vec_len spares.new ≡ vec_len spares.old + more) }
     ensures kept { vec_len spares.old ≤ vec_len spares.new }
+    ensures most { vec_len spares.new ≤ vec_len spares.old + more }
     ensures within { vec_len spares.new ≤ vec_capacity spares.old }
 {
     for _ in 0..more {

@@ -1,7 +1,6 @@
 -- The goals of `place_new` that are answered by hand.
-use Rattle.std.proofs.Common.{length, ap, ◌∙◌, arith}
+use Rattle.std.proofs.Common.{ap, ◌∙◌, arith}
 use Rattle.std.specs.FinMap as map
-use Rattle.rga_tree.specs.Elements.{elements}
 use Rattle.desk_replica.proofs.FirstTurn.{first_turn}
 use Rattle.desk_replica.proofs.Admitting.{placed_answer, length-elements}
 use Rattle.desk_replica.proofs.placing.place_new.Goals as goal

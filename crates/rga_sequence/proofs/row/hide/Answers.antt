@@ -39,11 +39,11 @@ returns c =
           ∙ ap (λ n. set (joined xs) n (hidden_at (joined xs) n d)) place;
       seen = omega (arith, c.hide_at.ensures.seen, now, ap (λ r. seen (joined r)) items, seen_set xs p y there);
       indexed = record {
+        grouped = c.requires.indexed.grouped;
         homes = λ k. c.requires.indexed.homes k ∙ sym (home_kept xs ns p y k (λ m. any-hide (same_id m) x j none) there) ∙ (λ i. home_of (sym items i) (sym c.hide_at.ensures.numbers i) k);
         places = λ k less. ap (λ r. slice_get c.args.row.now.places.items (get_or r k 0)) c.hide_at.ensures.numbers
             ∙ c.requires.indexed.places k (omega (arith, less, c.hide_at.ensures.len, c.hide_at.new.blocks.ok, bs.ok));
         as_many = omega (arith, c.hide_at.ensures.len, c.requires.indexed.as_many);
-        counted = c.requires.indexed.counted ∙ sym long;
         halves = subst AreHalfFull (sym items) (AreHalfFull-set xs p y c.requires.indexed.halves (omega (arith, as_long)));
       };
       room = λ n room. record {
@@ -51,5 +51,6 @@ returns c =
         index = room.index;
         blocks = omega (arith, room.blocks, c.hide_at.ensures.len, c.hide_at.ensures.capacity);
         places = omega (arith, room.places, c.hide_at.ensures.len);
+        few = omega (arith, room.few, c.hide_at.ensures.len);
       };
     }

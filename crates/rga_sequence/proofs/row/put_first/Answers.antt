@@ -1,14 +1,14 @@
 -- The goals of `put_first` that are answered by hand.
-use Rattle.std.proofs.Common.{◌≡◌, ℕ, zero, suc, ◌<◌, ◌+◌, ◌++◌, ◌∷◌, ◌∙◌, [], List, Some, None, cond, true, false, sym, ap, subst, refl, length, get_or, arith}
-use Rattle.std.specs.Prelude.{slice_get, is_ok, is_some, vec_len}
+use Rattle.std.proofs.Common.{◌≡◌, ℕ, zero, suc, ◌<◌, ◌+◌, ◌++◌, ◌∷◌, ◌∙◌, [], List, Some, None, cond, true, sym, ap, subst, refl, length, get_or, arith}
+use Rattle.std.specs.Prelude.{slice_get, is_ok, vec_len}
 use Rattle.std.specs.Option.{option_to_list}
-use Rattle.std.specs.HashMap.{get, hash_map_len}
 use Rattle.bg_types.specs.Identifier.{same_id}
 use Rattle.rga_tree.specs.declared.element.Element.{Element}
 use Rattle.rga_sequence.specs.declared.block.Block.{Block}
 use Rattle.rga_sequence.specs.Blocks.{joined}
 use Rattle.rga_sequence.specs.BlockRows.{items_of, numbers_of, home_of, AreHalfFull}
-use Rattle.rga_sequence.proofs.Homes.{id_eq, put_home, or_false}
+use Rattle.rga_sequence.specs.Grouped.{home_in}
+use Rattle.rga_sequence.proofs.Homes.{id_eq, or_false}
 use Rattle.rga_sequence.proofs.Numbers.{length_none}
 use Rattle.rga_sequence.proofs.row.put_first.Goals as goal
 
@@ -21,15 +21,10 @@ returns c =
     let blocks : c.push.new.self.items ≡ block ∷ [] = c.push.ensures.items ∙ (λ i. cond (ok i) (none i ++ block ∷ []) (none i)) in
     let items : items_of c.push.new.self.items ≡ (e ∷ []) ∷ [] = ap items_of blocks ∙ ap (λ r. r ∷ []) c.lone-block.ensures.items in
     let numbers : numbers_of c.push.new.self.items ≡ 0 ∷ [] = ap numbers_of blocks ∙ ap (λ k. k ∷ []) c.lone-block.ensures.number in
-    let updates = rw c.unwrap-3.ensures at c.insert-kept.ensures.updates in
-    let old = rw c.unwrap-3.ensures at c.insert-kept.ensures.old in
-    let len = rw c.unwrap-3.ensures at c.insert-kept.ensures.len in
     let ok2 : is_ok c.push-2.result ≡ true = ap is_ok c.unwrap-2.ensures in
     let no_places : c.args.row.now.places.items ≡ [] = length_none c.args.row.now.places.items (omega (arith, c.requires.none, c.requires.indexed.as_many, c.args.row.now.places.ok)) in
     let places : c.push-2.new.self.items ≡ 0 ∷ [] = c.push-2.ensures.items ∙ (λ i. cond (ok2 i) (no_places i ++ 0 ∷ []) (no_places i)) in
-    let gone : (k : _) → get id_eq c.args.row.now.index k ≡ None = λ k. c.requires.indexed.homes k ∙ ap (λ (bs : List Block). home_of (items_of bs) (numbers_of bs) k) none in
-    let new_one : is_some c.unwrap-3.result ≡ false = ap is_some (old ∙ gone c.args.id) in
-    let empty : hash_map_len c.args.row.now.index ≡ 0 = c.requires.indexed.counted ∙ ap (λ (bs : List Block). length (joined (items_of bs))) none in
+    let gone : (k : _) → home_in id_eq c.args.row.now.index k ≡ None = λ k. c.requires.indexed.homes k ∙ ap (λ (bs : List Block). home_of (items_of bs) (numbers_of bs) k) none in
     let fewer : vec_len c.pop.new.self + 1 ≡ vec_len c.args.row.now.spares = omega (arith, c.pop.ensures.len, ap (λ o. length (option_to_list o)) c.unwrap-elements.ensures) in
     let before = ap (λ (bs : List Block). length (joined (items_of bs))) none in
     let after = ap (λ xs. length (joined xs)) items in
@@ -37,18 +32,19 @@ returns c =
     record {
       elements = ap joined items;
       indexed = record {
-        homes = λ k. updates.0 k ∙ put_home c.args.id k 0 (get id_eq c.args.row.now.index k) ∙ ap (cond (same_id k c.args.id) (Some 0)) (gone k)
+        grouped = c.put.ensures.grouped;
+        homes = λ k. c.put.ensures.homes k ∙ ap (cond (same_id k c.args.id) (Some 0)) (gone k)
             ∙ ap (λ b. cond b (Some 0) None) (sym (or_false (same_id k c.args.id))) ∙ (λ i. home_of (sym items i) (sym numbers i) k);
         places = λ p less. (λ i. slice_get (places i) (get_or (numbers i) p 0)) ∙ lone p (omega (arith, less, ap length blocks));
         as_many = omega (arith, ap length places, ap length blocks, c.push.new.self.ok, c.push-2.new.self.ok);
-        counted = len ∙ (λ i. empty i + cond (new_one i) 0 1) ∙ ap (λ xs. length (joined xs)) (sym items);
         halves = subst AreHalfFull (sym items) (λ many. absurd (omega (arith, many)));
       };
       room = λ n room. record {
         paid = omega (arith, room.paid, before, after, one, fewer, c.requires.none);
-        index = omega (arith, room.index, c.insert-kept.ensures.spare);
+        index = c.put.ensures.room n room.index;
         blocks = omega (arith, room.blocks, c.push.ensures.capacity, one, fewer, c.requires.none);
         places = omega (arith, room.places, c.push-2.ensures.capacity, one, fewer, c.requires.none);
+        few = omega (arith, room.few, one, fewer, c.requires.none);
       };
     } where
       lone : (p : ℕ) → p < 1 → slice_get (0 ∷ []) (get_or (0 ∷ []) p 0) ≡ Some p

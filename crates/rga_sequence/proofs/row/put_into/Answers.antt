@@ -1,7 +1,6 @@
 -- The goals of `put_into` that are answered by hand.
-use Rattle.std.proofs.Common.{◌≡◌, ◌<◌, ◌+◌, ◌∙◌, [], Some, cond, false, sym, ap, subst, length, get_or, arith}
-use Rattle.std.specs.Prelude.{insert, slice_get, is_some}
-use Rattle.std.specs.HashMap.{get, hash_map_len}
+use Rattle.std.proofs.Common.{◌≡◌, ◌<◌, ◌+◌, ◌∙◌, [], Some, cond, sym, ap, subst, length, get_or, arith}
+use Rattle.std.specs.Prelude.{insert, slice_get}
 use Rattle.bg_types.specs.Identifier.{same_id}
 use Rattle.std.proofs.lemmas.List.Edits.{length-insert}
 use Rattle.rga_tree.specs.declared.element.Element.{Element}
@@ -9,10 +8,9 @@ use Rattle.rga_sequence.specs.declared.block.Block.{Block}
 use Rattle.rga_sequence.specs.Blocks.{joined, offset}
 use Rattle.rga_sequence.specs.BlockRows.{items_of, numbers_of, home_of, AreHalfFull}
 use Rattle.rga_sequence.proofs.Halves.{AreHalfFull-set}
-use Rattle.rga_sequence.proofs.Homes.{id_eq, put_home}
 use Rattle.rga_sequence.proofs.Joined.{insert_joined, offset_within}
-use Rattle.rga_sequence.proofs.Members.{is_some-home}
 use Rattle.rga_sequence.proofs.Numbers.{length-items, length-numbers, number_there}
+use Rattle.rga_sequence.proofs.Places.{few_numbers}
 use Rattle.rga_sequence.proofs.Put.{home_put}
 use Rattle.rga_sequence.proofs.row.put_into.Goals as goal
 
@@ -33,28 +31,35 @@ returns c =
     let many : length xs ≡ length ns = omega (arith, len_xs, len_ns) in
     let number_is : (c.index.result.now).number ≡ get_or ns q 0 =
     ap (λ (b : Block). b.number) c.index.ensures ∙ sym (number_there c.put_at.new.blocks.items q c.index.result.now (omega (arith, c.put_at.new.blocks.ok, c.put_at.ensures.len, c.requires.block))) ∙ ap (λ r. get_or r q 0) c.put_at.ensures.numbers in
-    let none : is_some (get id_eq c.args.row.now.index c.args.id) ≡ false = ap is_some (c.requires.indexed.homes c.args.id) ∙ is_some-home xs ns c.args.id many ∙ c.requires.new in
-    let updates = rw c.unwrap.ensures at c.insert-kept.ensures.updates in
-    let old = rw c.unwrap.ensures at c.insert-kept.ensures.old in
-    let len = rw c.unwrap.ensures at c.insert-kept.ensures.len in
-    let new_one : is_some c.unwrap.result ≡ false = ap is_some old ∙ none in
     record {
       elements = elements;
       indexed = record {
-        homes = λ k. updates.0 k ∙ put_home c.args.id k (c.index.result.now).number (get id_eq c.args.row.now.index k)
+        grouped = c.put.ensures.grouped;
+        homes = λ k. c.put.ensures.homes k
             ∙ (λ i. cond (same_id k c.args.id) (Some (number_is i)) (c.requires.indexed.homes k i))
             ∙ sym (home_put xs ns q c.args.at n k there many c.requires.new)
             ∙ (λ i. home_of (sym c.put_at.ensures.items i) (sym c.put_at.ensures.numbers i) k);
         places = λ p less. ap (λ r. slice_get c.args.row.now.places.items (get_or r p 0)) c.put_at.ensures.numbers
             ∙ c.requires.indexed.places p (omega (arith, less, c.put_at.ensures.len, c.put_at.new.blocks.ok, c.args.row.now.blocks.ok));
         as_many = omega (arith, c.put_at.ensures.len, c.requires.indexed.as_many);
-        counted = len ∙ ap (λ b. hash_map_len c.args.row.now.index + cond b 0 1) new_one ∙ ap (λ k. k + 1) c.requires.indexed.counted ∙ sym long;
         halves = subst AreHalfFull (sym c.put_at.ensures.items) (AreHalfFull-set xs q (insert x c.args.at n) c.requires.indexed.halves (omega (arith, length-insert x c.args.at n c.requires.within)));
       };
       room = λ m room. record {
         paid = omega (arith, room.paid, long, c.put_at.ensures.len);
-        index = omega (arith, room.index, c.insert-kept.ensures.spare);
+        index = c.put.ensures.room m room.index;
         blocks = omega (arith, room.blocks, c.put_at.ensures.len, c.put_at.ensures.capacity);
         places = omega (arith, room.places, c.put_at.ensures.len);
+        few = omega (arith, room.few, c.put_at.ensures.len);
       };
     }
+
+pub put-requires-clause-few : goal.put-requires-clause-few
+put-requires-clause-few c =
+    let bs = c.args.row.now.blocks.items in
+    let ns = numbers_of bs in
+    let len_ns : length ns ≡ length bs = length-numbers bs in
+    let many : length c.args.row.now.places.items ≡ length ns = omega (arith, len_ns, c.args.row.now.blocks.ok, c.args.row.now.places.ok, c.requires.indexed.as_many) in
+    let number_is : (c.index.result.now).number ≡ get_or ns c.args.q 0 =
+    ap (λ (b : Block). b.number) c.index.ensures ∙ sym (number_there c.put_at.new.blocks.items c.args.q c.index.result.now (omega (arith, c.put_at.new.blocks.ok, c.put_at.ensures.len, c.requires.block))) ∙ ap (λ r. get_or r c.args.q 0) c.put_at.ensures.numbers in
+    let below = few_numbers ns c.args.row.now.places.items c.args.q (λ p h. c.requires.indexed.places p (omega (arith, len_ns, h))) many (omega (arith, len_ns, c.args.row.now.blocks.ok, c.requires.block)) in
+    omega (arith, number_is, below, len_ns, c.args.row.now.blocks.ok, c.requires.room.few)

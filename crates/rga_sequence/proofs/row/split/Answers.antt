@@ -3,13 +3,13 @@ use Rattle.std.proofs.Common.{◌≡◌, ◌<◌, ◌≤◌, ◌+◌, ◌++◌, 
 use Rattle.std.specs.Prelude.{insert, slice_get, IsSome, is_ok, is_some, vec_len}
 use Rattle.std.specs.List.{AllByRecursion}
 use Rattle.std.specs.Option.{option_to_list}
-use Rattle.std.specs.HashMap.{get}
 use Rattle.std.proofs.lemmas.List.{take-append-drop, take_at}
 use Rattle.bg_types.specs.Identifier.{Identifier}
 use Rattle.rga_tree.specs.declared.element.Element.{Element}
 use Rattle.rga_sequence.specs.declared.block.Block.{Block}
 use Rattle.rga_sequence.specs.Blocks.{joined}
 use Rattle.rga_sequence.specs.BlockRows.{items_of, numbers_of, has, home_of, AreHalfFull}
+use Rattle.rga_sequence.specs.Grouped.{home_in}
 use Rattle.rga_sequence.proofs.Halves.{full_paid, AreHalfFull-split}
 use Rattle.rga_sequence.proofs.Homes.{id_eq}
 use Rattle.rga_sequence.proofs.Joined.{split_joined, split_high}
@@ -35,8 +35,8 @@ unwrap-upper-requires c =
     let paid = full_paid xs q c.requires.indexed.halves there c.requires.full in
     c.pop.ensures.variant.1 (omega (arith, paid, c.requires.room.paid, len_xs, c.args.row.now.blocks.ok))
 
-pub rehome-requires : goal.rehome-requires
-rehome-requires c =
+pub rehome-requires-clause-known : goal.rehome-requires-clause-known
+rehome-requires-clause-known c =
     let bs = c.args.row.now.blocks.items in
     let xs = items_of bs in
     let ns = numbers_of bs in
@@ -52,10 +52,15 @@ rehome-requires c =
     let moved_is : c.deref.result.now ≡ high =
     c.deref.ensures.value ∙ ap (λ (b : Block). b.elements.items) c.index.ensures ∙ sym (items_there new (q + 1) c.index.result.now longer)
     ∙ ap (λ r. get_or r (q + 1) []) c.split_at.ensures.items ∙ split_high xs q low high there in
-    let at_home : Identifier → Type 0 = λ k. IsSome (get id_eq c.args.row.now.index k) in
+    let at_home : Identifier → Type 0 = λ k. IsSome (home_in id_eq c.args.row.now.index k) in
     let all : AllByRecursion (λ (e : Element). at_home e.id) high = all_have at_home high (λ k inside.
     ap is_some (c.requires.indexed.homes k) ∙ is_some-home xs ns k (omega (arith, len_xs, len_ns)) ∙ has_joined xs q k there (has_drop 256 x k inside)) in
     subst (λ es. AllByRecursion (λ (e : Element). at_home e.id) es) (sym moved_is) all
+
+pub rehome-requires-clause-few : goal.rehome-requires-clause-few
+rehome-requires-clause-few c =
+    let fewer : vec_len c.pop.new.self + 1 ≡ vec_len c.args.row.now.spares = omega (arith, c.pop.ensures.len, ap (λ o. length (option_to_list o)) c.unwrap-upper.ensures) in
+    omega (arith, c.len-number.ensures, fewer, c.requires.room.few)
 
 pub renumber-requires : goal.renumber-requires
 renumber-requires c =
@@ -124,18 +129,19 @@ returns c =
     record {
       blocks = items;
       indexed = record {
+        grouped = c.rehome.ensures.grouped;
         homes = λ k. c.rehome.ensures.home k ∙ (λ i. cond (has k (moved_is i)) (Some number) (c.requires.indexed.homes k i))
             ∙ sym (home_split-at xs ns q number low high k there numbered halved (halves_apart xs q 256 there c.requires.distinct) (all_apart xs c.requires.distinct))
             ∙ (λ i. home_of (sym items i) (sym c.split_at.ensures.numbers i) k);
         places = λ p less. (λ i. slice_get (kept i) (get_or (numbers_of (sym c.deref-2.ensures.value i)) p 0)) ∙ c.renumber.ensures p (omega (arith, less, ap length c.deref-2.ensures.value));
         as_many = omega (arith, pushed, c.split_at.ensures.len, c.requires.indexed.as_many);
-        counted = c.rehome.ensures.len ∙ c.requires.indexed.counted ∙ ap length (sym (ap joined items ∙ split_joined xs q low high there halved));
         halves = subst AreHalfFull (sym items) (AreHalfFull-split xs q low high c.requires.indexed.halves there (omega (arith, l)) (omega (arith, h)));
       };
       room = λ n room. record {
         paid = omega (arith, room.paid, same, c.split_at.ensures.len, fewer);
-        index = omega (arith, room.index, c.rehome.ensures.spare);
+        index = c.rehome.ensures.room n room.index;
         blocks = omega (arith, room.blocks, c.split_at.ensures.len, c.split_at.ensures.capacity, fewer);
         places = omega (arith, room.places, c.push.ensures.capacity, c.split_at.ensures.len, fewer);
+        few = omega (arith, room.few, c.split_at.ensures.len, fewer);
       };
     }

@@ -11,4 +11,4 @@ returns-else-is_some c =
     let bs = c.args.row.now.blocks.items in
     let len_xs : length (items_of bs) ≡ length bs = length-items bs in
     let len_ns : length (numbers_of bs) ≡ length bs = length-numbers bs in
-    c.contains_key.ensures ∙ ap is_some (c.requires.indexed.homes c.args.id) ∙ is_some-home (items_of bs) (numbers_of bs) c.args.id (omega (arith, len_xs, len_ns))
+    c.is_some-else-is_some.ensures ∙ ap is_some c.home.ensures ∙ ap is_some (c.requires.indexed.homes c.args.id) ∙ is_some-home (items_of bs) (numbers_of bs) c.args.id (omega (arith, len_xs, len_ns))

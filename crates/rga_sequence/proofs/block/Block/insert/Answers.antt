@@ -1,6 +1,6 @@
 -- The goals of `insert` that are answered by hand.
-use Rattle.std.proofs.Common.{◌≡◌, ◌≤◌, ◌<◌, ◌+◌, ◌∙◌, cond, true, sym, ap, length, arith}
-use Rattle.std.specs.Prelude.{insert, is_ok, vec_len, vec_capacity}
+use Rattle.std.proofs.Common.{◌≡◌, ◌≤◌, ◌+◌, ◌∙◌, true, sym, ap, length, arith}
+use Rattle.std.specs.Prelude.{insert, vec_len, vec_capacity}
 use Rattle.rga_tree.specs.declared.element.Element.{Element}
 use Rattle.rga_sequence.specs.Blocks.{seen, is_least}
 use Rattle.rga_sequence.proofs.Grown.{seen-insert, seen_le, weight_le, least-insert}
@@ -10,18 +10,19 @@ use Rattle.rga_sequence.proofs.block.Block.insert.Goals as goal
 pub overflow_add-self : goal.overflow_add-self
 overflow_add-self c = omega (arith, c.args.self.now.counted, seen_le c.args.self.now.elements.items, c.requires.room, c.weight.ensures, weight_le c.args.hidden)
 
+pub insert_element-requires-clause-room : goal.insert_element-requires-clause-room
+insert_element-requires-clause-room c = omega (arith, c.requires.room, c.args.self.now.room)
+
 pub invariant_of-self : goal.invariant_of-self
 invariant_of-self c =
     let es = c.args.self.now.elements in
     let n : Element = record { id = c.args.id; parent = c.args.parent; ch = c.args.ch; hidden = c.args.hidden } in
-    let free : vec_len es < vec_capacity es = omega (arith, es.ok, c.requires.room, c.args.self.now.room) in
-    let ok : is_ok c.insert.result ≡ true = c.insert.ensures.succeeds free in
-    let items : c.insert.new.self.items ≡ insert es.items c.args.at n = c.insert.ensures.items ∙ ap (λ b. cond b (insert es.items c.args.at n) es.items) ok in
+    let items : c.insert_element.new.row.items ≡ insert es.items c.args.at n = c.insert_element.ensures.items in
     let long = length-insert es.items c.args.at n c.requires.within in
-    let few : vec_len c.insert.new.self ≤ 512 = omega (arith, c.insert.new.self.ok, ap length items, long, c.requires.room) in
-    let room : 512 ≤ vec_capacity c.insert.new.self = omega (arith, c.args.self.now.room, c.insert.ensures.capacity) in
-    let counted : c.args.self.now.visible + c.weight.result ≡ seen c.insert.new.self.items =
+    let few : vec_len c.insert_element.new.row ≤ 512 = omega (arith, c.insert_element.new.row.ok, ap length items, long, c.requires.room) in
+    let room : 512 ≤ vec_capacity c.insert_element.new.row = omega (arith, c.args.self.now.room, c.insert_element.ensures.capacity) in
+    let counted : c.args.self.now.visible + c.weight.result ≡ seen c.insert_element.new.row.items =
     (λ i. c.args.self.now.counted i + c.weight.ensures i) ∙ sym (seen-insert es.items c.args.at n) ∙ ap seen (sym items) in
-    let least : is_least c.lesser-self.result c.insert.new.self.items ≡ true =
+    let least : is_least c.lesser-self.result c.insert_element.new.row.items ≡ true =
     (λ i. is_least (c.lesser-self.ensures i) (items i)) ∙ least-insert es.items c.args.at n c.args.self.now.least c.args.self.now.least_is in
     record { few = few; room = room; counted = counted; least_is = least }

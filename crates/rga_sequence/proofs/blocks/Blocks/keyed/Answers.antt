@@ -1,10 +1,8 @@
 -- The goals of `keyed` that are answered by hand.
 use Rattle.std.proofs.Common.{◌∙◌, sym, ap, length, arith}
-use Rattle.std.specs.Map.{lookup}
 use Rattle.rga_tree.proofs.Interface.{KeepsWalk-nothing}
 use Rattle.rga_sequence.specs.Blocks.{joined, seen}
 use Rattle.rga_sequence.specs.BlockRows.{items_of, numbers_of, home_of}
-use Rattle.rga_sequence.proofs.Homes.{id_eq}
 use Rattle.rga_sequence.proofs.blocks.Blocks.keyed.Goals as goal
 
 pub invariant_of-result : goal.invariant_of-result
@@ -15,17 +13,18 @@ invariant_of-result c =
     record {
       keeps_walk = KeepsWalk-nothing (joined (items_of c.new.result.items)) row;
       indexed = record {
-        homes = λ q. ap (lookup (id_eq q)) c.with_hasher.ensures.empty ∙ sym (ap (λ bs. home_of (items_of bs) (numbers_of bs) q) e);
+        grouped = c.empty.ensures.grouped;
+        homes = λ q. c.empty.ensures.homes q ∙ sym (ap (λ bs. home_of (items_of bs) (numbers_of bs) q) e);
         places = λ p h. absurd (omega (arith, none, h));
         as_many = omega (arith, c.new.ensures.len, c.new-3.ensures.len);
-        counted = c.with_hasher.ensures.len ∙ sym (ap length row);
         halves = λ h. absurd (omega (arith, ap (λ bs. length (items_of bs)) e, h));
       };
       enough = record {
         paid = omega (arith, ap length row);
-        index = omega arith;
+        index = c.empty.ensures.room;
         blocks = omega (arith, c.new.ensures.len, c.new-2.ensures.len);
         places = omega (arith, c.new.ensures.len, c.new-2.ensures.len);
+        few = omega (arith, c.new.ensures.len, c.new-2.ensures.len);
       };
       placed_are = sym (ap length row);
       visible_are = sym (ap seen row);

@@ -21,12 +21,13 @@ put-requires-clause-room c = less_room c.args.self.now.row c.args.self.now.room 
 
 pub overflow_add-self : goal.overflow_add-self
 overflow_add-self c =
-    let row = elements_in c.args.self.now.row in
-    let n : Element = record { id = c.args.id; parent = c.args.parent; ch = c.args.ch; hidden = c.args.hidden } in
-    let start = start_within row c.args.parent c.requires.parent in
-    let at = place_of c.args.parent c.args.id row in
-    let long : length (elements_in c.put.new.row) ≡ length row + 1 = ap length c.put.ensures.elements ∙ length-insert row at n (place_within c.args.parent c.args.id row start) in
-    omega (arith, long, c.len-self.ensures.len, c.put.ensures.indexed.counted, c.args.self.now.visible_are, seen_le row, c.weight.ensures, weight_le c.args.hidden)
+    let self = c.args.self.now in
+    omega (arith, self.placed_are, self.enough.paid, self.enough.few, c.requires.room)
+
+pub overflow_add-self-2 : goal.overflow_add-self-2
+overflow_add-self-2 c =
+    let self = c.args.self.now in
+    omega (arith, self.visible_are, seen_le (elements_in self.row), self.enough.paid, self.enough.few, c.weight.ensures, weight_le c.args.hidden)
 
 pub invariant_of-self : goal.invariant_of-self
 invariant_of-self c =
@@ -37,12 +38,13 @@ invariant_of-self c =
     let step = placing row (elements_in c.put.new.row) n at c.args.self.now.keeps_walk c.requires.parent (c.counter-known.ensures.identifier, c.requires.before, c.ranges.ch.0) c.requires.new start refl c.put.ensures.elements in
     let counted : c.args.self.now.visible + c.weight.result ≡ seen (elements_in c.put.new.row) =
     (λ i. c.args.self.now.visible_are i + c.weight.ensures i) ∙ sym (seen-insert row at n) ∙ ap seen (sym c.put.ensures.elements) in
+    let long : length (elements_in c.put.new.row) ≡ length row + 1 = ap length c.put.ensures.elements ∙ length-insert row at n (place_within c.args.parent c.args.id row start) in
     let some : c.args.self.now.room ≡ c.args.self.now.room - 1 + 1 = omega (arith, c.requires.room) in
     record {
       keeps_walk = step.0;
       indexed = c.put.ensures.indexed;
       enough = c.put.ensures.room (c.args.self.now.room - 1) (subst (HasRoom c.args.self.now.row) some c.args.self.now.enough);
-      placed_are = c.len-self.ensures.len ∙ c.put.ensures.indexed.counted;
+      placed_are = omega (arith, c.args.self.now.placed_are, long);
       visible_are = counted;
     }
 
