@@ -36,14 +36,23 @@ row() {
     tell "$name" $? "status $got, wrote '$(cat "$folder/out")', said '$(head -n 1 "$folder/err")'"
 }
 
-# full NAME WORD..: the same into a full device, which is told
-full() {
-    local name=$1 got
+# lost NAME WORD..: the same into a full device, into a closed one, and into a pipe whose reader has left; each is told
+lost() {
+    local name=$1
     shift
     (cd "$folder" && "$program" "$@" >/dev/full 2>err)
-    got=$?
-    [ "$got" = 3 ] && [ "$(cat "$folder/err")" = 'bidigrid: device' ]
-    tell "a full device: $name" $? "status $got, said '$(head -n 1 "$folder/err")'"
+    told_device "a full device: $name" $?
+    (cd "$folder" && "$program" "$@" >&- 2>err)
+    told_device "a closed device: $name" $?
+    # The pipe is opened for both ends, so that its writer needn't wait for the reader that then leaves.
+    (cd "$folder" && rm -f pipe && mkfifo pipe && exec 3<>pipe 4>pipe 3>&- && "$program" "$@" >&4 4>&- 2>err)
+    told_device "a reader that has left: $name" $?
+}
+
+# told_device NAME STATUS: counts a row that told of a device and ended so
+told_device() {
+    [ "$2" = 3 ] && [ "$(cat "$folder/err")" = 'bidigrid: device' ]
+    tell "$1" $? "status $2, said '$(head -n 1 "$folder/err")'"
 }
 
 # same NAME FILE WORD..: run at the top of the repository the program writes the bytes of the file
