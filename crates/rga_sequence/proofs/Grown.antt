@@ -7,8 +7,8 @@ use Rattle.std.proofs.lemmas.List.{take-append-drop}
 use Rattle.bg_types.specs.Identifier.{Identifier, id_cmp, same_id}
 use Rattle.bg_types.proofs.Interface.{and_parts}
 use Rattle.rga_tree.specs.declared.element.Element.{Element}
-use Rattle.rga_sequence.specs.Blocks.{seen, is_least}
-use Rattle.rga_sequence.proofs.Least.{none_below, lower, itself, not_itself}
+use Rattle.rga_sequence.specs.Blocks.{seen, none_below, is_least}
+use Rattle.rga_sequence.proofs.Least.{lower, itself, not_itself}
 
 seen_with : (l r : List Element) (n : Element) → seen (l ++ n ∷ r) ≡ seen (l ++ r) + cond n.hidden 0 1
 seen_with [] r n = elim n.hidden as (λ h. length (cond (not h) (n ∷ filter (λ e. not e.hidden) r) (filter (λ e. not e.hidden) r)) ≡ seen r + cond h 0 1) [ true ↦ omega arith | false ↦ omega arith ]
@@ -35,7 +35,7 @@ weight_le false = omega arith
 and_both : (a b : Bool) → a ≡ true → b ≡ true → (a && b) ≡ true
 and_both a b p q = ap (λ x. x && b) p ∙ q
 
-all_with : (p : Element → Bool) (l r : List Element) (n : Element) → p n ≡ true → list_all p (l ++ r) ≡ true → list_all p (l ++ n ∷ r) ≡ true
+pub all_with : (p : Element → Bool) (l r : List Element) (n : Element) → p n ≡ true → list_all p (l ++ r) ≡ true → list_all p (l ++ n ∷ r) ≡ true
 all_with p [] r n here rest = and_both (p n) (list_all p r) here rest
 all_with p (x ∷ l) r n here rest = let q = and_parts (p x) (list_all p (l ++ r)) rest in and_both (p x) (list_all p (l ++ n ∷ r)) q.0 (all_with p l r n here q.1)
 

@@ -4,20 +4,17 @@ use Rattle.std.specs.declared.cmp.Ordering.{Ordering}
 use Rattle.std.specs.declared.cmp.Ordering.TheVariants.{Less, Equal, Greater}
 use Rattle.std.specs.Ordering.{is_lt, is_eq}
 use Rattle.std.specs.Cmp.{tied_itself}
-use Rattle.std.specs.List.{list_all, list_any}
+use Rattle.std.specs.List.{list_any}
 use Rattle.std.proofs.lemmas.List.Folds.{list_all_more, list_any_at}
 use Rattle.bg_types.specs.Identifier.{Identifier, id_cmp, same_id}
 use Rattle.rga_tree.specs.declared.element.Element.{Element}
+use Rattle.rga_sequence.specs.Blocks.{none_below}
 use Rattle.bg_types.proofs.Interface.{and_parts, id_cmp-total}
 
 pub is_Less : (o : Ordering) → is_lt o ≡ true → o ≡ Less
 is_Less Less h = refl
 is_Less Equal h = absurd cc
 is_Less Greater h = absurd cc
-
--- no element is smaller
-abbrev pub none_below : Identifier → List Element → Bool
-none_below m es = list_all (λ e. not (is_lt (id_cmp e.id m))) es
 
 -- what isn't below something isn't below what is smaller
 not_below : (x m n : Identifier) → not (is_lt (id_cmp x m)) ≡ true → is_lt (id_cmp n m) ≡ true → not (is_lt (id_cmp x n)) ≡ true

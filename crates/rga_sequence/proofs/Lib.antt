@@ -4,6 +4,8 @@ pub mod Homes
 pub mod Groups
 pub mod Joined
 pub mod Least
+pub mod Falling
+pub mod Neighbours
 pub mod Seen
 pub mod Split
 pub mod Passing

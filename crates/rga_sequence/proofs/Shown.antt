@@ -22,7 +22,7 @@ seen-hide (x ∷ es) (suc at) d h =
     let rest = seen-hide es at d (omega arith) in
     elim x.hidden as (λ b. length (cond (not b) (x ∷ f) f) + w ≡ length (cond (not b) (x ∷ g) g)) [ true ↦ rest | false ↦ omega (arith, rest) ]
 
-all-hide : (p : Identifier → Bool) (es : List Element) (at : ℕ) (d : Element) → list_all (λ e. p e.id) (set es at (hidden_at es at d)) ≡ list_all (λ e. p e.id) es
+pub all-hide : (p : Identifier → Bool) (es : List Element) (at : ℕ) (d : Element) → list_all (λ e. p e.id) (set es at (hidden_at es at d)) ≡ list_all (λ e. p e.id) es
 all-hide p [] zero d = refl
 all-hide p [] (suc at) d = refl
 all-hide p (x ∷ es) zero d = refl

@@ -3,7 +3,7 @@
 ghost use Rattle.std.specs.Prelude.{◌≡◌, ◌+◌, ◌<◌, ◌≤◌, ◌∷◌, length, take, drop, insert, slice_set, slice_index_or, vec_len, vec_capacity, true, [], if◌then◌else◌};
 ghost use Rattle.std.specs.Ordering.{is_lt};
 ghost use Rattle.bg_types.specs.Identifier.{id_cmp};
-ghost use Rattle.rga_sequence.specs.Blocks.{seen, is_least};
+ghost use Rattle.rga_sequence.specs.Blocks.{seen, is_least, FallsFrom, FallsFrom-prop};
 
 use bg_types::{Id, Place};
 use rga_tree::Element;
@@ -24,10 +24,15 @@ pub struct Block {
     pub number: usize,
     /// Where an element was put in last. The next one is often put after it.
     pub recent: usize,
+    /// From here on each identifier is greater than the next, as in children of one parent. It
+    /// need not be the first such place.
+    pub falling: usize,
     ghost few: { vec_len elements ≤ 512 },
     ghost room: { 512 ≤ vec_capacity elements },
     ghost counted: { visible ≡ seen elements.items },
     ghost least_is: { is_least least elements.items ≡ true },
+    ghost falling_within: { falling ≤ vec_len elements },
+    ghost falls: { FallsFrom falling elements.items } by { FallsFrom-prop falling elements.items },
 }
 
 impl Block {
@@ -61,6 +66,7 @@ impl Block {
             least: id,
             number,
             recent: 0,
+            falling: 0,
         }
     }
 
@@ -75,6 +81,7 @@ impl Block {
         self.least = lesser(id, self.least);
         self.visible += weight(hidden);
         self.recent = at;
+        self.falling = falling_with(&self.elements, self.falling, at, id);
         insert_element(&mut self.elements, at, id, parent, ch, hidden);
     }
 
@@ -111,12 +118,15 @@ impl Block {
         self.visible = count_visible(&self.elements);
         let least = least_of(&upper);
         let visible = count_visible(&upper);
+        let falling = self.falling.saturating_sub(HALF);
+        self.falling = self.falling.min(HALF);
         Block {
             elements: upper,
             visible,
             least,
             number,
             recent: HALF - 1,
+            falling,
         }
     }
 }
@@ -140,6 +150,27 @@ fn insert_element(row: &mut Vec<Element>, at: usize, id: Id, parent: Place, ch: 
     } else {
         row.insert(at, element).unwrap();
     }
+}
+
+/// From where on identifiers fall once this one stands at `at`. Only its neighbours are looked at.
+fn falling_with(row: &[Element], falling: usize, at: usize, id: Id) -> usize
+    requires within { at ≤ length row.now }
+    requires few { length row.now ≤ 512 }
+    requires falls { FallsFrom falling row.now }
+    requires from { falling ≤ length row.now }
+    ensures falls { (n : Element) → n.id ≡ id → FallsFrom result (insert row.now at n) }
+    ensures from { result ≤ length row.now + 1 }
+{
+    if at < falling {
+        return falling + 1;
+    }
+    if at < row.len() && !is_below(row[at].id, id) {
+        return at + 1;
+    }
+    if falling < at && !is_below(id, row[at - 1].id) {
+        return at;
+    }
+    falling
 }
 
 fn count_visible(row: &[Element]) -> usize
@@ -169,7 +200,8 @@ fn least_of(row: &[Element]) -> Id
     least
 }
 
-fn lesser(a: Id, b: Id) -> Id
+/// The lesser of two identifiers.
+pub fn lesser(a: Id, b: Id) -> Id
     ensures { result ≡ (if is_lt (id_cmp a b) then a else b) }
 {
     if is_below(a, b) { a } else { b }

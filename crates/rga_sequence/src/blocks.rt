@@ -65,6 +65,7 @@ impl Blocks {
                 index: empty(alloc, hasher),
                 places: Vec::new(alloc),
                 recent: 0,
+                bounds: Vec::new(alloc),
             },
             alloc,
             placed: 0,

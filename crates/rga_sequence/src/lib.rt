@@ -3,6 +3,7 @@
 
 mod block;
 mod blocks;
+mod bounds;
 mod index;
 pub mod laws;
 mod look;

@@ -10,6 +10,7 @@ ghost use Rattle.rga_sequence.specs.BlockRows.{has, items_of};
 ghost use Rattle.rga_sequence.specs.Indexed.{blocks_in, elements_in, IsIndexed, HasRoom};
 
 use crate::block::{Block, FULL, HALF, Spare};
+use crate::bounds::{self, NEIGHBOURS};
 use crate::index::{self, Index, home, rehome, renumber};
 use crate::order::{count_in, hide_at, put_at, split_at};
 use crate::skip::place_from;
@@ -30,6 +31,9 @@ pub struct Row {
     pub places: Vec<usize>,
     /// The block where an element was put in last. The next one is often put after it.
     pub recent: usize,
+    /// For each 64 blocks of the row an identifier that is no greater than any of theirs. The last
+    /// blocks may have none.
+    pub bounds: Vec<Id>,
 }
 
 /// Whether an element has this identifier. The one that was put in last is known without a hash.
@@ -112,7 +116,7 @@ pub fn put(row: &mut Row, id: Id, parent: Place, ch: char, hidden: bool)
         put_first(row, id, parent, ch, hidden);
     } else {
         let (p, j) = start(row, &parent);
-        let (q, at) = place_from(&row.blocks, p, j, id);
+        let (q, at) = place_from(&row.blocks, &row.bounds, p, j, id);
         let (q, at) = make_room(row, q, at);
         put_into(row, q, at, id, parent, ch, hidden);
     }
@@ -131,6 +135,7 @@ fn put_first(row: &mut Row, id: Id, parent: Place, ch: char, hidden: bool)
     let block = Block::lone(elements, 0, id, parent, ch, hidden);
     row.blocks.push(block).unwrap();
     row.places.push(0).unwrap();
+    row.bounds.clear();
     index::put(&mut row.index, id, 0);
     row.recent = 0;
 }
@@ -199,6 +204,9 @@ fn split(row: &mut Row, q: usize)
     rehome(&mut row.index, &row.blocks[q + 1].elements, number);
     row.places.push(number).unwrap();
     renumber(&mut row.places, &row.blocks, q + 1);
+    let from = NEIGHBOURS * row.bounds.len().min(q / NEIGHBOURS);
+    bounds::add(&mut row.bounds, row.blocks.len(), row.blocks[q].least);
+    bounds::renew(&mut row.bounds, &row.blocks, from);
 }
 
 /// Puts a new element into a block that has room.
@@ -215,6 +223,7 @@ fn put_into(row: &mut Row, q: usize, at: usize, id: Id, parent: Place, ch: char,
     ensures room { (n : ℕ) → HasRoom row.old (n + 1) → HasRoom row.new n }
 {
     put_at(&mut row.blocks, q, at, id, parent, ch, hidden);
+    bounds::lower(&mut row.bounds, q, id);
     let number = row.blocks[q].number;
     index::put(&mut row.index, id, number);
     row.recent = q;
@@ -269,6 +278,7 @@ pub fn make_memory(row: &mut Row, alloc: Global, n: usize, more: usize) -> Resul
     row.spares.reserve(more)?;
     row.blocks.reserve(row.spares.capacity())?;
     row.places.reserve(row.spares.capacity())?;
+    row.bounds.reserve(row.spares.capacity() / NEIGHBOURS + 1)?;
     add_spares(&mut row.spares, alloc, more)
 }
 

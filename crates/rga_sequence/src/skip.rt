@@ -3,9 +3,11 @@ ghost use Rattle.std.specs.Ordering.{is_lt};
 ghost use Rattle.std.specs.List.{prefix_len};
 ghost use Rattle.bg_types.specs.Identifier.{id_cmp};
 ghost use Rattle.rga_sequence.specs.BlockRows.{items_of};
-ghost use Rattle.rga_sequence.specs.Blocks.{joined, offset};
+ghost use Rattle.rga_sequence.specs.Bounds.{AreBounds};
+ghost use Rattle.rga_sequence.specs.Blocks.{joined, offset, FallsFrom};
 
 use crate::block::Block;
+use crate::bounds::NEIGHBOURS;
 use bg_types::Id;
 use rga_tree::Element;
 
@@ -25,42 +27,88 @@ fn passed_in_front(blocks: &[Block], id: Id) -> usize
     blocks.iter().take_while(|b| id < b.least).count()
 }
 
-/// How many elements from `j` on are greater than the identifier, up to the first that isn't.
-fn greater_from(row: &[Element], j: usize, id: Id) -> usize
-    requires { j ≤ length row.now }
-    ensures count { result ≡ prefix_len (λ e. is_lt (id_cmp id e.id)) (drop j row.now) }
-    ensures within { result ≤ length row.now - j }
+/// The same of a row in which the identifiers fall: by halving.
+fn greater_in_falling(row: &[Element], id: Id) -> usize
+    requires { FallsFrom 0 row.now }
+    ensures count { result ≡ prefix_len (λ e. is_lt (id_cmp id e.id)) row.now }
+    ensures within { result ≤ length row.now }
 {
-    greater_in_front(&row[j..], id)
+    row.partition_point(|e| id < e.id)
 }
 
-/// How many blocks from `p` on have only greater elements, up to the first that hasn't.
-fn greater_blocks(blocks: &[Block], p: usize, id: Id) -> usize
-    requires { p ≤ length blocks.now }
+/// How many elements of a block from `j` on are greater than the identifier, up to the first that
+/// isn't.
+fn greater_from(block: &Block, j: usize, id: Id) -> usize
+    requires { j ≤ length block.now.elements.items }
+    ensures count { result ≡ prefix_len (λ e. is_lt (id_cmp id e.id)) (drop j block.now.elements.items) }
+    ensures within { result ≤ length block.now.elements.items - j }
+{
+    let row = &block.elements;
+    let from = j.max(block.falling);
+    let count = greater_in_front(&row[j..from], id);
+    if count < from - j {
+        return count;
+    }
+    count + greater_in_falling(&row[from..], id)
+}
+
+/// How many bounds at the front are greater than the identifier.
+fn bounds_in_front(bounds: &[Id], id: Id) -> usize
+    ensures count { result ≡ prefix_len (λ m. is_lt (id_cmp id m)) bounds.now }
+    ensures within { result ≤ length bounds.now }
+{
+    bounds.iter().take_while(|m| id < **m).count()
+}
+
+/// How many bounds from entry g on are greater than the identifier, up to the first that isn't.
+fn greater_bounds(bounds: &[Id], g: usize, id: Id) -> usize
+    ensures count { result ≡ prefix_len (λ m. is_lt (id_cmp id m)) (drop g bounds.now) }
+    ensures within { result ≤ length bounds.now - g }
+{
+    if bounds.len() <= g {
+        return 0;
+    }
+    bounds_in_front(&bounds[g..], id)
+}
+
+/// How many blocks from `p` on have only greater elements, up to the first that hasn't. Neighbours
+/// whose bound is greater are passed together.
+fn greater_blocks(blocks: &[Block], bounds: &[Id], p: usize, id: Id) -> usize
+    requires within { p ≤ length blocks.now }
+    requires bounds { AreBounds bounds.now (items_of blocks.now) }
     ensures count { result ≡ prefix_len (λ b. is_lt (id_cmp id b.least)) (drop p blocks.now) }
     ensures within { result ≤ length blocks.now - p }
 {
-    passed_in_front(&blocks[p..], id)
+    let g = p / NEIGHBOURS + 1;
+    let end = blocks.len().min(NEIGHBOURS * g);
+    let near = passed_in_front(&blocks[p..end], id);
+    if near < end - p {
+        return near;
+    }
+    let passed = (g + greater_bounds(bounds, g, id)).min(blocks.len() / NEIGHBOURS);
+    let far = end.max(NEIGHBOURS * passed);
+    far - p + passed_in_front(&blocks[far..], id)
 }
 
 /// Where a new identifier goes, from element `j` of block `p` on: before the first that isn't greater.
 /// Blocks in which all are greater are passed whole.
-pub fn place_from(blocks: &[Block], p: usize, j: usize, id: Id) -> (usize, usize)
+pub fn place_from(blocks: &[Block], bounds: &[Id], p: usize, j: usize, id: Id) -> (usize, usize)
     requires block { p < length blocks.now }
+    requires bounds { AreBounds bounds.now (items_of blocks.now) }
     requires within { j ≤ length (get_or (items_of blocks.now) p []) }
     ensures block { result.0 < length blocks.now }
     ensures within { result.1 ≤ length (get_or (items_of blocks.now) result.0 []) }
     ensures place { let s = offset (items_of blocks.now) p j in
         offset (items_of blocks.now) result.0 result.1 ≡ s + prefix_len (λ e. is_lt (id_cmp id e.id)) (drop s (joined (items_of blocks.now))) }
 {
-    let here = &blocks[p].elements;
+    let here = &blocks[p];
     let at = j + greater_from(here, j, id);
-    if at < here.len() {
+    if at < here.elements.len() {
         return (p, at);
     }
-    let q = p + 1 + greater_blocks(blocks, p + 1, id);
+    let q = p + 1 + greater_blocks(blocks, bounds, p + 1, id);
     let at = if q < blocks.len() {
-        greater_from(&blocks[q].elements, 0, id)
+        greater_from(&blocks[q], 0, id)
     } else {
         0
     };

@@ -3,7 +3,8 @@ use Rattle.std.proofs.Common.{◌≡◌, ◌+◌, ◌∙◌, true, sym, subst, t
 use Rattle.std.specs.List.{list_any}
 use Rattle.std.specs.Ordering.{is_lt}
 use Rattle.bg_types.specs.Identifier.{Identifier, id_cmp, same_id}
-use Rattle.rga_sequence.proofs.Least.{none_below, least_lower, least_stays}
+use Rattle.rga_sequence.specs.Blocks.{none_below}
+use Rattle.rga_sequence.proofs.Least.{least_lower, least_stays}
 use Rattle.rga_sequence.proofs.block.least_of.Goals.{then-is_below, else-is_below}
 use Rattle.rga_sequence.proofs.block.least_of.Goals as goal
 

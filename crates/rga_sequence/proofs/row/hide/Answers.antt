@@ -1,15 +1,18 @@
 -- The goals of `hide` that are answered by hand.
-use Rattle.std.proofs.Common.{◌≡◌, ◌<◌, ◌∙◌, [], true, false, sym, ap, subst, length, get_or, length-set, arith}
+use Rattle.std.proofs.Common.{◌≡◌, ◌<◌, ◌∙◌, [], not, true, false, sym, ap, subst, length, get_or, length-set, arith}
 use Rattle.std.specs.Prelude.{set, slice_get}
-use Rattle.bg_types.specs.Identifier.{same_id}
+use Rattle.std.specs.Ordering.{is_lt}
+use Rattle.bg_types.specs.Identifier.{id_cmp, same_id}
 use Rattle.bg_types.specs.declared.op.Place.TheVariants.{Root}
 use Rattle.rga_tree.specs.declared.element.Element.{Element}
 use Rattle.rga_sequence.specs.Blocks.{seen, joined, offset}
 use Rattle.rga_sequence.specs.BlockRows.{items_of, numbers_of, home_of, AreHalfFull}
+use Rattle.rga_sequence.specs.Bounds.{AreBounds}
 use Rattle.rga_sequence.proofs.Halves.{AreHalfFull-set}
 use Rattle.rga_sequence.proofs.Members.{until}
+use Rattle.rga_sequence.proofs.Neighbours.{bounds-same}
 use Rattle.rga_sequence.proofs.Put.{home_kept}
-use Rattle.rga_sequence.proofs.Shown.{hidden_at, any-hide}
+use Rattle.rga_sequence.proofs.Shown.{hidden_at, all-hide, any-hide}
 use Rattle.rga_sequence.proofs.Spots.{get_or_joined, set_joined, there_set, seen_set}
 use Rattle.rga_sequence.proofs.Numbers.{length-items}
 use Rattle.rga_sequence.proofs.row.hide.Goals as goal
@@ -45,6 +48,7 @@ returns c =
             ∙ c.requires.indexed.places k (omega (arith, less, c.hide_at.ensures.len, c.hide_at.new.blocks.ok, bs.ok));
         as_many = omega (arith, c.hide_at.ensures.len, c.requires.indexed.as_many);
         halves = subst AreHalfFull (sym items) (AreHalfFull-set xs p y c.requires.indexed.halves (omega (arith, as_long)));
+        bounds = subst (AreBounds c.args.row.now.bounds.items) (sym items) (bounds-same c.args.row.now.bounds.items xs p y (λ m. all-hide (λ i. not (is_lt (id_cmp i m))) x j none) c.requires.indexed.bounds);
       };
       room = λ n room. record {
         paid = omega (arith, room.paid, long, c.hide_at.ensures.len);

@@ -40,6 +40,15 @@ returns-in_err-reserve-4-clause-kept c = λ m room. record {
   few = omega (arith, room.few, c.reserve-2.ensures.len, c.reserve-3.ensures.len);
 }
 
+pub returns-in_err-reserve-5-clause-kept : goal.returns-in_err-reserve-5-clause-kept
+returns-in_err-reserve-5-clause-kept c = λ m room. record {
+  paid = omega (arith, room.paid, ap (λ bs. length (joined (items_of bs))) c.reserve-3.ensures.items, c.reserve-2.ensures.len, c.reserve-3.ensures.len);
+  index = c.reserve.ensures.kept m room.index;
+  blocks = omega (arith, room.blocks, c.reserve-2.ensures.len, c.reserve-3.ensures.len, c.reserve-3.ensures.capacity);
+  places = omega (arith, room.places, c.reserve-2.ensures.len, c.reserve-3.ensures.len, c.reserve-4.ensures.capacity);
+  few = omega (arith, room.few, c.reserve-2.ensures.len, c.reserve-3.ensures.len);
+}
+
 pub returns-clause-kept : goal.returns-clause-kept
 returns-clause-kept c = λ m room. record {
   paid = omega (arith, room.paid, ap (λ bs. length (joined (items_of bs))) c.reserve-3.ensures.items, c.reserve-2.ensures.len, c.reserve-3.ensures.len, c.add_spares.ensures.kept);

@@ -38,6 +38,7 @@ returns c =
         places = λ p less. (λ i. slice_get (places i) (get_or (numbers i) p 0)) ∙ lone p (omega (arith, less, ap length blocks));
         as_many = omega (arith, ap length places, ap length blocks, c.push.new.self.ok, c.push-2.new.self.ok);
         halves = subst AreHalfFull (sym items) (λ many. absurd (omega (arith, many)));
+        bounds = λ p d h. absurd (omega (arith, ap length c.clear.ensures.items, h));
       };
       room = λ n room. record {
         paid = omega (arith, room.paid, before, after, one, fewer, c.requires.none);

@@ -1,12 +1,14 @@
 -- The goals of `put_into` that are answered by hand.
-use Rattle.std.proofs.Common.{◌≡◌, ◌<◌, ◌+◌, ◌∙◌, [], Some, cond, sym, ap, subst, length, get_or, arith}
-use Rattle.std.specs.Prelude.{insert, slice_get}
+use Rattle.std.proofs.Common.{◌≡◌, ◌<◌, ◌+◌, ◌++◌, ◌∙◌, [], Some, cond, refl, sym, ap, subst, length, take, drop, get_or, arith}
+use Rattle.std.specs.Prelude.{insert, set, slice_get}
 use Rattle.bg_types.specs.Identifier.{same_id}
+use Rattle.std.proofs.lemmas.List.{take_at}
 use Rattle.std.proofs.lemmas.List.Edits.{length-insert}
 use Rattle.rga_tree.specs.declared.element.Element.{Element}
 use Rattle.rga_sequence.specs.declared.block.Block.{Block}
 use Rattle.rga_sequence.specs.Blocks.{joined, offset}
 use Rattle.rga_sequence.specs.BlockRows.{items_of, numbers_of, home_of, AreHalfFull}
+use Rattle.rga_sequence.specs.Bounds.{AreBounds}
 use Rattle.rga_sequence.proofs.Halves.{AreHalfFull-set}
 use Rattle.rga_sequence.proofs.Joined.{insert_joined, offset_within}
 use Rattle.rga_sequence.proofs.Numbers.{length-items, length-numbers, number_there}
@@ -31,6 +33,11 @@ returns c =
     let many : length xs ≡ length ns = omega (arith, len_xs, len_ns) in
     let number_is : (c.index.result.now).number ≡ get_or ns q 0 =
     ap (λ (b : Block). b.number) c.index.ensures ∙ sym (number_there c.put_at.new.blocks.items q c.index.result.now (omega (arith, c.put_at.new.blocks.ok, c.put_at.ensures.len, c.requires.block))) ∙ ap (λ r. get_or r q 0) c.put_at.ensures.numbers in
+    let ms = c.args.row.now.bounds.items in
+    let lowered : AreBounds c.lower.new.bounds (set xs q (insert x c.args.at n)) =
+    c.lower.ensures xs c.args.at n refl (subst (λ r. AreBounds r xs) (sym c.deref_mut.ensures.value) c.requires.indexed.bounds) in
+    let kept : take c.args.row.now.bounds.len (c.lower.new.bounds ++ drop (length c.lower.new.bounds) ms) ≡ c.lower.new.bounds =
+    take_at c.lower.new.bounds (drop (length c.lower.new.bounds) ms) c.args.row.now.bounds.len (omega (arith, c.lower.auto.bounds, c.deref_mut.ensures.len)) in
     record {
       elements = elements;
       indexed = record {
@@ -43,6 +50,7 @@ returns c =
             ∙ c.requires.indexed.places p (omega (arith, less, c.put_at.ensures.len, c.put_at.new.blocks.ok, c.args.row.now.blocks.ok));
         as_many = omega (arith, c.put_at.ensures.len, c.requires.indexed.as_many);
         halves = subst AreHalfFull (sym c.put_at.ensures.items) (AreHalfFull-set xs q (insert x c.args.at n) c.requires.indexed.halves (omega (arith, length-insert x c.args.at n c.requires.within)));
+        bounds = subst (λ ms. AreBounds ms (items_of c.put_at.new.blocks.items)) (sym kept) (subst (AreBounds c.lower.new.bounds) (sym c.put_at.ensures.items) lowered);
       };
       room = λ m room. record {
         paid = omega (arith, room.paid, long, c.put_at.ensures.len);

@@ -1,6 +1,6 @@
 -- The goals of `split` that are answered by hand.
-use Rattle.std.proofs.Common.{◌≡◌, ◌<◌, ◌≤◌, ◌+◌, ◌++◌, ◌∙◌, ◌∷◌, [], Some, cond, true, sym, ap, subst, length, take, drop, get_or, length-append, length-drop, length-take-le, arith}
-use Rattle.std.specs.Prelude.{insert, slice_get, IsSome, is_ok, is_some, vec_len}
+use Rattle.std.proofs.Common.{◌≡◌, ◌<◌, ◌≤◌, ◌+◌, ◌*◌, ◌++◌, ◌∙◌, ◌∷◌, [], Some, cond, true, sym, ap, subst, length, take, drop, get_or, length-append, length-drop, length-take-le, arith}
+use Rattle.std.specs.Prelude.{insert, set, slice_get, IsSome, is_ok, is_some, vec_len}
 use Rattle.std.specs.List.{AllByRecursion}
 use Rattle.std.specs.Option.{option_to_list}
 use Rattle.std.proofs.lemmas.List.{take-append-drop, take_at}
@@ -9,11 +9,13 @@ use Rattle.rga_tree.specs.declared.element.Element.{Element}
 use Rattle.rga_sequence.specs.declared.block.Block.{Block}
 use Rattle.rga_sequence.specs.Blocks.{joined}
 use Rattle.rga_sequence.specs.BlockRows.{items_of, numbers_of, has, home_of, AreHalfFull}
+use Rattle.rga_sequence.specs.Bounds.{AreBounds, AreBoundsBelow}
 use Rattle.rga_sequence.specs.Grouped.{home_in}
 use Rattle.rga_sequence.proofs.Halves.{full_paid, AreHalfFull-split}
 use Rattle.rga_sequence.proofs.Homes.{id_eq}
 use Rattle.rga_sequence.proofs.Joined.{split_joined, split_high}
 use Rattle.rga_sequence.proofs.Members.{all_have, has_drop, is_some-home, all_apart, halves_apart}
+use Rattle.rga_sequence.proofs.Neighbours.{bounds-split}
 use Rattle.rga_sequence.proofs.Passing.{items_there}
 use Rattle.rga_sequence.proofs.Places.{Inverts, inserted_known, inserted_apart, inserted_before}
 use Rattle.rga_sequence.proofs.Split.{has_joined, home_split-at}
@@ -124,6 +126,8 @@ returns c =
     let written = c.renumber.new.places in
     let rest = drop (length written) c.push.new.self.items in
     let kept : take c.push.new.self.len (written ++ rest) ≡ written = take_at written rest c.push.new.self.len (omega (arith, c.renumber.auto.places, c.deref_mut.ensures.len)) in
+    let left = drop (length c.renew.new.bounds) c.add.new.bounds.items in
+    let renewed : take c.add.new.bounds.len (c.renew.new.bounds ++ left) ≡ c.renew.new.bounds = take_at c.renew.new.bounds left c.add.new.bounds.len (omega (arith, c.renew.auto.bounds, c.deref_mut-2.ensures.len)) in
     let same = ap length (ap joined c.split_at.ensures.items ∙ split_joined xs q low high there halved) in
     let fewer : vec_len c.pop.new.self + 1 ≡ vec_len c.args.row.now.spares = omega (arith, c.pop.ensures.len, ap (λ o. length (option_to_list o)) c.unwrap-upper.ensures) in
     record {
@@ -136,6 +140,7 @@ returns c =
         places = λ p less. (λ i. slice_get (kept i) (get_or (numbers_of (sym c.deref-2.ensures.value i)) p 0)) ∙ c.renumber.ensures p (omega (arith, less, ap length c.deref-2.ensures.value));
         as_many = omega (arith, pushed, c.split_at.ensures.len, c.requires.indexed.as_many);
         halves = subst AreHalfFull (sym items) (AreHalfFull-split xs q low high c.requires.indexed.halves there (omega (arith, l)) (omega (arith, h)));
+        bounds = subst (λ ms. AreBounds ms (items_of new)) (sym renewed) (subst (λ r. AreBounds c.renew.new.bounds (items_of r)) c.deref-3.ensures.value c.renew.ensures);
       };
       room = λ n room. record {
         paid = omega (arith, room.paid, same, c.split_at.ensures.len, fewer);
@@ -145,3 +150,18 @@ returns c =
         few = omega (arith, room.few, c.split_at.ensures.len, fewer);
       };
     }
+
+pub renew-requires : goal.renew-requires
+renew-requires c =
+    let xs = items_of c.args.row.now.blocks.items in
+    let q = c.args.q in
+    let x = get_or xs q [] in
+    let halves = insert (set xs q (take 256 x)) (q + 1) (drop 256 x) in
+    let ms = c.args.row.now.bounds in
+    let from = 64 * c.min-from.result in
+    let there : q < length xs = omega (arith, length-items c.args.row.now.blocks.items, c.args.row.now.blocks.ok, c.requires.block) in
+    let before : AreBoundsBelow from ms.items halves = bounds-split ms.items xs q from (take 256 x) (drop 256 x) there (omega (arith, c.min-from.ensures)) c.requires.indexed.bounds in
+    let few : from ≤ 64 * length ms.items = omega (arith, c.min-from.ensures, c.len.ensures, ms.ok) in
+    let added : AreBoundsBelow from c.add.new.bounds.items halves = c.add.ensures from halves few before in
+    subst (λ r. AreBoundsBelow from r (items_of c.deref-3.result.now)) (sym c.deref_mut-2.ensures.value)
+    (subst (AreBoundsBelow from c.add.new.bounds.items) (sym (ap items_of c.deref-3.ensures.value ∙ c.split_at.ensures.items)) added)

@@ -1,7 +1,8 @@
 -- The goals of `hide` that are answered by hand.
-use Rattle.std.proofs.Common.{◌≡◌, ℕ, ◌∙◌, ap, cond, arith, get_or}
+use Rattle.std.proofs.Common.{◌≡◌, ℕ, ◌∙◌, sym, ap, subst, cond, arith, get_or}
 use Rattle.rga_tree.specs.declared.element.Element.{Element}
-use Rattle.rga_sequence.specs.Blocks.{is_least}
+use Rattle.rga_sequence.specs.Blocks.{is_least, FallsFrom}
+use Rattle.rga_sequence.proofs.Falling.{falls-hide}
 use Rattle.rga_sequence.proofs.Shown.{seen-gone, set-hide, least-hide, weight_le-seen}
 use Rattle.rga_sequence.proofs.block.Block.hide.Goals as goal
 
@@ -25,6 +26,8 @@ invariant_of-self c =
       room = c.args.self.now.room;
       counted = omega (arith, fewer, c.weight-gone.ensures, c.args.self.now.counted);
       least_is = ap (is_least c.args.self.now.least) (set-hide es c.args.at e c.index_mut.ensures.value) ∙ least-hide c.args.self.now.least es c.args.at e ∙ c.args.self.now.least_is;
+      falling_within = c.args.self.now.falling_within;
+      falls = subst (FallsFrom c.args.self.now.falling) (sym (set-hide es c.args.at e c.index_mut.ensures.value)) (falls-hide es c.args.at c.args.self.now.falling e c.args.self.now.falls);
     }
 
 pub returns-clause-seen : goal.returns-clause-seen

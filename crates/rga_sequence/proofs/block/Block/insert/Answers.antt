@@ -1,8 +1,8 @@
 -- The goals of `insert` that are answered by hand.
-use Rattle.std.proofs.Common.{◌≡◌, ◌≤◌, ◌+◌, ◌∙◌, true, sym, ap, length, arith}
+use Rattle.std.proofs.Common.{◌≡◌, ◌≤◌, ◌+◌, ◌∙◌, true, refl, sym, ap, subst, length, arith}
 use Rattle.std.specs.Prelude.{insert, vec_len, vec_capacity}
 use Rattle.rga_tree.specs.declared.element.Element.{Element}
-use Rattle.rga_sequence.specs.Blocks.{seen, is_least}
+use Rattle.rga_sequence.specs.Blocks.{seen, is_least, FallsFrom}
 use Rattle.rga_sequence.proofs.Grown.{seen-insert, seen_le, weight_le, least-insert}
 use Rattle.std.proofs.lemmas.List.Edits.{length-insert}
 use Rattle.rga_sequence.proofs.block.Block.insert.Goals as goal
@@ -25,4 +25,7 @@ invariant_of-self c =
     (λ i. c.args.self.now.counted i + c.weight.ensures i) ∙ sym (seen-insert es.items c.args.at n) ∙ ap seen (sym items) in
     let least : is_least c.lesser-self.result c.insert_element.new.row.items ≡ true =
     (λ i. is_least (c.lesser-self.ensures i) (items i)) ∙ least-insert es.items c.args.at n c.args.self.now.least c.args.self.now.least_is in
-    record { few = few; room = room; counted = counted; least_is = least }
+    let within : c.falling_with-self.result ≤ vec_len c.insert_element.new.row =
+    omega (arith, c.falling_with-self.ensures.from, ap length c.deref.ensures.value, c.insert_element.new.row.ok, ap length items, long) in
+    let falls = subst (FallsFrom c.falling_with-self.result) (ap (λ r. insert r c.args.at n) c.deref.ensures.value ∙ sym items) (c.falling_with-self.ensures.falls n refl) in
+    record { few = few; room = room; counted = counted; least_is = least; falling_within = within; falls = falls }

@@ -1,0 +1,40 @@
+-- The goals of `falling_with` that are answered by hand.
+use Rattle.std.proofs.Common.{◌≡◌, ◌<◌, ◌≤◌, ◌-◌, ◌∙◌, true, length, get_or, sym, arith}
+use Rattle.std.specs.Ordering.{is_lt}
+use Rattle.std.proofs.lemmas.List.{get_or_default}
+use Rattle.bg_types.specs.Identifier.{id_cmp}
+use Rattle.rga_tree.specs.declared.element.Element.{Element}
+use Rattle.rga_sequence.proofs.Falling.{falls-insert}
+use Rattle.rga_sequence.proofs.block.falling_with.Goals.{else-at-row-via-then-at-row+else-not-is_below, else-at-row-via-else-at-row, else-falling-at-via-then-falling-at+else-not-is_below-2, else-falling-at-via-else-falling-at}
+use Rattle.rga_sequence.proofs.block.falling_with.Goals as goal
+
+pub returns-then-not-is_below-2-clause-falls : goal.returns-then-not-is_below-2-clause-falls
+returns-then-not-is_below-2-clause-falls c = λ n is.
+    let es = c.args.row.now in
+    let at = c.args.at in
+    let after : (d : Element) → at ≤ at → at < length es → is_lt (id_cmp (get_or es at d).id n.id) ≡ true =
+    λ d _ less. elim c.else-at-row.branch [
+      | else-at-row-via-then-at-row+else-not-is_below w ↦
+          (λ i. is_lt (id_cmp (get_or_default es at d w.index-row-at.result less i).id (is i))) ∙ sym w.is_below.ensures ∙ w.if-not-is_below.false
+      | else-at-row-via-else-at-row w ↦ absurd (omega (arith, w.if-at-row.false, less))
+    ] in
+    falls-insert es at c.args.falling at n c.requires.within c.requires.falls c.if-at-falling.false (λ less. absurd (omega (arith, less))) (λ d less. absurd (omega (arith, less))) after
+
+pub returns-clause-falls : goal.returns-clause-falls
+returns-clause-falls c = λ n is.
+    let es = c.args.row.now in
+    let at = c.args.at in
+    let falling = c.args.falling in
+    let before : (d : Element) → falling < at → is_lt (id_cmp n.id (get_or es (at - 1) d).id) ≡ true =
+    λ d less. elim c.else-falling-at.branch [
+      | else-falling-at-via-then-falling-at+else-not-is_below-2 w ↦
+          (λ i. is_lt (id_cmp (is i) (get_or_default es (at - 1) d w.index-row-at-then-falling-at.result (omega (arith, less, c.requires.within)) i).id)) ∙ sym w.is_below-then-falling-at.ensures ∙ w.if-not-is_below-2.false
+      | else-falling-at-via-else-falling-at w ↦ absurd (omega (arith, w.if-falling-at.false, less))
+    ] in
+    let after : (d : Element) → falling ≤ at → at < length es → is_lt (id_cmp (get_or es at d).id n.id) ≡ true =
+    λ d _ less. elim c.else-at-row.branch [
+      | else-at-row-via-then-at-row+else-not-is_below w ↦
+          (λ i. is_lt (id_cmp (get_or_default es at d w.index-row-at.result less i).id (is i))) ∙ sym w.is_below.ensures ∙ w.if-not-is_below.false
+      | else-at-row-via-else-at-row w ↦ absurd (omega (arith, w.if-at-row.false, less))
+    ] in
+    falls-insert es at falling falling n c.requires.within c.requires.falls (omega arith) (λ less. absurd (omega (arith, less, c.if-at-falling.false))) before after

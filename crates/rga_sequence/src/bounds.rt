@@ -1,0 +1,59 @@
+//! Lower bounds of the identifiers in neighbouring blocks, by which many blocks are passed at once.
+
+ghost use Rattle.std.specs.Prelude.{◌≡◌, ◌+◌, ◌*◌, ◌≤◌, ℕ, List, length, get_or, slice_set, insert, [], true};
+ghost use Rattle.bg_types.specs.Identifier.{Identifier};
+ghost use Rattle.rga_tree.specs.declared.element.Element.{Element};
+ghost use Rattle.rga_sequence.specs.BlockRows.{items_of};
+ghost use Rattle.rga_sequence.specs.Bounds.{AreBounds, AreBoundsBelow};
+ghost use Rattle.rga_sequence.specs.Blocks.{none_below};
+
+use crate::block::{Block, lesser};
+use bg_types::Id;
+
+/// How many neighbouring blocks share a bound.
+pub const NEIGHBOURS: usize = 64;
+
+/// Lowers the bound of block q, if it has one, as an element with this identifier goes into it.
+pub fn lower(bounds: &mut [Id], q: usize, id: Id)
+    ensures { (xs : List (List Element)) (at : ℕ) (n : Element) → n.id ≡ id → AreBounds bounds.old xs
+        → AreBounds bounds.new (slice_set xs q (insert (get_or xs q []) at n)) }
+{
+    let g = q / NEIGHBOURS;
+    if g < bounds.len() {
+        bounds[g] = lesser(id, bounds[g]);
+    }
+}
+
+/// Makes a bound for the next blocks of a row of this many, where there is memory for it.
+pub fn add(bounds: &mut Vec<Id>, blocks: usize, any: Id)
+    ensures { (n : ℕ) (xs : List (List Element)) → n ≤ 64 * length bounds.old.items → AreBoundsBelow n bounds.old.items xs → AreBoundsBelow n bounds.new.items xs }
+{
+    if bounds.len() < blocks / NEIGHBOURS && bounds.len() < bounds.capacity() {
+        bounds.push_reserved(any);
+    }
+}
+
+/// Writes down the bounds of the blocks from one on. Those of the blocks before it are true already.
+pub fn renew(bounds: &mut [Id], blocks: &[Block], from: usize)
+    requires { AreBoundsBelow from bounds.old (items_of blocks.now) }
+    ensures { AreBounds bounds.new (items_of blocks.now) }
+{
+    for p in from..blocks.len() {
+        note(bounds, p, blocks[p].least);
+    }
+}
+
+/// Writes down the least identifier of block p, once the blocks before it are written down.
+fn note(bounds: &mut [Id], p: usize, least: Id)
+    ensures len { length bounds.new ≡ length bounds.old }
+    ensures bounds { (xs : List (List Element)) → none_below least (get_or xs p []) ≡ true → AreBoundsBelow p bounds.old xs → AreBoundsBelow (p + 1) bounds.new xs }
+{
+    let g = p / NEIGHBOURS;
+    if g < bounds.len() {
+        bounds[g] = if p % NEIGHBOURS == 0 {
+            least
+        } else {
+            lesser(least, bounds[g])
+        };
+    }
+}
