@@ -49,42 +49,42 @@ none-with a m es at n is h =
     (ap (none_below low) (take-append-drop at es) ∙ none-lesser a m es h)
 
 -- an element goes into a block that has a bound
-pub bounds-lower : (ms : List Identifier) (xs : List (List Element)) (q at : ℕ) (n : Element) (a m : Identifier) → n.id ≡ a → q / 64 < length ms → m ≡ get_or ms (q / 64) m → AreBounds ms xs
-    → AreBounds (set ms (q / 64) (cond (is_lt (id_cmp a m)) a m)) (set xs q (insert (get_or xs q []) at n))
-bounds-lower ms xs q at n a m is there m_is bounds = λ p d less. by_group p d (omega (arith, less, length-set ms (q / 64) (cond (is_lt (id_cmp a m)) a m))) (nat_eq (p / 64) (q / 64)) refl where
-  by_group : (p : ℕ) (d : Identifier) → p / 64 < length ms → (b : Bool) → nat_eq (p / 64) (q / 64) ≡ b
-      → none_below (get_or (set ms (q / 64) (cond (is_lt (id_cmp a m)) a m)) (p / 64) d) (get_or (set xs q (insert (get_or xs q []) at n)) p []) ≡ true
+pub bounds-lower : (ms : List Identifier) (xs : List (List Element)) (q at : ℕ) (n : Element) (a m : Identifier) → n.id ≡ a → q / 32 < length ms → m ≡ get_or ms (q / 32) m → AreBounds ms xs
+    → AreBounds (set ms (q / 32) (cond (is_lt (id_cmp a m)) a m)) (set xs q (insert (get_or xs q []) at n))
+bounds-lower ms xs q at n a m is there m_is bounds = λ p d less. by_group p d (omega (arith, less, length-set ms (q / 32) (cond (is_lt (id_cmp a m)) a m))) (nat_eq (p / 32) (q / 32)) refl where
+  by_group : (p : ℕ) (d : Identifier) → p / 32 < length ms → (b : Bool) → nat_eq (p / 32) (q / 32) ≡ b
+      → none_below (get_or (set ms (q / 32) (cond (is_lt (id_cmp a m)) a m)) (p / 32) d) (get_or (set xs q (insert (get_or xs q []) at n)) p []) ≡ true
   by_group p d less true same =
       let low = cond (is_lt (id_cmp a m)) a m in
-      let e : p / 64 ≡ q / 64 = eqb-true _ _ same in
-      let entry = ap (λ g. get_or (set ms (q / 64) low) g d) e ∙ get_or-set_same ms (q / 64) low d there in
-      let old : (r : ℕ) → r / 64 ≡ q / 64 → none_below m (get_or xs r []) ≡ true =
+      let e : p / 32 ≡ q / 32 = eqb-true _ _ same in
+      let entry = ap (λ g. get_or (set ms (q / 32) low) g d) e ∙ get_or-set_same ms (q / 32) low d there in
+      let old : (r : ℕ) → r / 32 ≡ q / 32 → none_below m (get_or xs r []) ≡ true =
       λ r f. ap (λ k. none_below k (get_or xs r [])) (m_is ∙ ap (λ g. get_or ms g m) (sym f)) ∙ bounds r m (omega (arith, f, there)) in
       ap (λ k. none_below k (get_or (set xs q (insert (get_or xs q []) at n)) p [])) entry
       ∙ none-set xs q p (insert (get_or xs q []) at n) low (none-lesser a m (get_or xs p []) (old p e)) (λ _. none-with a m (get_or xs q []) at n is (old q refl))
   by_group p d less false other =
       let low = cond (is_lt (id_cmp a m)) a m in
-      let apart : p / 64 ≡ q / 64 → ⊥ = eqb-false _ _ other in
-      ap (λ k. none_below k (get_or (set xs q (insert (get_or xs q []) at n)) p [])) (get_or-set_other ms (q / 64) (p / 64) low d apart)
-      ∙ none-set xs q p (insert (get_or xs q []) at n) (get_or ms (p / 64) d) (bounds p d less) (λ e. absurd (apart (ap (λ r. r / 64) e)))
+      let apart : p / 32 ≡ q / 32 → ⊥ = eqb-false _ _ other in
+      ap (λ k. none_below k (get_or (set xs q (insert (get_or xs q []) at n)) p [])) (get_or-set_other ms (q / 32) (p / 32) low d apart)
+      ∙ none-set xs q p (insert (get_or xs q []) at n) (get_or ms (p / 32) d) (bounds p d less) (λ e. absurd (apart (ap (λ r. r / 32) e)))
 
 -- or that has none
-pub bounds-kept : (ms : List Identifier) (xs : List (List Element)) (q : ℕ) (y : List Element) → length ms ≤ q / 64 → AreBounds ms xs → AreBounds ms (set xs q y)
+pub bounds-kept : (ms : List Identifier) (xs : List (List Element)) (q : ℕ) (y : List Element) → length ms ≤ q / 32 → AreBounds ms xs → AreBounds ms (set xs q y)
 bounds-kept ms xs q y none bounds = λ p d less.
-    let apart : p ≡ q → ⊥ = λ e. let f : p / 64 ≡ q / 64 = ap (λ r. r / 64) e in omega (arith, f, less, none) in
-    none-set xs q p y (get_or ms (p / 64) d) (bounds p d less) (λ e. absurd (apart e))
+    let apart : p ≡ q → ⊥ = λ e. let f : p / 32 ≡ q / 32 = ap (λ r. r / 32) e in omega (arith, f, less, none) in
+    none-set xs q p y (get_or ms (p / 32) d) (bounds p d less) (λ e. absurd (apart e))
 
 -- an element is hidden
 pub bounds-same : (ms : List Identifier) (xs : List (List Element)) (q : ℕ) (y : List Element) → ((m : Identifier) → none_below m y ≡ none_below m (get_or xs q [])) → AreBounds ms xs → AreBounds ms (set xs q y)
 bounds-same ms xs q y same bounds = λ p d less.
-    none-set xs q p y (get_or ms (p / 64) d) (bounds p d less) (λ e. same (get_or ms (p / 64) d) ∙ ap (λ r. none_below (get_or ms (p / 64) d) (get_or xs r [])) (sym e) ∙ bounds p d less)
+    none-set xs q p y (get_or ms (p / 32) d) (bounds p d less) (λ e. same (get_or ms (p / 32) d) ∙ ap (λ r. none_below (get_or ms (p / 32) d) (get_or xs r [])) (sym e) ∙ bounds p d less)
 
 -- a block is split: those before it stay
 pub bounds-split : (ms : List Identifier) (xs : List (List Element)) (q n : ℕ) (low high : List Element) → q < length xs → n ≤ q → AreBounds ms xs → AreBoundsBelow n ms (insert (set xs q low) (q + 1) high)
 bounds-split ms xs q n low high there before bounds = λ p d less under.
     let other : p ≡ q → ⊥ = λ e. omega (arith, e, less, before) in
     let same = get_or-insert_below (set xs q low) (q + 1) high [] p (omega (arith, less, before)) (omega (arith, there, length-set xs q low)) ∙ get_or-set_other xs q p low [] other in
-    ap (none_below (get_or ms (p / 64) d)) same ∙ bounds p d under
+    ap (none_below (get_or ms (p / 32) d)) same ∙ bounds p d under
 
 -- what is true of all blocks
 pub bounds-all : (n : ℕ) (ms : List Identifier) (xs : List (List Element)) → length xs ≤ n → AreBoundsBelow n ms xs → AreBounds ms xs
@@ -94,9 +94,9 @@ bounds-all n ms xs long bounds = λ p d less. by_place p d less (nat_lt p n) ref
   past (z ∷ zs) zero m h = absurd (omega (arith, h))
   past (z ∷ zs) (suc p) m h = past zs p m (omega (arith, h))
 
-  by_place : (p : ℕ) (d : Identifier) → p / 64 < length ms → (b : Bool) → nat_lt p n ≡ b → none_below (get_or ms (p / 64) d) (get_or xs p []) ≡ true
+  by_place : (p : ℕ) (d : Identifier) → p / 32 < length ms → (b : Bool) → nat_lt p n ≡ b → none_below (get_or ms (p / 32) d) (get_or xs p []) ≡ true
   by_place p d less true is = bounds p d (ltb-true _ _ is) less
-  by_place p d less false is = let far : n ≤ p = ltb-false _ _ is in past xs p (get_or ms (p / 64) d) (omega (arith, far, long))
+  by_place p d less false is = let far : n ≤ p = ltb-false _ _ is in past xs p (get_or ms (p / 32) d) (omega (arith, far, long))
 
 below_or_at : (p q : ℕ) → p < q + 1 → (P : ℕ → Type 0) → (p < q → P p) → P q → P p
 below_or_at p q within P under at = by_place (nat_lt p q) refl where
@@ -105,20 +105,20 @@ below_or_at p q within P under at = by_place (nat_lt p q) refl where
   by_place false is = let far : q ≤ p = ltb-false _ _ is in let f : q ≡ p = omega (arith, far, within) in subst P f at
 
 -- the next block is written down
-pub bounds-note : (ms : List Identifier) (xs : List (List Element)) (q : ℕ) (low : Identifier) → q / 64 < length ms → none_below low (get_or xs q []) ≡ true
-    → ((p : ℕ) → p < q → p / 64 ≡ q / 64 → none_below low (get_or xs p []) ≡ true)
-    → AreBoundsBelow q ms xs → AreBoundsBelow (q + 1) (set ms (q / 64) low) xs
-bounds-note ms xs q low there here before bounds = λ p d within less. by_group p d within (omega (arith, less, length-set ms (q / 64) low)) (nat_eq (p / 64) (q / 64)) refl where
-  by_group : (p : ℕ) (d : Identifier) → p < q + 1 → p / 64 < length ms → (b : Bool) → nat_eq (p / 64) (q / 64) ≡ b → none_below (get_or (set ms (q / 64) low) (p / 64) d) (get_or xs p []) ≡ true
+pub bounds-note : (ms : List Identifier) (xs : List (List Element)) (q : ℕ) (low : Identifier) → q / 32 < length ms → none_below low (get_or xs q []) ≡ true
+    → ((p : ℕ) → p < q → p / 32 ≡ q / 32 → none_below low (get_or xs p []) ≡ true)
+    → AreBoundsBelow q ms xs → AreBoundsBelow (q + 1) (set ms (q / 32) low) xs
+bounds-note ms xs q low there here before bounds = λ p d within less. by_group p d within (omega (arith, less, length-set ms (q / 32) low)) (nat_eq (p / 32) (q / 32)) refl where
+  by_group : (p : ℕ) (d : Identifier) → p < q + 1 → p / 32 < length ms → (b : Bool) → nat_eq (p / 32) (q / 32) ≡ b → none_below (get_or (set ms (q / 32) low) (p / 32) d) (get_or xs p []) ≡ true
   by_group p d within less true same =
-      let e : p / 64 ≡ q / 64 = eqb-true _ _ same in
-      let entry = ap (λ g. get_or (set ms (q / 64) low) g d) e ∙ get_or-set_same ms (q / 64) low d there in
+      let e : p / 32 ≡ q / 32 = eqb-true _ _ same in
+      let entry = ap (λ g. get_or (set ms (q / 32) low) g d) e ∙ get_or-set_same ms (q / 32) low d there in
       ap (λ k. none_below k (get_or xs p [])) entry
-      ∙ below_or_at p q within (λ r. r / 64 ≡ q / 64 → none_below low (get_or xs r []) ≡ true) (λ less. before p less) (λ _. here) e
+      ∙ below_or_at p q within (λ r. r / 32 ≡ q / 32 → none_below low (get_or xs r []) ≡ true) (λ less. before p less) (λ _. here) e
   by_group p d within less false other =
-      let apart : p / 64 ≡ q / 64 → ⊥ = eqb-false _ _ other in
-      ap (λ k. none_below k (get_or xs p [])) (get_or-set_other ms (q / 64) (p / 64) low d apart)
-      ∙ bounds p d (below_or_at p q within (λ r. (r / 64 ≡ q / 64 → ⊥) → r < q) (λ less _. less) (λ f. absurd (f refl)) apart) less
+      let apart : p / 32 ≡ q / 32 → ⊥ = eqb-false _ _ other in
+      ap (λ k. none_below k (get_or xs p [])) (get_or-set_other ms (q / 32) (p / 32) low d apart)
+      ∙ bounds p d (below_or_at p q within (λ r. (r / 32 ≡ q / 32 → ⊥) → r < q) (λ less _. less) (λ f. absurd (f refl)) apart) less
 
 -- no element is below the lesser of a bound and another identifier
 pub none-lesser_other : (a m : Identifier) (es : List Element) → none_below a es ≡ true → none_below (cond (is_lt (id_cmp a m)) a m) es ≡ true
@@ -128,9 +128,9 @@ none-lesser_other a m es h = by_order (id_cmp a m) refl where
   by_order Equal is = subst (λ x. none_below x es ≡ true) (id_cmp-exact a m is) h
   by_order Greater is = lower a m es h (ap is_lt (turned a m is))
 
-pub bounds-noted_none : (ms : List Identifier) (xs : List (List Element)) (q : ℕ) → length ms ≤ q / 64 → AreBoundsBelow q ms xs → AreBoundsBelow (q + 1) ms xs
+pub bounds-noted_none : (ms : List Identifier) (xs : List (List Element)) (q : ℕ) → length ms ≤ q / 32 → AreBoundsBelow q ms xs → AreBoundsBelow (q + 1) ms xs
 bounds-noted_none ms xs q none bounds = λ p d within less.
-    bounds p d (let apart : p / 64 < q / 64 = omega (arith, less, none) in omega (arith, apart)) less
+    bounds p d (let apart : p / 32 < q / 32 = omega (arith, less, none) in omega (arith, apart)) less
 
 none-there : (m a : Identifier) (es : List Element) → none_below m es ≡ true → list_any (λ e. same_id a e.id) es ≡ true → not (is_lt (id_cmp a m)) ≡ true
 none-there m a [] low there = absurd cc
@@ -142,16 +142,16 @@ none-there m a (e ∷ es) low there =
       by_test rest here false is later = rest later
 
 -- blocks that a greater bound passes
-pub bounds-pass : (ms : List Identifier) (bs : List Block) (g k : ℕ) (id : Identifier) (d : Block) → AreBounds ms (items_of bs) → k < length bs → g ≤ k / 64 → k / 64 < g + prefix_len (λ m. is_lt (id_cmp id m)) (drop g ms)
+pub bounds-pass : (ms : List Identifier) (bs : List Block) (g k : ℕ) (id : Identifier) (d : Block) → AreBounds ms (items_of bs) → k < length bs → g ≤ k / 32 → k / 32 < g + prefix_len (λ m. is_lt (id_cmp id m)) (drop g ms)
     → is_passed id (get_or bs k d) ≡ true
 bounds-pass ms bs g k id d bounds there low high =
     let b = get_or bs k d in
-    let n : ℕ = k / 64 - g in
-    let s : g + n ≡ k / 64 = omega (arith, low) in
+    let n : ℕ = k / 32 - g in
+    let s : g + n ≡ k / 32 = omega (arith, low) in
     let t : Identifier → Bool = λ m. is_lt (id_cmp id m) in
-    let m = get_or ms (k / 64) id in
+    let m = get_or ms (k / 32) id in
     let passes : t m ≡ true = ap t (ap (λ r. get_or ms r id) (sym s) ∙ sym (get_or-drop g ms n id)) ∙ prefix_len_passes t (drop g ms) n id (omega (arith, high, s)) in
-    let within : k / 64 < length ms = omega (arith, high, s, prefix_len-le-length t (drop g ms), length-drop g ms) in
+    let within : k / 32 < length ms = omega (arith, high, s, prefix_len-le-length t (drop g ms), length-drop g ms) in
     let low_all : none_below m b.elements.items ≡ true = ap (none_below m) (sym (items_there bs k d there)) ∙ bounds k id within in
     let parts = and_parts (none_below b.least b.elements.items) (list_any (λ e. same_id b.least e.id) b.elements.items) b.least_is in
     above_least id m b.least passes (none-there m b.least b.elements.items low_all parts.1)

@@ -207,7 +207,8 @@ pub fn lesser(a: Id, b: Id) -> Id
     if is_below(a, b) { a } else { b }
 }
 
-fn is_below(a: Id, b: Id) -> bool
+/// Whether the first identifier is the lesser.
+pub fn is_below(a: Id, b: Id) -> bool
     ensures { result ≡ is_lt (id_cmp a b) }
 {
     a < b

@@ -11,7 +11,7 @@ use crate::block::{Block, lesser};
 use bg_types::Id;
 
 /// How many neighbouring blocks share a bound.
-pub const NEIGHBOURS: usize = 64;
+pub const NEIGHBOURS: usize = 32;
 
 /// Lowers the bound of block q, if it has one, as an element with this identifier goes into it.
 pub fn lower(bounds: &mut [Id], q: usize, id: Id)
@@ -26,7 +26,7 @@ pub fn lower(bounds: &mut [Id], q: usize, id: Id)
 
 /// Makes a bound for the next blocks of a row of this many, where there is memory for it.
 pub fn add(bounds: &mut Vec<Id>, blocks: usize, any: Id)
-    ensures { (n : ℕ) (xs : List (List Element)) → n ≤ 64 * length bounds.old.items → AreBoundsBelow n bounds.old.items xs → AreBoundsBelow n bounds.new.items xs }
+    ensures { (n : ℕ) (xs : List (List Element)) → n ≤ 32 * length bounds.old.items → AreBoundsBelow n bounds.old.items xs → AreBoundsBelow n bounds.new.items xs }
 {
     if bounds.len() < blocks / NEIGHBOURS && bounds.len() < bounds.capacity() {
         bounds.push_reserved(any);

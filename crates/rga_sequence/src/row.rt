@@ -31,7 +31,7 @@ pub struct Row {
     pub places: Vec<usize>,
     /// The block where an element was put in last. The next one is often put after it.
     pub recent: usize,
-    /// For each 64 blocks of the row an identifier that is no greater than any of theirs. The last
+    /// For each 32 blocks of the row an identifier that is no greater than any of theirs. The last
     /// blocks may have none.
     pub bounds: Vec<Id>,
 }

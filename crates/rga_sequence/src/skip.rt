@@ -6,7 +6,7 @@ ghost use Rattle.rga_sequence.specs.BlockRows.{items_of};
 ghost use Rattle.rga_sequence.specs.Bounds.{AreBounds};
 ghost use Rattle.rga_sequence.specs.Blocks.{joined, offset, FallsFrom};
 
-use crate::block::Block;
+use crate::block::{Block, is_below};
 use crate::bounds::NEIGHBOURS;
 use bg_types::Id;
 use rga_tree::Element;
@@ -27,12 +27,16 @@ fn passed_in_front(blocks: &[Block], id: Id) -> usize
     blocks.iter().take_while(|b| id < b.least).count()
 }
 
-/// The same of a row in which the identifiers fall: by halving.
+/// The same of a row in which the identifiers fall: all of them, if the last one is, or else by halving.
 fn greater_in_falling(row: &[Element], id: Id) -> usize
     requires { FallsFrom 0 row.now }
     ensures count { result ≡ prefix_len (λ e. is_lt (id_cmp id e.id)) row.now }
     ensures within { result ≤ length row.now }
 {
+    let count = row.len();
+    if 0 < count && is_below(id, row[count - 1].id) {
+        return count;
+    }
     row.partition_point(|e| id < e.id)
 }
 

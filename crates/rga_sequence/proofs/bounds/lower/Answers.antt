@@ -7,5 +7,5 @@ use Rattle.rga_sequence.proofs.bounds.lower.Goals as goal
 
 pub returns-then-g-bounds : goal.returns-then-g-bounds
 returns-then-g-bounds c = λ xs at n is bounds.
-    subst (λ low. AreBounds (set c.args.bounds.now (c.args.q / 64) low) (set xs c.args.q (insert (get_or xs c.args.q []) at n))) (sym c.lesser.ensures)
+    subst (λ low. AreBounds (set c.args.bounds.now (c.args.q / 32) low) (set xs c.args.q (insert (get_or xs c.args.q []) at n))) (sym c.lesser.ensures)
     (bounds-lower c.args.bounds.now xs c.args.q at n c.args.id c.index-bounds-g.result is c.if-g-bounds.true c.index-bounds-g.is bounds)

@@ -13,7 +13,7 @@ returns-after-p-eq0-clause-bounds c = λ xs low bounds.
       | then-p-eq0 w ↦ ap (λ m. none_below m (get_or xs q [])) w.bounds-is ∙ low
       | else-p-eq0 w ↦ ap (λ m. none_below m (get_or xs q [])) (w.bounds-is ∙ w.lesser.ensures) ∙ none-lesser_other c.args.least w.index-bounds-g.result (get_or xs q []) low
     ] in
-    let before : (p : ℕ) → p < q → p / 64 ≡ q / 64 → none_below c.if-p-eq0.bounds (get_or xs p []) ≡ true = λ p less same. elim c.if-p-eq0.branch [
+    let before : (p : ℕ) → p < q → p / 32 ≡ q / 32 → none_below c.if-p-eq0.bounds (get_or xs p []) ≡ true = λ p less same. elim c.if-p-eq0.branch [
       | then-p-eq0 w ↦ absurd (omega (arith, w.if-p-eq0.true, less, same))
       | else-p-eq0 w ↦ ap (λ m. none_below m (get_or xs p [])) (w.bounds-is ∙ w.lesser.ensures)
           ∙ none-lesser c.args.least w.index-bounds-g.result (get_or xs p [])

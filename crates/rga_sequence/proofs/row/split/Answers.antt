@@ -158,10 +158,10 @@ renew-requires c =
     let x = get_or xs q [] in
     let halves = insert (set xs q (take 256 x)) (q + 1) (drop 256 x) in
     let ms = c.args.row.now.bounds in
-    let from = 64 * c.min-from.result in
+    let from = 32 * c.min-from.result in
     let there : q < length xs = omega (arith, length-items c.args.row.now.blocks.items, c.args.row.now.blocks.ok, c.requires.block) in
     let before : AreBoundsBelow from ms.items halves = bounds-split ms.items xs q from (take 256 x) (drop 256 x) there (omega (arith, c.min-from.ensures)) c.requires.indexed.bounds in
-    let few : from ≤ 64 * length ms.items = omega (arith, c.min-from.ensures, c.len.ensures, ms.ok) in
+    let few : from ≤ 32 * length ms.items = omega (arith, c.min-from.ensures, c.len.ensures, ms.ok) in
     let added : AreBoundsBelow from c.add.new.bounds.items halves = c.add.ensures from halves few before in
     subst (λ r. AreBoundsBelow from r (items_of c.deref-3.result.now)) (sym c.deref_mut-2.ensures.value)
     (subst (AreBoundsBelow from c.add.new.bounds.items) (sym (ap items_of c.deref-3.ensures.value ∙ c.split_at.ensures.items)) added)
