@@ -83,6 +83,7 @@ fn stands<S: Sequence>(seq: &S, parent: &Place) -> bool
 }
 
 /// Makes room for n new operations, wherever they go, and for placing what waits.
+#[inline(never)]
 pub fn make_room<S: Sequence>(seq: &mut S, held: &mut Held, n: usize) -> Result<(), Memory>
     requires n { n ≤ 1_000_000 }
     requires few { map.len held.old.held.ins ≤ 1_000_000 }
@@ -99,6 +100,7 @@ pub fn make_room<S: Sequence>(seq: &mut S, held: &mut Held, n: usize) -> Result<
 }
 
 /// Takes one from the spare operations. Where there is none, one is paid for now.
+#[inline(always)]
 fn pay<S: Sequence>(seq: &mut S, held: &mut Held, spare: &mut usize) -> Result<(), Memory>
     requires paid { IsPaid (S.free seq.old) held.old spare.old }
     requires few { map.len held.old.held.ins ≤ 1_000_000 }
@@ -204,6 +206,7 @@ fn place_ready<S: Sequence>(seq: &mut S, held: &mut Held)
 }
 
 /// Places an insertion that no longer waits, and makes those right after it ready.
+#[inline(always)]
 fn place_one<S: Sequence>(seq: &mut S, held: &mut Held, op: &Op)
     requires may { MayPlace (S.content seq.old) op.now }
     requires room { 1 ≤ S.free seq.old }

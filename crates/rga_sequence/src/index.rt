@@ -113,14 +113,23 @@ fn slot(place: usize, id: Id) -> usize
 }
 
 /// The place of a group. The one that was written last is known without a hash.
+#[inline(always)]
 fn find(index: &Index, group: Id) -> Option<usize>
     requires { IsGrouped ⟦<Id as Eq>⟧.eq index.now }
     ensures { result ≡ get ⟦<Id as Eq>⟧.eq index.now.groups group }
 {
     match index.recent {
         Some((recent, place)) if recent == group => Some(place),
-        _ => index.groups.get(&group).copied(),
+        _ => look_up(index, group),
     }
+}
+
+/// The place of a group, by its hash. Not inlined, so that the callers of `find` stay short.
+#[inline(never)]
+fn look_up(index: &Index, group: Id) -> Option<usize>
+    ensures { result ≡ get ⟦<Id as Eq>⟧.eq index.now.groups group }
+{
+    index.groups.get(&group).copied()
 }
 
 /// The place of a group, which is added where it is new.
@@ -132,9 +141,23 @@ fn find_or_add(index: &mut Index, group: Id) -> usize
     ensures grouped { IsGrouped ⟦<Id as Eq>⟧.eq index.new }
     ensures room { (n : ℕ) → HasIndexRoom index.old (n + 1) → HasIndexRoom index.new n }
 {
-    if let Some(place) = find(index, group) {
-        return place;
+    match find(index, group) {
+        Some(place) => place,
+        None => add(index, group),
     }
+}
+
+/// Adds a group, and returns its place.
+#[inline(never)]
+fn add(index: &mut Index, group: Id) -> usize
+    requires grouped { IsGrouped ⟦<Id as Eq>⟧.eq index.old }
+    requires new { get ⟦<Id as Eq>⟧.eq index.old.groups group ≡ None }
+    requires room { HasIndexRoom index.old 1 }
+    ensures place { get ⟦<Id as Eq>⟧.eq index.new.groups group ≡ Some result }
+    ensures homes { (q : Identifier) → home_in ⟦<Id as Eq>⟧.eq index.new q ≡ home_in ⟦<Id as Eq>⟧.eq index.old q }
+    ensures grouped { IsGrouped ⟦<Id as Eq>⟧.eq index.new }
+    ensures room { (n : ℕ) → HasIndexRoom index.old (n + 1) → HasIndexRoom index.new n }
+{
     let place = index.groups.len();
     let kept: Result<_, _> = index.groups.insert(group, place);
     kept.unwrap();

@@ -46,6 +46,7 @@ pub fn stands(row: &Row, id: Id) -> bool
 }
 
 /// The block of an identifier, and its place there.
+#[inline(always)]
 pub fn spot(row: &Row, id: Id) -> Option<(usize, usize)>
     requires indexed { IsIndexed ⟦<Id as Eq>⟧.eq row.now }
     requires distinct { is_distinct (ids_of (elements_in row.now)) ≡ true }
@@ -55,9 +56,23 @@ pub fn spot(row: &Row, id: Id) -> Option<(usize, usize)>
     ensures place { IfSome result (λ s. offset (blocks_in row.now) s.0 s.1
         ≡ prefix_len (λ e. not (same_id id e.id)) (elements_in row.now)) }
 {
-    if let Some(found) = recent_spot(row, id) {
-        return Some(found);
+    match recent_spot(row, id) {
+        Some(found) => Some(found),
+        None => indexed_spot(row, id),
     }
+}
+
+/// The block of an identifier by the index, and its place there.
+#[inline(never)]
+fn indexed_spot(row: &Row, id: Id) -> Option<(usize, usize)>
+    requires indexed { IsIndexed ⟦<Id as Eq>⟧.eq row.now }
+    requires distinct { is_distinct (ids_of (elements_in row.now)) ≡ true }
+    ensures absent { IfNone result (has id (elements_in row.now) ≡ false) }
+    ensures block { IfSome result (λ s. s.0 < vec_len row.now.blocks) }
+    ensures within { IfSome result (λ s. s.1 < length (get_or (blocks_in row.now) s.0 [])) }
+    ensures place { IfSome result (λ s. offset (blocks_in row.now) s.0 s.1
+        ≡ prefix_len (λ e. not (same_id id e.id)) (elements_in row.now)) }
+{
     match home(&row.index, id) {
         None => None,
         Some(number) => {
@@ -123,6 +138,7 @@ pub fn put(row: &mut Row, id: Id, parent: Place, ch: char, hidden: bool)
 }
 
 /// Puts in the first element.
+#[inline(never)]
 fn put_first(row: &mut Row, id: Id, parent: Place, ch: char, hidden: bool)
     requires indexed { IsIndexed ⟦<Id as Eq>⟧.eq row.old }
     requires none { vec_len row.old.blocks ≡ 0 }
@@ -187,6 +203,7 @@ fn make_room(row: &mut Row, q: usize, at: usize) -> (usize, usize)
 }
 
 /// Splits a full block into two.
+#[inline(never)]
 fn split(row: &mut Row, q: usize)
     requires indexed { IsIndexed ⟦<Id as Eq>⟧.eq row.old }
     requires distinct { is_distinct (ids_of (elements_in row.old)) ≡ true }

@@ -1,4 +1,4 @@
--- The goals of `find_or_add` that are answered by hand.
+-- The goals of `add` that are answered by hand.
 use Rattle.std.proofs.Common.{◌≡◌, ℕ, ◌<◌, ◌+◌, ◌++◌, ◌∙◌, None, Some, cond, false, ap, length, length-append, replicate, rules, arith}
 use Rattle.std.specs.Prelude.{is_some}
 use Rattle.std.specs.HashMap.{get, hash_map_len}
@@ -6,7 +6,7 @@ use Rattle.bg_types.specs.Identifier.{Identifier, same_id}
 use Rattle.rga_sequence.specs.Grouped.{group_of, home_at}
 use Rattle.rga_sequence.proofs.Groups.{all_empty, home_at-added, added_within, added_apart, added_there}
 use Rattle.rga_sequence.proofs.Homes.{id_eq, put_home}
-use Rattle.rga_sequence.proofs.index.find_or_add.Goals as goal
+use Rattle.rga_sequence.proofs.index.add.Goals as goal
 
 pub returns-clause-homes : goal.returns-clause-homes
 returns-clause-homes c = λ q.
@@ -14,7 +14,7 @@ returns-clause-homes c = λ q.
     let ns = c.args.index.now.numbers.items in
     let g = c.args.group in
     let place = c.len-place.result in
-    let none : get id_eq groups g ≡ None = search rules in
+    let none = c.requires.new in
     let updates = rw c.unwrap.ensures at c.insert-kept.ensures.updates in
     let items : c.extend_from_slice.new.self.items ≡ ns ++ replicate 8 0 = rw c.unwrap-2.ensures at c.extend_from_slice.ensures.items in
     (λ i. home_at (items i) q ((updates.0 (group_of q) ∙ put_home g (group_of q) place (get id_eq groups (group_of q))) i))
@@ -27,7 +27,7 @@ returns-clause-grouped c =
     let g = c.args.group in
     let place = c.len-place.result in
     let old = c.requires.grouped in
-    let none : get id_eq groups g ≡ None = search rules in
+    let none = c.requires.new in
     let updates = rw c.unwrap.ensures at c.insert-kept.ensures.updates in
     let was = rw c.unwrap.ensures at c.insert-kept.ensures.old in
     let len = rw c.unwrap.ensures at c.insert-kept.ensures.len in
