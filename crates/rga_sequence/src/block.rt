@@ -176,7 +176,11 @@ fn falling_with(row: &[Element], falling: usize, at: usize, id: Id) -> usize
 fn count_visible(row: &[Element]) -> usize
     ensures { result ≡ seen row.now }
 {
-    row.iter().filter(|e| !e.hidden).count()
+    let mut visible = 0;
+    for e in row {
+        visible += weight(e.hidden);
+    }
+    visible
 }
 
 /// How many visible elements an element counts as.
@@ -207,10 +211,13 @@ pub fn lesser(a: Id, b: Id) -> Id
     if is_below(a, b) { a } else { b }
 }
 
-/// Whether the first identifier is the lesser.
+/// Whether the first is less. In what is typed in order the counters tell, which are compared first.
 pub fn is_below(a: Id, b: Id) -> bool
     ensures { result ≡ is_lt (id_cmp a b) }
 {
+    if a.counter() > b.counter() {
+        return false;
+    }
     a < b
 }
 

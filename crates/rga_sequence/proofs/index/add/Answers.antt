@@ -1,5 +1,5 @@
 -- The goals of `add` that are answered by hand.
-use Rattle.std.proofs.Common.{◌≡◌, ℕ, ◌<◌, ◌+◌, ◌++◌, ◌∙◌, None, Some, cond, false, ap, length, length-append, replicate, rules, arith}
+use Rattle.std.proofs.Common.{◌≡◌, ℕ, ◌<◌, ◌+◌, ◌++◌, ◌∙◌, Some, cond, false, ap, length, length-append, replicate, arith}
 use Rattle.std.specs.Prelude.{is_some}
 use Rattle.std.specs.HashMap.{get, hash_map_len}
 use Rattle.bg_types.specs.Identifier.{Identifier, same_id}
