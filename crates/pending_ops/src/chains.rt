@@ -1,6 +1,6 @@
 //! The tables of a store: the held insertions, and for each parent the chain of those that name it.
 
-ghost use Rattle.std.specs.Prelude.{◌≡◌, ◌&&◌, not, ◌≤◌, ◌<◌, ◌+◌, ◌++◌, ◌∷◌, [], true, ℕ, List, length, Some, None, OnOk, OnErr, IfSome, IfNone, IsSome, if◌then◌else◌, vec_len, vec_capacity};
+ghost use Rattle.std.specs.Prelude.{◌≡◌, ◌&&◌, not, ◌≤◌, ◌<◌, ◌+◌, ◌++◌, ◌∷◌, [], true, ℕ, List, length, slice_get, Some, None, OnOk, OnErr, IfSome, IfNone, IsSome, if◌then◌else◌, vec_len, vec_capacity};
 ghost use Rattle.std.specs.Option.{option_map};
 ghost use Rattle.indexmap.specs.IndexMap.{spare};
 ghost use Rattle.indexmap.specs.IndexSet as set;
@@ -61,6 +61,7 @@ pub fn link(firsts: &mut Table<Id>, parent: &Place, id: Id) -> Option<Id>
 }
 
 /// The first of those that name this parent.
+#[inline(always)]
 pub fn first_of(firsts: &Table<Id>, parent: Id) -> Option<Id>
     ensures { result ≡ first_in firsts.now.entries parent }
 {
@@ -90,33 +91,47 @@ pub fn append_chain(slots: &Table<Slot>, firsts: &Table<Id>, parent: Id, queue: 
     }
 }
 
-/// The front of the last released parent's chain.
+/// The front of the last released parent's chain, and where that chain stands among `firsts`.
 #[derive(Clone, Copy, Debug)]
 pub struct Front {
+    pub at: usize,
     pub parent: Id,
     pub id: Id,
     pub slot: Slot,
 }
 
-/// The next insertion to hand out.
-pub fn first_ready(slots: &Table<Slot>, firsts: &Table<Id>, released: &Names) -> Option<Front>
-    requires { AreLinked slots.now.entries firsts.now.entries released.now.keys }
+/// Takes the next insertion to hand out from the slots. It is still named by its chain.
+pub fn take_front(slots: &mut Table<Slot>, firsts: &Table<Id>, released: &Names) -> Option<Front>
+    requires { AreLinked slots.old.entries firsts.now.entries released.now.keys }
     ensures none { IfNone result (released.now.keys ≡ []) }
+    ensures unchanged { IfNone result (slots.new ≡ slots.old) }
     ensures parent { IfSome result
         (λ f. (before : List Identifier) × (released.now.keys ≡ before ++ f.parent ∷ [])) }
     ensures first { IfSome result (λ f. first_in firsts.now.entries f.parent ≡ Some f.id) }
-    ensures slot { IfSome result (λ f. slot_in slots.now.entries f.id ≡ Some f.slot) }
+    ensures at { IfSome result (λ f. slice_get firsts.now.entries f.at ≡ Some (f.parent, f.id)) }
+    ensures slot { IfSome result (λ f. slot_in slots.old.entries f.id ≡ Some f.slot) }
+    ensures cut { IfSome result (λ f. (q : Identifier) → slot_in slots.new.entries q
+        ≡ (if same_id f.id q then None else slot_in slots.old.entries q)) }
+    ensures len { length slots.new.entries ≤ length slots.old.entries }
+    ensures spare { spare slots.old ≤ spare slots.new }
 {
     let parent = *released.last()?;
-    let id = *firsts.get(&parent)?;
-    let slot = *slots.get(&id)?;
-    Some(Front { parent, id, slot })
+    let (at, _, first) = firsts.get_full(&parent)?;
+    let id = *first;
+    let slot = slots.swap_remove(&id)?;
+    Some(Front {
+        at,
+        parent,
+        id,
+        slot,
+    })
 }
 
 /// Takes the front off a released parent's chain. The parent of an empty chain is no
 /// longer released.
 pub fn unlink(firsts: &mut Table<Id>, released: &mut Names, front: &Front)
     requires first { IsSome (first_in firsts.old.entries front.now.parent) }
+    requires at { slice_get firsts.old.entries front.now.at ≡ Some (front.now.parent, front.now.id) }
     requires last { (before : List Identifier)
         × (released.old.keys ≡ before ++ front.now.parent ∷ []) }
     ensures first { (p : Identifier) → first_in firsts.new.entries p
@@ -135,7 +150,7 @@ pub fn unlink(firsts: &mut Table<Id>, released: &mut Names, front: &Front)
         // Written in place, so that no room is used.
         Some(next) => *firsts.get_mut(&front.parent).unwrap() = next,
         None => {
-            firsts.swap_remove(&front.parent);
+            firsts.swap_remove_index(front.at);
             released.pop();
         }
     }

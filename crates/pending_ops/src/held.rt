@@ -17,7 +17,7 @@ ghost use Rattle.pending_ops.specs.Chains.{IsChainOf, first_in, insertions_of, s
 ghost use Rattle.pending_ops.specs.declared.chains.Slot.{Slot};
 
 use crate::chains::{
-    Names, Slot, Table, append_chain, first_of, first_ready, insertion_in, link, unlink,
+    Names, Slot, Table, append_chain, first_of, insertion_in, link, take_front, unlink,
 };
 use bg_types::{Id, Keyed, Memory, Op, OpView, Place};
 use indexmap::{IndexMap, IndexSet};
@@ -259,6 +259,7 @@ impl Held {
 
     /// Makes the held insertions right after this identifier ready. As long as one of them is ready,
     /// so is an insertion that is held right after the identifier later.
+    #[inline(always)]
     pub fn release_of(&mut self, id: Id)
         ensures { Releases self.old id self.new }
     {
@@ -279,13 +280,13 @@ impl Held {
         ensures unchanged { IfNone result (self.new ≡ self.old) }
         ensures released { IfNone result (self.old.released ≡ set.empty) }
     {
-        let front = first_ready(&self.slots, &self.firsts, &self.released)?;
+        let front = take_front(&mut self.slots, &self.firsts, &self.released)?;
         unlink(&mut self.firsts, &mut self.released, &front);
-        self.slots.swap_remove(&front.id);
         Op::insert(front.id, front.slot.parent, front.slot.ch)
     }
 
     /// Whether a deletion of this target was held. Afterwards none is.
+    #[inline(always)]
     pub fn drop_erasure(&mut self, id: Id) -> bool
         ensures found { result ≡ set.contains self.old.held.del id }
         ensures dropped { self.new.held ≡ without_erasure self.old.held id }

@@ -26,7 +26,8 @@ returns-in-Some-clause-room c = λ n room. let same = (c.get_mut.follows.holds c
 
 pub returns-in-None-clause-first : goal.returns-in-None-clause-first
 returns-in-None-clause-first c = λ p.
-    lookup-updated c.args.firsts.now.entries c.swap_remove.new.self.entries c.args.front.now.parent None c.swap_remove.ensures.updates.0 p
+    let updates = rw (c.swap_remove_index.ensures.entry ∙ c.requires.at) at c.swap_remove_index.ensures.updates in
+    lookup-updated c.args.firsts.now.entries c.swap_remove_index.new.self.entries c.args.front.now.parent None updates.0 p
     ∙ ap (λ o. cond (same_id c.args.front.now.parent p) o (first_in c.args.firsts.now.entries p)) (sym c.in-None.is)
 
 -- what a pop from a list that ends in x says, it says of x
@@ -54,8 +55,8 @@ returns-in-None-clause-emptied c = λ none p.
 
 pub returns-in-None-clause-room : goal.returns-in-None-clause-room
 returns-in-None-clause-room c = λ n room.
-    let removed = ap is_some (c.swap_remove.ensures.value ∙ lookup-id_eq c.args.firsts.now.entries c.args.front.now.parent) ∙ c.requires.first in
-    let first = one_less (is_some c.swap_remove.result) (length c.swap_remove.new.self.entries) (length c.args.firsts.now.entries) removed c.swap_remove.ensures.len in
+    let removed = ap is_some (c.swap_remove_index.ensures.entry ∙ c.requires.at) in
+    let first = one_less (is_some c.swap_remove_index.result) (length c.swap_remove_index.new.self.entries) (length c.args.firsts.now.entries) removed c.swap_remove_index.ensures.len in
     let last = one_less_at_most (is_some c.pop.result) (length c.pop.new.self.keys) (length c.args.released.now.keys) c.pop.ensures.len in
     let spare = c.pop.ensures.room.0 in
     omega arith
