@@ -3,7 +3,7 @@
 ghost use Rattle.std.specs.Prelude.{◌≡◌, ◌<◌, length, map, sum, All, IfOk, ◌&&◌, ◌||◌};
 ghost use Rattle.std.specs.Str.{chars};
 ghost use Rattle.ucd_files.specs.Tables.{bidi_of};
-ghost use Rattle.reorder.specs.LineLevels.{is_separator, is_run_class, levels_after_l1, group_firsts, line_levels_of};
+ghost use Rattle.reorder.specs.LineLevels.{is_separator, is_run_class, resets_before, levels_after_l1, group_firsts, line_levels_of};
 
 use bg_types::{Bidi, Memory};
 use std::alloc::Global;
@@ -31,43 +31,49 @@ fn is_reset(class: Bidi, follower_is_reset: bool) -> bool
     }
 }
 
-/// The levels of a line's code points after L1.
-fn after_l1(
-    alloc: Global,
-    tables: &Tables,
-    line: &str,
-    levels: &[u8],
-    para_level: u8,
-) -> Result<Vec<u8>, Memory>
-    requires { length levels.now ≡ length (chars line.now) }
-    ensures { IfOk result (λ after. after.items ≡ levels_after_l1 para_level (map (bidi_of tables.now) (chars line.now)) levels.now) }
+/// Whether L1 resets the first of these code points, given whether it resets the one after them.
+fn begins_reset(classes: &[Bidi], follower_is_reset: bool) -> bool
+    ensures { result ≡ resets_before follower_is_reset classes.now }
 {
-    let mut after = levels.to_vec(alloc)?;
-    let mut place = after.len();
-    let mut resets = true;
-    for c in line.chars().rev() {
-        place -= 1;
-        resets = is_reset(tables.bidi(c), resets);
-        if resets {
-            after[place] = para_level;
-        }
+    let mut resets = follower_is_reset;
+    for place in (0..classes.len()).rev() {
+        resets = is_reset(classes[place], resets);
     }
-    Ok(after)
+    resets
 }
 
-/// The first level of each group of code points, of these sizes.
-fn firsts(alloc: Global, levels: &[u8], sizes: &[u32]) -> Result<Vec<u8>, Memory>
+/// What `line_levels` answers for a line whose code points have these classes.
+pub fn line_levels_at(
+    alloc: Global,
+    classes: &[Bidi],
+    levels: &[u8],
+    sizes: &[u32],
+    para_level: u8,
+) -> Result<Vec<u8>, Memory>
+    requires each_code_point { length levels.now ≡ length classes.now }
     requires positive { All (λ size. 0 < size) sizes.now }
-    requires whole { sum sizes.now ≡ length levels.now }
-    ensures { IfOk result (λ firsts. firsts.items ≡ group_firsts sizes.now levels.now) }
+    requires whole { sum sizes.now ≡ length classes.now }
+    ensures { IfOk result (λ of_clusters. of_clusters.items ≡ group_firsts sizes.now (levels_after_l1 para_level classes.now levels.now)) }
 {
-    let mut firsts = Vec::with_capacity(alloc, sizes.len())?;
-    let mut start = 0;
-    for size in sizes {
-        firsts.push(levels[start])?;
-        start += *size as usize;
+    let mut of_clusters = vec![in alloc; para_level; sizes.len()]?;
+    let mut start = classes.len();
+    let mut resets = true;
+    for cluster in (0..sizes.len()).rev() {
+        let end = start;
+        start -= sizes[cluster] as usize;
+        resets = begins_reset(&classes[start..end], resets);
+        if !resets {
+            of_clusters[cluster] = levels[start];
+        }
     }
-    Ok(firsts)
+    Ok(of_clusters)
+}
+
+/// The classes of a line's code points.
+fn classes_of(alloc: Global, tables: &Tables, line: &str) -> Result<Vec<Bidi>, Memory>
+    ensures { IfOk result (λ classes. classes.items ≡ map (bidi_of tables.now) (chars line.now)) }
+{
+    Ok(line.chars().map(|c| tables.bidi(c)).collect(alloc)?)
 }
 
 /// A level for each cluster of a line (UAX #9, L1): that of its first code point.
@@ -86,6 +92,6 @@ pub fn line_levels(
     requires whole { sum sizes.now ≡ length (chars line.now) }
     ensures { IfOk result (λ of_clusters. of_clusters.items ≡ line_levels_of tables.now line.now levels.now sizes.now para_level) }
 {
-    let after = after_l1(alloc, tables, line, levels, para_level)?;
-    firsts(alloc, &after, sizes)
+    let classes = classes_of(alloc, tables, line)?;
+    line_levels_at(alloc, &classes, levels, sizes, para_level)
 }
