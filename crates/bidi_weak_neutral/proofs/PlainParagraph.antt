@@ -14,7 +14,7 @@ use Rattle.ucd_files.specs.Tables.{TableValues, bidi_of}
 use Rattle.paragraphs.specs.Text.{code_points}
 use Rattle.paragraphs.specs.Classes.{is_separator, is_removed}
 use Rattle.bidi_explicit.specs.declared.kept.Kept.{Kept}
-use Rattle.bidi_explicit.specs.Embedding.{Embedding, embedding, paragraph_level}
+use Rattle.bidi_explicit.specs.Embedding.{Embedding, embedding, embedding_at, paragraph_level}
 use Rattle.bidi_explicit.specs.Levels.{descend, explicit_places, none_open, plain}
 use Rattle.bidi_explicit.specs.Nesting.{base, nest}
 use Rattle.bidi_explicit.specs.Sequences.{kept_at, kept_before, kept_after, level_or, sos_of, eos_of, is_unmatched, direction_between, last_or, chain, next, begins, below, sequence_from, sequences_of}
@@ -182,3 +182,17 @@ plain-levels_of tables base text n free e = counted (is_plain_text tables text) 
         ap (λ k. replicate k 0) same
         ∙ sym (plain-resolved (map (bidi_of tables) points) (all-plain tables points p) base tables points free (length-map points (bidi_of tables)))
     counted false p = absurd (none-some n (sym (e ∙ ap (λ b. if b then Some (length (code_points text)) else None) p)))
+
+passing : (cs : List Bidi) → list_all is_plain cs ≡ true → All Plain cs
+passing [] e = All-nil Plain
+passing (c ∷ cs) e = All-cons Plain c cs (and-left _ _ e) (passing cs (and-right _ _ e))
+
+-- a paragraph of plain classes at level 0
+pub plain-at_zero : (tables : TableValues) (points : List ℕ) (level : ℕ) (cs : List Bidi) → level ≡ 0 → list_all is_plain cs ≡ true → cs ≡ map (bidi_of tables) points
+    → replicate (length points) 0 ≡ resolved_levels tables points (embedding_at level cs)
+plain-at_zero tables points level cs zero_level p e =
+    sym (plain-resolved cs (passing cs p) Left tables points left_is (ap length e ∙ length-map points (bidi_of tables)))
+    ∙ ap (λ l. resolved_levels tables points (embedding_at l cs)) (sym zero_level)
+  where
+    left_is : Left ≡ Right → ⊥
+    left_is h = cc

@@ -7,4 +7,4 @@ mod paragraph;
 mod sequence;
 mod weak;
 
-pub use paragraph::levels;
+pub use paragraph::{levels, levels_at};

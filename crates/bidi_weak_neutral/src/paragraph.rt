@@ -2,7 +2,10 @@
 
 ghost use Rattle.std.specs.Prelude.{◌≡◌, ◌<◌, ◌≤◌, IfOk, OnOk, All, Some, None, length, map, replicate, if◌then◌else◌};
 ghost use Rattle.ucd_files.specs.Tables.{bidi_of};
+ghost use Rattle.std.specs.List.{list_all};
 ghost use Rattle.paragraphs.specs.Text.{code_points};
+ghost use Rattle.bidi_explicit.specs.Embedding.{embedding_at};
+ghost use Rattle.bidi_weak_neutral.specs.Classes.{is_plain};
 ghost use Rattle.bidi_weak_neutral.specs.Levels.{kept_levels, filled_levels, types_before, characters_of, types_after_n0, put_back, resolved_levels, levels_of, is_plain_text};
 
 use crate::class::is_plain;
@@ -137,8 +140,55 @@ fn classes_of(alloc: Global, tables: &Tables, points: &[char]) -> Result<Vec<Bid
     Ok(points.iter().map(|c| tables.bidi(*c)).collect(alloc)?)
 }
 
-/// The resolved levels of any paragraph.
+/// The resolved levels of any paragraph of this level.
 fn levels_by_sequences(
+    alloc: Global,
+    tables: &Tables,
+    level: u8,
+    points: &[char],
+    classes: &[Bidi],
+) -> Result<Vec<u8>, Memory>
+    requires level { level ≤ 1 }
+    requires classes { classes.now ≡ map (bidi_of tables.now) points.now }
+    ensures levels { IfOk result (λ levels. levels.items ≡ resolved_levels tables.now points.now (embedding_at level classes.now)) }
+    ensures one_each { IfOk result (λ levels. length levels.items ≡ length points.now) }
+    ensures bound { IfOk result (λ levels. All (λ level. level ≤ 126) levels.items) }
+{
+    let embedded = explicit_at(alloc, level, classes)?;
+    let mut levels = vec![in alloc; embedded.level(); points.len()]?;
+    resolve_levels(alloc, tables, points, &embedded, &mut levels)?;
+    Ok(levels)
+}
+
+/// Whether all classes are plain.
+fn are_plain(classes: &[Bidi]) -> bool
+    ensures { result ≡ list_all is_plain classes.now }
+{
+    classes.iter().all(|class| is_plain(*class))
+}
+
+/// What `levels` answers for a paragraph of this level, 0 or 1, of these code points, which have these classes.
+pub fn levels_at(
+    alloc: Global,
+    tables: &Tables,
+    level: u8,
+    points: &[char],
+    classes: &[Bidi],
+) -> Result<Vec<u8>, Memory>
+    requires level { level ≤ 1 }
+    requires classes { classes.now ≡ map (bidi_of tables.now) points.now }
+    ensures levels { IfOk result (λ levels. levels.items ≡ resolved_levels tables.now points.now (embedding_at level classes.now)) }
+    ensures one_each { IfOk result (λ levels. length levels.items ≡ length points.now) }
+    ensures bound { IfOk result (λ levels. All (λ level. level ≤ 126) levels.items) }
+{
+    if level == 0 && are_plain(classes) {
+        return Ok(vec![in alloc; 0; points.len()]?);
+    }
+    levels_by_sequences(alloc, tables, level, points, classes)
+}
+
+/// The resolved levels of any paragraph.
+fn levels_of_any(
     alloc: Global,
     tables: &Tables,
     para: &Para,
@@ -151,10 +201,7 @@ fn levels_by_sequences(
     let points = code_points_of(alloc, para.text())?;
     let classes = classes_of(alloc, tables, &points)?;
     let level = paragraph_level(tables, para, base);
-    let embedded = explicit_at(alloc, level, &classes)?;
-    let mut levels = vec![in alloc; embedded.level(); points.len()]?;
-    resolve_levels(alloc, tables, &points, &embedded, &mut levels)?;
-    Ok(levels)
+    levels_by_sequences(alloc, tables, level, &points, &classes)
 }
 
 /// The number of code points of a text that goes left to right by itself, else `None`.
@@ -183,10 +230,10 @@ pub fn levels(alloc: Global, tables: &Tables, para: &Para, base: Base) -> Result
 {
     // Under a base of level 1 no paragraph is at level 0.
     if let Base::Right = base {
-        return levels_by_sequences(alloc, tables, para, base);
+        return levels_of_any(alloc, tables, para, base);
     }
     match plain_count(tables, para.text()) {
         Some(count) => Ok(vec![in alloc; 0; count]?),
-        None => levels_by_sequences(alloc, tables, para, base),
+        None => levels_of_any(alloc, tables, para, base),
     }
 }

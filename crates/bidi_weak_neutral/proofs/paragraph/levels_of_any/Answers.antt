@@ -1,7 +1,14 @@
 -- The goals of `levels_of_any` that are answered by hand.
-use Rattle.std.proofs.Common.{ap, ap₂, ◌∙◌, ◌≡◌, map, length}
+use Rattle.std.proofs.Common.{arith, ◌∙◌, ◌≡◌, ◌≤◌, All, ap, ap₂, subst, sym, map, length}
+use Rattle.std.proofs.lemmas.List.Elements.{All-same}
 use Rattle.paragraphs.specs.Text.{code_points}
 use Rattle.ucd_files.specs.Tables.{bidi_of}
 use Rattle.bidi_explicit.specs.Embedding.{embedding_at, classes_of}
 use Rattle.bidi_weak_neutral.specs.Levels.{resolved_levels}
 use Rattle.bidi_weak_neutral.proofs.paragraph.levels_of_any.Goals as goal
+
+pub levels_by_sequences-requires-clause-classes : goal.levels_by_sequences-requires-clause-classes
+levels_by_sequences-requires-clause-classes c =
+    let points = c.deref.ensures.value in
+    let lent = c.deref-2.ensures.value in
+    c.deref-3.ensures.value ∙ c.in_ok-classes.ensures ∙ ap (map (bidi_of c.args.tables.now)) (points ∙ sym lent)
