@@ -14,8 +14,8 @@ use Rattle.cell_grid.specs.Outline.{StandIn}
 use Rattle.cell_grid.proofs.Standing.{bytes, points, points-append, points-sum, spans-range, span_of, extent-spans, start-boundary, end-boundary, points-between, points-all}
 
 stand-from : (text : List ℕ) (line : List Span) (sizes : List ℕ) (a b c d : ℕ) → extent line ≡ span_of a b c d → IsCharBoundary text a → IsCharBoundary text b → a ≤ b → c ≤ d
-    → d ≤ length (code_points text) → length (chars (slice_range text a b)) ≡ d - c → All (λ size. 0 < size) sizes → sum sizes ≡ d - c → StandIn text line sizes
-stand-from text line sizes a b c d e start end bytes_le places_le within count some whole =
+    → d ≤ length (code_points text) → chars (slice_range text a b) ≡ slice_range (code_points text) c d → All (λ size. 0 < size) sizes → sum sizes ≡ d - c → StandIn text line sizes
+stand-from text line sizes a b c d e start end bytes_le places_le within same some whole =
     let ea = ap (λ (s : Span). s.first_byte) e in
     let eb = ap (λ (s : Span). s.end_byte) e in
     let ec = ap (λ (s : Span). s.first_place) e in
@@ -26,7 +26,8 @@ stand-from text line sizes a b c d e start end bytes_le places_le within count s
       bytes = omega arith;
       places = omega arith;
       within = omega arith;
-      count = ap (λ n. length (chars (slice_range text n (extent line).end_byte))) ea ∙ ap (λ n. length (chars (slice_range text a n))) eb ∙ count ∙ sym (ap (λ n. n - (extent line).first_place) ed ∙ ap (λ n. d - n) ec);
+      points = ap (λ n. chars (slice_range text n (extent line).end_byte)) ea ∙ ap (λ n. chars (slice_range text a n)) eb ∙ same
+          ∙ sym (ap (λ n. slice_range (code_points text) n (extent line).end_place) ec ∙ ap (λ n. slice_range (code_points text) c n) ed);
       some = some;
       whole = whole ∙ sym (ap (λ n. n - (extent line).first_place) ed ∙ ap (λ n. d - n) ec);
     }
@@ -116,6 +117,6 @@ module _ (below : LawsBelow) (text : List ℕ) (u : IsUtf8 text) (i j : ℕ) (le
       stand-from text (slice_range (spans text) i j) (slice_range (cluster_sizes text) i j) (bytes front) (bytes front + bytes mid) (points front) (points front + points mid)
       (part-extent some)
       (start-boundary text front mid back joined uf um ub) (end-boundary text front mid back joined uf um ub)
-      (omega arith) (omega arith) (omega arith) (omega arith)
+      (omega arith) (omega arith) (omega arith) between
       (All-take (λ size. 0 < size) (j - i) (drop i (cluster_sizes text)) (All-drop (λ size. 0 < size) i (cluster_sizes text) (below.sizes_some text u)))
       (omega arith)

@@ -131,8 +131,19 @@ module _ (text : List ℕ) (front mid back : List (List ℕ)) (joined : concat (
       ∙ ap (take (bytes mid)) (ap (drop (bytes front)) split ∙ drop_at (concat front) (concat mid ++ concat back) (bytes front) (bytes-concat front))
       ∙ take_at (concat mid) (concat back) (bytes mid) (bytes-concat mid)
 
-  pub points-between : length (chars (slice_range text (bytes front) (bytes front + bytes mid))) ≡ points mid
-  points-between = ap (λ t. length (chars t)) text-between ∙ points-concat mid um
+  points-split : code_points text ≡ code_points (concat front) ++ (code_points (concat mid) ++ code_points (concat back))
+  points-split =
+      ap code_points split ∙ chars-append (concat front) (concat mid ++ concat back) (concat-utf8 front uf)
+      ∙ ap (λ l. code_points (concat front) ++ l) (chars-append (concat mid) (concat back) (concat-utf8 mid um))
+
+  pub points-between : chars (slice_range text (bytes front) (bytes front + bytes mid)) ≡ slice_range (code_points text) (points front) (points front + points mid)
+  points-between =
+      let n : points front + points mid - points front ≡ points mid = omega arith in
+      let part : slice_range (code_points text) (points front) (points front + points mid) ≡ code_points (concat mid) =
+      ap (λ k. take k (drop (points front) (code_points text))) n
+      ∙ ap (take (points mid)) (ap (drop (points front)) points-split ∙ drop_at (code_points (concat front)) (code_points (concat mid) ++ code_points (concat back)) (points front) (points-concat front uf))
+      ∙ take_at (code_points (concat mid)) (code_points (concat back)) (points mid) (points-concat mid um) in
+      ap chars text-between ∙ sym part
 
   pub points-all : length (code_points text) ≡ points front + points mid + points back
   points-all =

@@ -22,7 +22,7 @@ pub record StandIn (text : List ℕ) (line : List Span) (sizes : List ℕ) : Typ
   pub bytes : (extent line).first_byte ≤ (extent line).end_byte
   pub places : (extent line).first_place ≤ (extent line).end_place
   pub within : (extent line).end_place ≤ length (code_points text)
-  pub count : length (chars (slice_range text (extent line).first_byte (extent line).end_byte)) ≡ (extent line).end_place - (extent line).first_place
+  pub points : chars (slice_range text (extent line).first_byte (extent line).end_byte) ≡ slice_range (code_points text) (extent line).first_place (extent line).end_place
   pub some : All (λ size. 0 < size) sizes
   pub whole : sum sizes ≡ (extent line).end_place - (extent line).first_place
 

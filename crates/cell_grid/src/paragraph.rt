@@ -1,10 +1,12 @@
 //! The rows of a paragraph.
 
-ghost use Rattle.std.specs.Prelude.{◌≡◌, ℕ, ◌+◌, ◌≤◌, length, slice_range, IfOk};
+ghost use Rattle.std.specs.Prelude.{◌≡◌, ℕ, ◌+◌, ◌≤◌, length, map, slice_range, IfOk};
 ghost use Rattle.std.specs.List.{All};
+ghost use Rattle.ucd_files.specs.Tables.{bidi_of};
 ghost use Rattle.paragraphs.specs.Text.{code_points};
 ghost use Rattle.paragraphs.specs.Clusters.{clusters, cluster_sizes};
 ghost use Rattle.paragraphs.specs.Spans.{spans};
+ghost use Rattle.bidi_explicit.specs.Embedding.{classes_of};
 ghost use Rattle.line_break.specs.LineClusters.{line_clusters};
 ghost use Rattle.cell_grid.specs.Rows.{levels_in_line, row_of, rows_of};
 ghost use Rattle.cell_grid.specs.Shifting.{MayShiftRow};
@@ -14,12 +16,12 @@ use crate::column::hung;
 use crate::laws_below::laws_below;
 use crate::row::Row;
 use crate::span::extent;
-use bg_types::{Base, Memory};
+use bg_types::{Base, Bidi, Memory};
 use bidi_explicit::paragraph_level;
-use bidi_weak_neutral::levels;
+use bidi_weak_neutral::levels_at;
 use line_break::{Line, Outline, lines_of, outline_of};
 use paragraphs::{Para, Span};
-use reorder::line_levels;
+use reorder::line_levels_at;
 use std::alloc::Global;
 use ucd_files::Tables;
 
@@ -29,6 +31,8 @@ struct Material<'a> {
     tables: &'a Tables,
     text: &'a str,
     para_level: u8,
+    /// The class of each code point.
+    classes: Vec<Bidi>,
     /// The level of each code point.
     levels: Vec<u8>,
     clusters: Outline,
@@ -41,16 +45,16 @@ fn levels_in_line(
     spans: &[Span],
     sizes: &[u32],
 ) -> Result<Vec<u8>, Memory>
+    requires classes { material.now.classes.items ≡ classes_of material.now.tables.now material.now.text.now }
     requires levels { length material.now.levels.items ≡ length (code_points material.now.text.now) }
     requires stand { StandIn material.now.text.now spans.now sizes.now }
     ensures { IfOk result (λ levels. levels.items
         ≡ levels_in_line material.now.tables.now material.now.text.now material.now.levels.items material.now.para_level spans.now sizes.now) }
 {
     let whole = extent(spans);
-    line_levels(
+    line_levels_at(
         alloc,
-        material.tables,
-        &material.text[whole.first_byte as usize..whole.end_byte as usize],
+        &material.classes[whole.first_place as usize..whole.end_place as usize],
         &material.levels[whole.first_place as usize..whole.end_place as usize],
         sizes,
         material.para_level,
@@ -71,6 +75,7 @@ fn part<T>(all: &[T], line: Line) -> &[T]
 fn row_of(alloc: Global, material: &Material, width: u16, line: Line) -> Result<Row, Memory>
     requires width { width ≤ 500 }
     requires size { length (clusters material.now.text.now) ≤ 4_000_000 }
+    requires classes { material.now.classes.items ≡ classes_of material.now.tables.now material.now.text.now }
     requires levels { length material.now.levels.items ≡ length (code_points material.now.text.now) }
     requires spans { material.now.clusters.spans.items ≡ spans material.now.text.now }
     requires sizes { material.now.clusters.sizes.items ≡ cluster_sizes material.now.text.now }
@@ -86,6 +91,20 @@ fn row_of(alloc: Global, material: &Material, width: u16, line: Line) -> Result<
     let levels = levels_in_line(alloc, material, spans, sizes)?;
     let columns = hung(alloc, width, clusters)?;
     Row::with(alloc, width, material.para_level, spans, &levels, &columns)
+}
+
+/// The code points of a text.
+fn code_points_of(alloc: Global, text: &str) -> Result<Vec<char>, Memory>
+    ensures { IfOk result (λ points. points.items ≡ code_points text.now) }
+{
+    Ok(text.chars().collect(alloc)?)
+}
+
+/// The classes of code points.
+fn classes_of(alloc: Global, tables: &Tables, points: &[char]) -> Result<Vec<Bidi>, Memory>
+    ensures { IfOk result (λ classes. classes.items ≡ map (bidi_of tables.now) points.now) }
+{
+    Ok(points.iter().map(|c| tables.bidi(*c)).collect(alloc)?)
 }
 
 /// The rows of a paragraph of at most 4,000,000 bytes at a width in columns, from the top, with bytes and
@@ -106,11 +125,17 @@ pub fn rows(
         → places + length (code_points para.now.text) ≤ 4_000_000 → All (MayShiftRow bytes places) rows.items) }
 {
     laws_below();
+    let text = para.text();
+    let para_level = paragraph_level(tables, para, base);
+    let points = code_points_of(alloc, text)?;
+    let classes = classes_of(alloc, tables, &points)?;
+    let levels = levels_at(alloc, tables, para_level, &points, &classes)?;
     let material = Material {
         tables,
-        text: para.text(),
-        para_level: paragraph_level(tables, para, base),
-        levels: levels(alloc, tables, para, base)?,
+        text,
+        para_level,
+        classes,
+        levels,
         clusters: outline_of(alloc, tables, para)?,
     };
     let lines = lines_of(alloc, &material.clusters.clusters, width)?;

@@ -4,10 +4,13 @@ use Rattle.std.proofs.lemmas.List.{map-append}
 use Rattle.std.proofs.lemmas.List.Elements.{All-same}
 use Rattle.std.specs.List.{All}
 use Rattle.std.specs.Str.{IsUtf8}
-use Rattle.ucd_files.specs.Tables.{TableValues}
+use Rattle.bg_types.specs.declared.class.Bidi.{Bidi}
+use Rattle.bg_types.specs.declared.class.Base.{Base}
+use Rattle.ucd_files.specs.Tables.{TableValues, bidi_of}
+use Rattle.paragraphs.specs.Text.{code_points}
 use Rattle.paragraphs.specs.Clusters.{clusters}
-use Rattle.bidi_explicit.specs.Embedding.{paragraph_level, classes_of}
-use Rattle.bidi_weak_neutral.specs.Levels.{levels_of}
+use Rattle.bidi_explicit.specs.Embedding.{paragraph_level, classes_of, embedding_at}
+use Rattle.bidi_weak_neutral.specs.Levels.{levels_of, resolved_levels}
 use Rattle.line_break.specs.declared.cluster.Cluster.{Cluster}
 use Rattle.line_break.specs.declared.line.Line.{Line}
 use Rattle.line_break.specs.LineClusters.{line_clusters}
@@ -26,15 +29,38 @@ lines-are : (tables : TableValues) (text : List ℕ) (width : ℕ) (found : List
     → found ≡ lines tables text width
 lines-are tables text width found lent own a b d = a ∙ ap (lines_of width) (b ∙ d)
 
+-- the classes of points that are lent twice
+points-lent : (tables : TableValues) (classes lent : List Bidi) (once twice : List ℕ) → lent ≡ classes → classes ≡ map (bidi_of tables) once → once ≡ twice
+    → lent ≡ map (bidi_of tables) twice
+points-lent tables classes lent once twice a b d = a ∙ b ∙ ap (map (bidi_of tables)) d
+
+-- the levels of the points are those of the text
+levels-are : (tables : TableValues) (text : List ℕ) (base : Base) (found points : List ℕ) (classes : List Bidi) (level : ℕ) → found ≡ resolved_levels tables points (embedding_at level classes)
+    → points ≡ code_points text → classes ≡ map (bidi_of tables) points → level ≡ paragraph_level base (classes_of tables text) → found ≡ levels_of tables base text
+levels-are tables text base found points classes level e p cs l =
+    e ∙ ap (λ n. resolved_levels tables points (embedding_at n classes)) l
+    ∙ ap (λ x. resolved_levels tables points (embedding_at (paragraph_level base (classes_of tables text)) x)) (cs ∙ ap (map (bidi_of tables)) p)
+    ∙ ap (λ x. resolved_levels tables x (embedding_at (paragraph_level base (classes_of tables text)) (classes_of tables text))) p
+
+pub levels_at-requires-clause-classes : goal.levels_at-requires-clause-classes
+levels_at-requires-clause-classes c =
+    points-lent c.args.tables.now _ _ _ _ c.deref-3.ensures.value c.in_ok-classes.ensures (c.deref.ensures.value ∙ sym c.deref-2.ensures.value)
+
+pub row_of-requires-clause-classes : goal.row_of-requires-clause-classes
+row_of-requires-clause-classes c = c.in_ok-classes.ensures ∙ ap (map (bidi_of c.args.tables.now)) (c.deref.ensures.value ∙ c.in_ok-points.ensures)
+
+pub row_of-requires-clause-levels : goal.row_of-requires-clause-levels
+row_of-requires-clause-levels c = c.in_ok-levels.ensures.one_each ∙ ap length (c.deref-2.ensures.value ∙ c.in_ok-points.ensures)
+
 pub lines_of-requires-clause-columns : goal.lines_of-requires-clause-columns
-lines_of-requires-clause-columns c = All-same (λ (x : Cluster). x.columns ≤ 2) _ _ c.deref.ensures.value c.in_ok-outline_of.ensures.columns
+lines_of-requires-clause-columns c = All-same (λ (x : Cluster). x.columns ≤ 2) _ _ c.deref-4.ensures.value c.in_ok-outline_of.ensures.columns
 
 pub lines_of-requires-clause-length : goal.lines_of-requires-clause-length
 lines_of-requires-clause-length c =
-    let few = few-clusters c.laws_below.ensures c.text.result.now c.text.utf8 in
-    let same = ap length c.text.ensures in
-    let text = ap length (ap clusters c.text.ensures) in
-    let n = ap length (c.deref.ensures.value ∙ c.in_ok-outline_of.ensures.clusters) ∙ c.laws_below.ensures.each_measured c.args.tables.now c.args.para.now.text in
+    let few = few-clusters c.laws_below.ensures c.text-text.result.now c.text-text.utf8 in
+    let same = ap length c.text-text.ensures in
+    let text = ap length (ap clusters c.text-text.ensures) in
+    let n = ap length (c.deref-4.ensures.value ∙ c.in_ok-outline_of.ensures.clusters) ∙ c.laws_below.ensures.each_measured c.args.tables.now c.args.para.now.text in
     let all = c.requires.size in
     omega arith
 
@@ -43,8 +69,8 @@ loop-line-init c = c.in_ok-rows.ensures.items
 
 pub row_of-requires-clause-size : goal.row_of-requires-clause-size
 row_of-requires-clause-size c =
-    let few = few-clusters c.laws_below.ensures c.text.result.now c.text.utf8 in
-    let same = ap length c.text.ensures in
+    let few = few-clusters c.laws_below.ensures c.text-text.result.now c.text-text.utf8 in
+    let same = ap length c.text-text.ensures in
     let all = c.requires.size in
     omega arith
 
@@ -53,11 +79,11 @@ row_of-requires-clause-line c =
     let i = c.loop-line.line-index in
     let d : Line = record { start = 0; end = 0 } in
     let text = c.args.para.now.text in
-    let items = c.deref-line-items.ensures.value ∙ lines-are c.args.tables.now text c.args.width _ _ _ c.in_ok-lines.ensures c.deref.ensures.value c.in_ok-outline_of.ensures.clusters in
+    let items = c.deref-line-items.ensures.value ∙ lines-are c.args.tables.now text c.args.width _ _ _ c.in_ok-lines.ensures c.deref-4.ensures.value c.in_ok-outline_of.ensures.clusters in
     let lt = subst (λ (l : List Line). i < length l) items c.loop-line-test.true in
-    subst (λ t. IsLine c.args.tables.now c.args.width t (get_or c.deref-line-items.result.now i d)) (sym c.text.ensures)
+    subst (λ t. IsLine c.args.tables.now c.args.width t (get_or c.deref-line-items.result.now i d)) (sym c.text-text.ensures)
     (subst (λ (l : List Line). IsLine c.args.tables.now c.args.width text (get_or l i d)) (sym items)
-    (IsLine-lines c.laws_below.ensures c.args.tables.now text (subst IsUtf8 c.text.ensures c.text.utf8) c.args.width c.requires.at_least i d lt))
+    (IsLine-lines c.laws_below.ensures c.args.tables.now text (subst IsUtf8 c.text-text.ensures c.text-text.utf8) c.args.width c.requires.at_least i d lt))
 
 pub loop-line-preserved : goal.loop-line-preserved
 loop-line-preserved c =
@@ -71,9 +97,11 @@ loop-line-preserved c =
     let levels = levels_of tables c.args.base text in
     let f : Line → DrawnRow = row_of tables width level text levels in
     let made = c.in_ok-row_of.ensures
-    ∙ ap (λ n. row_of tables width n c.text.result.now c.in_ok-levels.field-0.items line) c.paragraph_level.ensures.level
-    ∙ ap (λ t. row_of tables width level t c.in_ok-levels.field-0.items line) c.text.ensures
-    ∙ ap (λ l. row_of tables width level text l line) c.in_ok-levels.ensures.levels in
+    ∙ ap (λ n. row_of tables width n c.text-text.result.now c.in_ok-levels.levels.items line) c.paragraph_level-para_level.ensures.level
+    ∙ ap (λ t. row_of tables width level t c.in_ok-levels.levels.items line) c.text-text.ensures
+    ∙ ap (λ l. row_of tables width level text l line)
+    (levels-are tables text c.args.base _ _ _ _ c.in_ok-levels.ensures.levels (c.deref-2.ensures.value ∙ c.in_ok-points.ensures ∙ ap code_points c.text-text.ensures)
+    (points-lent tables _ _ _ _ c.deref-3.ensures.value c.in_ok-classes.ensures (c.deref.ensures.value ∙ sym c.deref-2.ensures.value)) c.paragraph_level-para_level.ensures.level) in
     c.in_ok-push.ensures.items
     ∙ ap (λ l. l ++ c.in_ok-row_of.field-0 ∷ []) c.loop-line.invariant
     ∙ ap (λ r. map f (take i items) ++ r ∷ []) made
@@ -85,7 +113,7 @@ returns-clause-rows c =
     let tables = c.args.tables.now in
     let text = c.args.para.now.text in
     let f : Line → DrawnRow = row_of tables c.args.width (paragraph_level c.args.base (classes_of tables text)) text (levels_of tables c.args.base text) in
-    let items = c.deref-line-items.ensures.value ∙ lines-are tables text c.args.width _ _ _ c.in_ok-lines.ensures c.deref.ensures.value c.in_ok-outline_of.ensures.clusters in
+    let items = c.deref-line-items.ensures.value ∙ lines-are tables text c.args.width _ _ _ c.in_ok-lines.ensures c.deref-4.ensures.value c.in_ok-outline_of.ensures.clusters in
     c.loop-line.invariant
     ∙ ap (map f) (take-whole c.deref-line-items.result.now c.loop-line.line-index c.loop-line-test.false ∙ items)
 
@@ -94,7 +122,7 @@ returns-clause-may_shift c = λ bytes places fit_bytes fit_places.
     let tables = c.args.tables.now in
     let text = c.args.para.now.text in
     let f : Line → DrawnRow = row_of tables c.args.width (paragraph_level c.args.base (classes_of tables text)) text (levels_of tables c.args.base text) in
-    let items = c.deref-line-items.ensures.value ∙ lines-are tables text c.args.width _ _ _ c.in_ok-lines.ensures c.deref.ensures.value c.in_ok-outline_of.ensures.clusters in
+    let items = c.deref-line-items.ensures.value ∙ lines-are tables text c.args.width _ _ _ c.in_ok-lines.ensures c.deref-4.ensures.value c.in_ok-outline_of.ensures.clusters in
     let all = c.loop-line.invariant ∙ ap (map f) (take-whole c.deref-line-items.result.now c.loop-line.line-index c.loop-line-test.false ∙ items) in
     subst (All (MayShiftRow bytes places)) (sym all)
-    (rows-shift c.laws_below.ensures tables c.args.width c.requires.at_least c.args.base text (subst IsUtf8 c.text.ensures c.text.utf8) bytes places fit_bytes fit_places)
+    (rows-shift c.laws_below.ensures tables c.args.width c.requires.at_least c.args.base text (subst IsUtf8 c.text-text.ensures c.text-text.utf8) bytes places fit_bytes fit_places)
