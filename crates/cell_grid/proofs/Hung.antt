@@ -1,5 +1,6 @@
 -- Columns that hang, one after the other.
-use Rattle.std.proofs.Common.{◌≡◌, ℕ, suc, ◌+◌, ◌-◌, ◌<◌, ◌≤◌, cond, List, [], ◌∷◌, ◌++◌, length, drop, get_or, replicate, refl, sym, ap, ◌∙◌, arith, append_assoc, inl, inr}
+use Rattle.std.proofs.Common.{◌≡◌, ℕ, suc, ◌+◌, ◌-◌, ◌<◌, ◌≤◌, cond, List, [], ◌∷◌, ◌++◌, length, drop, get_or, replicate, sum, refl, sym, ap, ◌∙◌, arith, append_assoc, inl, inr}
+use Rattle.std.proofs.lemmas.List.Sums.{sum_by-cons}
 use Rattle.std.proofs.lemmas.Bool.{le-leb, lt-leb}
 use Rattle.std.proofs.lemmas.Bool.Decides.{leb_tells}
 use Rattle.cell_grid.specs.Hanging.{hung}
@@ -25,6 +26,13 @@ hung-none (n ∷ later) = elim (leb_tells n 0) [
 
 pub hung-full : (room n : ℕ) (later : List ℕ) → room < n → hung room (n ∷ later) ≡ 0 ∷ hung 0 later
 hung-full room n later lt = hung-cut room n later lt ∙ ap (λ l. 0 ∷ l) (sym (hung-none later))
+
+-- where all have room
+pub hung-all : (room : ℕ) (columns : List ℕ) → sum columns ≤ room → hung room columns ≡ columns
+hung-all room [] le = refl
+hung-all room (n ∷ later) le =
+    let whole = sum_by-cons (λ (k : ℕ). k) n later in
+    hung-fits room n later (omega arith) ∙ ap (λ l. n ∷ l) (hung-all (room - n) later (omega arith))
 
 -- one more cluster
 module _ (columns whole done : List ℕ) (room i n : ℕ) (lt : i < length columns) (is : n ≡ get_or columns i 0) (so_far : done ++ hung room (drop i columns) ≡ whole) where

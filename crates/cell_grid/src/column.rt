@@ -1,27 +1,39 @@
 //! The columns of a line's clusters.
 
-ghost use Rattle.std.specs.Prelude.{◌≡◌, ◌+◌, ◌^◌, ◌<◌, ◌≤◌, map, sum, IfOk};
+ghost use Rattle.std.specs.Prelude.{◌≡◌, ◌+◌, ◌^◌, ◌<◌, ◌≤◌, nat_le, sum, IfOk};
 ghost use Rattle.cell_grid.specs.Cells.{ColumnsFollow, total};
 ghost use Rattle.cell_grid.specs.Hanging.{hung};
 ghost use Rattle.cell_grid.specs.Rows.{start_column};
 
 use crate::entry::Entry;
 use bg_types::Memory;
-use line_break::Cluster;
 use std::alloc::Global;
+
+/// Whether clusters of these columns fit.
+pub(crate) fn fit(width: u16, columns: &[u8]) -> bool
+    ensures { result ≡ nat_le (sum columns.now) width }
+{
+    let mut room = width;
+    for own in columns {
+        if u16::from(*own) > room {
+            return false;
+        }
+        room -= u16::from(*own);
+    }
+    true
+}
 
 /// Each cluster takes its columns while there is room; the first that does not fit and all later
 /// ones take 0. In a line that fits these are spaces at its end.
-pub(crate) fn hung(alloc: Global, width: u16, clusters: &[Cluster]) -> Result<Vec<u8>, Memory>
-    ensures { IfOk result (λ hanging. hanging.items ≡ hung width (map (λ c. c.columns) clusters.now)) }
+pub(crate) fn hung(alloc: Global, width: u16, columns: &[u8]) -> Result<Vec<u8>, Memory>
+    ensures { IfOk result (λ hanging. hanging.items ≡ hung width columns.now) }
 {
-    let mut hanging = Vec::with_capacity(alloc, clusters.len())?;
+    let mut hanging = Vec::with_capacity(alloc, columns.len())?;
     let mut room = width;
-    for cluster in clusters {
-        let own = cluster.columns;
-        if u16::from(own) <= room {
-            room -= u16::from(own);
-            hanging.push(own)?;
+    for own in columns {
+        if u16::from(*own) <= room {
+            room -= u16::from(*own);
+            hanging.push(*own)?;
         } else {
             room = 0;
             hanging.push(0)?;

@@ -10,16 +10,15 @@ ghost use Rattle.bidi_explicit.specs.Embedding.{classes_of};
 ghost use Rattle.line_break.specs.LineClusters.{line_clusters};
 ghost use Rattle.cell_grid.specs.Rows.{levels_in_line, row_of, rows_of};
 ghost use Rattle.cell_grid.specs.Shifting.{MayShiftRow};
-ghost use Rattle.cell_grid.specs.Outline.{StandIn, IsLine};
+ghost use Rattle.cell_grid.specs.Outline.{own_columns, StandIn, IsLine};
 
-use crate::column::hung;
 use crate::laws_below::laws_below;
 use crate::row::Row;
 use crate::span::extent;
 use bg_types::{Base, Bidi, Memory};
 use bidi_explicit::paragraph_level;
 use bidi_weak_neutral::levels_at;
-use line_break::{Line, Outline, lines_of, outline_of};
+use line_break::{Cluster, Line, Outline, lines_of, outline_of};
 use paragraphs::{Para, Span};
 use reorder::line_levels_at;
 use std::alloc::Global;
@@ -36,6 +35,8 @@ struct Material<'a> {
     /// The level of each code point.
     levels: Vec<u8>,
     clusters: Outline,
+    /// The columns of each cluster.
+    columns: Vec<u8>,
 }
 
 /// The levels of a line's clusters, which have these spans in the paragraph's text (L1).
@@ -79,7 +80,7 @@ fn row_of(alloc: Global, material: &Material, width: u16, line: Line) -> Result<
     requires levels { length material.now.levels.items ≡ length (code_points material.now.text.now) }
     requires spans { material.now.clusters.spans.items ≡ spans material.now.text.now }
     requires sizes { material.now.clusters.sizes.items ≡ cluster_sizes material.now.text.now }
-    requires clusters { material.now.clusters.clusters.items ≡ line_clusters material.now.tables.now material.now.text.now }
+    requires columns { material.now.columns.items ≡ own_columns material.now.tables.now material.now.text.now }
     requires line { IsLine material.now.tables.now width material.now.text.now line }
     ensures { IfOk result (λ row. row
         ≡ row_of material.now.tables.now width material.now.para_level material.now.text.now material.now.levels.items line) }
@@ -87,10 +88,9 @@ fn row_of(alloc: Global, material: &Material, width: u16, line: Line) -> Result<
     laws_below();
     let spans = part(&material.clusters.spans, line);
     let sizes = part(&material.clusters.sizes, line);
-    let clusters = part(&material.clusters.clusters, line);
+    let columns = part(&material.columns, line);
     let levels = levels_in_line(alloc, material, spans, sizes)?;
-    let columns = hung(alloc, width, clusters)?;
-    Row::with(alloc, width, material.para_level, spans, &levels, &columns)
+    Row::of_line(alloc, width, material.para_level, spans, &levels, columns)
 }
 
 /// The code points of a text.
@@ -105,6 +105,13 @@ fn classes_of(alloc: Global, tables: &Tables, points: &[char]) -> Result<Vec<Bid
     ensures { IfOk result (λ classes. classes.items ≡ map (bidi_of tables.now) points.now) }
 {
     Ok(points.iter().map(|c| tables.bidi(*c)).collect(alloc)?)
+}
+
+/// The columns of clusters.
+fn columns_of(alloc: Global, clusters: &[Cluster]) -> Result<Vec<u8>, Memory>
+    ensures { IfOk result (λ columns. columns.items ≡ map (λ c. c.columns) clusters.now) }
+{
+    Ok(clusters.iter().map(|cluster| cluster.columns).collect(alloc)?)
 }
 
 /// The rows of a paragraph of at most 4,000,000 bytes at a width in columns, from the top, with bytes and
@@ -130,13 +137,16 @@ pub fn rows(
     let points = code_points_of(alloc, text)?;
     let classes = classes_of(alloc, tables, &points)?;
     let levels = levels_at(alloc, tables, para_level, &points, &classes)?;
+    let clusters = outline_of(alloc, tables, para)?;
+    let columns = columns_of(alloc, &clusters.clusters)?;
     let material = Material {
         tables,
         text,
         para_level,
         classes,
         levels,
-        clusters: outline_of(alloc, tables, para)?,
+        clusters,
+        columns,
     };
     let lines = lines_of(alloc, &material.clusters.clusters, width)?;
     let mut rows = Vec::with_capacity(alloc, lines.len())?;

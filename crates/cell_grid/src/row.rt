@@ -4,11 +4,12 @@ ghost use Rattle.std.specs.Prelude.{◌≡◌, ◌++◌, ◌<◌, ◌≤◌, len
 ghost use Rattle.std.specs.List.{All};
 ghost use Rattle.cell_grid.specs.declared.cell.Cell.TheVariants.{Blank};
 ghost use Rattle.cell_grid.specs.Cells.{entries_cells};
+ghost use Rattle.cell_grid.specs.Hanging.{hung};
 ghost use Rattle.cell_grid.specs.Rows.{row_with, shifted, shifted_entry};
 ghost use Rattle.cell_grid.specs.Shifting.{MayShift, MayShiftRow};
 
 use crate::cell::{Cell, Cells, cell_in};
-use crate::column::{end_column, start_column};
+use crate::column::{end_column, fit, hung, start_column};
 use crate::entry::{Entry, entries_from};
 use crate::span::{extent, shifted};
 use bg_types::Memory;
@@ -49,7 +50,7 @@ impl Model for Row {
 impl Row {
     /// The row of a line whose clusters have these spans, in logical order, with their levels and their
     /// columns.
-    pub(crate) fn with(
+    fn with(
         alloc: Global,
         width: u16,
         para_level: u8,
@@ -76,6 +77,29 @@ impl Row {
             para_level,
             entries,
         })
+    }
+
+    /// The same of clusters with these columns of their own: the spaces at the line's end hang where they
+    /// don't fit.
+    pub(crate) fn of_line(
+        alloc: Global,
+        width: u16,
+        para_level: u8,
+        spans: &[Span],
+        levels: &[u8],
+        own: &[u8],
+    ) -> Result<Row, Memory>
+        requires levels { length levels.now ≡ length spans.now }
+        requires columns { length own.now ≡ length spans.now }
+        requires width { width ≤ 500 }
+        requires count { length spans.now ≤ 4_000_000 }
+        ensures { IfOk result (λ row. row ≡ row_with width para_level spans.now levels.now (hung width own.now)) }
+    {
+        if fit(width, own) {
+            return Row::with(alloc, width, para_level, spans, levels, own);
+        }
+        let columns = hung(alloc, width, own)?;
+        Row::with(alloc, width, para_level, spans, levels, &columns)
     }
 
     /// A copy that stands this many bytes and places later. No number of it may pass 4,000,000.

@@ -16,7 +16,7 @@ use Rattle.line_break.specs.declared.line.Line.{Line}
 use Rattle.line_break.specs.LineClusters.{line_clusters}
 use Rattle.line_break.specs.Lines.{lines, lines_of}
 use Rattle.cell_grid.specs.Rows.{DrawnRow, row_of}
-use Rattle.cell_grid.specs.Outline.{IsLine}
+use Rattle.cell_grid.specs.Outline.{own_columns, IsLine}
 use Rattle.cell_grid.specs.Shifting.{MayShiftRow}
 use Rattle.cell_grid.proofs.Steps.{take-next, take-whole}
 use Rattle.cell_grid.proofs.Counting.{few-clusters}
@@ -49,18 +49,23 @@ levels_at-requires-clause-classes c =
 pub row_of-requires-clause-classes : goal.row_of-requires-clause-classes
 row_of-requires-clause-classes c = c.in_ok-classes.ensures ∙ ap (map (bidi_of c.args.tables.now)) (c.deref.ensures.value ∙ c.in_ok-points.ensures)
 
+pub row_of-requires-clause-columns : goal.row_of-requires-clause-columns
+row_of-requires-clause-columns c =
+    c.in_ok-columns.ensures ∙ ap (map (λ (x : Cluster). x.columns)) (c.deref-4.ensures.value ∙ c.in_ok-clusters.ensures.clusters)
+    ∙ ap (own_columns c.args.tables.now) (sym c.text-text.ensures)
+
 pub row_of-requires-clause-levels : goal.row_of-requires-clause-levels
 row_of-requires-clause-levels c = c.in_ok-levels.ensures.one_each ∙ ap length (c.deref-2.ensures.value ∙ c.in_ok-points.ensures)
 
 pub lines_of-requires-clause-columns : goal.lines_of-requires-clause-columns
-lines_of-requires-clause-columns c = All-same (λ (x : Cluster). x.columns ≤ 2) _ _ c.deref-4.ensures.value c.in_ok-outline_of.ensures.columns
+lines_of-requires-clause-columns c = All-same (λ (x : Cluster). x.columns ≤ 2) _ _ c.deref-5.ensures.value c.in_ok-clusters.ensures.columns
 
 pub lines_of-requires-clause-length : goal.lines_of-requires-clause-length
 lines_of-requires-clause-length c =
     let few = few-clusters c.laws_below.ensures c.text-text.result.now c.text-text.utf8 in
     let same = ap length c.text-text.ensures in
     let text = ap length (ap clusters c.text-text.ensures) in
-    let n = ap length (c.deref-4.ensures.value ∙ c.in_ok-outline_of.ensures.clusters) ∙ c.laws_below.ensures.each_measured c.args.tables.now c.args.para.now.text in
+    let n = ap length (c.deref-5.ensures.value ∙ c.in_ok-clusters.ensures.clusters) ∙ c.laws_below.ensures.each_measured c.args.tables.now c.args.para.now.text in
     let all = c.requires.size in
     omega arith
 
@@ -79,7 +84,7 @@ row_of-requires-clause-line c =
     let i = c.loop-line.line-index in
     let d : Line = record { start = 0; end = 0 } in
     let text = c.args.para.now.text in
-    let items = c.deref-line-items.ensures.value ∙ lines-are c.args.tables.now text c.args.width _ _ _ c.in_ok-lines.ensures c.deref-4.ensures.value c.in_ok-outline_of.ensures.clusters in
+    let items = c.deref-line-items.ensures.value ∙ lines-are c.args.tables.now text c.args.width _ _ _ c.in_ok-lines.ensures c.deref-5.ensures.value c.in_ok-clusters.ensures.clusters in
     let lt = subst (λ (l : List Line). i < length l) items c.loop-line-test.true in
     subst (λ t. IsLine c.args.tables.now c.args.width t (get_or c.deref-line-items.result.now i d)) (sym c.text-text.ensures)
     (subst (λ (l : List Line). IsLine c.args.tables.now c.args.width text (get_or l i d)) (sym items)
@@ -113,7 +118,7 @@ returns-clause-rows c =
     let tables = c.args.tables.now in
     let text = c.args.para.now.text in
     let f : Line → DrawnRow = row_of tables c.args.width (paragraph_level c.args.base (classes_of tables text)) text (levels_of tables c.args.base text) in
-    let items = c.deref-line-items.ensures.value ∙ lines-are tables text c.args.width _ _ _ c.in_ok-lines.ensures c.deref-4.ensures.value c.in_ok-outline_of.ensures.clusters in
+    let items = c.deref-line-items.ensures.value ∙ lines-are tables text c.args.width _ _ _ c.in_ok-lines.ensures c.deref-5.ensures.value c.in_ok-clusters.ensures.clusters in
     c.loop-line.invariant
     ∙ ap (map f) (take-whole c.deref-line-items.result.now c.loop-line.line-index c.loop-line-test.false ∙ items)
 
@@ -122,7 +127,7 @@ returns-clause-may_shift c = λ bytes places fit_bytes fit_places.
     let tables = c.args.tables.now in
     let text = c.args.para.now.text in
     let f : Line → DrawnRow = row_of tables c.args.width (paragraph_level c.args.base (classes_of tables text)) text (levels_of tables c.args.base text) in
-    let items = c.deref-line-items.ensures.value ∙ lines-are tables text c.args.width _ _ _ c.in_ok-lines.ensures c.deref-4.ensures.value c.in_ok-outline_of.ensures.clusters in
+    let items = c.deref-line-items.ensures.value ∙ lines-are tables text c.args.width _ _ _ c.in_ok-lines.ensures c.deref-5.ensures.value c.in_ok-clusters.ensures.clusters in
     let all = c.loop-line.invariant ∙ ap (map f) (take-whole c.deref-line-items.result.now c.loop-line.line-index c.loop-line-test.false ∙ items) in
     subst (All (MayShiftRow bytes places)) (sym all)
     (rows-shift c.laws_below.ensures tables c.args.width c.requires.at_least c.args.base text (subst IsUtf8 c.text-text.ensures c.text-text.utf8) bytes places fit_bytes fit_places)
