@@ -2,8 +2,8 @@
 
 use bg_types::{Base, Id, Op, Out, Place, Stops};
 use desk_replica::TakeFault;
-use desk_runs::{RunFault, ScheduleFault, Ucd, replay};
-use op_codec::{CodecFault, encode_file};
+use desk_runs::{RunFault, ScheduleFault, Ucd, replay, replay_from};
+use op_codec::{CodecFault, In, encode_file};
 use std::alloc::Global;
 use std::test::Fail;
 use ucd_files::vectors::{BIDI, BRACKETS, EA, LB, MIRROR};
@@ -17,6 +17,12 @@ const SMALL: Ucd<'static> = Ucd {
     ea: EA,
     wide_ambiguous: false,
 };
+
+/// (2,1) after (2,2), `b`: a parent of no smaller counter.
+const LATE_PARENT: [u8; 24] = [
+    0x42, 0x47, 0x4F, 0x50, 1, // BGOP, version 1
+    0, 17, 1, 0, 0, 0, 2, 0, 1, 0, 0, 0, 2, 0, 2, 0, 0, 0, 0x62, // frame 1
+];
 
 /// Any key.
 const KEY: u128 = 0x2545_F491_4F6C_DD1D;
@@ -130,6 +136,67 @@ fn texts_and_their_rows(rt: HostRuntime) -> Result<(), Fail> {
             Some(wanted),
             "{text}"
         );
+    }
+    Ok(())
+}
+
+/// What a reader's file of frames of 19 bytes comes to at width 4: the rows after each frame, or the frame that is cut.
+fn cut_run(alloc: Global, file: &[u8]) -> Outcome {
+    let mut bytes = Vec::new(alloc);
+    let mut readers = [In::new(file)];
+    let answer = {
+        let mut out = Out::new(&mut bytes);
+        replay_from(alloc, KEY, &SMALL, 4, Base::Auto, &mut readers, None, &mut out)
+    };
+    (answer, bytes)
+}
+
+/// A file that is wrong in a frame, the only one of a run.
+fn malformed(frame: usize, cause: op_codec::Cause) -> Result<(), RunFault> {
+    Err(RunFault::File(1, CodecFault::Malformed { frame, cause }))
+}
+
+/// (1,1) `a`, and after it (2,2) `x` with (3,2) `y`, and (2,1) `b`.
+fn siblings(alloc: Global) -> Result<Vec<u8>, Fail> {
+    let a = Id::new(1, 1).ok_or("not 0")?;
+    let x = Id::new(2, 2).ok_or("not 0")?;
+    let y = Id::new(3, 2).ok_or("not 0")?;
+    let b = Id::new(2, 1).ok_or("not 0")?;
+    let rows = [
+        (a, Place::Root, 'a'),
+        (x, Place::After(a), 'x'),
+        (y, Place::After(x), 'y'),
+        (b, Place::After(a), 'b'),
+    ];
+    let mut ops = Vec::new(alloc);
+    for (id, place, ch) in rows {
+        ops.push(Op::insert(id, place, ch).ok_or("well formed")?)?;
+    }
+    Ok(encode_file(alloc, ops.as_slice())?)
+}
+
+#[test]
+fn files_cut_around_each_frame(rt: HostRuntime) -> Result<(), Fail> {
+    let two = typed(rt.alloc(), 1, "ab")?;
+    let four = siblings(rt.alloc())?;
+    let rows: [(&[u8], &[&str]); 3] = [
+        (&two, &["    \n", "a   \n", "ab  \n"]),
+        (&four, &["    \n", "a   \n", "ax  \n", "axy \n", "axyb\n"]),
+        (&LATE_PARENT, &["    \n"]),
+    ];
+    for (file, shown) in rows {
+        for k in (0..file.len() + 1).filter(|k| k % 19 >= 4 && k % 19 <= 6) {
+            let whole = k.saturating_sub(5) / 19;
+            let (answer, bytes) = cut_run(rt.alloc(), &file[..k]);
+            let cut = if k < 5 { 0 } else { whole + 1 };
+            let (wanted, rows) = match shown.get(whole) {
+                _ if k % 19 != 5 => (malformed(cut, op_codec::Cause::Truncated), ""),
+                Some(rows) => (Ok(()), *rows),
+                None => (malformed(whole, op_codec::Cause::ParentNotBefore), ""),
+            };
+            assert_eq!(rt; answer, wanted, "at {k}");
+            assert_eq!(rt; bytes.as_slice(), rows.as_bytes(), "at {k}");
+        }
     }
     Ok(())
 }
