@@ -6,3 +6,5 @@ pub mod Pieces
 pub mod ClusterPlaces
 pub mod Splitting
 pub mod Following
+pub mod Plain
+pub mod Afresh

@@ -13,4 +13,4 @@ pub use cluster::Clusters;
 pub use cuts::split;
 pub use para::Para;
 pub use span::Span;
-pub use width::columns;
+pub use width::{columns, columns_of_one};

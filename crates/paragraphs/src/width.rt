@@ -27,7 +27,7 @@ pub fn columns(tables: &Tables, cluster: &str) -> u8
 
 /// The columns of a cluster of one code point: each of its classes is looked up once.
 #[inline]
-fn columns_of_one(tables: &Tables, c: char) -> u8
+pub fn columns_of_one(tables: &Tables, c: char) -> u8
     ensures { result ≡ columns_of tables.now (c ∷ []) }
 {
     if ends_line(tables, c) || is_invisible(tables, c) {
