@@ -16,6 +16,8 @@ use Rattle.line_break.specs.declared.status.Break.TheVariants.{Must}
 use Rattle.line_break.specs.Items.{point_of}
 use Rattle.line_break.specs.Statuses.{statuses_behind, breaks}
 use Rattle.line_break.specs.LineClusters.{is_space as is_space_of, measured, measured_all, line_clusters}
+use Rattle.line_break.specs.declared.measure.Measure.{Measure}
+use Rattle.line_break.specs.Measures.{measure_of}
 
 length-statuses_behind : (front later : List Item) → length (statuses_behind front later) ≡ length later
 length-statuses_behind front [] = refl
@@ -119,6 +121,16 @@ measured-is tables points statuses all place size columns is_space after same n 
   where
     cluster_of : ℕ → Bool → Break → Cluster
     cluster_of columns is_space after = record { columns = columns; is_space = is_space; after = after }
+
+-- what is read of a cluster by itself
+pub measure-is : (tables : TableValues) (points : List ℕ) (size columns : ℕ) (is_space : Bool)
+    → size ≡ length points → columns ≡ columns_of tables points → is_space ≡ is_space_of tables points
+    → record { size = size; columns = columns; is_space = is_space } ≡ measure_of tables points
+measure-is tables points size columns is_space a b d =
+    ap (λ x. measure x columns is_space) a ∙ ap (λ x. measure (length points) x is_space) b ∙ ap (λ x. measure (length points) (columns_of tables points) x) d
+  where
+    measure : ℕ → ℕ → Bool → Measure
+    measure size columns is_space = record { size = size; columns = columns; is_space = is_space }
 
 columns_by_choice-two : (tables : TableValues) (points : List ℕ) → columns_by_choice tables points ≤ 2
 columns_by_choice-two tables [] = omega arith

@@ -1,5 +1,5 @@
 -- The clusters of a paragraph, outlined up to one of them.
-use Rattle.std.proofs.Common.{◌≡◌, ℕ, ◌+◌, ◌<◌, ◌≤◌, List, [], ◌∷◌, ◌++◌, map, length, sym, ap, subst, ◌∙◌, arith, append-nil, append_assoc, length-append}
+use Rattle.std.proofs.Common.{◌≡◌, ℕ, ◌+◌, ◌-◌, ◌<◌, ◌≤◌, List, [], ◌∷◌, ◌++◌, map, length, sym, ap, subst, ◌∙◌, arith, append-nil, append_assoc, length-append}
 use Rattle.std.proofs.lemmas.List.Elements.{All-head, All-tail}
 use Rattle.std.proofs.lemmas.Str.{IsUtf8-nil, IsUtf8-append, length-le-encodes, encodes-chars}
 use Rattle.std.specs.List.{All, concat}
@@ -81,3 +81,15 @@ module _ (text : List ℕ) where
             ap (λ l. l ++ map length (map code_points later)) (put_size ∙ ap (λ k. sizes ++ k ∷ []) count)
             ∙ append_assoc sizes (length (code_points c) ∷ []) (map length (map code_points later)) ∙ at_cluster.all_sizes;
       }
+
+      -- the cluster ends where those after it begin
+      pub cluster-end : (whole behind : ℕ) → whole ≡ length text → behind ≡ length (concat later) → whole - behind ≡ byte + length c
+      cluster-end whole behind a b = let all = at_cluster.bytes in let n = length-append c (concat later) in omega arith
+
+      pub IsOutlinedTo-at : (new : Span) (size end : ℕ) (done' : List Span) (sizes' : List ℕ) → size ≡ length (code_points c) → end ≡ byte + length c
+          → new ≡ record { first_byte = byte; end_byte = end; first_place = place; end_place = place + size }
+          → done' ≡ done ++ new ∷ [] → sizes' ≡ sizes ++ size ∷ []
+          → IsOutlinedTo text later done' sizes' end (place + size)
+      IsOutlinedTo-at new size end done' sizes' count at is put_span put_size =
+          subst (λ (n : ℕ). IsOutlinedTo text later done' sizes' n (place + size)) (sym at)
+          (IsOutlinedTo-on new size done' sizes' count (is ∙ ap (λ n. record { first_byte = byte; end_byte = n; first_place = place; end_place = place + size }) at) put_span put_size)

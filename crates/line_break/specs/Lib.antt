@@ -5,6 +5,7 @@ pub mod Context
 pub mod Rules
 pub mod Statuses
 pub mod LineClusters
+pub mod Measures
 pub mod Lines
 pub mod Open
 pub mod Ranges

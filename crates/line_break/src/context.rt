@@ -44,6 +44,7 @@ impl Before {
     }
 
     /// What stands before the next boundary, with `point` the character between.
+    #[inline]
     pub(crate) fn next(self, point: Item) -> Before
         ensures { (front : List Item) → self ≡ before front → result ≡ before (front ++ point ∷ []) }
     {
@@ -55,6 +56,7 @@ impl Before {
     }
 
     /// Whether a character belongs to the item before it (LB9).
+    #[inline]
     fn takes(self, point: Item) -> bool
         ensures { result ≡ (is_mark point.class && takes_marks self.item) }
     {
@@ -62,6 +64,7 @@ impl Before {
     }
 
     /// The mark belongs to the item before it.
+    #[inline]
     fn with_mark(self, mark: Item) -> Before
         ensures { (items : List Item) → self ≡ before_by self.point items → result ≡ before_by mark.class items }
     {
@@ -72,6 +75,7 @@ impl Before {
     }
 
     /// The character begins an item, after the one before.
+    #[inline]
     fn with_base(self, point: Lb, base: Item) -> Before
         ensures { (items : List Item) → self ≡ before_by self.point items
             → result ≡ before_by point (base ∷ items) }

@@ -7,6 +7,7 @@ mod context;
 mod item;
 pub mod laws;
 mod line;
+mod measure;
 mod open;
 mod outline;
 mod rules;

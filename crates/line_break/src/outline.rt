@@ -6,10 +6,11 @@ ghost use Rattle.paragraphs.specs.Clusters.{cluster_sizes};
 ghost use Rattle.paragraphs.specs.Spans.{spans};
 ghost use Rattle.line_break.specs.LineClusters.{line_clusters};
 
-use crate::cluster::{Cluster, is_space};
+use crate::cluster::Cluster;
+use crate::measure::Measure;
 use crate::status::opportunities;
 use bg_types::Memory;
-use paragraphs::{Para, Span, columns, laws};
+use paragraphs::{Para, Span, laws};
 use std::alloc::Global;
 use ucd_files::Tables;
 
@@ -42,21 +43,22 @@ pub fn outline_of(alloc: Global, tables: &Tables, para: &Para) -> Result<Outline
         sizes: Vec::with_capacity(alloc, statuses.len())?,
         clusters: Vec::with_capacity(alloc, statuses.len())?,
     };
+    let length = para.text().len();
+    let mut clusters = para.clusters();
     let mut byte = 0;
     let mut place = 0;
-    for cluster in para.clusters() {
-        let size = cluster.chars().count() as u32;
+    while let Some(measure) = Measure::of_next(tables, &mut clusters) {
         let span = Span {
             first_byte: byte,
-            end_byte: byte + cluster.len() as u32,
+            end_byte: (length - clusters.bytes_left()) as u32,
             first_place: place,
-            end_place: place + size,
+            end_place: place + measure.size,
         };
         outline.spans.push(span)?;
-        outline.sizes.push(size)?;
+        outline.sizes.push(measure.size)?;
         outline.clusters.push(Cluster {
-            columns: columns(tables, cluster),
-            is_space: is_space(tables, cluster),
+            columns: measure.columns,
+            is_space: measure.is_space,
             after: statuses[span.end_place as usize - 1],
         })?;
         byte = span.end_byte;

@@ -38,6 +38,7 @@ fn is_between_letters(b: Before, a: After) -> bool
 }
 
 /// The same, rule by rule.
+#[inline(always)]
 fn status_by_rules(b: Before, a: After) -> Break
     ensures { result ≡ first_rule rules Break.May b a }
 {
@@ -77,6 +78,7 @@ fn is_before_mark(b: Before, a: After) -> bool
 }
 
 /// The same by the rules on items, LB11 and on.
+#[inline(always)]
 fn item_status(b: Before, a: After) -> Break
     ensures { result ≡ first_rule item_rules Break.May b a }
 {
@@ -98,6 +100,7 @@ fn item_status(b: Before, a: After) -> Break
 }
 
 /// The same by LB23 and on.
+#[inline(always)]
 fn late_status(b: Before, a: After) -> Break
     ensures { result ≡ first_rule late_rules Break.May b a }
 {

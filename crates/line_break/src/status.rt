@@ -45,7 +45,7 @@ pub fn opportunities(alloc: Global, tables: &Tables, para: &Para) -> Result<Vec<
     ensures { IfOk result (λ v. v.items ≡ breaks tables.now para.now.text) }
 {
     let text = para.text();
-    let mut statuses = Vec::with_capacity(alloc, text.chars().count())?;
+    let mut statuses = Vec::with_capacity(alloc, text.len())?;
     let mut chars = text.chars();
     let Some(first) = chars.next() else {
         return Ok(statuses);

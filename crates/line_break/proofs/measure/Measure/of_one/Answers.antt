@@ -1,0 +1,10 @@
+-- One character is one code point.
+use Rattle.std.proofs.Common.{◌∷◌, [], ap, sym, ◌∙◌, append-nil}
+use Rattle.std.specs.Prelude.{encode_utf8}
+use Rattle.std.proofs.lemmas.Str.{chars-nil, chars_past_char, IsUtf8-encode}
+use Rattle.line_break.proofs.measure.Measure.of_one.Goals as goal
+
+pub returns-clause-points : goal.returns-clause-points
+returns-clause-points c =
+    chars_past_char (encode_utf8 c.args.c) [] c.args.c (IsUtf8-encode c.args.c c.ranges.c.0) (sym (append-nil (encode_utf8 c.args.c)))
+    ∙ ap (λ points. c.args.c ∷ points) chars-nil

@@ -1,0 +1,63 @@
+//! What is read of a cluster by itself.
+
+ghost use Rattle.std.specs.Prelude.{◌≡◌, ◌<◌, ◌^◌, List, [], ◌∷◌, length, encode_utf8, MatchOption};
+ghost use Rattle.std.specs.List.{All, concat};
+ghost use Rattle.paragraphs.specs.Text.{code_points};
+
+use crate::class::is_one_of;
+use crate::cluster::is_space;
+use bg_types::Lb;
+use paragraphs::{Clusters, columns, columns_of_one};
+use ucd_files::Tables;
+
+/// How many code points a cluster has, its columns, and whether it has only spaces.
+#[derive(Clone, Copy)]
+pub(crate) struct Measure {
+    pub(crate) size: u32,
+    pub(crate) columns: u8,
+    pub(crate) is_space: bool,
+}
+
+impl Measure {
+    ghost use Rattle.line_break.specs.Measures.{measure_of, IsNext};
+
+    /// The next cluster, which is taken, is measured.
+    #[inline]
+    pub(crate) fn of_next(tables: &Tables, clusters: &mut Clusters) -> Option<Measure>
+        requires some { All (λ cluster. 0 < length cluster) clusters.old }
+        requires few { length (concat clusters.old) < 2 ^ 32 }
+        ensures { MatchOption result (clusters.old ≡ []) (λ m. IsNext tables.now m clusters.old clusters.new) }
+    {
+        if let Some(c) = clusters.next_alone() {
+            return Some(Measure::of_one(tables, c));
+        }
+        let cluster = clusters.next()?;
+        Some(Measure::of_several(tables, cluster))
+    }
+
+    /// A cluster of one character: each of its classes is looked up once.
+    #[inline]
+    fn of_one(tables: &Tables, c: char) -> Measure
+        ensures measured { result ≡ measure_of tables.now (c ∷ []) }
+        ensures points { code_points (encode_utf8 c) ≡ c ∷ [] }
+    {
+        Measure {
+            size: 1,
+            columns: columns_of_one(tables, c),
+            is_space: is_one_of(tables.lb(c), &[Lb::Sp]),
+        }
+    }
+
+    /// A cluster of any number of characters.
+    fn of_several(tables: &Tables, cluster: &str) -> Measure
+        requires some { 0 < length cluster.now }
+        requires few { length cluster.now < 2 ^ 32 }
+        ensures { result ≡ measure_of tables.now (code_points cluster.now) }
+    {
+        Measure {
+            size: cluster.chars().count() as u32,
+            columns: columns(tables, cluster),
+            is_space: is_space(tables, cluster),
+        }
+    }
+}
