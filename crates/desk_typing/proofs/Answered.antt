@@ -1,6 +1,6 @@
 -- What a run answers where there is a file of the change, and where there is none.
 use Rattle.std.proofs.Common.{◌≡◌, inr, Bool, ℕ, List, Option, Result, Ok, Err, sym, subst}
-use Rattle.std.specs.Prelude.{IfErr, IsErrAnd}
+use Rattle.std.specs.Prelude.{OnOk, IfOk, IfErr, IsErrAnd}
 use Rattle.std.specs.Str.{chars, IsUtf8}
 use Rattle.bg_types.specs.OperationSet.{OperationSet}
 use Rattle.bg_types.specs.declared.op.OpView.{OpView}
@@ -30,19 +30,31 @@ pub told_so : (readers : List (Option (List ℕ))) (lost : List Bool) (A B : Lis
 told_so readers lost A B f t = record { files = t.files; told = t.told; working = t.working; so = f t.files t.so }
 
 module _ (readers : List (Option (List ℕ))) (lost : List Bool) (change : Change) (text : List ℕ) (utf8 : IsUtf8 text) (s : OperationSet) (told : AreTold readers lost (λ files. IsSetOfFiles files s)) where
-  pub lacking : IsUntyped readers lost change text (Run Memory)
+  lacking : IsUntyped readers lost change text (Run Memory)
   lacking = (utf8, inr (told_so readers lost (λ files. IsSetOfFiles files s) (λ files. IsTakingCaused files Memory) (λ files h. tt) told))
 
   unfit_for : (fault : TypingFault) → IsUnfit s change (chars text) fault → AreTold readers lost (λ files. IsUnfitFor files change text fault)
   unfit_for fault h = told_so readers lost (λ files. IsSetOfFiles files s) (λ files. IsUnfitFor files change text fault) (λ files of_files. record { set = s; of_files = of_files; utf8 = utf8; unfit = h }) told
 
-  pub unfit : (fault : TypingFault) → IsUnfit s change (chars text) fault → IsUntyped readers lost change text fault
+  unfit : (fault : TypingFault) → IsUnfit s change (chars text) fault → IsUntyped readers lost change text fault
   unfit (NotUtf8 byte) h = absurd h
   unfit (Run fault) h = subst (λ f. IsUntyped readers lost change text (Run f)) (sym h) lacking
   unfit (PastEnd place erased) h = unfit_for (PastEnd place erased) h
   unfit Full h = unfit_for Full h
   unfit CounterSpent h = unfit_for CounterSpent h
 
-  pub file_made : (version : Version) (ops : List OpView) (file : List ℕ) → Fits s change (chars text) → SpellsIn version file ops → ops ≡ operations_of s change (chars text) → AreTold readers lost (λ files. IsTypedFile version files change text file)
-  file_made version ops file fits spelled are = told_so readers lost (λ files. IsSetOfFiles files s) (λ files. IsTypedFile version files change text file)
-      (λ files of_files. record { set = s; of_files = of_files; utf8 = utf8; fits = fits; spelled = subst (SpellsIn version file) are spelled }) told
+  pub made : {A : Type 0} (items : A → List ℕ) (version : Version) (typed : List ℕ) → typed ≡ text → (r : Result A TypingFault) → OnOk r (Fits s change (chars typed))
+      → IfOk r (λ file. SpellsIn version (items file) (operations_of s change (chars typed))) → IfOk r (λ file. AreTold readers lost (λ files. IsTypedFile version files change text (items file)))
+  made items version typed same (Ok file) fits spelled = told_so readers lost (λ files. IsSetOfFiles files s) (λ files. IsTypedFile version files change text (items file))
+      (λ files of_files. record {
+        set = s;
+        of_files = of_files;
+        utf8 = utf8;
+        fits = subst (λ (t : List ℕ). Fits s change (chars t)) same fits;
+        spelled = subst (λ (t : List ℕ). SpellsIn version (items file) (operations_of s change (chars t))) same spelled;
+      }) told
+  made items version typed same (Err fault) fits spelled = tt
+
+  pub not_made : {A : Type 0} (typed : List ℕ) → typed ≡ text → (r : Result A TypingFault) → IfErr r (IsUnfit s change (chars typed)) → IfErr r (IsUntyped readers lost change text)
+  not_made typed same (Ok file) h = tt
+  not_made typed same (Err fault) h = unfit fault (subst (λ (t : List ℕ). IsUnfit s change (chars t) fault) same h)

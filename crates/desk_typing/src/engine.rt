@@ -1,18 +1,19 @@
 //! The engine `typed`: a site's change to the text of files becomes its operation file.
 
-ghost use Rattle.std.specs.Prelude.{◌≡◌, ◌<◌, ◌⊎◌, false, map as each, IfOk, IfErr};
+ghost use Rattle.std.specs.Prelude.{◌≡◌, ◌<◌, ◌⊎◌, false, map as each, OnOk, IfOk, IfErr};
 ghost use Rattle.std.specs.Str.{chars};
 ghost use Rattle.op_codec.specs.Spelling.{SpellsIn};
 ghost use Rattle.desk_runs.specs.Readers.{AreWorking, AreTold};
 ghost use Rattle.desk_runs.specs.declared.run_fault.RunFault.TheVariants.{Memory as run_memory};
 ghost use Rattle.desk_typing.specs.declared.typing_fault.TypingFault.TheVariants.{Run as typing_run};
+ghost use Rattle.desk_typing.specs.Changing.{operations_of, Fits, IsUnfit};
 ghost use Rattle.desk_typing.specs.TypedOutcome.{IsTypedFile, IsUntyped, IsTypedOutcome};
 
 use crate::change::Change;
 use crate::operations::operations;
 use crate::typing_fault::TypingFault;
 use bg_types::{Memory, Op, Sink, put_all};
-use desk_runs::desk_of;
+use desk_runs::{Desk, desk_of};
 use op_codec::{Source, Version, encode_file, encode_file_v2};
 use std::alloc::Global;
 
@@ -63,12 +64,28 @@ fn typed_file<R: Source>(
         Ok(text) => text,
         Err(error) => return Err(TypingFault::NotUtf8(error.valid_up_to())),
     };
-    let mut desk = match desk_of(alloc, key, files) {
-        Ok(desk) => desk,
-        Err(fault) => return Err(TypingFault::Run(fault)),
-    };
+    match desk_of(alloc, key, files) {
+        Ok(mut desk) => file_at(alloc, &mut desk, change, text, version),
+        Err(fault) => Err(TypingFault::Run(fault)),
+    }
+}
+
+/// The operation file of the change at a site that holds what the desk holds. The desk may take one
+/// of its operations.
+fn file_at(
+    alloc: Global,
+    desk: &mut Desk,
+    change: &Change,
+    text: &str,
+    version: Version,
+) -> Result<Vec<u8>, TypingFault>
+    requires { 0 < change.now.site }
+    ensures fits { OnOk result (Fits desk.old.set change.now (chars text.now)) }
+    ensures spelled { IfOk result (λ file. SpellsIn version file.items (operations_of desk.old.set change.now (chars text.now))) }
+    ensures fault { IfErr result (IsUnfit desk.old.set change.now (chars text.now)) }
+{
     let typed = code_points(alloc, text)?;
-    let ops = operations(alloc, &mut desk, change, typed.as_slice())?;
+    let ops = operations(alloc, desk, change, typed.as_slice())?;
     let file = encoded(alloc, version, ops.as_slice())?;
     Ok(file)
 }
