@@ -153,29 +153,36 @@ const PACK_HELP: &str = "A listing, or - for standard input";
 
 /// Reads the words of a command line, the program's name among them.
 pub fn job<'a>(alloc: Global, words: &'a [String]) -> Result<Job<'a>, Stop> {
-    let matches = match command(alloc)?.try_get_matches_from(words) {
-        Ok(matches) => matches,
-        Err(error) => return Err(Stop::of(alloc, &error)),
-    };
-    match matches.subcommand() {
-        Some(("dump", dump)) => Ok(Job::Dump {
-            file: dump.get_str("FILE").unwrap_or(""),
+    match command(alloc)?.try_get_matches_from(words) {
+        Ok(matches) => match matches.subcommand() {
+            Some((name, asked)) => named_job(alloc, name, asked),
+            None => Ok(Job::Text {
+                files: Vec::new(alloc),
+            }),
+        },
+        Err(error) => Err(Stop::of(alloc, &error)),
+    }
+}
+
+/// The work of the subcommand of a name.
+fn named_job<'a>(alloc: Global, name: &str, asked: &ArgMatches<'a>) -> Result<Job<'a>, Stop> {
+    match name {
+        "replay" => replay_job(alloc, asked),
+        "caret" => caret_job(alloc, asked),
+        "type" => typing_job(alloc, asked),
+        "text" => Ok(Job::Text {
+            files: files(alloc, asked, 1)?,
         }),
-        Some(("migrate", migrate)) => Ok(Job::Migrate {
-            file: migrate.get_str("FILE").unwrap_or(""),
-        }),
-        Some(("pack", pack)) => Ok(Job::Pack {
-            listing: pack.get_str("FILE").unwrap_or(""),
-        }),
-        Some(("replay", replay)) => replay_job(alloc, replay),
-        Some(("caret", caret)) => caret_job(alloc, caret),
-        Some(("type", typing)) => typing_job(alloc, typing),
-        Some(("text", text)) => Ok(Job::Text {
-            files: files(alloc, text, 1)?,
-        }),
-        _ => Ok(Job::Text {
-            files: Vec::new(alloc),
-        }),
+        _ => Ok(file_job(name, asked.get_str("FILE").unwrap_or(""))),
+    }
+}
+
+/// The work of `dump`, `migrate` or `pack` over a file.
+fn file_job<'a>(name: &str, file: &'a str) -> Job<'a> {
+    match name {
+        "dump" => Job::Dump { file },
+        "migrate" => Job::Migrate { file },
+        _ => Job::Pack { listing: file },
     }
 }
 
@@ -300,18 +307,35 @@ fn step(letter: char) -> Option<Move> {
 }
 
 fn command<'a>(alloc: Global) -> Result<Command<'a>, AllocError> {
-    Command::new(alloc, "bidigrid")
+    let command = Command::new(alloc, "bidigrid")
         .bin_name("bidigrid")?
         .about(ABOUT)
         .version(VERSION)
-        .subcommand_required(true)
-        .subcommand(text_command(alloc)?)?
-        .subcommand(replay_command(alloc)?)?
-        .subcommand(caret_command(alloc)?)?
-        .subcommand(type_command(alloc)?)?
-        .subcommand(dump_command(alloc)?)?
-        .subcommand(migrate_command(alloc)?)?
-        .subcommand(pack_command(alloc)?)
+        .subcommand_required(true);
+    with_conversions(alloc, with_desks(alloc, command)?)
+}
+
+/// A command with the subcommands that put files together.
+fn with_desks<'a>(alloc: Global, command: Command<'a>) -> Result<Command<'a>, AllocError> {
+    let command = with(command, text_command(alloc))?;
+    let command = with(command, replay_command(alloc))?;
+    let command = with(command, caret_command(alloc))?;
+    with(command, type_command(alloc))
+}
+
+/// A command with the subcommands that make one file of another.
+fn with_conversions<'a>(alloc: Global, command: Command<'a>) -> Result<Command<'a>, AllocError> {
+    let command = with(command, dump_command(alloc))?;
+    let command = with(command, migrate_command(alloc))?;
+    with(command, pack_command(alloc))
+}
+
+/// A command with one more subcommand, unless that lacks memory.
+fn with<'a>(
+    command: Command<'a>,
+    made: Result<Command<'a>, AllocError>,
+) -> Result<Command<'a>, AllocError> {
+    command.subcommand(made?)
 }
 
 /// A subcommand, with what its help says.
@@ -368,13 +392,21 @@ fn files_arg<'a>(alloc: Global) -> Arg<'a> {
 }
 
 fn type_command<'a>(alloc: Global) -> Result<Command<'a>, AllocError> {
-    subcommand(alloc, "type", TYPE_ABOUT, TYPE_LONG_ABOUT, TYPE_EXAMPLE)
+    with_change(
+        alloc,
+        subcommand(alloc, "type", TYPE_ABOUT, TYPE_LONG_ABOUT, TYPE_EXAMPLE),
+    )?
+    .arg(version_arg(alloc))?
+    .arg(any_files_arg(alloc))
+}
+
+/// A subcommand that types, with what a change asks for.
+fn with_change<'a>(alloc: Global, command: Command<'a>) -> Result<Command<'a>, AllocError> {
+    command
         .arg(site_arg(alloc))?
         .arg(number_arg(alloc, "AT", "at", "P", TYPE_AT_HELP))?
         .arg(number_arg(alloc, "ERASE", "erase", "N", ERASE_HELP))?
-        .arg(word_arg(alloc, "TEXT", "text", "WORDS", TYPED_HELP))?
-        .arg(version_arg(alloc))?
-        .arg(any_files_arg(alloc))
+        .arg(word_arg(alloc, "TEXT", "text", "WORDS", TYPED_HELP))
 }
 
 fn site_arg<'a>(alloc: Global) -> Arg<'a> {
