@@ -30,28 +30,38 @@ fn main(rt: HostRuntime) -> ExitCode {
         Err(stop) => return stop_at(&rt, &stop),
     };
     match job(rt.alloc(), words.as_slice()) {
-        Ok(Job::Text { files }) => run_text(&rt, files.as_slice()),
-        Ok(Job::Replay(job)) => run_replay(&rt, &job),
-        Ok(Job::Caret(job)) => run_caret(&rt, &job),
-        Ok(Job::Type(job)) => run_type(&rt, &job),
-        Ok(Job::Dump { file }) => run_over_one(&rt, file, Engine::Dump),
-        Ok(Job::Migrate { file }) => run_over_one(&rt, file, Engine::Migrate),
-        Ok(Job::Pack { listing }) => run_over_one(&rt, listing, Engine::Pack),
+        Ok(job) => run(&rt, &job),
         Err(stop) => stop_at(&rt, &stop),
     }
 }
 
+fn run(rt: &HostRuntime, job: &Job) -> ExitCode {
+    match job {
+        Job::Text { files } => run_text(rt, files.as_slice()),
+        Job::Replay(job) => run_replay(rt, job),
+        Job::Caret(job) => run_caret(rt, job),
+        Job::Type(job) => run_type(rt, job),
+        Job::Dump { file } => run_over_one(rt, file, Engine::Dump),
+        Job::Migrate { file } => run_over_one(rt, file, Engine::Migrate),
+        Job::Pack { listing } => run_over_one(rt, listing, Engine::Pack),
+    }
+}
+
 fn run_text(rt: &HostRuntime, paths: &[&str]) -> ExitCode {
-    let mut files = match open_all(rt, paths) {
-        Ok(files) => files,
-        Err(unread) => return lose(rt, &unread),
-    };
+    match open_all(rt, paths) {
+        Ok(mut files) => text_over(rt, paths, &mut files),
+        Err(unread) => lose(rt, &unread),
+    }
+}
+
+fn text_over<R: Source>(rt: &HostRuntime, paths: &[&str], files: &mut [R]) -> ExitCode
+    requires { AreWorking (each R.has_failed files.old) }
+{
     let Ok(mut buffered) = BufWriter::new(rt.alloc(), io::writer(rt)) else {
         return refuse(rt, &RunFault::Memory, "");
     };
     let key = draw_key(rt);
-    let out = &mut Out::new(&mut buffered);
-    let done = text_from(rt.alloc(), key, &mut files, out);
+    let done = text_from(rt.alloc(), key, files, &mut Out::new(&mut buffered));
     finish(rt, done, paths, &mut buffered)
 }
 
@@ -159,10 +169,15 @@ fn run_type(rt: &HostRuntime, job: &Typing) -> ExitCode {
         Ok(bytes) => bytes,
         Err(unread) => return lose(rt, &unread),
     };
-    let mut files = match open_all(rt, job.files.as_slice()) {
-        Ok(files) => files,
-        Err(unread) => return lose(rt, &unread),
-    };
+    match open_all(rt, job.files.as_slice()) {
+        Ok(mut files) => type_over(rt, job, &mut files, text.as_slice()),
+        Err(unread) => lose(rt, &unread),
+    }
+}
+
+fn type_over<R: Source>(rt: &HostRuntime, job: &Typing, files: &mut [R], text: &[u8]) -> ExitCode
+    requires { AreWorking (each R.has_failed files.old) }
+{
     let Ok(mut buffered) = BufWriter::new(rt.alloc(), io::writer(rt)) else {
         return refuse(rt, &RunFault::Memory, "");
     };
@@ -171,21 +186,28 @@ fn run_type(rt: &HostRuntime, job: &Typing) -> ExitCode {
         place: job.place,
         erased: job.erased,
     };
-    let key = draw_key(rt);
-    let out = &mut Out::new(&mut buffered);
-    match typed(
+    let done = typed(
         rt.alloc(),
-        key,
-        &mut files,
+        draw_key(rt),
+        files,
         &change,
-        text.as_slice(),
+        text,
         job.version,
-        out,
-    ) {
-        Ok(()) => finish(rt, Ok(()), &[], &mut buffered),
-        Err(TypingFault::Run(fault)) => {
-            finish(rt, Err(fault), job.files.as_slice(), &mut buffered)
-        }
+        &mut Out::new(&mut buffered),
+    );
+    finish_typing(rt, done, job.files.as_slice(), &mut buffered)
+}
+
+/// Ends a run that typed: a fault of its own comes before anything is written.
+fn finish_typing<W: Write>(
+    rt: &HostRuntime,
+    done: Result<(), TypingFault>,
+    paths: &[&str],
+    out: &mut W,
+) -> ExitCode {
+    match done {
+        Ok(()) => finish(rt, Ok(()), paths, out),
+        Err(TypingFault::Run(fault)) => finish(rt, Err(fault), paths, out),
         Err(fault) => {
             let _unheard = tell(PROGRAM, &fault, &mut Out::new(rt.stderr()));
             ExitCode::from(fault.status())
