@@ -3,28 +3,34 @@
 ghost use Rattle.std.specs.Prelude.{◌≡◌};
 ghost use Rattle.desk_runs.specs.Fault.{schedule_code};
 
+use std::error::Error;
+use std::fmt;
+
 /// What is wrong with a line of a schedule. Each prints its bare name.
-#[derive(Clone, Copy, Debug, PartialEq, Eq, thiserror::Error)]
+#[derive(Clone, Copy, Debug, PartialEq, Eq)]
 pub enum ScheduleFault {
     /// The first word is none of `take`, `merge` and `show`.
-    #[error("UnknownStep")]
     UnknownStep,
     /// The step has another number of words.
-    #[error("WrongWords")]
     WrongWords,
     /// A word that is not 1 to 7 decimal digits, where a number is needed.
-    #[error("BadNumber")]
     BadNumber,
     /// There is no desk of this number.
-    #[error("NoSuchDesk")]
     NoSuchDesk,
     /// There is no file of this number.
-    #[error("NoSuchFile")]
     NoSuchFile,
     /// The file has no operation of this number.
-    #[error("NoSuchOperation")]
     NoSuchOperation,
 }
+
+/// Its bare name, as `Debug` writes it.
+impl fmt::Display for ScheduleFault {
+    fn fmt<W: fmt::Write>(&self, f: &mut fmt::Formatter<W>) -> fmt::Result {
+        fmt::Debug::fmt(self, f)
+    }
+}
+
+impl Error for ScheduleFault {}
 
 impl ScheduleFault {
     /// The number of this fault, 1 to 6.

@@ -6,42 +6,42 @@ ghost use Rattle.op_codec.specs.Code.{cause_code, fault_code, frame_number};
 
 use bg_types::Memory;
 use std::alloc::{AllocError, AllocFailed};
-use thiserror::Error;
+use std::error::Error;
+use std::fmt;
 
 /// What is wrong with the header or with a frame. Each prints its bare name.
-#[derive(Clone, Copy, Debug, PartialEq, Eq, Hash, Error)]
+#[derive(Clone, Copy, Debug, PartialEq, Eq)]
 pub enum Cause {
     /// One of the four magic bytes differs.
-    #[error("BadMagic")]
     BadMagic,
     /// The byte after the magic is neither 1 nor 2.
-    #[error("BadVersion")]
     BadVersion,
     /// A byte is missing.
-    #[error("Truncated")]
     Truncated,
     /// The kind is neither 1 nor 2, nor a run's 3 in version 2.
-    #[error("UnknownKind")]
     UnknownKind,
     /// The length isn't that of the kind.
-    #[error("BadLength")]
     BadLength,
     /// A counter or a site is 0, or exactly one of a parent's two.
-    #[error("ZeroField")]
     ZeroField,
     /// The parent's counter isn't below the insertion's.
-    #[error("ParentNotBefore")]
     ParentNotBefore,
     /// The last counter of a run is above 4,294,967,295.
-    #[error("CounterOverflow")]
     CounterOverflow,
     /// A character is above 10FFFF or a surrogate.
-    #[error("NotAScalar")]
     NotAScalar,
     /// The first insertion joins the last operation of the frame before, which still has room for it.
-    #[error("NotJoined")]
     NotJoined,
 }
+
+/// Its bare name, as `Debug` writes it.
+impl fmt::Display for Cause {
+    fn fmt<W: fmt::Write>(&self, f: &mut fmt::Formatter<W>) -> fmt::Result {
+        fmt::Debug::fmt(self, f)
+    }
+}
+
+impl Error for Cause {}
 
 impl Cause {
     /// The number of this cause: 1 to 8, 10 or 11.
@@ -64,7 +64,7 @@ impl Cause {
 }
 
 /// Why a file was not read. It prints the bare name of its cause, or `Memory`.
-#[derive(Clone, Copy, Debug, PartialEq, Eq, Hash, Error)]
+#[derive(Clone, Copy, Debug, PartialEq, Eq, thiserror::Error)]
 pub enum CodecFault {
     /// The bytes are faulty: this is their first cause. Frame 0 is the header, frames
     /// count from 1.

@@ -6,7 +6,7 @@ ghost use Rattle.op_codec.specs.Spelling.{version_number, most_insertions};
 use bg_types::Id;
 
 /// The version of an operation file.
-#[derive(Clone, Copy, Debug, PartialEq, Eq, Hash)]
+#[derive(Clone, Copy, Debug, PartialEq, Eq)]
 pub enum Version {
     /// Each frame is one operation.
     One,

@@ -16,14 +16,14 @@ const FEWEST_DIGITS: usize = 4;
 const MOST_DIGITS: usize = 6;
 
 /// A counter and a site as a line writes them: each may be 0.
-#[derive(Clone, Copy, Debug, PartialEq, Eq)]
+#[derive(Clone, Copy)]
 pub struct Numbers {
     pub counter: u32,
     pub site: u16,
 }
 
 /// A parent as a line writes it.
-#[derive(Clone, Copy, Debug, PartialEq, Eq)]
+#[derive(Clone, Copy)]
 pub enum Parent {
     Root,
     After(Numbers),

@@ -10,7 +10,7 @@ use thiserror::Error;
 
 /// Why an operation file was not converted. Each prints as in the line on standard error,
 /// without the program's name; the file has number 1.
-#[derive(Clone, Copy, Debug, PartialEq, Eq, Hash, Error)]
+#[derive(Clone, Copy, Debug, PartialEq, Eq, Error)]
 pub enum FileFault {
     /// The file is faulty: this is its first cause. Frame 0 is the header, frames
     /// count from 1.

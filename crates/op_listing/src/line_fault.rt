@@ -3,25 +3,31 @@
 ghost use Rattle.std.specs.Prelude.{◌≡◌};
 ghost use Rattle.op_listing.specs.Code.{line_code};
 
-use thiserror::Error;
+use std::error::Error;
+use std::fmt;
 
 /// What is wrong with a line of a listing. Each prints its bare name.
-#[derive(Clone, Copy, Debug, PartialEq, Eq, Hash, Error)]
+#[derive(Clone, Copy, Debug, PartialEq, Eq)]
 pub enum LineFault {
     /// The line hasn't the shape of an operation, or a counter is above 4,294,967,295 or a site above
     /// 65,535.
-    #[error("BadLine")]
     BadLine,
     /// A counter or a site is 0, that of the parent included.
-    #[error("ZeroField")]
     ZeroField,
     /// The parent's counter isn't below the insertion's.
-    #[error("ParentNotBefore")]
     ParentNotBefore,
     /// The character is above 10FFFF or a surrogate.
-    #[error("NotAScalar")]
     NotAScalar,
 }
+
+/// Its bare name, as `Debug` writes it.
+impl fmt::Display for LineFault {
+    fn fmt<W: fmt::Write>(&self, f: &mut fmt::Formatter<W>) -> fmt::Result {
+        fmt::Debug::fmt(self, f)
+    }
+}
+
+impl Error for LineFault {}
 
 impl LineFault {
     /// The number of this fault, 1 to 4.

@@ -11,7 +11,7 @@ use thiserror::Error;
 
 /// Why a listing was not converted. Each prints as in the line on standard error, without the
 /// program's name.
-#[derive(Clone, Copy, Debug, PartialEq, Eq, Hash, Error)]
+#[derive(Clone, Copy, Debug, PartialEq, Eq, Error)]
 pub enum ListingFault {
     /// The first faulty line, counted from 1, and its first fault.
     #[error("listing line {line}: {fault}")]
