@@ -9,4 +9,5 @@ abbrev pub invariant-loop-e : goal.invariant-loop-e
 invariant-loop-e l = record {
   below : list_all (λ e. not (is_lt (id_cmp e.id l.least))) (take l.e-index l.row) ≡ true;
   there : list_any (λ e. same_id l.least e.id) l.row ≡ true;
+  counter : l.counter ≡ l.least.counter;
 }
