@@ -117,16 +117,16 @@ fn faults_print_their_names_and_have_numbers(rt: HostRuntime) -> Result<(), Fail
     Ok(())
 }
 
-/// What is written, and whether all of it was.
-fn put_through(alloc: Global, piece: usize, total: usize) -> (Vec<u8>, bool)
+/// Whether a sink that stops after `total` bytes keeps these, and takes all or not.
+fn keeps(alloc: Global, piece: usize, total: usize, wanted: &[u8], whole: bool) -> bool
     requires { 0 < piece }
 {
     let mut bytes = Vec::new(alloc);
-    let whole = {
+    let done = {
         let mut sink = Stops::new(Out::new(&mut bytes), piece, total);
         put_all(&mut sink, b"bidigrid").is_ok()
     };
-    (bytes, whole)
+    bytes.as_slice() == wanted && done == whole
 }
 
 #[test]
@@ -139,9 +139,8 @@ fn a_sink_that_stops_keeps_a_beginning(rt: HostRuntime) {
         (9, b"bidigrid", true),
     ] {
         for piece in [1, 3, 100] {
-            let (bytes, done) = put_through(rt.alloc(), piece, total);
-            assert_eq!(rt; bytes.as_slice(), wanted, "{total} bytes by {piece}");
-            assert_eq!(rt; done, whole, "{total} bytes by {piece}");
+            let right = keeps(rt.alloc(), piece, total, wanted, whole);
+            assert!(rt; right, "{total} bytes by {piece}");
         }
     }
 }
@@ -184,19 +183,29 @@ impl Write for Dribbles {
     }
 }
 
+/// Whether a sink over such a writer takes all where `whole` says so, and else has failed, after
+/// `left` bytes.
+fn sink_over_dribbles(alloc: Global, left: u8, fails: bool, whole: bool) -> bool {
+    let mut writer = Dribbles {
+        taken: Vec::new(alloc),
+        left,
+        fails,
+    };
+    let mut out = Out::new(&mut writer);
+    let done = put_all(&mut out, b"bidigrid").is_ok();
+    let failed = out.failed();
+    let wanted = b"bidigrid".get(..usize::from(left));
+    done == whole && failed != whole && wanted == Some(writer.taken.as_slice())
+}
+
 #[test]
 fn a_writer_that_fails_in_mid_stream_fails_the_sink(rt: HostRuntime) {
     for fails in [true, false] {
-        for (left, done) in [(0, false), (1, false), (7, false), (8, true)] {
-            let mut writer = Dribbles {
-                taken: Vec::new(rt.alloc()),
-                left,
-                fails,
-            };
-            let mut out = Out::new(&mut writer);
-            assert_eq!(rt; put_all(&mut out, b"bidigrid").is_ok(), done);
-            assert_eq!(rt; out.failed(), !done);
-            assert_eq!(rt; writer.taken.as_slice(), &b"bidigrid"[..usize::from(left)]);
+        for (left, whole) in [(0, false), (1, false), (7, false), (8, true)] {
+            assert!(rt;
+                sink_over_dribbles(rt.alloc(), left, fails, whole),
+                "{left} {fails}"
+            );
         }
     }
 }

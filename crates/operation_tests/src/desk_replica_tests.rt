@@ -221,6 +221,10 @@ const EARLY: [(Row, Answer); 4] = [
 
 fn plays_what_is_paid_for<S: Fresh>(alloc: Global) -> bool {
     let mut desk: Desk<S> = desk_of(alloc, 1);
+    plays_paid(&mut desk)
+}
+
+fn plays_paid<S: Fresh>(desk: &mut Desk<S>) -> bool {
     let mut right = desk.pays();
     for (row, answer) in EARLY {
         right = desk.takes_paid(row, answer) && right;
@@ -231,7 +235,11 @@ fn plays_what_is_paid_for<S: Fresh>(alloc: Global) -> bool {
 fn merges_what_is_paid_for<S: Fresh>(alloc: Global) -> bool {
     let mut one: Desk<S> = desk_of(alloc, 1);
     let mut two: Desk<S> = desk_of(alloc, 2);
-    let paid = one.pays() && takes_each(&mut two, &EARLY);
+    merges_paid(&mut one, &mut two)
+}
+
+fn merges_paid<S: Fresh>(one: &mut Desk<S>, two: &mut Desk<S>) -> bool {
+    let paid = one.pays() && takes_each(two, &EARLY);
     one.desk.merge(&two.desk) == Ok(4) && paid && one.reads("axyb")
 }
 

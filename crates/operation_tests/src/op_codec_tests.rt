@@ -153,72 +153,74 @@ fn a_header_shows_its_first_fault(rt: HostRuntime) {
     }
 }
 
+/// Frames with their first fault.
+const FAULTY_FRAMES: [(&[u8], Cause); 26] = [
+    (&[0], Cause::Truncated),
+    (&[0, 17], Cause::Truncated),
+    (&[0, 17, 1], Cause::Truncated),
+    (&[0, 7, 2, 0, 0, 0, 1, 0], Cause::Truncated),
+    (
+        &[0, 17, 1, 0, 0, 0, 0, 0, 0, 0, 0, 0, 0, 0, 0, 0, 0, 0],
+        Cause::Truncated,
+    ),
+    (&[0, 1, 0], Cause::UnknownKind),
+    (&[0, 17, 3], Cause::UnknownKind),
+    (&[1, 0, 255], Cause::UnknownKind),
+    (&[0, 7, 1], Cause::BadLength),
+    (&[0, 16, 1], Cause::BadLength),
+    (&[0, 18, 1], Cause::BadLength),
+    (&[0, 17, 2], Cause::BadLength),
+    (&[1, 7, 2], Cause::BadLength),
+    (&[0, 8, 2, 0, 0, 0, 0, 0, 0, 0], Cause::BadLength),
+    (&[0, 7, 2, 0, 0, 0, 0, 0, 1], Cause::ZeroField),
+    (&[0, 7, 2, 0, 0, 0, 1, 0, 0], Cause::ZeroField),
+    (
+        &[0, 17, 1, 0, 0, 0, 0, 0, 1, 0, 0, 0, 0, 0, 0, 0, 0, 0, 0x61],
+        Cause::ZeroField,
+    ),
+    (
+        &[0, 17, 1, 0, 0, 0, 1, 0, 0, 0, 0, 0, 0, 0, 0, 0, 0, 0, 0x61],
+        Cause::ZeroField,
+    ),
+    (
+        &[0, 17, 1, 0, 0, 0, 2, 0, 1, 0, 0, 0, 0, 0, 1, 0, 0, 0, 0x61],
+        Cause::ZeroField,
+    ),
+    (
+        &[0, 17, 1, 0, 0, 0, 2, 0, 1, 0, 0, 0, 3, 0, 0, 0, 0, 0xD8, 0],
+        Cause::ZeroField,
+    ),
+    (
+        &[0, 17, 1, 0, 0, 0, 2, 0, 1, 0, 0, 0, 2, 0, 2, 0, 0, 0, 0x61],
+        Cause::ParentNotBefore,
+    ),
+    (
+        &[0, 17, 1, 0, 0, 0, 2, 0, 1, 0, 0, 0, 3, 0, 1, 0, 0x11, 0, 0],
+        Cause::ParentNotBefore,
+    ),
+    (
+        &[0, 17, 1, 0, 0, 0, 2, 0, 1, 0, 0, 0, 1, 0, 2, 0, 0, 0xD8, 0],
+        Cause::NotAScalar,
+    ),
+    (
+        &[
+            0, 17, 1, 0, 0, 0, 2, 0, 1, 0, 0, 0, 1, 0, 2, 0, 0, 0xDF, 255,
+        ],
+        Cause::NotAScalar,
+    ),
+    (
+        &[0, 17, 1, 0, 0, 0, 2, 0, 1, 0, 0, 0, 0, 0, 0, 0, 0x11, 0, 0],
+        Cause::NotAScalar,
+    ),
+    (
+        &[0, 17, 1, 0, 0, 0, 2, 0, 1, 0, 0, 0, 0, 0, 0, 1, 0, 0, 0x61],
+        Cause::NotAScalar,
+    ),
+];
+
 #[test]
 fn a_frame_shows_its_first_fault(rt: HostRuntime) -> Result<(), Fail> {
-    let rows: [(&[u8], Cause); 26] = [
-        (&[0], Cause::Truncated),
-        (&[0, 17], Cause::Truncated),
-        (&[0, 17, 1], Cause::Truncated),
-        (&[0, 7, 2, 0, 0, 0, 1, 0], Cause::Truncated),
-        (
-            &[0, 17, 1, 0, 0, 0, 0, 0, 0, 0, 0, 0, 0, 0, 0, 0, 0, 0],
-            Cause::Truncated,
-        ),
-        (&[0, 1, 0], Cause::UnknownKind),
-        (&[0, 17, 3], Cause::UnknownKind),
-        (&[1, 0, 255], Cause::UnknownKind),
-        (&[0, 7, 1], Cause::BadLength),
-        (&[0, 16, 1], Cause::BadLength),
-        (&[0, 18, 1], Cause::BadLength),
-        (&[0, 17, 2], Cause::BadLength),
-        (&[1, 7, 2], Cause::BadLength),
-        (&[0, 8, 2, 0, 0, 0, 0, 0, 0, 0], Cause::BadLength),
-        (&[0, 7, 2, 0, 0, 0, 0, 0, 1], Cause::ZeroField),
-        (&[0, 7, 2, 0, 0, 0, 1, 0, 0], Cause::ZeroField),
-        (
-            &[0, 17, 1, 0, 0, 0, 0, 0, 1, 0, 0, 0, 0, 0, 0, 0, 0, 0, 0x61],
-            Cause::ZeroField,
-        ),
-        (
-            &[0, 17, 1, 0, 0, 0, 1, 0, 0, 0, 0, 0, 0, 0, 0, 0, 0, 0, 0x61],
-            Cause::ZeroField,
-        ),
-        (
-            &[0, 17, 1, 0, 0, 0, 2, 0, 1, 0, 0, 0, 0, 0, 1, 0, 0, 0, 0x61],
-            Cause::ZeroField,
-        ),
-        (
-            &[0, 17, 1, 0, 0, 0, 2, 0, 1, 0, 0, 0, 3, 0, 0, 0, 0, 0xD8, 0],
-            Cause::ZeroField,
-        ),
-        (
-            &[0, 17, 1, 0, 0, 0, 2, 0, 1, 0, 0, 0, 2, 0, 2, 0, 0, 0, 0x61],
-            Cause::ParentNotBefore,
-        ),
-        (
-            &[0, 17, 1, 0, 0, 0, 2, 0, 1, 0, 0, 0, 3, 0, 1, 0, 0x11, 0, 0],
-            Cause::ParentNotBefore,
-        ),
-        (
-            &[0, 17, 1, 0, 0, 0, 2, 0, 1, 0, 0, 0, 1, 0, 2, 0, 0, 0xD8, 0],
-            Cause::NotAScalar,
-        ),
-        (
-            &[
-                0, 17, 1, 0, 0, 0, 2, 0, 1, 0, 0, 0, 1, 0, 2, 0, 0, 0xDF, 255,
-            ],
-            Cause::NotAScalar,
-        ),
-        (
-            &[0, 17, 1, 0, 0, 0, 2, 0, 1, 0, 0, 0, 0, 0, 0, 0, 0x11, 0, 0],
-            Cause::NotAScalar,
-        ),
-        (
-            &[0, 17, 1, 0, 0, 0, 2, 0, 1, 0, 0, 0, 0, 0, 0, 1, 0, 0, 0x61],
-            Cause::NotAScalar,
-        ),
-    ];
-    for (frame, cause) in rows {
+    for (frame, cause) in FAULTY_FRAMES {
         let alone = joined(rt.alloc(), &EMPTY, frame)?;
         let first = CodecFault::Malformed { frame: 1, cause };
         assert_eq!(rt;
@@ -442,14 +444,23 @@ fn given<S: Source>(alloc: Global, source: &mut S) -> Result<(Vec<u8>, bool), Al
     Ok((bytes, false))
 }
 
+/// Whether a source gives these bytes, and then fails or not.
+fn gives<S: Source>(
+    alloc: Global,
+    source: &mut S,
+    wanted: &[u8],
+    fails: bool,
+) -> Result<bool, AllocError> {
+    let (bytes, failed) = given(alloc, source)?;
+    Ok(bytes.as_slice() == wanted && failed == fails)
+}
+
 #[test]
 fn a_source_gives_its_bytes_and_ends(rt: HostRuntime) -> Result<(), Fail> {
-    let (bytes, failed) = given(rt.alloc(), &mut In::new(Cursor::new(TWO)))?;
-    assert_eq!(rt; bytes.as_slice(), TWO.as_slice());
-    assert!(rt; !failed);
-    let (bytes, failed) = given(rt.alloc(), &mut Gives::new(&TWO, 3))?;
-    assert_eq!(rt; bytes.as_slice(), TWO.as_slice());
-    assert!(rt; !failed);
+    let mut read = In::new(Cursor::new(TWO));
+    assert!(rt; gives(rt.alloc(), &mut read, &TWO, false)?);
+    let mut given = Gives::new(&TWO, 3);
+    assert!(rt; gives(rt.alloc(), &mut given, &TWO, false)?);
     Ok(())
 }
 
@@ -457,9 +468,9 @@ fn a_source_gives_its_bytes_and_ends(rt: HostRuntime) -> Result<(), Fail> {
 fn a_source_fails_after_each_number_of_bytes(rt: HostRuntime) -> Result<(), Fail> {
     for left in 0..50usize {
         let mut source = Gives::new(&TWO, 7).failing_after(left);
-        let (bytes, failed) = given(rt.alloc(), &mut source)?;
-        assert_eq!(rt; bytes.as_slice(), &TWO[..left.min(TWO.len())]);
-        assert_eq!(rt; failed, left <= TWO.len(), "{left}");
+        let wanted = &TWO[..left.min(TWO.len())];
+        let fails = left <= TWO.len();
+        assert!(rt; gives(rt.alloc(), &mut source, wanted, fails)?, "{left}");
     }
     Ok(())
 }

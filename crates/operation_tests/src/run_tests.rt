@@ -59,52 +59,54 @@ fn a_run_cut_at_each_byte(rt: HostRuntime) -> Result<(), Fail> {
     Ok(())
 }
 
+/// Frames of version 2 with their first fault.
+const FAULTY_FRAMES: [(&[u8], Cause); 13] = [
+    (&[0, 21, 3], Cause::Truncated),
+    (&[0, 21, 4], Cause::UnknownKind),
+    (&[0, 17, 3], Cause::BadLength),
+    (&[0, 22, 3], Cause::BadLength),
+    (&[0x10, 0x11, 3], Cause::BadLength),
+    (&[0x10, 0x0D, 3], Cause::Truncated),
+    (&[0, 18, 1], Cause::BadLength),
+    (
+        &[
+            0, 21, 3, 0, 0, 0, 0, 0, 1, 0, 0, 0, 0, 0, 0, 0, 0, 0, 0x61, 0, 0, 0xD8, 0,
+        ],
+        Cause::ZeroField,
+    ),
+    (
+        &[
+            0, 21, 3, 0, 0, 0, 2, 0, 1, 0, 0, 0, 2, 0, 2, 0, 0, 0, 0x61, 0, 0, 0xD8, 0,
+        ],
+        Cause::ParentNotBefore,
+    ),
+    (
+        &[
+            0, 21, 3, 255, 255, 255, 255, 0, 1, 0, 0, 0, 1, 0, 1, 0, 0, 0xD8, 0, 0, 0, 0xD8, 0,
+        ],
+        Cause::CounterOverflow,
+    ),
+    (
+        &[
+            0, 21, 3, 255, 255, 255, 254, 0, 1, 0, 0, 0, 1, 0, 1, 0, 0, 0, 0x61, 0, 0, 0xD8, 0,
+        ],
+        Cause::NotAScalar,
+    ),
+    (
+        &[
+            0, 21, 3, 0, 0, 0, 2, 0, 1, 0, 0, 0, 1, 0, 2, 0, 0x11, 0, 0, 0, 0, 0, 0x61,
+        ],
+        Cause::NotAScalar,
+    ),
+    (
+        &[0, 17, 1, 0, 0, 0, 2, 0, 1, 0, 0, 0, 1, 0, 2, 0, 0, 0xD8, 0],
+        Cause::NotAScalar,
+    ),
+];
+
 #[test]
 fn a_frame_of_version_2_shows_its_first_fault(rt: HostRuntime) -> Result<(), Fail> {
-    let rows: [(&[u8], Cause); 13] = [
-        (&[0, 21, 3], Cause::Truncated),
-        (&[0, 21, 4], Cause::UnknownKind),
-        (&[0, 17, 3], Cause::BadLength),
-        (&[0, 22, 3], Cause::BadLength),
-        (&[0x10, 0x11, 3], Cause::BadLength),
-        (&[0x10, 0x0D, 3], Cause::Truncated),
-        (&[0, 18, 1], Cause::BadLength),
-        (
-            &[
-                0, 21, 3, 0, 0, 0, 0, 0, 1, 0, 0, 0, 0, 0, 0, 0, 0, 0, 0x61, 0, 0, 0xD8, 0,
-            ],
-            Cause::ZeroField,
-        ),
-        (
-            &[
-                0, 21, 3, 0, 0, 0, 2, 0, 1, 0, 0, 0, 2, 0, 2, 0, 0, 0, 0x61, 0, 0, 0xD8, 0,
-            ],
-            Cause::ParentNotBefore,
-        ),
-        (
-            &[
-                0, 21, 3, 255, 255, 255, 255, 0, 1, 0, 0, 0, 1, 0, 1, 0, 0, 0xD8, 0, 0, 0, 0xD8, 0,
-            ],
-            Cause::CounterOverflow,
-        ),
-        (
-            &[
-                0, 21, 3, 255, 255, 255, 254, 0, 1, 0, 0, 0, 1, 0, 1, 0, 0, 0, 0x61, 0, 0, 0xD8, 0,
-            ],
-            Cause::NotAScalar,
-        ),
-        (
-            &[
-                0, 21, 3, 0, 0, 0, 2, 0, 1, 0, 0, 0, 1, 0, 2, 0, 0x11, 0, 0, 0, 0, 0, 0x61,
-            ],
-            Cause::NotAScalar,
-        ),
-        (
-            &[0, 17, 1, 0, 0, 0, 2, 0, 1, 0, 0, 0, 1, 0, 2, 0, 0, 0xD8, 0],
-            Cause::NotAScalar,
-        ),
-    ];
-    for (bytes, cause) in rows {
+    for (bytes, cause) in FAULTY_FRAMES {
         for (front, frame) in [(&RUN[..5], 1), (TYPED_AND_ERASED.as_slice(), 3)] {
             let file = joined(rt.alloc(), front, bytes)?;
             let fault = CodecFault::Malformed { frame, cause };
@@ -118,34 +120,36 @@ fn a_frame_of_version_2_shows_its_first_fault(rt: HostRuntime) -> Result<(), Fai
     Ok(())
 }
 
+/// Frames behind the run, and whether each could be joined to it: (3,1) after (2,1), alone and as a run; of another
+/// site; after another parent; with a greater counter.
+const BEHIND_A_RUN: [(&[u8], bool); 5] = [
+    (
+        &[0, 17, 1, 0, 0, 0, 3, 0, 1, 0, 0, 0, 2, 0, 1, 0, 0, 0, 0x63],
+        true,
+    ),
+    (
+        &[
+            0, 21, 3, 0, 0, 0, 3, 0, 1, 0, 0, 0, 2, 0, 1, 0, 0, 0, 0x63, 0, 0, 0, 0x64,
+        ],
+        true,
+    ),
+    (
+        &[0, 17, 1, 0, 0, 0, 3, 0, 2, 0, 0, 0, 2, 0, 1, 0, 0, 0, 0x63],
+        false,
+    ),
+    (
+        &[0, 17, 1, 0, 0, 0, 3, 0, 1, 0, 0, 0, 1, 0, 1, 0, 0, 0, 0x63],
+        false,
+    ),
+    (
+        &[0, 17, 1, 0, 0, 0, 4, 0, 1, 0, 0, 0, 2, 0, 1, 0, 0, 0, 0x63],
+        false,
+    ),
+];
+
 #[test]
 fn what_could_be_one_frame_is_not_joined(rt: HostRuntime) -> Result<(), Fail> {
-    // (3,1) after (2,1), alone and as a run; of another site; after another parent; with a greater counter.
-    let rows: [(&[u8], bool); 5] = [
-        (
-            &[0, 17, 1, 0, 0, 0, 3, 0, 1, 0, 0, 0, 2, 0, 1, 0, 0, 0, 0x63],
-            true,
-        ),
-        (
-            &[
-                0, 21, 3, 0, 0, 0, 3, 0, 1, 0, 0, 0, 2, 0, 1, 0, 0, 0, 0x63, 0, 0, 0, 0x64,
-            ],
-            true,
-        ),
-        (
-            &[0, 17, 1, 0, 0, 0, 3, 0, 2, 0, 0, 0, 2, 0, 1, 0, 0, 0, 0x63],
-            false,
-        ),
-        (
-            &[0, 17, 1, 0, 0, 0, 3, 0, 1, 0, 0, 0, 1, 0, 1, 0, 0, 0, 0x63],
-            false,
-        ),
-        (
-            &[0, 17, 1, 0, 0, 0, 4, 0, 1, 0, 0, 0, 2, 0, 1, 0, 0, 0, 0x63],
-            false,
-        ),
-    ];
-    for (bytes, is_joined) in rows {
+    for (bytes, is_joined) in BEHIND_A_RUN {
         let file = joined(rt.alloc(), &RUN, bytes)?;
         let fault = is_joined.then_some(CodecFault::Malformed {
             frame: 2,
