@@ -188,12 +188,7 @@ pub fn levels_at(
 }
 
 /// The resolved levels of any paragraph.
-fn levels_of_any(
-    alloc: Global,
-    tables: &Tables,
-    para: &Para,
-    base: Base,
-) -> Result<Vec<u8>, Memory>
+fn levels_of_any(alloc: Global, tables: &Tables, para: &Para, base: Base) -> Result<Vec<u8>, Memory>
     ensures levels { IfOk result (λ levels. levels.items ≡ levels_of tables.now base para.now.text) }
     ensures one_each { IfOk result (λ levels. length levels.items ≡ length (code_points para.now.text)) }
     ensures bound { IfOk result (λ levels. All (λ level. level ≤ 126) levels.items) }

@@ -111,7 +111,12 @@ fn classes_of(alloc: Global, tables: &Tables, points: &[char]) -> Result<Vec<Bid
 fn columns_of(alloc: Global, clusters: &[Cluster]) -> Result<Vec<u8>, Memory>
     ensures { IfOk result (λ columns. columns.items ≡ map (λ c. c.columns) clusters.now) }
 {
-    Ok(clusters.iter().map(|cluster| cluster.columns).collect(alloc)?)
+    Ok(
+        clusters
+            .iter()
+            .map(|cluster| cluster.columns)
+            .collect(alloc)?,
+    )
 }
 
 /// The rows of a paragraph of at most 4,000,000 bytes at a width in columns, from the top, with bytes and

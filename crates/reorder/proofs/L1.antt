@@ -19,13 +19,27 @@ pub resets-part : (cs : List Bidi) (start end : ℕ) → start ≤ end →
 resets-part cs start end le =
     resets-append (slice_range cs start end) (drop end cs) ∙ ap begins_reset (sym (drop_split cs start end le))
 
-pub resets-step : (follower resets resets' : Bool) (cs : List Bidi) (place : ℕ) (c : Bidi) → place < length cs → get_or cs place c ≡ c →
-    resets ≡ resets_before follower (drop (place + 1) cs) → resets' ≡ (is_separator c || (is_run_class c && resets)) →
-    resets' ≡ resets_before follower (drop place cs)
-resets-step follower resets resets' cs place c lt at e e' =
-    e' ∙ ap (λ b. is_separator c || (is_run_class c && b)) e
-    ∙ ap (λ x. resets_before follower (x ∷ drop (place + 1) cs)) (sym at)
-    ∙ ap (resets_before follower) (sym (drop_more cs place c lt))
+-- a code point that decides by itself, and one that does not
+
+pub stays : (s r rest : Bool) → false ≡ (s || (r && true)) → (s || (r && rest)) ≡ false
+stays true r rest e = cc
+stays false true rest e = cc
+stays false false rest e = refl
+
+pub parts : (s r rest : Bool) → true ≡ (s || (r && false)) → (s || (r && rest)) ≡ true
+parts true r rest e = refl
+parts false true rest e = cc
+parts false false rest e = cc
+
+pub passes : (s r rest : Bool) → true ≡ (s || (r && true)) → false ≡ (s || (r && false)) → (s || (r && rest)) ≡ rest
+passes true r rest e f = cc
+passes false true rest e f = refl
+passes false false rest e f = cc
+
+-- the first of what is left
+pub resets-first : (follower : Bool) (cs : List Bidi) (i : ℕ) (d : Bidi) → i < length cs →
+    resets_before follower (drop i cs) ≡ (is_separator (get_or cs i d) || (is_run_class (get_or cs i d) && resets_before follower (drop (i + 1) cs)))
+resets-first follower cs i d lt = ap (resets_before follower) (drop_more cs i d lt)
 
 -- the levels from a place on
 

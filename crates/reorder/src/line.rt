@@ -35,11 +35,15 @@ fn is_reset(class: Bidi, follower_is_reset: bool) -> bool
 fn begins_reset(classes: &[Bidi], follower_is_reset: bool) -> bool
     ensures { result ≡ resets_before follower_is_reset classes.now }
 {
-    let mut resets = follower_is_reset;
-    for place in (0..classes.len()).rev() {
-        resets = is_reset(classes[place], resets);
+    for class in classes {
+        if !is_reset(*class, true) {
+            return false;
+        }
+        if is_reset(*class, false) {
+            return true;
+        }
     }
-    resets
+    follower_is_reset
 }
 
 /// What `line_levels` answers for a line whose code points have these classes.
