@@ -1,12 +1,11 @@
 //! What no clause says: the texts, what a command line comes to, and files that can't be read.
 
-use bg_types::{Device, Out, Stops};
+use crate::given::Given;
+use bg_types::{Device, Memory, Out, Stops};
 use clap::{Arg, ArgAction, Command};
 use cli_support::*;
 use std::alloc::{AllocError, Global};
-use std::env::FillError;
 use std::io::{self, ErrorKind, Read};
-use std::rt::Env;
 use std::test::Fail;
 
 /// A program with one option `--at`.
@@ -22,7 +21,10 @@ fn stop_at(alloc: Global, words: &[&str]) -> Result<Stop, Fail> {
     }
     match named(alloc)?.try_get_matches_from(words) {
         Ok(_matches) => Err(Fail::from("nothing stops it")),
-        Err(error) => Ok(Stop::of(alloc, &error)),
+        Err(error) => match Stop::of(alloc, &error) {
+            Stop::Memory => Err(Fail::from(Memory)),
+            stop => Ok(stop),
+        },
     }
 }
 
@@ -30,8 +32,8 @@ fn stop_at(alloc: Global, words: &[&str]) -> Result<Stop, Fail> {
 /// writes to standard output and to standard error.
 fn ended(alloc: Global, words: &[&str], left: usize) -> Result<(u8, Vec<u8>, Vec<u8>), Fail> {
     let stop = stop_at(alloc, words)?;
-    let mut written = Vec::new(alloc);
-    let mut told = Vec::new(alloc);
+    let mut written = Vec::with_capacity(alloc, 10_000)?;
+    let mut told = Vec::with_capacity(alloc, 10_000)?;
     let mut out = Stops::new(Out::new(&mut written), 7, left);
     let status = end("named", &stop, &mut out, &mut Out::new(&mut told));
     Ok((status, written, told))
@@ -125,68 +127,59 @@ fn a_reader_is_read_up_to_the_limit(rt: HostRuntime) -> Result<(), Fail> {
     let Err(error) = read_whole(rt.alloc(), Breaks(b"abc"), 8) else {
         return Err(Fail::from("a reader that fails was read"));
     };
+    if error.kind() == ErrorKind::OutOfMemory {
+        return Err(Fail::from(Memory));
+    }
     assert_eq!(rt; error.kind(), ErrorKind::Other);
     Ok(())
 }
 
-/// Whether the file of this path can't be read.
-fn is_unread<T>(read: &Result<T, Unread>, path: &str) -> bool {
+/// Whether the file of this path can't be read, lack of memory aside.
+fn is_unread<T>(read: &Result<T, Unread>, path: &str) -> Result<bool, Memory> {
     match read {
-        Err(Unread::ReadFailed(named)) => named.as_str() == path,
-        _ => false,
+        Ok(_) => Ok(false),
+        Err(Unread::ReadFailed(named)) => Ok(named.as_str() == path),
+        Err(Unread::Memory) => Err(Memory),
     }
 }
 
 #[test]
 fn a_file_that_cannot_be_read_is_named(rt: HostRuntime) -> Result<(), Fail> {
-    let file = read(&rt, "/dev/null").map_err(|_| Fail::from("unread"))?;
+    let file = read(&rt, "/dev/null")?;
     assert!(rt; file.is_empty());
-    assert!(rt; open(&rt, "/dev/zero").is_ok());
-    assert!(rt; is_unread(&open(&rt, "/nowhere/a"), "/nowhere/a"));
+    let _device = open(&rt, "/dev/zero")?;
+    assert!(rt; is_unread(&open(&rt, "/nowhere/a"), "/nowhere/a")?);
     // A folder opens but can't be read; this device gives bytes without end.
-    assert!(rt; is_unread(&read(&rt, "/dev"), "/dev"));
-    assert!(rt; is_unread(&read(&rt, "/dev/zero"), "/dev/zero"));
+    assert!(rt; is_unread(&read(&rt, "/dev"), "/dev")?);
+    assert!(rt; is_unread(&read(&rt, "/dev/zero"), "/dev/zero")?);
     let first = "/nowhere/DerivedBidiClass.txt";
-    assert!(rt; is_unread(&read_data(&rt, "/nowhere"), first));
+    assert!(rt; is_unread(&read_data(&rt, "/nowhere"), first)?);
     Ok(())
 }
 
 /// The words of a command line.
-#[derive(Drop)]
-struct Line<'a>(&'a [&'a [u8]]);
-
-impl Env for Line<'_> {
-    fn arg(&self, i: usize, buf: &mut [u8]) -> Result<usize, FillError> {
-        let Some(word) = self.0.get(i) else {
-            return Err(FillError::NotPresent);
-        };
-        if word.len() > buf.len() {
-            return Err(FillError::TooLong);
-        }
-        buf[..word.len()].copy_from_slice(word);
-        Ok(word.len())
-    }
-
-    fn var(&self, _name: &str, _buf: &mut [u8]) -> Result<usize, FillError> {
-        Err(FillError::NotPresent)
-    }
-
-    fn var_at(&self, _i: usize, _buf: &mut [u8]) -> Result<usize, FillError> {
-        Err(FillError::NotPresent)
-    }
+fn words_of(alloc: Global, line: &[&[u8]]) -> Result<Vec<String>, Stop> {
+    let given = Given {
+        words: line,
+        value: None,
+    };
+    words(&(given, alloc))
 }
 
 #[test]
 fn words_are_utf_8(rt: HostRuntime) -> Result<(), Fail> {
-    let Ok(line) = words(&(Line(&[b"named", b"\xD7\x90"]), rt.alloc())) else {
-        return Err(Fail::from("no words"));
+    let line = match words_of(rt.alloc(), &[b"named", b"\xD7\x90"]) {
+        Ok(line) => line,
+        Err(Stop::Memory) => return Err(Fail::from(Memory)),
+        Err(_stop) => return Err(Fail::from("no words")),
     };
     assert_eq!(rt; line.len(), 2);
     assert_eq!(rt; line.as_slice()[1].as_str(), "\u{5D0}");
-    match words(&(Line(&[b"named", b"\xFF"]), rt.alloc())) {
+    match words_of(rt.alloc(), &[b"named", b"\xFF"]) {
         Err(Stop::Usage(text)) => {
             assert_eq!(rt; text.as_str(), "error: an argument is not valid UTF-8\n");
         }
+        Err(Stop::Memory) => return Err(Fail::from(Memory)),
         _ => return Err(Fail::from("another end")),
     }
     Ok(())

@@ -1,7 +1,8 @@
 //! What no clause says: the command line, the lines on standard error, and statuses.
 
-use bg_types::{Base, Out, Stops};
-use cli_support::Stop;
+use crate::given::Given;
+use bg_types::{Base, Memory, Out, Stops};
+use cli_support::{Stop, Unread};
 use command_line::*;
 use desk_runs::{Move, RunFault, ScheduleFault, TakeFault, status};
 use op_codec::{Cause, CodecFault, Version};
@@ -19,10 +20,19 @@ fn line(alloc: Global, words: &[&str]) -> Result<Vec<String>, Fail> {
     Ok(line)
 }
 
+/// What a command line asks for, where it asks for something.
+fn asked<'a>(alloc: Global, words: &'a [String]) -> Result<Job<'a>, Fail> {
+    match job(alloc, words) {
+        Ok(job) => Ok(job),
+        Err(Stop::Memory) => Err(Fail::from(Memory)),
+        Err(_stop) => Err(Fail::from("no job")),
+    }
+}
+
 #[test]
 fn text_takes_files_in_order(rt: HostRuntime) -> Result<(), Fail> {
     let words = line(rt.alloc(), &["bidigrid", "text", "b", "a", "b"])?;
-    let Ok(Job::Text { files }) = job(rt.alloc(), words.as_slice()) else {
+    let Job::Text { files } = asked(rt.alloc(), words.as_slice())? else {
         return Err(Fail::from("no job"));
     };
     assert_eq!(rt; files.as_slice(), ["b", "a", "b"].as_slice());
@@ -30,8 +40,10 @@ fn text_takes_files_in_order(rt: HostRuntime) -> Result<(), Fail> {
 }
 
 /// What a command line comes to: how many files it names, or why it names none.
-fn outcome(alloc: Global, words: &[String]) -> Result<usize, &'static str> {
-    match job(alloc, words) {
+type Outcome = Result<usize, &'static str>;
+
+fn outcome(alloc: Global, words: &[String]) -> Result<Outcome, Memory> {
+    Ok(match job(alloc, words) {
         Ok(Job::Text { files }) => Ok(files.len()),
         Ok(Job::Replay(job)) => Ok(job.files.len()),
         Ok(Job::Caret(job)) => Ok(job.files.len()),
@@ -40,9 +52,9 @@ fn outcome(alloc: Global, words: &[String]) -> Result<usize, &'static str> {
         Err(stop) => match stop {
             Stop::Help(_text) => Err("help"),
             Stop::Usage(_text) => Err("usage"),
-            Stop::Memory => Err("memory"),
+            Stop::Memory => return Err(Memory),
         },
-    }
+    })
 }
 
 #[test]
@@ -63,13 +75,13 @@ fn a_run_has_one_to_64_files(rt: HostRuntime) -> Result<(), Fail> {
         ] {
             let words = files_between(rt.alloc(), options, first, second)?;
             assert_eq!(rt;
-                outcome(rt.alloc(), words.as_slice()),
+                outcome(rt.alloc(), words.as_slice())?,
                 wanted,
                 "{first} and {second} files, {options:?}"
             );
         }
         let words = files_between(rt.alloc(), &["text"], first + second, 0)?;
-        assert_eq!(rt; outcome(rt.alloc(), words.as_slice()), wanted);
+        assert_eq!(rt; outcome(rt.alloc(), words.as_slice())?, wanted);
     }
     Ok(())
 }
@@ -115,7 +127,7 @@ fn wrong_words_are_a_usage_fault_and_help_is_none(rt: HostRuntime) -> Result<(),
     for (words, wanted) in rows {
         let words = line(rt.alloc(), words)?;
         assert_eq!(rt;
-            outcome(rt.alloc(), words.as_slice()),
+            outcome(rt.alloc(), words.as_slice())?,
             Err(wanted),
             "{words:?}"
         );
@@ -137,7 +149,7 @@ fn caret_takes_a_place_and_moves(rt: HostRuntime) -> Result<(), Fail> {
                 letters, "a",
             ],
         )?;
-        let Ok(Job::Caret(job)) = job(rt.alloc(), words.as_slice()) else {
+        let Job::Caret(job) = asked(rt.alloc(), words.as_slice())? else {
             return Err(Fail::from("no caret"));
         };
         assert_eq!(rt; (job.width, job.place), (8, 3));
@@ -159,7 +171,7 @@ fn caret_takes_a_place_and_moves(rt: HostRuntime) -> Result<(), Fail> {
                 letters, "a",
             ],
         )?;
-        let got = outcome(rt.alloc(), words.as_slice());
+        let got = outcome(rt.alloc(), words.as_slice())?;
         assert_eq!(rt; got, Err("usage"), "{width} {place} {letters}");
     }
     Ok(())
@@ -180,7 +192,7 @@ fn replay_takes_a_folder_a_width_and_a_schedule(rt: HostRuntime) -> Result<(), F
         }
         words.push(String::from_str(rt.alloc(), "a")?)?;
         words.push(String::from_str(rt.alloc(), "b")?)?;
-        let Ok(Job::Replay(job)) = job(rt.alloc(), words.as_slice()) else {
+        let Job::Replay(job) = asked(rt.alloc(), words.as_slice())? else {
             return Err(Fail::from("no replay"));
         };
         assert_eq!(rt; job.folder, Some("dir"));
@@ -203,7 +215,7 @@ fn replay_takes_a_folder_a_width_and_a_schedule(rt: HostRuntime) -> Result<(), F
         for word in more {
             words.push(String::from_str(rt.alloc(), word)?)?;
         }
-        let got = outcome(rt.alloc(), words.as_slice());
+        let got = outcome(rt.alloc(), words.as_slice())?;
         assert_eq!(rt; got, Err(wanted), "{more:?}");
     }
     Ok(())
@@ -231,7 +243,7 @@ fn base_and_width_of_ambiguous_characters_are_chosen(rt: HostRuntime) -> Result<
     for (choices, base, wide) in rows {
         for (name, options) in GRIDS {
             let words = grid_line(rt.alloc(), name, options, choices)?;
-            let got = chosen(rt.alloc(), words.as_slice());
+            let got = chosen(rt.alloc(), words.as_slice())?;
             assert_eq!(rt; got, Some((base, wide)), "{name} {choices:?}");
         }
     }
@@ -246,7 +258,7 @@ fn base_and_width_of_ambiguous_characters_are_chosen(rt: HostRuntime) -> Result<
     for choices in rows {
         for (name, options) in GRIDS {
             let words = grid_line(rt.alloc(), name, options, choices)?;
-            let got = outcome(rt.alloc(), words.as_slice());
+            let got = outcome(rt.alloc(), words.as_slice())?;
             assert_eq!(rt; got, Err("usage"), "{name} {choices:?}");
         }
     }
@@ -254,15 +266,14 @@ fn base_and_width_of_ambiguous_characters_are_chosen(rt: HostRuntime) -> Result<
 }
 
 /// The base direction that a command line asks for, and whether ambiguous characters are wide.
-fn chosen(alloc: Global, words: &[String]) -> Option<(Base, bool)> {
-    match job(alloc, words) {
-        Ok(Job::Replay(job)) => Some((job.base, job.wide_ambiguous)),
-        Ok(Job::Caret(job)) => Some((job.base, job.wide_ambiguous)),
-        Ok(Job::Text { files: _files }) => None,
-        Ok(Job::Type(_job)) => None,
-        Ok(Job::Dump { .. } | Job::Migrate { .. } | Job::Pack { .. }) => None,
-        Err(_stop) => None,
-    }
+fn chosen(alloc: Global, words: &[String]) -> Result<Option<(Base, bool)>, Fail> {
+    Ok(match asked(alloc, words)? {
+        Job::Replay(job) => Some((job.base, job.wide_ambiguous)),
+        Job::Caret(job) => Some((job.base, job.wide_ambiguous)),
+        Job::Text { files: _files } => None,
+        Job::Type(_job) => None,
+        Job::Dump { .. } | Job::Migrate { .. } | Job::Pack { .. } => None,
+    })
 }
 
 /// The subcommands that draw, with what they ask for.
@@ -294,17 +305,17 @@ fn grid_line(
 #[test]
 fn dump_migrate_and_pack_take_one_file(rt: HostRuntime) -> Result<(), Fail> {
     let words = line(rt.alloc(), &["bidigrid", "dump", "a"])?;
-    let Ok(Job::Dump { file }) = job(rt.alloc(), words.as_slice()) else {
+    let Job::Dump { file } = asked(rt.alloc(), words.as_slice())? else {
         return Err(Fail::from("no dump"));
     };
     assert_eq!(rt; file, "a");
     let words = line(rt.alloc(), &["bidigrid", "migrate", "c"])?;
-    let Ok(Job::Migrate { file }) = job(rt.alloc(), words.as_slice()) else {
+    let Job::Migrate { file } = asked(rt.alloc(), words.as_slice())? else {
         return Err(Fail::from("no migrate"));
     };
     assert_eq!(rt; file, "c");
     let words = line(rt.alloc(), &["bidigrid", "pack", "b"])?;
-    let Ok(Job::Pack { listing }) = job(rt.alloc(), words.as_slice()) else {
+    let Job::Pack { listing } = asked(rt.alloc(), words.as_slice())? else {
         return Err(Fail::from("no pack"));
     };
     assert_eq!(rt; listing, "b");
@@ -313,7 +324,7 @@ fn dump_migrate_and_pack_take_one_file(rt: HostRuntime) -> Result<(), Fail> {
             line(rt.alloc(), &["bidigrid", name])?,
             line(rt.alloc(), &["bidigrid", name, "a", "b"])?,
         ] {
-            assert_eq!(rt; outcome(rt.alloc(), words.as_slice()), Err("usage"));
+            assert_eq!(rt; outcome(rt.alloc(), words.as_slice())?, Err("usage"));
         }
     }
     Ok(())
@@ -337,7 +348,7 @@ fn type_takes_a_site_a_change_and_files(rt: HostRuntime) -> Result<(), Fail> {
         for word in more {
             words.push(String::from_str(rt.alloc(), word)?)?;
         }
-        let Ok(Job::Type(job)) = job(rt.alloc(), words.as_slice()) else {
+        let Job::Type(job) = asked(rt.alloc(), words.as_slice())? else {
             return Err(Fail::from("no change"));
         };
         assert_eq!(rt; (job.site, job.place, job.erased), (7, place, erased));
@@ -355,7 +366,7 @@ fn type_takes_a_site_a_change_and_files(rt: HostRuntime) -> Result<(), Fail> {
     ];
     for words in rows {
         let words = line(rt.alloc(), words)?;
-        assert_eq!(rt; outcome(rt.alloc(), words.as_slice()), Err("usage"));
+        assert_eq!(rt; outcome(rt.alloc(), words.as_slice())?, Err("usage"));
     }
     Ok(())
 }
@@ -372,10 +383,44 @@ fn type_writes_version_2_if_it_is_not_told(rt: HostRuntime) -> Result<(), Fail> 
             words.push(String::from_str(rt.alloc(), "--version")?)?;
             words.push(String::from_str(rt.alloc(), version)?)?;
         }
-        let Ok(Job::Type(job)) = job(rt.alloc(), words.as_slice()) else {
+        let Job::Type(job) = asked(rt.alloc(), words.as_slice())? else {
             return Err(Fail::from("no change"));
         };
         assert_eq!(rt; job.version, wanted);
+    }
+    Ok(())
+}
+
+#[test]
+fn the_command_line_names_the_folder_or_the_environment(rt: HostRuntime) -> Result<(), Fail> {
+    let rows: [(Option<&str>, Option<&[u8]>, Result<&str, &str>); 4] = [
+        (Some("a"), None, Ok("a")),
+        (Some("a"), Some(b"b"), Ok("a")),
+        (None, Some(b"b"), Ok("b")),
+        (None, None, Err("error: --ucd <DIR> is left out")),
+    ];
+    for (named, value, wanted) in rows {
+        let given = Given { words: &[], value };
+        let folder = folder_of(&(given, rt.alloc()), named);
+        let right = match (&folder, wanted) {
+            (Err(Stop::Memory), _) => return Err(Fail::from(Memory)),
+            (Ok(folder), Ok(wanted)) => folder.as_str() == wanted,
+            (Err(Stop::Usage(text)), Err(wanted)) => text.starts_with(wanted),
+            _ => false,
+        };
+        assert!(rt; right, "{named:?}");
+    }
+    Ok(())
+}
+
+#[test]
+fn files_are_opened_in_order(rt: HostRuntime) -> Result<(), Fail> {
+    let files = open_all(&rt, &["/dev/null", "/dev/zero"])?;
+    assert_eq!(rt; files.len(), 2);
+    match open_all(&rt, &["/dev/null", "/nowhere/a", "/nowhere/b"]) {
+        Err(Unread::ReadFailed(path)) => assert_eq!(rt; path.as_str(), "/nowhere/a"),
+        Err(Unread::Memory) => return Err(Fail::from(Memory)),
+        Ok(_files) => return Err(Fail::from("all were opened")),
     }
     Ok(())
 }
