@@ -41,8 +41,22 @@ fn greater_in_falling(row: &[Element], id: Id) -> usize
 }
 
 /// How many elements of a block from `j` on are greater than the identifier, up to the first that
-/// isn't.
+/// isn't. What is typed in a run goes to the end of its block.
+#[inline(always)]
 fn greater_from(block: &Block, j: usize, id: Id) -> usize
+    requires { j ≤ length block.now.elements.items }
+    ensures count { result ≡ prefix_len (λ e. is_lt (id_cmp id e.id)) (drop j block.now.elements.items) }
+    ensures within { result ≤ length block.now.elements.items - j }
+{
+    if j == block.elements.len() {
+        return 0;
+    }
+    greater_inside(block, j, id)
+}
+
+/// The same, not inlined.
+#[inline(never)]
+fn greater_inside(block: &Block, j: usize, id: Id) -> usize
     requires { j ≤ length block.now.elements.items }
     ensures count { result ≡ prefix_len (λ e. is_lt (id_cmp id e.id)) (drop j block.now.elements.items) }
     ensures within { result ≤ length block.now.elements.items - j }
@@ -75,9 +89,24 @@ fn greater_bounds(bounds: &[Id], g: usize, id: Id) -> usize
     bounds_in_front(&bounds[g..], id)
 }
 
-/// How many blocks from `p` on have only greater elements, up to the first that hasn't. Neighbours
-/// whose bound is greater are passed together.
+/// How many blocks from `p` on have only greater elements, up to the first that hasn't. What is typed
+/// in a run often goes to the last block.
+#[inline(always)]
 fn greater_blocks(blocks: &[Block], bounds: &[Id], p: usize, id: Id) -> usize
+    requires within { p ≤ length blocks.now }
+    requires bounds { AreBounds bounds.now (items_of blocks.now) }
+    ensures count { result ≡ prefix_len (λ b. is_lt (id_cmp id b.least)) (drop p blocks.now) }
+    ensures within { result ≤ length blocks.now - p }
+{
+    if p == blocks.len() {
+        return 0;
+    }
+    greater_neighbours(blocks, bounds, p, id)
+}
+
+/// The same, not inlined. Neighbours whose bound is greater are passed together.
+#[inline(never)]
+fn greater_neighbours(blocks: &[Block], bounds: &[Id], p: usize, id: Id) -> usize
     requires within { p ≤ length blocks.now }
     requires bounds { AreBounds bounds.now (items_of blocks.now) }
     ensures count { result ≡ prefix_len (λ b. is_lt (id_cmp id b.least)) (drop p blocks.now) }
