@@ -146,7 +146,16 @@ fn cut_run(alloc: Global, file: &[u8]) -> Outcome {
     let mut readers = [In::new(file)];
     let answer = {
         let mut out = Out::new(&mut bytes);
-        replay_from(alloc, KEY, &SMALL, 4, Base::Auto, &mut readers, None, &mut out)
+        replay_from(
+            alloc,
+            KEY,
+            &SMALL,
+            4,
+            Base::Auto,
+            &mut readers,
+            None,
+            &mut out,
+        )
     };
     (answer, bytes)
 }

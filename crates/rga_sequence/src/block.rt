@@ -210,11 +210,7 @@ fn least_of(row: &[Element]) -> Id
 pub fn lesser(a: Id, b: Id) -> Id
     ensures { result ≡ (if is_lt (id_cmp a b) then a else b) }
 {
-    if is_below_at(a, b, b.counter()) {
-        a
-    } else {
-        b
-    }
+    if is_below_at(a, b, b.counter()) { a } else { b }
 }
 
 /// Whether the first identifier is the lesser.
