@@ -194,7 +194,10 @@ fn files_cut_around_each_frame(rt: HostRuntime) -> Result<(), Fail> {
         (&LATE_PARENT, &["    \n"]),
     ];
     for (file, shown) in rows {
-        for k in (0..file.len() + 1).filter(|k| k % 19 >= 4 && k % 19 <= 6) {
+        for k in 0..file.len() + 1 {
+            if k % 19 < 4 || k % 19 > 6 {
+                continue;
+            }
             let whole = k.saturating_sub(5) / 19;
             let (answer, bytes) = cut_run(rt.alloc(), &file[..k]);
             let cut = if k < 5 { 0 } else { whole + 1 };
