@@ -1,7 +1,7 @@
 -- Sets of Bidi classes that several rules of UAX #9 speak of.
 use Rattle.std.specs.Prelude.{Bool, true, false}
 use Rattle.bg_types.specs.declared.class.Bidi.{Bidi}
-use Rattle.bg_types.specs.declared.class.Bidi.TheVariants.{Bn, Lre, Lro, Rle, Rlo, Pdf, Lri, Rli, Fsi, Pdi}
+use Rattle.bg_types.specs.declared.class.Bidi.TheVariants.{Bn, Lre, Lro, Rle, Rlo, Pdf, Lri, Rli, Fsi, Pdi, Nsm}
 
 -- UAX #9, X9: the classes that are removed
 unfoldable pub is_removed : Bidi → Bool
@@ -20,3 +20,8 @@ is_isolate_control Rli = true
 is_isolate_control Fsi = true
 is_isolate_control Pdi = true
 is_isolate_control _ = false
+
+-- UAX #9, table 4: the class of nonspacing marks
+unfoldable pub is_nonspacing : Bidi → Bool
+is_nonspacing Nsm = true
+is_nonspacing _ = false

@@ -1,5 +1,7 @@
 //! Character classes of Unicode 15.0, and the choice of a base direction.
 
+ghost use Rattle.std.specs.Prelude.{◌≡◌};
+
 /// Bidi_Class (UAX #9, table 4).
 #[derive(Clone, Copy, Debug, Default, PartialEq, Eq, Hash)]
 pub enum Bidi {
@@ -27,6 +29,28 @@ pub enum Bidi {
     Rli,
     Fsi,
     Pdi,
+}
+
+impl Bidi {
+    ghost use Rattle.bg_types.specs.Classes.{is_isolate_control, is_nonspacing};
+
+    /// Whether it is the class of an isolate initiator, or of what ends an isolate (UAX #9, BD8).
+    #[inline]
+    #[tactic(auto, unfolding(crate::specs::Classes::is_isolate_control))]
+    pub fn is_isolate_control(self) -> bool
+        ensures { result ≡ is_isolate_control self }
+    {
+        matches!(self, Bidi::Lri | Bidi::Rli | Bidi::Fsi | Bidi::Pdi)
+    }
+
+    /// Whether it is the class of nonspacing marks (UAX #9, table 4).
+    #[inline]
+    #[tactic(auto, unfolding(crate::specs::Classes::is_nonspacing))]
+    pub fn is_nonspacing(self) -> bool
+        ensures { result ≡ is_nonspacing self }
+    {
+        matches!(self, Bidi::Nsm)
+    }
 }
 
 /// Line_Break (UAX #14, table 1).

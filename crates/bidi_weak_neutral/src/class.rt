@@ -1,7 +1,6 @@
 //! Sets of types, and the directions of types and levels.
 
 ghost use Rattle.std.specs.Prelude.{◌≡◌, slice_index_or};
-ghost use Rattle.bg_types.specs.Classes.{is_isolate_control};
 ghost use Rattle.bidi_weak_neutral.specs.Classes.{is_strong, is_number, is_neutral, is_plain, direction, embedding_direction};
 ghost use Rattle.bidi_weak_neutral.specs.Pass.{is_weak};
 
@@ -23,15 +22,6 @@ pub(crate) fn is_weak(class: Bidi) -> bool
     ensures { result ≡ is_weak class }
 {
     matches!(class, Bidi::Nsm | Bidi::En | Bidi::Es | Bidi::Et | Bidi::Cs)
-}
-
-/// Whether a type is that of an isolate initiator or a PDI.
-#[inline]
-#[tactic(auto, unfolding(bg_types::specs::Classes::is_isolate_control))]
-pub(crate) fn is_isolate_control(class: Bidi) -> bool
-    ensures { result ≡ is_isolate_control class }
-{
-    matches!(class, Bidi::Lri | Bidi::Rli | Bidi::Fsi | Bidi::Pdi)
 }
 
 /// Whether a type is a number's.

@@ -6,7 +6,7 @@ ghost use Rattle.bidi_weak_neutral.specs.Context.{nearest};
 ghost use Rattle.bidi_weak_neutral.specs.Weak.{is_joined, weak_types};
 ghost use Rattle.bidi_weak_neutral.specs.Pass.{marked, unmarked, strong_behind, lettered, joined, terminated, unterminated, separated, settled, is_past_terminators};
 
-use crate::class::{is_isolate_control, is_strong, is_weak, type_at};
+use crate::class::{is_strong, is_weak, type_at};
 use bg_types::Bidi;
 
 /// W1: a mark takes the type before it, ON after an isolate control.
@@ -16,7 +16,7 @@ fn marked(base: Bidi, class: Bidi) -> Bidi
 {
     if class != Bidi::Nsm {
         class
-    } else if is_isolate_control(base) {
+    } else if base.is_isolate_control() {
         Bidi::On
     } else {
         base

@@ -3,7 +3,8 @@ use Rattle.std.specs.Prelude.{ℕ, suc, ◌+◌, ◌%◌, ◌==◌, Bool, true, 
 use Rattle.std.specs.List.{list_any}
 use Rattle.std.specs.Option.{option_or}
 use Rattle.bg_types.specs.declared.class.Bidi.{Bidi}
-use Rattle.bg_types.specs.declared.class.Bidi.TheVariants.{L, R, En, An, Nsm}
+use Rattle.bg_types.specs.declared.class.Bidi.TheVariants.{L, R, En, An}
+unfoldable pub use Rattle.bg_types.specs.Classes.{is_nonspacing}
 use Rattle.ucd_files.specs.Tables.{TableValues}
 use Rattle.bracket_pairs.specs.declared.direction.Direction.{Direction}
 use Rattle.bracket_pairs.specs.declared.direction.Direction.TheVariants.{LeftToRight, RightToLeft}
@@ -54,10 +55,6 @@ pair_direction embedding before inside =
     else if has_strong (opposite embedding) inside
     then Some (if is_direction (opposite embedding) before then opposite embedding else embedding)
     else None
-
-unfoldable pub is_nonspacing : Bidi → Bool
-is_nonspacing Nsm = true
-is_nonspacing _ = false
 
 -- the types with t for those at the front that were NSM before W1
 abbrev pub marks_set : Bidi → (before_w1 types : List Bidi) → List Bidi

@@ -5,23 +5,13 @@ ghost use Rattle.std.specs.List.{list_any};
 ghost use Rattle.bracket_pairs.specs.Pairs.{opens, pair_of, roles};
 ghost use Rattle.bracket_pairs.specs.Found.{pairs_told, AreBehind};
 ghost use Rattle.bracket_pairs.specs.Runs.{IsRun, Has};
-ghost use Rattle.bracket_pairs.specs.N0.{is_nonspacing, has_strong, pair_direction, bracket_set, pair_set, pair_resolved, n0};
+ghost use Rattle.bracket_pairs.specs.N0.{has_strong, pair_direction, bracket_set, pair_set, pair_resolved, n0};
 
 use crate::direction::Direction;
 use crate::search::{closings, has_opening};
 use bg_types::{Bidi, Memory};
 use std::alloc::Global;
 use ucd_files::Tables;
-
-#[tactic(auto, unfolding(crate::specs::N0::is_nonspacing))]
-fn is_nonspacing(class: Bidi) -> bool
-    ensures { result ≡ is_nonspacing class }
-{
-    match class {
-        Bidi::Nsm => true,
-        _ => false,
-    }
-}
 
 /// A bracket and the nonspacing marks after it, all of one type: the places from `start` to `end`.
 #[derive(Clone, Copy)]
@@ -51,7 +41,7 @@ fn set_bracket(class: Bidi, place: usize, before_w1: &[Bidi], types: &mut [Bidi]
     types[place] = class;
     let start = place;
     for mark in place + 1..types.len() {
-        if !is_nonspacing(before_w1[mark]) {
+        if !before_w1[mark].is_nonspacing() {
             let end = mark;
             return Run { start, end, class };
         }

@@ -2,22 +2,17 @@
 use Rattle.std.specs.Prelude.{Bool, true, false, List, if◌then◌else◌}
 use Rattle.std.specs.List.{list_any}
 use Rattle.bg_types.specs.declared.class.Bidi.{Bidi}
-use Rattle.bg_types.specs.declared.class.Bidi.TheVariants.{Nsm}
 use Rattle.bg_types.specs.declared.class.Lb.{Lb}
 use Rattle.bg_types.specs.declared.class.Lb.TheVariants.{Ai, Al, Cj, Cm, Ns, Sa, Sg, Xx}
 use Rattle.bg_types.specs.declared.class.Ea.{Ea}
 use Rattle.bg_types.specs.declared.class.Ea.TheVariants.{F, H, W}
 use Rattle.bg_types.specs.contracts.class.Lb.{the_type}
+use Rattle.bg_types.specs.Classes.{is_nonspacing}
 use denote.Enum.Bare.{sameb}
 
 -- the class is one of these
 unfoldable pub one_of : List Lb → Lb → Bool
 one_of classes class = list_any (λ c. sameb the_type c class) classes
-
--- Bidi class NSM
-unfoldable pub is_nonspacing : Bidi → Bool
-is_nonspacing Nsm = true
-is_nonspacing _ = false
 
 -- LB1: AI, SG and XX become AL, CJ becomes NS, and SA becomes CM where the Bidi class is NSM, otherwise AL (AL for SA is own)
 unfoldable pub resolved : Bidi → Lb → Lb

@@ -2,9 +2,9 @@
 
 ghost use Rattle.std.specs.Prelude.{◌≡◌};
 ghost use Rattle.ucd_files.specs.Tables.{bidi_of, lb_of};
-ghost use Rattle.line_break.specs.Classes.{one_of, is_nonspacing, resolved, is_east_asian};
+ghost use Rattle.line_break.specs.Classes.{one_of, resolved, is_east_asian};
 
-use bg_types::{Bidi, Ea, Lb};
+use bg_types::{Ea, Lb};
 use ucd_files::Tables;
 
 /// Whether the class is one of these.
@@ -14,14 +14,6 @@ pub(crate) fn is_one_of(class: Lb, classes: &[Lb]) -> bool
     ensures { result ≡ one_of classes.now class }
 {
     classes.contains(&class)
-}
-
-#[inline]
-#[tactic(auto, unfolding(crate::specs::Classes::is_nonspacing))]
-fn is_nonspacing(class: Bidi) -> bool
-    ensures { result ≡ is_nonspacing class }
-{
-    matches!(class, Bidi::Nsm)
 }
 
 /// The class of a character by LB1.
@@ -35,7 +27,7 @@ pub(crate) fn resolved(tables: &Tables, c: char) -> Lb
         Lb::Cj => Lb::Ns,
         // Own: SA becomes AL, not ID or a class from a dictionary.
         Lb::Sa => {
-            if is_nonspacing(tables.bidi(c)) {
+            if tables.bidi(c).is_nonspacing() {
                 Lb::Cm
             } else {
                 Lb::Al

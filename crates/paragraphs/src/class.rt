@@ -1,7 +1,7 @@
 //! Sets of character classes.
 
 ghost use Rattle.std.specs.Prelude.{◌≡◌};
-ghost use Rattle.paragraphs.specs.Classes.{is_separator, is_removed, is_isolate_control, is_line_end, is_wide, is_ambiguous};
+ghost use Rattle.paragraphs.specs.Classes.{is_separator, is_removed, is_line_end, is_wide, is_ambiguous};
 
 use bg_types::{Bidi, Ea, Lb};
 
@@ -24,15 +24,6 @@ pub(crate) fn is_removed(class: Bidi) -> bool
         class,
         Bidi::Rle | Bidi::Lre | Bidi::Rlo | Bidi::Lro | Bidi::Pdf | Bidi::Bn
     )
-}
-
-/// Whether the class is that of an isolate initiator, or of what ends an isolate (BD8).
-#[inline]
-#[tactic(auto, unfolding(bg_types::specs::Classes::is_isolate_control))]
-pub(crate) fn is_isolate_control(class: Bidi) -> bool
-    ensures { result ≡ is_isolate_control class }
-{
-    matches!(class, Bidi::Lri | Bidi::Rli | Bidi::Fsi | Bidi::Pdi)
 }
 
 /// Whether a line must end after a character of this class (LB4, LB5).

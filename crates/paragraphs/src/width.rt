@@ -5,9 +5,7 @@ ghost use Rattle.std.specs.List.{list_all, list_any};
 ghost use Rattle.paragraphs.specs.Text.{code_points};
 ghost use Rattle.paragraphs.specs.Columns.{ends_line, begins_with_end, is_direction_mark, is_invisible, takes_two, takes_two_by_choice, columns_by_choice, columns_of};
 
-use crate::class::{
-    is_ambiguous, is_isolate_control, is_line_end, is_removed, is_separator, is_wide,
-};
+use crate::class::{is_ambiguous, is_line_end, is_removed, is_separator, is_wide};
 use ucd_files::Tables;
 
 /// The columns of a cluster, 0 to 2. It has none if it begins with what ends a line or a
@@ -84,7 +82,7 @@ fn is_invisible(tables: &Tables, c: char) -> bool
     ensures { result ≡ is_invisible tables.now c }
 {
     let class = tables.bidi(c);
-    is_removed(class) || is_isolate_control(class) || is_direction_mark(c)
+    is_removed(class) || class.is_isolate_control() || is_direction_mark(c)
 }
 
 #[inline]
