@@ -9,15 +9,7 @@ ghost use Rattle.rga_sequence.specs.Blocks.{joined, offset, FallsFrom};
 use crate::block::{Block, is_below};
 use crate::bounds::NEIGHBOURS;
 use bg_types::Id;
-use rga_tree::Element;
-
-/// How many elements at the front are greater than the identifier.
-fn greater_in_front(row: &[Element], id: Id) -> usize
-    ensures count { result ≡ prefix_len (λ e. is_lt (id_cmp id e.id)) row.now }
-    ensures within { result ≤ length row.now }
-{
-    row.iter().take_while(|e| id < e.id).count()
-}
+use rga_tree::{Element, greater_in_front};
 
 /// How many blocks at the front have only greater elements.
 fn passed_in_front(blocks: &[Block], id: Id) -> usize

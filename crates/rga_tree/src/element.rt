@@ -1,5 +1,10 @@
 //! Elements.
 
+ghost use Rattle.std.specs.Prelude.{◌≡◌, ◌≤◌, length};
+ghost use Rattle.std.specs.Ordering.{is_lt};
+ghost use Rattle.std.specs.List.{prefix_len};
+ghost use Rattle.bg_types.specs.Identifier.{id_cmp};
+
 use bg_types::{Id, Place};
 
 /// A placed insertion. An erased one stays where it stands, hidden.
@@ -13,3 +18,11 @@ pub struct Element {
 }
 
 const _: () = prove!(size_of::<Element>() == 20);
+
+/// How many elements at the front of a row are greater than the identifier.
+pub fn greater_in_front(row: &[Element], id: Id) -> usize
+    ensures count { result ≡ prefix_len (λ e. is_lt (id_cmp id e.id)) row.now }
+    ensures within { result ≤ length row.now }
+{
+    row.iter().take_while(|e| id < e.id).count()
+}

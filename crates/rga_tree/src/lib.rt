@@ -6,6 +6,6 @@ pub mod laws;
 mod plain;
 mod sequence;
 
-pub use element::Element;
+pub use element::{Element, greater_in_front};
 pub use plain::Plain;
 pub use sequence::{Sequence, text_of};

@@ -3,15 +3,14 @@
 ghost use Rattle.std.specs.Prelude.{◌≡◌, ◌-◌, ◌+◌, ◌≤◌, ◌<◌, ◌∷◌, [], Some, not, length, filter, insert, slice_get, vec_len, vec_capacity};
 ghost use Rattle.std.proofs.Common.{◌∙◌};
 ghost use Rattle.std.proofs.lemmas.List.{append-nil};
-ghost use Rattle.std.specs.Ordering.{is_lt};
 ghost use Rattle.std.specs.List.{find as find_in, prefix_len, list_any};
-ghost use Rattle.bg_types.specs.Identifier.{id_cmp, same_id};
+ghost use Rattle.bg_types.specs.Identifier.{same_id};
 ghost use Rattle.bg_types.specs.OperationSet.{no_operations};
 ghost use Rattle.rga_tree.specs.TextOf.{visible, visible_ids, text};
 ghost use Rattle.rga_tree.specs.Row.{operations_of, start_of, place_of};
 ghost use Rattle.rga_tree.specs.KeepsWalk.{KeepsWalk, KeepsWalk-prop};
 
-use crate::element::Element;
+use crate::element::{Element, greater_in_front};
 use crate::sequence::Sequence;
 use bg_types::{Id, Memory, Place};
 use std::alloc::Global;
@@ -150,14 +149,6 @@ fn place_for(row: &[Element], id: Id, parent: &Place) -> usize
         Place::After(above) => before(row, *above) + 1,
     };
     start + greater_in_front(&row[start..], id)
-}
-
-/// How many elements at the front are greater than the identifier.
-fn greater_in_front(row: &[Element], id: Id) -> usize
-    ensures count { result ≡ prefix_len (λ e. is_lt (id_cmp id e.id)) row.now }
-    ensures within { result ≤ length row.now }
-{
-    row.iter().take_while(|e| id < e.id).count()
 }
 
 /// How many elements stand before the one with this identifier.
