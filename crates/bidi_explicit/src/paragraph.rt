@@ -17,13 +17,6 @@ use paragraphs::Para;
 use std::alloc::Global;
 use ucd_files::Tables;
 
-/// The classes of a text's code points.
-fn classes_of(alloc: Global, tables: &Tables, text: &str) -> Result<Vec<Bidi>, Memory>
-    ensures { IfOk result (λ classes. classes.items ≡ classes_of tables.now text.now) }
-{
-    Ok(text.chars().map(|c| tables.bidi(c)).collect(alloc)?)
-}
-
 /// What the rules make of a paragraph of this level, whatever its classes.
 fn by_controls(alloc: Global, level: u8, classes: &[Bidi]) -> Result<Embedded, Memory>
     requires { level ≤ 1 }
@@ -73,7 +66,7 @@ pub fn explicit(alloc: Global, tables: &Tables, para: &Para, base: Base) -> Resu
     ensures sequence_depth { IfOk result (λ e. All (λ s. s.level ≤ 125) e.sequences) }
 {
     let level = paragraph_level(tables, para, base);
-    let classes = classes_of(alloc, tables, para.text())?;
+    let classes = tables.bidi_of_text(alloc, para.text())?;
     let embedded = embedded_at(alloc, level, &classes)?;
     Ok(embedded)
 }

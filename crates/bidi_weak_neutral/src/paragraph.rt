@@ -13,7 +13,7 @@ use crate::neutral::put_levels;
 use crate::sequence::{gather, resolve_types};
 use bg_types::{Base, Bidi, Memory};
 use bidi_explicit::{Embedded, Kept, Sequence, explicit_at, paragraph_level};
-use paragraphs::Para;
+use paragraphs::{Para, code_points_of};
 use std::alloc::Global;
 use ucd_files::Tables;
 
@@ -126,20 +126,6 @@ fn resolve_levels(
     Ok(())
 }
 
-/// The code points of a text.
-fn code_points_of(alloc: Global, text: &str) -> Result<Vec<char>, Memory>
-    ensures { IfOk result (λ points. points.items ≡ code_points text.now) }
-{
-    Ok(text.chars().collect(alloc)?)
-}
-
-/// The classes of code points.
-fn classes_of(alloc: Global, tables: &Tables, points: &[char]) -> Result<Vec<Bidi>, Memory>
-    ensures { IfOk result (λ classes. classes.items ≡ map (bidi_of tables.now) points.now) }
-{
-    Ok(points.iter().map(|c| tables.bidi(*c)).collect(alloc)?)
-}
-
 /// The resolved levels of any paragraph of this level.
 fn levels_by_sequences(
     alloc: Global,
@@ -194,7 +180,7 @@ fn levels_of_any(alloc: Global, tables: &Tables, para: &Para, base: Base) -> Res
     ensures bound { IfOk result (λ levels. All (λ level. level ≤ 126) levels.items) }
 {
     let points = code_points_of(alloc, para.text())?;
-    let classes = classes_of(alloc, tables, &points)?;
+    let classes = tables.bidi_of_each(alloc, &points)?;
     let level = paragraph_level(tables, para, base);
     levels_by_sequences(alloc, tables, level, &points, &classes)
 }

@@ -2,7 +2,6 @@
 
 ghost use Rattle.std.specs.Prelude.{◌≡◌, ℕ, ◌+◌, ◌≤◌, length, map, slice_range, IfOk};
 ghost use Rattle.std.specs.List.{All};
-ghost use Rattle.ucd_files.specs.Tables.{bidi_of};
 ghost use Rattle.paragraphs.specs.Text.{code_points};
 ghost use Rattle.paragraphs.specs.Clusters.{clusters, cluster_sizes};
 ghost use Rattle.paragraphs.specs.Spans.{spans};
@@ -19,7 +18,7 @@ use bg_types::{Base, Bidi, Memory};
 use bidi_explicit::paragraph_level;
 use bidi_weak_neutral::levels_at;
 use line_break::{Cluster, Line, Outline, lines_of, outline_of};
-use paragraphs::{Para, Span};
+use paragraphs::{Para, Span, code_points_of};
 use reorder::line_levels_at;
 use std::alloc::Global;
 use ucd_files::Tables;
@@ -93,20 +92,6 @@ fn row_of(alloc: Global, material: &Material, width: u16, line: Line) -> Result<
     Row::of_line(alloc, width, material.para_level, spans, &levels, columns)
 }
 
-/// The code points of a text.
-fn code_points_of(alloc: Global, text: &str) -> Result<Vec<char>, Memory>
-    ensures { IfOk result (λ points. points.items ≡ code_points text.now) }
-{
-    Ok(text.chars().collect(alloc)?)
-}
-
-/// The classes of code points.
-fn classes_of(alloc: Global, tables: &Tables, points: &[char]) -> Result<Vec<Bidi>, Memory>
-    ensures { IfOk result (λ classes. classes.items ≡ map (bidi_of tables.now) points.now) }
-{
-    Ok(points.iter().map(|c| tables.bidi(*c)).collect(alloc)?)
-}
-
 /// The columns of clusters.
 fn columns_of(alloc: Global, clusters: &[Cluster]) -> Result<Vec<u8>, Memory>
     ensures { IfOk result (λ columns. columns.items ≡ map (λ c. c.columns) clusters.now) }
@@ -140,7 +125,7 @@ pub fn rows(
     let text = para.text();
     let para_level = paragraph_level(tables, para, base);
     let points = code_points_of(alloc, text)?;
-    let classes = classes_of(alloc, tables, &points)?;
+    let classes = tables.bidi_of_each(alloc, &points)?;
     let levels = levels_at(alloc, tables, para_level, &points, &classes)?;
     let clusters = outline_of(alloc, tables, para)?;
     let columns = columns_of(alloc, &clusters.clusters)?;

@@ -6,11 +6,13 @@ mod cluster;
 mod cuts;
 pub mod laws;
 mod para;
+mod points;
 mod span;
 mod width;
 
 pub use cluster::Clusters;
 pub use cuts::split;
 pub use para::Para;
+pub use points::code_points_of;
 pub use span::Span;
 pub use width::{columns, columns_of_one};

@@ -1,8 +1,7 @@
 //! The levels of a line's clusters: L1.
 
-ghost use Rattle.std.specs.Prelude.{◌≡◌, ◌<◌, length, map, sum, All, IfOk, ◌&&◌, ◌||◌};
+ghost use Rattle.std.specs.Prelude.{◌≡◌, ◌<◌, length, sum, All, IfOk, ◌&&◌, ◌||◌};
 ghost use Rattle.std.specs.Str.{chars};
-ghost use Rattle.ucd_files.specs.Tables.{bidi_of};
 ghost use Rattle.reorder.specs.LineLevels.{is_separator, is_run_class, resets_before, levels_after_l1, group_firsts, line_levels_of};
 
 use bg_types::{Bidi, Memory};
@@ -73,13 +72,6 @@ pub fn line_levels_at(
     Ok(of_clusters)
 }
 
-/// The classes of a line's code points.
-fn classes_of(alloc: Global, tables: &Tables, line: &str) -> Result<Vec<Bidi>, Memory>
-    ensures { IfOk result (λ classes. classes.items ≡ map (bidi_of tables.now) (chars line.now)) }
-{
-    Ok(line.chars().map(|c| tables.bidi(c)).collect(alloc)?)
-}
-
 /// A level for each cluster of a line (UAX #9, L1): that of its first code point.
 ///
 /// `levels` has a level for each code point of the line, and `sizes` the number of code points of each cluster.
@@ -96,6 +88,6 @@ pub fn line_levels(
     requires whole { sum sizes.now ≡ length (chars line.now) }
     ensures { IfOk result (λ of_clusters. of_clusters.items ≡ line_levels_of tables.now line.now levels.now sizes.now para_level) }
 {
-    let classes = classes_of(alloc, tables, line)?;
+    let classes = tables.bidi_of_text(alloc, line)?;
     line_levels_at(alloc, &classes, levels, sizes, para_level)
 }

@@ -1,12 +1,13 @@
 //! The five tables, and the looking up.
 
-ghost use Rattle.std.specs.Prelude.{◌≡◌, ◌≢◌, None, Some, IfOk, IfErr, OnOk, slice_index_or};
+ghost use Rattle.std.specs.Prelude.{◌≡◌, ◌≢◌, None, Some, map, IfOk, IfErr, OnOk, slice_index_or};
+ghost use Rattle.std.specs.Str.{chars};
 ghost use Rattle.ucd_files.specs.Faults.{fault_of};
 
 use crate::fault::{UcdFault, UcdFile};
 use crate::read::read;
 use crate::value::Bracket;
-use bg_types::{Bidi, Ea, Lb};
+use bg_types::{Bidi, Ea, Lb, Memory};
 use std::alloc::Global;
 use std::marker::Model;
 
@@ -106,6 +107,20 @@ impl Tables {
         ensures { result ≡ bidi_of self.now c }
     {
         at(&self.bidi, c, Bidi::L)
+    }
+
+    /// Bidi_Class of each of these characters.
+    pub fn bidi_of_each(&self, alloc: Global, points: &[char]) -> Result<Vec<Bidi>, Memory>
+        ensures { IfOk result (λ classes. classes.items ≡ map (bidi_of self.now) points.now) }
+    {
+        Ok(points.iter().map(|c| self.bidi(*c)).collect(alloc)?)
+    }
+
+    /// Bidi_Class of each character of a text.
+    pub fn bidi_of_text(&self, alloc: Global, text: &str) -> Result<Vec<Bidi>, Memory>
+        ensures { IfOk result (λ classes. classes.items ≡ map (bidi_of self.now) (chars text.now)) }
+    {
+        Ok(text.chars().map(|c| self.bidi(c)).collect(alloc)?)
     }
 
     /// Whether a character is a bracket, and with which character it pairs.

@@ -1,0 +1,14 @@
+//! The code points of a text.
+
+ghost use Rattle.std.specs.Prelude.{◌≡◌, IfOk};
+ghost use Rattle.paragraphs.specs.Text.{code_points};
+
+use bg_types::Memory;
+use std::alloc::Global;
+
+/// The code points of a text.
+pub fn code_points_of(alloc: Global, text: &str) -> Result<Vec<char>, Memory>
+    ensures { IfOk result (λ points. points.items ≡ code_points text.now) }
+{
+    Ok(text.chars().collect(alloc)?)
+}
