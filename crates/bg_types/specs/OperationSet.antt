@@ -1,10 +1,11 @@
 -- Sets of operations: the definition OperationSet.
-use Rattle.std.specs.Prelude.{◌≡◌, ◌≢◌, ℕ, ◌+◌, ◌++◌, ◌∷◌, [], List, Some, true, max, map as each}
+use Rattle.std.specs.Prelude.{◌≡◌, ◌≢◌, ℕ, ◌+◌, ◌++◌, ◌∷◌, [], List, Some, true, map as each}
 use Rattle.std.specs.List.{flat_map}
 use Rattle.std.specs.FinMap as map
 use Rattle.std.specs.FinSet as set
 use Rattle.bg_types.specs.Identifier.{Identifier, id_cmp}
 use Rattle.bg_types.specs.WellFormed.{IsWellFormed}
+pub use Rattle.bg_types.specs.Numbers.{greatest}
 use Rattle.bg_types.specs.declared.op.Place.{Place}
 use Rattle.bg_types.specs.declared.op.Place.TheVariants.{Root, After}
 use Rattle.bg_types.specs.declared.op.OpView.{OpView}
@@ -67,11 +68,6 @@ named_counters (Erase target) = target.counter ∷ []
 -- the operations of S, the insertions first, each in rising order of identifier
 abbrev pub operations : OperationSet → List OpView
 operations s = each (λ e. Insert e.0 e.1.parent e.1.ch) (map.entries s.ins) ++ each Erase (set.items s.del)
-
--- the greatest of some numbers, or 0 where there is none
-abbrev pub greatest : List ℕ → ℕ
-greatest [] = 0
-greatest (x ∷ xs) = max x (greatest xs)
 
 -- 1 plus the greatest counter that S names, or 1 where S is empty
 abbrev pub next : OperationSet → ℕ

@@ -1,6 +1,7 @@
 -- The visual order of a line: UAX #9, L2.
-use Rattle.std.specs.Prelude.{ℕ, zero, suc, ◌-◌, ◌%◌, ◌==◌, nat_le, max, min, Bool, true, false, List, [], ◌∷◌, ◌++◌, map, if◌then◌else◌}
+use Rattle.std.specs.Prelude.{ℕ, zero, suc, ◌-◌, ◌%◌, ◌==◌, nat_le, min, Bool, true, false, List, [], ◌∷◌, ◌++◌, map, if◌then◌else◌}
 use Rattle.std.specs.List.{enumerate_from}
+pub use Rattle.bg_types.specs.Numbers.{greatest}
 
 -- a cluster's number, from 0, and its level
 abbrev pub Cluster : Type 0
@@ -32,10 +33,6 @@ reversed_from (suc n) level clusters = runs_reversed (is_at_least level) (revers
 
 abbrev pub is_odd : ℕ → Bool
 is_odd n = n % 2 == 1
-
-abbrev pub greatest : List ℕ → ℕ
-greatest [] = 0
-greatest (l ∷ ls) = max l (greatest ls)
 
 -- the lowest odd level, or the given number where there is none
 abbrev pub lowest_odd : ℕ → List ℕ → ℕ
