@@ -4,6 +4,8 @@
 mod fault_line;
 mod files;
 mod folder;
+mod grammar;
+mod help;
 mod request;
 mod words;
 
