@@ -14,53 +14,55 @@ fn load(alloc: Global, file: UcdFile, bytes: &[u8]) -> Result<Tables, UcdFault> 
     }
 }
 
+/// A file with a faulty line, the number of that line, and what is wrong with it.
+const FAULTY_LINES: [(UcdFile, &[u8], usize, Cause); 37] = [
+    (UcdFile::Bidi, b"41;L", 1, Cause::BadCode),
+    (UcdFile::Bidi, b"110000;L", 1, Cause::BadCode),
+    (UcdFile::Bidi, b"0042..0041;L", 1, Cause::BadRange),
+    (UcdFile::Bidi, b"0041", 1, Cause::MissingField),
+    (UcdFile::Bidi, b"0041;Q", 1, Cause::UnknownValue),
+    (UcdFile::Bidi, b"41;L\n\xFF", 2, Cause::BadUtf8),
+    (UcdFile::Brackets, b"0028; 0029; x", 1, Cause::UnknownValue),
+    (UcdFile::Brackets, b"0028; 0029", 1, Cause::MissingField),
+    (UcdFile::Mirror, b"0028; D800", 1, Cause::BadCode),
+    (UcdFile::Mirror, b"0028..0029; 0029", 1, Cause::BadCode),
+    (UcdFile::Brackets, b"0028..0029; 0029; o", 1, Cause::BadCode),
+    (UcdFile::Brackets, b"0028; DFFF; o", 1, Cause::BadCode),
+    (UcdFile::Brackets, b"0028; 29; x", 1, Cause::BadCode),
+    (UcdFile::Brackets, b"0028; ; o", 1, Cause::MissingField),
+    (UcdFile::Brackets, b"0028; 0029; O", 1, Cause::UnknownValue),
+    (UcdFile::Mirror, b"0028;", 1, Cause::MissingField),
+    (UcdFile::Mirror, b"0028; 110000", 1, Cause::BadCode),
+    (UcdFile::Bidi, b"0000041;L", 1, Cause::BadCode),
+    (UcdFile::Bidi, b"00G1;L", 1, Cause::BadCode),
+    (UcdFile::Bidi, b"0041...0042;L", 1, Cause::BadCode),
+    (UcdFile::Bidi, b"0041.0042;L", 1, Cause::BadCode),
+    (UcdFile::Bidi, b"0041 ..0042;L", 1, Cause::BadCode),
+    (UcdFile::Bidi, b"0041..;L", 1, Cause::BadCode),
+    (UcdFile::Bidi, b"0041\r;L", 1, Cause::BadCode),
+    (UcdFile::Bidi, b";L", 1, Cause::MissingField),
+    (UcdFile::Bidi, b"0041; \t", 1, Cause::MissingField),
+    (UcdFile::Bidi, b"41..40;", 1, Cause::MissingField),
+    (UcdFile::Bidi, b"0042..41;Q", 1, Cause::BadCode),
+    (UcdFile::Bidi, b"0042..0041;Q", 1, Cause::BadRange),
+    (UcdFile::Bidi, b"0041;l", 1, Cause::UnknownValue),
+    (UcdFile::Bidi, b"0041;Left_To_Right", 1, Cause::UnknownValue),
+    (
+        UcdFile::Lb,
+        b"0041;AL\n\n# x\n0042;AK\n0043",
+        4,
+        Cause::UnknownValue,
+    ),
+    (UcdFile::Ea, b"0041;Na\r\n0042\r\n", 2, Cause::MissingField),
+    (UcdFile::Ea, b"\n\n\n0041;NA", 4, Cause::UnknownValue),
+    (UcdFile::Lb, b"0041;AL # \xE2\x28\n41;AL", 1, Cause::BadUtf8),
+    (UcdFile::Lb, b"41;AL\n\n\xE2", 3, Cause::BadUtf8),
+    (UcdFile::Mirror, b"41;29\n\xC0\x80", 2, Cause::BadUtf8),
+];
+
 #[test]
 fn a_faulty_line_is_named(rt: HostRuntime) {
-    let rows: [(UcdFile, &[u8], usize, Cause); 37] = [
-        (UcdFile::Bidi, b"41;L", 1, Cause::BadCode),
-        (UcdFile::Bidi, b"110000;L", 1, Cause::BadCode),
-        (UcdFile::Bidi, b"0042..0041;L", 1, Cause::BadRange),
-        (UcdFile::Bidi, b"0041", 1, Cause::MissingField),
-        (UcdFile::Bidi, b"0041;Q", 1, Cause::UnknownValue),
-        (UcdFile::Bidi, b"41;L\n\xFF", 2, Cause::BadUtf8),
-        (UcdFile::Brackets, b"0028; 0029; x", 1, Cause::UnknownValue),
-        (UcdFile::Brackets, b"0028; 0029", 1, Cause::MissingField),
-        (UcdFile::Mirror, b"0028; D800", 1, Cause::BadCode),
-        (UcdFile::Mirror, b"0028..0029; 0029", 1, Cause::BadCode),
-        (UcdFile::Brackets, b"0028..0029; 0029; o", 1, Cause::BadCode),
-        (UcdFile::Brackets, b"0028; DFFF; o", 1, Cause::BadCode),
-        (UcdFile::Brackets, b"0028; 29; x", 1, Cause::BadCode),
-        (UcdFile::Brackets, b"0028; ; o", 1, Cause::MissingField),
-        (UcdFile::Brackets, b"0028; 0029; O", 1, Cause::UnknownValue),
-        (UcdFile::Mirror, b"0028;", 1, Cause::MissingField),
-        (UcdFile::Mirror, b"0028; 110000", 1, Cause::BadCode),
-        (UcdFile::Bidi, b"0000041;L", 1, Cause::BadCode),
-        (UcdFile::Bidi, b"00G1;L", 1, Cause::BadCode),
-        (UcdFile::Bidi, b"0041...0042;L", 1, Cause::BadCode),
-        (UcdFile::Bidi, b"0041.0042;L", 1, Cause::BadCode),
-        (UcdFile::Bidi, b"0041 ..0042;L", 1, Cause::BadCode),
-        (UcdFile::Bidi, b"0041..;L", 1, Cause::BadCode),
-        (UcdFile::Bidi, b"0041\r;L", 1, Cause::BadCode),
-        (UcdFile::Bidi, b";L", 1, Cause::MissingField),
-        (UcdFile::Bidi, b"0041; \t", 1, Cause::MissingField),
-        (UcdFile::Bidi, b"41..40;", 1, Cause::MissingField),
-        (UcdFile::Bidi, b"0042..41;Q", 1, Cause::BadCode),
-        (UcdFile::Bidi, b"0042..0041;Q", 1, Cause::BadRange),
-        (UcdFile::Bidi, b"0041;l", 1, Cause::UnknownValue),
-        (UcdFile::Bidi, b"0041;Left_To_Right", 1, Cause::UnknownValue),
-        (
-            UcdFile::Lb,
-            b"0041;AL\n\n# x\n0042;AK\n0043",
-            4,
-            Cause::UnknownValue,
-        ),
-        (UcdFile::Ea, b"0041;Na\r\n0042\r\n", 2, Cause::MissingField),
-        (UcdFile::Ea, b"\n\n\n0041;NA", 4, Cause::UnknownValue),
-        (UcdFile::Lb, b"0041;AL # \xE2\x28\n41;AL", 1, Cause::BadUtf8),
-        (UcdFile::Lb, b"41;AL\n\n\xE2", 3, Cause::BadUtf8),
-        (UcdFile::Mirror, b"41;29\n\xC0\x80", 2, Cause::BadUtf8),
-    ];
-    for (file, bytes, line, cause) in rows {
+    for (file, bytes, line, cause) in FAULTY_LINES {
         let want = UcdFault::At { file, line, cause };
         assert_eq!(rt;
             load(rt.alloc(), file, bytes).err(),
@@ -70,50 +72,52 @@ fn a_faulty_line_is_named(rt: HostRuntime) {
     }
 }
 
+/// A file of Bidi classes, a character, and its class.
+const BIDI_CLASSES: [(&[u8], char, Bidi); 31] = [
+    (b"0041..005A;L\n0041 ; R", 'A', Bidi::R),
+    (b"0041..005A;L\n0041 ; R", 'B', Bidi::L),
+    (b"# @missing: 0590..05FF; Right_To_Left", '\u{5D0}', Bidi::R),
+    (b"# @missing: 0590..05FF; Right_To_Left", 'A', Bidi::L),
+    (b"# @missing: 0590..05FF; Nothing", '\u{5D0}', Bidi::L),
+    (b"", 'A', Bidi::L),
+    (b"0041..0043;R", '@', Bidi::L),
+    (b"0041..0043;R", 'A', Bidi::R),
+    (b"0041..0043;R", 'C', Bidi::R),
+    (b"0041..0043;R", 'D', Bidi::L),
+    (b"10FFFE..10FFFF;BN", '\u{10FFFF}', Bidi::Bn),
+    (b"\t0041\t;\tEN ; and more; of it\t# x\r\n", 'A', Bidi::En),
+    (b"00e9;R", '\u{E9}', Bidi::R),
+    (b"1f600..1F64f;ON", '\u{1F600}', Bidi::On),
+    (b"01f600..01F64F;ON", '\u{1F64F}', Bidi::On),
+    (b"# @missing: 0590..05FF; R", '\u{590}', Bidi::R),
+    (b"# @missing: 0590..05FF; R", '\u{5FF}', Bidi::R),
+    (b"#@missing:0590..05FF;R", '\u{5D0}', Bidi::R),
+    (b"0041;L # @missing: 0590..05FF; R", '\u{5D0}', Bidi::R),
+    (b"# @missing: 0590..05FF; R; x", '\u{5D0}', Bidi::L),
+    (b"# @missing: 05D0; R", '\u{5D0}', Bidi::L),
+    (b"# @missing: 05FF..0590; R", '\u{5D0}', Bidi::L),
+    (b"# @missing: 590..05FF; R", '\u{5D0}', Bidi::L),
+    (b"# @missing : 0590..05FF; R", '\u{5D0}', Bidi::L),
+    (b"# x @missing: 0590..05FF; R", '\u{5D0}', Bidi::L),
+    (b"# @missing: 0590..05FF; R # x", '\u{5D0}', Bidi::L),
+    (b"05D0;EN\n# @missing: 0590..05FF; R", '\u{5D0}', Bidi::En),
+    (b"05D0;EN\n# @missing: 0590..05FF; R", '\u{5D1}', Bidi::R),
+    (
+        b"# @missing: 0590..05FF; R\n# @missing: 05D0..05D0; Arabic_Letter",
+        '\u{5D0}',
+        Bidi::Al,
+    ),
+    (
+        b"# @missing: 05D0..05D0; AL\n# @missing: 0590..05FF; R",
+        '\u{5D0}',
+        Bidi::R,
+    ),
+    (b"D800..DFFF;R", '\u{D7FF}', Bidi::L),
+];
+
 #[test]
 fn bidi_classes(rt: HostRuntime) -> Result<(), Fail> {
-    let rows: [(&[u8], char, Bidi); 31] = [
-        (b"0041..005A;L\n0041 ; R", 'A', Bidi::R),
-        (b"0041..005A;L\n0041 ; R", 'B', Bidi::L),
-        (b"# @missing: 0590..05FF; Right_To_Left", '\u{5D0}', Bidi::R),
-        (b"# @missing: 0590..05FF; Right_To_Left", 'A', Bidi::L),
-        (b"# @missing: 0590..05FF; Nothing", '\u{5D0}', Bidi::L),
-        (b"", 'A', Bidi::L),
-        (b"0041..0043;R", '@', Bidi::L),
-        (b"0041..0043;R", 'A', Bidi::R),
-        (b"0041..0043;R", 'C', Bidi::R),
-        (b"0041..0043;R", 'D', Bidi::L),
-        (b"10FFFE..10FFFF;BN", '\u{10FFFF}', Bidi::Bn),
-        (b"\t0041\t;\tEN ; and more; of it\t# x\r\n", 'A', Bidi::En),
-        (b"00e9;R", '\u{E9}', Bidi::R),
-        (b"1f600..1F64f;ON", '\u{1F600}', Bidi::On),
-        (b"01f600..01F64F;ON", '\u{1F64F}', Bidi::On),
-        (b"# @missing: 0590..05FF; R", '\u{590}', Bidi::R),
-        (b"# @missing: 0590..05FF; R", '\u{5FF}', Bidi::R),
-        (b"#@missing:0590..05FF;R", '\u{5D0}', Bidi::R),
-        (b"0041;L # @missing: 0590..05FF; R", '\u{5D0}', Bidi::R),
-        (b"# @missing: 0590..05FF; R; x", '\u{5D0}', Bidi::L),
-        (b"# @missing: 05D0; R", '\u{5D0}', Bidi::L),
-        (b"# @missing: 05FF..0590; R", '\u{5D0}', Bidi::L),
-        (b"# @missing: 590..05FF; R", '\u{5D0}', Bidi::L),
-        (b"# @missing : 0590..05FF; R", '\u{5D0}', Bidi::L),
-        (b"# x @missing: 0590..05FF; R", '\u{5D0}', Bidi::L),
-        (b"# @missing: 0590..05FF; R # x", '\u{5D0}', Bidi::L),
-        (b"05D0;EN\n# @missing: 0590..05FF; R", '\u{5D0}', Bidi::En),
-        (b"05D0;EN\n# @missing: 0590..05FF; R", '\u{5D1}', Bidi::R),
-        (
-            b"# @missing: 0590..05FF; R\n# @missing: 05D0..05D0; Arabic_Letter",
-            '\u{5D0}',
-            Bidi::Al,
-        ),
-        (
-            b"# @missing: 05D0..05D0; AL\n# @missing: 0590..05FF; R",
-            '\u{5D0}',
-            Bidi::R,
-        ),
-        (b"D800..DFFF;R", '\u{D7FF}', Bidi::L),
-    ];
-    for (bytes, c, want) in rows {
+    for (bytes, c, want) in BIDI_CLASSES {
         let tables = load(rt.alloc(), UcdFile::Bidi, bytes)?;
         assert_eq!(rt; tables.bidi(c), want, "at {c:?} in {bytes:?}");
     }
