@@ -1,8 +1,7 @@
 -- Fields and frames that were read are spelled by their bytes.
-use Rattle.std.proofs.Common.{◌≡◌, ℕ, ◌+◌, ◌-◌, ◌*◌, ◌<◌, ◌≤◌, true, eqb, leb, List, [], ◌∷◌, ◌++◌, length, slice_index, take, drop, drop-cons, Option, Some, None, Result, refl, sym, ap, subst, ◌∙◌, append_assoc, arith}
-use Rattle.std.specs.Prelude.{IfSome, IfOk, ◌&&◌}
+use Rattle.std.proofs.Common.{◌≡◌, ℕ, ◌+◌, ◌-◌, ◌*◌, ◌<◌, ◌≤◌, true, eqb, leb, List, [], ◌∷◌, ◌++◌, length, slice_index, take, drop, drop-cons, refl, sym, ap, subst, ◌∙◌, append_assoc, arith}
+use Rattle.std.specs.Prelude.{◌&&◌}
 use Rattle.std.specs.List.{flat_map}
-use Rattle.std.specs.Option.{ok_or}
 use Rattle.std.proofs.lemmas.Bool.{and_parts, eqb-true, leb-true}
 use Rattle.std.proofs.lemmas.List.{take-append-drop, length-take, length-drop, drop-drop, drop_all, append-nil}
 use Rattle.byteorder.specs.Endian.{big_bytes, big_number}
@@ -10,7 +9,6 @@ use Rattle.bg_types.specs.Identifier.{Identifier}
 use Rattle.bg_types.specs.declared.op.Place.{Place}
 use Rattle.bg_types.specs.declared.op.OpView.{OpView}
 use Rattle.bg_types.specs.declared.op.OpView.TheVariants.{Insert, Erase}
-use Rattle.op_codec.specs.declared.fault.Cause.{Cause}
 use Rattle.op_codec.specs.Spelling.{identifier_bytes, parent_identifier, frame, frame_kind, frame_fields, bytes_with}
 use Rattle.op_codec.specs.Fault.{identifier_at, run_count, is_run_length, characters_in}
 use Rattle.op_codec.proofs.Bytes.{IsBytes, IsBytes-drop, IsBytes-take, two_bytes, four_bytes, identifier_takes}
@@ -61,12 +59,6 @@ pub erasure_spelled : (bytes fields rest : List ℕ) (op : OpView) → IsBytes b
 erasure_spelled bytes fields rest (Erase target) fits long kind size fields_are rest_is is spelled =
     frame_takes bytes (frame_fields (Erase target)) 7 2 6 fits long kind size (spelled ∙ fields_are) ∙ ap (λ (r : List ℕ). frame (Erase target) ++ r) (sym rest_is)
 erasure_spelled bytes fields rest (Insert id parent ch) fits long kind size fields_are rest_is is spelled = absurd (omega (arith, is))
-
--- the operation that these fields make, where it can be made
-pub insertion_made : (f : List ℕ) (id : Identifier) (parent : Place) (ch : ℕ) (made : Option OpView) (r : Result OpView Cause) (fault : Cause) → frame_fields (Insert id parent ch) ≡ f
-    → r ≡ ok_or made fault → IfSome made (λ op. op ≡ Insert id parent ch) → IfOk r (λ op. frame_fields op ≡ f)
-insertion_made f id parent ch (Some op) r fault fields is value = rw is (ap frame_fields value ∙ fields)
-insertion_made f id parent ch None r fault fields is value = rw is tt
 
 -- ---- runs
 

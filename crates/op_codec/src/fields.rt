@@ -1,9 +1,9 @@
 //! The fields of frames.
 
-ghost use Rattle.std.specs.Prelude.{◌≡◌, ◌≤◌, length, drop, is_some, not, IfSome, IfOk, IfErr, Some};
-ghost use Rattle.bg_types.specs.WellFormed.{IsWellFormed};
+ghost use Rattle.std.specs.Prelude.{◌≡◌, ◌≤◌, length, drop, is_some, not, IfSome, IfOk, IfErr, Some, None, MatchResult, nat_le, false};
+ghost use Rattle.bg_types.specs.WellFormed.{IsWellFormed, MayFollow};
 ghost use Rattle.op_codec.specs.Spelling.{frame_kind, frame_fields, identifier_bytes, parent_identifier};
-ghost use Rattle.op_codec.specs.Fault.{identifier_at, has_zero, is_half_zero, insertion_cause, erasure_cause};
+ghost use Rattle.op_codec.specs.Fault.{identifier_at, has_zero, is_half_zero, numbers_cause, insertion_cause, erasure_cause};
 
 use crate::fault::Cause;
 use bg_types::{Id, Op, Place};
@@ -17,17 +17,42 @@ pub fn read_insertion(fields: &[u8]) -> Result<Op, Cause>
     ensures well_formed { IfOk result IsWellFormed }
     ensures err { IfErr result (λ cause. insertion_cause fields.now ≡ Some cause) }
 {
-    let id = read_id(fields).ok_or(Cause::ZeroField)?;
-    let parent = read_place(&fields[6..]).ok_or(Cause::ZeroField)?;
-    let Some(ch) = char::from_u32(BigEndian::read_u32(&fields[12..])) else {
-        // The parent is judged before the character.
-        return Err(if parent.is_before(id) {
-            Cause::NotAScalar
-        } else {
-            Cause::ParentNotBefore
-        });
+    let (id, parent) = read_numbers(fields)?;
+    match char::from_u32(BigEndian::read_u32(&fields[12..])) {
+        Some(ch) => Ok(Op::insert(id, parent, ch).unwrap()),
+        None => Err(Cause::NotAScalar),
+    }
+}
+
+/// The identifier and the parent of an insertion.
+#[inline(always)]
+pub fn read_numbers(fields: &[u8]) -> Result<(Id, Place), Cause>
+    requires { 12 ≤ length fields.now }
+    ensures id { IfOk result (λ numbers. numbers.0 ≡ identifier_at fields.now) }
+    ensures parent { IfOk result (λ numbers. parent_identifier numbers.1 ≡ identifier_at (drop 6 fields.now)) }
+    ensures follows { IfOk result (λ numbers. MayFollow numbers.1 numbers.0) }
+    ensures fault { MatchResult result (λ _. numbers_cause fields.now ≡ None)
+        (λ cause. numbers_cause fields.now ≡ Some cause) }
+{
+    let (Some(id), Some(parent)) = (read_id(fields), read_place(&fields[6..])) else {
+        return Err(Cause::ZeroField);
     };
-    Op::insert(id, parent, ch).ok_or(Cause::ParentNotBefore)
+    if is_late(&parent, id) {
+        return Err(Cause::ParentNotBefore);
+    }
+    Ok((id, parent))
+}
+
+/// Whether an insertion with this identifier may not have this parent.
+fn is_late(parent: &Place, id: Id) -> bool
+    ensures late { result ≡ nat_le id.counter (parent_identifier parent.now).counter }
+    ensures follows { result ≡ false → MayFollow parent.now id }
+{
+    let counter = id.counter();
+    match parent {
+        Place::Root => counter == 0,
+        Place::After(before) => counter <= before.counter(),
+    }
 }
 
 pub fn read_erasure(fields: &[u8]) -> Result<Op, Cause>

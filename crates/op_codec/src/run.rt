@@ -13,7 +13,7 @@ ghost use Rattle.op_codec.specs.Feed.{IsNext};
 
 use crate::encode::parent_numbers;
 use crate::fault::Cause;
-use crate::fields::{read_id, read_place};
+use crate::fields::read_numbers;
 use crate::format::CHARACTER_SIZE;
 use crate::position::{Position, Version};
 use bg_types::{Id, Memory, Op, OpView, Place};
@@ -64,35 +64,6 @@ pub fn read_run(fields: &[u8]) -> Result<Op, Cause>
         return Err(Cause::NotAScalar);
     }
     Ok(Op::insert(id, parent, read_char(chars)).unwrap())
-}
-
-/// The identifier and the parent of an insertion.
-fn read_numbers(fields: &[u8]) -> Result<(Id, Place), Cause>
-    requires { 12 ≤ length fields.now }
-    ensures id { IfOk result (λ numbers. numbers.0 ≡ identifier_at fields.now) }
-    ensures parent { IfOk result (λ numbers. parent_identifier numbers.1 ≡ identifier_at (drop 6 fields.now)) }
-    ensures follows { IfOk result (λ numbers. MayFollow numbers.1 numbers.0) }
-    ensures fault { MatchResult result (λ _. numbers_cause fields.now ≡ None)
-        (λ cause. numbers_cause fields.now ≡ Some cause) }
-{
-    let id = read_id(fields).ok_or(Cause::ZeroField)?;
-    let parent = read_place(&fields[6..]).ok_or(Cause::ZeroField)?;
-    if is_late(&parent, id) {
-        return Err(Cause::ParentNotBefore);
-    }
-    Ok((id, parent))
-}
-
-/// Whether an insertion with this identifier may not have this parent.
-fn is_late(parent: &Place, id: Id) -> bool
-    ensures late { result ≡ nat_le id.counter (parent_identifier parent.now).counter }
-    ensures follows { result ≡ false → MayFollow parent.now id }
-{
-    let counter = id.counter();
-    match parent {
-        Place::Root => counter == 0,
-        Place::After(before) => counter <= before.counter(),
-    }
 }
 
 /// The character in the four bytes at the front.

@@ -48,63 +48,75 @@ cons_eq e f = cc
 
 -- ---- the keys of entries
 
-module _ {V : Type 0} where
-  abbrev pub keys : List (Key × V) → List ParagraphKey
-  keys es = map (λ e. said e.0) es
+abbrev pub keys : {V : Type 0} → List (Key × V) → List ParagraphKey
+keys es = map (λ e. said e.0) es
 
-  -- a removal by the cache's test removes the key
-  remove-hit : (k : Key) (e : Key × V) (es : List (Key × V)) → (key_eq.eq-value).it k e.0 ≡ true →
-      remove_entry ((key_eq.eq-value).it k) (e ∷ es) ≡ es
-  remove-hit k e es h = rw (h, remove_entry)
+keys-take : {V : Type 0} (n : ℕ) (es : List (Key × V)) → keys (take n es) ≡ take n (keys es)
+keys-take zero es = refl
+keys-take (suc n) [] = refl
+keys-take (suc n) (e ∷ es) = ap (λ l. said e.0 ∷ l) (keys-take n es)
 
-  remove-miss : (k : Key) (e : Key × V) (es : List (Key × V)) → (key_eq.eq-value).it k e.0 ≡ false →
-      remove_entry ((key_eq.eq-value).it k) (e ∷ es) ≡ e ∷ remove_entry ((key_eq.eq-value).it k) es
-  remove-miss k e es h = rw (h, remove_entry)
+-- the two look-ups find the same
+found-together : {V : Type 0} (test : Key → Bool) (es : List (Key × V)) → is_some (lookup test es) ≡ is_some (lookup_entry test es)
+found-together test [] = refl
+found-together test (e ∷ es) = two_cases (test e.0)
+    (λ t. let a : lookup test (e ∷ es) ≡ Some e.1 = rw (t, lookup) in let b : lookup_entry test (e ∷ es) ≡ Some e = rw (t, lookup_entry) in ap is_some a ∙ sym (ap is_some b))
+    (λ t. let a : lookup test (e ∷ es) ≡ lookup test es = rw (t, lookup) in let b : lookup_entry test (e ∷ es) ≡ lookup_entry test es = rw (t, lookup_entry) in
+    ap is_some a ∙ found-together test es ∙ sym (ap is_some b))
 
-  keys-remove_entry : (k : Key) (es : List (Key × V)) → keys (remove_entry ((key_eq.eq-value).it k) es) ≡ without (said k) (keys es)
-  keys-remove_entry k [] = refl
-  keys-remove_entry k (e ∷ es) = two_cases (same_key (said k) (said e.0))
-      (λ h. ap keys (remove-hit k e es (same-is k e.0 ∙ h)) ∙ sym (without-hit (said k) (said e.0) (keys es) h))
-      (λ h. ap keys (remove-miss k e es (same-is k e.0 ∙ h)) ∙ ap (λ l. said e.0 ∷ l) (keys-remove_entry k es) ∙ sym (without-miss (said k) (said e.0) (keys es) h))
+-- by a test that tells which keys say what `s` says
+module _ {V : Type 0} (test : Key → Bool) (s : ParagraphKey) (same : (e : Key) → test e ≡ same_key s (said e)) where
+  remove-hit : (e : Key × V) (es : List (Key × V)) → test e.0 ≡ true → remove_entry test (e ∷ es) ≡ es
+  remove-hit e es h = rw (h, remove_entry)
+
+  remove-miss : (e : Key × V) (es : List (Key × V)) → test e.0 ≡ false → remove_entry test (e ∷ es) ≡ e ∷ remove_entry test es
+  remove-miss e es h = rw (h, remove_entry)
+
+  -- a removal removes the key
+  keys-remove_entry : (es : List (Key × V)) → keys (remove_entry test es) ≡ without s (keys es)
+  keys-remove_entry [] = refl
+  keys-remove_entry (e ∷ es) = two_cases (same_key s (said e.0))
+      (λ h. ap keys (remove-hit e es (same e.0 ∙ h)) ∙ sym (without-hit s (said e.0) (keys es) h))
+      (λ h. ap keys (remove-miss e es (same e.0 ∙ h)) ∙ ap (λ l. said e.0 ∷ l) (keys-remove_entry es) ∙ sym (without-miss s (said e.0) (keys es) h))
 
   -- where nothing says the same, nothing goes
-  without-none : (k : Key) (es : List (Key × V)) → lookup_entry ((key_eq.eq-value).it k) es ≡ None → without (said k) (keys es) ≡ keys es
-  without-none k [] h = refl
-  without-none k (e ∷ es) h = two_cases (same_key (said k) (said e.0))
-      (λ t. let hit : lookup_entry ((key_eq.eq-value).it k) (e ∷ es) ≡ Some e = rw (same-is k e.0 ∙ t, lookup_entry) in cc)
-      (λ t. let miss : lookup_entry ((key_eq.eq-value).it k) (e ∷ es) ≡ lookup_entry ((key_eq.eq-value).it k) es = rw (same-is k e.0 ∙ t, lookup_entry) in
-      without-miss (said k) (said e.0) (keys es) t ∙ ap (λ l. said e.0 ∷ l) (without-none k es (sym miss ∙ h)))
-
-  keys-take : (n : ℕ) (es : List (Key × V)) → keys (take n es) ≡ take n (keys es)
-  keys-take zero es = refl
-  keys-take (suc n) [] = refl
-  keys-take (suc n) (e ∷ es) = ap (λ l. said e.0 ∷ l) (keys-take n es)
+  without-none : (es : List (Key × V)) → lookup_entry test es ≡ None → without s (keys es) ≡ keys es
+  without-none [] h = refl
+  without-none (e ∷ es) h = two_cases (same_key s (said e.0))
+      (λ t. let hit : lookup_entry test (e ∷ es) ≡ Some e = rw (same e.0 ∙ t, lookup_entry) in cc)
+      (λ t. let miss : lookup_entry test (e ∷ es) ≡ lookup_entry test es = rw (same e.0 ∙ t, lookup_entry) in
+      without-miss s (said e.0) (keys es) t ∙ ap (λ l. said e.0 ∷ l) (without-none es (sym miss ∙ h)))
 
   -- where a key says the same, one goes
-  length-without : (k : Key) (es : List (Key × V)) (e : Key × V) → lookup_entry ((key_eq.eq-value).it k) es ≡ Some e →
-      length (without (said k) (keys es)) + 1 ≤ length es
-  length-without k [] e h = cc
-  length-without k (f ∷ es) e h = two_cases (same_key (said k) (said f.0))
-      (λ t. let n : length (keys es) ≡ length es = search (rules, length-map) in rw (without-hit (said k) (said f.0) (keys es) t) (omega arith))
-      (λ t. let miss : lookup_entry ((key_eq.eq-value).it k) (f ∷ es) ≡ lookup_entry ((key_eq.eq-value).it k) es = rw (same-is k f.0 ∙ t, lookup_entry) in
-      let ih = length-without k es e (sym miss ∙ h) in rw (without-miss (said k) (said f.0) (keys es) t) (omega arith))
+  length-without : (es : List (Key × V)) (e : Key × V) → lookup_entry test es ≡ Some e → length (without s (keys es)) + 1 ≤ length es
+  length-without [] e h = cc
+  length-without (f ∷ es) e h = two_cases (same_key s (said f.0))
+      (λ t. let n : length (keys es) ≡ length es = search (rules, length-map) in rw (without-hit s (said f.0) (keys es) t) (omega arith))
+      (λ t. let miss : lookup_entry test (f ∷ es) ≡ lookup_entry test es = rw (same f.0 ∙ t, lookup_entry) in
+      let ih = length-without es e (sym miss ∙ h) in rw (without-miss s (said f.0) (keys es) t) (omega arith))
 
   -- a look-up finds what is kept
-  pub is_kept-lookup : (k : Key) (es : List (Key × V)) → is_some (lookup ((key_eq.eq-value).it k) es) ≡ is_kept (said k) (keys es)
-  is_kept-lookup k [] = refl
-  is_kept-lookup k (e ∷ es) = two_cases (same_key (said k) (said e.0))
-      (λ t. let hit : lookup ((key_eq.eq-value).it k) (e ∷ es) ≡ Some e.1 = rw (same-is k e.0 ∙ t, lookup) in
-      ap is_some hit ∙ sym (is_kept-hit (said k) (said e.0) (keys es) t))
-      (λ t. let miss : lookup ((key_eq.eq-value).it k) (e ∷ es) ≡ lookup ((key_eq.eq-value).it k) es = rw (same-is k e.0 ∙ t, lookup) in
-      ap is_some miss ∙ is_kept-lookup k es ∙ sym (is_kept-miss (said k) (said e.0) (keys es) t))
+  is_kept-by : (es : List (Key × V)) → is_some (lookup test es) ≡ is_kept s (keys es)
+  is_kept-by [] = refl
+  is_kept-by (e ∷ es) = two_cases (same_key s (said e.0))
+      (λ t. let hit : lookup test (e ∷ es) ≡ Some e.1 = rw (same e.0 ∙ t, lookup) in
+      ap is_some hit ∙ sym (is_kept-hit s (said e.0) (keys es) t))
+      (λ t. let miss : lookup test (e ∷ es) ≡ lookup test es = rw (same e.0 ∙ t, lookup) in
+      ap is_some miss ∙ is_kept-by es ∙ sym (is_kept-miss s (said e.0) (keys es) t))
 
-  -- the two look-ups find the same
-  found-together : (test : Key → Bool) (es : List (Key × V)) → is_some (lookup test es) ≡ is_some (lookup_entry test es)
-  found-together test [] = refl
-  found-together test (e ∷ es) = two_cases (test e.0)
-      (λ t. let a : lookup test (e ∷ es) ≡ Some e.1 = rw (t, lookup) in let b : lookup_entry test (e ∷ es) ≡ Some e = rw (t, lookup_entry) in ap is_some a ∙ sym (ap is_some b))
-      (λ t. let a : lookup test (e ∷ es) ≡ lookup test es = rw (t, lookup) in let b : lookup_entry test (e ∷ es) ≡ lookup_entry test es = rw (t, lookup_entry) in
-      ap is_some a ∙ found-together test es ∙ sym (ap is_some b))
+  -- the key that is found goes to the front, and none is cut off
+  moved-to-front : (tells : (e : Key) → test e ≡ true → s ≡ said e) (cap : ℕ) (es : List (Key × V)) (e : Key × V) →
+      0 < cap → length es ≤ cap → lookup_entry test es ≡ Some e →
+      said e.0 ∷ keys (remove_entry test es) ≡ used cap s (keys es)
+  moved-to-front tells cap es e some fits h =
+      let hit = Contains-lookup_entry test es e h in
+      let shorter = length-without es e h in
+      cons_eq (sym (tells e.0 hit.1)) (keys-remove_entry es ∙ sym (take_all (cap - 1) (without s (keys es)) (omega arith)))
+      ∙ sym (take-cons cap s (without s (keys es)) some)
+
+module _ {V : Type 0} where
+  pub is_kept-lookup : (k : Key) (es : List (Key × V)) → is_some (lookup ((key_eq.eq-value).it k) es) ≡ is_kept (said k) (keys es)
+  is_kept-lookup k es = is_kept-by ((key_eq.eq-value).it k) (said k) (same-is k) es
 
   -- after `put` the keys are those of one more use
   keys-after : (c : LruCache Key V) (k : Key) (v : V) (o : Option (Key × V)) → 0 < c.cap → length c.entries ≤ c.cap →
@@ -113,13 +125,10 @@ module _ {V : Type 0} where
       ≡ used c.cap (said k) (keys c.entries)
   keys-after c k v None some fits h =
       ap (λ l. said k ∷ l) (keys-take (c.cap - 1) c.entries)
-      ∙ ap (λ ks. said k ∷ take (c.cap - 1) ks) (sym (without-none k c.entries h))
+      ∙ ap (λ ks. said k ∷ take (c.cap - 1) ks) (sym (without-none ((key_eq.eq-value).it k) (said k) (same-is k) c.entries h))
       ∙ sym (take-cons c.cap (said k) (without (said k) (keys c.entries)) some)
   keys-after c k v (Some e) some fits h =
-      let hit = Contains-lookup_entry ((key_eq.eq-value).it k) c.entries e h in
-      let shorter = length-without k c.entries e h in
-      cons_eq (sym (eq-said k e.0 hit.1)) (keys-remove_entry k c.entries ∙ sym (take_all (c.cap - 1) (without (said k) (keys c.entries)) (omega arith)))
-      ∙ sym (take-cons c.cap (said k) (without (said k) (keys c.entries)) some)
+      moved-to-front ((key_eq.eq-value).it k) (said k) (same-is k) (eq-said k) c.cap c.entries e some fits h
 
   pub keys-put : (c : LruCache Key V) (k : Key) (v : V) → 0 < c.cap → length c.entries ≤ c.cap →
       keys (put_entries (key_eq.eq-value).it c k v) ≡ used c.cap (said k) (keys c.entries)
@@ -131,10 +140,7 @@ module _ {V : Type 0} where
       keys (option_map_or (λ e. e ∷ remove_entry ((key_eq.eq-value).it k) c.entries) o c.entries) ≡ used c.cap (said k) (keys c.entries)
   promoted-after c k None some fits h there = cc
   promoted-after c k (Some e) some fits h there =
-      let hit = Contains-lookup_entry ((key_eq.eq-value).it k) c.entries e h in
-      let shorter = length-without k c.entries e h in
-      cons_eq (sym (eq-said k e.0 hit.1)) (keys-remove_entry k c.entries ∙ sym (take_all (c.cap - 1) (without (said k) (keys c.entries)) (omega arith)))
-      ∙ sym (take-cons c.cap (said k) (without (said k) (keys c.entries)) some)
+      moved-to-front ((key_eq.eq-value).it k) (said k) (same-is k) (eq-said k) c.cap c.entries e some fits h
 
   pub keys-promoted : (c : LruCache Key V) (k : Key) → 0 < c.cap → length c.entries ≤ c.cap →
       is_some (lookup ((key_eq.eq-value).it k) c.entries) ≡ true →

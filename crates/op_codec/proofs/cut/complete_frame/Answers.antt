@@ -1,5 +1,6 @@
 -- The goals of `complete_frame` that are answered by hand.
-use Rattle.std.proofs.Common.{List, ℕ, sym, ap, subst, ◌∙◌, arith}
+use Rattle.std.proofs.Common.{List, ℕ, sym, ap, subst, ◌∙◌, arith, take, length}
+use Rattle.std.proofs.Math.Seq.{take-length, take-append_seam}
 use Rattle.op_codec.specs.Spelling.{Frame}
 use Rattle.op_codec.specs.Fault.{cause_at, characters_in}
 use Rattle.op_codec.specs.Feed.{TakesFrame}
@@ -28,3 +29,9 @@ pub returns-in-Err-clause-none : goal.returns-in-Err-clause-none
 returns-in-Err-clause-none c =
     frame_kept c.args.at.now c.args.kept.now.items c.args.piece.now c.append.new.kept.items c.min-taken.result c.in-Err.field-0 (omega (arith, c.min-taken.ensures, c.len.ensures.value)) c.append.ensures
     (sym (ap (cause_at c.args.at.now.version c.args.at.now.tip) c.deref.ensures.0) ∙ c.in-Err.ensures.err)
+
+pub returns-in-Err-clause-ops : goal.returns-in-Err-clause-ops
+returns-in-Err-clause-ops c = take-length c.args.ops.now.items
+
+pub returns-in-Err-clause-grown : goal.returns-in-Err-clause-grown
+returns-in-Err-clause-grown c = ap (take (length c.args.kept.now.items)) c.append.ensures ∙ take-append_seam c.args.kept.now.items _

@@ -1,5 +1,6 @@
 -- The goals of `complete_header` that are answered by hand.
-use Rattle.std.proofs.Common.{sym, ap, ◌∙◌, arith}
+use Rattle.std.proofs.Common.{sym, ap, ◌∙◌, arith, take, length}
+use Rattle.std.proofs.Math.Seq.{take-append_seam}
 use Rattle.op_codec.specs.Fault.{header_cause}
 use Rattle.op_codec.proofs.Cuts.{header_kept, header_completed}
 use Rattle.op_codec.proofs.cut.complete_header.Goals as goal
@@ -12,3 +13,9 @@ returns-in-Err-clause-none c =
 pub returns-in-Ok-clause-right : goal.returns-in-Ok-clause-right
 returns-in-Ok-clause-right c =
     header_completed c.in-Ok.read.0 c.args.kept.now.items c.args.piece.now c.append.new.kept.items c.in-Ok.read.1.now c.min-taken.result c.append.ensures (sym c.deref.ensures.0 ∙ c.in-Ok.ensures.ok)
+
+pub returns-in-Err-clause-grown : goal.returns-in-Err-clause-grown
+returns-in-Err-clause-grown c = ap (take (length c.args.kept.now.items)) c.append.ensures ∙ take-append_seam c.args.kept.now.items _
+
+pub returns-in-Ok-clause-grown : goal.returns-in-Ok-clause-grown
+returns-in-Ok-clause-grown c = ap (take (length c.args.kept.now.items)) c.append.ensures ∙ take-append_seam c.args.kept.now.items _

@@ -3,7 +3,7 @@ use Rattle.std.proofs.Common.{List, Some, ◌++◌, subst}
 use Rattle.bg_types.specs.declared.op.OpView.{OpView}
 use Rattle.op_codec.specs.Spelling.{spelling_in}
 use Rattle.op_codec.specs.Feed.{AreTaken, added}
-use Rattle.op_codec.proofs.Feeds.{frame_left, frame_goes_on, taken_well, taken_behind, if_none, if_some}
+use Rattle.op_codec.proofs.Feeds.{frame_left, frame_goes_on, taken_well, taken_behind, grown_twice, if_none, if_some}
 use Rattle.op_codec.proofs.Streams.{joined-same, joined-twice, taken_after}
 use Rattle.op_codec.proofs.stream.read_behind_frame.Goals as goal
 
@@ -32,3 +32,12 @@ returns-clause-taken c =
     let taken = c.in_ok-read_frames.ensures.taken mid (taken_well at next before mid (old ++ piece) rest took ok) (taken_behind at next before mid (old ++ piece) rest took is) in
     subst (λ (xs : List OpView). AreTaken ((spelling_in at.version before ++ old) ++ piece) (Some c.read_frames.new.at) xs kept) (joined-twice before ops pushed grown c.complete_frame.ensures.ops c.read_frames.ensures.ops)
     (frame_goes_on at next c.read_frames.new.at before mid (mid ++ added pushed grown) old piece rest kept is took taken))
+
+pub returns-in_default-clause-ops : goal.returns-in_default-clause-ops
+returns-in_default-clause-ops c = c.complete_frame.ensures.ops
+
+pub returns-in_err-read_frames-clause-ops : goal.returns-in_err-read_frames-clause-ops
+returns-in_err-read_frames-clause-ops c = grown_twice c.args.ops.now.items c.complete_frame.new.ops.items c.read_frames.new.ops.items c.complete_frame.ensures.ops c.read_frames.ensures.ops
+
+pub returns-clause-ops : goal.returns-clause-ops
+returns-clause-ops c = grown_twice c.args.ops.now.items c.complete_frame.new.ops.items c.read_frames.new.ops.items c.complete_frame.ensures.ops c.read_frames.ensures.ops
