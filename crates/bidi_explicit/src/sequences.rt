@@ -132,7 +132,7 @@ fn linked_places(
         if let Some(place) = next {
             follows[place] = true;
         }
-        nexts.push(next)?;
+        nexts.push_reserved(next);
     }
     Ok(Links { nexts, follows })
 }

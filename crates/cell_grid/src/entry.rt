@@ -40,12 +40,12 @@ pub(crate) fn entries_from(
     let mut column = start;
     for number in order {
         let k = *number as usize;
-        entries.push(Entry {
+        entries.push_reserved(Entry {
             span: spans[k],
             column,
             level: levels[k],
             columns: columns[k],
-        })?;
+        });
         column += u16::from(columns[k]);
     }
     Ok(entries)

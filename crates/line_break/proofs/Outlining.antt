@@ -23,6 +23,18 @@ pub record IsOutlinedTo (text : List ℕ) (left : List (List ℕ)) (done : List 
   pub all_spans : done ++ spans_from byte place left ≡ spans text
   pub all_sizes : sizes ++ map length (map code_points left) ≡ cluster_sizes text
 
+-- a list of this many entries up to a place, with room for one at each of `count` places
+pub record HasRoom (count place entries capacity : ℕ) : Type 0 where
+  pub filled : entries ≤ place
+  pub room : count ≤ capacity
+
+-- one more entry, for a cluster of one code point or more
+pub HasRoom-on : (count place entries capacity size more same : ℕ) → HasRoom count place entries capacity → 0 < size → more ≡ entries + 1 → same ≡ capacity → HasRoom count (place + size) more same
+HasRoom-on count place entries capacity size more same h some one e =
+    let filled = h.filled in
+    let room = h.room in
+    record { filled = omega arith; room = omega arith }
+
 -- a text has no more code points than bytes
 pub points-fit : (c : List ℕ) → IsUtf8 c → length (code_points c) ≤ length c
 points-fit c u = let a = length-le-encodes (code_points c) in let b = ap length (encodes-chars c u) in omega arith

@@ -54,13 +54,13 @@ pub fn outline_of(alloc: Global, tables: &Tables, para: &Para) -> Result<Outline
             first_place: place,
             end_place: place + measure.size,
         };
-        outline.spans.push(span)?;
-        outline.sizes.push(measure.size)?;
-        outline.clusters.push(Cluster {
+        outline.spans.push_reserved(span);
+        outline.sizes.push_reserved(measure.size);
+        outline.clusters.push_reserved(Cluster {
             columns: measure.columns,
             is_space: measure.is_space,
             after: statuses[span.end_place as usize - 1],
-        })?;
+        });
         byte = span.end_byte;
         place = span.end_place;
     }

@@ -45,6 +45,7 @@ pub fn opportunities(alloc: Global, tables: &Tables, para: &Para) -> Result<Vec<
     ensures { IfOk result (λ v. v.items ≡ breaks tables.now para.now.text) }
 {
     let text = para.text();
+    // No text has more characters than bytes.
     let mut statuses = Vec::with_capacity(alloc, text.len())?;
     let mut chars = text.chars();
     let Some(first) = chars.next() else {
@@ -53,9 +54,9 @@ pub fn opportunities(alloc: Global, tables: &Tables, para: &Para) -> Result<Vec<
     let mut before = Before::nothing().next(Item::point(tables, first));
     while let Some(c) = chars.next() {
         let point = Item::point(tables, c);
-        statuses.push(status(before, After::of(point)))?;
+        statuses.push_reserved(status(before, After::of(point)));
         before = before.next(point);
     }
-    statuses.push(Break::Must)?;
+    statuses.push_reserved(Break::Must);
     Ok(statuses)
 }

@@ -67,7 +67,7 @@ pub(crate) fn walked(alloc: Global, links: &[u32], first: u32) -> Result<Vec<u32
     let mut order = Vec::with_capacity(alloc, links.len())?;
     let mut at = first;
     for _ in 0..links.len() {
-        order.push(at)?;
+        order.push_reserved(at);
         at = links[at as usize];
     }
     Ok(order)

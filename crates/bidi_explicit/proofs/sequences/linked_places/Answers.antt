@@ -8,8 +8,13 @@ use Rattle.bidi_explicit.proofs.sequences.linked_places.Goals.{in-Some, in_defau
 
 pub loop-place-init : goal.loop-place-init
 loop-place-init c =
-    rw c.in_ok-nexts.ensures.items
-    (IsLinkedTo-start c.args.controls.now c.args.places.now c.in_ok-follows.follows.items (c.in_ok-follows.ensures.items_if_clones_equal (λ y h. h)))
+    record {
+      linked =
+          rw c.in_ok-nexts.ensures.items
+          (IsLinkedTo-start c.args.controls.now c.args.places.now c.in_ok-follows.follows.items (c.in_ok-follows.ensures.items_if_clones_equal (λ y h. h)));
+      count = c.in_ok-nexts.ensures.len;
+      room = c.in_ok-nexts.ensures.capacity;
+    }
 
 pub next-next-requires-clause-pdi : goal.next-next-requires-clause-pdi
 next-next-requires-clause-pdi c =
@@ -24,26 +29,31 @@ loop-place-preserved c =
       | in-Some w ↦ rw (w.follows-is, w.in-Some.is) refl
       | in_default w ↦ rw (w.follows-is, w.in_default.is) refl
     ] in
-    let put : c.push.new.self.items ≡ c.loop-place.nexts.items ++ c.next-next.result ∷ [] =
-    c.in_ok-push.ensures.items ∙ ap (λ o. c.loop-place.nexts.items ++ o ∷ [])
+    let put : c.push_reserved.new.self.items ≡ c.loop-place.nexts.items ++ c.next-next.result ∷ [] =
+    c.push_reserved.ensures.items ∙ ap (λ o. c.loop-place.nexts.items ++ o ∷ [])
     (elim c.match-next.branch [ in-Some w ↦ w.next-is ∙ sym w.in-Some.is | in_default w ↦ w.next-is ]) in
-    rw (put, marks, add-one)
-    (IsLinkedTo-on c.args.controls.now c.args.places.now c.loop-place.place c.loop-place.nexts.items c.loop-place.follows.items c.loop-place.invariant
-    c.next-next.result is c.next-next.ensures.inside)
+    record {
+      linked =
+          rw (put, marks, add-one)
+          (IsLinkedTo-on c.args.controls.now c.args.places.now c.loop-place.place c.loop-place.nexts.items c.loop-place.follows.items c.loop-place.invariant.linked
+          c.next-next.result is c.next-next.ensures.inside);
+      count = let one = c.push_reserved.ensures.len in let so_far = c.loop-place.invariant.count in omega arith;
+      room = let same = c.push_reserved.ensures.capacity in let room = c.loop-place.invariant.room in omega arith;
+    }
 
 pub returns-clause-nexts : goal.returns-clause-nexts
 returns-clause-nexts c =
     let at : c.loop-place.place ≡ length c.args.places.now = (let e = c.requires.long in omega arith) in
-    (subst (λ n. IsLinkedTo c.args.controls.now c.args.places.now n c.loop-place.nexts.items c.loop-place.follows.items) at c.loop-place.invariant).nexts_are
+    (subst (λ n. IsLinkedTo c.args.controls.now c.args.places.now n c.loop-place.nexts.items c.loop-place.follows.items) at c.loop-place.invariant.linked).nexts_are
 
 pub returns-clause-follows : goal.returns-clause-follows
 returns-clause-follows c =
     let at : c.loop-place.place ≡ length c.args.places.now = (let e = c.requires.long in omega arith) in
     IsLinkedTo-follows c.args.controls.now c.args.places.now c.loop-place.nexts.items c.loop-place.follows.items
-    (subst (λ n. IsLinkedTo c.args.controls.now c.args.places.now n c.loop-place.nexts.items c.loop-place.follows.items) at c.loop-place.invariant)
+    (subst (λ n. IsLinkedTo c.args.controls.now c.args.places.now n c.loop-place.nexts.items c.loop-place.follows.items) at c.loop-place.invariant.linked)
 
 pub returns-clause-forward : goal.returns-clause-forward
 returns-clause-forward c =
     let at : c.loop-place.place ≡ length c.args.places.now = (let e = c.requires.long in omega arith) in
     IsLinkedTo-forward c.args.controls.now c.args.places.now c.loop-place.nexts.items c.loop-place.follows.items
-    (subst (λ n. IsLinkedTo c.args.controls.now c.args.places.now n c.loop-place.nexts.items c.loop-place.follows.items) at c.loop-place.invariant)
+    (subst (λ n. IsLinkedTo c.args.controls.now c.args.places.now n c.loop-place.nexts.items c.loop-place.follows.items) at c.loop-place.invariant.linked)

@@ -9,6 +9,8 @@ pub loop-number-init : goal.loop-number-init
 loop-number-init c = record {
   so_far = ap (λ l. l ++ entries_from c.args.spans.now c.args.levels.now c.args.columns.now c.args.start c.args.order.now) c.in_ok-entries.ensures.items;
   room = c.requires.room;
+  count = c.in_ok-entries.ensures.len;
+  capacity = c.in_ok-entries.ensures.capacity;
 }
 
 pub overflow_add-column : goal.overflow_add-column
@@ -28,8 +30,10 @@ loop-number-preserved c =
     record {
       so_far =
           entries_from-on c.args.spans.now c.args.levels.now c.args.columns.now c.args.order.now i k c.loop-number.column c.loop-number-test.true refl
-          c.loop-number.entries.items _ _ _ c.loop-number.invariant.so_far c.in_ok-push.ensures.items (ap (λ n. c.loop-number.column + n) c.from-column.ensures);
+          c.loop-number.entries.items _ _ _ c.loop-number.invariant.so_far c.push_reserved.ensures.items (ap (λ n. c.loop-number.column + n) c.from-column.ensures);
       room = omega arith;
+      count = let n = c.push_reserved.ensures.len in let so_far = c.loop-number.invariant.count in omega arith;
+      capacity = let n = c.push_reserved.ensures.capacity in let all = c.loop-number.invariant.capacity in omega arith;
     }
 
 pub returns : goal.returns

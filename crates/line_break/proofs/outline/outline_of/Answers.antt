@@ -9,7 +9,7 @@ use Rattle.line_break.specs.declared.measure.Measure.{Measure}
 use Rattle.line_break.specs.Statuses.{breaks}
 use Rattle.line_break.proofs.Measuring.{IsMeasuredTo-start, line_clusters-end, IsMeasuredTo-on, measured-is, two-line_clusters}
 use Rattle.line_break.proofs.Measuring.{cluster-some as points-some, cluster-fits as points-within}
-use Rattle.line_break.proofs.Outlining.{IsUtf8-concat, IsOutlinedTo-start, cluster-fits, cluster-points, cluster-end, IsOutlinedTo-at}
+use Rattle.line_break.proofs.Outlining.{IsUtf8-concat, IsOutlinedTo-start, cluster-fits, cluster-points, cluster-end, IsOutlinedTo-at, HasRoom-on}
 use Rattle.line_break.proofs.outline.outline_of.Goals as goal
 
 pub loop-measure-init : goal.loop-measure-init
@@ -24,6 +24,9 @@ loop-measure-init c =
       measured =
           IsMeasuredTo-start c.args.tables.now text _ _ given.clusters given.utf8
           (c.cluster_places.ensures.some text u) (c.cluster_places.ensures.sum text u) c.in_ok-with_capacity-3.ensures.items;
+      spans = let n = c.in_ok-with_capacity.ensures.len in let m = c.in_ok-with_capacity.ensures.capacity in record { filled = omega arith; room = omega arith };
+      sizes = let n = c.in_ok-with_capacity-2.ensures.len in let m = c.in_ok-with_capacity-2.ensures.capacity in record { filled = omega arith; room = omega arith };
+      clusters = let n = c.in_ok-with_capacity-3.ensures.len in let m = c.in_ok-with_capacity-3.ensures.capacity in record { filled = omega arith; room = omega arith };
     }
 
 pub overflow_add-span : goal.overflow_add-span
@@ -35,6 +38,39 @@ overflow_add-span c =
     let size = ap (λ (x : Measure). x.size) c.in-Some.ensures.measured in
     let so_far = m.places in
     let all = c.requires in
+    omega arith
+
+pub push_reserved-requires : goal.push_reserved-requires
+push_reserved-requires c =
+    let t = c.args.tables.now in
+    let p = c.args.para.now.text in
+    let fits = points-within t p _ _ c.loop-measure.place c.loop-measure.invariant.measured c.in-Some.ensures.cluster _ c.in-Some.ensures.taken in
+    let some = points-some t p _ _ c.loop-measure.place c.loop-measure.invariant.measured c.in-Some.ensures.cluster _ c.in-Some.ensures.taken in
+    let filled = c.loop-measure.invariant.spans.filled in
+    let room = c.loop-measure.invariant.spans.room in
+    let all = ap length c.in_ok-statuses.ensures in
+    omega arith
+
+pub push_reserved-requires-in-Some : goal.push_reserved-requires-in-Some
+push_reserved-requires-in-Some c =
+    let t = c.args.tables.now in
+    let p = c.args.para.now.text in
+    let fits = points-within t p _ _ c.loop-measure.place c.loop-measure.invariant.measured c.in-Some.ensures.cluster _ c.in-Some.ensures.taken in
+    let some = points-some t p _ _ c.loop-measure.place c.loop-measure.invariant.measured c.in-Some.ensures.cluster _ c.in-Some.ensures.taken in
+    let filled = c.loop-measure.invariant.sizes.filled in
+    let room = c.loop-measure.invariant.sizes.room in
+    let all = ap length c.in_ok-statuses.ensures in
+    omega arith
+
+pub push_reserved-requires-in-Some-2 : goal.push_reserved-requires-in-Some-2
+push_reserved-requires-in-Some-2 c =
+    let t = c.args.tables.now in
+    let p = c.args.para.now.text in
+    let fits = points-within t p _ _ c.loop-measure.place c.loop-measure.invariant.measured c.in-Some.ensures.cluster _ c.in-Some.ensures.taken in
+    let some = points-some t p _ _ c.loop-measure.place c.loop-measure.invariant.measured c.in-Some.ensures.cluster _ c.in-Some.ensures.taken in
+    let filled = c.loop-measure.invariant.clusters.filled in
+    let room = c.loop-measure.invariant.clusters.room in
+    let all = ap length c.in_ok-statuses.ensures in
     omega arith
 
 pub index-requires : goal.index-requires
@@ -65,12 +101,15 @@ loop-measure-preserved c =
     let is_space = ap (λ (x : Measure). x.is_space) c.in-Some.ensures.measured in
     let end = cluster-end _ _ _ _ _ _ o cluster _ at _ c.bytes_left.result (ap length c.text-length.ensures) c.bytes_left.ensures in
     record {
-      outlined = IsOutlinedTo-at _ _ _ _ _ _ o cluster _ at _ here.size _ _ _ size end refl c.in_ok-push.ensures.items c.in_ok-push-2.ensures.items;
+      outlined = IsOutlinedTo-at _ _ _ _ _ _ o cluster _ at _ here.size _ _ _ size end refl c.push_reserved.ensures.items c.push_reserved-in-Some.ensures.items;
       measured =
           IsMeasuredTo-on t p _ _ c.loop-measure.place m cluster _ at _ here.size _ size
           (measured-is t (code_points cluster) c.in_ok-statuses.statuses.items (breaks t p) c.loop-measure.place here.size
           here.columns here.is_space c.index.result.now c.in_ok-statuses.ensures size some fits columns is_space c.index.ensures)
-          c.in_ok-push-3.ensures.items;
+          c.push_reserved-in-Some-2.ensures.items;
+      spans = HasRoom-on _ _ _ _ here.size _ _ c.loop-measure.invariant.spans (omega arith) c.push_reserved.ensures.len c.push_reserved.ensures.capacity;
+      sizes = HasRoom-on _ _ _ _ here.size _ _ c.loop-measure.invariant.sizes (omega arith) c.push_reserved-in-Some.ensures.len c.push_reserved-in-Some.ensures.capacity;
+      clusters = HasRoom-on _ _ _ _ here.size _ _ c.loop-measure.invariant.clusters (omega arith) c.push_reserved-in-Some-2.ensures.len c.push_reserved-in-Some-2.ensures.capacity;
     }
 
 pub returns-clause-columns : goal.returns-clause-columns

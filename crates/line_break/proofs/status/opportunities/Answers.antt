@@ -1,28 +1,46 @@
 -- Each step over a character adds the status before it.
-use Rattle.std.proofs.Common.{[], ◌∷◌, ◌++◌, length, sym, ap, subst, ◌∙◌}
+use Rattle.std.proofs.Common.{[], ◌∷◌, ◌++◌, length, sym, ap, subst, ◌∙◌, arith}
 use Rattle.std.specs.Str.{IsUtf8}
 use Rattle.line_break.specs.declared.status.Break.TheVariants.{May}
 use Rattle.line_break.specs.Context.{before, after}
 use Rattle.line_break.specs.Rules.{first_rule, rules}
-use Rattle.line_break.proofs.Marking.{breaks-nil, IsMarkedTo-start, IsMarkedTo-on, breaks-end}
+use Rattle.line_break.proofs.Marking.{past_char-shorter, breaks-nil, IsMarkedTo-start, IsMarkedTo-on, breaks-end}
 use Rattle.line_break.proofs.status.opportunities.Goals as goal
 
 pub loop-c-init : goal.loop-c-init
 loop-c-init c =
-    IsMarkedTo-start c.args.tables.now c.args.para.now.text c.in-Some.first _ _ _
-    (subst IsUtf8 c.text-text.ensures c.text-text.utf8)
-    (sym c.text-text.ensures ∙ sym c.chars-chars.ensures.rest ∙ c.in-Some.ensures.steps.0)
-    c.in_ok-statuses.ensures.items
-    (c.next-before.ensures [] c.nothing.ensures ∙ ap (λ p. before (p ∷ [])) c.point.ensures)
+    let start = sym c.chars-chars.ensures.rest ∙ c.in-Some.ensures.steps.0 in
+    record {
+      marked =
+          IsMarkedTo-start c.args.tables.now c.args.para.now.text c.in-Some.first _ _ _
+          (subst IsUtf8 c.text-text.ensures c.text-text.utf8)
+          (sym c.text-text.ensures ∙ start)
+          c.in_ok-statuses.ensures.items
+          (c.next-before.ensures [] c.nothing.ensures ∙ ap (λ p. before (p ∷ [])) c.point.ensures);
+      room =
+          let shorter = past_char-shorter _ _ c.in-Some.first start in
+          let none = c.in_ok-statuses.ensures.len in
+          let all = c.in_ok-statuses.ensures.capacity in
+          omega arith;
+    }
 
 pub loop-c-preserved : goal.loop-c-preserved
 loop-c-preserved c =
-    IsMarkedTo-on c.args.tables.now c.args.para.now.text _ _ c.loop-c.before c.loop-c.invariant c.in-Some-next.c _ c.status.result _ _
-    c.in-Some-next.ensures.steps.0
-    (c.status.ensures ∙ ap (first_rule rules May c.loop-c.before) (c.of.ensures ∙ ap after c.point-point.ensures))
-    c.in_ok-push.ensures.items
-    (c.next-before-in-Some-next.ensures c.loop-c.invariant.front c.loop-c.invariant.before_is
-    ∙ ap (λ p. before (c.loop-c.invariant.front ++ p ∷ [])) c.point-point.ensures)
+    let m = c.loop-c.invariant.marked in
+    record {
+      marked =
+          IsMarkedTo-on c.args.tables.now c.args.para.now.text _ _ c.loop-c.before m c.in-Some-next.c _ c.status.result _ _
+          c.in-Some-next.ensures.steps.0
+          (c.status.ensures ∙ ap (first_rule rules May c.loop-c.before) (c.of.ensures ∙ ap after c.point-point.ensures))
+          c.push_reserved.ensures.items
+          (c.next-before-in-Some-next.ensures m.front m.before_is ∙ ap (λ p. before (m.front ++ p ∷ [])) c.point-point.ensures);
+      room =
+          let shorter = past_char-shorter _ _ c.in-Some-next.c c.in-Some-next.ensures.steps.0 in
+          let one = c.push_reserved.ensures.len in
+          let same = c.push_reserved.ensures.capacity in
+          let room = c.loop-c.invariant.room in
+          omega arith;
+    }
 
 pub returns-in_default : goal.returns-in_default
 returns-in_default c =
@@ -32,4 +50,4 @@ returns-in_default c =
 
 pub returns : goal.returns
 returns c =
-    breaks-end c.args.tables.now c.args.para.now.text _ _ c.loop-c.before c.loop-c.invariant _ c.in_default-next.ensures.steps.0.0 c.in_ok-push-2.ensures.items
+    breaks-end c.args.tables.now c.args.para.now.text _ _ c.loop-c.before c.loop-c.invariant.marked _ c.in_default-next.ensures.steps.0.0 c.push_reserved-2.ensures.items

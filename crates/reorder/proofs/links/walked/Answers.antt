@@ -1,5 +1,5 @@
 -- The goals of `walked` that are answered by hand.
-use Rattle.std.proofs.Common.{◌<◌, ◌++◌, ◌+◌, ◌-◌, ◌∷◌, [], ap, sym, ◌∙◌, subst, append_assoc, length, get_or, All}
+use Rattle.std.proofs.Common.{arith, ◌<◌, ◌++◌, ◌+◌, ◌-◌, ◌∷◌, [], ap, sym, ◌∙◌, subst, append_assoc, length, get_or, All}
 use Rattle.std.proofs.lemmas.List.Elements.{All-head, All-tail}
 use Rattle.reorder.specs.Links.{walk}
 use Rattle.reorder.proofs.Linked.{walk-more}
@@ -17,9 +17,11 @@ loop-preserved c =
     let rest = walk (length links - (c.loop.counter + 1)) links (get_or links c.loop.at 0) in
     let more = walk-more (length links) c.loop.counter links c.loop.at c.loop-test.true in
     record {
-      walked = ap (λ xs. xs ++ rest) c.in_ok-push.ensures.items
+      walked = ap (λ xs. xs ++ rest) c.push_reserved.ensures.items
           ∙ append_assoc c.loop.order.items (c.loop.at ∷ []) rest
           ∙ ap (λ xs. c.loop.order.items ++ xs) (sym more) ∙ c.loop.invariant.walked;
       within = All-tail (λ at. at < length links) c.loop.at rest
           (subst (All (λ at. at < length links)) more c.loop.invariant.within);
+      count = let n = c.push_reserved.ensures.len in let so_far = c.loop.invariant.count in omega arith;
+      room = let n = c.push_reserved.ensures.capacity in let room = c.loop.invariant.room in omega arith;
     }

@@ -1,5 +1,5 @@
 -- What stays true in the loop of `walked`.
-use Rattle.std.proofs.Common.{◌≡◌, ◌<◌, ◌-◌, ◌++◌, length, All}
+use Rattle.std.proofs.Common.{◌≡◌, ◌<◌, ◌≤◌, ◌-◌, ◌++◌, length, vec_len, vec_capacity, All}
 use Rattle.reorder.specs.Links.{walk}
 use Rattle.reorder.proofs.links.walked.Given as goal
 
@@ -7,4 +7,6 @@ abbrev pub invariant-loop : goal.invariant-loop
 invariant-loop l = record {
   walked : l.order.items ++ walk (length l.links - l.counter) l.links l.at ≡ walk (length l.links) l.links l.first;
   within : All (λ at. at < length l.links) (walk (length l.links - l.counter) l.links l.at);
+  count : vec_len l.order ≡ l.counter;
+  room : length l.links ≤ vec_capacity l.order;
 }
