@@ -1,5 +1,5 @@
 -- Between letters the table gives no break.
-use Rattle.std.proofs.Common.{◌≡◌, refl, ap, sym, ◌∙◌, ◌⊎◌, inl, inr, List, [], ◌∷◌, ◌++◌, Bool, true, false, not, ◌&&◌, ◌||◌}
+use Rattle.std.proofs.Common.{◌≡◌, refl, ap, sym, ◌∙◌, List, [], ◌∷◌, ◌++◌, Bool, true, false, not, ◌&&◌, ◌||◌}
 use Rattle.std.specs.List.{list_any}
 use Rattle.bg_types.specs.declared.class.Lb.{Lb}
 use Rattle.bg_types.specs.declared.class.Lb.TheVariants.{Al, Bk, Cb, Cr, Hl, Lf, Nl, Sp, Zw}
@@ -10,6 +10,7 @@ use Rattle.line_break.specs.declared.status.Break.TheVariants.{May, No}
 use Rattle.line_break.specs.declared.context.Before.{Before}
 use Rattle.line_break.specs.declared.context.After.{After}
 use Rattle.line_break.specs.Rules.{Rule, holds, first_rule, rules, point_rules, mandatory, explicit, item_rules, joiners, enclosing, spaces, quotations, contingent, hyphens, late_rules, ideographs, numbers, syllables, letters, between_letters}
+use Rattle.line_break.proofs.Letters.{no-other}
 use Rattle.line_break.proofs.RuleTable.{AllGive, cases, at_rule, past_rule, at_section, past_section, joiners-give, enclosing-give, quotations-give, hyphens-give, ideographs-give, numbers-give, syllables-give}
 
 -- both of two tests
@@ -25,17 +26,6 @@ neither true y h = absurd (cc)
 fails : (x : Bool) → true ≡ not x → x ≡ false
 fails false h = refl
 fails true h = absurd (cc)
-
--- a class of letters
-letter-is : (x : Lb) → one_of (Al ∷ Hl ∷ []) x ≡ true → (x ≡ Al) ⊎ (x ≡ Hl)
-unfolding one_of
-letter-is Al h = inl refl
-letter-is Hl h = inr refl
-letter-is _ h = absurd (cc)
-
--- it is of none of these classes, where they have no letters
-no-other : (classes : List Lb) (x : Lb) → one_of (Al ∷ Hl ∷ []) x ≡ true → one_of classes Al ≡ false → one_of classes Hl ≡ false → one_of classes x ≡ false
-no-other classes x h al hl = elim (letter-is x h) [ inl e ↦ ap (one_of classes) e ∙ al | inr e ↦ ap (one_of classes) e ∙ hl ]
 
 module _ (b : Before) (a : After) where
   -- a rule of no break, whether it holds or not

@@ -1,4 +1,5 @@
 -- The modules of this crate's proofs.
+pub mod Letters
 pub mod Contexts
 pub mod RuleTable
 pub mod BetweenLetters

@@ -1,6 +1,7 @@
 //! What the rules ask of the text before a boundary, and of what follows it.
 
-ghost use Rattle.std.specs.Prelude.{◌≡◌, ◌&&◌, List, [], ◌∷◌, ◌++◌};
+ghost use Rattle.std.specs.Prelude.{◌≡◌, ◌&&◌, true, List, [], ◌∷◌, ◌++◌};
+ghost use Rattle.line_break.specs.Classes.{one_of};
 
 use crate::class::is_one_of;
 use crate::item::{Item, is_mark, takes_marks};
@@ -48,10 +49,28 @@ impl Before {
     pub(crate) fn next(self, point: Item) -> Before
         ensures { (front : List Item) → self ≡ before front → result ≡ before (front ++ point ∷ []) }
     {
-        if self.takes(point) {
+        if is_one_of(point.class, &[Lb::Al, Lb::Hl]) {
+            Before::behind_letter(point)
+        } else if self.takes(point) {
             self.with_mark(point)
         } else {
             self.with_base(point.class, point.as_base())
+        }
+    }
+
+    /// What stands before a boundary after a letter: nothing that counts stands before the letter.
+    #[inline]
+    fn behind_letter(letter: Item) -> Before
+        requires { one_of (Lb.Al ∷ Lb.Hl ∷ []) letter.class ≡ true }
+        ensures { (items : List Item) → result ≡ before_by letter.class (letter ∷ items) }
+    {
+        Before {
+            point: letter.class,
+            item: letter.class,
+            wide: letter.wide,
+            spaced: letter.class,
+            odd_regional: false,
+            hebrew_hyphen: false,
         }
     }
 
