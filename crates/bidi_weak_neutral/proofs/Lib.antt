@@ -12,3 +12,4 @@ pub mod Rows
 pub mod PlainRules
 pub mod PlainParagraph
 pub mod Counting
+pub mod Interface

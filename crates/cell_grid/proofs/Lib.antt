@@ -17,6 +17,7 @@ pub mod LinesOf
 pub mod Counting
 pub mod Slicing
 pub mod Drawn
+pub mod Separating
 pub mod Edges
 pub mod Once
 pub mod Following

@@ -4,6 +4,7 @@ pub mod Spans
 pub mod Hanging
 pub mod Cells
 pub mod Rows
+pub mod Separators
 pub mod Shifting
 pub mod Outline
 pub mod Grids

@@ -10,6 +10,7 @@ mod laws_below;
 mod paragraph;
 mod printed;
 mod row;
+mod separator;
 mod span;
 
 pub use cell::{Cell, Cells};

@@ -13,6 +13,7 @@ ghost use Rattle.cell_grid.specs.Outline.{own_columns, StandIn, IsLine};
 
 use crate::laws_below::laws_below;
 use crate::row::Row;
+use crate::separator::{is_separator_alone, separator_rows};
 use crate::span::extent;
 use bg_types::{Base, Bidi, Memory};
 use bidi_explicit::paragraph_level;
@@ -124,6 +125,9 @@ pub fn rows(
     laws_below();
     let text = para.text();
     let para_level = paragraph_level(tables, para, base);
+    if is_separator_alone(tables, text) {
+        return separator_rows(alloc, width, para_level, text);
+    }
     let points = code_points_of(alloc, text)?;
     let classes = tables.bidi_of_each(alloc, &points)?;
     let levels = levels_at(alloc, tables, para_level, &points, &classes)?;

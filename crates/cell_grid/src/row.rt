@@ -6,6 +6,7 @@ ghost use Rattle.cell_grid.specs.declared.cell.Cell.TheVariants.{Blank};
 ghost use Rattle.cell_grid.specs.Cells.{entries_cells};
 ghost use Rattle.cell_grid.specs.Hanging.{hung};
 ghost use Rattle.cell_grid.specs.Rows.{row_with, shifted, shifted_entry};
+ghost use Rattle.cell_grid.specs.Separators.{separator_row};
 ghost use Rattle.cell_grid.specs.Shifting.{MayShift, MayShiftRow};
 
 use crate::cell::{Cell, Cells, cell_in};
@@ -100,6 +101,39 @@ impl Row {
         }
         let columns = hung(alloc, width, own)?;
         Row::with(alloc, width, para_level, spans, levels, &columns)
+    }
+
+    /// The row of a separator alone, of this many bytes, counted from its paragraph's start.
+    pub(crate) fn of_separator(
+        alloc: Global,
+        width: u16,
+        para_level: u8,
+        bytes: u32,
+    ) -> Result<Row, Memory>
+        requires { width ≤ 500 }
+        ensures { IfOk result (λ row. row ≡ separator_row width para_level bytes) }
+    {
+        let start = start_column(width, para_level, &[0]);
+        let span = Span {
+            first_byte: 0,
+            end_byte: bytes,
+            first_place: 0,
+            end_place: 1,
+        };
+        let entry = Entry {
+            span,
+            column: start,
+            level: para_level,
+            columns: 0,
+        };
+        Ok(Row {
+            width,
+            start,
+            first_place: 0,
+            last_place: 1,
+            para_level,
+            entries: Vec::from_slice(alloc, &[entry])?,
+        })
     }
 
     /// A copy that stands this many bytes and places later. No number of it may pass 4,000,000.

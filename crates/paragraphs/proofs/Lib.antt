@@ -8,3 +8,4 @@ pub mod Splitting
 pub mod Following
 pub mod Plain
 pub mod Afresh
+pub mod Points

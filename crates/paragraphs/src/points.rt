@@ -10,5 +10,11 @@ use std::alloc::Global;
 pub fn code_points_of(alloc: Global, text: &str) -> Result<Vec<char>, Memory>
     ensures { IfOk result (λ points. points.items ≡ code_points text.now) }
 {
-    Ok(text.chars().collect(alloc)?)
+    // No text has more characters than bytes.
+    let mut points = Vec::with_capacity(alloc, text.len())?;
+    let mut chars = text.chars();
+    while let Some(c) = chars.next() {
+        points.push_reserved(c);
+    }
+    Ok(points)
 }

@@ -17,11 +17,13 @@ use Rattle.line_break.specs.LineClusters.{line_clusters}
 use Rattle.line_break.specs.Lines.{lines, lines_of}
 use Rattle.cell_grid.specs.Rows.{DrawnRow, row_of}
 use Rattle.cell_grid.specs.Outline.{own_columns, IsLine}
+use Rattle.cell_grid.specs.Separators.{IsSeparatorAlone, separator_row}
 use Rattle.cell_grid.specs.Shifting.{MayShiftRow}
 use Rattle.cell_grid.proofs.Steps.{take-next, take-whole}
-use Rattle.cell_grid.proofs.Counting.{few-clusters}
+use Rattle.cell_grid.proofs.Counting.{if_ok, few-clusters}
 use Rattle.cell_grid.proofs.LinesOf.{IsLine-lines}
 use Rattle.cell_grid.proofs.Drawn.{rows-shift}
+use Rattle.cell_grid.proofs.Separating.{separator-rows}
 use Rattle.cell_grid.proofs.paragraph.rows.Goals as goal
 
 -- the lines of the clusters are those of the text
@@ -41,6 +43,27 @@ levels-are tables text base found points classes level e p cs l =
     e ∙ ap (λ n. resolved_levels tables points (embedding_at n classes)) l
     ∙ ap (λ x. resolved_levels tables points (embedding_at (paragraph_level base (classes_of tables text)) x)) (cs ∙ ap (map (bidi_of tables)) p)
     ∙ ap (λ x. resolved_levels tables x (embedding_at (paragraph_level base (classes_of tables text)) (classes_of tables text))) p
+
+pub returns-then-is_separator_alone-clause-rows : goal.returns-then-is_separator_alone-clause-rows
+returns-then-is_separator_alone-clause-rows c =
+    let t = c.args.tables.now in
+    let text = c.text-text.ensures in
+    let is = subst (IsSeparatorAlone t) text (c.is_separator_alone.ensures c.if-is_separator_alone.true) in
+    if_ok c.separator_rows.result
+    (λ rows made. made
+    ∙ ap (λ n. separator_row c.args.width n (length c.text-text.result.now) ∷ []) c.paragraph_level-para_level.ensures.level
+    ∙ ap (λ (x : List ℕ). separator_row c.args.width (paragraph_level c.args.base (classes_of t c.args.para.now.text)) (length x) ∷ []) text
+    ∙ separator-rows c.laws_below.ensures t c.args.width c.requires.at_least c.args.para.now.text (subst IsUtf8 text c.text-text.utf8) is c.args.base)
+    c.separator_rows.ensures
+
+pub returns-then-is_separator_alone-clause-may_shift : goal.returns-then-is_separator_alone-clause-may_shift
+returns-then-is_separator_alone-clause-may_shift c =
+    if_ok c.separator_rows.result
+    (λ rows made. λ bytes places fit_bytes fit_places.
+    subst (All (MayShiftRow bytes places)) (sym made)
+    (rows-shift c.laws_below.ensures c.args.tables.now c.args.width c.requires.at_least c.args.base c.args.para.now.text (subst IsUtf8 c.text-text.ensures c.text-text.utf8)
+    bytes places fit_bytes fit_places))
+    (returns-then-is_separator_alone-clause-rows c)
 
 pub levels_at-requires-clause-classes : goal.levels_at-requires-clause-classes
 levels_at-requires-clause-classes c =
