@@ -8,4 +8,4 @@ pub mod Splitting
 pub mod Following
 pub mod Plain
 pub mod Afresh
-pub mod Points
+pub mod Gathered

@@ -2,7 +2,7 @@
 use Rattle.std.proofs.Common.{length, sym, ap, subst, arith}
 use Rattle.std.proofs.lemmas.Str.{IsUtf8-past_char}
 use Rattle.std.specs.Str.{IsUtf8}
-use Rattle.paragraphs.proofs.Points.{past_char-shorter, points-start, points-on, points-end}
+use Rattle.paragraphs.proofs.Gathered.{past_char-shorter, points-start, points-on, points-end}
 use Rattle.paragraphs.proofs.points.code_points_of.Goals as goal
 
 pub loop-c-init : goal.loop-c-init
