@@ -21,6 +21,9 @@ use bg_types::{Id, Memory, Op, OpView, Place};
 use pending_ops::Held;
 use rga_tree::Sequence;
 
+/// For how many operations one is paid that isn't paid for, itself included: those that wait come in numbers.
+const AHEAD: usize = 64;
+
 /// How an operation stands to those that are kept.
 #[derive(Clone, Copy, Debug, PartialEq, Eq)]
 pub enum Standing {
@@ -99,7 +102,7 @@ pub fn make_room<S: Sequence>(seq: &mut S, held: &mut Held, n: usize) -> Result<
     held.reserve(n)
 }
 
-/// Takes one from the spare operations. Where there is none, one is paid for now.
+/// Takes one from the spare operations. Where there is none, one is paid for now, and some that may follow.
 #[inline(always)]
 fn pay<S: Sequence>(seq: &mut S, held: &mut Held, spare: &mut usize) -> Result<(), Memory>
     requires paid { IsPaid (S.free seq.old) held.old spare.old }
@@ -121,7 +124,7 @@ fn pay<S: Sequence>(seq: &mut S, held: &mut Held, spare: &mut usize) -> Result<(
     if seq.room() > held.insertion_count() && held.room() > 0 {
         return Ok(());
     }
-    make_room(seq, held, 1)
+    make_room(seq, held, AHEAD)
 }
 
 /// Takes in a new operation. It is paid for before the first change, unless it hides an element.

@@ -1,6 +1,6 @@
 //! Blocks of elements.
 
-ghost use Rattle.std.specs.Prelude.{◌≡◌, ◌+◌, ◌<◌, ◌≤◌, ◌∷◌, length, take, drop, insert, slice_set, slice_index_or, vec_len, vec_capacity, true, [], if◌then◌else◌};
+ghost use Rattle.std.specs.Prelude.{◌≡◌, ◌+◌, ◌<◌, ◌≤◌, ◌∷◌, length, take, drop, insert, slice_set, slice_index_or, nat_lt, vec_len, vec_capacity, true, [], if◌then◌else◌};
 ghost use Rattle.std.specs.Ordering.{is_lt};
 ghost use Rattle.bg_types.specs.Identifier.{id_cmp};
 ghost use Rattle.rga_sequence.specs.Blocks.{seen, is_least, FallsFrom, FallsFrom-prop};
@@ -134,6 +134,7 @@ impl Block {
 /// Puts an element into a row that has memory for it. At the end nothing moves.
 fn insert_element(row: &mut Vec<Element>, at: usize, id: Id, parent: Place, ch: char, hidden: bool)
     requires within { at ≤ length row.old.items }
+    requires few { length row.old.items < 512 }
     requires room { length row.old.items < vec_capacity row.old }
     ensures items { row.new.items ≡ insert row.old.items at
         (record { id = id; parent = parent; ch = ch; hidden = hidden }) }
@@ -148,7 +149,8 @@ fn insert_element(row: &mut Vec<Element>, at: usize, id: Id, parent: Place, ch: 
     if at == row.len() {
         row.push_reserved(element);
     } else {
-        row.insert(at, element).unwrap();
+        // The remainder is the place itself: compiled code sees by it that the next place is greater, and then moves all in one piece.
+        row.insert(at % FULL, element).unwrap();
     }
 }
 
@@ -210,32 +212,31 @@ fn least_of(row: &[Element]) -> Id
 pub fn lesser(a: Id, b: Id) -> Id
     ensures { result ≡ (if is_lt (id_cmp a b) then a else b) }
 {
-    if is_below_at(a, b, b.counter()) { a } else { b }
+    if is_below(a, b) { a } else { b }
 }
 
 /// Whether the first identifier is the lesser.
+#[inline(always)]
 pub fn is_below(a: Id, b: Id) -> bool
     ensures { result ≡ is_lt (id_cmp a b) }
 {
-    a < b
+    is_below_at(a, b, b.counter())
 }
 
-/// The same, where the second one's counter is at hand. In what was typed in order it alone tells.
+/// The same, where the second one's counter is at hand. Mostly the counters alone tell.
 #[inline(always)]
 fn is_below_at(a: Id, b: Id, counter: u32) -> bool
     requires { counter ≡ b.counter }
     ensures { result ≡ is_lt (id_cmp a b) }
 {
-    if a.counter() > counter {
-        return false;
-    }
-    is_below_apart(a, b)
+    let own = a.counter();
+    own < counter || (own == counter && is_site_below(a.site(), b.site()))
 }
 
 /// Not inlined, so that compiled code compares no sites where counters tell.
 #[inline(never)]
-fn is_below_apart(a: Id, b: Id) -> bool
-    ensures { result ≡ is_lt (id_cmp a b) }
+fn is_site_below(a: u16, b: u16) -> bool
+    ensures { result ≡ nat_lt a b }
 {
     a < b
 }

@@ -16,7 +16,7 @@ fn passed_in_front(blocks: &[Block], id: Id) -> usize
     ensures count { result ≡ prefix_len (λ b. is_lt (id_cmp id b.least)) blocks.now }
     ensures within { result ≤ length blocks.now }
 {
-    blocks.iter().take_while(|b| id < b.least).count()
+    blocks.iter().take_while(|b| is_below(id, b.least)).count()
 }
 
 /// The same of a row in which the identifiers fall: all of them, if the last one is, or else by halving.
@@ -29,7 +29,7 @@ fn greater_in_falling(row: &[Element], id: Id) -> usize
     if 0 < count && is_below(id, row[count - 1].id) {
         return count;
     }
-    row.partition_point(|e| id < e.id)
+    row.partition_point(|e| is_below(id, e.id))
 }
 
 /// How many elements of a block from `j` on are greater than the identifier, up to the first that
@@ -67,7 +67,7 @@ fn bounds_in_front(bounds: &[Id], id: Id) -> usize
     ensures count { result ≡ prefix_len (λ m. is_lt (id_cmp id m)) bounds.now }
     ensures within { result ≤ length bounds.now }
 {
-    bounds.iter().take_while(|m| id < **m).count()
+    bounds.iter().take_while(|m| is_below(id, **m)).count()
 }
 
 /// How many bounds from entry g on are greater than the identifier, up to the first that isn't.
