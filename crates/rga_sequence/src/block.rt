@@ -149,7 +149,7 @@ fn insert_element(row: &mut Vec<Element>, at: usize, id: Id, parent: Place, ch: 
     if at == row.len() {
         row.push_reserved(element);
     } else {
-        // The remainder is the place itself: compiled code sees by it that the next place is greater, and then moves all in one piece.
+        // The remainder is the place: by it compiled code sees no wrap behind it, and moves all in one piece.
         row.insert(at % FULL, element).unwrap();
     }
 }
