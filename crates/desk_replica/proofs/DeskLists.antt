@@ -3,11 +3,13 @@ use Rattle.std.proofs.Common.{◌≡◌, ◌<◌, ℕ, List, ◌++◌, length, g
 use Rattle.std.specs.Prelude.{OnOk, IfErr}
 use Rattle.std.proofs.Math.ListN.{set, get_or-append}
 use Rattle.std.proofs.Math.Seq.{map-set_same}
-use Rattle.std.proofs.lemmas.List.{map-set, get_or-map, get_or_default, set-append_left, set-append_right, get_or-append_right}
+use Rattle.std.proofs.lemmas.List.{map-set, get_or-map, get_or_default, set-get_or, set-append_left, set-append_right, get_or-append_right}
 use Rattle.bg_types.specs.OperationSet.{OperationSet, no_operations, union}
 use Rattle.desk_replica.specs.declared.answer.TakeFault.{TakeFault}
 use Rattle.desk_replica.specs.declared.answer.TakeFault.TheVariants.{IdentifierReused, Full, Memory}
+use Rattle.bg_types.specs.declared.op.OpView.{OpView}
 use Rattle.desk_replica.specs.Desk.{Desk, fresh}
+use Rattle.desk_replica.specs.Reply.{IsRefusal, IsRefused}
 use Rattle.desk_replica.specs.Merging.{IsMerge, IsMergeRefusal, IsMergeRefused}
 use Rattle.desk_replica.specs.DeskSets.{sets_of, sites_of, set_at, with_set, desk_in, merges, sets_after_step, IsStepRefused, LeavesMerged, IsMergeAt}
 
@@ -21,6 +23,13 @@ sets_of-set desks i d = map-set (λ (x : Desk). x.set) desks i d
 
 pub sites_of-set : (desks : List Desk) (i : ℕ) (d e : Desk) → d.site ≡ (get_or desks i e).site → sites_of (set desks i d) ≡ sites_of desks
 sites_of-set desks i d e is = map-set_same (λ (x : Desk). x.site) desks i d e is
+
+-- a desk of the list meets itself
+pub met_itself : (desks : List Desk) (desk from : ℕ) (x : Desk) (r : Result ℕ TakeFault) → desk < length desks → desk ≡ from → IsMerge (get_or desks desk x) (get_or desks desk x) (get_or desks desk x) r
+    → IsMergeAt desks desks desk from r
+met_itself desks desk from x r lt same met =
+    subst (λ n. IsMergeAt desks desks desk n r) same
+    (record { after = get_or desks desk x; new_is = sym (set-get_or desks desk x); merge = subst (λ (d : Desk). IsMerge d d (get_or desks desk x) r) (get_or_default desks desk x (fresh 0) lt) met })
 
 -- ---- two desks of the list, borrowed out of its parts
 
@@ -89,3 +98,9 @@ refusal_of s t u Memory h = inl refl
 pub left_refused : (old new : List OperationSet) (desk from : ℕ) (r : Result ℕ TakeFault) → IfErr r (LeavesMerged old new desk from) → IfErr r (λ fault. (fault ≡ Memory) ⊎ IsStepRefused old (merges desk from) fault)
 left_refused old new desk from (Ok n) h = tt
 left_refused old new desk from (Err fault) h = refusal_of (set_at old desk) (set_at old from) h.left fault h.refused
+
+-- the same of an operation that was refused
+pub refusal_or_lack : (s : OperationSet) (op : OpView) (fault : TakeFault) → IsRefused s op fault → (fault ≡ Memory) ⊎ IsRefusal s op fault
+refusal_or_lack s op IdentifierReused h = inr h
+refusal_or_lack s op Full h = inr h
+refusal_or_lack s op Memory h = inl refl

@@ -27,6 +27,7 @@ pub mod InTurn
 pub mod DeskLists
 pub mod Refusals
 pub mod WorldSteps
+pub mod Replies
 pub mod Worlds
 pub mod WorldRuns
 pub mod WorldLaws

@@ -1,6 +1,7 @@
 -- The goals of `merge_at` that are answered by hand.
+use Rattle.std.proofs.Common.{Ok}
 use Rattle.desk_replica.specs.DeskSets.{sets_of}
-use Rattle.desk_replica.proofs.DeskLists.{merged_sets, merged_accepted, merged_left, merged_sites, left_refused}
+use Rattle.desk_replica.proofs.DeskLists.{met_itself, merged_sets, merged_accepted, merged_left, merged_sites, left_refused}
 use Rattle.desk_replica.proofs.taking.merge_at.Goals as goal
 
 pub returns-clause-ok : goal.returns-clause-ok
@@ -19,3 +20,15 @@ returns-clause-fault g c =
 
 pub returns-clause-sites : goal.returns-clause-sites
 returns-clause-sites g c = merged_sites c.args.desks.now c.meet_another.new.desks c.args.desk c.args.from c.requires.desk c.requires.from c.meet_another.result c.meet_another.ensures
+
+pub returns-then-desk-from-clause-ok : goal.returns-then-desk-from-clause-ok
+returns-then-desk-from-clause-ok g c =
+    let desks = c.args.desks.now in
+    merged_sets desks desks c.args.desk c.args.from c.requires.desk c.requires.from (Ok c.meet_itself.result)
+    (met_itself desks c.args.desk c.args.from c.index-desks-desk.result (Ok c.meet_itself.result) c.requires.desk c.if-desk-from.true c.meet_itself.ensures.meets)
+
+pub returns-then-desk-from-clause-accepted : goal.returns-then-desk-from-clause-accepted
+returns-then-desk-from-clause-accepted g c =
+    let desks = c.args.desks.now in
+    merged_accepted desks desks c.args.desk c.args.from c.requires.desk c.requires.from (Ok c.meet_itself.result)
+    (met_itself desks c.args.desk c.args.from c.index-desks-desk.result (Ok c.meet_itself.result) c.requires.desk c.if-desk-from.true c.meet_itself.ensures.meets)
