@@ -1,6 +1,7 @@
 -- The goals of `put_back` that are answered by hand.
-use Rattle.std.proofs.Common.{ℕ, List, ◌+◌, ◌≤◌, ◌∙◌, drop, ap, sym, subst, map}
+use Rattle.std.proofs.Common.{ℕ, List, ◌+◌, ◌<◌, ◌≤◌, ◌∙◌, length, get_or, drop, ap, sym, subst, map}
 use Rattle.bg_types.specs.declared.class.Bidi.{Bidi}
+use Rattle.bidi_explicit.proofs.Chains.{is_kept-within}
 use Rattle.bidi_weak_neutral.specs.Neutral.{n1, n2, implicit_level}
 use Rattle.bidi_weak_neutral.specs.Levels.{levels_at, put_back, types_before, characters_of, types_after_n0}
 use Rattle.bidi_weak_neutral.proofs.PuttingBack.{drop-slice_get, All-slice_get}
@@ -10,6 +11,18 @@ pub put_levels-requires-clause-level : goal.put_levels-requires-clause-level
 put_levels-requires-clause-level c =
     subst (λ n. n ≤ 125) (sym c.level.ensures)
     (All-slice_get (λ s. s.level ≤ 125) c.args.embedded.now.sequences c.loop-number.number c.sequence-sequence.result c.sequence-sequence.ensures.value c.requires.depth)
+
+pub resolve_sequence-requires : goal.resolve_sequence-requires
+resolve_sequence-requires c = λ k d lt.
+    subst (λ n. get_or c.sequence-sequence.result.places k d < n) (sym c.requires.points) (is_kept-within c.args.embedded.now.places (get_or c.sequence-sequence.result.places k d) (c.sequence-sequence.ensures.kept k d lt))
+
+pub put_levels-requires-clause-types : goal.put_levels-requires-clause-types
+put_levels-requires-clause-types c = ap length c.deref.ensures.value ∙ c.in_ok-resolve_sequence.ensures.one_each ∙ ap length (sym c.places.ensures)
+
+pub put_levels-requires-clause-places : goal.put_levels-requires-clause-places
+put_levels-requires-clause-places c =
+    subst (λ (l : List ℕ). (k d : ℕ) → k < length l → get_or l k d < length c.loop-number.levels) (sym c.places.ensures)
+    (λ k d lt. subst (λ n. get_or c.sequence-sequence.result.places k d < n) (sym (c.loop-number.auto.levels ∙ c.requires.levels)) (is_kept-within c.args.embedded.now.places (get_or c.sequence-sequence.result.places k d) (c.sequence-sequence.ensures.kept k d lt)))
 
 pub loop-number-preserved : goal.loop-number-preserved
 loop-number-preserved c =
