@@ -10,6 +10,8 @@ ghost use Rattle.conformance.specs.declared.tally.Choice.{Choice};
 
 use crate::tally::Choice;
 use bg_types::{Lb, Memory};
+use line_break::is_one_of;
+use paragraphs::code_points_of;
 use std::alloc::Global;
 use ucd_emoji::is_extended_pictographic;
 use ucd_files::Tables;
@@ -32,7 +34,7 @@ pub fn choice_of(
     ensures explains { IfOk result (λ found. IfSome found (Explains tables.now (code_points text.now) wanted.now came.now)) }
     ensures none { IfOk result (λ found. found ≡ None → (choice : Choice) → Explains tables.now (code_points text.now) wanted.now came.now choice → ⊥) }
 {
-    let points = points_of(alloc, text)?;
+    let points = code_points_of(alloc, text)?;
     if wanted.len() != points.len() || came.len() != points.len() {
         return Ok(None);
     }
@@ -43,13 +45,6 @@ pub fn choice_of(
         return Ok(Some(Choice::Pictographs));
     }
     Ok(None)
-}
-
-/// The code points of a text.
-fn points_of(alloc: Global, text: &str) -> Result<Vec<char>, Memory>
-    ensures { IfOk result (λ points. points.items ≡ code_points text.now) }
-{
-    Ok(text.chars().collect(alloc)?)
 }
 
 /// Whether a choice makes each difference.
@@ -237,11 +232,4 @@ fn is_pictograph(items: &[Item]) -> bool
         Some(item) => is_extended_pictographic(item.first) && !is_one_of(item.class, &[Lb::Eb]),
         None => false,
     }
-}
-
-/// Whether the class is one of these.
-fn is_one_of(class: Lb, classes: &[Lb]) -> bool
-    ensures { result ≡ one_of classes.now class }
-{
-    classes.contains(&class)
 }

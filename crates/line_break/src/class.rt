@@ -10,7 +10,7 @@ use ucd_files::Tables;
 /// Whether the class is one of these.
 #[inline]
 #[tactic(auto, unfolding(crate::specs::Classes::one_of))]
-pub(crate) fn is_one_of(class: Lb, classes: &[Lb]) -> bool
+pub fn is_one_of(class: Lb, classes: &[Lb]) -> bool
     ensures { result ≡ one_of classes.now class }
 {
     classes.contains(&class)

@@ -13,6 +13,7 @@ mod outline;
 mod rules;
 mod status;
 
+pub use class::is_one_of;
 pub use cluster::{Cluster, is_space};
 pub use line::{Line, lines, lines_of};
 pub use outline::{Outline, outline_of};

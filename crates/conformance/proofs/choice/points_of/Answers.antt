@@ -1,7 +1,0 @@
--- The goals of `points_of` that are answered by hand.
-use Rattle.std.proofs.Common.{rules}
-use Rattle.std.proofs.lemmas.Str.{chars_from_encodes}
-use Rattle.conformance.proofs.choice.points_of.Goals as goal
-
-pub returns : goal.returns
-returns c = search (rules, chars_from_encodes)
