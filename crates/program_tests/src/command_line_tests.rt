@@ -1,22 +1,33 @@
-//! What no clause says: the command line, the lines on standard error, and statuses.
+//! What no clause says of the command line: what it asks for, and which files it names.
 
 use crate::given::Given;
-use bg_types::{Base, Memory, Out, Stops};
+use bg_types::{Base, Memory};
 use cli_support::{Stop, Unread};
 use command_line::*;
-use desk_runs::{Move, RunFault, ScheduleFault, TakeFault, status};
-use op_codec::{Cause, CodecFault, Version};
-use op_listing::LineFault;
+use desk_runs::Move;
+use op_codec::Version;
 use std::alloc::Global;
 use std::test::Fail;
-use ucd_files::{UcdFault, UcdFile};
+
+/// Appends words to a command line.
+fn put_words(alloc: Global, line: &mut Vec<String>, words: &[&str]) -> Result<(), Fail> {
+    for word in words {
+        line.push(String::from_str(alloc, word)?)?;
+    }
+    Ok(())
+}
 
 /// A command line as the program gets it.
 fn line(alloc: Global, words: &[&str]) -> Result<Vec<String>, Fail> {
     let mut line = Vec::new(alloc);
-    for word in words {
-        line.push(String::from_str(alloc, word)?)?;
-    }
+    put_words(alloc, &mut line, words)?;
+    Ok(line)
+}
+
+/// The command line of a subcommand, with these words behind its name.
+fn line_of(alloc: Global, name: &str, words: &[&str]) -> Result<Vec<String>, Fail> {
+    let mut line = line(alloc, &["bidigrid", name])?;
+    put_words(alloc, &mut line, words)?;
     Ok(line)
 }
 
@@ -114,7 +125,7 @@ fn put_files(alloc: Global, words: &mut Vec<String>, count: usize) -> Result<(),
 
 #[test]
 fn wrong_words_are_a_usage_fault_and_help_is_none(rt: HostRuntime) -> Result<(), Fail> {
-    let rows: [(&[&str], &str); 8] = [
+    let rows: [(&[&str], &str); 9] = [
         (&["bidigrid"], "usage"),
         (&["bidigrid", "--version"], "help"),
         (&["bidigrid", "paint"], "usage"),
@@ -122,6 +133,7 @@ fn wrong_words_are_a_usage_fault_and_help_is_none(rt: HostRuntime) -> Result<(),
         (&["bidigrid", "text", "--width", "4", "file"], "usage"),
         (&["bidigrid", "--help"], "help"),
         (&["bidigrid", "text", "--help"], "help"),
+        (&["bidigrid", "replay", "--help"], "help"),
         (&["bidigrid", "help", "text"], "help"),
     ];
     for (words, wanted) in rows {
@@ -142,13 +154,10 @@ fn caret_takes_a_place_and_moves(rt: HostRuntime) -> Result<(), Fail> {
         ("lrud", &[Move::Left, Move::Right, Move::Up, Move::Down]),
     ];
     for (letters, moves) in rows {
-        let words = line(
-            rt.alloc(),
-            &[
-                "bidigrid", "caret", "--ucd", "dir", "--width", "8", "--at", "3", "--moves",
-                letters, "a",
-            ],
-        )?;
+        let options = [
+            "--ucd", "dir", "--width", "8", "--at", "3", "--moves", letters, "a",
+        ];
+        let words = line_of(rt.alloc(), "caret", &options)?;
         let Job::Caret(job) = asked(rt.alloc(), words.as_slice())? else {
             return Err(Fail::from("no caret"));
         };
@@ -157,66 +166,74 @@ fn caret_takes_a_place_and_moves(rt: HostRuntime) -> Result<(), Fail> {
         assert_eq!(rt; job.moves.as_slice(), moves);
         assert_eq!(rt; job.files.as_slice(), ["a"].as_slice());
     }
-    let rows: [(&str, &str, &str); 4] = [
-        ("1", "0", "l"),
-        ("8", "x", "l"),
-        ("8", "4294967296", "l"),
-        ("8", "0", "lx"),
-    ];
-    for (width, place, letters) in rows {
-        let words = line(
-            rt.alloc(),
-            &[
-                "bidigrid", "caret", "--ucd", "d", "--width", width, "--at", place, "--moves",
-                letters, "a",
-            ],
-        )?;
-        let got = outcome(rt.alloc(), words.as_slice())?;
-        assert_eq!(rt; got, Err("usage"), "{width} {place} {letters}");
-    }
     Ok(())
 }
 
 #[test]
 fn replay_takes_a_folder_a_width_and_a_schedule(rt: HostRuntime) -> Result<(), Fail> {
-    let rows: [(&str, &str, bool); 2] = [("2", "s", true), ("500", "", false)];
-    for (width, schedule, has) in rows {
-        let mut words = line(
-            rt.alloc(),
-            &["bidigrid", "replay", "--ucd", "dir", "--width"],
-        )?;
-        words.push(String::from_str(rt.alloc(), width)?)?;
-        if has {
-            words.push(String::from_str(rt.alloc(), "--schedule")?)?;
-            words.push(String::from_str(rt.alloc(), schedule)?)?;
-        }
-        words.push(String::from_str(rt.alloc(), "a")?)?;
-        words.push(String::from_str(rt.alloc(), "b")?)?;
+    let rows: [(&[&str], u16, Option<&str>); 2] = [
+        (&["--width", "2", "--schedule", "s", "a", "b"], 2, Some("s")),
+        (&["--width", "500", "a", "b"], 500, None),
+    ];
+    for (more, width, schedule) in rows {
+        let mut words = line_of(rt.alloc(), "replay", &["--ucd", "dir"])?;
+        put_words(rt.alloc(), &mut words, more)?;
         let Job::Replay(job) = asked(rt.alloc(), words.as_slice())? else {
             return Err(Fail::from("no replay"));
         };
         assert_eq!(rt; job.folder, Some("dir"));
-        assert_eq!(rt; job.schedule.is_some(), has);
-        assert_eq!(rt; job.schedule.unwrap_or(""), schedule);
+        assert_eq!(rt; (job.width, job.schedule), (width, schedule));
         assert_eq!(rt; job.files.as_slice(), ["a", "b"].as_slice());
     }
-    let rows: [(&[&str], &str); 8] = [
-        (&["--ucd", "d", "--width", "1", "a"], "usage"),
-        (&["--ucd", "d", "--width", "501", "a"], "usage"),
-        (&["--ucd", "d", "--width", "65536", "a"], "usage"),
-        (&["--ucd", "d", "--width", "x", "a"], "usage"),
-        (&["--ucd", "d", "a"], "usage"),
-        (&["--ucd", "d", "--width", "4"], "usage"),
-        (&["--ucd", "d", "--width", "4", "--schedule"], "usage"),
-        (&["--help"], "help"),
-    ];
-    for (more, wanted) in rows {
-        let mut words = line(rt.alloc(), &["bidigrid", "replay"])?;
-        for word in more {
-            words.push(String::from_str(rt.alloc(), word)?)?;
-        }
+    Ok(())
+}
+
+/// Options that a subcommand has not, or that say what can't be.
+const WRONG_OPTIONS: [(&str, &[&str]); 24] = [
+    (
+        "caret",
+        &["--ucd=d", "--width=1", "--at=0", "--moves=l", "a"],
+    ),
+    (
+        "caret",
+        &["--ucd=d", "--width=8", "--at=x", "--moves=l", "a"],
+    ),
+    (
+        "caret",
+        &["--ucd=d", "--width=8", "--at=4294967296", "--moves=l", "a"],
+    ),
+    (
+        "caret",
+        &["--ucd=d", "--width=8", "--at=0", "--moves=lx", "a"],
+    ),
+    ("replay", &["--ucd", "d", "--width", "1", "a"]),
+    ("replay", &["--ucd", "d", "--width", "501", "a"]),
+    ("replay", &["--ucd", "d", "--width", "65536", "a"]),
+    ("replay", &["--ucd", "d", "--width", "x", "a"]),
+    ("replay", &["--ucd", "d", "a"]),
+    ("replay", &["--ucd", "d", "--width", "4"]),
+    ("replay", &["--ucd", "d", "--width", "4", "--schedule"]),
+    ("dump", &[]),
+    ("dump", &["a", "b"]),
+    ("migrate", &[]),
+    ("migrate", &["a", "b"]),
+    ("pack", &[]),
+    ("pack", &["a", "b"]),
+    ("type", &["a"]),
+    ("type", &["--site", "0"]),
+    ("type", &["--site", "65536"]),
+    ("type", &["--site", "1", "--at", "-1"]),
+    ("type", &["--site", "1", "--erase", "x"]),
+    ("type", &["--site", "1", "--version"]),
+    ("type", &["--site", "1", "--version", "3"]),
+];
+
+#[test]
+fn wrong_options_are_a_usage_fault(rt: HostRuntime) -> Result<(), Fail> {
+    for (name, options) in WRONG_OPTIONS {
+        let words = line_of(rt.alloc(), name, options)?;
         let got = outcome(rt.alloc(), words.as_slice())?;
-        assert_eq!(rt; got, Err(wanted), "{more:?}");
+        assert_eq!(rt; got, Err("usage"), "{name} {options:?}");
     }
     Ok(())
 }
@@ -247,6 +264,11 @@ fn base_and_width_of_ambiguous_characters_are_chosen(rt: HostRuntime) -> Result<
             assert_eq!(rt; got, Some((base, wide)), "{name} {choices:?}");
         }
     }
+    Ok(())
+}
+
+#[test]
+fn wrong_choices_are_a_usage_fault(rt: HostRuntime) -> Result<(), Fail> {
     let rows: [&[&str]; 6] = [
         &["--base"],
         &["--base", ""],
@@ -292,13 +314,9 @@ fn grid_line(
     options: &[&str],
     choices: &[&str],
 ) -> Result<Vec<String>, Fail> {
-    let mut words = line(alloc, &["bidigrid", name, "file"])?;
-    for word in options {
-        words.push(String::from_str(alloc, word)?)?;
-    }
-    for word in choices {
-        words.push(String::from_str(alloc, word)?)?;
-    }
+    let mut words = line_of(alloc, name, &["file"])?;
+    put_words(alloc, &mut words, options)?;
+    put_words(alloc, &mut words, choices)?;
     Ok(words)
 }
 
@@ -319,14 +337,6 @@ fn dump_migrate_and_pack_take_one_file(rt: HostRuntime) -> Result<(), Fail> {
         return Err(Fail::from("no pack"));
     };
     assert_eq!(rt; listing, "b");
-    for name in ["dump", "migrate", "pack"] {
-        for words in [
-            line(rt.alloc(), &["bidigrid", name])?,
-            line(rt.alloc(), &["bidigrid", name, "a", "b"])?,
-        ] {
-            assert_eq!(rt; outcome(rt.alloc(), words.as_slice())?, Err("usage"));
-        }
-    }
     Ok(())
 }
 
@@ -344,10 +354,7 @@ fn type_takes_a_site_a_change_and_files(rt: HostRuntime) -> Result<(), Fail> {
         ),
     ];
     for (more, place, erased, text, files) in rows {
-        let mut words = line(rt.alloc(), &["bidigrid", "type"])?;
-        for word in more {
-            words.push(String::from_str(rt.alloc(), word)?)?;
-        }
+        let words = line_of(rt.alloc(), "type", more)?;
         let Job::Type(job) = asked(rt.alloc(), words.as_slice())? else {
             return Err(Fail::from("no change"));
         };
@@ -355,34 +362,18 @@ fn type_takes_a_site_a_change_and_files(rt: HostRuntime) -> Result<(), Fail> {
         assert_eq!(rt; job.text, text);
         assert_eq!(rt; job.files.as_slice(), files);
     }
-    let rows: [&[&str]; 7] = [
-        &["bidigrid", "type", "a"],
-        &["bidigrid", "type", "--site", "0"],
-        &["bidigrid", "type", "--site", "65536"],
-        &["bidigrid", "type", "--site", "1", "--at", "-1"],
-        &["bidigrid", "type", "--site", "1", "--erase", "x"],
-        &["bidigrid", "type", "--site", "1", "--version"],
-        &["bidigrid", "type", "--site", "1", "--version", "3"],
-    ];
-    for words in rows {
-        let words = line(rt.alloc(), words)?;
-        assert_eq!(rt; outcome(rt.alloc(), words.as_slice())?, Err("usage"));
-    }
     Ok(())
 }
 
 #[test]
 fn type_writes_version_2_if_it_is_not_told(rt: HostRuntime) -> Result<(), Fail> {
-    for (version, wanted) in [
-        (None, Version::Two),
-        (Some("1"), Version::One),
-        (Some("2"), Version::Two),
-    ] {
-        let mut words = line(rt.alloc(), &["bidigrid", "type", "--site=7"])?;
-        if let Some(version) = version {
-            words.push(String::from_str(rt.alloc(), "--version")?)?;
-            words.push(String::from_str(rt.alloc(), version)?)?;
-        }
+    let rows: [(&[&str], Version); 3] = [
+        (&["--site=7"], Version::Two),
+        (&["--site=7", "--version", "1"], Version::One),
+        (&["--site=7", "--version", "2"], Version::Two),
+    ];
+    for (options, wanted) in rows {
+        let words = line_of(rt.alloc(), "type", options)?;
         let Job::Type(job) = asked(rt.alloc(), words.as_slice())? else {
             return Err(Fail::from("no change"));
         };
@@ -423,106 +414,4 @@ fn files_are_opened_in_order(rt: HostRuntime) -> Result<(), Fail> {
         Ok(_files) => return Err(Fail::from("all were opened")),
     }
     Ok(())
-}
-
-/// The faults with their lines, statuses and numbers.
-fn rows() -> [(RunFault, &'static str, u8, u8); 12] {
-    let truncated = CodecFault::Malformed {
-        frame: 12,
-        cause: Cause::Truncated,
-    };
-    let header = CodecFault::Malformed {
-        frame: 0,
-        cause: Cause::BadMagic,
-    };
-    let table = UcdFault::At {
-        file: UcdFile::Lb,
-        line: 17,
-        cause: ucd_files::Cause::UnknownValue,
-    };
-    [
-        (RunFault::PastEnd(3), "bidigrid: place 3: PastEnd\n", 1, 6),
-        (
-            RunFault::Tables(table),
-            "bidigrid: ucd lb line 17: UnknownValue\n",
-            1,
-            1,
-        ),
-        (
-            RunFault::Schedule(5, ScheduleFault::NoSuchDesk),
-            "bidigrid: schedule line 5: NoSuchDesk\n",
-            1,
-            3,
-        ),
-        (
-            RunFault::File(3, truncated),
-            "bidigrid: file 3 frame 12: Truncated\n",
-            1,
-            2,
-        ),
-        (
-            RunFault::File(64, header),
-            "bidigrid: file 64 frame 0: BadMagic\n",
-            1,
-            2,
-        ),
-        (
-            RunFault::Step(0, 1, TakeFault::IdentifierReused),
-            "bidigrid: step line 0 desk 1: IdentifierReused\n",
-            1,
-            4,
-        ),
-        (
-            RunFault::Step(7, 2, TakeFault::Full),
-            "bidigrid: step line 7 desk 2: Full\n",
-            1,
-            4,
-        ),
-        (
-            RunFault::Listing(12, LineFault::ZeroField),
-            "bidigrid: listing line 12: ZeroField\n",
-            1,
-            5,
-        ),
-        (RunFault::Device, "bidigrid: device\n", 3, 7),
-        (
-            RunFault::ReadFailed(0),
-            "bidigrid: cannot read some/path\n",
-            3,
-            8,
-        ),
-        (RunFault::Memory, "bidigrid: memory\n", 3, 9),
-        (RunFault::TooLong(2), "bidigrid: file 2: TooLong\n", 1, 10),
-    ]
-}
-
-#[test]
-fn each_fault_has_its_line_and_its_status(rt: HostRuntime) -> Result<(), Fail> {
-    for (fault, wanted, ends_with, code) in rows() {
-        let mut written = Vec::new(rt.alloc());
-        let done = report(&fault, "some/path", &mut Out::new(&mut written));
-        assert_eq!(rt; done, Ok(()));
-        assert_eq!(rt; str::from_utf8(written.as_slice()).ok(), Some(wanted));
-        assert_eq!(rt;
-            (status(&fault), fault.code()),
-            (ends_with, code),
-            "{wanted}"
-        );
-    }
-    Ok(())
-}
-
-#[test]
-fn a_line_that_can_not_be_written_is_a_device_fault(rt: HostRuntime) {
-    for (fault, line, _, _) in rows() {
-        for taken in 0..line.len() {
-            let mut written = Vec::new(rt.alloc());
-            let done = {
-                let mut err = Stops::new(Out::new(&mut written), 3, taken);
-                report(&fault, "some/path", &mut err)
-            };
-            assert_eq!(rt; done.is_err(), true, "{line}");
-            assert_eq!(rt; written.as_slice(), &line.as_bytes()[..taken], "{line}");
-        }
-    }
 }

@@ -67,39 +67,42 @@ fn run_from<'a>(
     Ok((answer, bytes))
 }
 
+/// A listing, the site, place and number of erased characters of a change, what is typed, and the listing of what that makes.
+const CHANGES: [(&str, (u16, Option<u32>, u32), &str, &str); 7] = [
+    ("", (1, None, 0), "", ""),
+    (
+        "",
+        (65_535, Some(0), 0),
+        "hi",
+        "i 1.65535 root 0068\ni 2.65535 1.65535 0069\n",
+    ),
+    (ABC, (2, Some(1), 1), "x", "e 2.1\ni 4.2 1.1 0078\n"),
+    (ABC, (2, Some(0), 3), "", "e 1.1\ne 2.1\ne 3.1\n"),
+    (
+        ABC,
+        (1, None, 0),
+        "\u{5D0}\u{628}",
+        "i 4.1 3.1 05D0\ni 5.1 4.1 0628\n",
+    ),
+    // Next to what is erased, and to what waits.
+    (
+        "i 1.1 root 0061\ne 1.1\ni 9.3 8.3 007A\n",
+        (2, Some(0), 0),
+        "q",
+        "i 10.2 root 0071\n",
+    ),
+    (
+        "i 4294967294.1 root 006C\n",
+        (2, None, 0),
+        "x",
+        "i 4294967295.2 4294967294.1 0078\n",
+    ),
+];
+
 #[test]
 fn changes_become_operations(rt: HostRuntime) -> Result<(), Fail> {
-    let rows = [
-        ("", change(1, None, 0), "", ""),
-        (
-            "",
-            change(65_535, Some(0), 0),
-            "hi",
-            "i 1.65535 root 0068\ni 2.65535 1.65535 0069\n",
-        ),
-        (ABC, change(2, Some(1), 1), "x", "e 2.1\ni 4.2 1.1 0078\n"),
-        (ABC, change(2, Some(0), 3), "", "e 1.1\ne 2.1\ne 3.1\n"),
-        (
-            ABC,
-            change(1, None, 0),
-            "\u{5D0}\u{628}",
-            "i 4.1 3.1 05D0\ni 5.1 4.1 0628\n",
-        ),
-        // Next to what is erased, and to what waits.
-        (
-            "i 1.1 root 0061\ne 1.1\ni 9.3 8.3 007A\n",
-            change(2, Some(0), 0),
-            "q",
-            "i 10.2 root 0071\n",
-        ),
-        (
-            "i 4294967294.1 root 006C\n",
-            change(2, None, 0),
-            "x",
-            "i 4294967295.2 4294967294.1 0078\n",
-        ),
-    ];
-    for (listing, change, text, wanted) in rows {
+    for (listing, (site, place, erased), text, wanted) in CHANGES {
+        let change = change(site, place, erased);
         let (answer, bytes) = run(rt.alloc(), listing, &change, text.as_bytes(), Version::One)?;
         let wanted = file_of(rt.alloc(), wanted)?;
         assert_eq!(rt; answer, Ok(()), "{listing} {change:?} {text}");

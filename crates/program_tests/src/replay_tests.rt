@@ -323,45 +323,49 @@ fn refused_steps_and_what_stands_before_them(rt: HostRuntime) -> Result<(), Fail
     Ok(())
 }
 
+/// A data file whose second line is faulty, whichever of the five it stands for.
+const BAD: &[u8] = b"\nzz; 0029; o\n";
+
+/// Data files of which some are faulty, and the first of these.
+const FAULTY_TABLES: [(Ucd<'static>, UcdFile); 5] = [
+    (
+        Ucd {
+            bidi: BAD,
+            ea: BAD,
+            ..SMALL
+        },
+        UcdFile::Bidi,
+    ),
+    (
+        Ucd {
+            brackets: BAD,
+            ..SMALL
+        },
+        UcdFile::Brackets,
+    ),
+    (
+        Ucd {
+            mirror: BAD,
+            ..SMALL
+        },
+        UcdFile::Mirror,
+    ),
+    (
+        Ucd {
+            lb: BAD,
+            ea: BAD,
+            ..SMALL
+        },
+        UcdFile::Lb,
+    ),
+    (Ucd { ea: BAD, ..SMALL }, UcdFile::Ea),
+];
+
 #[test]
 fn the_first_faulty_data_decides(rt: HostRuntime) -> Result<(), Fail> {
-    let bad: &[u8] = b"\nzz; 0029; o\n";
-    let tables = [
-        (
-            Ucd {
-                bidi: bad,
-                ea: bad,
-                ..SMALL
-            },
-            UcdFile::Bidi,
-        ),
-        (
-            Ucd {
-                brackets: bad,
-                ..SMALL
-            },
-            UcdFile::Brackets,
-        ),
-        (
-            Ucd {
-                mirror: bad,
-                ..SMALL
-            },
-            UcdFile::Mirror,
-        ),
-        (
-            Ucd {
-                lb: bad,
-                ea: bad,
-                ..SMALL
-            },
-            UcdFile::Lb,
-        ),
-        (Ucd { ea: bad, ..SMALL }, UcdFile::Ea),
-    ];
     let mut files = two_files(rt.alloc())?;
     files.push(b"BGOQ".to_vec(rt.alloc())?)?;
-    for (ucd, file) in tables {
+    for (ucd, file) in FAULTY_TABLES {
         let (answer, bytes) = run_until(rt.alloc(), 9, &ucd, 4, files.as_slice(), Some(b"jump"))?;
         let cause = Cause::BadCode;
         let fault = UcdFault::At {
