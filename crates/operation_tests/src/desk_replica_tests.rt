@@ -302,13 +302,23 @@ fn merges_as<S: Fresh>(one: &mut Desk<S>, two: &Desk<S>, merged: Merged) -> bool
     answer == merged.answer && one.reads(merged.text) && one.desk.op_count() == merged.kept
 }
 
+/// Whether desk `one`, once it has taken its rows and the other desk has taken the others, merges as is said.
+fn merges_rows<S: Fresh>(
+    one: &mut Desk<S>,
+    two: &mut Desk<S>,
+    mine: &[Row],
+    others: &[Row],
+    merged: Merged,
+) -> bool {
+    let taken = takes_all(one, mine);
+    let others_taken = takes_all(two, others);
+    merges_as(one, two, merged) && taken && others_taken
+}
+
 fn merges<S: Fresh>(alloc: Global, mine: &[Row], others: &[Row], merged: Merged) -> bool {
     let mut one: Desk<S> = desk_of(alloc, 1);
     let mut two: Desk<S> = desk_of(alloc, 2);
-    let taken = takes_all(&mut one, mine);
-    let others_taken = takes_all(&mut two, others);
-    let right = merges_as(&mut one, &two, merged);
-    taken && others_taken && right
+    merges_rows(&mut one, &mut two, mine, others, merged)
 }
 
 /// This many are new, and then this text is read and this many operations are kept.

@@ -42,6 +42,16 @@ fn joined(alloc: Global, front: &[u8], back: &[u8]) -> Result<Vec<u8>, AllocErro
     Ok(file)
 }
 
+/// The fault of a file, if it has one: a front, and then a frame.
+pub(crate) fn fault_behind(
+    alloc: Global,
+    front: &[u8],
+    frame: &[u8],
+) -> Result<Option<CodecFault>, AllocError> {
+    let file = joined(alloc, front, frame)?;
+    Ok(decode_file(alloc, &file).err())
+}
+
 #[test]
 fn two_insertions_both_ways(rt: HostRuntime) -> Result<(), Fail> {
     let ops = two().ok_or("well formed")?;
@@ -220,21 +230,12 @@ const FAULTY_FRAMES: [(&[u8], Cause); 26] = [
 
 #[test]
 fn a_frame_shows_its_first_fault(rt: HostRuntime) -> Result<(), Fail> {
-    for (frame, cause) in FAULTY_FRAMES {
-        let alone = joined(rt.alloc(), &EMPTY, frame)?;
-        let first = CodecFault::Malformed { frame: 1, cause };
-        assert_eq!(rt;
-            decode_file(rt.alloc(), &alone).err(),
-            Some(first),
-            "at {frame:?}"
-        );
-        let after_two = joined(rt.alloc(), &TWO, frame)?;
-        let third = CodecFault::Malformed { frame: 3, cause };
-        assert_eq!(rt;
-            decode_file(rt.alloc(), &after_two).err(),
-            Some(third),
-            "at {frame:?}"
-        );
+    for (bytes, cause) in FAULTY_FRAMES {
+        for (front, frame) in [(EMPTY.as_slice(), 1), (TWO.as_slice(), 3)] {
+            let fault = fault_behind(rt.alloc(), front, bytes)?;
+            let wanted = CodecFault::Malformed { frame, cause };
+            assert_eq!(rt; fault, Some(wanted), "{bytes:?} at {frame}");
+        }
     }
     Ok(())
 }

@@ -1,8 +1,9 @@
 //! Files of version 2 that were worked out by hand.
 
+use crate::op_codec_tests::fault_behind;
 use bg_types::{Id, Op, Place};
 use op_codec::*;
-use std::alloc::{AllocError, Global};
+use std::alloc::Global;
 use std::test::*;
 
 /// (1,1) after the root, `a`; (2,1) after (1,1), `b`: one run.
@@ -17,12 +18,6 @@ const TYPED_AND_ERASED: [u8; 33] = [
     0, 17, 1, 0, 0, 0, 1, 0, 1, 0, 0, 0, 0, 0, 0, 0, 0, 0, 0x61, // frame 1
     0, 7, 2, 0, 0, 0, 1, 0, 1, // frame 2
 ];
-
-fn joined(alloc: Global, front: &[u8], back: &[u8]) -> Result<Vec<u8>, AllocError> {
-    let mut file = Vec::from_slice(alloc, front)?;
-    file.extend_from_slice(back)?;
-    Ok(file)
-}
 
 #[test]
 fn a_run_stands_for_its_insertions(rt: HostRuntime) -> Result<(), Fail> {
@@ -108,13 +103,9 @@ const FAULTY_FRAMES: [(&[u8], Cause); 13] = [
 fn a_frame_of_version_2_shows_its_first_fault(rt: HostRuntime) -> Result<(), Fail> {
     for (bytes, cause) in FAULTY_FRAMES {
         for (front, frame) in [(&RUN[..5], 1), (TYPED_AND_ERASED.as_slice(), 3)] {
-            let file = joined(rt.alloc(), front, bytes)?;
-            let fault = CodecFault::Malformed { frame, cause };
-            assert_eq!(rt;
-                decode_file(rt.alloc(), &file).err(),
-                Some(fault),
-                "{bytes:?} at {frame}"
-            );
+            let fault = fault_behind(rt.alloc(), front, bytes)?;
+            let wanted = CodecFault::Malformed { frame, cause };
+            assert_eq!(rt; fault, Some(wanted), "{bytes:?} at {frame}");
         }
     }
     Ok(())
@@ -150,12 +141,12 @@ const BEHIND_A_RUN: [(&[u8], bool); 5] = [
 #[test]
 fn what_could_be_one_frame_is_not_joined(rt: HostRuntime) -> Result<(), Fail> {
     for (bytes, is_joined) in BEHIND_A_RUN {
-        let file = joined(rt.alloc(), &RUN, bytes)?;
-        let fault = is_joined.then_some(CodecFault::Malformed {
+        let fault = fault_behind(rt.alloc(), &RUN, bytes)?;
+        let wanted = is_joined.then_some(CodecFault::Malformed {
             frame: 2,
             cause: Cause::NotJoined,
         });
-        assert_eq!(rt; decode_file(rt.alloc(), &file).err(), fault, "{bytes:?}");
+        assert_eq!(rt; fault, wanted, "{bytes:?}");
     }
     Ok(())
 }
