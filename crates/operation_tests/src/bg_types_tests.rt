@@ -4,6 +4,7 @@ ghost use Rattle.std.specs.Prelude.{◌<◌};
 
 use bg_types::*;
 use std::alloc::Global;
+use std::cmp::Ordering;
 use std::io;
 use std::io::{ErrorKind, Write};
 use std::test::Fail;
@@ -31,8 +32,15 @@ fn identifiers_have_no_zero(rt: HostRuntime) {
     }
 }
 
+/// How two identifiers compare, and whether they are equal.
+fn compared(id: (u32, u16), other: (u32, u16)) -> Option<(Ordering, bool)> {
+    let id = Id::new(id.0, id.1)?;
+    let other = Id::new(other.0, other.1)?;
+    Some((id.cmp(&other), id == other))
+}
+
 #[test]
-fn identifiers_are_ordered_by_counter_and_then_by_site(rt: HostRuntime) -> Result<(), Fail> {
+fn identifiers_are_ordered_by_counter_and_then_by_site(rt: HostRuntime) {
     let rising = [
         (1, 1),
         (1, 2),
@@ -47,19 +55,31 @@ fn identifiers_are_ordered_by_counter_and_then_by_site(rt: HostRuntime) -> Resul
         (4_294_967_295, 1),
         (4_294_967_295, 65_535),
     ];
-    for (i, (counter, site)) in rising.iter().enumerate() {
-        for (j, (other_counter, other_site)) in rising.iter().enumerate() {
-            let id = Id::new(*counter, *site).ok_or("a zero")?;
-            let other = Id::new(*other_counter, *other_site).ok_or("a zero")?;
-            assert_eq!(rt; id.cmp(&other), i.cmp(&j), "rows {i} and {j}");
-            assert_eq!(rt; id == other, i == j, "rows {i} and {j}");
+    for i in 0..rising.len() {
+        for j in 0..rising.len() {
+            let wanted = Some((i.cmp(&j), i == j));
+            assert_eq!(rt; compared(rising[i], rising[j]), wanted, "rows {i} and {j}");
         }
     }
-    Ok(())
+}
+
+/// Whether there is an insertion of this identifier after this parent, or the root, which then is seen as its parts.
+fn is_insertion(id: (u32, u16), parent: Option<(u32, u16)>) -> Option<bool> {
+    let id = Id::new(id.0, id.1)?;
+    let parent = match parent {
+        None => Place::Root,
+        Some((counter, site)) => Place::After(Id::new(counter, site)?),
+    };
+    let ch = '\u{5D0}';
+    match Op::insert(id, parent, ch) {
+        None => Some(false),
+        Some(op) if op.view() == (OpView::Insert { id, parent, ch }) => Some(true),
+        Some(_) => None,
+    }
 }
 
 #[test]
-fn a_parent_has_a_smaller_counter(rt: HostRuntime) -> Result<(), Fail> {
+fn a_parent_has_a_smaller_counter(rt: HostRuntime) {
     for (id, parent, valid) in [
         ((1, 1), None, true),
         ((4_294_967_295, 65_535), None, true),
@@ -70,24 +90,8 @@ fn a_parent_has_a_smaller_counter(rt: HostRuntime) -> Result<(), Fail> {
         ((4_294_967_295, 1), Some((4_294_967_294, 2)), true),
         ((4_294_967_295, 2), Some((4_294_967_295, 1)), false),
     ] {
-        let id = Id::new(id.0, id.1).ok_or("a zero")?;
-        let place = match parent {
-            None => Place::Root,
-            Some((counter, site)) => Place::After(Id::new(counter, site).ok_or("a zero")?),
-        };
-        let view = Op::insert(id, place, '\u{5D0}').map(|op| op.view());
-        let wanted = OpView::Insert {
-            id,
-            parent: place,
-            ch: '\u{5D0}',
-        };
-        assert_eq!(rt;
-            view,
-            if valid { Some(wanted) } else { None },
-            "{id:?} {place:?}"
-        );
+        assert_eq!(rt; is_insertion(id, parent), Some(valid), "{id:?} {parent:?}");
     }
-    Ok(())
 }
 
 #[test]
@@ -145,16 +149,22 @@ fn a_sink_that_stops_keeps_a_beginning(rt: HostRuntime) {
     }
 }
 
+/// What a put of these bytes answers, and whether the sink has failed then.
+fn puts<S: Sink>(sink: &mut S, bytes: &[u8]) -> (Option<usize>, bool) {
+    if sink.failed() || bytes.is_empty() {
+        return (None, sink.failed());
+    }
+    let taken = sink.put(bytes);
+    (taken, sink.failed())
+}
+
 #[test]
 fn a_sink_takes_at_most_a_piece(rt: HostRuntime) {
     let mut bytes = Vec::new(rt.alloc());
     let mut sink = Stops::new(Out::new(&mut bytes), 3, 4);
-    assert_eq!(rt; sink.put(b"bidigrid"), Some(3));
-    assert!(rt; !sink.failed());
-    assert_eq!(rt; sink.put(b"igrid"), Some(1));
-    assert!(rt; !sink.failed());
-    assert_eq!(rt; sink.put(b"grid"), None);
-    assert!(rt; sink.failed());
+    assert_eq!(rt; puts(&mut sink, b"bidigrid"), (Some(3), false));
+    assert_eq!(rt; puts(&mut sink, b"igrid"), (Some(1), false));
+    assert_eq!(rt; puts(&mut sink, b"grid"), (None, true));
 }
 
 /// A writer that takes one byte a call, and then answers with an error or with 0 bytes.

@@ -189,29 +189,66 @@ fn takes_each<S: Fresh>(desk: &mut Desk<S>, rows: &[(Row, Answer)]) -> bool {
     right
 }
 
-/// Whether a fresh desk gives each row its answer, and reads as this text then.
-fn plays<S: Fresh>(alloc: Global, rows: &[(Row, Answer)], text: &str) -> bool {
-    let mut desk: Desk<S> = desk_of(alloc, 1);
-    let right = takes_each(&mut desk, rows);
-    desk.reads(text) && right
+/// What a case tries on fresh desks of the sites 1 and 2.
+#[derive(Clone, Copy)]
+enum Case {
+    /// The first desk gives each row its answer, and reads as this text then.
+    Plays(&'static [(Row, Answer)], &'static str),
+    /// What is paid for is taken at the first try.
+    PlaysPaid,
+    MergesPaid,
+    /// Once each desk has taken its rows, the first merges the other one as is said.
+    Merges(&'static [Row], &'static [Row], Merged),
+    Types,
+    /// A held insertion with the greatest counter leaves none to type with.
+    Spends,
+    /// A refused insertion leaves the next counter as it was.
+    Counts,
+    /// 1,000,000 early deletions leave no place for more.
+    Fills,
 }
 
-fn plays_in_order<S: Fresh>(alloc: Global) -> bool {
-    let second = Insert((1, 2), (0, 0), 'b');
-    let rows = [(A, PLACED), (second, PLACED)];
-    let turned = [(second, PLACED), (A, PLACED)];
-    plays::<S>(alloc, &rows, "ba") && plays::<S>(alloc, &turned, "ba")
+/// What merging a desk into another one answers, and what is read and how many operations are kept then.
+type Merged = (Result<usize, TakeFault>, &'static str, usize);
+
+/// Whether a case comes out. Desks are made and dropped here and in the next function alone, which is dear to prove.
+fn comes_out<S: Fresh>(alloc: Global, case: Case) -> bool {
+    let mut one: Desk<S> = desk_of(alloc, 1);
+    comes_out_beside(alloc, &mut one, case)
 }
 
-fn plays_a_branch<S: Fresh>(alloc: Global) -> bool {
-    let in_order = [(A, PLACED), (X, PLACED), (Y, PLACED), (B, PLACED)];
-    let last = [(Y, HELD), (X, HELD), (B, HELD), (A, Ok(Taken::Placed(3)))];
-    plays::<S>(alloc, &in_order, "axyb")
-        && plays::<S>(alloc, &EARLY, "axyb")
-        && plays::<S>(alloc, &last, "axyb")
+fn comes_out_beside<S: Fresh>(alloc: Global, one: &mut Desk<S>, case: Case) -> bool {
+    let mut two: Desk<S> = desk_of(alloc, 2);
+    comes_out_on(one, &mut two, case)
 }
 
-/// The operations of `plays_a_branch` with one that comes early.
+fn comes_out_on<S: Fresh>(one: &mut Desk<S>, two: &mut Desk<S>, case: Case) -> bool {
+    match case {
+        Case::Plays(rows, text) => takes_each(one, rows) && one.reads(text),
+        Case::PlaysPaid => plays_paid(one),
+        Case::MergesPaid => merges_paid(one, two),
+        Case::Merges(mine, others, merged) => merges(one, two, mine, others, merged),
+        Case::Types => types(one),
+        Case::Spends => spends(one),
+        Case::Counts => counts(one),
+        Case::Fills => fills(one),
+    }
+}
+
+/// The first case that does not come out over both sequences.
+fn first_wrong(alloc: Global, cases: &[Case]) -> Option<usize> {
+    for (n, case) in cases.iter().enumerate() {
+        if !comes_out::<Blocks>(alloc, *case) || !comes_out::<Plain>(alloc, *case) {
+            return Some(n);
+        }
+    }
+    None
+}
+
+/// `b` at the front, of another desk.
+const FRONT: Row = Insert((1, 2), (0, 0), 'b');
+
+/// `a`, `x`, `y` and `b` with one that comes early.
 const EARLY: [(Row, Answer); 4] = [
     (A, PLACED),
     (Y, HELD),
@@ -219,10 +256,62 @@ const EARLY: [(Row, Answer); 4] = [
     (B, PLACED),
 ];
 
-fn plays_what_is_paid_for<S: Fresh>(alloc: Global) -> bool {
-    let mut desk: Desk<S> = desk_of(alloc, 1);
-    plays_paid(&mut desk)
-}
+const ANSWERS: [Case; 9] = [
+    Case::Plays(&[(A, PLACED), (FRONT, PLACED)], "ba"),
+    Case::Plays(&[(FRONT, PLACED), (A, PLACED)], "ba"),
+    Case::Plays(
+        &[(A, PLACED), (X, PLACED), (Y, PLACED), (B, PLACED)],
+        "axyb",
+    ),
+    Case::Plays(&EARLY, "axyb"),
+    Case::Plays(
+        &[(Y, HELD), (X, HELD), (B, HELD), (A, Ok(Taken::Placed(3)))],
+        "axyb",
+    ),
+    // A deletion that comes before its target, and one that comes after it and again.
+    Case::Plays(
+        &[
+            (Erase((2, 2)), HELD),
+            (A, PLACED),
+            (X, PLACED),
+            (Y, PLACED),
+            (B, PLACED),
+        ],
+        "ayb",
+    ),
+    Case::Plays(
+        &[
+            (A, PLACED),
+            (X, PLACED),
+            (Y, PLACED),
+            (Erase((1, 1)), Ok(Taken::Hidden)),
+            (Erase((1, 1)), KNOWN),
+            (A, KNOWN),
+        ],
+        "xy",
+    ),
+    // What is known, and what reuses an identifier.
+    Case::Plays(
+        &[
+            (A, PLACED),
+            (A, KNOWN),
+            (Y, HELD),
+            (Y, KNOWN),
+            (X, Ok(Taken::Placed(1))),
+            (Y, KNOWN),
+        ],
+        "axy",
+    ),
+    Case::Plays(
+        &[
+            (A, PLACED),
+            (Insert((1, 1), (0, 0), 'b'), REUSED),
+            (Y, HELD),
+            (Insert((3, 2), (2, 2), 'z'), REUSED),
+        ],
+        "a",
+    ),
+];
 
 fn plays_paid<S: Fresh>(desk: &mut Desk<S>) -> bool {
     let mut right = desk.pays();
@@ -232,52 +321,9 @@ fn plays_paid<S: Fresh>(desk: &mut Desk<S>) -> bool {
     right && desk.desk.spare() == 0 && desk.takes(A, KNOWN) && desk.reads("axyb")
 }
 
-fn merges_what_is_paid_for<S: Fresh>(alloc: Global) -> bool {
-    let mut one: Desk<S> = desk_of(alloc, 1);
-    let mut two: Desk<S> = desk_of(alloc, 2);
-    merges_paid(&mut one, &mut two)
-}
-
 fn merges_paid<S: Fresh>(one: &mut Desk<S>, two: &mut Desk<S>) -> bool {
     let paid = one.pays() && takes_each(two, &EARLY);
     one.desk.merge(&two.desk) == Ok(4) && paid && one.reads("axyb")
-}
-
-fn plays_erasures<S: Fresh>(alloc: Global) -> bool {
-    let early = [
-        (Erase((2, 2)), HELD),
-        (A, PLACED),
-        (X, PLACED),
-        (Y, PLACED),
-        (B, PLACED),
-    ];
-    let late = [
-        (A, PLACED),
-        (X, PLACED),
-        (Y, PLACED),
-        (Erase((1, 1)), Ok(Taken::Hidden)),
-        (Erase((1, 1)), KNOWN),
-        (A, KNOWN),
-    ];
-    plays::<S>(alloc, &early, "ayb") && plays::<S>(alloc, &late, "xy")
-}
-
-fn plays_again<S: Fresh>(alloc: Global) -> bool {
-    let known = [
-        (A, PLACED),
-        (A, KNOWN),
-        (Y, HELD),
-        (Y, KNOWN),
-        (X, Ok(Taken::Placed(1))),
-        (Y, KNOWN),
-    ];
-    let reused = [
-        (A, PLACED),
-        (Insert((1, 1), (0, 0), 'b'), REUSED),
-        (Y, HELD),
-        (Insert((3, 2), (2, 2), 'z'), REUSED),
-    ];
-    plays::<S>(alloc, &known, "axy") && plays::<S>(alloc, &reused, "a")
 }
 
 /// Whether a desk takes each row.
@@ -289,21 +335,7 @@ fn takes_all<S: Fresh>(desk: &mut Desk<S>, rows: &[Row]) -> bool {
     all
 }
 
-/// What merging a desk into another one answers, and what is read and kept then.
-#[derive(Clone, Copy)]
-struct Merged {
-    answer: Result<usize, TakeFault>,
-    text: &'static str,
-    kept: usize,
-}
-
-fn merges_as<S: Fresh>(one: &mut Desk<S>, two: &Desk<S>, merged: Merged) -> bool {
-    let answer = one.merge(two);
-    answer == merged.answer && one.reads(merged.text) && one.desk.op_count() == merged.kept
-}
-
-/// Whether desk `one`, once it has taken its rows and the other desk has taken the others, merges as is said.
-fn merges_rows<S: Fresh>(
+fn merges<S: Fresh>(
     one: &mut Desk<S>,
     two: &mut Desk<S>,
     mine: &[Row],
@@ -312,74 +344,55 @@ fn merges_rows<S: Fresh>(
 ) -> bool {
     let taken = takes_all(one, mine);
     let others_taken = takes_all(two, others);
-    merges_as(one, two, merged) && taken && others_taken
+    let (answer, text, kept) = merged;
+    let right = one.merge(two) == answer && one.desk.op_count() == kept;
+    one.reads(text) && right && taken && others_taken
 }
 
-fn merges<S: Fresh>(alloc: Global, mine: &[Row], others: &[Row], merged: Merged) -> bool {
-    let mut one: Desk<S> = desk_of(alloc, 1);
-    let mut two: Desk<S> = desk_of(alloc, 2);
-    merges_rows(&mut one, &mut two, mine, others, merged)
-}
+const MERGES: [Case; 5] = [
+    // What waits.
+    Case::Merges(&[Y], &[A, X], (Ok(2), "axy", 3)),
+    Case::Merges(&[], &[X, Erase((9, 9)), A, Erase((2, 2))], (Ok(4), "a", 4)),
+    // What is known.
+    Case::Merges(&[A, X, Y, B], &[B, Y, X, A], (Ok(0), "axyb", 4)),
+    Case::Merges(
+        &[A, X],
+        &[Erase((1, 1)), Erase((2, 2)), A, Y, B],
+        (Ok(4), "yb", 6),
+    ),
+    // None where one identifier is reused.
+    Case::Merges(
+        &[A],
+        &[Insert((1, 1), (0, 0), 'b'), Insert((2, 2), (0, 0), 'x')],
+        (Err(TakeFault::IdentifierReused), "a", 1),
+    ),
+];
 
-/// This many are new, and then this text is read and this many operations are kept.
-fn all_new(new: usize, text: &'static str, kept: usize) -> Merged {
-    Merged {
-        answer: Ok(new),
-        text,
-        kept,
-    }
-}
+/// What typing or erasing at each place makes.
+const TYPED: [(usize, Row); 4] = [
+    (0, Insert((1, 1), (0, 0), 'a')),
+    (1, Insert((2, 1), (1, 1), 'b')),
+    (0, Erase((1, 1))),
+    (0, Insert((3, 1), (0, 0), 'c')),
+];
 
-fn merges_what_waits<S: Fresh>(alloc: Global) -> bool {
-    let early = [X, Erase((9, 9)), A, Erase((2, 2))];
-    merges::<S>(alloc, &[Y], &[A, X], all_new(2, "axy", 3))
-        && merges::<S>(alloc, &[], &early, all_new(4, "a", 4))
-}
-
-fn merges_what_is_known<S: Fresh>(alloc: Global) -> bool {
-    let erased = [Erase((1, 1)), Erase((2, 2)), A, Y, B];
-    merges::<S>(alloc, &[A, X, Y, B], &[B, Y, X, A], all_new(0, "axyb", 4))
-        && merges::<S>(alloc, &[A, X], &erased, all_new(4, "yb", 6))
-}
-
-fn merges_none_of_a_reused_one<S: Fresh>(alloc: Global) -> bool {
-    let others = [Insert((1, 1), (0, 0), 'b'), Insert((2, 2), (0, 0), 'x')];
-    let refused = Merged {
-        answer: Err(TakeFault::IdentifierReused),
-        text: "a",
-        kept: 1,
-    };
-    merges::<S>(alloc, &[A], &others, refused)
-}
-
-/// Whether typing or erasing at each place makes these.
-fn makes_each<S: Fresh>(desk: &mut Desk<S>, rows: &[(usize, Row)]) -> bool {
+fn types<S: Fresh>(desk: &mut Desk<S>) -> bool {
     let mut right = true;
-    for (place, row) in rows {
-        right = desk.makes(*place, *row) && right;
+    for (place, row) in TYPED {
+        right = desk.makes(place, row) && right;
     }
-    right
-}
-
-fn types<S: Fresh>(alloc: Global) -> bool {
-    let rows = [
-        (0, Insert((1, 1), (0, 0), 'a')),
-        (1, Insert((2, 1), (1, 1), 'b')),
-        (0, Erase((1, 1))),
-        (0, Insert((3, 1), (0, 0), 'c')),
-    ];
-    let mut desk: Desk<S> = desk_of(alloc, 1);
-    let right = makes_each(&mut desk, &rows);
     desk.reads("cb") && desk.desk.op_count() == 4 && right
 }
 
-/// Whether a held insertion with the greatest counter leaves none to type with.
-fn spends<S: Fresh>(alloc: Global) -> bool {
-    let mut desk: Desk<S> = desk_of(alloc, 1);
+fn spends<S: Fresh>(desk: &mut Desk<S>) -> bool {
     let late = Insert((4_294_967_295, 2), (4_294_967_294, 2), 'y');
     let held = desk.takes(late, HELD);
     let spent = desk.type_char(0, 'z') == Err(TypeFault::CounterSpent);
     desk.reads("") && held && spent
+}
+
+fn counts<S: Fresh>(desk: &mut Desk<S>) -> bool {
+    op(Y).is_some_and(|late| counts_no_refused(desk, &late))
 }
 
 /// Whether a refused insertion, as this one, leaves the next counter as it was.
@@ -393,13 +406,8 @@ fn counts_no_refused<S: Fresh>(desk: &mut Desk<S>, late: &Op) -> bool {
     held == HELD && desk.makes(0, Insert((4, 1), (0, 0), 'c'))
 }
 
-fn counts<S: Fresh>(alloc: Global) -> bool {
-    let mut desk: Desk<S> = desk_of(alloc, 1);
-    op(Y).is_some_and(|late| counts_no_refused(&mut desk, &late))
-}
-
 /// Whether a desk without text, which is read after a fault alone, holds this deletion.
-fn holds(desk: &mut Desk<Plain>, counter: u32) -> bool {
+fn holds<S: Fresh>(desk: &mut Desk<S>, counter: u32) -> bool {
     let Some(op) = op(Erase((counter, 1))) else {
         return false;
     };
@@ -411,7 +419,7 @@ fn holds(desk: &mut Desk<Plain>, counter: u32) -> bool {
 }
 
 /// Whether a desk holds this many early deletions.
-fn holds_all(desk: &mut Desk<Plain>, count: u32) -> bool {
+fn holds_all<S: Fresh>(desk: &mut Desk<S>, count: u32) -> bool {
     let mut all = true;
     for counter in 1..=count {
         all = holds(desk, counter) && all;
@@ -419,10 +427,8 @@ fn holds_all(desk: &mut Desk<Plain>, count: u32) -> bool {
     all
 }
 
-/// Whether a desk of 1,000,000 early deletions takes no more.
-fn fills(alloc: Global) -> bool {
-    let mut desk: Desk<Plain> = desk_of(alloc, 1);
-    let held = holds_all(&mut desk, 1_000_000);
+fn fills<S: Fresh>(desk: &mut Desk<S>) -> bool {
+    let held = holds_all(desk, 1_000_000);
     let full = desk.takes(Erase((1_000_001, 1)), Err(TakeFault::Full));
     let known = desk.takes(Erase((5, 1)), KNOWN);
     let typed = desk.type_char(0, 'z') == Err(TypeFault::Full);
@@ -431,49 +437,31 @@ fn fills(alloc: Global) -> bool {
 
 #[test]
 fn answers_and_reads(rt: HostRuntime) {
-    assert!(rt; plays_in_order::<Blocks>(rt.alloc()));
-    assert!(rt; plays_in_order::<Plain>(rt.alloc()));
-    assert!(rt; plays_a_branch::<Blocks>(rt.alloc()));
-    assert!(rt; plays_a_branch::<Plain>(rt.alloc()));
-    assert!(rt; plays_erasures::<Blocks>(rt.alloc()));
-    assert!(rt; plays_erasures::<Plain>(rt.alloc()));
-    assert!(rt; plays_again::<Blocks>(rt.alloc()));
-    assert!(rt; plays_again::<Plain>(rt.alloc()));
+    assert_eq!(rt; first_wrong(rt.alloc(), &ANSWERS), None);
 }
 
 #[test]
 fn takes_what_is_paid_for(rt: HostRuntime) {
-    assert!(rt; plays_what_is_paid_for::<Blocks>(rt.alloc()));
-    assert!(rt; plays_what_is_paid_for::<Plain>(rt.alloc()));
-    assert!(rt; merges_what_is_paid_for::<Blocks>(rt.alloc()));
-    assert!(rt; merges_what_is_paid_for::<Plain>(rt.alloc()));
+    let cases = [Case::PlaysPaid, Case::MergesPaid];
+    assert_eq!(rt; first_wrong(rt.alloc(), &cases), None);
 }
 
 #[test]
 fn merges_and_counts(rt: HostRuntime) {
-    assert!(rt; merges_what_waits::<Blocks>(rt.alloc()));
-    assert!(rt; merges_what_waits::<Plain>(rt.alloc()));
-    assert!(rt; merges_what_is_known::<Blocks>(rt.alloc()));
-    assert!(rt; merges_what_is_known::<Plain>(rt.alloc()));
-    assert!(rt; merges_none_of_a_reused_one::<Blocks>(rt.alloc()));
-    assert!(rt; merges_none_of_a_reused_one::<Plain>(rt.alloc()));
+    assert_eq!(rt; first_wrong(rt.alloc(), &MERGES), None);
 }
 
 #[test]
 fn types_and_erases(rt: HostRuntime) {
-    assert!(rt; types::<Blocks>(rt.alloc()));
-    assert!(rt; types::<Plain>(rt.alloc()));
-    assert!(rt; spends::<Blocks>(rt.alloc()));
-    assert!(rt; spends::<Plain>(rt.alloc()));
+    assert_eq!(rt; first_wrong(rt.alloc(), &[Case::Types, Case::Spends]), None);
 }
 
 #[test]
 fn a_refused_take_leaves_the_next_counter(rt: HostRuntime) {
-    assert!(rt; counts::<Blocks>(rt.alloc()));
-    assert!(rt; counts::<Plain>(rt.alloc()));
+    assert_eq!(rt; first_wrong(rt.alloc(), &[Case::Counts]), None);
 }
 
 #[test]
 fn a_full_desk_takes_nothing_new(rt: HostRuntime) {
-    assert!(rt; fills(rt.alloc()));
+    assert!(rt; comes_out::<Plain>(rt.alloc(), Case::Fills));
 }

@@ -8,6 +8,8 @@ mod desk_replica_tests;
 #[cfg(test)]
 mod every_sequence;
 #[cfg(test)]
+mod feed_tests;
+#[cfg(test)]
 mod migrate_tests;
 #[cfg(test)]
 mod op_codec_tests;

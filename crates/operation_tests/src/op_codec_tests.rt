@@ -3,25 +3,18 @@
 use bg_types::{Id, Memory, Op, Place};
 use op_codec::*;
 use std::alloc::{AllocError, Global};
-use std::io::Cursor;
 use std::test::*;
 
 /// (1,1) after the root, `a`; (2,1) after (1,1), `b`.
-const TWO: [u8; 43] = [
+pub(crate) const TWO: [u8; 43] = [
     0x42, 0x47, 0x4F, 0x50, 1, // BGOP, version 1
     0, 17, 1, 0, 0, 0, 1, 0, 1, 0, 0, 0, 0, 0, 0, 0, 0, 0, 0x61, // frame 1
     0, 17, 1, 0, 0, 0, 2, 0, 1, 0, 0, 0, 1, 0, 1, 0, 0, 0, 0x62, // frame 2
 ];
 
-/// (2,1) after (2,2), `b`: a parent of no smaller counter.
-const LATE_PARENT: [u8; 24] = [
-    0x42, 0x47, 0x4F, 0x50, 1, // BGOP, version 1
-    0, 17, 1, 0, 0, 0, 2, 0, 1, 0, 0, 0, 2, 0, 2, 0, 0, 0, 0x62, // frame 1
-];
+pub(crate) const EMPTY: [u8; 5] = [0x42, 0x47, 0x4F, 0x50, 1];
 
-const EMPTY: [u8; 5] = [0x42, 0x47, 0x4F, 0x50, 1];
-
-fn insertion(id: (u32, u16), parent: Option<(u32, u16)>, ch: char) -> Option<Op> {
+pub(crate) fn insertion(id: (u32, u16), parent: Option<(u32, u16)>, ch: char) -> Option<Op> {
     let place = match parent {
         None => Place::Root,
         Some((counter, site)) => Place::After(Id::new(counter, site)?),
@@ -29,14 +22,14 @@ fn insertion(id: (u32, u16), parent: Option<(u32, u16)>, ch: char) -> Option<Op>
     Op::insert(Id::new(id.0, id.1)?, place, ch)
 }
 
-fn two() -> Option<[Op; 2]> {
+pub(crate) fn two() -> Option<[Op; 2]> {
     Some([
         insertion((1, 1), None, 'a')?,
         insertion((2, 1), Some((1, 1)), 'b')?,
     ])
 }
 
-fn joined(alloc: Global, front: &[u8], back: &[u8]) -> Result<Vec<u8>, AllocError> {
+pub(crate) fn joined(alloc: Global, front: &[u8], back: &[u8]) -> Result<Vec<u8>, AllocError> {
     let mut file = Vec::from_slice(alloc, front)?;
     file.extend_from_slice(back)?;
     Ok(file)
@@ -52,24 +45,47 @@ pub(crate) fn fault_behind(
     Ok(decode_file(alloc, &file).err())
 }
 
+fn encodes_to(alloc: Global, ops: &[Op], file: &[u8]) -> Result<bool, Memory> {
+    Ok(encode_file(alloc, ops)?.as_slice() == file)
+}
+
+fn decodes_to(alloc: Global, file: &[u8], ops: &[Op]) -> Result<bool, CodecFault> {
+    Ok(decode_file(alloc, file)?.as_slice() == ops)
+}
+
+/// Whether a file is that of these operations, both ways.
+fn is_file_of(alloc: Global, file: &[u8], ops: &[Op]) -> Result<bool, Fail> {
+    Ok(encodes_to(alloc, ops, file)? && decodes_to(alloc, file, ops)?)
+}
+
+/// Whether these are the frames of the operations.
+fn are_frames_of(alloc: Global, frames: &[u8], ops: &[Op]) -> Result<bool, Memory> {
+    let mut written = Vec::new(alloc);
+    for op in ops {
+        encode_op(op, &mut written)?;
+    }
+    Ok(written.as_slice() == frames)
+}
+
 #[test]
 fn two_insertions_both_ways(rt: HostRuntime) -> Result<(), Fail> {
     let ops = two().ok_or("well formed")?;
-    assert_eq!(rt; encode_file(rt.alloc(), &ops)?.as_slice(), TWO.as_slice());
-    assert_eq!(rt; decode_file(rt.alloc(), &TWO)?.as_slice(), ops.as_slice());
-    let mut frames = Vec::new(rt.alloc());
-    for op in &ops {
-        encode_op(op, &mut frames)?;
-    }
-    assert_eq!(rt; frames.as_slice(), &TWO[5..]);
+    assert!(rt; is_file_of(rt.alloc(), &TWO, &ops)?);
+    assert!(rt; are_frames_of(rt.alloc(), &TWO[5..], &ops)?);
     Ok(())
 }
 
 #[test]
 fn a_file_without_frames_has_no_operations(rt: HostRuntime) -> Result<(), Fail> {
-    assert_eq!(rt; encode_file(rt.alloc(), &[])?.as_slice(), EMPTY.as_slice());
-    assert!(rt; decode_file(rt.alloc(), &EMPTY)?.is_empty());
+    assert!(rt; is_file_of(rt.alloc(), &EMPTY, &[])?);
     Ok(())
+}
+
+/// Whether a file of this frame is that of the operation.
+fn is_frame_of(alloc: Global, frame: &[u8], op: Option<Op>) -> Result<bool, Fail> {
+    let ops = [op.ok_or("well formed")?];
+    let file = joined(alloc, &EMPTY, frame)?;
+    is_file_of(alloc, &file, &ops)
 }
 
 #[test]
@@ -84,7 +100,7 @@ fn the_greatest_numbers_and_the_edges_of_the_scalars(rt: HostRuntime) -> Result<
             ],
         ),
         (
-            Some(Op::erase(Id::new(greatest.0, greatest.1).ok_or("not 0")?)),
+            Id::new(greatest.0, greatest.1).map(Op::erase),
             &[0, 7, 2, 255, 255, 255, 255, 255, 255],
         ),
         (
@@ -105,10 +121,7 @@ fn the_greatest_numbers_and_the_edges_of_the_scalars(rt: HostRuntime) -> Result<
         ),
     ];
     for (op, frame) in rows {
-        let ops = [op.ok_or("well formed")?];
-        let file = joined(rt.alloc(), &EMPTY, frame)?;
-        assert_eq!(rt; encode_file(rt.alloc(), &ops)?.as_slice(), file.as_slice());
-        assert_eq!(rt; decode_file(rt.alloc(), &file)?.as_slice(), ops.as_slice());
+        assert!(rt; is_frame_of(rt.alloc(), frame, op)?, "{frame:?}");
     }
     Ok(())
 }
@@ -138,33 +151,38 @@ fn a_file_cut_to_each_length(rt: HostRuntime) -> Result<(), Fail> {
     Ok(())
 }
 
+/// Headers with their first fault.
+const FAULTY_HEADERS: &[(&[u8], Cause)] = &[
+    (b"", Cause::Truncated),
+    (b"BGO", Cause::Truncated),
+    (b"BGOP", Cause::Truncated),
+    (b"A", Cause::BadMagic),
+    (b"BF", Cause::BadMagic),
+    (b"BGP", Cause::BadMagic),
+    (b"BGOp", Cause::BadMagic),
+    (b"BGOp\x02", Cause::BadMagic),
+    (b"BGOP\x00", Cause::BadVersion),
+    (b"BGOP\x03", Cause::BadVersion),
+    (b"BGOP\x03\x00", Cause::BadVersion),
+];
+
 #[test]
 fn a_header_shows_its_first_fault(rt: HostRuntime) {
-    let rows: [(&[u8], Cause); 11] = [
-        (b"", Cause::Truncated),
-        (b"BGO", Cause::Truncated),
-        (b"BGOP", Cause::Truncated),
-        (b"A", Cause::BadMagic),
-        (b"BF", Cause::BadMagic),
-        (b"BGP", Cause::BadMagic),
-        (b"BGOp", Cause::BadMagic),
-        (b"BGOp\x02", Cause::BadMagic),
-        (b"BGOP\x00", Cause::BadVersion),
-        (b"BGOP\x03", Cause::BadVersion),
-        (b"BGOP\x03\x00", Cause::BadVersion),
-    ];
-    for (file, cause) in rows {
-        let fault = decode_file(rt.alloc(), file).err();
+    for (file, cause) in FAULTY_HEADERS {
+        let wanted = CodecFault::Malformed {
+            frame: 0,
+            cause: *cause,
+        };
         assert_eq!(rt;
-            fault,
-            Some(CodecFault::Malformed { frame: 0, cause }),
+            decode_file(rt.alloc(), file).err(),
+            Some(wanted),
             "in {file:?}"
         );
     }
 }
 
 /// Frames with their first fault.
-const FAULTY_FRAMES: [(&[u8], Cause); 26] = [
+const FAULTY_FRAMES: &[(&[u8], Cause)] = &[
     (&[0], Cause::Truncated),
     (&[0, 17], Cause::Truncated),
     (&[0, 17, 1], Cause::Truncated),
@@ -233,44 +251,71 @@ fn a_frame_shows_its_first_fault(rt: HostRuntime) -> Result<(), Fail> {
     for (bytes, cause) in FAULTY_FRAMES {
         for (front, frame) in [(EMPTY.as_slice(), 1), (TWO.as_slice(), 3)] {
             let fault = fault_behind(rt.alloc(), front, bytes)?;
-            let wanted = CodecFault::Malformed { frame, cause };
+            let wanted = CodecFault::Malformed {
+                frame,
+                cause: *cause,
+            };
             assert_eq!(rt; fault, Some(wanted), "{bytes:?} at {frame}");
         }
     }
     Ok(())
 }
 
+/// What a fault prints, its number and its frame, as one line.
+fn told(alloc: Global, fault: CodecFault) -> Result<String, AllocError> {
+    format!(in alloc; "{fault} {} {:?}", fault.code(), fault.frame())
+}
+
 #[test]
 fn a_fault_has_a_number_a_name_and_a_frame(rt: HostRuntime) -> Result<(), Fail> {
     let rows = [
-        (Cause::BadMagic, 1, "BadMagic"),
-        (Cause::BadVersion, 2, "BadVersion"),
-        (Cause::Truncated, 3, "Truncated"),
-        (Cause::UnknownKind, 4, "UnknownKind"),
-        (Cause::BadLength, 5, "BadLength"),
-        (Cause::ZeroField, 6, "ZeroField"),
-        (Cause::ParentNotBefore, 7, "ParentNotBefore"),
-        (Cause::NotAScalar, 8, "NotAScalar"),
-        (Cause::CounterOverflow, 10, "CounterOverflow"),
-        (Cause::NotJoined, 11, "NotJoined"),
+        (Cause::BadMagic, 1, "BadMagic 1 Some(3)"),
+        (Cause::BadVersion, 2, "BadVersion 2 Some(3)"),
+        (Cause::Truncated, 3, "Truncated 3 Some(3)"),
+        (Cause::UnknownKind, 4, "UnknownKind 4 Some(3)"),
+        (Cause::BadLength, 5, "BadLength 5 Some(3)"),
+        (Cause::ZeroField, 6, "ZeroField 6 Some(3)"),
+        (Cause::ParentNotBefore, 7, "ParentNotBefore 7 Some(3)"),
+        (Cause::NotAScalar, 8, "NotAScalar 8 Some(3)"),
+        (Cause::CounterOverflow, 10, "CounterOverflow 10 Some(3)"),
+        (Cause::NotJoined, 11, "NotJoined 11 Some(3)"),
     ];
-    for (cause, code, name) in rows {
-        let fault = CodecFault::Malformed { frame: 3, cause };
+    for (cause, code, line) in rows {
         assert_eq!(rt; cause.code(), code);
-        assert_eq!(rt; fault.code(), code);
-        assert_eq!(rt; fault.frame(), Some(3));
-        assert_eq!(rt;
-            format!(in rt.alloc(); "{cause} {fault}")?.as_str(),
-            format!(in rt.alloc(); "{name} {name}")?.as_str()
-        );
+        let fault = CodecFault::Malformed { frame: 3, cause };
+        assert_eq!(rt; told(rt.alloc(), fault)?.as_str(), line);
     }
-    assert_eq!(rt; CodecFault::Memory.code(), 9);
-    assert_eq!(rt; CodecFault::Memory.frame(), None);
     assert_eq!(rt;
-        format!(in rt.alloc(); "{}", CodecFault::Memory)?.as_str(),
-        "Memory"
+        told(rt.alloc(), CodecFault::Memory)?.as_str(),
+        "Memory 9 None"
     );
     Ok(())
+}
+
+fn encodes_or_says_memory(alloc: Global, ops: &[Op]) -> bool {
+    encodes_to(alloc, ops, &TWO).unwrap_or(true)
+}
+
+fn decodes_or_says_memory(alloc: Global, ops: &[Op]) -> bool {
+    match decodes_to(alloc, &TWO, ops) {
+        Ok(right) => right,
+        Err(fault) => fault == CodecFault::Memory,
+    }
+}
+
+/// Whether each frame is appended, or none of it.
+fn appends_or_says_memory(alloc: Global, ops: &[Op]) -> bool {
+    let mut frames = Vec::new(alloc);
+    let mut right = true;
+    for op in ops {
+        let before = frames.len();
+        let wanted = match encode_op(op, &mut frames) {
+            Ok(()) => before.saturating_add(19),
+            Err(Memory) => before,
+        };
+        right = frames.len() == wanted && right;
+    }
+    right
 }
 
 /// With ample memory each call is right; where a growth is refused it says so, and nothing is left
@@ -278,212 +323,8 @@ fn a_fault_has_a_number_a_name_and_a_frame(rt: HostRuntime) -> Result<(), Fail> 
 #[test]
 fn a_call_is_right_or_says_memory(rt: HostRuntime) -> Result<(), Fail> {
     let ops = two().ok_or("well formed")?;
-    match encode_file(rt.alloc(), &ops) {
-        Ok(file) => assert_eq!(rt; file.as_slice(), TWO.as_slice()),
-        Err(Memory) => {}
-    }
-    match decode_file(rt.alloc(), &TWO) {
-        Ok(read) => assert_eq!(rt; read.as_slice(), ops.as_slice()),
-        Err(fault) => assert_eq!(rt; fault, CodecFault::Memory),
-    }
-    let mut frames = Vec::new(rt.alloc());
-    for op in &ops {
-        let before = frames.len();
-        let written = encode_op(op, &mut frames).is_ok();
-        assert_eq!(rt; frames.len(), if written { before + 19 } else { before });
-    }
-    Ok(())
-}
-
-/// Whether feeding bytes in these pieces answers as `decode_file` answers all bytes so far,
-/// except that `Truncated` is Ok.
-fn is_fed_like_whole(alloc: Global, pieces: &[&[u8]]) -> Result<bool, AllocError> {
-    let mut feed = Feed::new(alloc);
-    let mut bytes = Vec::new(alloc);
-    for piece in pieces {
-        bytes.extend_from_slice(piece)?;
-        let whole = match decode_file(alloc, &bytes) {
-            Ok(_) => None,
-            Err(fault) if is_truncated(fault) => None,
-            Err(fault) => Some(fault),
-        };
-        if feed.feed(piece).err() != whole {
-            return Ok(false);
-        }
-    }
-    let count = feed.ops().len();
-    Ok(match (feed.finish(), decode_file(alloc, &bytes)) {
-        (Ok(fed), Ok(whole)) => count == whole.len() && fed.as_slice() == whole.as_slice(),
-        (Err(fed), Err(whole)) => fed == whole,
-        _ => false,
-    })
-}
-
-fn is_truncated(fault: CodecFault) -> bool {
-    matches!(
-        fault,
-        CodecFault::Malformed {
-            cause: Cause::Truncated,
-            ..
-        }
-    )
-}
-
-#[test]
-fn a_file_in_pieces_of_each_size(rt: HostRuntime) -> Result<(), Fail> {
-    for size in 1..44usize {
-        let mut feed = Feed::new(rt.alloc());
-        let mut fed = 0usize;
-        for piece in TWO.chunks(size) {
-            feed.feed(piece)?;
-            fed = fed.saturating_add(piece.len());
-            let whole = match fed {
-                0..24 => 0,
-                24..43 => 1,
-                _ => 2,
-            };
-            assert_eq!(rt; feed.ops().len(), whole, "{fed} bytes by {size}");
-        }
-        assert_eq!(rt;
-            feed.finish()?.as_slice(),
-            two().ok_or("well formed")?.as_slice()
-        );
-    }
-    Ok(())
-}
-
-#[test]
-fn rows_cut_into_two_pieces(rt: HostRuntime) -> Result<(), Fail> {
-    let four = [
-        insertion((1, 1), None, 'a').ok_or("well formed")?,
-        insertion((2, 2), Some((1, 1)), 'x').ok_or("well formed")?,
-        insertion((3, 2), Some((2, 2)), 'y').ok_or("well formed")?,
-        insertion((2, 1), Some((1, 1)), 'b').ok_or("well formed")?,
-    ];
-    let file = encode_file(rt.alloc(), &four)?;
-    let bad = CodecFault::Malformed {
-        frame: 1,
-        cause: Cause::ParentNotBefore,
-    };
-    assert_eq!(rt; decode_file(rt.alloc(), &LATE_PARENT).err(), Some(bad));
-    for bytes in [TWO.as_slice(), &file, &LATE_PARENT] {
-        for cut in 0..bytes.len() {
-            let pieces = [&bytes[..cut], &bytes[cut..]];
-            assert!(rt; is_fed_like_whole(rt.alloc(), &pieces)?, "at {cut}");
-        }
-    }
-    Ok(())
-}
-
-#[test]
-fn a_file_cut_into_two_pieces(rt: HostRuntime) -> Result<(), Fail> {
-    // Five frames of both kinds, right, and with one byte changed.
-    let mut file = joined(rt.alloc(), &TWO, &[0, 7, 2, 0, 0, 0, 2, 0, 1])?;
-    file.extend_from_slice(&TWO[5..])?;
-    for other in [255, 0, 3, 4, 6, 7, 9, 20, 27, 41, 45, 50] {
-        let mut bytes = file.clone()?;
-        if other < bytes.len() {
-            bytes[other] = 9;
-        }
-        for cut in 0..bytes.len() {
-            let pieces = [&bytes[..cut], &bytes[cut..]];
-            assert!(rt; is_fed_like_whole(rt.alloc(), &pieces)?, "{other} at {cut}");
-        }
-    }
-    Ok(())
-}
-
-#[test]
-fn a_fault_stays_and_a_missing_byte_does_not(rt: HostRuntime) -> Result<(), Fail> {
-    let fault = CodecFault::Malformed {
-        frame: 0,
-        cause: Cause::BadVersion,
-    };
-    let mut feed = Feed::new(rt.alloc());
-    assert_eq!(rt; feed.feed(b"BGOP\x03"), Err(fault));
-    assert_eq!(rt; feed.feed(&TWO), Err(fault));
-    assert_eq!(rt; feed.feed(b""), Err(fault));
-    assert!(rt; feed.ops().is_empty());
-    assert_eq!(rt; feed.finish().err(), Some(fault));
-    let nothing = Feed::new(rt.alloc()).finish().err().ok_or("nothing fed")?;
-    assert_eq!(rt; (nothing.frame(), nothing.code()), (Some(0), 3));
-    Ok(())
-}
-
-#[test]
-fn a_feed_is_as_before_after_memory(rt: HostRuntime) -> Result<(), Fail> {
-    let mut feed = Feed::new(rt.alloc());
-    for piece in [&TWO[..7], &TWO[7..30], &TWO[30..]] {
-        let before = feed.ops().len();
-        if feed.feed(piece).is_err() {
-            assert_eq!(rt; feed.ops().len(), before);
-            // The same again, now with memory.
-            feed.feed(piece)?;
-        }
-    }
-    assert_eq!(rt;
-        feed.finish()?.as_slice(),
-        two().ok_or("well formed")?.as_slice()
-    );
-    Ok(())
-}
-
-/// What a source gives in thirty pieces of ten bytes, and whether it failed.
-fn given<S: Source>(alloc: Global, source: &mut S) -> Result<(Vec<u8>, bool), AllocError> {
-    let mut bytes = Vec::new(alloc);
-    for _ in 0..30 {
-        let mut piece = [0; 10];
-        if source.failed() {
-            return Ok((bytes, true));
-        }
-        match source.get(&mut piece) {
-            Some(0) => return Ok((bytes, false)),
-            Some(n) => bytes.extend_from_slice(&piece[..n.min(10)])?,
-            None => return Ok((bytes, true)),
-        }
-    }
-    Ok((bytes, false))
-}
-
-/// Whether a source gives these bytes, and then fails or not.
-fn gives<S: Source>(
-    alloc: Global,
-    source: &mut S,
-    wanted: &[u8],
-    fails: bool,
-) -> Result<bool, AllocError> {
-    let (bytes, failed) = given(alloc, source)?;
-    Ok(bytes.as_slice() == wanted && failed == fails)
-}
-
-#[test]
-fn a_source_gives_its_bytes_and_ends(rt: HostRuntime) -> Result<(), Fail> {
-    let mut read = In::new(Cursor::new(TWO));
-    assert!(rt; gives(rt.alloc(), &mut read, &TWO, false)?);
-    let mut given = Gives::new(&TWO, 3);
-    assert!(rt; gives(rt.alloc(), &mut given, &TWO, false)?);
-    Ok(())
-}
-
-#[test]
-fn a_source_fails_after_each_number_of_bytes(rt: HostRuntime) -> Result<(), Fail> {
-    for left in 0..50usize {
-        let mut source = Gives::new(&TWO, 7).failing_after(left);
-        let wanted = &TWO[..left.min(TWO.len())];
-        let fails = left <= TWO.len();
-        assert!(rt; gives(rt.alloc(), &mut source, wanted, fails)?, "{left}");
-    }
-    Ok(())
-}
-
-#[test]
-fn a_source_goes_on_for_ever(rt: HostRuntime) -> Result<(), Fail> {
-    let mut source = Gives::new(&EMPTY, 4).then_for_ever(&TWO[5..24]);
-    let (bytes, failed) = given(rt.alloc(), &mut source)?;
-    assert!(rt; !failed);
-    // Four bytes and one, then five gets for each 19.
-    assert_eq!(rt; bytes.len(), 5 + 5 * 19 + 12);
-    assert!(rt; bytes.starts_with(&TWO[..24]));
-    assert!(rt; bytes[24..].starts_with(&TWO[5..24]));
+    assert!(rt; encodes_or_says_memory(rt.alloc(), &ops));
+    assert!(rt; decodes_or_says_memory(rt.alloc(), &ops));
+    assert!(rt; appends_or_says_memory(rt.alloc(), &ops));
     Ok(())
 }

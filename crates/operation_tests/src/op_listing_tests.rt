@@ -1,10 +1,12 @@
 //! Files and listings worked out by hand, both ways.
 
+ghost use Rattle.std.specs.Prelude.{◌≡◌, false};
+
 use LineFault::{BadLine, NotAScalar, ParentNotBefore, ZeroField};
-use bg_types::{Out, Stops};
+use bg_types::{Out, Sink, Stops};
 use op_codec::{Cause, CodecFault};
 use op_listing::*;
-use std::alloc::Global;
+use std::alloc::{AllocError, Global};
 use std::test::Fail;
 
 const EMPTY: [u8; 5] = *b"BGOP\x01";
@@ -52,6 +54,17 @@ fn packed(alloc: Global, listing: &[u8]) -> (Result<(), ListingFault>, Vec<u8>) 
     (answer, bytes)
 }
 
+/// Whether a listing is packed as this plain one, which is what is dumped of the file.
+fn is_read_as(alloc: Global, listing: &[u8], plain: &[u8]) -> bool {
+    let (answer, file) = packed(alloc, listing);
+    let (_, same) = packed(alloc, plain);
+    let (told, bytes) = dumped(alloc, &file);
+    answer == Ok(())
+        && file.as_slice() == same.as_slice()
+        && told == Ok(())
+        && bytes.as_slice() == plain
+}
+
 #[test]
 fn files_and_listings_worked_out_by_hand(rt: HostRuntime) {
     let rows: [(&[u8], &[u8]); 4] = [
@@ -64,23 +77,26 @@ fn files_and_listings_worked_out_by_hand(rt: HostRuntime) {
         ),
     ];
     for (file, listing) in rows {
-        let (answer, bytes) = dumped(rt.alloc(), file);
-        assert_eq!(rt; (answer, bytes.as_slice()), (Ok(()), listing));
+        assert!(rt; is_read_as(rt.alloc(), listing, listing), "{listing:?}");
         let (answer, bytes) = packed(rt.alloc(), listing);
         assert_eq!(rt; (answer, bytes.as_slice()), (Ok(()), file));
     }
 }
 
+/// Whether a file of the tree is migrated and dumped.
+fn is_migrated_and_dumped(alloc: Global, file: &[u8]) -> bool {
+    let (migration, bytes) = migrated(alloc, file);
+    let (listing, lines) = dumped(alloc, file);
+    migration == Ok(())
+        && bytes.as_slice() == TREE_MIGRATED.as_slice()
+        && listing == Ok(())
+        && lines.as_slice() == TREE_LISTING
+}
+
 #[test]
 fn a_file_and_its_migration_have_one_listing(rt: HostRuntime) {
     for file in [TREE.as_slice(), TREE_MIGRATED.as_slice()] {
-        let (answer, bytes) = migrated(rt.alloc(), file);
-        assert_eq!(rt;
-            (answer, bytes.as_slice()),
-            (Ok(()), TREE_MIGRATED.as_slice())
-        );
-        let (answer, bytes) = dumped(rt.alloc(), file);
-        assert_eq!(rt; (answer, bytes.as_slice()), (Ok(()), TREE_LISTING));
+        assert!(rt; is_migrated_and_dumped(rt.alloc(), file), "{file:?}");
     }
     let fault = FileFault::Malformed {
         frame: 2,
@@ -104,17 +120,12 @@ fn a_listing_is_read_with_its_freedoms(rt: HostRuntime) {
         (b"\n\r\n", b""),
     ];
     for (listing, plain) in rows {
-        let (answer, file) = packed(rt.alloc(), listing);
-        assert_eq!(rt; answer, Ok(()), "{listing:?}");
-        let (_, same) = packed(rt.alloc(), plain);
-        assert_eq!(rt; file.as_slice(), same.as_slice(), "{listing:?}");
-        let (answer, bytes) = dumped(rt.alloc(), &file);
-        assert_eq!(rt; (answer, bytes.as_slice()), (Ok(()), plain));
+        assert!(rt; is_read_as(rt.alloc(), listing, plain), "{listing:?}");
     }
 }
 
 /// Listings, the number of their first faulty line, and its fault.
-const FAULTY_LINES: [(&[u8], usize, LineFault); 40] = [
+const FAULTY_LINES: &[(&[u8], usize, LineFault)] = &[
     (b"i 1.1 root 61", 1, BadLine),
     (b"i 1.1 root 0000061", 1, BadLine),
     (b"i 1.1 root 006G", 1, BadLine),
@@ -161,12 +172,11 @@ const FAULTY_LINES: [(&[u8], usize, LineFault); 40] = [
 fn a_faulty_line_shows_its_first_fault(rt: HostRuntime) {
     for (listing, line, fault) in FAULTY_LINES {
         let (answer, bytes) = packed(rt.alloc(), listing);
-        assert_eq!(rt;
-            answer,
-            Err(ListingFault::Malformed { line, fault }),
-            "{listing:?}"
-        );
-        assert!(rt; bytes.is_empty(), "{listing:?}");
+        let wanted = Err(ListingFault::Malformed {
+            line: *line,
+            fault: *fault,
+        });
+        assert_eq!(rt; (answer, bytes.is_empty()), (wanted, true), "{listing:?}");
     }
 }
 
@@ -182,89 +192,125 @@ fn a_faulty_file_shows_its_first_fault(rt: HostRuntime) {
     for (length, frame, cause) in rows {
         let fault = FileFault::Malformed { frame, cause };
         let (answer, bytes) = dumped(rt.alloc(), &TREE[..length]);
-        assert_eq!(rt; answer, Err(fault), "at {length}");
-        assert!(rt; bytes.is_empty(), "at {length}");
+        assert_eq!(rt;
+            (answer, bytes.is_empty()),
+            (Err(fault), true),
+            "at {length}"
+        );
+    }
+}
+
+/// An engine of this crate, over the tree.
+#[derive(Clone, Copy)]
+enum Engine {
+    Dump,
+    Migrate,
+    Pack,
+}
+
+/// What an engine writes.
+fn whole(engine: Engine) -> &'static [u8] {
+    match engine {
+        Engine::Dump => TREE_LISTING,
+        Engine::Migrate => &TREE_MIGRATED,
+        Engine::Pack => &TREE,
+    }
+}
+
+/// The number of the fault that an engine answers, or 0.
+fn answered<S: Sink>(alloc: Global, engine: Engine, out: &mut S) -> u8
+    requires { S.has_failed out.old ≡ false }
+{
+    match engine {
+        Engine::Dump => number(dump(alloc, &TREE, out)),
+        Engine::Migrate => number(migrate(alloc, &TREE, out)),
+        Engine::Pack => match pack(alloc, TREE_LISTING, out) {
+            Ok(()) => 0,
+            Err(fault) => fault.code(),
+        },
+    }
+}
+
+fn number(answer: Result<(), FileFault>) -> u8 {
+    match answer {
+        Ok(()) => 0,
+        Err(fault) => fault.code(),
+    }
+}
+
+/// Whether an engine that may write `left` bytes writes the first of them, and says so where they are not all.
+fn keeps_a_beginning(alloc: Global, engine: Engine, left: usize) -> bool {
+    let mut bytes = Vec::new(alloc);
+    let mut out = Stops::new(Out::new(&mut bytes), 7, left);
+    let answer = answered(alloc, engine, &mut out);
+    let whole = whole(engine);
+    let wanted = if left < whole.len() { 7 } else { 0 };
+    answer == wanted && bytes.as_slice() == &whole[..left.min(whole.len())]
+}
+
+/// Whether an engine is right, or says that memory was refused, and then has written nothing.
+fn is_right_or_says_memory(alloc: Global, engine: Engine) -> bool {
+    let mut room = [0u8; 128];
+    match answered(alloc, engine, &mut Out::new(room.as_mut_slice())) {
+        0 => room.starts_with(whole(engine)),
+        number => number == 9 && room[0] == 0,
     }
 }
 
 #[test]
 fn a_sink_that_stops_keeps_a_beginning(rt: HostRuntime) {
-    for left in [0, 1, 60, 66, 67, 89, 90, 91] {
-        let mut bytes = Vec::new(rt.alloc());
-        let answer = dump(
-            rt.alloc(),
-            &TREE,
-            &mut Stops::new(Out::new(&mut bytes), 7, left),
-        );
-        assert_eq!(rt; answer.is_ok(), left >= TREE_LISTING.len(), "{left}");
-        let whole = &TREE_LISTING[..left.min(TREE_LISTING.len())];
-        assert_eq!(rt; bytes.as_slice(), whole, "{left}");
-        let mut bytes = Vec::new(rt.alloc());
-        let answer = migrate(
-            rt.alloc(),
-            &TREE,
-            &mut Stops::new(Out::new(&mut bytes), 7, left),
-        );
-        assert_eq!(rt; answer.is_ok(), left >= TREE_MIGRATED.len(), "{left}");
-        let whole = &TREE_MIGRATED[..left.min(TREE_MIGRATED.len())];
-        assert_eq!(rt; bytes.as_slice(), whole, "{left}");
-        let mut bytes = Vec::new(rt.alloc());
-        let answer = pack(
-            rt.alloc(),
-            TREE_LISTING,
-            &mut Stops::new(Out::new(&mut bytes), 7, left),
-        );
-        assert_eq!(rt; answer.is_ok(), left >= TREE.len(), "{left}");
-        assert_eq!(rt; bytes.as_slice(), &TREE[..left.min(TREE.len())], "{left}");
+    for left in [0, 1, 60, 66, 67, 74, 75, 89, 90, 91] {
+        for engine in [Engine::Dump, Engine::Migrate, Engine::Pack] {
+            let right = keeps_a_beginning(rt.alloc(), engine, left);
+            assert!(rt; right, "{left} of {}", whole(engine).len());
+        }
     }
 }
 
-/// With ample memory each call is right; where a growth is refused it says so, and nothing is
-/// written.
 #[test]
 fn a_call_is_right_or_says_memory(rt: HostRuntime) {
-    let mut room = [0u8; 128];
-    match dump(rt.alloc(), &TREE, &mut Out::new(room.as_mut_slice())) {
-        Ok(()) => assert!(rt; room.starts_with(TREE_LISTING)),
-        Err(fault) => assert_eq!(rt; (fault, room[0]), (FileFault::Memory, 0)),
-    }
-    let mut room = [0u8; 128];
-    match migrate(rt.alloc(), &TREE, &mut Out::new(room.as_mut_slice())) {
-        Ok(()) => assert!(rt; room.starts_with(&TREE_MIGRATED)),
-        Err(fault) => assert_eq!(rt; (fault, room[0]), (FileFault::Memory, 0)),
-    }
-    let mut room = [0u8; 128];
-    match pack(rt.alloc(), TREE_LISTING, &mut Out::new(room.as_mut_slice())) {
-        Ok(()) => assert!(rt; room.starts_with(&TREE)),
-        Err(fault) => assert_eq!(rt; (fault, room[0]), (ListingFault::Memory, 0)),
+    for engine in [Engine::Dump, Engine::Migrate, Engine::Pack] {
+        assert!(rt; is_right_or_says_memory(rt.alloc(), engine));
     }
 }
 
-#[test]
-fn faults_print_what_the_line_about_them_says(rt: HostRuntime) -> Result<(), Fail> {
-    use LineFault::{BadLine, NotAScalar, ParentNotBefore, ZeroField};
-    let names = format!(in rt.alloc(); "{BadLine} {ZeroField} {ParentNotBefore} {NotAScalar}")?;
-    assert_eq!(rt;
-        names.as_str(),
-        "BadLine ZeroField ParentNotBefore NotAScalar"
-    );
+/// What the faults of a line, of a file and of a listing print.
+fn line_faults(alloc: Global) -> Result<String, AllocError> {
+    format!(in alloc; "{BadLine} {ZeroField} {ParentNotBefore} {NotAScalar}")
+}
+
+fn file_faults(alloc: Global) -> Result<String, AllocError> {
     let frame = FileFault::from(CodecFault::Malformed {
         frame: 3,
         cause: Cause::ZeroField,
     });
-    let file = format!(in rt.alloc(); "{frame}; {}; {}", FileFault::Device, FileFault::Memory)?;
-    assert_eq!(rt; file.as_str(), "file 1 frame 3: ZeroField; device; memory");
+    format!(in alloc; "{frame}; {}; {}", FileFault::Device, FileFault::Memory)
+}
+
+fn listing_faults(alloc: Global) -> Result<String, AllocError> {
     let line = ListingFault::Malformed {
         line: 12,
         fault: BadLine,
     };
-    let listing = format!(in rt.alloc();
+    format!(in alloc;
         "{line}; {}; {}",
         ListingFault::Device,
         ListingFault::Memory
-    )?;
+    )
+}
+
+#[test]
+fn faults_print_what_the_line_about_them_says(rt: HostRuntime) -> Result<(), Fail> {
     assert_eq!(rt;
-        listing.as_str(),
+        line_faults(rt.alloc())?.as_str(),
+        "BadLine ZeroField ParentNotBefore NotAScalar"
+    );
+    assert_eq!(rt;
+        file_faults(rt.alloc())?.as_str(),
+        "file 1 frame 3: ZeroField; device; memory"
+    );
+    assert_eq!(rt;
+        listing_faults(rt.alloc())?.as_str(),
         "listing line 12: BadLine; device; memory"
     );
     Ok(())

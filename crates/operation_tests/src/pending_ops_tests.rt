@@ -245,17 +245,20 @@ fn deletion_and_insertion(store: &mut Store) -> bool {
         && !store.drop_erasure(2)
 }
 
-/// One store for all rows, each of which leaves it empty.
+/// Which rows come out. One store for all of them, each of which leaves it empty.
+fn rows_of_one_store(alloc: Global) -> [bool; 6] {
+    let mut store = empty_store(alloc);
+    [
+        paid_in_advance(&mut store),
+        reversed_chain(&mut store),
+        bush(&mut store),
+        one_chain_of_two(&mut store),
+        both_chains_of_two(&mut store),
+        deletion_and_insertion(&mut store),
+    ]
+}
+
 #[test]
 fn what_came_early_is_handed_out_once_in_order(rt: HostRuntime) {
-    let mut store = empty_store(rt.alloc());
-    assert!(rt; paid_in_advance(&mut store), "paid in advance");
-    assert!(rt; reversed_chain(&mut store), "reversed chain");
-    assert!(rt; bush(&mut store), "bush");
-    assert!(rt; one_chain_of_two(&mut store), "one chain of two");
-    assert!(rt; both_chains_of_two(&mut store), "both chains of two");
-    assert!(rt;
-        deletion_and_insertion(&mut store),
-        "deletion and insertion"
-    );
+    assert_eq!(rt; rows_of_one_store(rt.alloc()), [true; 6]);
 }

@@ -33,18 +33,15 @@ fn operations() -> Option<[Op; 7]> {
     ])
 }
 
-/// A desk that took them. A call that memory was refused to left the desk as it was, and is made again.
-fn desk<S: Sequence + Drop>(alloc: Global, seq: S) -> Option<Replica<S>>
-    requires { S.content seq ≡ no_operations }
-{
-    let mut desk = Replica::new(alloc, 1, seq, 7);
+/// Lets a desk take them. A call that memory was refused to left the desk as it was, and is made again.
+fn takes_all<S: Sequence>(desk: &mut Replica<S>) -> Option<()> {
     for op in operations()? {
         match desk.take(&op) {
             Err(TakeFault::Memory) => desk.take(&op).ok()?,
             answer => answer.ok()?,
         };
     }
-    Some(desk)
+    Some(())
 }
 
 fn places<S: Sequence>(desk: &Replica<S>) -> Option<bool> {
@@ -77,20 +74,20 @@ fn lists<S: Sequence>(desk: &Replica<S>) -> Option<bool> {
     Some(right)
 }
 
-#[test]
-fn finds_places(rt: HostRuntime) {
-    let alloc = rt.alloc();
-    let blocks = desk(alloc, Blocks::new(alloc)).and_then(|desk| places(&desk));
-    assert_eq!(rt; blocks, Some(true));
-    let plain = desk(alloc, Plain::new(alloc)).and_then(|desk| places(&desk));
-    assert_eq!(rt; plain, Some(true));
+/// Whether a desk over an empty sequence that took them finds the places, and tells each operation.
+fn reads<S: Sequence + Drop>(alloc: Global, seq: S) -> [Option<bool>; 2]
+    requires { S.content seq ≡ no_operations }
+{
+    let mut desk = Replica::new(alloc, 1, seq, 7);
+    match takes_all(&mut desk) {
+        Some(()) => [places(&desk), lists(&desk)],
+        None => [None; 2],
+    }
 }
 
 #[test]
-fn tells_each_operation(rt: HostRuntime) {
+fn finds_places_and_tells_each_operation(rt: HostRuntime) {
     let alloc = rt.alloc();
-    let blocks = desk(alloc, Blocks::new(alloc)).and_then(|desk| lists(&desk));
-    assert_eq!(rt; blocks, Some(true));
-    let plain = desk(alloc, Plain::new(alloc)).and_then(|desk| lists(&desk));
-    assert_eq!(rt; plain, Some(true));
+    assert_eq!(rt; reads(alloc, Blocks::new(alloc)), [Some(true); 2]);
+    assert_eq!(rt; reads(alloc, Plain::new(alloc)), [Some(true); 2]);
 }
