@@ -1,22 +1,14 @@
+use crate::compared::{assert_number, assert_text};
+use crate::first_paragraph::first_paragraph;
+use crate::small_tables::small_tables;
 use bg_types::Base;
 use bg_types::Bidi::L;
 use bidi_explicit::*;
-use paragraphs::split;
-use std::alloc::Global;
+use paragraphs::Para;
+use std::alloc::{AllocError, Global};
 use std::process::Abort;
 use std::test::Fail;
-use ucd_files::{Tables, UcdFault, vectors};
-
-fn small_tables(alloc: Global) -> Result<Tables, UcdFault> {
-    Tables::load(
-        alloc,
-        vectors::BIDI,
-        vectors::BRACKETS,
-        vectors::MIRROR,
-        vectors::LB,
-        vectors::EA,
-    )
-}
+use ucd_files::Tables;
 
 /// What the explicit rules make of a text's first paragraph.
 fn first_embedded(
@@ -25,53 +17,74 @@ fn first_embedded(
     base: Base,
     text: &str,
 ) -> Result<Embedded, Fail> {
-    let paragraphs = split(alloc, tables, text)?;
-    match paragraphs.first() {
-        Some(para) => Ok(explicit(alloc, tables, para, base)?),
-        None => Err(Fail::from("no paragraph")),
-    }
+    let para = first_paragraph(alloc, tables, text)?;
+    Ok(explicit(alloc, tables, &para, base)?)
 }
 
-/// A paragraph's level, its places, each with its class and level or `-` where it is removed, and its sequences.
-fn told(alloc: Global, embedded: &Embedded) -> Result<String, Fail> {
-    let mut text = format!(in alloc; "{}", embedded.level())?;
+/// Tells a paragraph's level, its places, each with its class and level or `-` where it is removed, and its sequences.
+fn tell(told: &mut String, embedded: &Embedded) -> Result<(), AllocError> {
+    write!(told, "{}", embedded.level())?;
     for place in embedded.places() {
         match place {
-            Some(kept) => text.push_str(&format!(in alloc; " {:?}{}", kept.class, kept.level)?)?,
-            None => text.push_str(" -")?,
+            Some(kept) => write!(told, " {:?}{}", kept.class, kept.level)?,
+            None => told.push_str(" -")?,
         }
     }
     for number in 0..embedded.sequence_count() {
-        text.push_str("|")?;
-        text.push_str(&sequence_told(alloc, &embedded.sequence(number))?)?;
+        told.push_str("|")?;
+        tell_sequence(told, &embedded.sequence(number))?;
     }
-    Ok(text)
+    Ok(())
 }
 
-/// A sequence's places, its level, sos and eos.
-fn sequence_told(alloc: Global, sequence: &Sequence) -> Result<String, Fail> {
-    let mut text = String::new(alloc);
+/// Tells a sequence's places, its level, sos and eos.
+fn tell_sequence(told: &mut String, sequence: &Sequence) -> Result<(), AllocError> {
     for place in sequence.places() {
-        text.push_str(&format!(in alloc; " {place}")?)?;
+        write!(told, " {place}")?;
     }
     let (level, sos, eos) = (sequence.level(), sequence.sos(), sequence.eos());
-    text.push_str(&format!(in alloc; " at {level} {sos:?} {eos:?}")?)?;
-    Ok(text)
+    write!(told, " at {level} {sos:?} {eos:?}")
+}
+
+/// What is told of a text's first paragraph.
+fn told_of(alloc: Global, tables: &Tables, base: Base, text: &str) -> Result<String, Fail> {
+    let embedded = first_embedded(alloc, tables, base, text)?;
+    let mut told = String::new(alloc);
+    tell(&mut told, &embedded)?;
+    Ok(told)
+}
+
+/// Compares what is told of a text's first paragraph.
+fn assert_told(
+    rt: &(impl Abort + AllocGlobal),
+    tables: &Tables,
+    base: Base,
+    text: &str,
+    wanted: &str,
+) -> Result<(), Fail> {
+    let told = told_of(rt.alloc(), tables, base, text)?;
+    assert_text(rt, &told, wanted, text);
+    Ok(())
 }
 
 /// A row has a text, and what is told of its first paragraph.
-fn assert_rows(rt: &(impl Abort + AllocGlobal), base: Base, rows: &str) -> Result<(), Fail> {
-    let tables = small_tables(rt.alloc())?;
+fn assert_each(
+    rt: &(impl Abort + AllocGlobal),
+    tables: &Tables,
+    base: Base,
+    rows: &str,
+) -> Result<(), Fail> {
     for row in rows.split(";\n") {
         let (text, wanted) = row.split_once('|').unwrap_or((row, ""));
-        let embedded = first_embedded(rt.alloc(), &tables, base, text)?;
-        assert_eq!(rt;
-            told(rt.alloc(), &embedded)?.as_str(),
-            wanted,
-            "of {text:?}"
-        );
+        assert_told(rt, tables, base, text, wanted)?;
     }
     Ok(())
+}
+
+/// The same by the small tables.
+fn assert_rows(rt: &(impl Abort + AllocGlobal), base: Base, rows: &str) -> Result<(), Fail> {
+    let tables = small_tables(rt.alloc())?;
+    assert_each(rt, &tables, base, rows)
 }
 
 #[test]
@@ -139,76 +152,111 @@ fn repeated(alloc: Global, part: &str, count: usize, end: &str) -> Result<String
     Ok(text)
 }
 
-/// Compares the end of the report on a repeated part and an end.
-fn assert_deep(
+/// Compares the end of what is told of a text.
+fn assert_end(
     rt: &(impl Abort + AllocGlobal),
-    (part, count, end): (&str, usize, &str),
+    tables: &Tables,
+    text: &str,
     wanted: &str,
 ) -> Result<(), Fail> {
-    let tables = small_tables(rt.alloc())?;
-    let text = repeated(rt.alloc(), part, count, end)?;
-    let embedded = first_embedded(rt.alloc(), &tables, Base::Auto, &text)?;
-    let told = told(rt.alloc(), &embedded)?;
-    assert!(rt; told.as_str().ends_with(wanted), "{wanted} of {count}");
+    let told = told_of(rt.alloc(), tables, Base::Auto, text)?;
+    assert!(rt; told.as_str().ends_with(wanted), "{wanted} of {text:?}");
+    Ok(())
+}
+
+/// How often RLE is repeated, what ends the text, and the end of what is told of it.
+const DEEP: &[(usize, &str, &str)] = &[
+    (63, "a", " - L125| 63 at 125 R R"),
+    (64, "a", " - L125| 64 at 125 R R"),
+    (
+        63,
+        "\u{2067}\u{202C}\u{2069}a",
+        " - Rli125 - Pdi125 L125| 63 65 66 at 125 R R",
+    ),
+];
+
+fn assert_deep(rt: &(impl Abort + AllocGlobal), tables: &Tables) -> Result<(), Fail> {
+    for (count, end, wanted) in DEEP {
+        let text = repeated(rt.alloc(), "\u{202B}", *count, end)?;
+        assert_end(rt, tables, &text, wanted)?;
+    }
     Ok(())
 }
 
 #[test]
 fn the_greatest_depth(rt: HostRuntime) -> Result<(), Fail> {
-    assert_deep(&rt, ("\u{202B}", 63, "a"), " - L125| 63 at 125 R R")?;
-    assert_deep(&rt, ("\u{202B}", 64, "a"), " - L125| 64 at 125 R R")?;
-    let end = "\u{2067}\u{202C}\u{2069}a";
-    let wanted = " - Rli125 - Pdi125 L125| 63 65 66 at 125 R R";
-    assert_deep(&rt, ("\u{202B}", 63, end), wanted)
+    let tables = small_tables(rt.alloc())?;
+    assert_deep(&rt, &tables)
 }
 
 /// RLI repeated, a letter, and PDI as many times.
-fn assert_isolates(rt: &(impl Abort + AllocGlobal), count: usize) -> Result<(), Fail> {
-    let tables = small_tables(rt.alloc())?;
-    let closed = repeated(rt.alloc(), "\u{2069}", count, "")?;
-    let text = repeated(rt.alloc(), "\u{2067}", count, "a")?;
-    let text = repeated(rt.alloc(), &text, 1, &closed)?;
-    let embedded = first_embedded(rt.alloc(), &tables, Base::Auto, &text)?;
-    let letter = embedded.places().get(count).copied().flatten();
-    assert_eq!(rt; letter.map(|kept| (kept.level, kept.class)), Some((125, L)));
+fn isolates(alloc: Global, count: usize) -> Result<String, Fail> {
+    let mut text = repeated(alloc, "\u{2067}", count, "a")?;
+    for _ in 0..count {
+        text.push('\u{2069}')?;
+    }
+    Ok(text)
+}
+
+/// Compares what is told of a sequence.
+fn assert_sequence(
+    rt: &(impl Abort + AllocGlobal),
+    sequence: &Sequence,
+    wanted: &str,
+) -> Result<(), Fail> {
+    let mut told = String::new(rt.alloc());
+    tell_sequence(&mut told, sequence)?;
+    assert_text(rt, &told, wanted, "isolates");
+    Ok(())
+}
+
+/// What is made of 130 isolates.
+fn assert_isolates(rt: &(impl Abort + AllocGlobal), embedded: &Embedded) -> Result<(), Fail> {
+    let Some(Some(letter)) = embedded.places().get(130) else {
+        return Err(Fail::from("no letter"));
+    };
+    assert_number(rt, usize::from(letter.level), 125, "isolates");
+    assert_eq!(rt; letter.class, L);
     assert_eq!(rt; embedded.sequence_count(), 64);
-    let first = sequence_told(rt.alloc(), &embedded.sequence(0))?;
-    assert_eq!(rt; first.as_str(), " 0 260 at 0 L L");
-    let late = sequence_told(rt.alloc(), &embedded.sequence(62))?;
-    assert_eq!(rt; late.as_str(), " 62 198 at 123 R R");
-    assert_eq!(rt; embedded.sequence(63).places().len(), 135);
+    assert_sequence(rt, &embedded.sequence(0), " 0 260 at 0 L L")?;
+    assert_sequence(rt, &embedded.sequence(62), " 62 198 at 123 R R")?;
+    assert_number(rt, embedded.sequence(63).places().len(), 135, "isolates");
     Ok(())
 }
 
 #[test]
 fn isolates_beyond_the_greatest_depth(rt: HostRuntime) -> Result<(), Fail> {
-    assert_isolates(&rt, 130)
+    let text = isolates(rt.alloc(), 130)?;
+    let embedded = first_embedded(rt.alloc(), &small_tables(rt.alloc())?, Base::Auto, &text)?;
+    assert_isolates(&rt, &embedded)
 }
 
-/// A row has a level and a text, which has that level by itself.
-fn assert_levels(rt: &(impl Abort + AllocGlobal), rows: &str) -> Result<(), Fail> {
-    let tables = small_tables(rt.alloc())?;
-    for row in rows.split('\n') {
-        let (level, text) = row.split_once('|').unwrap_or((row, ""));
-        for para in split(rt.alloc(), &tables, text)? {
-            let found = paragraph_level(&tables, &para, Base::Auto);
-            assert_eq!(rt; found, u8::from(level == "1"), "in {text:?}");
-            assert_eq!(rt; paragraph_level(&tables, &para, Base::Left), 0);
-            assert_eq!(rt; paragraph_level(&tables, &para, Base::Right), 1);
-        }
+/// Texts, and the level that each has by itself.
+const LEVELS: &[(&str, usize)] = &[
+    ("", 0),
+    ("1\u{627}", 1),
+    ("\u{2067}\u{5D0}\u{2069}a", 0),
+    ("\u{2067}\u{5D0}", 0),
+    ("\u{2069}\u{5D0}a", 1),
+];
+
+fn assert_level(rt: &impl Abort, tables: &Tables, para: &Para, level: usize) {
+    for (base, wanted) in [(Base::Auto, level), (Base::Left, 0), (Base::Right, 1)] {
+        let found = paragraph_level(tables, para, base);
+        assert_number(rt, usize::from(found), wanted, para.text());
+    }
+}
+
+fn assert_levels(rt: &(impl Abort + AllocGlobal), tables: &Tables) -> Result<(), Fail> {
+    for (text, level) in LEVELS {
+        let para = first_paragraph(rt.alloc(), tables, text)?;
+        assert_level(rt, tables, &para, *level);
     }
     Ok(())
 }
 
 #[test]
 fn paragraph_levels_take_no_memory(rt: HostRuntime) -> Result<(), Fail> {
-    assert_levels(
-        &rt,
-        "\
-0|
-1|1\u{627}
-0|\u{2067}\u{5D0}\u{2069}a
-0|\u{2067}\u{5D0}
-1|\u{2069}\u{5D0}a",
-    )
+    let tables = small_tables(rt.alloc())?;
+    assert_levels(&rt, &tables)
 }

@@ -1,22 +1,33 @@
 //! What no clause says: rows of the standard and of worked examples, and calls that succeed.
 
+use crate::small_tables::small_tables;
 use bg_types::Base;
 use bidi_weak_neutral::*;
-use paragraphs::split;
-use std::alloc::Global;
+use paragraphs::{Para, split};
+use std::alloc::{AllocError, Global};
 use std::process::Abort;
+use std::slice::Iter;
 use std::test::Fail;
-use ucd_files::{Tables, UcdFault, vectors};
+use ucd_files::Tables;
 
-fn small_tables(alloc: Global) -> Result<Tables, UcdFault> {
-    Tables::load(
-        alloc,
-        vectors::BIDI,
-        vectors::BRACKETS,
-        vectors::MIRROR,
-        vectors::LB,
-        vectors::EA,
-    )
+/// Compares the levels of a paragraph with the next digits.
+fn assert_next(rt: &impl Abort, levels: &[u8], digits: &mut Iter<'_, u8>, text: &str) {
+    for level in levels {
+        let digit = level.wrapping_add(b'0');
+        assert_eq!(rt; digits.next().copied(), Some(digit), "of {text:?}");
+    }
+}
+
+fn assert_para(
+    rt: &(impl Abort + AllocGlobal),
+    tables: &Tables,
+    base: Base,
+    para: &Para,
+    digits: &mut Iter<'_, u8>,
+) -> Result<(), Fail> {
+    let levels = levels(rt.alloc(), tables, para, base)?;
+    assert_next(rt, &levels, digits, para.text());
+    Ok(())
 }
 
 /// Compares the levels of a text's paragraphs, one paragraph after the other.
@@ -25,31 +36,36 @@ fn assert_levels(
     tables: &Tables,
     base: Base,
     text: &str,
-    want: &[u8],
+    digits: &[u8],
 ) -> Result<(), Fail> {
-    let mut found = Vec::new(rt.alloc());
-    for para in split(rt.alloc(), tables, text)? {
-        for level in levels(rt.alloc(), tables, &para, base)? {
-            found.push(level)?;
-        }
+    let mut digits = digits.iter();
+    let paragraphs = split(rt.alloc(), tables, text)?;
+    for para in &paragraphs {
+        assert_para(rt, tables, base, para, &mut digits)?;
     }
-    assert_eq!(rt; found.as_slice(), want, "of {text:?}");
+    assert!(rt; digits.next().is_none(), "of {text:?}");
     Ok(())
 }
 
 /// A row has the rule that it tries, a text and its levels, a digit a code point.
-fn assert_rows(rt: &(impl Abort + AllocGlobal), base: Base, rows: &str) -> Result<(), Fail> {
-    let tables = small_tables(rt.alloc())?;
+fn assert_each(
+    rt: &(impl Abort + AllocGlobal),
+    tables: &Tables,
+    base: Base,
+    rows: &str,
+) -> Result<(), Fail> {
     for row in rows.split(";\n") {
-        let mut fields = row.split('|').skip(1);
-        let text = fields.next().unwrap_or("");
-        let mut want = Vec::new(rt.alloc());
-        for digit in fields.next().unwrap_or("-").bytes() {
-            want.push(digit.wrapping_sub(b'0'))?;
-        }
-        assert_levels(rt, &tables, base, text, &want)?;
+        let (_rule, fields) = row.split_once('|').unwrap_or(("", row));
+        let (text, digits) = fields.split_once('|').unwrap_or((fields, "-"));
+        assert_levels(rt, tables, base, text, digits.as_bytes())?;
     }
     Ok(())
+}
+
+/// The same by the small tables.
+fn assert_rows(rt: &(impl Abort + AllocGlobal), base: Base, rows: &str) -> Result<(), Fail> {
+    let tables = small_tables(rt.alloc())?;
+    assert_each(rt, &tables, base, rows)
 }
 
 /// Paragraphs by their own direction.
@@ -140,16 +156,17 @@ fn levels_under_a_base(rt: HostRuntime) -> Result<(), Fail> {
     assert_rows(&rt, Base::Auto, "-|\u{5D0}!|11")
 }
 
+/// 64 times U+202B and then a letter.
+fn deep_text(alloc: Global) -> Result<String, AllocError> {
+    let mut text = "\u{202B}".repeat(alloc, 64)?;
+    text.push('a')?;
+    Ok(text)
+}
+
 #[test]
 fn the_greatest_level_is_126(rt: HostRuntime) -> Result<(), Fail> {
-    let tables = small_tables(rt.alloc())?;
-    let mut text = String::new(rt.alloc());
-    let mut want = Vec::new(rt.alloc());
-    for _ in 0..64 {
-        text.push('\u{202B}')?;
-        want.push(0)?;
-    }
-    text.push('a')?;
-    want.push(126)?;
-    assert_levels(&rt, &tables, Base::Auto, &text, &want)
+    let mut digits = [b'0'; 65];
+    digits[64] = b'0' + 126;
+    let text = deep_text(rt.alloc())?;
+    assert_levels(&rt, &small_tables(rt.alloc())?, Base::Auto, &text, &digits)
 }

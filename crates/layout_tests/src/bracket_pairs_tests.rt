@@ -1,8 +1,9 @@
 //! What no clause says: rows of the standard, and calls that succeed.
 
-use bg_types::Bidi;
+use crate::compared::assert_number;
+use bg_types::{Bidi, Memory};
 use bracket_pairs::*;
-use std::alloc::Global;
+use std::alloc::{AllocError, Global};
 use std::process::Abort;
 use std::test::Fail;
 use ucd_files::{Tables, vectors};
@@ -32,33 +33,58 @@ fn types_of(alloc: Global, letters: &str) -> Result<Vec<Bidi>, Fail> {
     Ok(types)
 }
 
-/// A sequence: its level, its sos, its characters, their types before W1 and those after W7, each list as a text.
-type Given<'a> = (u8, &'a str, &'a str, &'a str, &'a str);
-
-/// The types after N0.
-fn resolved(
-    rt: &impl Abort,
-    alloc: Global,
-    tables: &Tables,
-    sequence: Given,
-) -> Result<Vec<Bidi>, Fail> {
-    let (level, sos, text, before_w1, letters) = sequence;
+/// The characters of a text.
+fn chars_of(alloc: Global, text: &str) -> Result<Vec<char>, Fail> {
     let mut chars = Vec::new(alloc);
     for c in text.chars() {
         chars.push(c)?;
     }
-    let sos = types_of(alloc, sos)?;
-    let before_w1 = types_of(alloc, before_w1)?;
-    let given = types_of(alloc, letters)?;
-    let mut types = types_of(alloc, letters)?;
-    assert!(rt; sos.len() == 1);
+    Ok(chars)
+}
+
+/// A sequence: its level, its sos, its characters, their types before W1 and those after W7, each list as a text.
+type Given<'a> = (u8, Bidi, &'a str, &'a str, &'a str);
+
+fn assert_type(rt: &impl Abort, came: Bidi, letter: char, text: &str, level: u8) {
+    assert_eq!(rt; came, type_of(letter), "in {text} at level {level}");
+}
+
+/// Compares types with letters.
+fn assert_types(rt: &impl Abort, types: &[Bidi], letters: &str, text: &str, level: u8) {
+    assert_number(rt, types.len(), letters.len(), text);
+    for (came, letter) in types.iter().zip(letters.chars()) {
+        assert_type(rt, *came, letter, text, level);
+    }
+}
+
+/// Resolves types, after a test of the call's preconditions. A refused growth changes nothing.
+fn resolve_types(
+    rt: &(impl Abort + AllocGlobal),
+    tables: &Tables,
+    (level, sos, text, _, letters): Given,
+    chars: &[char],
+    before_w1: &[Bidi],
+    types: &mut [Bidi],
+) -> Result<(), Memory> {
     assert!(rt; before_w1.len() == chars.len());
     assert!(rt; types.len() == chars.len());
-    let result = resolve(alloc, tables, level, sos[0], &chars, &before_w1, &mut types);
+    let result = resolve(rt.alloc(), tables, level, sos, chars, before_w1, types);
     if result.is_err() {
-        assert_eq!(rt; types, given, "a refused growth changes nothing");
+        assert_types(rt, types, letters, text, level);
     }
-    result?;
+    result
+}
+
+/// The types after N0.
+fn resolved(
+    rt: &(impl Abort + AllocGlobal),
+    tables: &Tables,
+    sequence: Given,
+    chars: &[char],
+    before_w1: &[Bidi],
+) -> Result<Vec<Bidi>, Fail> {
+    let mut types = types_of(rt.alloc(), sequence.4)?;
+    resolve_types(rt, tables, sequence, chars, before_w1, &mut types)?;
     Ok(types)
 }
 
@@ -69,38 +95,46 @@ fn assert_resolved(
     sequence: Given,
     after: &str,
 ) -> Result<(), Fail> {
-    let came = resolved(rt, rt.alloc(), tables, sequence)?;
-    assert_eq!(rt;
-        came,
-        types_of(rt.alloc(), after)?,
-        "{} at level {}",
-        sequence.2,
-        sequence.0
-    );
+    let chars = chars_of(rt.alloc(), sequence.2)?;
+    let before_w1 = types_of(rt.alloc(), sequence.3)?;
+    let types = resolved(rt, tables, sequence, &chars, &before_w1)?;
+    assert_types(rt, &types, after, sequence.2, sequence.0);
     Ok(())
+}
+
+/// Cuts the first field off a row.
+fn field<'a>(row: &mut &'a str) -> &'a str {
+    let (first, rest) = row.split_once('|').unwrap_or((*row, "-"));
+    *row = rest;
+    first
 }
 
 /// A row has level and sos, the text, its types before W1, after W7 and after N0.
 fn assert_row(rt: &(impl Abort + AllocGlobal), tables: &Tables, row: &str) -> Result<(), Fail> {
-    let mut fields = row.split('|');
-    let start = fields.next().unwrap_or("");
-    let text = fields.next().unwrap_or("");
-    let before_w1 = fields.next().unwrap_or("");
-    let types = fields.next().unwrap_or("");
-    let after = fields.next().unwrap_or("-");
-    let (level, sos) = match start.strip_prefix('1') {
-        Some(sos) => (1, sos),
-        None => (0, start.strip_prefix('0').unwrap_or("")),
+    let mut rest = row;
+    let start = field(&mut rest);
+    let level = u8::from(start.starts_with('1'));
+    let sos = if start.ends_with('R') {
+        Bidi::R
+    } else {
+        Bidi::L
     };
-    assert_resolved(rt, tables, (level, sos, text, before_w1, types), after)
+    let text = field(&mut rest);
+    let before_w1 = field(&mut rest);
+    let types = field(&mut rest);
+    assert_resolved(rt, tables, (level, sos, text, before_w1, types), rest)
+}
+
+fn assert_each(rt: &(impl Abort + AllocGlobal), tables: &Tables, rows: &str) -> Result<(), Fail> {
+    for row in rows.split('\n') {
+        assert_row(rt, tables, row)?;
+    }
+    Ok(())
 }
 
 fn assert_rows(rt: &(impl Abort + AllocGlobal), brackets: &[u8], rows: &str) -> Result<(), Fail> {
     let tables = tables(rt.alloc(), brackets)?;
-    for row in rows.split('\n') {
-        assert_row(rt, &tables, row)?;
-    }
-    Ok(())
+    assert_each(rt, &tables, rows)
 }
 
 /// Small texts worked out by hand: crossed pairs; equivalent brackets; closing brackets that nothing waits for; brackets
@@ -181,81 +215,87 @@ fn a_character_that_opens_for_itself_is_never_closed(rt: HostRuntime) -> Result<
     )
 }
 
-/// A beginning, and a part repeated.
-fn repeated(alloc: Global, begin: &str, part: &str, count: usize) -> Result<String, Fail> {
-    let mut text = String::new(alloc);
-    text.push_str(begin)?;
+/// The pieces of a field, and how often each of them stands there.
+type Field<'a> = &'a [(&'a str, usize)];
+
+/// Appends a piece as often as this.
+fn push_repeated(row: &mut String, piece: &str, count: usize) -> Result<(), AllocError> {
     for _ in 0..count {
-        text.push_str(part)?;
+        row.push_str(piece)?;
     }
-    Ok(text)
+    Ok(())
 }
 
-/// A number of opening brackets, a letter and as many closing ones, and the type of each bracket after N0.
-fn assert_nested(rt: &(impl Abort + AllocGlobal), count: usize, bracket: &str) -> Result<(), Fail> {
-    let tables = tables(rt.alloc(), vectors::BRACKETS)?;
-    let mut text = repeated(rt.alloc(), "a", "(", count)?;
-    text.push_str(&repeated(rt.alloc(), "\u{5D0}", ")", count)?)?;
-    let mut types = repeated(rt.alloc(), "L", "n", count)?;
-    types.push_str(&repeated(rt.alloc(), "R", "n", count)?)?;
-    let mut after = repeated(rt.alloc(), "L", bracket, count)?;
-    after.push_str(&repeated(rt.alloc(), "R", bracket, count)?)?;
-    assert_resolved(rt, &tables, (0, "L", &text, &types, &types), &after)
+fn push_field(row: &mut String, pieces: Field) -> Result<(), AllocError> {
+    row.push('|')?;
+    for (piece, count) in pieces {
+        push_repeated(row, piece, *count)?;
+    }
+    Ok(())
 }
 
-/// A pair, then a number of opening brackets, the last of which is closed.
-fn assert_closed_before(rt: &(impl Abort + AllocGlobal), count: usize) -> Result<(), Fail> {
-    let tables = tables(rt.alloc(), vectors::BRACKETS)?;
-    let mut text = repeated(rt.alloc(), "a(\u{5D0})\u{5D0}", "(", count)?;
-    text.push_str("b)")?;
-    let mut types = repeated(rt.alloc(), "LnRnR", "n", count)?;
-    types.push_str("Ln")?;
-    let mut after = repeated(rt.alloc(), "LLRLR", "n", count)?;
-    after.push_str("Ln")?;
-    assert_resolved(rt, &tables, (0, "L", &text, &types, &types), &after)
+/// A row of level and sos, and of fields of repeated pieces.
+fn long_row(alloc: Global, start: &str, fields: &[Field]) -> Result<String, AllocError> {
+    let mut row = String::from_str(alloc, start)?;
+    for pieces in fields {
+        push_field(&mut row, *pieces)?;
+    }
+    Ok(row)
 }
+
+fn assert_long(rt: &(impl Abort + AllocGlobal), start: &str, fields: &[Field]) -> Result<(), Fail> {
+    let row = long_row(rt.alloc(), start, fields)?;
+    assert_rows(rt, vectors::BRACKETS, &row)
+}
+
+/// 63 opening brackets, a letter and as many closing ones.
+const NESTED: &[Field] = &[
+    &[("a", 1), ("(", 63), ("\u{5D0}", 1), (")", 63)],
+    &[("L", 1), ("n", 63), ("R", 1), ("n", 63)],
+    &[("L", 1), ("n", 63), ("R", 1), ("n", 63)],
+    &[("L", 1), ("L", 63), ("R", 1), ("L", 63)],
+];
+
+/// The same with 64.
+const TOO_NESTED: &[Field] = &[
+    &[("a", 1), ("(", 64), ("\u{5D0}", 1), (")", 64)],
+    &[("L", 1), ("n", 64), ("R", 1), ("n", 64)],
+    &[("L", 1), ("n", 64), ("R", 1), ("n", 64)],
+    &[("L", 1), ("n", 64), ("R", 1), ("n", 64)],
+];
+
+/// A pair, then 64 opening brackets, the last of which is closed.
+const CLOSED_BEFORE: &[Field] = &[
+    &[("a(\u{5D0})\u{5D0}", 1), ("(", 64), ("b)", 1)],
+    &[("LnRnR", 1), ("n", 64), ("Ln", 1)],
+    &[("LnRnR", 1), ("n", 64), ("Ln", 1)],
+    &[("LLRLR", 1), ("n", 64), ("Ln", 1)],
+];
 
 #[test]
 fn sixty_three_may_wait(rt: HostRuntime) -> Result<(), Fail> {
-    assert_nested(&rt, 63, "L")?;
-    assert_nested(&rt, 64, "n")?;
-    assert_closed_before(&rt, 64)
+    assert_long(&rt, "0L", NESTED)?;
+    assert_long(&rt, "0L", TOO_NESTED)?;
+    assert_long(&rt, "0L", CLOSED_BEFORE)
 }
 
-/// A beginning and a part repeated, with their types after N0.
-fn assert_many(
-    rt: &(impl Abort + AllocGlobal),
-    count: usize,
-    begin: (Given, &str),
-    part: (Given, &str),
-) -> Result<(), Fail> {
-    let tables = tables(rt.alloc(), vectors::BRACKETS)?;
-    let text = repeated(rt.alloc(), begin.0.2, part.0.2, count)?;
-    let before = repeated(rt.alloc(), begin.0.3, part.0.3, count)?;
-    let types = repeated(rt.alloc(), begin.0.4, part.0.4, count)?;
-    let after = repeated(rt.alloc(), begin.1, part.1, count)?;
-    let sequence = (
-        begin.0.0,
-        begin.0.1,
-        text.as_str(),
-        before.as_str(),
-        types.as_str(),
-    );
-    let came = resolved(rt, rt.alloc(), &tables, sequence)?;
-    assert!(rt; came == types_of(rt.alloc(), &after)?);
-    Ok(())
-}
+const MANY_PAIRS: &[Field] = &[
+    &[("(a)", 100_000)],
+    &[("nLn", 100_000)],
+    &[("nLn", 100_000)],
+    &[("LLL", 100_000)],
+];
+
+const MANY_MARKS: &[Field] = &[
+    &[("!(a!)", 1), ("(())", 100_000)],
+    &[("nMLnM", 1), ("MMMM", 100_000)],
+    &[("nnLnn", 1), ("nnnn", 100_000)],
+    &[("nLLnL", 1), ("LLLL", 100_000)],
+];
 
 /// In time proportional to the text: many pairs, and many that stand among the marks of one.
 #[test]
 fn many_small_pairs_are_cheap(rt: HostRuntime) -> Result<(), Fail> {
-    let none = ((1, "L", "", "", ""), "");
-    assert_many(&rt, 100_000, none, ((1, "L", "(a)", "nLn", "nLn"), "LLL"))?;
-    let marked = ((0, "L", "!(a!)", "nMLnM", "nnLnn"), "nLLnL");
-    assert_many(
-        &rt,
-        100_000,
-        marked,
-        ((0, "L", "(())", "MMMM", "nnnn"), "LLLL"),
-    )
+    assert_long(&rt, "1L", MANY_PAIRS)?;
+    assert_long(&rt, "0L", MANY_MARKS)
 }

@@ -5,77 +5,23 @@
 
 mod hostile;
 
+use crate::compared::{assert_bytes, assert_number, assert_text};
+use crate::drawn::drawn;
+use crate::small_tables::{small_tables, tables_of};
 use bg_types::{Base, Memory, Out, Stops};
 use cell_grid::*;
 use std::alloc::Global;
 use std::process::Abort;
+use std::slice::Iter;
 use std::test::Fail;
-use ucd_files::{Tables, UcdFault, vectors};
+use ucd_files::{Tables, Ucd, vectors};
 
-fn tables_once(alloc: Global, mirror: &[u8]) -> Result<Tables, UcdFault> {
-    Tables::load(
-        alloc,
-        vectors::BIDI,
-        vectors::BRACKETS,
-        mirror,
-        vectors::LB,
-        vectors::EA,
-    )
-}
-
-/// The small tables, with this mirroring file.
-fn tables_with(alloc: Global, mirror: &[u8]) -> Result<Tables, UcdFault> {
-    match tables_once(alloc, mirror) {
-        Err(UcdFault::Memory) => tables_once(alloc, mirror),
-        answer => answer,
-    }
-}
-
-/// The grid of a text of at most 4,000,000 bytes at a width of 2 to 500, by a base direction.
-fn grid_by<'a>(
-    rt: &impl Abort,
-    alloc: Global,
-    tables: &'a Tables,
-    width: u16,
-    base: Base,
-    text: &'a str,
-) -> Result<Grid<'a>, Memory> {
-    assert!(rt; width >= 2);
-    assert!(rt; width <= 500);
-    assert!(rt; text.len() <= 4_000_000);
-    match draw(alloc, tables, width, base, text) {
-        Err(Memory) => draw(alloc, tables, width, base, text),
-        answer => answer,
-    }
-}
-
-/// The same, where each paragraph has its own direction.
-fn grid_of<'a>(
-    rt: &impl Abort,
-    alloc: Global,
-    tables: &'a Tables,
-    width: u16,
-    text: &'a str,
-) -> Result<Grid<'a>, Memory> {
-    grid_by(rt, alloc, tables, width, Base::Auto, text)
-}
-
-/// Prints a grid through a sink that takes at most `piece` bytes a call and `left` in all. Returns the
-/// bytes written, and whether the print was whole.
-fn printed(
-    rt: &impl Abort,
-    alloc: Global,
-    grid: &Grid,
-    piece: usize,
-    left: usize,
-) -> Result<(Vec<u8>, bool), Memory> {
+/// Prints a grid through a sink that takes at most `piece` bytes a call and `left` in all. Returns
+/// whether the print was whole.
+fn print_to(rt: &impl Abort, bytes: &mut Vec<u8>, grid: &Grid, piece: usize, left: usize) -> bool {
     assert!(rt; piece > 0);
-    let mut bytes = with_room(alloc)?;
-    let whole = {
-        let mut sink = Stops::new(Out::new(&mut bytes), piece, left);
-        print(grid, &mut sink).is_ok()
-    };
-    Ok((bytes, whole))
+    let mut sink = Stops::new(Out::new(bytes), piece, left);
+    print(grid, &mut sink).is_ok()
 }
 
 /// An empty list with room for the longest print of these tests.
@@ -86,33 +32,50 @@ fn with_room(alloc: Global) -> Result<Vec<u8>, Memory> {
     }
 }
 
-fn assert_printed_by(
+/// Compares what such a sink takes of a grid with these bytes.
+fn assert_taken(
     rt: &(impl Abort + AllocGlobal),
-    tables: &Tables,
-    base: Base,
-    text: &str,
-    width: u16,
-    shown: &str,
+    grid: &Grid,
+    (piece, left): (usize, usize),
+    shown: &[u8],
+    all: bool,
 ) -> Result<(), Fail> {
-    let grid = grid_by(rt, rt.alloc(), tables, width, base, text)?;
-    let (bytes, whole) = printed(rt, rt.alloc(), &grid, usize::MAX, usize::MAX)?;
-    assert_eq!(rt;
-        bytes.as_slice(),
-        shown.as_bytes(),
-        "{text:?} at width {width}, {base:?}"
-    );
-    assert!(rt; whole);
+    let mut bytes = with_room(rt.alloc())?;
+    let whole = print_to(rt, &mut bytes, grid, piece, left);
+    assert_bytes(rt, &bytes, shown, grid.text());
+    assert_eq!(rt; whole, all, "{left} bytes by {piece}");
     Ok(())
 }
+
+/// A text, a width, and what is printed.
+type Printed<'a> = (&'a str, u16, &'a str);
 
 fn assert_printed(
     rt: &(impl Abort + AllocGlobal),
     tables: &Tables,
-    text: &str,
-    width: u16,
-    shown: &str,
+    base: Base,
+    (text, width, shown): Printed,
 ) -> Result<(), Fail> {
-    assert_printed_by(rt, tables, Base::Auto, text, width, shown)
+    let grid = drawn(rt, rt.alloc(), tables, width, base, text)?;
+    assert_taken(rt, &grid, (usize::MAX, usize::MAX), shown.as_bytes(), true)
+}
+
+fn assert_all(
+    rt: &(impl Abort + AllocGlobal),
+    tables: &Tables,
+    base: Base,
+    rows: &[Printed],
+) -> Result<(), Fail> {
+    for row in rows {
+        assert_printed(rt, tables, base, *row)?;
+    }
+    Ok(())
+}
+
+/// The same by the small tables.
+fn assert_rows(rt: &(impl Abort + AllocGlobal), base: Base, rows: &[Printed]) -> Result<(), Fail> {
+    let tables = small_tables(rt.alloc())?;
+    assert_all(rt, &tables, base, rows)
 }
 
 /// A paragraph of three scripts.
@@ -123,8 +86,7 @@ const MIXED: &str =
 const MIXED_SHOWN: &str =
     "The word \u{5DD}\u{5D5}\u{5DC}\u{5E9} (peace)   \nand 120 \u{62F}\u{62F}\u{639}\u{644}\u{627} (a number)\nin one paragraph.       \n";
 
-/// Texts, widths, and what is printed.
-const PRINTED: [(&str, u16, &str); 21] = [
+const PRINTED: &[Printed] = &[
     (MIXED, 24, MIXED_SHOWN),
     ("", 4, "    \n"),
     (
@@ -163,151 +125,159 @@ const PRINTED: [(&str, u16, &str); 21] = [
 
 #[test]
 fn texts_are_printed(rt: HostRuntime) -> Result<(), Fail> {
-    let tables = tables_with(rt.alloc(), vectors::MIRROR)?;
-    for (text, width, shown) in PRINTED {
-        assert_printed(&rt, &tables, text, width, shown)?;
-    }
-    Ok(())
+    assert_rows(&rt, Base::Auto, PRINTED)
 }
+
+const FROM_THE_RIGHT: &[Printed] = &[
+    ("ab", 4, "  ab\n"),
+    ("a!", 4, "  !a\n"),
+    // Each paragraph has the base.
+    ("a!\n\nb!", 4, "  !a\n    \n  !b\n"),
+    // An FSI takes its direction from what it holds.
+    ("\u{2068}\u{5D0}!\u{2069}a", 4, " a!\u{5D0}\n"),
+    ("\u{2068}b!\u{2069}a", 4, " ab!\n"),
+];
+
+const FROM_THE_LEFT: &[Printed] = &[
+    ("\u{5D0}!", 4, "\u{5D0}!  \n"),
+    ("\u{5D0}!\n\n\u{5D1}!", 4, "\u{5D0}!  \n    \n\u{5D1}!  \n"),
+    ("\u{2068}\u{5D0}!\u{2069}a", 4, "!\u{5D0}a \n"),
+];
 
 #[test]
 fn a_base_puts_each_row_at_its_edge(rt: HostRuntime) -> Result<(), Fail> {
-    let tables = tables_with(rt.alloc(), vectors::MIRROR)?;
-    let rows: [(Base, &str, &str); 9] = [
-        (Base::Right, "ab", "  ab\n"),
-        (Base::Right, "a!", "  !a\n"),
-        (Base::Left, "\u{5D0}!", "\u{5D0}!  \n"),
-        (Base::Auto, "\u{5D0}!", "  !\u{5D0}\n"),
-        // Each paragraph has the base.
-        (Base::Right, "a!\n\nb!", "  !a\n    \n  !b\n"),
-        (
-            Base::Left,
-            "\u{5D0}!\n\n\u{5D1}!",
-            "\u{5D0}!  \n    \n\u{5D1}!  \n",
-        ),
-        // An FSI takes its direction from what it holds.
-        (Base::Right, "\u{2068}\u{5D0}!\u{2069}a", " a!\u{5D0}\n"),
-        (Base::Right, "\u{2068}b!\u{2069}a", " ab!\n"),
-        (Base::Left, "\u{2068}\u{5D0}!\u{2069}a", "!\u{5D0}a \n"),
-    ];
-    for (base, text, shown) in rows {
-        assert_printed_by(&rt, &tables, base, text, 4, shown)?;
+    assert_rows(&rt, Base::Right, FROM_THE_RIGHT)?;
+    assert_rows(&rt, Base::Left, FROM_THE_LEFT)?;
+    assert_rows(&rt, Base::Auto, &[("\u{5D0}!", 4, "  !\u{5D0}\n")])
+}
+
+/// Texts of an empty paragraph, of one of class B and of one of controls alone.
+const WITHOUT_A_LETTER: &[&str] = &[
+    "",
+    "\n",
+    "\u{2029}",
+    "\u{202A}\u{202C}",
+    "\u{2067}\u{2069}\u{200B}",
+];
+
+/// A row has this paragraph level and begins with a blank.
+fn assert_blank_row(rt: &impl Abort, row: &Row, level: usize, text: &str) {
+    assert_number(rt, usize::from(row.para_level()), level, text);
+    assert_eq!(rt; row.cell(0), Some(Cell::Blank), "{text:?}");
+}
+
+fn assert_blank(rt: &impl Abort, grid: &Grid, level: usize) {
+    for row in grid.rows() {
+        assert_blank_row(rt, row, level, grid.text());
+    }
+}
+
+fn assert_para_levels(
+    rt: &(impl Abort + AllocGlobal),
+    tables: &Tables,
+    base: Base,
+    level: usize,
+) -> Result<(), Fail> {
+    for text in WITHOUT_A_LETTER {
+        let grid = drawn(rt, rt.alloc(), tables, 2, base, text)?;
+        assert_blank(rt, &grid, level);
     }
     Ok(())
 }
 
-/// Rows of an empty paragraph, of one of class B and of one of controls alone.
+/// Base directions, and the level that each gives to such a paragraph.
+const BASE_LEVELS: &[(Base, usize)] = &[(Base::Auto, 0), (Base::Left, 0), (Base::Right, 1)];
+
 #[test]
 fn paragraphs_without_a_letter_have_the_level_of_the_base(rt: HostRuntime) -> Result<(), Fail> {
-    let tables = tables_with(rt.alloc(), vectors::MIRROR)?;
-    for (base, level) in [(Base::Auto, 0), (Base::Left, 0), (Base::Right, 1)] {
-        for text in [
-            "",
-            "\n",
-            "\u{2029}",
-            "\u{202A}\u{202C}",
-            "\u{2067}\u{2069}\u{200B}",
-        ] {
-            let grid = grid_by(&rt, rt.alloc(), &tables, 2, base, text)?;
-            for row in grid.rows() {
-                assert_eq!(rt; row.para_level(), level, "{text:?} {base:?}");
-                assert_eq!(rt; row.cell(0), Some(Cell::Blank), "{text:?} {base:?}");
-            }
-        }
+    for (base, level) in BASE_LEVELS {
+        assert_para_levels(&rt, &small_tables(rt.alloc())?, *base, *level)?;
     }
     Ok(())
+}
+
+const WIDE: &[Printed] = &[
+    ("\u{3B1}a", 4, "\u{3B1}a \n"),
+    ("\u{3B1}a", 2, "\u{3B1}\na \n"),
+    // The choice changes no place where a line may end.
+    ("\u{3B1}\u{3B1} \u{3B1}", 4, "\u{3B1}\u{3B1}\n\u{3B1}  \n"),
+];
+
+const NARROW: &[Printed] = &[
+    ("\u{3B1}a", 4, "\u{3B1}a  \n"),
+    ("\u{3B1}a", 2, "\u{3B1}a\n"),
+    ("\u{3B1}\u{3B1} \u{3B1}", 3, "\u{3B1}\u{3B1} \n\u{3B1}  \n"),
+];
+
+fn assert_wide(rt: &(impl Abort + AllocGlobal), tables: &Tables) -> Result<(), Fail> {
+    assert_all(rt, tables, Base::Auto, WIDE)?;
+    assert_printed(rt, tables, Base::Right, ("\u{3B1}!", 4, " !\u{3B1}\n"))
 }
 
 #[test]
 fn ambiguous_characters_are_as_wide_as_the_tables_say(rt: HostRuntime) -> Result<(), Fail> {
-    let narrow = tables_with(rt.alloc(), vectors::MIRROR)?;
-    let wide = tables_with(rt.alloc(), vectors::MIRROR)?.with_wide_ambiguous(true);
-    let rows: [(&Tables, &str, u16, &str); 6] = [
-        (&wide, "\u{3B1}a", 4, "\u{3B1}a \n"),
-        (&wide, "\u{3B1}a", 2, "\u{3B1}\na \n"),
-        (&narrow, "\u{3B1}a", 4, "\u{3B1}a  \n"),
-        (&narrow, "\u{3B1}a", 2, "\u{3B1}a\n"),
-        // The choice changes no place where a line may end.
-        (
-            &wide,
-            "\u{3B1}\u{3B1} \u{3B1}",
-            4,
-            "\u{3B1}\u{3B1}\n\u{3B1}  \n",
-        ),
-        (
-            &narrow,
-            "\u{3B1}\u{3B1} \u{3B1}",
-            3,
-            "\u{3B1}\u{3B1} \n\u{3B1}  \n",
-        ),
-    ];
-    for (tables, text, width, shown) in rows {
-        assert_printed(&rt, tables, text, width, shown)?;
-    }
-    assert_printed_by(&rt, &wide, Base::Right, "\u{3B1}!", 4, " !\u{3B1}\n")
+    assert_rows(&rt, Base::Auto, NARROW)?;
+    let wide = small_tables(rt.alloc())?.with_wide_ambiguous(true);
+    assert_wide(&rt, &wide)
 }
 
 #[test]
 fn a_mirror_that_is_a_line_feed_is_printed_as_one(rt: HostRuntime) -> Result<(), Fail> {
-    let tables = tables_with(rt.alloc(), b"0028; 000A")?;
-    assert_printed(&rt, &tables, "\u{5D0}(", 2, "\n\u{5D0}\n")
-}
-
-/// 64 times U+202B and then a letter.
-fn deep_text(alloc: Global) -> Result<String, Memory> {
-    let mut text = String::with_capacity(alloc, 200)?;
-    for _ in 0..64 {
-        text.push('\u{202B}')?;
-    }
-    text.push('a')?;
-    Ok(text)
-}
-
-#[test]
-fn deep_embeddings_reach_level_126(rt: HostRuntime) -> Result<(), Fail> {
-    let tables = tables_with(rt.alloc(), vectors::MIRROR)?;
-    let text = match deep_text(rt.alloc()) {
-        Err(Memory) => deep_text(rt.alloc())?,
-        Ok(text) => text,
+    let files = Ucd {
+        mirror: b"0028; 000A",
+        ..vectors::SMALL
     };
-    assert_printed(&rt, &tables, text.as_str(), 4, "a   \n")?;
-    let grid = grid_of(&rt, rt.alloc(), &tables, 4, text.as_str())?;
-    for row in grid.rows() {
-        assert_eq!(rt; row.entries().len(), 65);
-        for entry in row.entries() {
-            assert_eq!(rt; entry.level, if entry.columns == 1 { 126 } else { 0 });
-        }
-    }
-    Ok(())
+    let tables = tables_of(rt.alloc(), &files)?;
+    assert_printed(&rt, &tables, Base::Auto, ("\u{5D0}(", 2, "\n\u{5D0}\n"))
 }
 
-/// Compares a row with its first and last place, its paragraph level, and for each entry its
-/// bytes, its places, its level, its column and its columns.
+/// Compares numbers with the next ones that are wanted.
+fn assert_next(rt: &impl Abort, wanted: &mut Iter<'_, usize>, numbers: &[usize]) {
+    for number in numbers {
+        assert_eq!(rt; wanted.next(), Some(number));
+    }
+}
+
+/// Compares an entry's bytes, its places, its level, its column and its columns.
+fn assert_entry(rt: &impl Abort, wanted: &mut Iter<'_, usize>, entry: &Entry) {
+    let own = [
+        entry.span.first_byte as usize,
+        entry.span.end_byte as usize,
+        entry.span.first_place as usize,
+        entry.span.end_place as usize,
+        usize::from(entry.level),
+        usize::from(entry.column),
+        usize::from(entry.columns),
+    ];
+    assert_next(rt, wanted, &own);
+}
+
+/// Compares a row with its first and last place, its paragraph level, and its entries.
 fn assert_row(rt: &impl Abort, row: &Row, want: &[usize]) {
-    let mut numbers = want.iter();
+    let mut wanted = want.iter();
     let head = [
         row.first_place(),
         row.last_place(),
         usize::from(row.para_level()),
     ];
-    for number in head {
-        assert_eq!(rt; numbers.next().copied(), Some(number));
-    }
+    assert_next(rt, &mut wanted, &head);
     for entry in row.entries() {
-        let own = [
-            entry.span.first_byte as usize,
-            entry.span.end_byte as usize,
-            entry.span.first_place as usize,
-            entry.span.end_place as usize,
-            usize::from(entry.level),
-            usize::from(entry.column),
-            usize::from(entry.columns),
-        ];
-        for number in own {
-            assert_eq!(rt; numbers.next().copied(), Some(number));
-        }
+        assert_entry(rt, &mut wanted, entry);
     }
-    assert!(rt; numbers.next().is_none());
+    assert!(rt; wanted.next().is_none());
+}
+
+fn assert_grid(rt: &impl Abort, grid: &Grid, width: u16, want: &[&[usize]]) {
+    assert_number(rt, grid.rows().len(), want.len(), grid.text());
+    for (row, numbers) in grid.rows().iter().zip(want) {
+        assert_number(
+            rt,
+            usize::from(row.width()),
+            usize::from(width),
+            grid.text(),
+        );
+        assert_row(rt, row, numbers);
+    }
 }
 
 fn assert_drawn(
@@ -316,14 +286,10 @@ fn assert_drawn(
     width: u16,
     want: &[&[usize]],
 ) -> Result<(), Fail> {
-    let tables = tables_with(rt.alloc(), vectors::MIRROR)?;
-    let grid = grid_of(rt, rt.alloc(), &tables, width, text)?;
-    assert_eq!(rt; grid.text(), text);
-    assert_eq!(rt; grid.rows().len(), want.len(), "{text:?}");
-    for (row, numbers) in grid.rows().iter().zip(want) {
-        assert_eq!(rt; row.width(), width, "{text:?}");
-        assert_row(rt, row, numbers);
-    }
+    let tables = small_tables(rt.alloc())?;
+    let grid = drawn(rt, rt.alloc(), &tables, width, Base::Auto, text)?;
+    assert_text(rt, grid.text(), text, text);
+    assert_grid(rt, &grid, width, want);
     Ok(())
 }
 
@@ -393,11 +359,24 @@ fn rows_are_counted_in_the_whole_text(rt: HostRuntime) -> Result<(), Fail> {
     assert_drawn(&rt, "", 4, &[&[0, 0, 0]])
 }
 
+/// What stands in a column of a row, seen in two ways.
+fn assert_cell(rt: &impl Abort, row: &Row, column: usize, cell: Cell, wanted: Option<Cell>) {
+    assert_eq!(rt; wanted, Some(cell));
+    assert_eq!(rt; row.cell(column), Some(cell));
+}
+
+fn assert_cells(rt: &impl Abort, row: &Row, want: &[Cell]) {
+    let mut column = 0usize;
+    for cell in row.cells() {
+        assert_cell(rt, row, column, cell, want.get(column).copied());
+        column = column.wrapping_add(1);
+    }
+    assert_number(rt, column, want.len(), "cells");
+    assert_eq!(rt; row.cell(column), None);
+}
+
 #[test]
 fn cells_are_heads_tails_and_blanks(rt: HostRuntime) -> Result<(), Fail> {
-    let tables = tables_with(rt.alloc(), vectors::MIRROR)?;
-    let text = "\u{5D0}\u{4E16}\u{5D1}";
-    let grid = grid_of(&rt, rt.alloc(), &tables, 6, text)?;
     let want = [
         Cell::Blank,
         Cell::Blank,
@@ -406,15 +385,25 @@ fn cells_are_heads_tails_and_blanks(rt: HostRuntime) -> Result<(), Fail> {
         Cell::Tail(1),
         Cell::Head(2),
     ];
+    let tables = small_tables(rt.alloc())?;
+    let text = "\u{5D0}\u{4E16}\u{5D1}";
+    let grid = drawn(&rt, rt.alloc(), &tables, 6, Base::Auto, text)?;
     for row in grid.rows() {
-        let mut column = 0;
-        for cell in row.cells() {
-            assert_eq!(rt; want.get(column).copied(), Some(cell));
-            assert_eq!(rt; row.cell(column), Some(cell));
-            column += 1;
-        }
-        assert_eq!(rt; column, want.len());
-        assert_eq!(rt; row.cell(column), None);
+        assert_cells(&rt, row, &want);
+    }
+    Ok(())
+}
+
+/// A sink that takes at most `piece` bytes a call and fails somewhere has a beginning.
+fn assert_beginnings(
+    rt: &(impl Abort + AllocGlobal),
+    grid: &Grid,
+    piece: usize,
+    shown: &[u8],
+) -> Result<(), Fail> {
+    for left in 0..=shown.len() {
+        let beginning = shown.get(..left).unwrap_or(&[]);
+        assert_taken(rt, grid, (piece, left), beginning, left == shown.len())?;
     }
     Ok(())
 }
@@ -422,20 +411,12 @@ fn cells_are_heads_tails_and_blanks(rt: HostRuntime) -> Result<(), Fail> {
 /// A sink that fails leaves a beginning, and the answer is Device.
 #[test]
 fn a_failing_sink_keeps_a_beginning(rt: HostRuntime) -> Result<(), Fail> {
-    let tables = tables_with(rt.alloc(), vectors::MIRROR)?;
+    let tables = small_tables(rt.alloc())?;
     let text = "\u{5D0}(\u{4E16}\na\tb";
-    let grid = grid_of(&rt, rt.alloc(), &tables, 4, text)?;
+    let grid = drawn(&rt, rt.alloc(), &tables, 4, Base::Auto, text)?;
     let shown = "\u{4E16})\u{5D0}\na b \n".as_bytes();
     for piece in [1, 3, 64] {
-        for left in 0..=shown.len() {
-            let (bytes, whole) = printed(&rt, rt.alloc(), &grid, piece, left)?;
-            assert_eq!(rt; whole, left == shown.len(), "{left} bytes by {piece}");
-            assert_eq!(rt;
-                Some(bytes.as_slice()),
-                shown.get(..left),
-                "{left} bytes by {piece}"
-            );
-        }
+        assert_beginnings(&rt, &grid, piece, shown)?;
     }
     Ok(())
 }

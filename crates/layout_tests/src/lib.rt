@@ -12,11 +12,19 @@ mod caret_tests;
 #[cfg(test)]
 mod cell_grid_tests;
 #[cfg(test)]
+mod compared;
+#[cfg(test)]
+mod drawn;
+#[cfg(test)]
+mod first_paragraph;
+#[cfg(test)]
 mod line_break_tests;
 #[cfg(test)]
 mod paragraphs_tests;
 #[cfg(test)]
 mod reorder_tests;
+#[cfg(test)]
+mod small_tables;
 #[cfg(test)]
 mod ucd_files_tests;
 #[cfg(test)]

@@ -1,20 +1,13 @@
+use crate::compared::assert_number;
+use crate::first_paragraph::first_paragraph;
+use crate::small_tables::small_tables;
+use bg_types::Memory;
 use line_break::*;
-use paragraphs::split;
-use std::alloc::Global;
+use paragraphs::Para;
+use std::alloc::{AllocError, Global};
 use std::process::Abort;
 use std::test::Fail;
-use ucd_files::{Tables, UcdFault, vectors};
-
-fn small_tables(alloc: Global) -> Result<Tables, UcdFault> {
-    Tables::load(
-        alloc,
-        vectors::BIDI,
-        vectors::BRACKETS,
-        vectors::MIRROR,
-        vectors::LB,
-        vectors::EA,
-    )
-}
+use ucd_files::{Tables, UcdFault};
 
 /// A letter for each break class; n is an SA of Bidi class NSM, and i, < and > are East Asian W.
 const LETTERS: &[u8] = b"\
@@ -78,6 +71,29 @@ fn letter_tables(alloc: Global) -> Result<Tables, UcdFault> {
     )
 }
 
+/// The sign of a status, as in UAX #14.
+fn sign(status: Break) -> char {
+    match status {
+        Break::Must => '!',
+        Break::May => '÷',
+        Break::No => '×',
+    }
+}
+
+/// Compares a status with the next sign.
+fn assert_sign(rt: &impl Abort, status: Break, wanted: Option<char>, text: &str) {
+    assert_eq!(rt; Some(sign(status)), wanted, "in {text:?}");
+}
+
+/// Compares statuses with signs.
+fn assert_signs(rt: &impl Abort, statuses: &[Break], want: &str, text: &str) {
+    let mut wanted = want.chars();
+    for status in statuses {
+        assert_sign(rt, *status, wanted.next(), text);
+    }
+    assert!(rt; wanted.next().is_none(), "in {text:?}");
+}
+
 /// Compares the statuses of a text's first paragraph, written as in UAX #14.
 fn assert_statuses(
     rt: &(impl Abort + AllocGlobal),
@@ -85,37 +101,38 @@ fn assert_statuses(
     text: &str,
     want: &str,
 ) -> Result<(), Fail> {
-    let paragraphs = split(rt.alloc(), tables, text)?;
-    assert!(rt; !paragraphs.is_empty());
-    let mut found = String::new(rt.alloc());
-    for status in opportunities(rt.alloc(), tables, &paragraphs[0])? {
-        found.push(match status {
-            Break::Must => '!',
-            Break::May => '÷',
-            Break::No => '×',
-        })?;
-    }
-    assert_eq!(rt; found.as_str(), want, "in {text:?}");
+    let para = first_paragraph(rt.alloc(), tables, text)?;
+    let statuses = opportunities(rt.alloc(), tables, &para)?;
+    assert_signs(rt, &statuses, want, text);
     Ok(())
 }
+
+fn assert_all_statuses(
+    rt: &(impl Abort + AllocGlobal),
+    tables: &Tables,
+    rows: &[(&str, &str)],
+) -> Result<(), Fail> {
+    for (text, want) in rows {
+        assert_statuses(rt, tables, text, want)?;
+    }
+    Ok(())
+}
+
+const SMALL_TEXTS: &[(&str, &str)] = &[
+    ("ab cd", "××÷×!"),
+    ("a-1", "××!"),
+    ("(a) b", "×××÷!"),
+    ("a\u{4E16}!", "÷×!"),
+    ("\u{5D0}-b", "××!"),
+    ("a\n", "×!"),
+    ("a\u{2028}b", "×!!"),
+    ("a-b c", "×÷×÷!"),
+];
 
 #[test]
 fn statuses_of_small_texts(rt: HostRuntime) -> Result<(), Fail> {
     let tables = small_tables(rt.alloc())?;
-    let rows = [
-        ("ab cd", "××÷×!"),
-        ("a-1", "××!"),
-        ("(a) b", "×××÷!"),
-        ("a\u{4E16}!", "÷×!"),
-        ("\u{5D0}-b", "××!"),
-        ("a\n", "×!"),
-        ("a\u{2028}b", "×!!"),
-        ("a-b c", "×÷×÷!"),
-    ];
-    for (text, want) in rows {
-        assert_statuses(&rt, &tables, text, want)?;
-    }
-    Ok(())
+    assert_all_statuses(&rt, &tables, SMALL_TEXTS)
 }
 
 /// Texts in the letters of the classes, and their statuses. Under each rule stand texts with a
@@ -309,10 +326,31 @@ const RULES: &[(&str, &str)] = &[
 #[test]
 fn each_rule_decides(rt: HostRuntime) -> Result<(), Fail> {
     let tables = letter_tables(rt.alloc())?;
-    for (text, want) in RULES {
-        assert_statuses(&rt, &tables, text, want)?;
+    assert_all_statuses(&rt, &tables, RULES)
+}
+
+fn assert_line(rt: &impl Abort, line: &Line, want: (usize, usize), text: &str, width: u16) {
+    assert_eq!(rt; (line.start, line.end), want, "in {text:?} at {width}");
+}
+
+fn assert_found(rt: &impl Abort, found: &[Line], want: &[(usize, usize)], text: &str, width: u16) {
+    assert_number(rt, found.len(), want.len(), text);
+    for (line, wanted) in found.iter().zip(want) {
+        assert_line(rt, line, *wanted, text, width);
     }
-    Ok(())
+}
+
+/// The lines of a paragraph, after a test of the call's preconditions.
+fn lines_of(
+    rt: &impl Abort,
+    alloc: Global,
+    tables: &Tables,
+    para: &Para,
+    width: u16,
+) -> Result<Vec<Line>, Memory> {
+    assert!(rt; 2 <= width && width <= 500);
+    assert!(rt; para.text().len() <= 4_000_000);
+    lines(alloc, tables, para, width)
 }
 
 /// Compares the lines of a text's first paragraph with their clusters' numbers.
@@ -323,17 +361,9 @@ fn assert_lines(
     width: u16,
     want: &[(usize, usize)],
 ) -> Result<(), Fail> {
-    assert!(rt; width >= 2);
-    assert!(rt; width <= 500);
-    let paragraphs = split(rt.alloc(), tables, text)?;
-    assert!(rt; !paragraphs.is_empty());
-    assert!(rt; paragraphs[0].text().len() <= 4_000_000);
-    let found = lines(rt.alloc(), tables, &paragraphs[0], width)?;
-    assert_eq!(rt; found.len(), want.len(), "in {text:?} at {width}");
-    for (line, (start, end)) in found.iter().zip(want) {
-        assert_eq!(rt; line.start, *start, "in {text:?} at {width}");
-        assert_eq!(rt; line.end, *end, "in {text:?} at {width}");
-    }
+    let para = first_paragraph(rt.alloc(), tables, text)?;
+    let found = lines_of(rt, rt.alloc(), tables, &para, width)?;
+    assert_found(rt, &found, want, text, width);
     Ok(())
 }
 
@@ -368,50 +398,56 @@ const LINES: &[(&str, u16, &[(usize, usize)])] = &[
     ("ab\u{2067}\u{2069}", 2, &[(0, 4)]),
 ];
 
-#[test]
-fn lines_of_small_texts(rt: HostRuntime) -> Result<(), Fail> {
-    let tables = small_tables(rt.alloc())?;
+fn assert_all_lines(rt: &(impl Abort + AllocGlobal), tables: &Tables) -> Result<(), Fail> {
     for (text, width, want) in LINES {
-        assert_lines(&rt, &tables, text, *width, want)?;
+        assert_lines(rt, tables, text, *width, want)?;
     }
     Ok(())
 }
 
 #[test]
+fn lines_of_small_texts(rt: HostRuntime) -> Result<(), Fail> {
+    let tables = small_tables(rt.alloc())?;
+    assert_all_lines(&rt, &tables)
+}
+
+/// A mark that is a mandatory break stands inside a cluster.
+fn assert_unbroken(rt: &(impl Abort + AllocGlobal), tables: &Tables) -> Result<(), Fail> {
+    assert_statuses(rt, tables, "a\u{301}\u{302}b", "×!×!")?;
+    assert_lines(rt, tables, "a\u{301}\u{302}b", 4, &[(0, 2)])
+}
+
+#[test]
 fn a_mandatory_break_inside_a_cluster_counts_nowhere(rt: HostRuntime) -> Result<(), Fail> {
-    let tables = Tables::load(rt.alloc(), b"", b"", b"", b"0301;BK\n0061;AL\n0062;AL", b"")?;
-    assert_statuses(&rt, &tables, "a\u{301}\u{302}b", "×!×!")?;
-    assert_lines(&rt, &tables, "a\u{301}\u{302}b", 4, &[(0, 2)])
+    let lb = b"0301;BK\n0061;AL\n0062;AL";
+    let tables = Tables::load(rt.alloc(), b"", b"", b"", lb, b"")?;
+    assert_unbroken(&rt, &tables)
+}
+
+/// A letter, so many spaces and another letter.
+fn spaced(alloc: Global, count: usize) -> Result<String, AllocError> {
+    let mut text = String::from_str(alloc, "a")?;
+    for _ in 0..count {
+        text.push(' ')?;
+    }
+    text.push('b')?;
+    Ok(text)
 }
 
 #[test]
 fn ten_thousand_spaces_hang(rt: HostRuntime) -> Result<(), Fail> {
+    let text = spaced(rt.alloc(), 10_000)?;
     let tables = small_tables(rt.alloc())?;
-    let mut text = String::from_str(rt.alloc(), "a")?;
-    for _ in 0..10_000 {
-        text.push(' ')?;
-    }
-    text.push('b')?;
-    assert_lines(
-        &rt,
-        &tables,
-        text.as_str(),
-        2,
-        &[(0, 10_001), (10_001, 10_002)],
-    )
+    assert_lines(&rt, &tables, &text, 2, &[(0, 10_001), (10_001, 10_002)])
 }
 
 #[test]
 fn spaces_by_their_class(rt: HostRuntime) -> Result<(), Fail> {
     let tables = small_tables(rt.alloc())?;
-    for (cluster, want) in [
-        (" ", true),
-        ("a", false),
-        (" \u{301}", false),
-        ("\u{A0}", false),
-    ] {
-        assert_eq!(rt; is_space(&tables, cluster), want, "of {cluster:?}");
-    }
+    assert!(rt; is_space(&tables, " "));
+    assert!(rt; !is_space(&tables, "a"));
+    assert!(rt; !is_space(&tables, " \u{301}"));
+    assert!(rt; !is_space(&tables, "\u{A0}"));
     Ok(())
 }
 
