@@ -8,6 +8,7 @@ use desk_typing::*;
 use op_codec::{Gives, Source, Version};
 use op_listing::pack;
 use std::alloc::Global;
+use std::process::Abort;
 use std::test::Fail;
 
 /// Any key will do.
@@ -15,16 +16,6 @@ const KEY: u128 = 0x2545_F491_4F6C_DD1D;
 
 /// `abc`, typed at site 1.
 const ABC: &str = "i 1.1 root 0061\ni 2.1 1.1 0062\ni 3.1 2.1 0063\n";
-
-fn change(site: u16, place: Option<u32>, erased: u32) -> Change
-    ensures { result.site ≡ site }
-{
-    Change {
-        site,
-        place,
-        erased,
-    }
-}
 
 /// The operation file of a listing.
 fn file_of(alloc: Global, listing: &str) -> Result<Vec<u8>, Fail> {
@@ -35,40 +26,67 @@ fn file_of(alloc: Global, listing: &str) -> Result<Vec<u8>, Fail> {
     }
 }
 
-/// The answer over one file, the one of this listing, and what is written.
-fn run(
-    alloc: Global,
-    listing: &str,
-    change: &Change,
-    text: &[u8],
-    version: Version,
-) -> Result<(Result<(), TypingFault>, Vec<u8>), Fail> {
-    let file = file_of(alloc, listing)?;
-    run_from(alloc, Gives::new(file.as_slice(), 7), change, text, version)
+/// What a change answers, and what is written.
+type Outcome<'a> = (Result<(), TypingFault>, &'a [u8]);
+
+/// Compares what a change came to with what is wanted.
+fn assert_came(rt: &impl Abort, came: Outcome, wanted: Outcome, change: &Change, text: &[u8]) {
+    assert_eq!(rt; came.0, wanted.0, "{change:?} {text:?}");
+    assert_eq!(rt; came.1, wanted.1, "{text:?}");
 }
 
-/// The same over the file of a reader.
-fn run_from<'a>(
-    alloc: Global,
+/// Compares what a change of a reader's file comes to with what is wanted.
+fn assert_typed<'a>(
+    rt: &(impl Abort + AllocGlobal),
     reader: Gives<'a>,
     change: &Change,
     text: &[u8],
     version: Version,
-) -> Result<(Result<(), TypingFault>, Vec<u8>), Fail>
+    wanted: Outcome,
+)
     requires { ⟦<Gives<'a> as Source>⟧.has_failed reader ≡ false }
 {
-    if change.site == 0 {
-        return Err(Fail::from("a site is at least 1"));
-    }
-    let mut bytes = Vec::new(alloc);
+    assert!(rt; change.site > 0);
+    let mut bytes = Vec::new(rt.alloc());
     let mut readers = [reader];
     let out = &mut Out::new(&mut bytes);
-    let answer = typed(alloc, KEY, &mut readers, change, text, version, out);
-    Ok((answer, bytes))
+    let answer = typed(rt.alloc(), KEY, &mut readers, change, text, version, out);
+    assert_came(rt, (answer, bytes.as_slice()), wanted, change, text);
+}
+
+/// The same of one file, the one of this listing.
+fn assert_change(
+    rt: &(impl Abort + AllocGlobal),
+    listing: &str,
+    change: (u16, Option<u32>, u32),
+    text: &[u8],
+    version: Version,
+    wanted: Outcome,
+) -> Result<(), Fail> {
+    let (site, place, erased) = change;
+    let change = Change {
+        site,
+        place,
+        erased,
+    };
+    let file = file_of(rt.alloc(), listing)?;
+    let reader = Gives::new(file.as_slice(), 7);
+    assert_typed(rt, reader, &change, text, version, wanted);
+    Ok(())
 }
 
 /// A listing, the site, place and number of erased characters of a change, what is typed, and the listing of what that makes.
-const CHANGES: [(&str, (u16, Option<u32>, u32), &str, &str); 7] = [
+type Made<'a> = (&'a str, (u16, Option<u32>, u32), &'a str, &'a str);
+
+/// Compares what a row makes with its listing.
+fn assert_made(rt: &(impl Abort + AllocGlobal), row: &Made) -> Result<(), Fail> {
+    let (listing, change, text, made) = *row;
+    let made = file_of(rt.alloc(), made)?;
+    let wanted = (Ok(()), made.as_slice());
+    assert_change(rt, listing, change, text.as_bytes(), Version::One, wanted)
+}
+
+const CHANGES: [Made; 7] = [
     ("", (1, None, 0), "", ""),
     (
         "",
@@ -101,101 +119,120 @@ const CHANGES: [(&str, (u16, Option<u32>, u32), &str, &str); 7] = [
 
 #[test]
 fn changes_become_operations(rt: HostRuntime) -> Result<(), Fail> {
-    for (listing, (site, place, erased), text, wanted) in CHANGES {
-        let change = change(site, place, erased);
-        let (answer, bytes) = run(rt.alloc(), listing, &change, text.as_bytes(), Version::One)?;
-        let wanted = file_of(rt.alloc(), wanted)?;
-        assert_eq!(rt; answer, Ok(()), "{listing} {change:?} {text}");
-        assert_eq!(rt;
-            bytes.as_slice(),
-            wanted.as_slice(),
-            "{listing} {change:?} {text}"
-        );
+    for row in &CHANGES {
+        assert_made(&rt, row)?;
     }
     Ok(())
 }
+
+/// Versions, listings, changes, what is typed, and the file of what that makes.
+const SPELLINGS: [(Version, &str, (u16, Option<u32>, u32), &[u8], &[u8]); 5] = [
+    (Version::One, "", (1, None, 0), b"", b"BGOP\x01"),
+    (Version::Two, "", (1, None, 0), b"", b"BGOP\x02"),
+    // The two files of docs/FORMATS.md.
+    (
+        Version::One,
+        "",
+        (1, None, 0),
+        b"ab",
+        b"BGOP\x01\0\x11\x01\0\0\0\x01\0\x01\0\0\0\0\0\0\0\0\0a\0\x11\x01\0\0\0\x02\0\x01\0\0\0\x01\0\x01\0\0\0b",
+    ),
+    (
+        Version::Two,
+        "",
+        (1, None, 0),
+        b"ab",
+        b"BGOP\x02\0\x15\x03\0\0\0\x01\0\x01\0\0\0\0\0\0\0\0\0a\0\0\0b",
+    ),
+    // A deletion, and then a run.
+    (
+        Version::Two,
+        ABC,
+        (2, Some(1), 1),
+        b"xy",
+        b"BGOP\x02\0\x07\x02\0\0\0\x02\0\x01\0\x15\x03\0\0\0\x04\0\x02\0\0\0\x01\0\x01\0\0\0x\0\0\0y",
+    ),
+];
 
 #[test]
 fn the_version_says_how_the_file_is_spelled(rt: HostRuntime) -> Result<(), Fail> {
-    let rows: [(Version, &str, Change, &[u8], &[u8]); 5] = [
-        (Version::One, "", change(1, None, 0), b"", b"BGOP\x01"),
-        (Version::Two, "", change(1, None, 0), b"", b"BGOP\x02"),
-        // The two files of docs/FORMATS.md.
-        (
-            Version::One,
-            "",
-            change(1, None, 0),
-            b"ab",
-            b"BGOP\x01\0\x11\x01\0\0\0\x01\0\x01\0\0\0\0\0\0\0\0\0a\0\x11\x01\0\0\0\x02\0\x01\0\0\0\x01\0\x01\0\0\0b",
-        ),
-        (
-            Version::Two,
-            "",
-            change(1, None, 0),
-            b"ab",
-            b"BGOP\x02\0\x15\x03\0\0\0\x01\0\x01\0\0\0\0\0\0\0\0\0a\0\0\0b",
-        ),
-        // A deletion, and then a run.
-        (
-            Version::Two,
-            ABC,
-            change(2, Some(1), 1),
-            b"xy",
-            b"BGOP\x02\0\x07\x02\0\0\0\x02\0\x01\0\x15\x03\0\0\0\x04\0\x02\0\0\0\x01\0\x01\0\0\0x\0\0\0y",
-        ),
-    ];
-    for (version, listing, change, text, wanted) in rows {
-        let (answer, bytes) = run(rt.alloc(), listing, &change, text, version)?;
-        assert_eq!(rt; answer, Ok(()), "{version:?} {text:?}");
-        assert_eq!(rt; bytes.as_slice(), wanted, "{version:?} {text:?}");
+    for (version, listing, change, text, made) in &SPELLINGS {
+        assert_change(&rt, listing, *change, text, *version, (Ok(()), *made))?;
     }
     Ok(())
 }
+
+/// A text whose last counter is spent, and one that has one counter left.
+const LAST: &str = "i 4294967295.1 root 006C\n";
+
+const SPENT: &str = "i 4294967294.1 root 006C\n";
+
+/// Listings, changes, what is typed, and the fault.
+const FAULTS: [(&str, (u16, Option<u32>, u32), &[u8], TypingFault); 7] = [
+    (
+        ABC,
+        (2, Some(4), 0),
+        b"x",
+        TypingFault::PastEnd {
+            place: 4,
+            erased: 0,
+        },
+    ),
+    (
+        ABC,
+        (2, Some(2), 2),
+        b"",
+        TypingFault::PastEnd {
+            place: 2,
+            erased: 2,
+        },
+    ),
+    (
+        ABC,
+        (2, None, 1),
+        b"",
+        TypingFault::PastEnd {
+            place: 3,
+            erased: 1,
+        },
+    ),
+    (LAST, (2, None, 0), b"x", TypingFault::CounterSpent),
+    (SPENT, (2, None, 0), b"xy", TypingFault::CounterSpent),
+    (ABC, (2, None, 0), b"a\xFFb", TypingFault::NotUtf8(1)),
+    (ABC, (2, Some(9), 0), b"\xD7", TypingFault::NotUtf8(0)),
+];
 
 #[test]
 fn faults_write_nothing(rt: HostRuntime) -> Result<(), Fail> {
-    let last = "i 4294967295.1 root 006C\n";
-    let spent = "i 4294967294.1 root 006C\n";
-    let past = |place: usize, erased: u32| TypingFault::PastEnd { place, erased };
-    let rows: [(&str, Change, &[u8], TypingFault); 7] = [
-        (ABC, change(2, Some(4), 0), b"x", past(4, 0)),
-        (ABC, change(2, Some(2), 2), b"", past(2, 2)),
-        (ABC, change(2, None, 1), b"", past(3, 1)),
-        (last, change(2, None, 0), b"x", TypingFault::CounterSpent),
-        (spent, change(2, None, 0), b"xy", TypingFault::CounterSpent),
-        (ABC, change(2, None, 0), b"a\xFFb", TypingFault::NotUtf8(1)),
-        (ABC, change(2, Some(9), 0), b"\xD7", TypingFault::NotUtf8(0)),
-    ];
-    for (listing, change, text, wanted) in rows {
-        let (answer, bytes) = run(rt.alloc(), listing, &change, text, Version::Two)?;
-        assert_eq!(rt; answer, Err(wanted), "{change:?} {text:?}");
-        assert_eq!(rt; bytes.is_empty(), true, "{change:?} {text:?}");
+    for (listing, change, text, fault) in &FAULTS {
+        let wanted = (Err(*fault), b"".as_slice());
+        assert_change(&rt, listing, *change, text, Version::Two, wanted)?;
     }
     let lost = Gives::new(b"BGOP", 1).failing_after(3);
-    let (answer, bytes) = run_from(rt.alloc(), lost, &change(1, None, 0), b"x", Version::Two)?;
-    assert_eq!(rt; answer, Err(TypingFault::Run(RunFault::ReadFailed(1))));
-    assert_eq!(rt; bytes.is_empty(), true);
+    let wanted = (
+        Err(TypingFault::Run(RunFault::ReadFailed(1))),
+        b"".as_slice(),
+    );
+    assert_typed(&rt, lost, &ONE, b"x", Version::Two, wanted);
     Ok(())
 }
 
+/// Site 1 types at the end.
+const ONE: Change = Change {
+    site: 1,
+    place: None,
+    erased: 0,
+};
+
 #[test]
-fn a_write_that_fails_leaves_a_beginning(rt: HostRuntime) -> Result<(), Fail> {
+fn a_write_that_fails_leaves_a_beginning(rt: HostRuntime) {
     let mut bytes = Vec::new(rt.alloc());
     let mut readers: [Gives; 0] = [];
     let out = &mut Stops::new(Out::new(&mut bytes), 3, 7);
-    let change = change(1, None, 0);
-    let answer = typed(
-        rt.alloc(),
-        KEY,
-        &mut readers,
-        &change,
-        b"x",
-        Version::Two,
-        out,
-    );
-    assert_eq!(rt; answer, Err(TypingFault::Run(RunFault::Device)));
-    assert_eq!(rt; bytes.as_slice(), b"BGOP\x02\x00\x11".as_slice());
-    Ok(())
+    let answer = typed(rt.alloc(), KEY, &mut readers, &ONE, b"x", Version::Two, out);
+    let came = (answer, bytes.as_slice());
+    let wanted = Err(TypingFault::Run(RunFault::Device));
+    assert_came(&rt, came, (wanted, b"BGOP\x02\x00\x11"), &ONE, b"x");
 }
 
 /// With ample memory a change of a file is right; where a growth is refused it says so, and nothing
@@ -208,7 +245,11 @@ fn a_change_is_right_or_says_memory(rt: HostRuntime) {
         b"BGOP\x02\x00\x07\x02\x00\x00\x00\x01\x00\x01\x00\x11\x01\x00\x00\x00\x02\x00\x02\x00\x00\x00\x00\x00\x00\x00\x00\x00\x62";
     let mut room = [0u8; 64];
     let mut readers = [Gives::new(FILE, 7)];
-    let change = change(2, Some(0), 1);
+    let change = Change {
+        site: 2,
+        place: Some(0),
+        erased: 1,
+    };
     let out = &mut Out::new(room.as_mut_slice());
     match typed(
         rt.alloc(),
@@ -220,32 +261,42 @@ fn a_change_is_right_or_says_memory(rt: HostRuntime) {
         out,
     ) {
         Ok(()) => assert!(rt; room.starts_with(MADE)),
-        Err(fault) => assert_eq!(rt; (fault, room[0]), (TypingFault::Run(RunFault::Memory), 0)),
+        Err(fault) => {
+            assert_eq!(rt; fault, TypingFault::Run(RunFault::Memory));
+            assert!(rt; room[0] == 0);
+        }
     }
 }
 
+/// Faults with their lines, numbers and statuses.
+const LINES: [(TypingFault, &str, u8, u8); 6] = [
+    (TypingFault::NotUtf8(12), "text byte 12: NotUtf8", 11, 1),
+    (
+        TypingFault::PastEnd {
+            place: 3,
+            erased: 5,
+        },
+        "place 3 erase 5: PastEnd",
+        6,
+        1,
+    ),
+    (TypingFault::CounterSpent, "text: CounterSpent", 12, 1),
+    (TypingFault::Full, "text: Full", 13, 1),
+    (
+        TypingFault::Run(RunFault::TooLong(2)),
+        "file 2: TooLong",
+        10,
+        1,
+    ),
+    (TypingFault::Run(RunFault::Memory), "memory", 9, 3),
+];
+
 #[test]
 fn faults_have_lines_numbers_and_statuses(rt: HostRuntime) -> Result<(), Fail> {
-    let past = TypingFault::PastEnd {
-        place: 3,
-        erased: 5,
-    };
-    let rows = [
-        (TypingFault::NotUtf8(12), "text byte 12: NotUtf8", 11, 1),
-        (past, "place 3 erase 5: PastEnd", 6, 1),
-        (TypingFault::CounterSpent, "text: CounterSpent", 12, 1),
-        (TypingFault::Full, "text: Full", 13, 1),
-        (
-            TypingFault::Run(RunFault::TooLong(2)),
-            "file 2: TooLong",
-            10,
-            1,
-        ),
-        (TypingFault::Run(RunFault::Memory), "memory", 9, 3),
-    ];
-    for (fault, line, code, status) in rows {
-        assert_eq!(rt; format!(in rt.alloc(); "{fault}")?.as_str(), line);
-        assert_eq!(rt; (fault.code(), fault.status()), (code, status), "{line}");
+    for (fault, line, code, status) in &LINES {
+        assert_eq!(rt; (fault.code(), fault.status()), (*code, *status), "{line}");
+        let printed = format!(in rt.alloc(); "{fault}")?;
+        assert_eq!(rt; printed.as_str(), *line);
     }
     Ok(())
 }

@@ -10,6 +10,8 @@ mod command_line_tests;
 #[cfg(test)]
 mod desk_typing_tests;
 #[cfg(test)]
+mod files;
+#[cfg(test)]
 mod given;
 #[cfg(test)]
 mod replay_tests;

@@ -1,26 +1,31 @@
 //! What no clause says of faults: the names and lines that they print, their statuses and numbers.
 
-use bg_types::{Out, Stops};
+use crate::files::assert_told;
+use bg_types::{Device, Out, Stops};
 use command_line::report;
 use desk_runs::*;
 use op_codec::{Cause, CodecFault};
 use op_listing::LineFault;
+use std::process::Abort;
 use std::test::Fail;
 use ucd_files::{UcdFault, UcdFile};
 
+/// The faults of schedules with their numbers and names.
+const NAMES: [(ScheduleFault, u8, &str); 6] = [
+    (ScheduleFault::UnknownStep, 1, "UnknownStep"),
+    (ScheduleFault::WrongWords, 2, "WrongWords"),
+    (ScheduleFault::BadNumber, 3, "BadNumber"),
+    (ScheduleFault::NoSuchDesk, 4, "NoSuchDesk"),
+    (ScheduleFault::NoSuchFile, 5, "NoSuchFile"),
+    (ScheduleFault::NoSuchOperation, 6, "NoSuchOperation"),
+];
+
 #[test]
 fn faults_of_schedules_have_numbers_and_names(rt: HostRuntime) -> Result<(), Fail> {
-    let rows = [
-        (ScheduleFault::UnknownStep, 1, "UnknownStep"),
-        (ScheduleFault::WrongWords, 2, "WrongWords"),
-        (ScheduleFault::BadNumber, 3, "BadNumber"),
-        (ScheduleFault::NoSuchDesk, 4, "NoSuchDesk"),
-        (ScheduleFault::NoSuchFile, 5, "NoSuchFile"),
-        (ScheduleFault::NoSuchOperation, 6, "NoSuchOperation"),
-    ];
-    for (fault, code, name) in rows {
-        assert_eq!(rt; fault.code(), code);
-        assert_eq!(rt; format!(in rt.alloc(); "{fault}")?.as_str(), name);
+    for (fault, code, name) in &NAMES {
+        assert_eq!(rt; fault.code(), *code, "{name}");
+        let printed = format!(in rt.alloc(); "{fault}")?;
+        assert_eq!(rt; printed.as_str(), *name);
     }
     Ok(())
 }
@@ -100,33 +105,41 @@ const LINES: [(RunFault, &str, u8, u8); 12] = [
     (RunFault::TooLong(2), "bidigrid: file 2: TooLong\n", 1, 10),
 ];
 
+/// Compares what is reported of a fault, where `taken` bytes can be written, with what is wanted.
+fn assert_report(
+    rt: &(impl Abort + AllocGlobal),
+    fault: &RunFault,
+    taken: usize,
+    wanted: (Result<(), Device>, &[u8]),
+) {
+    let mut written = Vec::new(rt.alloc());
+    let mut err = Stops::new(Out::new(&mut written), 3, taken);
+    let done = report(fault, "some/path", &mut err);
+    assert_told(rt, (done, written.as_slice()), wanted);
+}
+
+/// The same, where all can be written.
+fn assert_whole(rt: &(impl Abort + AllocGlobal), fault: &RunFault, line: &str) {
+    let mut written = Vec::new(rt.alloc());
+    let done = report(fault, "some/path", &mut Out::new(&mut written));
+    assert_told(rt, (done, written.as_slice()), (Ok(()), line.as_bytes()));
+}
+
 #[test]
-fn each_fault_has_its_line_and_its_status(rt: HostRuntime) -> Result<(), Fail> {
-    for (fault, wanted, ends_with, code) in LINES {
-        let mut written = Vec::new(rt.alloc());
-        let done = report(&fault, "some/path", &mut Out::new(&mut written));
-        assert_eq!(rt; done, Ok(()));
-        assert_eq!(rt; str::from_utf8(written.as_slice()).ok(), Some(wanted));
-        assert_eq!(rt;
-            (status(&fault), fault.code()),
-            (ends_with, code),
-            "{wanted}"
-        );
+fn each_fault_has_its_line_and_its_status(rt: HostRuntime) {
+    for (fault, line, ends_with, code) in &LINES {
+        assert_whole(&rt, fault, line);
+        let came = (status(fault), fault.code());
+        assert_eq!(rt; came, (*ends_with, *code), "{line}");
     }
-    Ok(())
 }
 
 #[test]
 fn a_line_that_can_not_be_written_is_a_device_fault(rt: HostRuntime) {
-    for (fault, line, _, _) in LINES {
+    for (fault, line, _, _) in &LINES {
         for taken in 0..line.len() {
-            let mut written = Vec::new(rt.alloc());
-            let done = {
-                let mut err = Stops::new(Out::new(&mut written), 3, taken);
-                report(&fault, "some/path", &mut err)
-            };
-            assert_eq!(rt; done.is_err(), true, "{line}");
-            assert_eq!(rt; written.as_slice(), &line.as_bytes()[..taken], "{line}");
+            let beginning = &line.as_bytes()[..taken];
+            assert_report(&rt, fault, taken, (Err(Device), beginning));
         }
     }
 }

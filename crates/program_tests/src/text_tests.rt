@@ -1,13 +1,16 @@
 //! Files worked out by hand, from bytes to bytes.
 
-ghost use Rattle.std.specs.Prelude.{◌≡◌, ◌<◌, false};
+ghost use Rattle.std.specs.Prelude.{◌<◌, map as each};
+ghost use Rattle.desk_runs.specs.Readers.{AreWorking};
 
-use bg_types::{Id, Memory, Op, Out, Place, Stops};
+use crate::files::*;
+use bg_types::{Out, Stops};
 use desk_replica::TakeFault;
 use desk_runs::{RunFault, text, text_from};
-use op_codec::{Cause, CodecFault, Gives, In, Source, encode_file};
-use std::alloc::Global;
+use op_codec::{Cause, CodecFault, Gives, In, Source};
 use std::io::Read;
+use std::process::Abort;
+use std::slice::from_ref;
 use std::test::Fail;
 
 /// (1,1) after the root, `a`; (2,1) after (1,1), `b`.
@@ -17,106 +20,86 @@ const TWO: [u8; 43] = [
     0, 17, 1, 0, 0, 0, 2, 0, 1, 0, 0, 0, 1, 0, 1, 0, 0, 0, 0x62, // frame 2
 ];
 
-/// (2,1) after (2,2), `b`: a parent of no smaller counter.
-const LATE_PARENT: [u8; 24] = [
-    0x42, 0x47, 0x4F, 0x50, 1, // BGOP, version 1
-    0, 17, 1, 0, 0, 0, 2, 0, 1, 0, 0, 0, 2, 0, 2, 0, 0, 0, 0x62, // frame 1
-];
-
 /// Any key.
 const KEY: u128 = 0x2545_F491_4F6C_DD1D;
 
-fn insertion(id: (u32, u16), parent: Option<(u32, u16)>, ch: char) -> Option<Op> {
-    let place = match parent {
-        None => Place::Root,
-        Some((counter, site)) => Place::After(Id::new(counter, site)?),
-    };
-    Op::insert(Id::new(id.0, id.1)?, place, ch)
-}
-
-fn erasure(counter: u32, site: u16) -> Option<Op> {
-    Some(Op::erase(Id::new(counter, site)?))
-}
-
-/// Two children of (1,1), of which the greater has a child: `axyb`.
-fn four() -> Option<[Op; 4]> {
-    Some([
-        insertion((1, 1), None, 'a')?,
-        insertion((2, 2), Some((1, 1)), 'x')?,
-        insertion((3, 2), Some((2, 2)), 'y')?,
-        insertion((2, 1), Some((1, 1)), 'b')?,
-    ])
-}
-
-/// The answer over these files, and what is written.
-fn run(alloc: Global, files: &[Vec<u8>]) -> (Result<(), RunFault>, Vec<u8>) {
-    let mut bytes = Vec::new(alloc);
-    let answer = text(alloc, KEY, files, &mut Out::new(&mut bytes));
-    (answer, bytes)
-}
-
-/// The same over one file of these operations.
-fn run_one(alloc: Global, ops: &[Op]) -> Result<(Result<(), RunFault>, Vec<u8>), Memory> {
-    let file = encode_file(alloc, ops)?;
-    let files = vec![in alloc; file]?;
-    Ok(run(alloc, files.as_slice()))
-}
-
-/// The same over the file of a reader.
-fn run_from<'a>(alloc: Global, reader: Gives<'a>) -> (Result<(), RunFault>, Vec<u8>)
-    requires { ⟦<Gives<'a> as Source>⟧.has_failed reader ≡ false }
-{
-    let mut bytes = Vec::new(alloc);
-    let mut readers = [reader];
-    let answer = text_from(alloc, KEY, &mut readers, &mut Out::new(&mut bytes));
-    (answer, bytes)
-}
+/// The second operation has the identifier of the first one.
+const REFUSED: RunFault = RunFault::Step(0, 1, TakeFault::IdentifierReused);
 
 fn malformed(file: usize, frame: usize, cause: Cause) -> RunFault {
     RunFault::File(file, CodecFault::Malformed { frame, cause })
 }
 
+/// Compares what these files come to with what is wanted.
+fn assert_text(
+    rt: &(impl Abort + AllocGlobal),
+    files: &[Vec<u8>],
+    wanted: Outcome,
+    row: &str,
+    at: usize,
+) {
+    let mut bytes = Vec::new(rt.alloc());
+    let answer = text(rt.alloc(), KEY, files, &mut Out::new(&mut bytes));
+    assert_run(rt, (answer, bytes.as_slice()), wanted, row, at);
+}
+
+/// The same of one file.
+fn assert_file(
+    rt: &(impl Abort + AllocGlobal),
+    file: Vec<u8>,
+    wanted: Outcome,
+    row: &str,
+    at: usize,
+) {
+    assert_text(rt, from_ref(&file), wanted, row, at);
+}
+
+/// The same of the files of readers.
+fn assert_read<'a>(
+    rt: &(impl Abort + AllocGlobal),
+    readers: &mut [Gives<'a>],
+    wanted: Outcome,
+    at: usize,
+)
+    requires { AreWorking (each ⟦<Gives<'a> as Source>⟧.has_failed readers.old) }
+{
+    let mut bytes = Vec::new(rt.alloc());
+    let answer = text_from(rt.alloc(), KEY, readers, &mut Out::new(&mut bytes));
+    assert_run(rt, (answer, bytes.as_slice()), wanted, "readers", at);
+}
+
+/// Orders of operations, and the text that they make.
+const ORDERS: [(&str, &str); 9] = [
+    ("az", "ba"),
+    ("za", "ba"),
+    ("axyb", "axyb"),
+    ("ybxa", "axyb"),
+    ("aaaxxxyyybbb", "axyb"),
+    ("ybxaybxaybxa", "axyb"),
+    ("eaxyb", "ayb"),
+    ("aeybxe", "ayb"),
+    ("xyb", ""),
+];
+
 #[test]
 fn orders_repeats_and_early_operations_do_not_matter(rt: HostRuntime) -> Result<(), Fail> {
-    let first = insertion((1, 1), None, 'a').ok_or("well formed")?;
-    let second = insertion((1, 2), None, 'b').ok_or("well formed")?;
-    let [a, x, y, b] = four().ok_or("well formed")?;
-    let erased = erasure(2, 2).ok_or("not 0")?;
-    let rows: [(&[Op], &[u8]); 9] = [
-        (&[first, second], b"ba"),
-        (&[second, first], b"ba"),
-        (&[a, x, y, b], b"axyb"),
-        (&[y, b, x, a], b"axyb"),
-        (&[a, a, a, x, x, x, y, y, y, b, b, b], b"axyb"),
-        (&[y, b, x, a, y, b, x, a, y, b, x, a], b"axyb"),
-        (&[erased, a, x, y, b], b"ayb"),
-        (&[a, erased, y, b, x, erased], b"ayb"),
-        (&[x, y, b], b""),
-    ];
-    for (ops, wanted) in rows {
-        let (answer, bytes) = run_one(rt.alloc(), ops)?;
-        assert_eq!(rt; answer, Ok(()), "{ops:?}");
-        assert_eq!(rt; bytes.as_slice(), wanted, "{ops:?}");
+    for (letters, text) in &ORDERS {
+        let file = file_of(rt.alloc(), letters.as_bytes())?;
+        assert_file(&rt, file, (Ok(()), text.as_bytes()), letters, 0);
     }
     Ok(())
 }
 
+/// The files of four operations, in every order.
+const FOUR: &str = "\
+axyb axby ayxb aybx abxy abyx xayb xaby xyab xyba xbay xbya \
+yaxb yabx yxab yxba ybax ybxa baxy bayx bxay bxya byax byxa";
+
 #[test]
 fn four_files_in_every_order(rt: HostRuntime) -> Result<(), Fail> {
-    let ops = four().ok_or("well formed")?;
-    for order in 0..256usize {
-        let places = [order % 4, order / 4 % 4, order / 16 % 4, order / 64 % 4];
-        if (0..4usize).any(|k| !places.contains(&k)) {
-            continue;
-        }
-        let mut files = Vec::new(rt.alloc());
-        for place in places {
-            let op = ops[place];
-            files.push(encode_file(rt.alloc(), &[op])?)?;
-        }
-        let (answer, bytes) = run(rt.alloc(), files.as_slice());
-        assert_eq!(rt; answer, Ok(()), "{places:?}");
-        assert_eq!(rt; bytes.as_slice(), b"axyb".as_slice(), "{places:?}");
+    for order in FOUR.split(' ') {
+        let files = files_of(rt.alloc(), order)?;
+        assert_text(&rt, files.as_slice(), (Ok(()), b"axyb"), order, 0);
     }
     Ok(())
 }
@@ -124,8 +107,6 @@ fn four_files_in_every_order(rt: HostRuntime) -> Result<(), Fail> {
 #[test]
 fn a_file_cut_to_each_length(rt: HostRuntime) -> Result<(), Fail> {
     for k in 0..44usize {
-        let files = [TWO[..k].to_vec(rt.alloc())?];
-        let (answer, bytes) = run(rt.alloc(), &files);
         let (wanted, characters) = match k {
             5 => (Ok(()), 0),
             24 => (Ok(()), 1),
@@ -134,148 +115,147 @@ fn a_file_cut_to_each_length(rt: HostRuntime) -> Result<(), Fail> {
             6..24 => (Err(malformed(1, 1, Cause::Truncated)), 0),
             _ => (Err(malformed(1, 2, Cause::Truncated)), 0),
         };
-        assert_eq!(rt; answer, wanted, "at {k}");
-        assert_eq!(rt; bytes.as_slice(), &b"ab"[..characters], "at {k}");
+        let file = TWO[..k].to_vec(rt.alloc())?;
+        assert_file(&rt, file, (wanted, &b"ab"[..characters]), "a cut", k);
     }
     Ok(())
 }
 
 #[test]
 fn the_first_faulty_file_decides_before_a_refusal(rt: HostRuntime) -> Result<(), Fail> {
-    let a = insertion((1, 1), None, 'a').ok_or("well formed")?;
-    let b = insertion((1, 1), None, 'b').ok_or("well formed")?;
-    let refused = RunFault::Step(0, 1, TakeFault::IdentifierReused);
-    let (answer, bytes) = run_one(rt.alloc(), &[a, b])?;
-    assert_eq!(rt; answer, Err(refused));
-    assert!(rt; bytes.is_empty());
-    let late = [LATE_PARENT.to_vec(rt.alloc())?];
-    let (alone, _) = run(rt.alloc(), &late);
-    assert_eq!(rt; alone, Err(malformed(1, 1, Cause::ParentNotBefore)));
-    let files = [
-        encode_file(rt.alloc(), &[a, b])?,
-        LATE_PARENT.to_vec(rt.alloc())?,
-        TWO[..42].to_vec(rt.alloc())?,
-    ];
-    let (answer, bytes) = run(rt.alloc(), &files);
-    assert_eq!(rt; answer, Err(malformed(2, 1, Cause::ParentNotBefore)));
-    assert!(rt; bytes.is_empty());
+    let file = file_of(rt.alloc(), b"aB")?;
+    assert_file(&rt, file, (Err(REFUSED), b""), "alone", 0);
+    let late = LATE_PARENT.to_vec(rt.alloc())?;
+    let fault = malformed(1, 1, Cause::ParentNotBefore);
+    assert_file(&rt, late, (Err(fault), b""), "alone", 1);
+    let refused = file_of(rt.alloc(), b"aB")?;
+    let files = copies(rt.alloc(), &[&refused, &LATE_PARENT, &TWO[..42]])?;
+    let fault = malformed(2, 1, Cause::ParentNotBefore);
+    assert_text(&rt, files.as_slice(), (Err(fault), b""), "together", 0);
     Ok(())
+}
+
+/// Compares what a sink that takes `left` bytes in all, at most `piece` a call, keeps of a text.
+fn assert_kept(rt: &(impl Abort + AllocGlobal), file: &Vec<u8>, piece: usize, left: usize)
+    requires { 0 < piece }
+{
+    let mut bytes = Vec::new(rt.alloc());
+    let mut sink = Stops::new(Out::new(&mut bytes), piece, left);
+    let answer = text(rt.alloc(), KEY, from_ref(file), &mut sink);
+    let wanted = if left < 4 {
+        Err(RunFault::Device)
+    } else {
+        Ok(())
+    };
+    let kept = &b"axyb"[..left.min(4)];
+    assert_run(rt, (answer, bytes.as_slice()), (wanted, kept), "left", left);
 }
 
 #[test]
 fn a_sink_that_stops_keeps_a_beginning(rt: HostRuntime) -> Result<(), Fail> {
-    let files = [encode_file(rt.alloc(), &four().ok_or("well formed")?)?];
+    let file = file_of(rt.alloc(), b"axyb")?;
     for left in 0..6usize {
         for piece in 1..4usize {
-            let mut bytes = Vec::new(rt.alloc());
-            let mut sink = Stops::new(Out::new(&mut bytes), piece, left);
-            let answer = text(rt.alloc(), KEY, &files, &mut sink);
-            let wanted = if left < 4 {
-                Err(RunFault::Device)
-            } else {
-                Ok(())
-            };
-            assert_eq!(rt; answer, wanted, "{left} bytes by {piece}");
-            let whole = b"axyb".as_slice();
-            assert_eq!(rt;
-                bytes.as_slice(),
-                &whole[..left.min(4)],
-                "{left} bytes by {piece}"
-            );
+            assert_kept(&rt, &file, piece, left);
         }
     }
     Ok(())
 }
 
-/// With ample memory a run is right; where a growth is refused it says so, and nothing is
-/// written.
 #[test]
 fn a_run_is_right_or_says_memory(rt: HostRuntime) -> Result<(), Fail> {
-    let files = [TWO.to_vec(rt.alloc())?, TWO.to_vec(rt.alloc())?];
+    let files = copies(rt.alloc(), &[&TWO, &TWO])?;
     let mut room = [0u8; 4];
-    match text(rt.alloc(), KEY, &files, &mut Out::new(room.as_mut_slice())) {
-        Ok(()) => assert!(rt; room.starts_with(b"ab")),
-        Err(fault) => assert_eq!(rt; (fault, room[0]), (RunFault::Memory, 0)),
-    }
+    let out = &mut Out::new(room.as_mut_slice());
+    let answer = text(rt.alloc(), KEY, files.as_slice(), out);
+    assert_right_or_memory(&rt, answer, &room, b"ab");
     Ok(())
+}
+
+/// Compares what a file comes to that is read in pieces of each size.
+fn assert_pieces(rt: &(impl Abort + AllocGlobal), file: &[u8], wanted: Outcome) {
+    for size in 1..44usize {
+        assert_read(rt, &mut [Gives::new(file, size)], wanted, size);
+    }
 }
 
 #[test]
 fn files_in_pieces_of_each_size(rt: HostRuntime) -> Result<(), Fail> {
-    let four = encode_file(rt.alloc(), &four().ok_or("well formed")?)?;
-    let late = Err(malformed(1, 1, Cause::ParentNotBefore));
-    let cut = Err(malformed(1, 2, Cause::Truncated));
-    let rows: [(&[u8], Result<(), RunFault>, &[u8]); 4] = [
-        (&TWO, Ok(()), b"ab"),
-        (&four, Ok(()), b"axyb"),
-        (&LATE_PARENT, late, b""),
-        (&TWO[..42], cut, b""),
-    ];
-    for size in 1..44usize {
-        for (file, wanted, text) in rows {
-            let (answer, bytes) = run_from(rt.alloc(), Gives::new(file, size));
-            assert_eq!(rt; answer, wanted, "by {size}");
-            assert_eq!(rt; bytes.as_slice(), text, "by {size}");
-        }
-    }
+    let four = file_of(rt.alloc(), b"axyb")?;
+    let late = malformed(1, 1, Cause::ParentNotBefore);
+    let cut = malformed(1, 2, Cause::Truncated);
+    assert_pieces(&rt, &TWO, (Ok(()), b"ab"));
+    assert_pieces(&rt, &four, (Ok(()), b"axyb"));
+    assert_pieces(&rt, &LATE_PARENT, (Err(late), b""));
+    assert_pieces(&rt, &TWO[..42], (Err(cut), b""));
     Ok(())
+}
+
+/// Compares what a file comes to that is read in two pieces.
+fn assert_two_pieces(
+    rt: &(impl Abort + AllocGlobal),
+    first: &[u8],
+    second: &[u8],
+    wanted: Outcome,
+) {
+    let mut bytes = Vec::new(rt.alloc());
+    let mut readers = [In::new(first.chain(second))];
+    let answer = text_from(rt.alloc(), KEY, &mut readers, &mut Out::new(&mut bytes));
+    let came = (answer, bytes.as_slice());
+    assert_run(rt, came, wanted, "two pieces", first.len());
+}
+
+/// Compares what a file comes to that is cut into two pieces at each place.
+fn assert_cuts(rt: &(impl Abort + AllocGlobal), file: &[u8], wanted: Outcome) {
+    for cut in 0..file.len() {
+        assert_two_pieces(rt, &file[..cut], &file[cut..], wanted);
+    }
 }
 
 #[test]
 fn files_cut_into_two_pieces(rt: HostRuntime) -> Result<(), Fail> {
-    let four = encode_file(rt.alloc(), &four().ok_or("well formed")?)?;
-    let late = Err(malformed(1, 1, Cause::ParentNotBefore));
-    let rows: [(&[u8], Result<(), RunFault>, &[u8]); 3] = [
-        (&TWO, Ok(()), b"ab"),
-        (&four, Ok(()), b"axyb"),
-        (&LATE_PARENT, late, b""),
-    ];
-    for (file, wanted, text) in rows {
-        for cut in 0..file.len() {
-            let mut bytes = Vec::new(rt.alloc());
-            let mut readers = [In::new(file[..cut].chain(&file[cut..]))];
-            let answer = text_from(rt.alloc(), KEY, &mut readers, &mut Out::new(&mut bytes));
-            assert_eq!(rt; answer, wanted, "at {cut}");
-            assert_eq!(rt; bytes.as_slice(), text, "at {cut}");
-        }
-    }
+    let four = file_of(rt.alloc(), b"axyb")?;
+    let late = malformed(1, 1, Cause::ParentNotBefore);
+    assert_cuts(&rt, &TWO, (Ok(()), b"ab"));
+    assert_cuts(&rt, &four, (Ok(()), b"axyb"));
+    assert_cuts(&rt, &LATE_PARENT, (Err(late), b""));
     Ok(())
+}
+
+/// Compares the fault of two files, of which the second fails after `left` bytes.
+fn assert_waits(
+    rt: &(impl Abort + AllocGlobal),
+    first: &[u8],
+    second: &[u8],
+    left: usize,
+    fault: RunFault,
+) {
+    let first = Gives::new(first, 7);
+    let second = Gives::new(second, 7).failing_after(left);
+    assert_read(rt, &mut [first, second], (Err(fault), b""), left);
 }
 
 /// A refusal in a file is reported after all files are read: those that follow it may be faulty, fail,
 /// or be right.
 #[test]
 fn a_refusal_waits_for_the_files_after_it(rt: HostRuntime) -> Result<(), Fail> {
-    let a = insertion((1, 1), None, 'a').ok_or("well formed")?;
-    let b = insertion((1, 1), None, 'b').ok_or("well formed")?;
-    let again = encode_file(rt.alloc(), &[a, b, a])?;
-    let refused = RunFault::Step(0, 1, TakeFault::IdentifierReused);
+    let again = file_of(rt.alloc(), b"aBa")?;
     let late = malformed(2, 1, Cause::ParentNotBefore);
-    for (second, left, wanted) in [
-        (TWO.as_slice(), 43usize, RunFault::ReadFailed(2)),
-        (TWO.as_slice(), 44, refused),
-        (LATE_PARENT.as_slice(), 44, late),
-        (&TWO[..42], 44, malformed(2, 2, Cause::Truncated)),
-    ] {
-        let mut bytes = Vec::new(rt.alloc());
-        let mut readers = [
-            Gives::new(&again, 7),
-            Gives::new(second, 7).failing_after(left),
-        ];
-        let answer = text_from(rt.alloc(), KEY, &mut readers, &mut Out::new(&mut bytes));
-        assert_eq!(rt; answer, Err(wanted), "{left}");
-        assert!(rt; bytes.is_empty(), "{left}");
-    }
+    let cut = malformed(2, 2, Cause::Truncated);
+    assert_waits(&rt, &again, &TWO, 43, RunFault::ReadFailed(2));
+    assert_waits(&rt, &again, &TWO, 44, REFUSED);
+    assert_waits(&rt, &again, &LATE_PARENT, 44, late);
+    assert_waits(&rt, &again, &TWO[..42], 44, cut);
     Ok(())
 }
 
 #[test]
 fn a_reader_that_fails_after_each_byte(rt: HostRuntime) {
+    let failed = Err(RunFault::ReadFailed(1));
     for left in 0..44usize {
         for size in 1..9usize {
-            let (answer, bytes) = run_from(rt.alloc(), Gives::new(&TWO, size).failing_after(left));
-            assert_eq!(rt; answer, Err(RunFault::ReadFailed(1)), "{left} by {size}");
-            assert!(rt; bytes.is_empty(), "{left} by {size}");
+            let reader = Gives::new(&TWO, size).failing_after(left);
+            assert_read(&rt, &mut [reader], (failed, b""), left);
         }
     }
 }
@@ -283,27 +263,22 @@ fn a_reader_that_fails_after_each_byte(rt: HostRuntime) {
 #[test]
 fn a_fault_of_an_endless_reader_is_told(rt: HostRuntime) {
     let reader = Gives::new(&TWO, 4_096).then_for_ever(&[0]);
-    let (answer, bytes) = run_from(rt.alloc(), reader);
-    assert_eq!(rt; answer, Err(malformed(1, 3, Cause::UnknownKind)));
-    assert!(rt; bytes.is_empty());
+    let fault = malformed(1, 3, Cause::UnknownKind);
+    assert_read(&rt, &mut [reader], (Err(fault), b""), 0);
+}
+
+/// Compares the fault of three files, of which the second fails after `left` bytes.
+fn assert_decides(rt: &(impl Abort + AllocGlobal), first: &[u8], left: usize, fault: RunFault) {
+    let first = Gives::new(first, 7);
+    let second = Gives::new(&LATE_PARENT[..20], 7).failing_after(left.min(20));
+    let third = Gives::new(&[], 7);
+    assert_read(rt, &mut [first, second, third], (Err(fault), b""), left);
 }
 
 #[test]
 fn the_first_file_that_can_not_be_read_decides(rt: HostRuntime) {
     let late = malformed(1, 1, Cause::ParentNotBefore);
-    for (first, left, wanted) in [
-        (LATE_PARENT.as_slice(), 3usize, late),
-        (TWO.as_slice(), 3, RunFault::ReadFailed(2)),
-        (TWO.as_slice(), 24, RunFault::ReadFailed(2)),
-    ] {
-        let mut bytes = Vec::new(rt.alloc());
-        let mut readers = [
-            Gives::new(first, 7),
-            Gives::new(&LATE_PARENT[..20], 7).failing_after(left.min(20)),
-            Gives::new(&[], 7),
-        ];
-        let answer = text_from(rt.alloc(), KEY, &mut readers, &mut Out::new(&mut bytes));
-        assert_eq!(rt; answer, Err(wanted), "{left}");
-        assert!(rt; bytes.is_empty(), "{left}");
-    }
+    assert_decides(&rt, &LATE_PARENT, 3, late);
+    assert_decides(&rt, &TWO, 3, RunFault::ReadFailed(2));
+    assert_decides(&rt, &TWO, 24, RunFault::ReadFailed(2));
 }
