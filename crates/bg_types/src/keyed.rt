@@ -1,7 +1,7 @@
 //! The hasher of tables by identifier, with a key.
 
 ghost use Rattle.std.specs.Prelude.{◌≡◌, ◌+◌, ◌*◌, ◌/◌, ◌%◌, ◌^◌, ◌<◌, get_or};
-ghost use Rattle.bg_types.specs.Hashing.{word, keyed};
+ghost use Rattle.bg_types.specs.Hashing.{word, keyed, written};
 ghost use Rattle.bg_types.specs.declared.keyed.Keyed.{Keyed};
 
 use std::hash::{BuildHasher, Hasher};
@@ -13,9 +13,16 @@ const FIRST: u64 = 0x9e37_79b9_7f4a_7c15;
 
 const NEXT: u64 = 0x2545_f491_4f6c_dd1d;
 
-/// Hashes by multiplying with a key (multiply-shift). Any two identifiers chosen without knowing
-/// the key share one of n slots (n a power of two) with a probability of at most 2 / n, so no
-/// choice of identifiers makes the calls slow.
+/// How many neighbouring first numbers share a product, so that they share a slot of a table too.
+const NEIGHBOURS: u64 = 8;
+
+/// What neighbours are told apart by: the highest bits of a hash of 32 bits, which name no slot.
+const APART: u32 = 0x2000_0000;
+
+/// Hashes by multiplying with a key (multiply-shift). Eight identifiers of a site with neighbouring
+/// counters share a slot, so that what comes in a run is found in one place. Any two others chosen
+/// without knowing the key share one of n slots (n a power of two, at most 2^29) with a probability
+/// of at most 2 / n, so no choice of identifiers makes the calls slow.
 #[derive(Clone, Copy)]
 pub struct Keyed {
     start: KeyedHasher,
@@ -29,6 +36,8 @@ impl Keyed {
         Keyed {
             start: KeyedHasher {
                 sum: 0,
+                near: 0,
+                is_new: true,
                 factor: ((key % WORD) as u64).wrapping_add(FIRST),
                 next: ((key / WORD) as u64).wrapping_add(NEXT),
             },
@@ -52,30 +61,39 @@ impl BuildHasher for Keyed {
     }
 }
 
-/// The sum of the numbers that were written, each times its factor. An identifier writes two: its
-/// counter and its site.
+/// The sum of the numbers that were written, each times its factor, and what tells neighbours apart.
+/// An identifier writes two: its counter, of which the sum has the eighth part, and its site.
 #[derive(Clone, Copy)]
 pub struct KeyedHasher {
     sum: u64,
+    near: u32,
+    /// Whether nothing was written yet.
+    is_new: bool,
+    /// The factor of the first number.
     factor: u64,
     /// The factor of each number after the first.
     next: u64,
 }
 
 impl Hasher for KeyedHasher {
-    ghost write = { λ h bytes. record { sum = (h.sum + h.factor * word bytes % 2 ^ 64) % 2 ^ 64; factor = h.next; next = h.next } };
+    ghost write = { λ h bytes. written h (word bytes) };
 
-    ghost finish = { λ h. h.sum / 2 ^ 32 };
+    ghost finish = { λ h. (h.sum / 2 ^ 32 + h.near) % 2 ^ 32 };
 
     fn finish(&self) -> u64 {
-        self.sum >> 32
+        let upper = (self.sum >> 32) as u32;
+        upper.wrapping_add(self.near) as u64
     }
 
     fn write(&mut self, bytes: &[u8]) {
-        self.sum = self
-            .sum
-            .wrapping_add(self.factor.wrapping_mul(first_four(bytes)));
-        self.factor = self.next;
+        let number = first_four(bytes);
+        if self.is_new {
+            self.sum = self.factor.wrapping_mul(number / NEIGHBOURS);
+            self.near = APART * (number % NEIGHBOURS) as u32;
+            self.is_new = false;
+        } else {
+            self.sum = self.sum.wrapping_add(self.next.wrapping_mul(number));
+        }
     }
 }
 
