@@ -5,6 +5,7 @@ pub mod Flaws
 pub mod Feeding
 pub mod Readings
 pub mod Taking
+pub mod AnyOrder
 pub mod Answered
 pub mod OneCause
 pub mod Decided

@@ -21,7 +21,7 @@ use Rattle.desk_runs.proofs.Spelled.{take-push, split-at}
 
 -- ---- what an answer says
 
-known-joins : (s : OperationSet) (op : OpView) → Holds s op → MayJoin s op
+pub known-joins : (s : OperationSet) (op : OpView) → Holds s op → MayJoin s op
 known-joins s (Insert id parent ch) held = λ kept found. (let equal = sym found ∙ held in cc)
 known-joins s (Erase target) held = tt
 
@@ -46,7 +46,7 @@ pub IsSetOf-nil : ((op : OpView) → Holds no_operations op → ⊥) → IsSetOf
 IsSetOf-nil nothing op = ((λ h. absurd (nothing op h)), (λ h. absurd (omega (arith, h.1))))
 
 -- S + op is the set of the list with op at its end
-IsSetOf-push : HoldsBoth → (ops : List OpView) (op : OpView) (s : OperationSet) → IsSetOf ops s → MayJoin s op → IsSetOf (ops ++ op ∷ []) (with_operation s op)
+pub IsSetOf-push : HoldsBoth → (ops : List OpView) (op : OpView) (s : OperationSet) → IsSetOf ops s → MayJoin s op → IsSetOf (ops ++ op ∷ []) (with_operation s op)
 IsSetOf-push holds ops op s h may x =
     let joined = holds s op x may in (
       λ held. elim (joined.0 held) [

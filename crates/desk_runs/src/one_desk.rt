@@ -1,6 +1,6 @@
 //! One desk that takes the operations of all files.
 
-ghost use Rattle.std.specs.Prelude.{◌≡◌, ◌≤◌, ◌⊎◌, ◌++◌, [], false, List, None, map as each, OnOk, IfOk, IfErr, length, string_bytes, encode_utf8_all};
+ghost use Rattle.std.specs.Prelude.{◌≡◌, ◌≢◌, ◌≤◌, ◌⊎◌, ◌++◌, [], false, List, Some, None, map as each, OnOk, IfOk, IfErr, length, string_bytes, encode_utf8_all};
 ghost use Rattle.bg_types.specs.OperationSet.{size};
 ghost use Rattle.bg_types.specs.declared.op.OpView.{OpView as Operation};
 ghost use Rattle.desk_replica.specs.SetOf.{IsSetOf};
@@ -8,7 +8,7 @@ ghost use Rattle.desk_replica.specs.Refusal.{IsFirstRefusal};
 ghost use Rattle.rga_tree.specs.TextOf.{text};
 ghost use Rattle.desk_runs.specs.Readers.{IsToldFile, IsUnreadFile, AreWorking, AreTold, EndsOver};
 ghost use Rattle.desk_runs.specs.Files.{IsSetOfFiles};
-ghost use Rattle.desk_runs.specs.Taking.{HasTaken};
+ghost use Rattle.desk_runs.specs.Taking.{HasTaken, HasTakenBut, IsReordered};
 ghost use Rattle.desk_runs.specs.Cause.{IsTakingCaused, step_fault_of};
 ghost use Rattle.desk_runs.specs.CaretsOutcome.{IsTextOfFiles};
 ghost use Rattle.desk_runs.specs.declared.run_fault.RunFault.TheVariants.{Memory as run_memory};
@@ -16,13 +16,19 @@ ghost use Rattle.desk_runs.specs.declared.run_fault.RunFault.TheVariants.{Memory
 use crate::desks::{Desk, new_desk, read_text};
 use crate::reading::{LIMIT, PIECE, feed_piece, finish};
 use crate::run_fault::RunFault;
-use bg_types::{Memory, Op, laws as sets};
-use desk_replica::TakeFault;
+use bg_types::{Id, Memory, Op, OpView, laws as sets};
+use desk_replica::{TakeFault, laws as desks};
 use op_codec::{Source, Stream};
 use std::alloc::Global;
 
 /// The site of the one desk.
 const SITE: u16 = 1;
+
+/// How many operations a desk can keep, and so how many are taken together at most.
+const MOST: usize = 1_000_000;
+
+/// By how many of the first operations it is told whether they came out of order.
+const LOOKED_AT: usize = 32;
 
 /// The text of all operations of the files, which one desk takes in order: at most 4,000,000 bytes.
 pub fn joined_text<R: Source>(alloc: Global, key: u128, files: &mut [R]) -> Result<String, RunFault>
@@ -93,36 +99,99 @@ fn take_file<R: Source>(
     ensures working { OnOk result (R.has_failed reader.new ≡ false) }
     ensures fault { IfErr result (IsUnreadFile number (R.remaining reader.old) (R.has_failed reader.new)) }
 {
-    let mut ops = Vec::new(alloc);
+    let mut waiting = Vec::new(alloc);
     let mut stream = Stream::new();
     let mut piece = [0; PIECE];
     let mut left = LIMIT;
     while let Some(given) = reader.get(&mut piece) {
         if given == 0 {
-            return finish(number, &stream);
+            finish(number, &stream)?;
+            take_more(desk, refused, &mut waiting)?;
+            return Ok(());
         }
-        feed_piece(number, &mut stream, left, &piece[..given], &mut ops)?;
-        take_more(desk, refused, &ops)?;
-        ops.clear();
+        feed_piece(number, &mut stream, left, &piece[..given], &mut waiting)?;
+        take_unless_more_come(desk, refused, &mut waiting)?;
         left -= given;
     }
     Err(RunFault::ReadFailed(number))
 }
 
-/// Takes further operations, unless one before them was refused, and keeps the first refusal.
-fn take_more(desk: &mut Desk, refused: &mut Option<TakeFault>, ops: &[Op]) -> Result<(), Memory>
-    ensures { (before : List Operation) → HasTaken before desk.old.set refused.old → OnOk result (HasTaken (before ++ ops.now) desk.new.set refused.new) }
+/// Takes what waits, unless it came out of order: then more is awaited, to be taken with it.
+fn take_unless_more_come(
+    desk: &mut Desk,
+    refused: &mut Option<TakeFault>,
+    waiting: &mut Vec<Op>,
+) -> Result<(), Memory>
+    ensures { (ops : List Operation) → HasTakenBut waiting.old.items ops desk.old.set refused.old
+        → OnOk result (HasTakenBut waiting.new.items ops desk.new.set refused.new) }
 {
+    if waiting.len() < MOST && came_out_of_order(waiting) {
+        return Ok(());
+    }
+    take_more(desk, refused, waiting)?;
+    waiting.clear();
+    Ok(())
+}
+
+/// Takes further operations, unless one before them was refused, and keeps the first refusal.
+fn take_more(desk: &mut Desk, refused: &mut Option<TakeFault>, ops: &mut [Op]) -> Result<(), Memory>
+    ensures { (before : List Operation) → HasTaken before desk.old.set refused.old → OnOk result (HasTaken (before ++ ops.old) desk.new.set refused.new) }
+{
+    sets::one_more_operation();
+    desks::one_set();
+    desks::one_refusal();
+    desks::none_refused();
     if refused.is_some() {
         return Ok(());
     }
+    put_in_order(desk, ops);
     match take_all(desk, ops) {
         Ok(()) => Ok(()),
-        Err(TakeFault::Memory) => Err(Memory),
-        Err(fault) => {
+        Err(fault) => keep_refusal(refused, fault),
+    }
+}
+
+/// Keeps the fault of a refusal. Lack of memory is none.
+fn keep_refusal(refused: &mut Option<TakeFault>, fault: TakeFault) -> Result<(), Memory>
+    ensures { OnOk result ((refused.new ≡ Some fault) × (fault ≢ TakeFault.Memory)) }
+{
+    match fault {
+        TakeFault::IdentifierReused | TakeFault::Full => {
             *refused = Some(fault);
             Ok(())
         }
+        TakeFault::Memory => Err(Memory),
+    }
+}
+
+/// Sorts operations that came out of order by their identifiers, the cheap order to take them in: each
+/// then comes after its parent, and after those that it stands before. Only where the desk has room for
+/// them all, since which one it would refuse as too many depends on the order.
+fn put_in_order(desk: &Desk, ops: &mut [Op])
+    ensures { IsReordered desk.now.set ops.old ops.new }
+{
+    if came_out_of_order(ops) && ops.len() <= MOST - desk.op_count() {
+        ops.sort_unstable_by_key(named);
+    }
+}
+
+/// Whether of the first operations more than a quarter have a smaller identifier than the one before.
+fn came_out_of_order(ops: &[Op]) -> bool {
+    let first = &ops[..ops.len().min(LOOKED_AT)];
+    let mut falls = 0;
+    for k in 1..first.len() {
+        if named(&first[k]) < named(&first[k - 1]) {
+            falls += 1;
+        }
+    }
+    falls > first.len() / 4
+}
+
+/// The identifier that an operation inserts or deletes.
+fn named(op: &Op) -> Id {
+    match op.view() {
+        OpView::Insert { id, .. } => id,
+        OpView::Erase { target } => target,
     }
 }
 

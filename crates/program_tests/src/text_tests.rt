@@ -125,6 +125,8 @@ fn a_file_cut_to_each_length(rt: HostRuntime) -> Result<(), Fail> {
 fn the_first_faulty_file_decides_before_a_refusal(rt: HostRuntime) -> Result<(), Fail> {
     let file = file_of(rt.alloc(), b"aB")?;
     assert_file(&rt, file, (Err(REFUSED), b""), "alone", 0);
+    let file = file_of(rt.alloc(), b"yBxa")?;
+    assert_file(&rt, file, (Err(REFUSED), b""), "out of order", 0);
     let late = LATE_PARENT.to_vec(rt.alloc())?;
     let fault = malformed(1, 1, Cause::ParentNotBefore);
     assert_file(&rt, late, (Err(fault), b""), "alone", 1);

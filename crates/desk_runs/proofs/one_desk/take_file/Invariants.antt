@@ -1,7 +1,7 @@
 -- What stays true in the loop of `take_file`.
-use Rattle.std.proofs.Common.{◌≡◌, false, List, [], ◌++◌}
+use Rattle.std.proofs.Common.{◌≡◌, false, List, ◌++◌}
 use Rattle.bg_types.specs.declared.op.OpView.{OpView}
-use Rattle.desk_runs.specs.Taking.{HasTaken}
+use Rattle.desk_runs.specs.Taking.{HasTaken, HasTakenBut}
 use Rattle.desk_runs.proofs.Feeding.{IsReadTo}
 use Rattle.desk_runs.proofs.one_desk.take_file.Given as goal
 
@@ -9,8 +9,7 @@ abbrev pub invariant-loop-given : goal.invariant-loop-given
 invariant-loop-given g l = record {
   ops : List OpView;
   read : IsReadTo (g.R.Source.remaining l.fn.reader) (g.R.Source.remaining l.reader) l.stream l.left ops;
-  taken : (before : List OpView) → HasTaken before l.fn.desk.set l.fn.refused → HasTaken (before ++ ops) l.desk.set l.refused;
-  empty : l.ops.items ≡ [];
+  taken : (before : List OpView) → HasTaken before l.fn.desk.set l.fn.refused → HasTakenBut l.waiting.items (before ++ ops) l.desk.set l.refused;
   working : g.R.Source.has_failed l.reader ≡ false;
 }
 
