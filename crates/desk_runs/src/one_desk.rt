@@ -30,7 +30,7 @@ const MOST: usize = 1_000_000;
 /// By how many of the first operations it is told whether they came out of order.
 const LOOKED_AT: usize = 32;
 
-/// The text of all operations of the files, which one desk takes in order: at most 4,000,000 bytes.
+/// The text of all operations of the files, which one desk takes: at most 4,000,000 bytes.
 pub fn joined_text<R: Source>(alloc: Global, key: u128, files: &mut [R]) -> Result<String, RunFault>
     requires { AreWorking (each R.has_failed files.old) }
     ensures ok { IfOk result (λ text. AreTold (each R.remaining files.old) (each R.has_failed files.new)
@@ -52,7 +52,7 @@ fn text_of(desk: &Desk) -> Result<String, RunFault>
     Ok(text)
 }
 
-/// A desk that has taken the operations of the files of all readers, as they come. A refusal is
+/// A desk that has taken the operations of the files of all readers. A refusal is
 /// reported only once all files are read, since a faulty file is reported first.
 pub fn desk_of<R: Source>(alloc: Global, key: u128, files: &mut [R]) -> Result<Desk, RunFault>
     requires { AreWorking (each R.has_failed files.old) }
@@ -66,7 +66,7 @@ pub fn desk_of<R: Source>(alloc: Global, key: u128, files: &mut [R]) -> Result<D
     Ok(desk)
 }
 
-/// Lets a desk without operations take those of the files of all readers, as they come.
+/// Lets a desk without operations take those of the files of all readers, one file after the other.
 fn take_files<R: Source>(alloc: Global, files: &mut [R], desk: &mut Desk) -> Result<(), RunFault>
     requires working { AreWorking (each R.has_failed files.old) }
     requires empty { HasTaken [] desk.old.set None }

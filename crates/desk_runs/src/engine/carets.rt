@@ -33,8 +33,8 @@ pub enum Move {
     Down,
 }
 
-/// Writes the caret at a place of the text of all operations of the files, which one desk takes in
-/// order, and the caret after each move: a line `row gap place` each, over the grid of the text at a
+/// Writes the caret at a place of the text of all operations of the files, which one desk takes,
+/// and the caret after each move: a line `row gap place` each, over the grid of the text at a
 /// width in columns. All data is read and the place is tested before anything is written. The place
 /// counts code points. Where the key is secret, nobody can write files that make the run slow.
 ///

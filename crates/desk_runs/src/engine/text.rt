@@ -12,7 +12,7 @@ use bg_types::{Sink, put_all};
 use op_codec::Source;
 use std::alloc::Global;
 
-/// Writes the text of all operations of the files, which one desk takes in order. Nothing is
+/// Writes the text of all operations of the files, which one desk takes. Nothing is
 /// written before all are taken. Files are numbered from 1. Where the key is secret, nobody can
 /// write files that make the run slow.
 ///
