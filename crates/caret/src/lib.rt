@@ -8,5 +8,5 @@ mod moves;
 mod place;
 
 pub use caret::Caret;
-pub use moves::{down, left, right, up};
+pub use moves::{Move, down, left, right, up};
 pub use place::at_place;

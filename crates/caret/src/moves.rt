@@ -8,6 +8,15 @@ use crate::caret::Caret;
 use crate::gaps::{caret_by, gap_column, is_odd, left_side, right_side};
 use cell_grid::{Grid, Row};
 
+/// A move of a caret.
+#[derive(Clone, Copy, Debug, PartialEq, Eq)]
+pub enum Move {
+    Left,
+    Right,
+    Up,
+    Down,
+}
+
 /// A row's logical start: its left edge in a paragraph of even level, its right edge in one of odd level.
 fn logical_start(row: &Row, number: usize) -> Caret
     ensures caret { result ≡ logical_start number row.now }

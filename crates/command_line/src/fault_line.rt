@@ -4,7 +4,7 @@ ghost use Rattle.std.specs.Prelude.{◌≡◌, false, is_err};
 
 use bg_types::{Device, Sink};
 use cli_support::{CannotRead, tell};
-use desk_runs::RunFault;
+use desk_files::RunFault;
 
 /// The program's name in its lines.
 pub const PROGRAM: &str = "bidigrid";

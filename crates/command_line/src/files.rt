@@ -1,10 +1,10 @@
 //! The operation files of a run, opened to be read piece by piece.
 
 ghost use Rattle.std.specs.Prelude.{◌≡◌, ◌+◌, ◌<◌, ℕ, Some, IfOk, length, map, slice_get, vec_len};
-ghost use Rattle.desk_runs.specs.Readers.{AreWorking};
+ghost use Rattle.desk_files.specs.Readers.{AreWorking};
 
 use cli_support::{Unread, open};
-use desk_runs::RunFault;
+use desk_files::RunFault;
 use op_codec::{In, Source};
 use std::rt::Files;
 

@@ -3,7 +3,7 @@
 ghost use Rattle.std.specs.Prelude.{◌<◌, ◌≤◌, vec_len};
 
 use bg_types::Base;
-use desk_runs::Move;
+use caret::Move;
 use op_codec::Version;
 
 /// The work to be done.

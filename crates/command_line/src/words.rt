@@ -7,7 +7,7 @@ use crate::request::{Job, Replay, Typing, Walk};
 use bg_types::Base;
 use clap::ArgMatches;
 use cli_support::Stop;
-use desk_runs::Move;
+use caret::Move;
 use op_codec::Version;
 use std::alloc::Global;
 

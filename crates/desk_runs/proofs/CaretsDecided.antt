@@ -7,13 +7,14 @@ use Rattle.bg_types.specs.OperationSet.{OperationSet}
 use Rattle.ucd_files.specs.declared.fault.UcdFault.{UcdFault}
 use Rattle.op_codec.specs.declared.fault.CodecFault.TheVariants as codec
 use Rattle.desk_replica.specs.declared.answer.TakeFault.{TakeFault}
-use Rattle.desk_runs.specs.declared.run_fault.RunFault.{RunFault}
-use Rattle.desk_runs.specs.declared.run_fault.RunFault.TheVariants.{Tables, File, Schedule, Step, Listing, PastEnd, Device, ReadFailed, Memory, TooLong}
-use Rattle.desk_runs.specs.Reading.{Flaw, malformed, too_long, flaw_fault}
-use Rattle.desk_runs.specs.Files.{IsFaultyFile, AreRefused}
-use Rattle.desk_runs.specs.CaretsOutcome.{Asked, text_bytes, lines_over, IsRead, IsBeyondText, IsWalkCaused, IsCaretsOutcome, IsCaretsDecided}
-use Rattle.desk_runs.specs.OneOutcome.{HaveOneOutcome}
-use Rattle.desk_runs.proofs.Decided.{one_of_two}
+use Rattle.desk_files.specs.declared.run_fault.RunFault.{RunFault}
+use Rattle.desk_files.specs.declared.run_fault.RunFault.TheVariants.{Tables, File, Schedule, Step, Listing, PastEnd, Device, ReadFailed, Memory, TooLong}
+use Rattle.desk_files.specs.Reading.{Flaw, malformed, too_long, flaw_fault}
+use Rattle.desk_files.specs.Files.{IsFaultyFile, AreRefused}
+use Rattle.desk_files.specs.TextOutcome.{text_bytes}
+use Rattle.desk_runs.specs.CaretsOutcome.{Asked, lines_over, IsRead, IsBeyondText, IsWalkCaused, IsCaretsOutcome, IsCaretsDecided}
+use Rattle.desk_files.specs.OneOutcome.{HaveOneOutcome}
+use Rattle.desk_files.proofs.Interface.{one_of_two}
 
 -- why there are no lines
 data WalkFault (a : Asked) (fault : RunFault) : Type 0 where

@@ -1,27 +1,14 @@
 -- The modules of this crate's proofs.
-pub mod Spelled
-pub mod LowerLaws
-pub mod Flaws
-pub mod Feeding
-pub mod Readings
-pub mod Taking
-pub mod AnyOrder
-pub mod Answered
-pub mod OneCause
-pub mod Decided
-pub mod TextDecided
 pub mod ReadSteps
 pub mod OnePlan
 pub mod FreshDesks
 pub mod Rooms
-pub mod HandedOn
 pub mod Running
 pub mod Pieces
 pub mod StepAnswers
 pub mod OneRefusal
 pub mod Plans
 pub mod ReplayDecided
-pub mod TextSize
 pub mod Walks
 pub mod WalkAnswers
 pub mod CaretsDecided

@@ -1,7 +1,7 @@
 -- A run has one plan, or its schedule has one first faulty line.
 use Rattle.std.proofs.Common.{◌≡◌, ℕ, List, Option, Some, None, sym, ◌∙◌}
 use Rattle.bg_types.specs.declared.op.OpView.{OpView}
-use Rattle.desk_runs.specs.declared.schedule_fault.ScheduleFault.{ScheduleFault}
+use Rattle.desk_files.specs.declared.schedule_fault.ScheduleFault.{ScheduleFault}
 use Rattle.desk_runs.specs.declared.schedule.step.Numbered.{Numbered}
 use Rattle.desk_runs.specs.Schedule.{Schedules, IsFaultyStep}
 use Rattle.desk_runs.specs.ReplayOutcome.{IsPlan, IsFaultyPlan}

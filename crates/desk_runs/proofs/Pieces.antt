@@ -6,11 +6,11 @@ use Rattle.std.proofs.lemmas.List.Concat.{flat_map-append, flat_map-cons}
 use Rattle.std.proofs.lemmas.List.{append-nil}
 use Rattle.bg_types.specs.OperationSet.{OperationSet}
 use Rattle.bg_types.specs.declared.op.OpView.{OpView}
-use Rattle.desk_runs.specs.declared.run_fault.RunFault.{RunFault}
+use Rattle.desk_files.specs.declared.run_fault.RunFault.{RunFault}
 use Rattle.desk_runs.specs.declared.schedule.step.Numbered.{Numbered}
 use Rattle.desk_runs.specs.Shows.{Ran, IsStepsEnd, IsStepsOutcome}
 use Rattle.desk_runs.proofs.Running.{ran_then, end_then, end_before}
-use Rattle.desk_runs.proofs.HandedOn.{answer_handed}
+use Rattle.desk_files.proofs.Interface.{answer_handed}
 
 range-append : (a m n : ℕ) → range_with_len a (m + n) ≡ range_with_len a m ++ range_with_len (a + m) n
 range-append a zero n = let none : 0 + n ≡ n = omega arith in let same : a ≡ a + 0 = omega arith in ap (range_with_len a) none ∙ ap (λ k. range_with_len k n) same

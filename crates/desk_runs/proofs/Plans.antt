@@ -6,11 +6,12 @@ use Rattle.std.proofs.KnownBytes.{Keeps-refl}
 use Rattle.bg_types.specs.OperationSet.{OperationSet}
 use Rattle.bg_types.specs.declared.op.OpView.{OpView}
 use Rattle.op_codec.specs.declared.fault.CodecFault.TheVariants as codec
-use Rattle.desk_runs.specs.declared.run_fault.RunFault.{RunFault}
-use Rattle.desk_runs.specs.declared.run_fault.RunFault.TheVariants.{Tables, File, Schedule, Step, Listing, Device, PastEnd, ReadFailed, Memory, TooLong}
+use Rattle.desk_files.specs.declared.run_fault.RunFault.{RunFault}
+use Rattle.desk_files.specs.declared.run_fault.RunFault.TheVariants.{Tables, File, Schedule, Step, Listing, Device, PastEnd, ReadFailed, Memory, TooLong}
 use Rattle.desk_runs.specs.declared.schedule.step.Numbered.{Numbered}
-use Rattle.desk_runs.specs.Reading.{IsReadAs}
-use Rattle.desk_runs.specs.Cause.{IsTablesCaused, IsReadCaused}
+use Rattle.desk_files.specs.Reading.{IsReadAs}
+use Rattle.desk_files.specs.Cause.{IsReadCaused}
+use Rattle.desk_runs.specs.Cause.{IsTablesCaused}
 use Rattle.desk_replica.specs.DeskSets.{empty_desks}
 use Rattle.desk_runs.specs.Shows.{IsStepsOutcome}
 use Rattle.desk_runs.specs.ReplayOutcome.{Given, print_of, IsPlan, IsUnplanned, IsPlanOutcome, IsUnread, IsReplayOutcome}

@@ -9,17 +9,17 @@ use Rattle.op_codec.specs.declared.fault.CodecFault.TheVariants as codec
 use Rattle.ucd_files.specs.declared.fault.UcdFault.{UcdFault}
 use Rattle.desk_replica.specs.declared.answer.TakeFault.{TakeFault}
 use Rattle.desk_replica.specs.DeskSets.{empty_desks}
-use Rattle.desk_runs.specs.declared.schedule_fault.ScheduleFault.{ScheduleFault}
-use Rattle.desk_runs.specs.declared.run_fault.RunFault.{RunFault}
-use Rattle.desk_runs.specs.declared.run_fault.RunFault.TheVariants.{Tables, File, Schedule, Step, Listing, Device, PastEnd, ReadFailed, Memory, TooLong}
+use Rattle.desk_files.specs.declared.schedule_fault.ScheduleFault.{ScheduleFault}
+use Rattle.desk_files.specs.declared.run_fault.RunFault.{RunFault}
+use Rattle.desk_files.specs.declared.run_fault.RunFault.TheVariants.{Tables, File, Schedule, Step, Listing, Device, PastEnd, ReadFailed, Memory, TooLong}
 use Rattle.desk_runs.specs.declared.schedule.step.Numbered.{Numbered}
-use Rattle.desk_runs.specs.Reading.{IsReadAs, Flaw, malformed, too_long, flaw_fault}
-use Rattle.desk_runs.specs.Files.{IsFaultyFile}
+use Rattle.desk_files.specs.Reading.{IsReadAs, Flaw, malformed, too_long, flaw_fault}
+use Rattle.desk_files.specs.Files.{IsFaultyFile}
 use Rattle.desk_runs.specs.Steps.{FirstRefused}
 use Rattle.desk_runs.specs.Shows.{IsStepsEnd}
 use Rattle.desk_runs.specs.ReplayOutcome.{Given, print_of, IsPlan, IsFaultyPlan, IsUnrefused, shows_of, IsRefused, IsFaultySchedule, EndsInSteps, IsUnread, IsReplayOutcome, IsReplayDecided}
-use Rattle.desk_runs.specs.OneOutcome.{HaveOneOutcome}
-use Rattle.desk_runs.proofs.Decided.{one_of_two}
+use Rattle.desk_files.specs.OneOutcome.{HaveOneOutcome}
+use Rattle.desk_files.proofs.Interface.{one_of_two}
 use Rattle.desk_runs.proofs.OnePlan.{ScheduleLaws, some_apart, one_plan, plan_apart, one_faulty_plan}
 use Rattle.desk_runs.proofs.OneRefusal.{RefusalLaws, refused_apart, one_refusal}
 

@@ -11,7 +11,7 @@ use Rattle.desk_replica.specs.declared.answer.TakeFault.TheVariants.{Memory}
 use Rattle.desk_replica.specs.DeskSets.{DeskStep, sets_after_step as sets_after_desk_step, IsStepRefused as IsDeskStepRefused}
 use Rattle.desk_runs.specs.declared.schedule.step.Step.{Step}
 use Rattle.desk_runs.specs.declared.schedule.step.Step.TheVariants.{Show}
-use Rattle.desk_runs.specs.Files.{lists_of}
+use Rattle.desk_files.specs.Files.{lists_of}
 use Rattle.desk_runs.specs.Schedule.{file_at}
 use Rattle.desk_runs.specs.Steps.{operation_at, desk_step, sets_after_done, sets_after_step, IsDoneRefused, IsStepRefused}
 

@@ -7,11 +7,13 @@ use Rattle.bg_types.specs.Sink.{AppendsBeginning}
 use Rattle.ucd_files.specs.Tables.{TableValues}
 use Rattle.cell_grid.specs.Grids.{grid_of}
 use Rattle.op_codec.specs.declared.fault.CodecFault.TheVariants as codec
-use Rattle.desk_runs.specs.declared.run_fault.RunFault.{RunFault}
-use Rattle.desk_runs.specs.declared.run_fault.RunFault.TheVariants.{Tables, File, Schedule, Step, Listing, PastEnd, Device, ReadFailed, Memory, TooLong}
-use Rattle.desk_runs.specs.Cause.{IsTablesCaused, IsTakingCaused, IsUnwalked}
+use Rattle.desk_files.specs.declared.run_fault.RunFault.{RunFault}
+use Rattle.desk_files.specs.declared.run_fault.RunFault.TheVariants.{Tables, File, Schedule, Step, Listing, PastEnd, Device, ReadFailed, Memory, TooLong}
+use Rattle.desk_files.specs.Cause.{IsTakingCaused}
+use Rattle.desk_runs.specs.Cause.{IsTablesCaused, IsUnwalked}
 use Rattle.desk_runs.specs.Carets.{walk_lines}
-use Rattle.desk_runs.specs.CaretsOutcome.{Asked, lines_over, IsTextOfFiles, IsWalked, IsWalkCaused, IsCaretsOutcome}
+use Rattle.desk_files.specs.TextOutcome.{IsTextOfFiles}
+use Rattle.desk_runs.specs.CaretsOutcome.{Asked, lines_over, IsWalked, IsWalkCaused, IsCaretsOutcome}
 
 module _ (a : Asked) where
   pub tables_walk : (fault : RunFault) → IsTablesCaused a.fault fault → IsWalkCaused a fault

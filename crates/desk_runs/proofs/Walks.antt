@@ -5,7 +5,7 @@ use Rattle.std.proofs.lemmas.List.{append-nil}
 use Rattle.std.proofs.lemmas.List.Concat.{flat_map-append}
 use Rattle.cell_grid.specs.Rows.{DrawnRow}
 use Rattle.caret.specs.declared.caret.Caret.{Caret}
-use Rattle.desk_runs.specs.declared.engine.carets.Move.{Move}
+use Rattle.caret.specs.declared.moves.Move.{Move}
 use Rattle.desk_runs.specs.Carets.{moved, walk, caret_line}
 
 -- the caret after some moves

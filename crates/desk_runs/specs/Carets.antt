@@ -6,8 +6,8 @@ use Rattle.cell_grid.specs.Grids.{DrawnGrid}
 use Rattle.caret.specs.declared.caret.Caret.{Caret}
 use Rattle.caret.specs.Moves.{right_of, left_of, up_of, down_of}
 use Rattle.caret.specs.Places.{caret_at}
-use Rattle.desk_runs.specs.declared.engine.carets.Move.{Move}
-use Rattle.desk_runs.specs.declared.engine.carets.Move.TheVariants.{Left, Right, Up, Down}
+use Rattle.caret.specs.declared.moves.Move.{Move}
+use Rattle.caret.specs.declared.moves.Move.TheVariants.{Left, Right, Up, Down}
 
 -- the caret after a move
 abbrev pub moved : List DrawnRow → Caret → Move → Caret

@@ -1,5 +1,5 @@
 -- What a run of `carets` is given, and what it writes and answers.
-use Rattle.std.specs.Prelude.{◌≡◌, ◌<◌, ◌≤◌, ◌⊎◌, ◌↔◌, true, false, Bool, ℕ, List, length, Option, Some, None, Result, Ok, Err, MatchResult, encode_utf8_all}
+use Rattle.std.specs.Prelude.{◌≡◌, ◌<◌, ◌≤◌, ◌⊎◌, ◌↔◌, true, false, Bool, ℕ, List, length, Option, Some, None, Result, Ok, Err, MatchResult}
 use Rattle.std.specs.Str.{chars}
 use Rattle.std.specs.Io.KnownBytes.{Appends}
 use Rattle.bg_types.specs.OperationSet.{OperationSet, size}
@@ -10,17 +10,17 @@ use Rattle.ucd_files.specs.Tables.{TableValues}
 use Rattle.ucd_files.specs.Ucd.{tables_of_ucd, fault_of_ucd}
 use Rattle.ucd_files.specs.declared.files.Ucd.{Ucd}
 use Rattle.op_codec.specs.declared.fault.CodecFault.TheVariants as codec
-use Rattle.rga_tree.specs.TextOf.{text}
 use Rattle.desk_replica.specs.declared.answer.TakeFault.{TakeFault}
 use Rattle.cell_grid.specs.Grids.{grid_of}
-use Rattle.desk_runs.specs.declared.run_fault.RunFault.{RunFault}
-use Rattle.desk_runs.specs.declared.run_fault.RunFault.TheVariants.{Tables, File, Schedule, Step, Listing, PastEnd, Device, ReadFailed, Memory, TooLong}
-use Rattle.desk_runs.specs.declared.engine.carets.Move.{Move}
+use Rattle.desk_files.specs.declared.run_fault.RunFault.{RunFault}
+use Rattle.desk_files.specs.declared.run_fault.RunFault.TheVariants.{Tables, File, Schedule, Step, Listing, PastEnd, Device, ReadFailed, Memory, TooLong}
+use Rattle.caret.specs.declared.moves.Move.{Move}
 use Rattle.desk_runs.specs.Carets.{walk_lines}
-use Rattle.desk_runs.specs.Reading.{Flaw, malformed, too_long, flaw_fault}
-use Rattle.desk_runs.specs.Readers.{IsRunOver}
-use Rattle.desk_runs.specs.Files.{IsSetOfFiles, IsFaultyFile, AreRefused}
-use Rattle.desk_runs.specs.Written.{IsSilent}
+use Rattle.desk_files.specs.Reading.{Flaw, malformed, too_long, flaw_fault}
+use Rattle.desk_files.specs.Readers.{IsRunOver}
+use Rattle.desk_files.specs.Files.{IsSetOfFiles, IsFaultyFile, AreRefused}
+use Rattle.desk_files.specs.Written.{IsSilent}
+use Rattle.desk_files.specs.TextOutcome.{text_bytes}
 
 -- what a run is given: the first fault of its data files, if any, what they say of each code point, the width in columns,
 -- the base direction, the bytes of the operation files, the place and the moves
@@ -44,20 +44,9 @@ asked ucd width base files place moves = record {
   moves = moves;
 }
 
--- the text of a set in UTF-8
-abbrev pub text_bytes : OperationSet → List ℕ
-text_bytes s = encode_utf8_all (text s)
-
 -- the lines of a walk over the grid of a text
 abbrev pub lines_over : Asked → List ℕ → List ℕ
 lines_over a bytes = walk_lines (grid_of a.tables a.width a.base bytes) a.place a.moves
-
--- these bytes are the text of all operations of the files, at most 1,000,000
-pub record IsTextOfFiles (files : List (List ℕ)) (bytes : List ℕ) : Type 0 where
-  pub set : OperationSet
-  pub of_files : IsSetOfFiles files set
-  pub limited : size set ≤ 1_000_000
-  pub is : bytes ≡ text_bytes set
 
 -- the data files have no fault, and S is the set of all operations of the files, at most 1,000,000
 pub record IsRead (a : Asked) (s : OperationSet) : Type 0 where

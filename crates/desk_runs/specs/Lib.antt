@@ -1,10 +1,4 @@
 -- The modules of this crate's definitions.
-pub mod Fault
-pub mod Reading
-pub mod Readers
-pub mod Files
-pub mod Taking
-pub mod OneOutcome
 pub mod Schedule
 pub mod Cause
 pub mod Desks
@@ -12,8 +6,6 @@ pub mod Steps
 pub mod Shows
 pub mod Round
 pub mod Printed
-pub mod Written
-pub mod TextOutcome
 pub mod ReplayOutcome
 pub mod Carets
 pub mod CaretsOutcome

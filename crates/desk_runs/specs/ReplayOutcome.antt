@@ -10,19 +10,19 @@ use Rattle.ucd_files.specs.declared.fault.UcdFault.{UcdFault}
 use Rattle.ucd_files.specs.Tables.{TableValues}
 use Rattle.ucd_files.specs.Ucd.{tables_of_ucd, fault_of_ucd}
 use Rattle.ucd_files.specs.declared.files.Ucd.{Ucd}
-use Rattle.desk_runs.specs.declared.schedule_fault.ScheduleFault.{ScheduleFault}
-use Rattle.desk_runs.specs.declared.run_fault.RunFault.{RunFault}
-use Rattle.desk_runs.specs.declared.run_fault.RunFault.TheVariants.{Tables, File, Schedule, Step, Listing, Device, PastEnd, ReadFailed, Memory, TooLong}
+use Rattle.desk_files.specs.declared.schedule_fault.ScheduleFault.{ScheduleFault}
+use Rattle.desk_files.specs.declared.run_fault.RunFault.{RunFault}
+use Rattle.desk_files.specs.declared.run_fault.RunFault.TheVariants.{Tables, File, Schedule, Step, Listing, Device, PastEnd, ReadFailed, Memory, TooLong}
 use Rattle.desk_runs.specs.declared.schedule.step.Numbered.{Numbered}
-use Rattle.desk_runs.specs.Reading.{IsReadAs, Flaw, malformed, too_long, flaw_fault}
-use Rattle.desk_runs.specs.Readers.{IsRunOver}
-use Rattle.desk_runs.specs.Files.{IsFaultyFile}
+use Rattle.desk_files.specs.Reading.{IsReadAs, Flaw, malformed, too_long, flaw_fault}
+use Rattle.desk_files.specs.Readers.{IsRunOver}
+use Rattle.desk_files.specs.Files.{IsFaultyFile}
 use Rattle.desk_runs.specs.Schedule.{Schedules, IsFaultyStep}
 use Rattle.desk_runs.specs.Round.{round}
 use Rattle.desk_replica.specs.DeskSets.{empty_desks}
 use Rattle.desk_runs.specs.Steps.{NoneRefused, FirstRefused}
 use Rattle.desk_runs.specs.Shows.{shows, IsStepsEnd}
-use Rattle.desk_runs.specs.Written.{IsSilent}
+use Rattle.desk_files.specs.Written.{IsSilent}
 use Rattle.desk_runs.specs.Printed.{printed}
 
 -- ---- the data of a run

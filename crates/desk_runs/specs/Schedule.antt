@@ -2,8 +2,8 @@
 use Rattle.std.specs.Prelude.{◌≡◌, ◌≤◌, ◌==◌, ◌||◌, ◌&&◌, ◌+◌, ◌-◌, not, false, Bool, ℕ, List, [], ◌∷◌, ◌++◌, length, Option, Some, None, Result, Ok, Err, nat_le, bytes_eq, codes, slice_index_or, if◌then◌else◌}
 use Rattle.std.specs.Str.Lines.{lines}
 use Rattle.bg_types.specs.declared.op.OpView.{OpView}
-use Rattle.desk_runs.specs.declared.schedule_fault.ScheduleFault.{ScheduleFault}
-use Rattle.desk_runs.specs.declared.schedule_fault.ScheduleFault.TheVariants.{UnknownStep, WrongWords, BadNumber, NoSuchDesk, NoSuchFile, NoSuchOperation}
+use Rattle.desk_files.specs.declared.schedule_fault.ScheduleFault.{ScheduleFault}
+use Rattle.desk_files.specs.declared.schedule_fault.ScheduleFault.TheVariants.{UnknownStep, WrongWords, BadNumber, NoSuchDesk, NoSuchFile, NoSuchOperation}
 use Rattle.desk_runs.specs.declared.schedule.step.Step.{Step}
 use Rattle.desk_runs.specs.declared.schedule.step.Step.TheVariants.{Take, Merge, Show}
 use Rattle.desk_runs.specs.declared.schedule.step.Numbered.{Numbered}

@@ -2,7 +2,7 @@
 use Rattle.std.specs.Prelude.{ℕ, List}
 use Rattle.bg_types.specs.declared.op.OpView.{OpView}
 use Rattle.desk_runs.specs.declared.engine.replay.setting.Setting.{Setting}
-use Rattle.desk_runs.specs.Files.{lists_of}
+use Rattle.desk_files.specs.Files.{lists_of}
 use Rattle.desk_runs.specs.Printed.{printed}
 
 -- what a text is drawn as

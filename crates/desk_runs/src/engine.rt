@@ -1,5 +1,4 @@
-//! The engines, one for each subcommand that runs desks.
+//! The engines, one for each subcommand that draws.
 
 pub mod carets;
 pub mod replay;
-pub mod text;

@@ -5,20 +5,18 @@ ghost use Rattle.std.specs.Prelude.{◌≡◌, ◌<◌, ◌+◌, ◌⊎◌, ℕ,
 ghost use Rattle.bg_types.specs.declared.op.OpView.{OpView};
 ghost use Rattle.desk_replica.specs.Desk.{fresh};
 ghost use Rattle.desk_replica.specs.DeskSets.{sets_of, empty_desks};
-ghost use Rattle.desk_runs.specs.declared.run_fault.RunFault.{RunFault};
-ghost use Rattle.desk_runs.specs.declared.schedule_fault.ScheduleFault.{ScheduleFault};
+ghost use Rattle.desk_files.specs.declared.run_fault.RunFault.{RunFault};
+ghost use Rattle.desk_files.specs.declared.schedule_fault.ScheduleFault.{ScheduleFault};
 ghost use Rattle.desk_runs.specs.declared.schedule.step.Numbered.{Numbered};
-ghost use Rattle.desk_runs.specs.OneOutcome.{HaveOneOutcome};
 ghost use Rattle.desk_runs.specs.Schedule.{Schedules, IsFaultyStep};
 ghost use Rattle.desk_runs.specs.Desks.{fresh_desks};
-ghost use Rattle.desk_runs.specs.Readers.{IsFileOutcome};
-ghost use Rattle.desk_runs.specs.Written.{IsSilent};
-ghost use Rattle.desk_runs.specs.TextOutcome.{IsTextOutcome, IsTextOutcomeOver, IsTextDecided};
+ghost use Rattle.desk_files.specs.Readers.{IsFileOutcome};
+ghost use Rattle.desk_files.specs.Written.{IsSilent};
 ghost use Rattle.desk_runs.specs.ReplayOutcome.{Given, IsReplayOutcome, IsReplayOutcomeOver, IsReplayDecided};
 ghost use Rattle.desk_runs.specs.CaretsOutcome.{Asked, IsCaretsOutcome, IsCaretsOutcomeOver, IsCaretsDecided};
 
+use desk_files::{ScheduleFault, laws as files};
 use desk_replica::laws as desks;
-use op_codec::laws as codec;
 use op_listing::laws as lines;
 
 /// In a run over files of these operations, a schedule says one list of steps or has one first faulty
@@ -33,19 +31,7 @@ pub fn scheduled_or_faulty()
     ensures one_fault { (files : List (List OpView)) (bytes : List ℕ) (m n : ℕ) (f g : ScheduleFault)
         → IsFaultyStep files bytes m f → IsFaultyStep files bytes n g → (m ≡ n) × (f ≡ g) }
 {
-    lines::first_fault::<crate::ScheduleFault>();
-}
-
-/// Operation files have one outcome: the set of their operations, the first faulty one, or the first
-/// refusal of a desk that takes their operations in order.
-pub fn one_outcome()
-    ensures { (files : List (List ℕ)) → HaveOneOutcome files }
-{
-    desks::one_set();
-    desks::one_refusal();
-    desks::none_refused();
-    codec::one_spelling();
-    codec::spelled_or_faulty();
+    lines::first_fault::<ScheduleFault>();
 }
 
 /// In a run, desk k, from 1, has site k, and all desks begin with nothing.
@@ -58,28 +44,18 @@ pub fn desks_of_a_run()
 /// Where readers tell their bytes, a run over them has an outcome of a run over files of these bytes,
 /// or a reader has failed: number n, from 1, and no other.
 pub fn readers_tell_files()
-    ensures text { (files : List (List ℕ)) (lost : List Bool) (old new : Option (List ℕ)) (failed : Bool) (result : Result (Unit {0}) RunFault)
-        → IsTextOutcomeOver (each Some files) lost old new failed result → IsFileOutcome lost (IsSilent old new failed) (IsTextOutcome files old new failed) result }
     ensures replay { (files : List (List ℕ)) (lost : List Bool) (gives : List (List ℕ) → Given) (old new : Option (List ℕ)) (failed : Bool) (result : Result (Unit {0}) RunFault)
         → IsReplayOutcomeOver (each Some files) lost gives old new failed result → IsFileOutcome lost (IsSilent old new failed) (IsReplayOutcome (gives files) old new failed) result }
     ensures carets { (files : List (List ℕ)) (lost : List Bool) (asks : List (List ℕ) → Asked) (old new : Option (List ℕ)) (failed : Bool) (result : Result (Unit {0}) RunFault)
         → IsCaretsOutcomeOver (each Some files) lost asks old new failed result → IsFileOutcome lost (IsSilent old new failed) (IsCaretsOutcome (asks files) old new failed) result }
 {}
 
-/// A run of `text` has the answer of its files, unless memory runs out or a write fails.
-pub fn text_is_decided()
-    ensures { (files : List (List ℕ)) (old new : Option (List ℕ)) (failed : Bool) (result : Result (Unit {0}) RunFault)
-        → IsTextOutcome files old new failed result → IsTextDecided files old new failed result }
-{
-    one_outcome();
-}
-
 /// A run of `replay` has the answer of its data, unless memory runs out or a write fails.
 pub fn replay_is_decided()
     ensures { (g : Given) (old new : Option (List ℕ)) (failed : Bool) (result : Result (Unit {0}) RunFault)
         → IsReplayOutcome g old new failed result → IsReplayDecided g old new failed result }
 {
-    one_outcome();
+    files::one_outcome();
     scheduled_or_faulty();
     desks::one_refusal();
 }
@@ -89,5 +65,5 @@ pub fn carets_are_decided()
     ensures { (a : Asked) (old new : Option (List ℕ)) (failed : Bool) (result : Result (Unit {0}) RunFault)
         → IsCaretsOutcome a old new failed result → IsCaretsDecided a old new failed result }
 {
-    one_outcome();
+    files::one_outcome();
 }

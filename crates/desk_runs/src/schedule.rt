@@ -2,16 +2,15 @@
 
 ghost use Rattle.std.specs.Prelude.{◌≡◌, Some, IfOk, IfErr};
 ghost use Rattle.std.specs.List.{AllByRecursion};
-ghost use Rattle.desk_runs.specs.Files.{lists_of};
+ghost use Rattle.desk_files.specs.Files.{lists_of};
 ghost use Rattle.desk_runs.specs.Schedule.{Schedules, IsStepOf};
 ghost use Rattle.desk_runs.specs.ReplayOutcome.{IsUnplanned};
 
 mod line;
 mod step;
 
-use crate::run_fault::RunFault;
-use crate::schedule_fault::ScheduleFault;
 use bg_types::Op;
+use desk_files::{RunFault, ScheduleFault};
 use line::read_step;
 use op_listing::{laws, split_line};
 use std::alloc::Global;

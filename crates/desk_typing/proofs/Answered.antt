@@ -6,10 +6,10 @@ use Rattle.bg_types.specs.OperationSet.{OperationSet}
 use Rattle.bg_types.specs.declared.op.OpView.{OpView}
 use Rattle.op_codec.specs.declared.position.Version.{Version}
 use Rattle.op_codec.specs.Spelling.{SpellsIn}
-use Rattle.desk_runs.specs.declared.run_fault.RunFault.TheVariants.{Memory}
-use Rattle.desk_runs.specs.Readers.{AreTold}
-use Rattle.desk_runs.specs.Files.{IsSetOfFiles}
-use Rattle.desk_runs.specs.Cause.{IsTakingCaused}
+use Rattle.desk_files.specs.declared.run_fault.RunFault.TheVariants.{Memory}
+use Rattle.desk_files.specs.Readers.{AreTold}
+use Rattle.desk_files.specs.Files.{IsSetOfFiles}
+use Rattle.desk_files.specs.Cause.{IsTakingCaused}
 use Rattle.desk_typing.specs.declared.change.Change.{Change}
 use Rattle.desk_typing.specs.declared.typing_fault.TypingFault.{TypingFault}
 use Rattle.desk_typing.specs.declared.typing_fault.TypingFault.TheVariants.{NotUtf8, Run, PastEnd, Full, CounterSpent}

@@ -4,8 +4,8 @@ use Rattle.std.specs.Prelude.{Contains}
 use Rattle.std.specs.List.{AllZip}
 use Rattle.std.proofs.lemmas.List.Elements.{Contains-append_left, Contains-append_right, Contains-append_cases}
 use Rattle.bg_types.specs.declared.op.OpView.{OpView}
-use Rattle.desk_runs.specs.Reading.{IsReadAs}
-use Rattle.desk_runs.specs.Files.{joined}
+use Rattle.desk_files.specs.Reading.{IsReadAs}
+use Rattle.desk_files.specs.Files.{joined}
 use Rattle.desk_typing.proofs.Sets.{contains_first, contains_later, contains_cases, contains_none}
 
 -- a file that is read as these operations is in the list

@@ -19,8 +19,8 @@ use Rattle.rga_tree.proofs.Interface.{Entry}
 use Rattle.desk_replica.specs.Typing.{parent_at}
 use Rattle.desk_replica.specs.Merging.{with_operations}
 use Rattle.desk_replica.specs.SetOf.{IsSetOf}
-use Rattle.desk_runs.specs.Reading.{limit, IsReadAs}
-use Rattle.desk_runs.specs.Files.{joined}
+use Rattle.desk_files.specs.Reading.{limit, IsReadAs}
+use Rattle.desk_files.specs.Files.{joined}
 use Rattle.desk_typing.specs.declared.change.Change.{Change}
 use Rattle.desk_typing.specs.Changing.{replaced, place_in, deletions, insertions, operations_of, Fits}
 use Rattle.desk_typing.specs.TypedOutcome.{IsTypedFile}

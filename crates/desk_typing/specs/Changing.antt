@@ -8,7 +8,7 @@ use Rattle.bg_types.specs.declared.op.OpView.TheVariants.{Insert, Erase}
 use Rattle.op_codec.specs.Spelling.{followers}
 use Rattle.rga_tree.specs.TextOf.{visible, visible_ids}
 use Rattle.desk_replica.specs.Typing.{parent_at}
-use Rattle.desk_runs.specs.declared.run_fault.RunFault.TheVariants.{Memory}
+use Rattle.desk_files.specs.declared.run_fault.RunFault.TheVariants.{Memory}
 use Rattle.desk_typing.specs.declared.change.Change.{Change}
 use Rattle.desk_typing.specs.declared.typing_fault.TypingFault.{TypingFault}
 use Rattle.desk_typing.specs.declared.typing_fault.TypingFault.TheVariants.{NotUtf8, Run, PastEnd, Full, CounterSpent}

@@ -1,6 +1,6 @@
 -- The numbers of faults, and the statuses that they end the program with.
 use Rattle.std.specs.Prelude.{ℕ}
-use Rattle.desk_runs.specs.Fault.{run_code, status_of}
+use Rattle.desk_files.specs.Fault.{run_code, status_of}
 use Rattle.desk_typing.specs.declared.typing_fault.TypingFault.{TypingFault}
 use Rattle.desk_typing.specs.declared.typing_fault.TypingFault.TheVariants.{NotUtf8, Run, PastEnd, Full, CounterSpent}
 

@@ -2,7 +2,7 @@
 use Rattle.std.specs.Prelude.{◌≡◌, ◌≤◌, ◌↔◌, ℕ, List, Contains}
 use Rattle.bg_types.specs.OperationSet.{OperationSet, size}
 use Rattle.rga_tree.specs.TextOf.{text}
-use Rattle.desk_runs.specs.Files.{IsSetOfFiles}
+use Rattle.desk_files.specs.Files.{IsSetOfFiles}
 
 -- each file of one list is in the other, whatever their order and repeats
 abbrev pub HaveSameFiles : List (List ℕ) → List (List ℕ) → Type 0

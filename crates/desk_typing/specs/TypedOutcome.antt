@@ -7,11 +7,11 @@ use Rattle.bg_types.specs.OperationSet.{OperationSet}
 use Rattle.bg_types.specs.Sink.{AppendsBeginning}
 use Rattle.op_codec.specs.declared.position.Version.{Version}
 use Rattle.op_codec.specs.Spelling.{SpellsIn}
-use Rattle.desk_runs.specs.declared.run_fault.RunFault.TheVariants.{Device}
-use Rattle.desk_runs.specs.Readers.{AreWorking, AreTold, EndsOver}
-use Rattle.desk_runs.specs.Files.{IsSetOfFiles}
-use Rattle.desk_runs.specs.Cause.{IsTakingCaused}
-use Rattle.desk_runs.specs.Written.{IsSilent}
+use Rattle.desk_files.specs.declared.run_fault.RunFault.TheVariants.{Device}
+use Rattle.desk_files.specs.Readers.{AreWorking, AreTold, EndsOver}
+use Rattle.desk_files.specs.Files.{IsSetOfFiles}
+use Rattle.desk_files.specs.Cause.{IsTakingCaused}
+use Rattle.desk_files.specs.Written.{IsSilent}
 use Rattle.desk_typing.specs.declared.change.Change.{Change}
 use Rattle.desk_typing.specs.declared.typing_fault.TypingFault.{TypingFault}
 use Rattle.desk_typing.specs.declared.typing_fault.TypingFault.TheVariants.{NotUtf8, Run, PastEnd, Full, CounterSpent}

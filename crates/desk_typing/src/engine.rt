@@ -3,8 +3,8 @@
 ghost use Rattle.std.specs.Prelude.{◌≡◌, ◌<◌, ◌⊎◌, false, map as each, OnOk, IfOk, IfErr};
 ghost use Rattle.std.specs.Str.{chars};
 ghost use Rattle.op_codec.specs.Spelling.{SpellsIn};
-ghost use Rattle.desk_runs.specs.Readers.{AreWorking, AreTold};
-ghost use Rattle.desk_runs.specs.declared.run_fault.RunFault.TheVariants.{Memory as run_memory};
+ghost use Rattle.desk_files.specs.Readers.{AreWorking, AreTold};
+ghost use Rattle.desk_files.specs.declared.run_fault.RunFault.TheVariants.{Memory as run_memory};
 ghost use Rattle.desk_typing.specs.declared.typing_fault.TypingFault.TheVariants.{Run as typing_run};
 ghost use Rattle.desk_typing.specs.Changing.{operations_of, Fits, IsUnfit};
 ghost use Rattle.desk_typing.specs.TypedOutcome.{IsTypedFile, IsUntyped, IsTypedOutcome};
@@ -13,7 +13,7 @@ use crate::change::Change;
 use crate::operations::operations;
 use crate::typing_fault::TypingFault;
 use bg_types::{Memory, Op, Sink, put_all};
-use desk_runs::{Desk, desk_of};
+use desk_files::{Desk, desk_of};
 use op_codec::{Source, Version, encode_file, encode_file_v2};
 use std::alloc::Global;
 

@@ -10,14 +10,14 @@ ghost use Rattle.bg_types.specs.declared.op.OpView.{OpView};
 ghost use Rattle.bg_types.specs.declared.op.OpView.TheVariants.{Insert};
 ghost use Rattle.op_codec.specs.declared.position.Version.{Version};
 ghost use Rattle.rga_tree.specs.TextOf.{text};
-ghost use Rattle.desk_runs.specs.Files.{IsSetOfFiles};
+ghost use Rattle.desk_files.specs.Files.{IsSetOfFiles};
 ghost use Rattle.desk_typing.specs.declared.change.Change.{Change};
 ghost use Rattle.desk_typing.specs.Changing.{replaced, place_in, operations_of};
 ghost use Rattle.desk_typing.specs.TypedOutcome.{IsTypedFile};
 ghost use Rattle.desk_typing.specs.SameFiles.{HaveSameFiles, ReadAs};
 
 use desk_replica::laws as desks;
-use desk_runs::laws as runs;
+use desk_files::laws as files;
 use op_codec::laws as codec;
 
 /// The files and the file of a change together read as the text of the files with the erased
@@ -30,7 +30,7 @@ pub fn typed_text()
 {
     desks::typed_and_erased();
     codec::one_spelling();
-    runs::one_outcome();
+    files::one_outcome();
 }
 
 /// What is typed has counters above each one that the files name, as an identifier, a parent or a target,

@@ -3,7 +3,7 @@
 ghost use Rattle.std.specs.Prelude.{◌≡◌, ◌≤◌, ◌<◌, ◌+◌, ◌-◌, ◌^◌, ◌++◌, ◌⊎◌, ℕ, length, OnOk, IfOk, IfErr};
 ghost use Rattle.bg_types.specs.OperationSet.{next, size};
 ghost use Rattle.bg_types.specs.WellFormed.{MayFollow};
-ghost use Rattle.desk_runs.specs.declared.run_fault.RunFault.TheVariants.{Memory as run_memory};
+ghost use Rattle.desk_files.specs.declared.run_fault.RunFault.TheVariants.{Memory as run_memory};
 ghost use Rattle.desk_typing.specs.declared.typing_fault.TypingFault.TheVariants.{Run as typing_run, CounterSpent as typing_spent};
 ghost use Rattle.rga_tree.specs.TextOf.{visible, visible_ids};
 ghost use Rattle.desk_replica.specs.Typing.{parent_at};
@@ -13,7 +13,7 @@ use crate::change::Change;
 use crate::typing_fault::TypingFault;
 use bg_types::{Id, Op, OpView, Place};
 use desk_replica::TypeFault;
-use desk_runs::{Desk, RunFault};
+use desk_files::{Desk, RunFault};
 use std::alloc::Global;
 
 /// How many operations a desk keeps at most.

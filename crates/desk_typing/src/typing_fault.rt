@@ -3,10 +3,10 @@
 ghost use Rattle.std.specs.Prelude.{◌≡◌};
 ghost use Rattle.desk_typing.specs.Fault.{typing_code, typing_status};
 ghost use Rattle.desk_typing.specs.declared.typing_fault.TypingFault.TheVariants.{Run as typing_run};
-ghost use Rattle.desk_runs.specs.declared.run_fault.RunFault.TheVariants.{Memory as run_memory, Device as run_device};
+ghost use Rattle.desk_files.specs.declared.run_fault.RunFault.TheVariants.{Memory as run_memory, Device as run_device};
 
 use bg_types::{Device, Memory};
-use desk_runs::{RunFault, status};
+use desk_files::{RunFault, status};
 use std::alloc::{AllocError, AllocFailed};
 use std::error::Error;
 use std::fmt;

@@ -1,7 +1,7 @@
 //! Files worked out by hand, from bytes to bytes.
 
 ghost use Rattle.std.specs.Prelude.{◌<◌, map as each};
-ghost use Rattle.desk_runs.specs.Readers.{AreWorking};
+ghost use Rattle.desk_files.specs.Readers.{AreWorking};
 
 use crate::files::*;
 use bg_types::{Out, Stops};

@@ -5,7 +5,7 @@
 mod key;
 
 ghost use Rattle.std.specs.Prelude.{◌≡◌, false, length, map as each, vec_len};
-ghost use Rattle.desk_runs.specs.Readers.{AreWorking};
+ghost use Rattle.desk_files.specs.Readers.{AreWorking};
 
 use bg_types::{Device, Out, Sink};
 pub use cli_support::Stop;

@@ -6,32 +6,21 @@ ghost use Rattle.std.specs.Str.{chars};
 ghost use Rattle.std.specs.List.{flat_map};
 ghost use Rattle.cell_grid.specs.Grids.{grid_of};
 ghost use Rattle.caret.specs.Gaps.{IsCaretOf};
-ghost use Rattle.desk_runs.specs.Files.{bytes_of};
-ghost use Rattle.desk_runs.specs.Readers.{AreWorking, AreTold, EndsOver};
+ghost use Rattle.desk_files.specs.Files.{bytes_of};
+ghost use Rattle.desk_files.specs.Readers.{AreWorking, AreTold, EndsOver};
 ghost use Rattle.desk_runs.specs.Cause.{IsUnwalked};
 ghost use Rattle.desk_runs.specs.Carets.{moved, walk, caret_line, walk_lines};
 ghost use Rattle.desk_runs.specs.CaretsOutcome.{asked, IsWalked, IsWalkCaused, IsCaretsOutcome, IsCaretsOutcomeOver};
 
-use crate::in_memory::readers_of;
-use crate::one_desk::joined_text;
-use crate::reading::load;
-use crate::run_fault::RunFault;
+use crate::tables::load;
 use bg_types::{Base, Memory, Sink, put_all};
-use caret::{Caret, at_place, down, left, right, up};
+use caret::{Caret, Move, at_place, down, left, right, up};
 use cell_grid::Grid;
+use desk_files::{RunFault, joined_text, readers_of};
 use op_codec::Source;
 use std::alloc::{AllocError, Global};
 use ucd_files::{Tables, Ucd};
 use view_cache::View;
-
-/// A move of a caret.
-#[derive(Clone, Copy, Debug, PartialEq, Eq)]
-pub enum Move {
-    Left,
-    Right,
-    Up,
-    Down,
-}
 
 /// Writes the caret at a place of the text of all operations of the files, which one desk takes,
 /// and the caret after each move: a line `row gap place` each, over the grid of the text at a

@@ -3,8 +3,8 @@
 ghost use Rattle.std.specs.Prelude.{◌≡◌, ◌≤◌, Some, None, false, length, map as each};
 ghost use Rattle.std.specs.Option.{option_copied};
 ghost use Rattle.desk_runs.specs.Setting.{print_in, files_in};
-ghost use Rattle.desk_runs.specs.Files.{bytes_of};
-ghost use Rattle.desk_runs.specs.Readers.{AreWorking};
+ghost use Rattle.desk_files.specs.Files.{bytes_of};
+ghost use Rattle.desk_files.specs.Readers.{AreWorking};
 ghost use Rattle.desk_runs.specs.ReplayOutcome.{given, IsReplayOutcome, IsReplayOutcomeOver, IsPlanOutcome};
 
 mod room;
@@ -14,11 +14,10 @@ mod show;
 mod steps;
 
 use crate::desks::new_desks;
-use crate::in_memory::readers_of;
-use crate::reading::{load, read_all};
-use crate::run_fault::RunFault;
 use crate::schedule::read_schedule;
+use crate::tables::load;
 use bg_types::{Base, Sink};
+use desk_files::{RunFault, read_all, readers_of};
 use op_codec::Source;
 use room::new_view;
 use round::run_round;

@@ -2,12 +2,12 @@
 
 ghost use Rattle.std.specs.Prelude.{◌≡◌, Ok, Err, IfOk, IfSome, MatchResult};
 ghost use Rattle.op_listing.specs.Words.{words};
-ghost use Rattle.desk_runs.specs.Files.{lists_of};
+ghost use Rattle.desk_files.specs.Files.{lists_of};
 ghost use Rattle.desk_runs.specs.Schedule.{count_in, is_among as is_one_of, is_comment, line_says, step_in, IsStepOf, take_in, merge_in, show_in};
 
 use super::step::Step;
-use crate::schedule_fault::ScheduleFault;
 use bg_types::Op;
+use desk_files::ScheduleFault;
 use op_listing::{next_word, one_word, read_decimal, three_words, two_words};
 
 /// The most digits of a number of a desk, a file or an operation, leading zeros included.

@@ -1,7 +1,7 @@
 -- What stays true in the loop of `open_all`.
 use Rattle.std.proofs.Common.{◌≡◌, length}
 use Rattle.std.specs.Prelude.{map as each}
-use Rattle.desk_runs.specs.Readers.{AreWorking}
+use Rattle.desk_files.specs.Readers.{AreWorking}
 use Rattle.command_line.proofs.files.open_all.Given as goal
 
 abbrev pub invariant-loop-path : goal.invariant-loop-path

@@ -3,7 +3,7 @@ use Rattle.std.proofs.Common.{◌≡◌, ◌+◌, ◌∷◌, ◌++◌, [], List,
 use Rattle.std.specs.List.{AllByRecursion}
 use Rattle.std.proofs.lemmas.List.{append-nil}
 use Rattle.desk_runs.specs.declared.schedule.step.Numbered.{Numbered}
-use Rattle.desk_runs.specs.Files.{lists_of}
+use Rattle.desk_files.specs.Files.{lists_of}
 use Rattle.desk_runs.specs.Schedule.{fault_in, fault_said, step_said, with_line, IsStepOf}
 use Rattle.desk_runs.proofs.ReadSteps.{AreStepsRead, no_line_read, one_step_read, all_there}
 use Rattle.desk_runs.proofs.schedule.read_schedule.Goals as goal

@@ -1,7 +1,7 @@
 -- What stays true in the loop of `read_schedule`.
 use Rattle.std.proofs.Common.{◌+◌, ◌≤◌, length}
 use Rattle.std.specs.List.{AllByRecursion}
-use Rattle.desk_runs.specs.Files.{lists_of}
+use Rattle.desk_files.specs.Files.{lists_of}
 use Rattle.desk_runs.specs.Schedule.{IsStepOf}
 use Rattle.desk_runs.proofs.ReadSteps.{AreStepsRead}
 use Rattle.desk_runs.proofs.schedule.read_schedule.Given as goal

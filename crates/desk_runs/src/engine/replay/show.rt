@@ -6,10 +6,9 @@ ghost use Rattle.desk_runs.specs.Setting.{print_in};
 ghost use Rattle.desk_runs.specs.Shows.{IsShowOutcome};
 
 use super::setting::Setting;
-use crate::desks::{Desk, read_text};
-use crate::run_fault::RunFault;
 use bg_types::Sink;
 use cell_grid::print;
+use desk_files::{Desk, RunFault, read_text};
 use view_cache::View;
 
 /// Writes the print of the grid of a desk's text, drawn from a view.

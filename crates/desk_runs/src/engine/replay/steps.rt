@@ -10,11 +10,9 @@ ghost use Rattle.desk_runs.specs.Cause.{answer_of};
 
 use super::setting::Setting;
 use super::show::show;
-use crate::desks::Desk;
-use crate::one_desk::step_fault;
-use crate::run_fault::RunFault;
 use crate::schedule::{Numbered, Step};
 use bg_types::Sink;
+use desk_files::{Desk, RunFault, step_fault};
 use desk_replica::{TakeFault, merge_at, take_at};
 use view_cache::View;
 

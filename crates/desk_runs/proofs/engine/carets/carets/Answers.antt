@@ -2,11 +2,10 @@
 use Rattle.std.proofs.Common.{Some, inl, ap, ◌∙◌}
 use Rattle.std.specs.Prelude.{map as each}
 use Rattle.std.proofs.KnownBytes.{Keeps-refl}
-use Rattle.desk_runs.specs.declared.run_fault.RunFault.TheVariants as run
-use Rattle.desk_runs.specs.Files.{bytes_of}
+use Rattle.desk_files.specs.declared.run_fault.RunFault.TheVariants as run
+use Rattle.desk_files.specs.Files.{bytes_of}
 use Rattle.desk_runs.specs.CaretsOutcome.{asked, IsCaretsOutcome}
-use Rattle.desk_runs.proofs.HandedOn.{answer_handed}
-use Rattle.desk_runs.proofs.Readings.{never_failed, over_memory}
+use Rattle.desk_files.proofs.Interface.{answer_handed, never_failed, over_memory}
 use Rattle.desk_runs.proofs.engine.carets.carets.Goals as goal
 
 pub returns-in_err-readers : goal.returns-in_err-readers

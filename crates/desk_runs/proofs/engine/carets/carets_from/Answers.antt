@@ -3,12 +3,11 @@ use Rattle.std.proofs.Common.{ℕ, List, Ok, Err, string_bytes, subst, inl}
 use Rattle.std.specs.Io.KnownBytes.{Appends}
 use Rattle.std.proofs.KnownBytes.{Keeps-refl}
 use Rattle.bg_types.specs.Sink.{AppendsBeginning}
-use Rattle.desk_runs.specs.declared.run_fault.RunFault.TheVariants as run
-use Rattle.desk_runs.specs.Written.{IsSilent}
+use Rattle.desk_files.specs.declared.run_fault.RunFault.TheVariants as run
+use Rattle.desk_files.specs.Written.{IsSilent}
 use Rattle.desk_runs.specs.CaretsOutcome.{Asked, asked, IsWalked, IsWalkCaused, IsCaretsOutcome, IsCaretsOutcomeOver}
 use Rattle.desk_runs.proofs.WalkAnswers.{lines_written, lines_begun}
-use Rattle.desk_runs.proofs.HandedOn.{answer_handed}
-use Rattle.desk_runs.proofs.Readings.{run_ended, run_told}
+use Rattle.desk_files.proofs.Interface.{answer_handed, run_ended, run_told}
 use Rattle.desk_runs.proofs.engine.carets.carets_from.Goals as goal
 
 pub returns-in_err-lines : goal.returns-in_err-lines

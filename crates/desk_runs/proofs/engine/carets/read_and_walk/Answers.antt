@@ -1,11 +1,11 @@
 -- The goals of `read_and_walk` that are answered by hand.
 use Rattle.std.proofs.Common.{ℕ, List, string_bytes, subst, sym}
-use Rattle.desk_runs.specs.Readers.{EndsOver}
-use Rattle.desk_runs.specs.Cause.{IsTakingCaused}
-use Rattle.desk_runs.specs.CaretsOutcome.{Asked, asked, IsWalked, IsWalkCaused, IsTextOfFiles}
-use Rattle.desk_runs.proofs.HandedOn.{err_handed}
+use Rattle.desk_files.specs.Readers.{EndsOver}
+use Rattle.desk_files.specs.Cause.{IsTakingCaused}
+use Rattle.desk_files.specs.TextOutcome.{IsTextOfFiles}
+use Rattle.desk_runs.specs.CaretsOutcome.{Asked, asked, IsWalked, IsWalkCaused}
+use Rattle.desk_files.proofs.Interface.{err_handed, ends_so, ends_unread, err_over, ok_over}
 use Rattle.desk_runs.proofs.WalkAnswers.{tables_walk, files_walk, err_walk, ok_walk}
-use Rattle.desk_runs.proofs.Readings.{ends_so, ends_unread, err_over, ok_over}
 use Rattle.desk_runs.proofs.engine.carets.read_and_walk.Goals as goal
 
 pub returns-in_err-tables-clause-fault : goal.returns-in_err-tables-clause-fault

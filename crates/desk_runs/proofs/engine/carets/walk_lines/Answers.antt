@@ -1,7 +1,7 @@
 -- One more move, and one more line.
 use Rattle.std.proofs.Common.{get_or, string_bytes}
 use Rattle.std.proofs.lemmas.List.{take_more}
-use Rattle.desk_runs.specs.declared.engine.carets.Move.TheVariants.{Left}
+use Rattle.caret.specs.declared.moves.Move.TheVariants.{Left}
 use Rattle.desk_runs.proofs.Walks.{after-more, lines-more}
 use Rattle.desk_runs.proofs.engine.carets.walk_lines.Goals as goal
 

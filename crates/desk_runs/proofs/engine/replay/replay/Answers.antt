@@ -4,11 +4,10 @@ use Rattle.std.specs.Prelude.{map as each}
 use Rattle.std.specs.Option.{option_copied}
 use Rattle.std.proofs.KnownBytes.{Keeps-refl}
 use Rattle.std.proofs.lemmas.List.{length-map}
-use Rattle.desk_runs.specs.declared.run_fault.RunFault.TheVariants as run
-use Rattle.desk_runs.specs.Files.{bytes_of}
+use Rattle.desk_files.specs.declared.run_fault.RunFault.TheVariants as run
+use Rattle.desk_files.specs.Files.{bytes_of}
 use Rattle.desk_runs.specs.ReplayOutcome.{given, IsReplayOutcome}
-use Rattle.desk_runs.proofs.HandedOn.{answer_handed}
-use Rattle.desk_runs.proofs.Readings.{never_failed, over_memory, as_many}
+use Rattle.desk_files.proofs.Interface.{answer_handed, never_failed, over_memory, as_many}
 use Rattle.desk_runs.proofs.engine.replay.replay.Goals as goal
 
 pub returns-in_err-readers : goal.returns-in_err-readers

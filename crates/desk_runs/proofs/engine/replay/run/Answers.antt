@@ -1,10 +1,10 @@
 -- The goals of `run` that are answered by hand.
 use Rattle.std.specs.Option.{option_copied}
-use Rattle.desk_runs.specs.declared.run_fault.RunFault.TheVariants as run
+use Rattle.desk_files.specs.declared.run_fault.RunFault.TheVariants as run
 use Rattle.desk_runs.specs.Setting.{print_in, files_in}
 use Rattle.desk_runs.specs.ReplayOutcome.{IsPlanOutcome}
 use Rattle.desk_runs.proofs.Plans.{plan_unread}
-use Rattle.desk_runs.proofs.HandedOn.{answer_handed}
+use Rattle.desk_files.proofs.Interface.{answer_handed}
 use Rattle.desk_runs.proofs.engine.replay.run.Goals as goal
 
 pub returns-in_err-view : goal.returns-in_err-view

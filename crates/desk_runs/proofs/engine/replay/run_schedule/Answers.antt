@@ -4,7 +4,7 @@ use Rattle.std.specs.Global.{Vec}
 use Rattle.std.proofs.lemmas.List.{length-map}
 use Rattle.bg_types.specs.declared.op.OpView.{OpView}
 use Rattle.desk_runs.specs.declared.schedule.step.Numbered.{Numbered}
-use Rattle.desk_runs.specs.declared.run_fault.RunFault.TheVariants as run
+use Rattle.desk_files.specs.declared.run_fault.RunFault.TheVariants as run
 use Rattle.desk_replica.specs.Desk.{Desk}
 use Rattle.desk_replica.specs.DeskSets.{sets_of, empty_desks}
 use Rattle.desk_runs.specs.Setting.{print_in, files_in}
@@ -12,7 +12,7 @@ use Rattle.desk_runs.specs.Shows.{IsStepsOutcome}
 use Rattle.desk_runs.specs.ReplayOutcome.{IsPlanOutcome}
 use Rattle.desk_runs.proofs.FreshDesks.{fresh-empty, fresh-count}
 use Rattle.desk_runs.proofs.Plans.{plan_unread, steps_of_plan}
-use Rattle.desk_runs.proofs.HandedOn.{answer_handed}
+use Rattle.desk_files.proofs.Interface.{answer_handed}
 use Rattle.desk_runs.proofs.engine.replay.run_schedule.Goals as goal
 
 pub returns-in_err-steps : goal.returns-in_err-steps

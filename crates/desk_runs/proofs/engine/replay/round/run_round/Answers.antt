@@ -4,7 +4,7 @@ use Rattle.desk_runs.specs.Setting.{print_in, files_in}
 use Rattle.desk_runs.specs.Round.{all_takes, all_shows, round}
 use Rattle.desk_runs.specs.Shows.{IsStepsOutcome}
 use Rattle.desk_runs.proofs.Running.{outcome_then, end_before}
-use Rattle.desk_runs.proofs.HandedOn.{answer_handed}
+use Rattle.desk_files.proofs.Interface.{answer_handed}
 use Rattle.desk_runs.proofs.engine.replay.round.run_round.Goals as goal
 
 pub returns-in_err-take_everywhere-clause-outcome : goal.returns-in_err-take_everywhere-clause-outcome

@@ -6,10 +6,10 @@ use Rattle.rga_tree.specs.TextOf.{text}
 use Rattle.ucd_files.specs.Tables.{TableValues}
 use Rattle.cell_grid.specs.Grids.{grid_of}
 use Rattle.cell_grid.specs.Print.{printed}
-use Rattle.desk_runs.specs.declared.run_fault.RunFault.TheVariants as run
+use Rattle.desk_files.specs.declared.run_fault.RunFault.TheVariants as run
 use Rattle.desk_runs.specs.Setting.{print_in}
 use Rattle.desk_runs.specs.Shows.{IsShowOutcome}
-use Rattle.desk_runs.proofs.HandedOn.{answer_handed}
+use Rattle.desk_files.proofs.Interface.{answer_handed}
 use Rattle.desk_runs.proofs.engine.replay.show.show.Goals as goal
 
 pub returns-in_err-text-clause-shown : goal.returns-in_err-text-clause-shown

@@ -6,7 +6,7 @@ use Rattle.desk_replica.specs.DeskSets.{sets_of}
 use Rattle.desk_runs.specs.Setting.{print_in, files_in}
 use Rattle.desk_runs.specs.Shows.{IsStepsOutcome}
 use Rattle.desk_runs.proofs.Running.{next_ran, next_end}
-use Rattle.desk_runs.proofs.HandedOn.{answer_handed}
+use Rattle.desk_files.proofs.Interface.{answer_handed}
 use Rattle.desk_runs.proofs.engine.replay.steps.run_steps.Goals as goal
 
 abbrev none : Numbered

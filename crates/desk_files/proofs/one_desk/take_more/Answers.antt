@@ -1,0 +1,32 @@
+-- The goals of `take_more` that are answered by hand.
+use Rattle.std.proofs.Common.{◌≡◌, ◌≢◌, Some, ◌++◌, sym, subst, ◌∙◌}
+use Rattle.desk_replica.specs.declared.answer.TakeFault.TheVariants.{Memory}
+use Rattle.desk_files.specs.Taking.{HasTaken}
+use Rattle.desk_files.proofs.Feeding.{on_ok}
+use Rattle.desk_files.proofs.AnyOrder.{taken-reordered, refused-more}
+use Rattle.desk_files.proofs.Taking.{taken-refused, taken-more}
+use Rattle.desk_files.proofs.one_desk.take_more.Goals as goal
+
+pub returns-then-is_some : goal.returns-then-is_some
+returns-then-is_some c = λ before h. taken-refused before c.args.ops.now c.args.desk.now.set c.args.refused.now (sym c.is_some.ensures ∙ c.if-is_some.true) h
+
+pub returns-in-Ok : goal.returns-in-Ok
+returns-in-Ok c =
+    let s = c.args.desk.now.set in
+    let t = c.take_all.new.desk.set in
+    λ before h. taken-more before c.args.ops.now s t c.args.refused.now (sym c.is_some.ensures ∙ c.if-is_some.false)
+    (λ old. taken-reordered s before c.args.ops.now c.put_in_order.new.ops t c.put_in_order.ensures (c.in-Ok.ensures.ok before old)) c.in-Ok.ensures.limited h
+
+pub returns-in-Err : goal.returns-in-Err
+returns-in-Err c =
+    let growth = c.one_more_operation.ensures in
+    let s = c.args.desk.now.set in
+    let t = c.take_all.new.desk.set in
+    let fault = c.in-Err.fault in
+    let kept = c.keep_refusal.new.refused in
+    λ before h. on_ok c.keep_refusal.result ((kept ≡ Some fault) × (fault ≢ Memory)) (HasTaken (before ++ c.args.ops.now) t kept)
+    (λ k. subst (HasTaken (before ++ c.args.ops.now) t) (sym k.0)
+    (refused-more (record { holds = growth.holds; grows = growth.grows; known = growth.known })
+    (record { one_set = c.one_set.ensures; one_refusal = c.one_refusal.ensures.first; none_refused = c.none_refused.ensures })
+    before c.args.ops.now c.put_in_order.new.ops s c.args.refused.now fault (sym c.is_some.ensures ∙ c.if-is_some.false) c.put_in_order.ensures (c.in-Err.ensures.fault before) k.1 h))
+    c.keep_refusal.ensures

@@ -1,0 +1,30 @@
+//! A desk of a run.
+
+ghost use Rattle.std.specs.Prelude.{◌≡◌, ◌<◌, ◌≤◌, IfOk, length, string_bytes, encode_utf8_all};
+ghost use Rattle.desk_replica.specs.Desk.{fresh};
+ghost use Rattle.rga_tree.specs.TextOf.{text};
+
+use bg_types::Memory;
+use desk_replica::Replica;
+// The one place that names the sequence of every desk.
+use rga_sequence::Blocks as Elements;
+use std::alloc::Global;
+
+/// A desk of a run.
+pub type Desk = Replica<Elements>;
+
+/// A desk of this site (at least 1) without operations.
+pub fn new_desk(alloc: Global, site: u16, key: u128) -> Desk
+    requires { 0 < site }
+    ensures { result ≡ fresh site }
+{
+    Replica::new(alloc, site, Elements::keyed(alloc, key), key)
+}
+
+/// A desk's text. It has at most 1,000,000 characters, of at most 4 bytes each.
+pub fn read_text(desk: &Desk) -> Result<String, Memory>
+    ensures value { IfOk result (λ t. string_bytes t ≡ encode_utf8_all (text desk.now.set)) }
+    ensures size { IfOk result (λ t. length (string_bytes t) ≤ 4_000_000) }
+{
+    desk.text()
+}

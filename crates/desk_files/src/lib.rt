@@ -1,0 +1,20 @@
+//! The operation files of a run, read piece by piece, and the one desk that takes what they hold: its text is written.
+#![tactic(auto)]
+
+mod desk;
+mod engine;
+mod in_memory;
+pub mod laws;
+mod one_desk;
+mod reading;
+mod run_fault;
+mod schedule_fault;
+
+pub use desk::{Desk, new_desk, read_text};
+pub use desk_replica::TakeFault;
+pub use engine::{text, text_from};
+pub use in_memory::{InMemory, readers_of};
+pub use one_desk::{desk_of, joined_text, step_fault};
+pub use reading::read_all;
+pub use run_fault::{RunFault, status};
+pub use schedule_fault::ScheduleFault;

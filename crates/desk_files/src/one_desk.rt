@@ -1,0 +1,220 @@
+//! One desk that takes the operations of all files.
+
+ghost use Rattle.std.specs.Prelude.{◌≡◌, ◌≢◌, ◌≤◌, ◌⊎◌, ◌++◌, [], false, List, Some, None, map as each, OnOk, IfOk, IfErr, length, string_bytes, encode_utf8_all};
+ghost use Rattle.bg_types.specs.OperationSet.{size};
+ghost use Rattle.bg_types.specs.declared.op.OpView.{OpView as Operation};
+ghost use Rattle.desk_replica.specs.SetOf.{IsSetOf};
+ghost use Rattle.desk_replica.specs.Refusal.{IsFirstRefusal};
+ghost use Rattle.rga_tree.specs.TextOf.{text};
+ghost use Rattle.desk_files.specs.Readers.{IsToldFile, IsUnreadFile, AreWorking, AreTold, EndsOver};
+ghost use Rattle.desk_files.specs.Files.{IsSetOfFiles};
+ghost use Rattle.desk_files.specs.Taking.{HasTaken, HasTakenBut, IsReordered};
+ghost use Rattle.desk_files.specs.Cause.{IsTakingCaused, step_fault_of};
+ghost use Rattle.desk_files.specs.TextOutcome.{IsTextOfFiles};
+ghost use Rattle.desk_files.specs.declared.run_fault.RunFault.TheVariants.{Memory as run_memory};
+
+use crate::desk::{Desk, new_desk, read_text};
+use crate::reading::{LIMIT, PIECE, feed_piece, finish};
+use crate::run_fault::RunFault;
+use bg_types::{Id, Memory, Op, OpView, laws as sets};
+use desk_replica::{TakeFault, laws as desks};
+use op_codec::{Source, Stream};
+use std::alloc::Global;
+
+/// The site of the one desk.
+const SITE: u16 = 1;
+
+/// How many operations a desk can keep, and so how many are taken together at most.
+const MOST: usize = 1_000_000;
+
+/// By how many of the first operations it is told whether they came out of order.
+const LOOKED_AT: usize = 32;
+
+/// The text of all operations of the files, which one desk takes: at most 4,000,000 bytes.
+pub fn joined_text<R: Source>(alloc: Global, key: u128, files: &mut [R]) -> Result<String, RunFault>
+    requires { AreWorking (each R.has_failed files.old) }
+    ensures ok { IfOk result (λ text. AreTold (each R.remaining files.old) (each R.has_failed files.new)
+        (λ told. IsTextOfFiles told (string_bytes text))) }
+    ensures size { IfOk result (λ text. length (string_bytes text) ≤ 4_000_000) }
+    ensures fault { IfErr result (EndsOver (each R.remaining files.old) (each R.has_failed files.new) IsTakingCaused) }
+{
+    let desk = desk_of(alloc, key, files)?;
+    text_of(&desk)
+}
+
+/// A desk's text, or the fault of a run that lacks memory for it.
+fn text_of(desk: &Desk) -> Result<String, RunFault>
+    ensures value { IfOk result (λ t. string_bytes t ≡ encode_utf8_all (text desk.now.set)) }
+    ensures size { IfOk result (λ t. length (string_bytes t) ≤ 4_000_000) }
+    ensures fault { IfErr result (λ fault. fault ≡ run_memory) }
+{
+    let text = read_text(desk)?;
+    Ok(text)
+}
+
+/// A desk that has taken the operations of the files of all readers. A refusal is
+/// reported only once all files are read, since a faulty file is reported first.
+pub fn desk_of<R: Source>(alloc: Global, key: u128, files: &mut [R]) -> Result<Desk, RunFault>
+    requires { AreWorking (each R.has_failed files.old) }
+    ensures ok { IfOk result (λ desk. AreTold (each R.remaining files.old) (each R.has_failed files.new) (λ told. IsSetOfFiles told desk.set)) }
+    ensures limited { IfOk result (λ desk. size desk.set ≤ 1_000_000) }
+    ensures fault { IfErr result (EndsOver (each R.remaining files.old) (each R.has_failed files.new) IsTakingCaused) }
+{
+    sets::nothing_held();
+    let mut desk = new_desk(alloc, SITE, key);
+    take_files(alloc, files, &mut desk)?;
+    Ok(desk)
+}
+
+/// Lets a desk without operations take those of the files of all readers, one file after the other.
+fn take_files<R: Source>(alloc: Global, files: &mut [R], desk: &mut Desk) -> Result<(), RunFault>
+    requires working { AreWorking (each R.has_failed files.old) }
+    requires empty { HasTaken [] desk.old.set None }
+    ensures ok { OnOk result (AreTold (each R.remaining files.old) (each R.has_failed files.new) (λ told. IsSetOfFiles told desk.new.set)) }
+    ensures limited { OnOk result (size desk.new.set ≤ 1_000_000) }
+    ensures fault { IfErr result (EndsOver (each R.remaining files.old) (each R.has_failed files.new) IsTakingCaused) }
+{
+    let mut refused = None;
+    for place in 0..files.len() {
+        take_file(alloc, place + 1, &mut files[place], desk, &mut refused)?;
+    }
+    match refused {
+        Some(fault) => Err(step_fault(0, 1, fault)),
+        None => Ok(()),
+    }
+}
+
+/// Takes the operations of the file of a reader, which has this number, piece by piece. After the
+/// first refusal none is taken, and the file is read to its end.
+fn take_file<R: Source>(
+    alloc: Global,
+    number: usize,
+    reader: &mut R,
+    desk: &mut Desk,
+    refused: &mut Option<TakeFault>,
+) -> Result<(), RunFault>
+    requires { R.has_failed reader.old ≡ false }
+    ensures taken { (before : List Operation) → HasTaken before desk.old.set refused.old
+        → OnOk result ((ops : List Operation) × IsToldFile (R.remaining reader.old) ops × HasTaken (before ++ ops) desk.new.set refused.new) }
+    ensures working { OnOk result (R.has_failed reader.new ≡ false) }
+    ensures fault { IfErr result (IsUnreadFile number (R.remaining reader.old) (R.has_failed reader.new)) }
+{
+    let mut waiting = Vec::new(alloc);
+    let mut stream = Stream::new();
+    let mut piece = [0; PIECE];
+    let mut left = LIMIT;
+    while let Some(given) = reader.get(&mut piece) {
+        if given == 0 {
+            finish(number, &stream)?;
+            take_more(desk, refused, &mut waiting)?;
+            return Ok(());
+        }
+        feed_piece(number, &mut stream, left, &piece[..given], &mut waiting)?;
+        take_unless_more_come(desk, refused, &mut waiting)?;
+        left -= given;
+    }
+    Err(RunFault::ReadFailed(number))
+}
+
+/// Takes what waits, unless it came out of order: then more is awaited, to be taken with it.
+fn take_unless_more_come(
+    desk: &mut Desk,
+    refused: &mut Option<TakeFault>,
+    waiting: &mut Vec<Op>,
+) -> Result<(), Memory>
+    ensures { (ops : List Operation) → HasTakenBut waiting.old.items ops desk.old.set refused.old
+        → OnOk result (HasTakenBut waiting.new.items ops desk.new.set refused.new) }
+{
+    if waiting.len() < MOST && came_out_of_order(waiting) {
+        return Ok(());
+    }
+    take_more(desk, refused, waiting)?;
+    waiting.clear();
+    Ok(())
+}
+
+/// Takes further operations, unless one before them was refused, and keeps the first refusal.
+fn take_more(desk: &mut Desk, refused: &mut Option<TakeFault>, ops: &mut [Op]) -> Result<(), Memory>
+    ensures { (before : List Operation) → HasTaken before desk.old.set refused.old → OnOk result (HasTaken (before ++ ops.old) desk.new.set refused.new) }
+{
+    sets::one_more_operation();
+    desks::one_set();
+    desks::one_refusal();
+    desks::none_refused();
+    if refused.is_some() {
+        return Ok(());
+    }
+    put_in_order(desk, ops);
+    match take_all(desk, ops) {
+        Ok(()) => Ok(()),
+        Err(fault) => keep_refusal(refused, fault),
+    }
+}
+
+/// Keeps the fault of a refusal. Lack of memory is none.
+fn keep_refusal(refused: &mut Option<TakeFault>, fault: TakeFault) -> Result<(), Memory>
+    ensures { OnOk result ((refused.new ≡ Some fault) × (fault ≢ TakeFault.Memory)) }
+{
+    match fault {
+        TakeFault::IdentifierReused | TakeFault::Full => {
+            *refused = Some(fault);
+            Ok(())
+        }
+        TakeFault::Memory => Err(Memory),
+    }
+}
+
+/// Sorts operations that came out of order by their identifiers, the cheap order to take them in: each
+/// then comes after its parent, and after those that it stands before. Only where the desk has room for
+/// them all, since which one it would refuse as too many depends on the order.
+fn put_in_order(desk: &Desk, ops: &mut [Op])
+    ensures { IsReordered desk.now.set ops.old ops.new }
+{
+    if came_out_of_order(ops) && ops.len() <= MOST - desk.op_count() {
+        ops.sort_unstable_by_key(named);
+    }
+}
+
+/// Whether of the first operations more than a quarter have a smaller identifier than the one before.
+fn came_out_of_order(ops: &[Op]) -> bool {
+    let first = &ops[..ops.len().min(LOOKED_AT)];
+    let mut falls = 0;
+    for k in 1..first.len() {
+        if named(&first[k]) < named(&first[k - 1]) {
+            falls += 1;
+        }
+    }
+    falls > first.len() / 4
+}
+
+/// The identifier that an operation inserts or deletes.
+fn named(op: &Op) -> Id {
+    match op.view() {
+        OpView::Insert { id, .. } => id,
+        OpView::Erase { target } => target,
+    }
+}
+
+/// Takes the operations in order. A fault ends the taking.
+fn take_all(desk: &mut Desk, ops: &[Op]) -> Result<(), TakeFault>
+    ensures ok { (before : List Operation) → IsSetOf before desk.old.set → OnOk result (IsSetOf (before ++ ops.now) desk.new.set) }
+    ensures limited { size desk.old.set ≤ 1_000_000 → OnOk result (size desk.new.set ≤ 1_000_000) }
+    ensures fault { (before : List Operation) → IsSetOf before desk.old.set → size desk.old.set ≤ 1_000_000
+        → IfErr result (λ fault. (fault ≡ TakeFault.Memory) ⊎ IsFirstRefusal (before ++ ops.now) fault) }
+{
+    sets::one_more_operation();
+    for op in ops {
+        desk.take(op)?;
+    }
+    Ok(())
+}
+
+/// The fault of a run for a fault of a desk at the step of a line: lack of memory is the fault of no step.
+pub fn step_fault(line: usize, desk: usize, fault: TakeFault) -> RunFault
+    ensures { result ≡ step_fault_of line desk fault }
+{
+    match fault {
+        TakeFault::IdentifierReused | TakeFault::Full => RunFault::Step(line, desk, fault),
+        TakeFault::Memory => RunFault::Memory,
+    }
+}
