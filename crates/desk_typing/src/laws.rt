@@ -16,8 +16,8 @@ ghost use Rattle.desk_typing.specs.Changing.{replaced, place_in, operations_of};
 ghost use Rattle.desk_typing.specs.TypedOutcome.{IsTypedFile};
 ghost use Rattle.desk_typing.specs.SameFiles.{HaveSameFiles, ReadAs};
 
-use desk_replica::laws as desks;
 use desk_files::laws as files;
+use desk_replica::laws as desks;
 use op_codec::laws as codec;
 
 /// The files and the file of a change together read as the text of the files with the erased

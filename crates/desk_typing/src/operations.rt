@@ -12,8 +12,8 @@ ghost use Rattle.desk_typing.specs.Changing.{place_in, deletions, insertions, op
 use crate::change::Change;
 use crate::typing_fault::TypingFault;
 use bg_types::{Id, Op, OpView, Place};
-use desk_replica::TypeFault;
 use desk_files::{Desk, RunFault};
+use desk_replica::TypeFault;
 use std::alloc::Global;
 
 /// How many operations a desk keeps at most.
