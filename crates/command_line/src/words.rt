@@ -5,9 +5,9 @@ ghost use Rattle.std.specs.Prelude.{◌<◌, ◌≤◌, IfOk, vec_len};
 use crate::grammar::command;
 use crate::request::{Job, Replay, Typing, Walk};
 use bg_types::Base;
+use caret::Move;
 use clap::ArgMatches;
 use cli_support::Stop;
-use caret::Move;
 use op_codec::Version;
 use std::alloc::Global;
 
