@@ -58,11 +58,11 @@ impl<S: Sink> Sink for Stops<S> {
         // It fails only where nothing is left, or where the sink that it writes to fails.
         ensures used_up { IfNone result ((self.old.left ≡ 0) ⊎ (S.has_failed self.new.sink ≡ true)) }
     {
-        if self.left == 0 {
+        let most = bytes.len().min(self.piece).min(self.left);
+        if most == 0 {
             self.stopped = true;
             return None;
         }
-        let most = bytes.len().min(self.piece).min(self.left);
         let taken = self.sink.put(&bytes[..most])?;
         self.left -= taken;
         Some(taken)

@@ -1,5 +1,5 @@
 -- The goals of `put` that are answered by hand.
-use Rattle.std.proofs.Common.{arith, ap, ◌∙◌}
+use Rattle.std.proofs.Common.{arith, ap, ◌∙◌, inl}
 use Rattle.std.specs.Prelude.{◌||◌}
 use Rattle.std.proofs.lemmas.List.{length-take}
 use Rattle.bg_types.proofs.Bools.{neither}
@@ -17,3 +17,8 @@ pub returns-clause-failed : goal.returns-clause-failed
 returns-clause-failed g c =
     let running = (neither c.args.self.now.stopped _ c.requires.working).0 in
     ap (λ b. b || g.S.Sink.has_failed c.put.new.self) running ∙ c.in_ok-taken.ensures.failed
+
+pub returns-then-most-eq0-clause-used_up : goal.returns-then-most-eq0-clause-used_up
+returns-then-most-eq0-clause-used_up g c =
+    let some = c.args.self.now.takes_some in
+    inl (omega (arith, c.min.ensures, c.min-most.ensures))
