@@ -1,14 +1,16 @@
 -- Codes: which digits spell one.
-use Rattle.std.proofs.Common.{◌≡◌, ℕ, ◌^◌, ◌<◌, ◌≤◌, Bool, true, false, List, length, get_or, take, Option, Some, None, refl, ap, ◌∙◌, sym, arith, leb, cond, ⊎_elim}
+use Rattle.std.proofs.Common.{◌≡◌, ℕ, ◌+◌, ◌*◌, ◌^◌, ◌<◌, ◌≤◌, Bool, true, false, List, length, get_or, take, Option, Some, None, Ok, Err, refl, add-one, ap, ◌∙◌, sym, arith, leb, cond, ⊎_elim}
 use Rattle.std.specs.Prelude.{◌&&◌}
 use Rattle.std.specs.Char.{digit_value, IsScalar, OutOfScalarRange, InScalarRange}
-use Rattle.std.specs.Option.{MatchOption, SomeIff}
+use Rattle.std.specs.Option.{MatchOption, SomeIff, ok_or}
 use Rattle.std.specs.List.{list_all}
-use Rattle.std.proofs.Math.Nat.{pow-le-pow_right}
-use Rattle.std.proofs.lemmas.Bool.{le-leb, lt-leb, le-ltb, cases_lt}
+use Rattle.std.proofs.Math.Nat.{pow-le-pow_right, pow-suc}
+use Rattle.std.proofs.lemmas.Bool.{le-leb, lt-leb, lt-ltb, le-ltb, cases_lt}
 use Rattle.std.proofs.lemmas.List.{take_all}
-use Rattle.std.proofs.lemmas.List.Folds.{list_all_at}
-use Rattle.ucd_files.specs.Code.{code_of, is_surrogate, hex_value, is_hex_digit}
+use Rattle.std.proofs.lemmas.List.Folds.{list_all_at, list_all_more}
+use Rattle.std.proofs.lemmas.List.Sums.{fold_more}
+use Rattle.ucd_files.specs.declared.fault.Cause.TheVariants.{BadCode, BadRange}
+use Rattle.ucd_files.specs.Code.{code_of, is_surrogate, hex_value, is_hex_digit, ends_of, range_of}
 
 surrogate_low : (c : ℕ) → c ≤ 0x10FFFF → OutOfScalarRange c → 0xD800 ≤ c
 surrogate_low c h out = ⊎_elim (λ r. r.0) (λ l. omega arith) out
@@ -28,6 +30,16 @@ not_surrogate c range = ⊎_elim
 -- the number that some of six digits spell is small
 pub few_digits : (n i : ℕ) → n < 16 ^ i → i < 6 → n < 1048576
 few_digits n i h k = omega (arith, pow-le-pow_right {n = 16} (omega arith) {i = i} {j = 5} (omega arith))
+
+-- one more digit
+pub spelled-more : (digits : List ℕ) (i code b d : ℕ) → i < length digits → b ≡ get_or digits i 0 → digit_value b < 16 → d ≡ digit_value b
+    → code ≡ hex_value (take i digits) → list_all is_hex_digit (take i digits) ≡ true → code < 16 ^ i
+    → (code * 16 + d ≡ hex_value (take (i + 1) digits)) × (list_all is_hex_digit (take (i + 1) digits) ≡ true) × (code * 16 + d < 16 ^ (i + 1))
+spelled-more digits i code b d h is small value spelled all less = (
+  rw (value, is, spelled) (sym (fold_more (λ n x. n * 16 + digit_value x) 0 digits i 0 h)),
+  list_all_more is_hex_digit digits i 0 h ∙ rw (all, ← is) (lt-ltb (digit_value b) 16 small),
+  rw (add-one i, pow-suc 16 i) (omega arith),
+)
 
 pub code_of-short : (digits : List ℕ) → length digits < 4 → code_of digits ≡ None
 unfolding code_of
@@ -69,3 +81,9 @@ pub from_u32_is : (o : Option ℕ) (c : ℕ) → c ≤ 0x10FFFF → MatchOption 
     → o ≡ cond (is_surrogate c) None (Some c)
 from_u32_is None c h cases value = rw (le-leb 0xD800 c (surrogate_low c h cases), le-leb c 0xDFFF (surrogate_high c h cases)) refl
 from_u32_is (Some d) c h cases value = rw (not_surrogate c cases) (ap Some value.1)
+
+-- a range that falls
+pub range_of-falling : (field : List ℕ) (first last : ℕ) → ok_or (code_of (ends_of field).0) BadCode ≡ Ok first → ok_or (code_of (ends_of field).1) BadCode ≡ Ok last → last < first
+    → range_of field ≡ Err BadRange
+unfolding range_of
+range_of-falling field first last f l h = rw (f, l, lt-leb first last h) refl

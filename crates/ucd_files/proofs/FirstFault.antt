@@ -3,8 +3,12 @@ use Rattle.std.proofs.Common.{◌≡◌, ℕ, Bool, true, false, cond, ltb, List
 use Rattle.std.specs.Str.Lossy.{utf8_valid_len}
 use Rattle.ucd_files.specs.declared.fault.Cause.{Cause}
 use Rattle.ucd_files.specs.declared.fault.Cause.TheVariants.{BadUtf8}
+use Rattle.ucd_files.specs.declared.fault.UcdFault.{UcdFault}
+use Rattle.ucd_files.specs.declared.fault.UcdFile.TheVariants.{Bidi, Brackets, Mirror, Lb}
 use Rattle.ucd_files.specs.Line.{lines_of}
 use Rattle.ucd_files.specs.Reading.{Reading, line_at, first_faulty, first_fault}
+use Rattle.ucd_files.specs.Files.{bidi_file, brackets_file, mirror_file, lb_file}
+use Rattle.ucd_files.specs.Faults.{fault_in, fault_of}
 
 at_bad : (bad : Bool) (place line : ℕ) (later : Option (ℕ × Cause)) → Some line ≡ cond bad (Some place) None
     → cond bad (Some (place, BadUtf8)) later ≡ Some (line, BadUtf8)
@@ -29,3 +33,8 @@ pub first_fault-text : {V : Type 0} (reading : Reading V) (bytes : List ℕ) →
 unfolding first_fault
 first_fault-text reading bytes h =
     at_text (ltb (utf8_valid_len bytes) (length bytes)) (line_at bytes (utf8_valid_len bytes)) (first_faulty reading.line (lines_of bytes) 1) h
+
+-- the fourth file's fault, where the three before it have none
+pub fault_of-lb : (bidi brackets mirror lb ea : List ℕ) (fault : UcdFault) → fault_in Bidi bidi_file bidi ≡ None → fault_in Brackets brackets_file brackets ≡ None
+    → fault_in Mirror mirror_file mirror ≡ None → fault_in Lb lb_file lb ≡ Some fault → fault_of bidi brackets mirror lb ea ≡ Some fault
+fault_of-lb bidi brackets mirror lb ea fault b k m l = rw (b, k, m, l) refl

@@ -1,11 +1,12 @@
 -- The lines of a file, from the last to the first.
-use Rattle.std.proofs.Common.{◌≡◌, ◌==◌, ℕ, ◌+◌, ◌-◌, ◌<◌, ◌≤◌, Bool, true, false, List, [], ◌∷◌, ◌++◌, length, get_or, drop, take, max, refl, ap, ◌∙◌, sym, inl, inr, arith}
+use Rattle.std.proofs.Common.{◌≡◌, ◌==◌, ℕ, ◌+◌, ◌-◌, ◌<◌, ◌≤◌, Bool, true, false, List, [], ◌∷◌, ◌++◌, Option, length, get_or, drop, take, max, refl, ap, ◌∙◌, sym, inl, inr, arith}
 use Rattle.std.specs.List.{slice_split, onto_first}
 use Rattle.std.specs.Prelude.{reverse}
 use Rattle.std.proofs.lemmas.Bool.{cases_Bool}
 use Rattle.std.proofs.lemmas.List.{take_rest, take-append-drop, drop_more, get_or_default, get_or-drop, length-drop, reverse-append, reverse-reverse}
 use Rattle.std.proofs.lemmas.List.Splits.{slice_split_none, slice_split-cons_yes, slice_split-cons_no, length-slice_split}
 use Rattle.ucd_files.specs.Line.{lines_of}
+use Rattle.ucd_files.specs.declared.entry.Entry.{Entry}
 use Rattle.ucd_files.specs.declared.read.Pass.{Pass}
 use Rattle.ucd_files.specs.declared.read.Pass.TheVariants.{Defaults, DataLines}
 use Rattle.ucd_files.specs.Reading.{Reading}
@@ -61,10 +62,18 @@ last-reverse xs ys x e =
     sym (reverse-reverse xs) ∙ ap reverse (e ∙ sym (reverse-last ys x)) ∙ reverse-reverse (ys ++ x ∷ [])
 
 -- where the last line is written first
-pub overlaid-last : {V : Type 0} (pass : Pass) (reading : Reading V) (lines : List (List ℕ)) (line : List ℕ) (c : ℕ) (before : V) →
+overlaid-last : {V : Type 0} (pass : Pass) (reading : Reading V) (lines : List (List ℕ)) (line : List ℕ) (c : ℕ) (before : V) →
     overlaid pass reading (lines ++ line ∷ []) c before ≡ written (said_in pass reading line) c (overlaid pass reading lines c before)
 overlaid-last pass reading [] line c before = refl
 overlaid-last pass reading (first ∷ lines) line c before = overlaid-last pass reading lines line c (written (said_in pass reading first) c before)
+
+-- where the last line is left, what it says is written over the lines before it
+pub overlaid-back : {V : Type 0} (pass : Pass) (reading : Reading V) (left rest : List (List ℕ)) (line : List ℕ) (said : Option (Entry V)) (c : ℕ) (before : V) →
+    left ≡ rest ++ line ∷ [] → said ≡ said_in pass reading line → written said c (overlaid pass reading rest c before) ≡ overlaid pass reading left c before
+overlaid-back pass reading left rest line said c before last is =
+    ap (λ o. written o c (overlaid pass reading rest c before)) is
+    ∙ sym (overlaid-last pass reading rest line c before)
+    ∙ ap (λ lines. overlaid pass reading lines c before) (sym last)
 
 end-in : {V : Type 0} (pass : Pass) (reading : Reading V) (line : List ℕ) →
     end_of (said_in pass reading line) ≤ max (end_of (said_in DataLines reading line)) (end_of (said_in Defaults reading line))

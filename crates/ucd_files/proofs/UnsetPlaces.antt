@@ -1,10 +1,9 @@
 -- Tables that are filled from the last line to the first.
-use Rattle.std.proofs.Common.{ℕ, ◌≡◌, ◌≢◌, ◌+◌, ◌<◌, ◌≤◌, ◌==◌, Bool, true, false, cond, leb, List, length, get_or, set, Some, refl, ap, sym, ◌∙◌, inl, inr, arith}
+use Rattle.std.proofs.Common.{ℕ, ◌≡◌, ◌≢◌, ◌+◌, ◌<◌, ◌≤◌, ◌==◌, true, false, cond, leb, List, [], ◌∷◌, ◌++◌, length, get_or, set, Some, refl, ap, sym, ◌∙◌, inl, inr, arith}
 use Rattle.std.specs.Prelude.{◌&&◌}
 use Rattle.std.proofs.lemmas.Bool.{cases_lt, cases_eq, ne_eqb, eq-eqb, le-leb, lt-leb}
-use Rattle.std.proofs.lemmas.List.{get_or-set_same, get_or-set_other, get_or_default, get_or_past, length-set}
+use Rattle.std.proofs.lemmas.List.{get_or-set_same, get_or-set_other, get_or_default, get_or_past, get_or_append_left, get_or_push, length-set, length_push}
 use Rattle.ucd_files.specs.declared.entry.Entry.{Entry}
-use Rattle.ucd_files.specs.Entry.{covers}
 use Rattle.ucd_files.specs.Passes.{written}
 use Rattle.ucd_files.specs.UnsetPlaces.{is_unset, told, Skips}
 
@@ -202,3 +201,16 @@ pub skips-all : (next : List ℕ) (n : ℕ) → length next ≡ n + 1 → ((c d 
 skips-all next n len each c h =
     let at : get_or next c c ≡ c = each c c (omega arith) in
     (omega arith, omega arith, λ k a b. absurd (omega arith))
+
+-- where each place has its own number, one place more
+pub numbered-more : (next after : List ℕ) (n : ℕ) → after ≡ next ++ n ∷ [] → length next ≡ n → ((k d : ℕ) → k < n → get_or next k d ≡ k) →
+    (length after ≡ n + 1) × ((k d : ℕ) → k < n + 1 → get_or after k d ≡ k)
+numbered-more next after n is len each = (
+  ap length is ∙ length_push next n ∙ ap (λ m. m + 1) len,
+  λ k d h.
+      ap (λ places. get_or places k d) is
+      ∙ elim (cases_lt k n) [
+        | inl before ↦ get_or_append_left next (n ∷ []) d k (omega arith) ∙ each k d before
+        | inr last ↦ get_or_push next n d k (omega arith) ∙ omega arith
+      ],
+)

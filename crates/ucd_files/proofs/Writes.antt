@@ -1,11 +1,11 @@
 -- What a table has, after lines were written into it.
-use Rattle.std.proofs.Common.{◌≡◌, ℕ, ◌+◌, ◌<◌, ◌≤◌, Bool, true, false, max, leb, ltb, cond, List, [], ◌∷◌, ◌++◌, Option, Some, None, refl, ap, ◌∙◌, sym, arith, get_or, length, take, drop, ⊎_elim}
+use Rattle.std.proofs.Common.{◌≡◌, ℕ, ◌+◌, ◌<◌, ◌≤◌, Bool, true, false, max, leb, ltb, cond, List, [], ◌∷◌, ◌++◌, Option, Some, None, refl, ap, ◌∙◌, sym, arith, get_or, set, length, take, drop, inl, inr, ⊎_elim}
 use Rattle.std.specs.Prelude.{◌&&◌, reverse, find}
 use Rattle.std.specs.Option.{option_map_or, option_or}
 use Rattle.std.specs.List.{filter_map, cons_option}
 use Rattle.std.proofs.lemmas.Bool.Decides.{nat_tests}
-use Rattle.std.proofs.lemmas.Bool.{cases_lt}
-use Rattle.std.proofs.lemmas.List.{reverse-append, get_or_past, take_at}
+use Rattle.std.proofs.lemmas.Bool.{cases_lt, cases_eq, le-leb, lt-ltb}
+use Rattle.std.proofs.lemmas.List.{reverse-append, get_or_past, get_or-set_same, get_or-set_other, take_at}
 use Rattle.std.proofs.lemmas.List.Folds.{find-append}
 use Rattle.ucd_files.specs.declared.entry.Entry.{Entry}
 use Rattle.ucd_files.specs.declared.read.Pass.{Pass}
@@ -13,7 +13,30 @@ use Rattle.ucd_files.specs.declared.read.Pass.TheVariants.{Defaults, DataLines}
 use Rattle.ucd_files.specs.Entry.{covers, last_value}
 use Rattle.ucd_files.specs.Line.{lines_of}
 use Rattle.ucd_files.specs.Reading.{Reading, data_lines, value_at}
-use Rattle.ucd_files.specs.Passes.{said_in, written, overlaid}
+use Rattle.ucd_files.specs.Passes.{said_in, end_of, reach, written, overlaid}
+
+-- what all lines reach, the first one and those after it reach
+pub reach-first : {V : Type 0} (pass : Pass) (reading : Reading V) (lines : List (List ℕ)) (line : List ℕ) (n : ℕ) → reach reading (line ∷ lines) ≤ n →
+    (reach reading lines ≤ n) × (end_of (said_in pass reading line) ≤ n)
+reach-first Defaults reading lines line n h = (omega arith, omega arith)
+reach-first DataLines reading lines line n h = (omega arith, omega arith)
+
+-- where the first line is written first
+pub overlaid-first : {V : Type 0} (pass : Pass) (reading : Reading V) (left rest : List (List ℕ)) (line : List ℕ) (said : Option (Entry V)) (c : ℕ) (before after : V)
+    → left ≡ line ∷ rest → said ≡ said_in pass reading line → after ≡ written said c before → overlaid pass reading rest c after ≡ overlaid pass reading left c before
+overlaid-first pass reading left rest line said c before after first is value =
+    ap (overlaid pass reading rest c) (value ∙ ap (λ o. written o c before) is) ∙ ap (λ lines. overlaid pass reading lines c before) (sym first)
+
+-- one more code point is written
+pub written-more : {V : Type 0} (first c k : ℕ) (table was : List V) (value d : V) → first ≤ c → c < length table
+    → get_or table k d ≡ cond (leb first k && ltb k c) value (get_or was k d) → get_or (set table c value) k d ≡ cond (leb first k && ltb k (c + 1)) value (get_or was k d)
+written-more first c k table was value d from within before =
+    elim (cases_eq k c) [
+      | inl at ↦ rw at (get_or-set_same table c value d within ∙ sym (rw (le-leb first c from, lt-ltb c (c + 1) (omega arith)) refl))
+      | inr ne ↦
+          let same : ltb k c ≡ ltb k (c + 1) = grind (arith, nat_tests) in
+          get_or-set_other table c k value d ne ∙ before ∙ ap (λ b. cond (leb first k && b) value (get_or was k d)) same
+    ]
 
 -- the code points from first on below c are those that are covered, once the loop is at its end
 pub covered : (first last c k : ℕ) → last + 1 ≤ c → first ≤ c → c ≤ max first (last + 1) → (leb first k && ltb k c) ≡ (leb first k && leb k last)

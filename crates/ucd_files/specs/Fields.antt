@@ -16,6 +16,10 @@ is_empty bytes = length bytes == 0
 abbrev pub entry_of : {V : Type 0} → ℕ × ℕ → V → Entry V
 entry_of range value = record { first = range.0; last = range.1; value = value }
 
+-- a code or a range, with the value of a name
+abbrev pub entry_with : {V : Type 0} → List ℕ → Option V → Result (Entry V) Cause
+entry_with codes value = range_of codes >>= (λ range. ok_or value UnknownValue >>= (λ v. Ok (entry_of range v)))
+
 -- bidi, lb and ea: a code or a range; a value, by its short name
 unfoldable pub property_fields : {V : Type 0} → (List ℕ → Option V) → List ℕ → Result (Entry V) Cause
 property_fields named text =

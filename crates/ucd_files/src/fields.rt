@@ -3,7 +3,7 @@
 ghost use Rattle.std.specs.Prelude.{◌≡◌, ◌++◌};
 ghost use Rattle.ucd_files.specs.Names.{named, rows};
 ghost use Rattle.ucd_files.specs.BracketKind.{bracket_kind};
-ghost use Rattle.ucd_files.specs.Fields.{line_by, property_fields, bracket_fields, mirror_fields, missing_fields, property_missing};
+ghost use Rattle.ucd_files.specs.Fields.{entry_with, line_by, property_fields, bracket_fields, mirror_fields, missing_fields, property_missing};
 
 use crate::code::{code, has_dots, range, scalar};
 use crate::entry::Entry;
@@ -11,6 +11,15 @@ use crate::fault::Cause;
 use crate::line::{has_two_fields, next_field, text_and_comment};
 use crate::names::{value_named, value_of};
 use crate::value::Bracket;
+
+/// What a code or a range says, with the value of a name.
+fn entry<V: Copy>(codes: &[u8], value: Option<V>) -> Result<Entry<V>, Cause>
+    ensures { result ≡ entry_with codes.now value }
+{
+    let (first, last) = range(codes)?;
+    let value = value.ok_or(Cause::UnknownValue)?;
+    Ok(Entry { first, last, value })
+}
 
 /// The fields of bidi, lb and ea.
 #[tactic(auto, unfolding(crate::specs::Fields::property_fields))]
@@ -22,9 +31,7 @@ fn property_fields<V: Copy>(names: &[(&[u8], V)], text: &[u8]) -> Result<Entry<V
     if codes.is_empty() || name.is_empty() {
         return Err(Cause::MissingField);
     }
-    let (first, last) = range(codes)?;
-    let value = value_named(names, name).ok_or(Cause::UnknownValue)?;
-    Ok(Entry { first, last, value })
+    entry(codes, value_named(names, name))
 }
 
 /// A line of bidi, lb or ea.
@@ -55,9 +62,7 @@ fn missing_fields<V: Copy>(
     if !has_two_fields(text) || !has_dots(codes) {
         return None;
     }
-    let (first, last) = range(codes).ok()?;
-    let value = value_of(names, long_names, name)?;
-    Some(Entry { first, last, value })
+    entry(codes, value_of(names, long_names, name)).ok()
 }
 
 /// The default that the comment of a line of bidi, lb or ea gives.

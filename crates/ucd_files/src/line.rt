@@ -1,6 +1,6 @@
 //! The parts of a line.
 
-ghost use Rattle.std.specs.Prelude.{◌≡◌, ◌≤◌, ◌<◌, ◌-◌, ◌==◌, ℕ, false, length, slice_index_or};
+ghost use Rattle.std.specs.Prelude.{◌≡◌, ◌≤◌, ◌<◌, ◌-◌, ◌==◌, ℕ, false, length, count_by, slice_index_or};
 ghost use Rattle.std.specs.List.{before_first, after_first, position_or_len, prefix_len};
 ghost use Rattle.ucd_files.specs.Line.{trimmed, end_trimmed, is_among, text_of, comment_of, field, fields_of};
 
@@ -15,6 +15,20 @@ pub(crate) fn place_of(bytes: &[u8], at: u8) -> usize
         }
     }
     bytes.len()
+}
+
+/// How many of these bytes there are.
+pub(crate) fn number_of(bytes: &[u8], at: u8) -> usize
+    ensures value { result ≡ count_by (λ b. b == at) bytes.now }
+    ensures bound { result ≤ length bytes.now }
+{
+    let mut number = 0;
+    for b in bytes {
+        if *b == at {
+            number += 1;
+        }
+    }
+    number
 }
 
 /// Where the last line begins.
@@ -100,5 +114,5 @@ pub(crate) fn next_field(text: &[u8]) -> (&[u8], &[u8])
 pub(crate) fn has_two_fields(text: &[u8]) -> bool
     ensures { result ≡ (length (fields_of text.now) == 2) }
 {
-    text.iter().filter(|b| **b == b';').count() == 1
+    number_of(text, b';') == 1
 }

@@ -6,7 +6,7 @@ ghost use Rattle.ucd_files.specs.Names.{named, rows};
 use bg_types::{Bidi, Ea, Lb};
 
 /// The short names.
-pub(crate) const BIDI_NAMES: [(&[u8], Bidi); 23] = [
+pub(crate) const BIDI_NAMES: &[(&[u8], Bidi)] = &[
     (b"L", Bidi::L),
     (b"R", Bidi::R),
     (b"AL", Bidi::Al),
@@ -33,7 +33,7 @@ pub(crate) const BIDI_NAMES: [(&[u8], Bidi); 23] = [
 ];
 
 /// The long names.
-pub(crate) const BIDI_LONG_NAMES: [(&[u8], Bidi); 23] = [
+pub(crate) const BIDI_LONG_NAMES: &[(&[u8], Bidi)] = &[
     (b"Left_To_Right", Bidi::L),
     (b"Right_To_Left", Bidi::R),
     (b"Arabic_Letter", Bidi::Al),
@@ -60,7 +60,7 @@ pub(crate) const BIDI_LONG_NAMES: [(&[u8], Bidi); 23] = [
 ];
 
 /// The short names.
-pub(crate) const LB_NAMES: [(&[u8], Lb); 43] = [
+pub(crate) const LB_NAMES: &[(&[u8], Lb)] = &[
     (b"AI", Lb::Ai),
     (b"AL", Lb::Al),
     (b"B2", Lb::B2),
@@ -107,14 +107,14 @@ pub(crate) const LB_NAMES: [(&[u8], Lb); 43] = [
 ];
 
 /// The long names.
-pub(crate) const LB_LONG_NAMES: [(&[u8], Lb); 3] = [
+pub(crate) const LB_LONG_NAMES: &[(&[u8], Lb)] = &[
     (b"Ideographic", Lb::Id),
     (b"Prefix_Numeric", Lb::Pr),
     (b"Unknown", Lb::Xx),
 ];
 
 /// The short names.
-pub(crate) const EA_NAMES: [(&[u8], Ea); 6] = [
+pub(crate) const EA_NAMES: &[(&[u8], Ea)] = &[
     (b"A", Ea::A),
     (b"F", Ea::F),
     (b"H", Ea::H),
@@ -124,7 +124,7 @@ pub(crate) const EA_NAMES: [(&[u8], Ea); 6] = [
 ];
 
 /// The long names.
-pub(crate) const EA_LONG_NAMES: [(&[u8], Ea); 6] = [
+pub(crate) const EA_LONG_NAMES: &[(&[u8], Ea)] = &[
     (b"Ambiguous", Ea::A),
     (b"Fullwidth", Ea::F),
     (b"Halfwidth", Ea::H),

@@ -9,6 +9,7 @@ ghost use Rattle.ucd_files.specs.Passes.{said_in, end_of, reach, written, overla
 
 use crate::entry::Entry;
 use crate::fault::{Cause, UcdFault, UcdFile};
+use crate::line::number_of;
 use crate::lines::Lines;
 use crate::unset::fill_unset;
 use std::alloc::{AllocError, Global};
@@ -69,10 +70,7 @@ fn bad_byte_line(bytes: &[u8]) -> Option<usize>
 {
     match std::str::from_utf8(bytes) {
         Ok(_) => None,
-        Err(error) => {
-            let valid = &bytes[..error.valid_up_to()];
-            Some(valid.iter().filter(|b| **b == b'\n').count() + 1)
-        }
+        Err(error) => Some(number_of(&bytes[..error.valid_up_to()], b'\n') + 1),
     }
 }
 

@@ -19,11 +19,11 @@ impl FileValue for Bidi {
     }
 
     fn line(line: &[u8]) -> Result<Option<Entry<Bidi>>, Cause> {
-        property_line(&BIDI_NAMES, line)
+        property_line(BIDI_NAMES, line)
     }
 
     fn missing(line: &[u8]) -> Option<Entry<Bidi>> {
-        property_missing(&BIDI_NAMES, &BIDI_LONG_NAMES, line)
+        property_missing(BIDI_NAMES, BIDI_LONG_NAMES, line)
     }
 }
 
@@ -76,11 +76,11 @@ impl FileValue for Lb {
     }
 
     fn line(line: &[u8]) -> Result<Option<Entry<Lb>>, Cause> {
-        property_line(&LB_NAMES, line)
+        property_line(LB_NAMES, line)
     }
 
     fn missing(line: &[u8]) -> Option<Entry<Lb>> {
-        property_missing(&LB_NAMES, &LB_LONG_NAMES, line)
+        property_missing(LB_NAMES, LB_LONG_NAMES, line)
     }
 }
 
@@ -95,10 +95,10 @@ impl FileValue for Ea {
     }
 
     fn line(line: &[u8]) -> Result<Option<Entry<Ea>>, Cause> {
-        property_line(&EA_NAMES, line)
+        property_line(EA_NAMES, line)
     }
 
     fn missing(line: &[u8]) -> Option<Entry<Ea>> {
-        property_missing(&EA_NAMES, &EA_LONG_NAMES, line)
+        property_missing(EA_NAMES, EA_LONG_NAMES, line)
     }
 }

@@ -1,6 +1,6 @@
 -- The goals of `code` that are answered by hand.
 use Rattle.std.proofs.Common.{sym, ◌∙◌, ⊎_elim, arith}
-use Rattle.ucd_files.proofs.Codes.{few_digits, code_of-short, code_of-long, code_of-other, code_of-great, code_of-spelled}
+use Rattle.ucd_files.proofs.Codes.{few_digits, spelled-more, code_of-short, code_of-long, code_of-other, code_of-great, code_of-spelled}
 use Rattle.ucd_files.proofs.code.code.Goals as goal
 
 pub returns-then-digits-lt4-clause-value : goal.returns-then-digits-lt4-clause-value
@@ -14,6 +14,12 @@ overflow_mul-code c =
 pub overflow_add-code : goal.overflow_add-code
 overflow_add-code c =
     omega (arith, few_digits c.loop-b.code c.loop-b.b-index c.loop-b.invariant.2 (omega arith), c.in_ok-code.ensures.value.0, c.in_ok-code.ensures.value.1)
+
+pub loop-b-preserved : goal.loop-b-preserved
+loop-b-preserved c =
+    let i = c.loop-b.invariant in
+    let more = spelled-more c.args.digits.now c.loop-b.b-index c.loop-b.code c.from.result c.in_ok-code.field-0 (omega arith) c.from.ensures
+    c.in_ok-code.ensures.value.0 c.in_ok-code.ensures.value.1 i.0 i.1 i.2 in (more.0, more.1, more.2, i.3, i.4)
 
 pub returns-in_err-code-clause-value : goal.returns-in_err-code-clause-value
 returns-in_err-code-clause-value c =

@@ -1,17 +1,16 @@
 -- The goals of `fill` that are answered by hand.
-use Rattle.std.proofs.Common.{◌≡◌, ◌≤◌, ◌∙◌, length, Some, None, sym, ap, arith}
+use Rattle.std.proofs.Common.{◌∙◌, length, sym, ap, arith}
 use Rattle.ucd_files.specs.Line.{lines_left}
-use Rattle.ucd_files.specs.Passes.{said_in, end_of, overlaid, written}
+use Rattle.ucd_files.specs.Passes.{overlaid}
 use Rattle.ucd_files.specs.UnsetPlaces.{told}
-use Rattle.ucd_files.proofs.LinesBack.{last-reverse, overlaid-last, reach-last}
+use Rattle.ucd_files.proofs.LinesBack.{last-reverse, overlaid-back, reach-last}
 use Rattle.ucd_files.proofs.unset.fill.Goals as goal
 
 pub write-requires-clause-within : goal.write-requires-clause-within
 write-requires-clause-within g c =
     let left = last-reverse (lines_left c.loop-line.line-iterator.rest) (lines_left c.next.new.self.rest) _ c.in-Some.ensures.steps in
     let ends = reach-last c.args.pass g.V.FileValue.reading (lines_left c.next.new.self.rest) c.in-Some.line.now (length c.loop-line.table) (rw left at c.loop-line.invariant.2) in
-    let said : said_in c.args.pass g.V.FileValue.reading c.in-Some.line.now ≡ Some c.in-Some-said_in.entry = sym c.said_in.ensures ∙ c.in-Some-said_in.is in
-    let last : end_of (Some c.in-Some-said_in.entry) ≤ length c.loop-line.table = rw said at ends.1 in
+    let last = rw (← c.said_in.ensures, c.in-Some-said_in.is) at ends.1 in
     omega (arith, last)
 
 pub loop-line-preserved-in-Some-said_in : goal.loop-line-preserved-in-Some-said_in
@@ -20,8 +19,7 @@ loop-line-preserved-in-Some-said_in g c =
     let rest = lines_left c.next.new.self.rest in
     let line = c.in-Some.line.now in
     let left = last-reverse (lines_left c.loop-line.line-iterator.rest) rest _ c.in-Some.ensures.steps in
-    let ends = reach-last c.args.pass reading rest line (length c.loop-line.table) (rw left at c.loop-line.invariant.2) in
-    let said : said_in c.args.pass reading line ≡ Some c.in-Some-said_in.entry = sym c.said_in.ensures ∙ c.in-Some-said_in.is in (
+    let ends = reach-last c.args.pass reading rest line (length c.loop-line.table) (rw left at c.loop-line.invariant.2) in (
       tt,
       tt,
       omega (arith, ends.0, c.write.ensures.len),
@@ -29,9 +27,7 @@ loop-line-preserved-in-Some-said_in g c =
       c.write.ensures.skips,
       (λ k d v.
           c.write.ensures.told k d (overlaid c.args.pass reading rest k v)
-          ∙ ap (λ o. told c.loop-line.next c.loop-line.table k d (written o k (overlaid c.args.pass reading rest k v))) (sym said)
-          ∙ ap (told c.loop-line.next c.loop-line.table k d) (sym (overlaid-last c.args.pass reading rest line k v))
-          ∙ ap (λ lines. told c.loop-line.next c.loop-line.table k d (overlaid c.args.pass reading lines k v)) (sym left)
+          ∙ ap (told c.loop-line.next c.loop-line.table k d) (overlaid-back c.args.pass reading _ rest line _ k v left (sym c.in-Some-said_in.is ∙ c.said_in.ensures))
           ∙ c.loop-line.invariant.5 k d v),
       (λ k d e. let was = c.write.ensures.unset k d e in let first = c.loop-line.invariant.6 k d was.0 in (first.0, was.1 ∙ first.1)),
     )
@@ -42,17 +38,14 @@ loop-line-preserved g c =
     let rest = lines_left c.next.new.self.rest in
     let line = c.in-Some.line.now in
     let left = last-reverse (lines_left c.loop-line.line-iterator.rest) rest _ c.in-Some.ensures.steps in
-    let ends = reach-last c.args.pass reading rest line (length c.loop-line.table) (rw left at c.loop-line.invariant.2) in
-    let said : said_in c.args.pass reading line ≡ None = sym c.said_in.ensures ∙ c.in_default.is in (
+    let ends = reach-last c.args.pass reading rest line (length c.loop-line.table) (rw left at c.loop-line.invariant.2) in (
       tt,
       tt,
       ends.0,
       c.loop-line.invariant.3,
       c.loop-line.invariant.4,
       (λ k d v.
-          ap (λ o. told c.loop-line.next c.loop-line.table k d (written o k (overlaid c.args.pass reading rest k v))) (sym said)
-          ∙ ap (told c.loop-line.next c.loop-line.table k d) (sym (overlaid-last c.args.pass reading rest line k v))
-          ∙ ap (λ lines. told c.loop-line.next c.loop-line.table k d (overlaid c.args.pass reading lines k v)) (sym left)
+          ap (told c.loop-line.next c.loop-line.table k d) (overlaid-back c.args.pass reading _ rest line _ k v left (sym c.in_default.is ∙ c.said_in.ensures))
           ∙ c.loop-line.invariant.5 k d v),
       c.loop-line.invariant.6,
     )

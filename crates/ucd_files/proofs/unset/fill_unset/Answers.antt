@@ -1,5 +1,5 @@
 -- The goals of `fill_unset` that are answered by hand.
-use Rattle.std.proofs.Common.{length, arith}
+use Rattle.std.proofs.Common.{length}
 use Rattle.ucd_files.proofs.UnsetPlaces.{all-unset, skips-all}
 use Rattle.ucd_files.proofs.unset.fill_unset.Goals as goal
 
