@@ -12,7 +12,7 @@ use Rattle.rga_tree.specs.declared.element.Element.{Element}
 use Rattle.bg_types.proofs.Interface.{and_parts, id_cmp-total, id_cmp-exact, same_id-is}
 use Rattle.rga_sequence.specs.declared.block.Block.{Block}
 use Rattle.rga_sequence.specs.BlockRows.{items_of}
-use Rattle.rga_sequence.specs.Blocks.{joined, offset}
+use Rattle.rga_sequence.specs.Blocks.{joined, offset, sought}
 use Rattle.rga_sequence.proofs.Joined.{joined-suc, joined-add, drop_joined}
 
 abbrev pub is_greater : Identifier → Element → Bool
@@ -119,10 +119,6 @@ pub goes_on : {X : Type 0} (p : X → Bool) (xs : List X) (n : ℕ) → n ≤ le
 goes_on {X} p xs n many whole =
     let len = length-take-le n xs many in
     ap (prefix_len p) (sym (take-append-drop n xs)) ∙ pre_all p (take n xs) (drop n xs) (whole ∙ sym len) ∙ ap (λ m. m + prefix_len p (drop n xs)) len
-
--- how far all is greater from a place on
-abbrev pub sought : Identifier → List (List Element) → ℕ → ℕ → ℕ
-sought id xs p j = let s = offset xs p j in s + prefix_len (is_greater id) (drop s (joined xs))
 
 -- it ends in the block
 pub lands_here : (id : Identifier) (xs : List (List Element)) (p j : ℕ) → p < length xs → j ≤ length (get_or xs p [])

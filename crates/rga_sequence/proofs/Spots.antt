@@ -121,26 +121,25 @@ offset_less (x ∷ xs) (suc p) j there within = omega (arith, offset_less xs p j
 
 -- ---- an element that was read in its block
 
--- it stands where it was read, as no other has its identifier
-pub record IsReadAt (xs : List (List Element)) (p j : ℕ) (q : Identifier) : Type 0 where
-  pub block : p < length xs
-  pub within : j < length (get_or xs p [])
-  pub stands : has q (joined xs) ≡ true
-  pub place : is_distinct (ids_of (joined xs)) ≡ true → offset xs p j ≡ until q (joined xs)
+-- it stands there in the row
+pub record IsReadAt (bs : List Block) (p j : ℕ) (e : Element) : Type 0 where
+  pub block : p < length (items_of bs)
+  pub within : j < length (get_or (items_of bs) p [])
+  pub element : e ≡ get_or (joined (items_of bs)) (offset (items_of bs) p j) e
 
-pub read_at : (bs : List Block) (p j : ℕ) (x : Block) (e : Element) (q : Identifier) → p < length bs → x ≡ get_or bs p x → j < length x.elements.items → e ≡ get_or x.elements.items j e → same_id q e.id ≡ true
-    → IsReadAt (items_of bs) p j q
-read_at bs p j x e q some block inside element same =
+pub read_at : (bs : List Block) (p j : ℕ) (x : Block) (e : Element) → p < length bs → x ≡ get_or bs p x → j < length x.elements.items → e ≡ get_or x.elements.items j e → IsReadAt bs p j e
+read_at bs p j x e some block inside element =
     let xs = items_of bs in
     let items : get_or xs p [] ≡ x.elements.items = items_there bs p x some ∙ ap (λ (b : Block). b.elements.items) (sym block) in
     let there : p < length xs = omega (arith, length-items bs, some) in
     let within : j < length (get_or xs p []) = omega (arith, ap length items, inside) in
-    let less = offset_less xs p j there within in
-    let is : get_or (joined xs) (offset xs p j) e ≡ e = get_or_joined xs p j e there within ∙ ap (λ es. get_or es j e) items ∙ sym element in
-    let it : same_id q (get_or (joined xs) (offset xs p j) e).id ≡ true = ap (λ (z : Element). same_id q z.id) is ∙ same in
-    record {
-      block = there;
-      within = within;
-      stands = has-there (joined xs) q (offset xs p j) e less it;
-      place = λ distinct. sym (until-there q (joined xs) (offset xs p j) e distinct less it);
-    }
+    record { block = there; within = within; element = sym (get_or_joined xs p j e there within ∙ ap (λ es. get_or es j e) items ∙ sym element) }
+
+-- an element with the identifier stands there, and no other has it
+pub stands_at : (bs : List Block) (p j : ℕ) (e : Element) (q : Identifier) → p < length bs → j < length (get_or (items_of bs) p []) → e ≡ get_or (joined (items_of bs)) (offset (items_of bs) p j) e → same_id q e.id ≡ true
+    → (has q (joined (items_of bs)) ≡ true) × (is_distinct (ids_of (joined (items_of bs))) ≡ true → offset (items_of bs) p j ≡ until q (joined (items_of bs)))
+stands_at bs p j e q some within element same =
+    let xs = items_of bs in
+    let less = offset_less xs p j (omega (arith, length-items bs, some)) within in
+    let it : same_id q (get_or (joined xs) (offset xs p j) e).id ≡ true = ap (λ (z : Element). same_id q z.id) (sym element) ∙ same in
+    (has-there (joined xs) q (offset xs p j) e less it, λ distinct. sym (until-there q (joined xs) (offset xs p j) e distinct less it))

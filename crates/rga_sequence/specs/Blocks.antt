@@ -1,6 +1,6 @@
 -- Rows of blocks of elements.
-use Rattle.std.specs.Prelude.{◌≡◌, ◌+◌, ◌<◌, ◌≤◌, ◌&&◌, ℕ, Bool, true, false, not, List, [], ◌∷◌, length, filter, take, slice_get, get_or, Some}
-use Rattle.std.specs.List.{list_all, list_any, flat_map}
+use Rattle.std.specs.Prelude.{◌≡◌, ◌+◌, ◌<◌, ◌≤◌, ◌&&◌, ℕ, Bool, true, false, not, List, [], ◌∷◌, length, filter, take, drop, slice_get, get_or, Some}
+use Rattle.std.specs.List.{list_all, list_any, flat_map, prefix_len}
 use Rattle.std.specs.Ordering.{is_lt}
 use Rattle.std.proofs.Props.{props}
 use Rattle.bg_types.specs.Identifier.{Identifier, id_cmp, same_id}
@@ -22,6 +22,10 @@ joined bs = flat_map (λ b. b) bs
 -- where element j of block b stands in the whole row
 abbrev pub offset : List (List Element) → ℕ → ℕ → ℕ
 offset bs b j = length (joined (take b bs)) + j
+
+-- where the first stands that isn't greater, from element j of block b on
+abbrev pub sought : Identifier → List (List Element) → ℕ → ℕ → ℕ
+sought id bs b j = let start = offset bs b j in start + prefix_len (λ e. is_lt (id_cmp id e.id)) (drop start (joined bs))
 
 -- element j of block b is e, which is visible, and k visible elements stand before it
 pub record IsVisiblePlace (bs : List (List Element)) (k b j : ℕ) (e : Element) : Type 0 where

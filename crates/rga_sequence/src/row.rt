@@ -5,7 +5,8 @@ ghost use Rattle.std.specs.List.{prefix_len};
 ghost use Rattle.bg_types.specs.Identifier.{same_id};
 ghost use Rattle.rga_tree.specs.declared.element.Element.{Element};
 ghost use Rattle.rga_tree.specs.Row.{start_of, place_of, ids_of, is_distinct};
-ghost use Rattle.rga_sequence.specs.Blocks.{seen, joined, offset};
+ghost use Rattle.rga_tree.specs.KeepsWalk.{KeepsWalk};
+ghost use Rattle.rga_sequence.specs.Blocks.{seen, joined, offset, sought};
 ghost use Rattle.rga_sequence.specs.BlockRows.{has, items_of};
 ghost use Rattle.rga_sequence.specs.Indexed.{blocks_in, elements_in, IsIndexed, HasRoom};
 
@@ -93,14 +94,23 @@ fn recent_spot(row: &Row, id: Id) -> Option<(usize, usize)>
     ensures place { IfSome result (λ s. offset (blocks_in row.now) s.0 s.1
         ≡ prefix_len (λ e. not (same_id id e.id)) (elements_in row.now)) }
 {
+    let (p, at, last) = recent(row)?;
+    if last.id == id { Some((p, at)) } else { None }
+}
+
+/// The block where an element was put in last, its place there, and what stands there now. Another one may, since
+/// blocks move.
+#[inline(always)]
+fn recent(row: &Row) -> Option<(usize, usize, Element)>
+    ensures block { IfSome result (λ s. s.0 < vec_len row.now.blocks) }
+    ensures within { IfSome result (λ s. s.1 < length (get_or (blocks_in row.now) s.0 [])) }
+    ensures element { IfSome result (λ s. s.2 ≡ get_or (elements_in row.now) (offset (blocks_in row.now) s.0 s.1) s.2) }
+{
     let p = row.recent;
     let block = row.blocks.get(p)?;
     let at = block.recent;
-    if block.elements.get(at)?.id == id {
-        Some((p, at))
-    } else {
-        None
-    }
+    let last = block.elements.get(at)?;
+    Some((p, at, *last))
 }
 
 /// How many elements stand before the one with this identifier. Looks at a likely place first.
@@ -117,7 +127,7 @@ fn before(row: &[Element], likely: usize, id: Id) -> usize
 /// Puts in a new element: after its parent, and after all greater ones that directly follow it.
 pub fn put(row: &mut Row, id: Id, parent: Place, ch: char, hidden: bool)
     requires indexed { IsIndexed ⟦<Id as Eq>⟧.eq row.old }
-    requires distinct { is_distinct (ids_of (elements_in row.old)) ≡ true }
+    requires keeps_walk { KeepsWalk (elements_in row.old) }
     requires parent { start_of parent (elements_in row.old) ≤ length (elements_in row.old) }
     requires new { has id (elements_in row.old) ≡ false }
     requires room { HasRoom row.old 1 }
@@ -130,7 +140,7 @@ pub fn put(row: &mut Row, id: Id, parent: Place, ch: char, hidden: bool)
     if row.blocks.is_empty() {
         put_first(row, id, parent, ch, hidden);
     } else {
-        let (p, j) = start(row, &parent);
+        let (p, j) = start(row, &parent, id);
         let (q, at) = place_from(&row.blocks, &row.bounds, p, j, id);
         let (q, at) = make_room(row, q, at);
         put_into(row, q, at, id, parent, ch, hidden);
@@ -156,8 +166,70 @@ fn put_first(row: &mut Row, id: Id, parent: Place, ch: char, hidden: bool)
     row.recent = 0;
 }
 
-/// Right after the parent: a block, and a place there.
-fn start(row: &Row, parent: &Place) -> (usize, usize)
+/// From where on the place of a new element is sought: a block, and a place there. Mostly the parent was put in last.
+fn start(row: &Row, parent: &Place, id: Id) -> (usize, usize)
+    requires indexed { IsIndexed ⟦<Id as Eq>⟧.eq row.now }
+    requires keeps_walk { KeepsWalk (elements_in row.now) }
+    requires some { 0 < vec_len row.now.blocks }
+    requires parent { start_of parent.now (elements_in row.now) ≤ length (elements_in row.now) }
+    ensures block { result.0 < vec_len row.now.blocks }
+    ensures within { result.1 ≤ length (get_or (blocks_in row.now) result.0 []) }
+    ensures place { sought id (blocks_in row.now) result.0 result.1 ≡ place_of parent.now id (elements_in row.now) }
+{
+    match recent_parent(row, parent) {
+        Some((p, j)) => (p, j + 1),
+        None => start_elsewhere(row, parent, id),
+    }
+}
+
+/// The block of the element that was put in last, and its place there, if it is the parent.
+fn recent_parent(row: &Row, parent: &Place) -> Option<(usize, usize)>
+    requires distinct { is_distinct (ids_of (elements_in row.now)) ≡ true }
+    ensures block { IfSome result (λ s. s.0 < vec_len row.now.blocks) }
+    ensures within { IfSome result (λ s. s.1 < length (get_or (blocks_in row.now) s.0 [])) }
+    ensures place { IfSome result (λ s. offset (blocks_in row.now) s.0 s.1 + 1 ≡ start_of parent.now (elements_in row.now)) }
+{
+    match parent {
+        Place::Root => None,
+        Place::After(above) => recent_spot(row, *above),
+    }
+}
+
+/// The same where the parent was not put in last: right behind a greater sibling that was, or right behind the parent.
+#[inline(never)]
+fn start_elsewhere(row: &Row, parent: &Place, id: Id) -> (usize, usize)
+    requires indexed { IsIndexed ⟦<Id as Eq>⟧.eq row.now }
+    requires keeps_walk { KeepsWalk (elements_in row.now) }
+    requires some { 0 < vec_len row.now.blocks }
+    requires parent { start_of parent.now (elements_in row.now) ≤ length (elements_in row.now) }
+    ensures block { result.0 < vec_len row.now.blocks }
+    ensures within { result.1 ≤ length (get_or (blocks_in row.now) result.0 []) }
+    ensures place { sought id (blocks_in row.now) result.0 result.1 ≡ place_of parent.now id (elements_in row.now) }
+{
+    match recent_sibling(row, parent, id) {
+        Some((p, j)) => (p, j + 1),
+        None => behind(row, parent),
+    }
+}
+
+/// The block of the element that was put in last, and its place there, if it is a greater child of the
+/// same parent. What stands between the parent and that one is greater still.
+fn recent_sibling(row: &Row, parent: &Place, id: Id) -> Option<(usize, usize)>
+    requires keeps_walk { KeepsWalk (elements_in row.now) }
+    ensures block { IfSome result (λ s. s.0 < vec_len row.now.blocks) }
+    ensures within { IfSome result (λ s. s.1 < length (get_or (blocks_in row.now) s.0 [])) }
+    ensures place { IfSome result (λ s. sought id (blocks_in row.now) s.0 (s.1 + 1) ≡ place_of parent.now id (elements_in row.now)) }
+{
+    let (p, at, last) = recent(row)?;
+    if last.parent == *parent && id < last.id {
+        Some((p, at))
+    } else {
+        None
+    }
+}
+
+/// Right behind the parent: a block, and a place there.
+fn behind(row: &Row, parent: &Place) -> (usize, usize)
     requires indexed { IsIndexed ⟦<Id as Eq>⟧.eq row.now }
     requires distinct { is_distinct (ids_of (elements_in row.now)) ≡ true }
     requires some { 0 < vec_len row.now.blocks }
@@ -169,7 +241,7 @@ fn start(row: &Row, parent: &Place) -> (usize, usize)
     match parent {
         Place::Root => (0, 0),
         Place::After(above) => {
-            let (p, j) = spot(row, *above).unwrap();
+            let (p, j) = indexed_spot(row, *above).unwrap();
             (p, j + 1)
         }
     }

@@ -4,7 +4,7 @@ ghost use Rattle.std.specs.List.{prefix_len};
 ghost use Rattle.bg_types.specs.Identifier.{id_cmp};
 ghost use Rattle.rga_sequence.specs.BlockRows.{items_of};
 ghost use Rattle.rga_sequence.specs.Bounds.{AreBounds};
-ghost use Rattle.rga_sequence.specs.Blocks.{joined, offset, FallsFrom};
+ghost use Rattle.rga_sequence.specs.Blocks.{offset, sought, FallsFrom};
 
 use crate::block::{Block, is_below};
 use crate::bounds::NEIGHBOURS;
@@ -123,8 +123,7 @@ pub fn place_from(blocks: &[Block], bounds: &[Id], p: usize, j: usize, id: Id) -
     requires within { j ≤ length (get_or (items_of blocks.now) p []) }
     ensures block { result.0 < length blocks.now }
     ensures within { result.1 ≤ length (get_or (items_of blocks.now) result.0 []) }
-    ensures place { let s = offset (items_of blocks.now) p j in
-        offset (items_of blocks.now) result.0 result.1 ≡ s + prefix_len (λ e. is_lt (id_cmp id e.id)) (drop s (joined (items_of blocks.now))) }
+    ensures place { offset (items_of blocks.now) result.0 result.1 ≡ sought id (items_of blocks.now) p j }
 {
     let here = &blocks[p];
     let at = j + greater_from(here, j, id);

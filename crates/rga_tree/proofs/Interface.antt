@@ -6,6 +6,7 @@ pub use Rattle.rga_tree.proofs.SetSteps.{AllWellFormed-with, IsTree-grown, OnlyE
 pub use Rattle.rga_tree.proofs.RowPlaces.{AreDistinct}
 pub use Rattle.rga_tree.proofs.RowSets.{has_row}
 pub use Rattle.rga_tree.proofs.Placing.{KeepsWalk-nothing, placing, start_within}
+pub use Rattle.rga_tree.proofs.Siblings.{place_behind_sibling}
 pub use Rattle.rga_tree.proofs.Hiding.{hiding}
 pub use Rattle.rga_tree.proofs.Seen.{element_row, visible_row, seen_at}
 pub use Rattle.rga_tree.proofs.Listed.{is_listed, all_listed}

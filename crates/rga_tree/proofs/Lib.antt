@@ -22,6 +22,7 @@ pub mod Lines
 pub mod OneOrder
 pub mod Below
 pub mod Runs
+pub mod Siblings
 pub mod TypedPlace
 pub mod LeafWalk
 pub mod Taken

@@ -1,21 +1,7 @@
--- The goals of `start` that are answered by hand.
-use Rattle.std.proofs.Common.{◌≤◌, ◌+◌, length, subst, arith}
-use Rattle.bg_types.specs.declared.op.Place.{Place}
-use Rattle.rga_tree.specs.Row.{start_of}
+-- The goal of `start` that is answered by hand.
+use Rattle.std.proofs.Common.{arith}
 use Rattle.rga_sequence.specs.Few.{few_items}
-use Rattle.rga_sequence.specs.Indexed.{elements_in}
-use Rattle.rga_sequence.proofs.Members.{until}
-use Rattle.rga_sequence.proofs.Spots.{some_spot}
 use Rattle.rga_sequence.proofs.row.start.Goals as goal
 
-pub unwrap-p-requires : goal.unwrap-p-requires
-unwrap-p-requires c =
-    let es = elements_in c.args.row.now in
-    let there : until c.in-After.above es + 1 ≤ length es = subst (λ (p : Place). start_of p es ≤ length es) c.in-After.is c.requires.parent in
-    some_spot c.spot.result c.in-After.above es c.spot.ensures.absent there
-
 pub overflow_add-result : goal.overflow_add-result
-overflow_add-result c =
-    let within = rw c.unwrap-p.ensures at c.spot.ensures.within in
-    let few = few_items c.args.row.now.blocks.items c.unwrap-p.result.0 in
-    omega (arith, within, few)
+overflow_add-result c = omega (arith, few_items c.args.row.now.blocks.items c.in-Some.p, c.in-Some.ensures.within)
