@@ -1,6 +1,6 @@
 -- Lemmas on the ladder of levels that a stack keeps.
-use Rattle.std.proofs.Common.{ℕ, zero, suc, ◌≡◌, ◌+◌, ◌-◌, ◌<◌, ◌≤◌, refl, sym, List, [], ◌∷◌, length, reverse, Bool, true, false, Option, arith}
-use Rattle.std.proofs.lemmas.List.{length-reverse}
+use Rattle.std.proofs.Common.{ℕ, zero, suc, ◌≡◌, ◌+◌, ◌-◌, ◌<◌, ◌≤◌, refl, sym, List, [], ◌∷◌, ◌++◌, length, reverse, Bool, true, false, cond, Option, ap, ◌∙◌, arith}
+use Rattle.std.proofs.lemmas.List.{length-reverse, reverse-append}
 use Rattle.bg_types.specs.declared.class.Bidi.{Bidi}
 use Rattle.bidi_explicit.specs.declared.kind.Entry.{Entry}
 use Rattle.bidi_explicit.specs.Levels.{next_level}
@@ -57,3 +57,9 @@ pub ladder-closed : (es : List Entry) (v : ℕ) → IsLadder es → v ≡ isolat
     IsLadder (below_isolate es) × (v - 1 ≡ isolate_count (below_isolate es))
 ladder-closed es zero l h some = absurd (omega arith)
 ladder-closed es (suc n) l h some = let p = ladder-below_isolate es n l (sym h) in (p.0, omega arith)
+
+-- the last entry is an isolate's, or is dropped with those above the isolate's
+pub below_isolate-last : (stack rest : List Entry) (last : Entry) → stack ≡ rest ++ last ∷ [] →
+    below_isolate (reverse stack) ≡ cond last.of_isolate (reverse rest) (below_isolate (reverse rest))
+below_isolate-last stack rest last is =
+    ap (λ s. below_isolate (reverse s)) is ∙ ap below_isolate (reverse-append rest (last ∷ []))

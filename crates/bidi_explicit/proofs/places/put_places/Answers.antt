@@ -1,11 +1,11 @@
 -- The pass goes from the first place to the last.
-use Rattle.std.proofs.Common.{◌<◌, ◌≡◌, ◌∙◌, ap, sym, subst, length, get_or, take, set, false, add-one, arith}
+use Rattle.std.proofs.Common.{◌<◌, ◌≡◌, ◌∙◌, ap, sym, length, get_or, take, false, add-one, arith}
 use Rattle.std.proofs.lemmas.List.{take_all, take_more_set}
-use Rattle.bidi_explicit.specs.Levels.{place_of, kept_under}
+use Rattle.bidi_explicit.specs.Levels.{place_of}
 use Rattle.bidi_explicit.specs.Uniform.{is_apart}
 use Rattle.bg_types.specs.declared.class.Bidi.TheVariants.{L}
 use Rattle.bidi_explicit.proofs.Matching.{length-controls}
-use Rattle.bidi_explicit.proofs.Passing.{IsPassedTo, IsPassedTo-start, IsPassedTo-on, IsPassedTo-plain, IsPassedTo-end}
+use Rattle.bidi_explicit.proofs.Passing.{IsPassedTo-start, IsPassedTo-on, IsPassedTo-plain, IsPassedTo-end}
 use Rattle.bidi_explicit.proofs.places.put_places.Goals as goal
 
 pub loop-i-init : goal.loop-i-init
