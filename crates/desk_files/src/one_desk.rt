@@ -16,16 +16,20 @@ ghost use Rattle.desk_files.specs.declared.run_fault.RunFault.TheVariants.{Memor
 use crate::desk::{Desk, new_desk, read_text};
 use crate::reading::{LIMIT, PIECE, feed_piece, finish};
 use crate::run_fault::RunFault;
-use bg_types::{Id, Memory, Op, OpView, laws as sets};
+use bg_types::{Id, Memory, Op, OpView, Place, laws as sets};
 use desk_replica::{TakeFault, laws as desks};
 use op_codec::{Source, Stream};
 use std::alloc::Global;
+use std::cmp::Reverse;
 
 /// The site of the one desk.
 const SITE: u16 = 1;
 
 /// How many operations a desk can keep, and so how many are taken together at most.
 const MOST: usize = 1_000_000;
+
+/// How many numbers a site may have.
+const SITES: u64 = 65_536;
 
 /// By how many of the first operations it is told whether they came out of order.
 const LOOKED_AT: usize = 32;
@@ -164,15 +168,36 @@ fn keep_refusal(refused: &mut Option<TakeFault>, fault: TakeFault) -> Result<(),
     }
 }
 
-/// Sorts operations that came out of order by their identifiers, the cheap order to take them in: each
-/// then comes after its parent, and after those that it stands before. Only where the desk has room for
-/// them all, since which one it would refuse as too many depends on the order.
+/// Sorts operations that came out of order by their turns, the cheap order to take them in. Only where the
+/// desk has room for them all, since which one it would refuse as too many depends on the order.
 fn put_in_order(desk: &Desk, ops: &mut [Op])
     ensures { IsReordered desk.now.set ops.old ops.new }
 {
     if came_out_of_order(ops) && ops.len() <= MOST - desk.op_count() {
-        ops.sort_unstable_by_key(named);
+        ops.sort_unstable_by_key(turn);
     }
+}
+
+/// An operation's turn among those that are sorted: after what it names, and of the children of one parent the
+/// greatest first, so that each goes right behind the one before.
+fn turn(op: &Op) -> (u64, Reverse<u64>) {
+    match op.view() {
+        OpView::Insert { id, parent, .. } => (behind(parent), Reverse(number(id))),
+        OpView::Erase { target } => (number(target), Reverse(0)),
+    }
+}
+
+/// The number of the parent, or 0 for the root.
+fn behind(parent: Place) -> u64 {
+    match parent {
+        Place::Root => 0,
+        Place::After(above) => number(above),
+    }
+}
+
+/// An identifier as one number, in their order.
+fn number(id: Id) -> u64 {
+    u64::from(id.counter()) * SITES + u64::from(id.site())
 }
 
 /// Whether of the first operations more than a quarter have a smaller identifier than the one before.
