@@ -10,12 +10,17 @@ use Rattle.bg_types.specs.declared.op.Place.{Place}
 use Rattle.bg_types.specs.declared.op.OpView.{OpView}
 use Rattle.bg_types.specs.declared.op.OpView.TheVariants.{Insert, Erase}
 use Rattle.bg_types.proofs.IdentifierOrder.{id_cmp-total, id_cmp-exact, same_id-is, same_id-itself}
+use Rattle.std.proofs.lemmas.Bool.{or_left, or_right, or_cases}
 
 abbrev pub node : Place → ℕ → Node
 node parent ch = record { parent = parent; ch = ch }
 
 pub some_is : {X : Type 0} (x y : X) → Some x ≡ Some y → x ≡ y
 some_is x y e = cc
+
+pub none_of : (o : Option Node) → is_some o ≡ false → o ≡ None
+none_of None h = refl
+none_of (Some n) h = absurd cc
 
 -- the first of two options that is there
 abbrev pub unwrap_first : Option Node → Option Node → Option Node
@@ -34,7 +39,7 @@ same_options None None f g = refl
 same_options None (Some n) f g = g n refl
 same_options (Some n) b f g = sym (f n refl)
 
-same_tests : (a b : Bool) → (a ≡ true → b ≡ true) → (b ≡ true → a ≡ true) → a ≡ b
+pub same_tests : (a b : Bool) → (a ≡ true → b ≡ true) → (b ≡ true → a ≡ true) → a ≡ b
 same_tests true b f g = sym (f refl)
 same_tests false true f g = g refl
 same_tests false false f g = refl
@@ -75,25 +80,13 @@ insertion_joined s id parent ch q p c may =
       )
     ] refl (sym known)
 
-either : (a b : Bool) → (a || b) ≡ true → (a ≡ true) ⊎ (b ≡ true)
-either true b h = inl refl
-either false b h = inr h
-
-or_second : (a b : Bool) → b ≡ true → (a || b) ≡ true
-or_second true b h = refl
-or_second false b h = h
-
-or_first : (a b : Bool) → a ≡ true → (a || b) ≡ true
-or_first true b h = refl
-or_first false b h = absurd cc
-
 erasure_joined : (s : OperationSet) (target q : Identifier) → IsJoined s (Erase target) (Erase q)
 erasure_joined s target q =
     let known : set.contains (set.insert s.del target) q ≡ (same_id q target || set.contains s.del q) = set.contains-insert id_cmp-total s.del target q in (
-      λ h. elim (either (same_id q target) (set.contains s.del q) (sym known ∙ h)) [ inl here ↦ inl (ap Erase (same_id-is q target here)) | inr old ↦ inr old ],
+      λ h. elim (or_cases (same_id q target) (set.contains s.del q) (sym known ∙ h)) [ inl here ↦ inl (ap Erase (same_id-is q target here)) | inr old ↦ inr old ],
       λ w. elim w [
-        | inl e ↦ let same : q ≡ target = cc in known ∙ or_first (same_id q target) (set.contains s.del q) (subst (λ x. same_id q x ≡ true) same (same_id-itself q))
-        | inr old ↦ known ∙ or_second (same_id q target) (set.contains s.del q) old
+        | inl e ↦ let same : q ≡ target = cc in known ∙ or_left (same_id q target) (set.contains s.del q) (subst (λ x. same_id q x ≡ true) same (same_id-itself q))
+        | inr old ↦ known ∙ or_right (same_id q target) (set.contains s.del q) old
       ],
     )
 
@@ -129,7 +122,7 @@ Holds-union s t agree (Erase target) =
     let known = set.contains-union id_cmp-total s.del t.del target in
     let a = set.contains s.del target in
     let b = set.contains t.del target in
-    (λ h. either a b (sym known ∙ h), λ w. known ∙ elim w as (λ _. (a || b) ≡ true) [ inl h ↦ or_first a b h | inr h ↦ or_second a b h ])
+    (λ h. or_cases a b (sym known ∙ h), λ w. known ∙ elim w as (λ _. (a || b) ≡ true) [ inl h ↦ or_left a b h | inr h ↦ or_right a b h ])
 
 -- an operation that the set holds may join
 pub Holds-may_join : (s : OperationSet) (op : OpView) → Holds s op → MayJoin s op

@@ -11,3 +11,4 @@ pub mod Facts
 pub mod Uniformity
 pub mod Whole
 pub mod Balance
+pub mod Interface

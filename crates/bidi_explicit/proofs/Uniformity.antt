@@ -4,7 +4,7 @@ use Rattle.std.specs.Prelude.{is_some, not, ◌&&◌, slice_get, IfSome}
 use Rattle.std.specs.List.{All, list_any, range_with_len}
 use Rattle.std.proofs.Math.Bool.{or-true}
 use Rattle.std.proofs.lemmas.Bool.Decides.{eqb_tells}
-use Rattle.std.proofs.lemmas.Bool.{false≢true, cases_lt}
+use Rattle.std.proofs.lemmas.Bool.{false≢true, cases_lt, or_parts}
 use Rattle.std.proofs.lemmas.List.{length-map}
 use Rattle.std.proofs.lemmas.List.FromFn.{length-range_with_len}
 use Rattle.std.proofs.lemmas.List.Elements.{All-nil, All-cons, All-head, All-tail}
@@ -45,13 +45,9 @@ places-uniform p [] a = refl
 places-uniform p (c ∷ cs) a =
     step-down p c cs (All-head IsNoControl c cs a) ∙ ap (λ ps. kept_at_level p c ∷ ps) (places-uniform p cs (All-tail IsNoControl c cs a))
 
-neither : (x y : Bool) → (x || y) ≡ false → (x ≡ false) × (y ≡ false)
-neither false y h = (refl, h)
-neither true y h = absurd (false≢true (sym h))
-
 pub no-controls : (cs : List Bidi) → list_any is_control cs ≡ false → All IsNoControl cs
 no-controls [] h = All-nil IsNoControl
-no-controls (c ∷ cs) h = let both = neither (is_control c) (list_any is_control cs) h in All-cons IsNoControl c cs both.0 (no-controls cs both.1)
+no-controls (c ∷ cs) h = let both = or_parts (is_control c) (list_any is_control cs) h in All-cons IsNoControl c cs both.0 (no-controls cs both.1)
 
 -- an initiator is a control
 no-initiator : (c : Bidi) → IsNoControl c → is_initiator c ≡ false

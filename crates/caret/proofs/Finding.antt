@@ -3,10 +3,7 @@ use Rattle.std.proofs.Common.{◌≡◌, ℕ, zero, suc, ◌+◌, Bool, true, fa
 use Rattle.std.specs.Prelude.{find, slice_get}
 use Rattle.std.specs.List.{enumerate_from}
 use Rattle.cell_grid.specs.declared.entry.Entry.{Entry}
-
-cases : {P : Type 0} (b : Bool) → (b ≡ true → P) → (b ≡ false → P) → P
-cases true f g = f refl
-cases false f g = g refl
+use Rattle.bg_types.proofs.Interface.{two_cases}
 
 module _ (passes : Entry → Bool) where
   -- what is found among entries whose numbers begin at k
@@ -42,7 +39,7 @@ module _ (passes : Entry → Bool) where
   found_from k zero (x ∷ entries) e at here = let is : x ≡ e = cc in found_first k x entries (ap passes is ∙ here)
   found_from k (suc n) (x ∷ entries) e at here =
       let rest = found_from (k + 1) n entries e at here in
-      cases (passes x) (λ first. found_first k x entries first) (λ other. found_later k x entries other rest)
+      two_cases (passes x) (λ first. found_first k x entries first) (λ other. found_later k x entries other rest)
 
   -- and so where one passes
   pub found : (n : ℕ) (entries : List Entry) (e : Entry) → slice_get entries n ≡ Some e → passes e ≡ true → Found 0 entries

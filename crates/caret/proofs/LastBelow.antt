@@ -2,10 +2,7 @@
 use Rattle.std.proofs.Common.{◌≡◌, ℕ, zero, suc, ◌<◌, ◌≤◌, Bool, true, false, cond, inl, inr, refl, ap, sym, subst, ◌∙◌, arith}
 use Rattle.std.proofs.lemmas.Bool.{cases_lt}
 use Rattle.caret.specs.Lists.{last_below}
-
-cases : {P : Type 0} (b : Bool) → (b ≡ true → P) → (b ≡ false → P) → P
-cases true f g = f refl
-cases false f g = g refl
+use Rattle.bg_types.proofs.Interface.{two_cases}
 
 module _ (passes : ℕ → Bool) where
   last_below-here : (n : ℕ) → passes n ≡ true → last_below passes (suc n) ≡ n
@@ -28,7 +25,7 @@ module _ (passes : ℕ → Bool) where
   pub last_below-later : (n j : ℕ) → last_below passes n < j → j < n → passes j ≡ false
   last_below-later zero j above within = absurd (omega arith)
   last_below-later (suc n) j above within =
-      cases (passes n)
+      two_cases (passes n)
       (λ h. absurd (omega (arith, last_below-here n h)))
       (λ h. elim (cases_lt j n) [
         | inl below ↦ last_below-later n j (subst (λ m. m < j) (last_below-before n h) above) below
@@ -39,7 +36,7 @@ module _ (passes : ℕ → Bool) where
   pub last_below-passes : (n : ℕ) → passes 0 ≡ true → passes (last_below passes n) ≡ true
   last_below-passes zero h = h
   last_below-passes (suc n) h =
-      cases (passes n)
+      two_cases (passes n)
       (λ here. subst (λ m. passes m ≡ true) (sym (last_below-here n here)) here)
       (λ other. subst (λ m. passes m ≡ true) (sym (last_below-before n other)) (last_below-passes n h))
 
@@ -47,13 +44,13 @@ module _ (passes : ℕ → Bool) where
   pub last_below-within : (n : ℕ) → 0 < n → last_below passes n < n
   last_below-within zero some = absurd (omega arith)
   last_below-within (suc n) some =
-      cases (passes n)
+      two_cases (passes n)
       (λ here. omega (arith, last_below-here n here))
       (λ other. omega (arith, last_below-before n other, at_most n))
     where
       at_most : (m : ℕ) → last_below passes m ≤ m
       at_most zero = omega arith
       at_most (suc m) =
-          cases (passes m)
+          two_cases (passes m)
           (λ here. omega (arith, last_below-here m here))
           (λ other. omega (arith, last_below-before m other, at_most m))

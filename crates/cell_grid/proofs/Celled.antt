@@ -3,7 +3,7 @@ use Rattle.std.proofs.Common.{◌≡◌, ℕ, true, false, zero, suc, ◌+◌, �
 use Rattle.std.proofs.lemmas.List.{length-replicate, length-map}
 use Rattle.std.proofs.lemmas.Bool.Decides.{leb_tells}
 use Rattle.std.proofs.lemmas.Bool.{le-leb, leb-true}
-use Rattle.std.proofs.lemmas.Option.{slice_get-get_or, get_or_from_slice_get}
+use Rattle.std.proofs.lemmas.Option.{slice_get-get_or, get_or_from_slice_get, slice_get_within}
 use Rattle.std.specs.List.Sorted.{IsNonDecreasingBy, IsPartitionPoint}
 use Rattle.std.specs.Prelude.{nat_le}
 use Rattle.cell_grid.specs.declared.entry.Entry.{Entry}
@@ -14,7 +14,7 @@ use Rattle.cell_grid.specs.Rows.{DrawnRow, shifted, shifted_entry}
 use Rattle.cell_grid.specs.Laws.{IsCellOf}
 use Rattle.cell_grid.proofs.Steps.{drop-next}
 use Rattle.cell_grid.proofs.Sides.{length-entries_cells, same_follow, follow-shifted, total-shifted}
-use Rattle.cell_grid.proofs.Lookups.{get-left, get-right, get-inside, get-replicate}
+use Rattle.cell_grid.proofs.Lookups.{get-left, get-right, get-replicate}
 use Rattle.cell_grid.proofs.Covering.{HasCell, IsSeenFrom, covered-from, seen-from}
 
 get-some : {X : Type 0} (xs : List X) (k : ℕ) → k < length xs → (x : X) × (slice_get xs k ≡ Some x)
@@ -75,7 +75,7 @@ module _ (entries : List Entry) (column count : ℕ) (by : BeginBy entries colum
     | inl before ↦ before.1
     | inr past ↦
         let over = past.1 in
-        let no = by.1 n e (omega arith) (get-inside entries n e is) in
+        let no = by.1 n e (omega arith) (slice_get_within entries n e is) in
         let same = get_or_from_slice_get entries n e e is in
         let yes = le-leb e.column column le in
         absurd (false-is (sym no ∙ ap (λ (x : Entry). nat_le x.column column) same ∙ yes))
@@ -136,7 +136,7 @@ module _ (entries : List Entry) (start width : ℕ) (f : ColumnsFollow start ent
       let h = covered-from 0 start entries (start + total entries) f n column e is low high in
       let le = h.0 in
       let k : start + (column - start) ≡ column = omega arith in
-      let inside = get-inside E (column - start) h.1.0 h.1.1 in
+      let inside = slice_get_within E (column - start) h.1.0 h.1.1 in
       let m : 0 + n ≡ n = omega arith in (
         h.1.0,
         ap (slice_get (replicate start Blank ++ (E ++ B))) (sym k)
@@ -182,7 +182,7 @@ module _ (entries : List Entry) (start width : ℕ) (f : ColumnsFollow start ent
                   let le = past.1 in
                   let part : length E + (column - start - length E) ≡ column - start = omega arith in
                   let last = sym (get-right E B (length E) (column - start - length E) refl) ∙ ap (slice_get (E ++ B)) part ∙ at in
-                  let inside = get-inside B (column - start - length E) c last in
+                  let inside = slice_get_within B (column - start - length E) c last in
                   let lb = length-replicate (width - (start + length E)) Blank in
                   let put = get-replicate (width - (start + length E)) (column - start - length E) Blank (omega arith) in
                   let same : c ≡ Blank = cc in
@@ -243,7 +243,7 @@ module _ (entries : List Entry) (start width : ℕ) (f : ColumnsFollow start ent
 
 -- the rest from an element on begins with it
 pub drop-get : {X : Type 0} (xs : List X) (k : ℕ) (x : X) → slice_get xs k ≡ Some x → drop k xs ≡ x ∷ drop (k + 1) xs
-drop-get xs k x is = drop-next xs k x x (get-inside xs k x is) (sym (get_or_from_slice_get xs k x x is))
+drop-get xs k x is = drop-next xs k x x (slice_get_within xs k x is) (sym (get_or_from_slice_get xs k x x is))
 
 -- no cell stands after the width
 pub none-behind : {X : Type 0} (xs : List X) (k : ℕ) → length xs ≤ k → None ≡ slice_get xs k

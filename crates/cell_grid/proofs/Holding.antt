@@ -1,6 +1,6 @@
 -- Each place of clusters that follow one another lies in exactly one of them.
 use Rattle.std.proofs.Common.{◌≡◌, ℕ, suc, ◌+◌, ◌<◌, ◌≤◌, ◌&&◌, Bool, true, false, List, [], ◌∷◌, map, length, leb, IsPermutation, refl, sym, ap, ◌∙◌, arith, inl, inr}
-use Rattle.std.proofs.lemmas.Bool.{le-leb, lt-leb, leb-true}
+use Rattle.std.proofs.lemmas.Bool.{le-leb, lt-leb, leb-true, and_parts}
 use Rattle.std.proofs.lemmas.Bool.Decides.{leb_tells}
 use Rattle.std.proofs.lemmas.List.Elements.{All-nil, All-cons, All-head, All-tail, All-weaker}
 use Rattle.std.proofs.lemmas.List.Sorted.{All-permutation, sum_by-IsPermutation}
@@ -32,14 +32,9 @@ and_false false = refl
 holds-late : (place : ℕ) (s : Span) → s.end_place ≤ place → holds place s ≡ false
 holds-late place s le = ap (λ b. leb s.first_place place && b) (lt-leb (suc place) s.end_place (omega arith)) ∙ and_false (leb s.first_place place)
 
-both : (a b : Bool) → (a && b) ≡ true → (a ≡ true) × (b ≡ true)
-both true true h = (refl, refl)
-both true false h = cc
-both false b h = cc
-
 holds-tells : (place : ℕ) (s : Span) → holds place s ≡ true → (s.first_place ≤ place) × (place < s.end_place)
 holds-tells place s h =
-    let parts = both (leb s.first_place place) (leb (suc place) s.end_place) h in
+    let parts = and_parts (leb s.first_place place) (leb (suc place) s.end_place) h in
     let high = leb-true (suc place) s.end_place parts.1 in
     (leb-true s.first_place place parts.0, omega arith)
 

@@ -1,7 +1,7 @@
 -- Elements by their numbers.
 use Rattle.std.proofs.Common.{◌≡◌, ℕ, zero, suc, ◌+◌, ◌<◌, ◌≤◌, Bool, true, false, List, [], ◌∷◌, ◌++◌, length, replicate, sum_by, slice_get, Some, refl, ap, subst, ◌∙◌, arith}
 use Rattle.std.proofs.lemmas.List.Sums.{sum_by-cons}
-use Rattle.std.proofs.lemmas.Option.{get_or_from_slice_get}
+use Rattle.std.proofs.lemmas.Option.{get_or_from_slice_get, slice_get_within}
 use Rattle.std.specs.List.{All}
 
 pub get-left : {X : Type 0} (xs ys : List X) (k : ℕ) → k < length xs → slice_get (xs ++ ys) k ≡ slice_get xs k
@@ -14,11 +14,6 @@ get-right [] ys n k len = let e : n + k ≡ k = omega arith in ap (slice_get ys)
 get-right (x ∷ xs) ys zero k len = absurd (omega arith)
 get-right (x ∷ xs) ys (suc n) k len = let e : suc n + k ≡ suc (n + k) = omega arith in ap (slice_get (x ∷ (xs ++ ys))) e ∙ get-right xs ys n k (omega arith)
 
-pub get-inside : {X : Type 0} (xs : List X) (k : ℕ) (x : X) → slice_get xs k ≡ Some x → k < length xs
-get-inside [] k x e = cc
-get-inside (y ∷ xs) zero x e = omega arith
-get-inside (y ∷ xs) (suc k) x e = let h = get-inside xs k x e in omega arith
-
 pub get-replicate : {X : Type 0} (n k : ℕ) (x : X) → k < n → slice_get (replicate n x) k ≡ Some x
 get-replicate zero k x lt = absurd (omega arith)
 get-replicate (suc n) zero x lt = refl
@@ -26,7 +21,7 @@ get-replicate (suc n) (suc k) x lt = get-replicate n k x (omega arith)
 
 -- what holds of each holds of this one
 pub All-at : {X : Type 0} (P : X → Type 0) (xs : List X) (k : ℕ) (x : X) → slice_get xs k ≡ Some x → All P xs → P x
-All-at P xs k x e h = subst P (get_or_from_slice_get xs k x x e) (h k x (get-inside xs k x e))
+All-at P xs k x e h = subst P (get_or_from_slice_get xs k x x e) (h k x (slice_get_within xs k x e))
 
 -- ---- how many pass a test
 

@@ -21,7 +21,8 @@ use Rattle.op_codec.specs.Feed.{added}
 use Rattle.desk_files.specs.Taking.{HasTaken, HasTakenBut, IsReordered}
 use Rattle.desk_files.proofs.Feeding.{added_all}
 use Rattle.desk_files.proofs.LowerLaws.{HoldsBoth, ListLaws}
-use Rattle.desk_files.proofs.Taking.{known-joins, IsSetOf-push}
+use Rattle.desk_files.proofs.Taking.{IsSetOf-push}
+use Rattle.bg_types.proofs.Interface.{Holds-may_join}
 
 -- ---- a set reuses the identifier of an operation, or holds it, or could hold it
 
@@ -85,7 +86,7 @@ ends laws before [] s h small = inl (s, subst (λ l. IsSetOf l s) (sym (append-n
 ends laws before (op ∷ rest) s h small = elim (stands s op) [
   | inl reused ↦ inr (record { before = before; op = op; after = rest; kept = s; in_order = refl; of_before = h; limited = omega (arith, small); refused = reused })
   | inr joins ↦ subst Ends (append_assoc before (op ∷ []) rest) (elim joins [
-    | inl held ↦ ends laws (before ++ op ∷ []) rest (with_operation s op) (IsSetOf-push laws.holds before op s h (known-joins s op held)) (let same = ap size (laws.known s op held) in omega (arith, small, same))
+    | inl held ↦ ends laws (before ++ op ∷ []) rest (with_operation s op) (IsSetOf-push laws.holds before op s h (Holds-may_join s op held)) (let same = ap size (laws.known s op held) in omega (arith, small, same))
     | inr new ↦ ends laws (before ++ op ∷ []) rest (with_operation s op) (IsSetOf-push laws.holds before op s h new.0) (let more = laws.grows s op new.0 new.1 in omega (arith, small, more))
   ])
 ]

@@ -18,15 +18,12 @@ use Rattle.desk_replica.specs.Refusal.{IsFirstRefusal}
 use Rattle.desk_files.specs.Taking.{HasTaken}
 use Rattle.desk_files.proofs.LowerLaws.{HoldsBoth}
 use Rattle.desk_files.proofs.Spelled.{take-push, split-at}
+use Rattle.bg_types.proofs.Interface.{Holds-may_join}
 
 -- ---- what an answer says
 
-pub known-joins : (s : OperationSet) (op : OpView) → Holds s op → MayJoin s op
-known-joins s (Insert id parent ch) held = λ kept found. (let equal = sym found ∙ held in cc)
-known-joins s (Erase target) held = tt
-
 pub joins : (s : OperationSet) (op : OpView) (taken : Taken) → IsTaken s op taken → MayJoin s op
-joins s op Known h = known-joins s op h
+joins s op Known h = Holds-may_join s op h
 joins s op (Placed n) h = h.0.joins
 joins s op Hidden h = h.0.joins
 joins s op Held h = h.0.joins

@@ -23,16 +23,13 @@ use Rattle.desk_replica.specs.declared.answer.Taken.TheVariants.{Placed}
 use Rattle.desk_replica.proofs.Whole.{some_not, contains-union}
 use Rattle.desk_replica.proofs.Settled.{walk-whole, placed_attached, attached_placed}
 use Rattle.desk_replica.proofs.FirstTurn.{nothing_kept, not_held, union-held}
+use Rattle.desk_replica.proofs.Lists.{length-each}
 
 -- a sequence keeps these of its content
 pub record IsContent (t : OperationSet) : Type 0 where
   pub well : AllWellFormed t
   pub tree : IsTree t
   pub only : OnlyErasesPlaced t
-
-length-each : {X Y : Type 0} (f : X → Y) (xs : List X) → length (each f xs) ≡ length xs
-length-each f [] = refl
-length-each f (x ∷ xs) = ap (λ n. suc n) (length-each f xs)
 
 pub length-elements : (t : OperationSet) → length (elements t) ≡ attached_count t
 length-elements t = length-each _ (walk t Root)

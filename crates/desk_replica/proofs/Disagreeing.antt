@@ -2,7 +2,7 @@
 use Rattle.std.proofs.Common.{◌≡◌, ◌<◌, ◌++◌, ℕ, List, [], length, take, get_or, Some, sym, ap, subst, ◌∙◌, is_some}
 use Rattle.std.specs.Prelude.{All, Contains, slice_get}
 use Rattle.std.proofs.lemmas.List.Elements.{All-get_or, Contains-append_left, Contains-append_right, Contains-get_or}
-use Rattle.std.proofs.lemmas.Option.{get_or_from_slice_get, slice_get-get_or}
+use Rattle.std.proofs.lemmas.Option.{get_or_from_slice_get, slice_get-get_or, slice_get_within}
 use Rattle.std.specs.FinMap as map
 use Rattle.bg_types.specs.WellFormed.{MayFollow}
 use Rattle.bg_types.specs.OperationSet.{OperationSet, AllWellFormed, Agree, Holds, MayJoin, ReusesIdentifier, size}
@@ -21,7 +21,7 @@ use Rattle.desk_replica.proofs.Settled.{in_whole}
 use Rattle.desk_replica.proofs.Admitting.{IsContent}
 use Rattle.desk_replica.proofs.ElementPlaces.{element_at, element_for, follows_parent}
 use Rattle.desk_replica.proofs.InTurn.{joined, joined_split}
-use Rattle.desk_replica.proofs.Lists.{slice_get-take, within-slice_get}
+use Rattle.desk_replica.proofs.Lists.{slice_get-take}
 use Rattle.desk_replica.proofs.Told.{late_kept}
 use Rattle.desk_replica.proofs.Merges.{agree_of, disagree_of}
 
@@ -53,7 +53,7 @@ pub agree_placed : (s t : OperationSet) → IsContent t → All (λ e. MayJoin s
 agree_placed s t c all id a b in_s in_t =
     let e = element_of t (id, b) in
     let f = element_for t id b (listed-attached t id c.well (IsAttached-tree t id c.well c.tree (ap is_some in_t))) in_t in
-    let at = All-get_or (λ (x : Element). MayJoin s (insertion_of x)) (elements t) f.0 e (within-slice_get (elements t) f.0 e f.1) all in
+    let at = All-get_or (λ (x : Element). MayJoin s (insertion_of x)) (elements t) f.0 e (slice_get_within (elements t) f.0 e f.1) all in
     subst (λ (x : Element). MayJoin s (insertion_of x)) (get_or_from_slice_get (elements t) f.0 e e f.1) at a in_s
 
 -- ---- what waits
@@ -61,7 +61,7 @@ agree_placed s t c all id a b in_s in_t =
 pub waiting_at : (w : Waiting) (j : ℕ) (op : OpView) → slice_get w.listed j ≡ Some op → j < size w.held → (j < length (waiting_in w)) × (op ≡ get_or (waiting_in w) j op)
 waiting_at w j op h within =
     let at = slice_get-take w.listed (size w.held) j within ∙ h in
-    (within-slice_get (waiting_in w) j op at, sym (get_or_from_slice_get (waiting_in w) j op op at))
+    (slice_get_within (waiting_in w) j op at, sym (get_or_from_slice_get (waiting_in w) j op op at))
 
 pub disagree_waiting : (s : OperationSet) (w : Waiting) (j : ℕ) (op : OpView) → ListsOnce w.held (waiting_in w) → slice_get w.listed j ≡ Some op → j < size w.held → ReusesIdentifier s op → Disagree s w.held
 disagree_waiting s w j op lists h within reused = disagree_of s w.held op reused ((lists.each op).1 (j, slice_get-take w.listed (size w.held) j within ∙ h))
@@ -69,7 +69,7 @@ disagree_waiting s w j op lists h within reused = disagree_of s w.held op reused
 pub agree_waiting : (s : OperationSet) (w : Waiting) → ListsOnce w.held (waiting_in w) → All (MayJoin s) (waiting_in w) → Agree s w.held
 agree_waiting s w lists all = agree_of s w.held (λ op h.
     let f = (lists.each op).0 h in
-    subst (MayJoin s) (get_or_from_slice_get (waiting_in w) f.0 op op f.1) (All-get_or (MayJoin s) (waiting_in w) f.0 op (within-slice_get (waiting_in w) f.0 op f.1) all))
+    subst (MayJoin s) (get_or_from_slice_get (waiting_in w) f.0 op op f.1) (All-get_or (MayJoin s) (waiting_in w) f.0 op (slice_get_within (waiting_in w) f.0 op f.1) all))
 
 -- ---- both
 

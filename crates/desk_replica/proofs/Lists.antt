@@ -3,6 +3,7 @@ use Rattle.std.proofs.Common.{◌≡◌, ◌≤◌, ◌<◌, ◌+◌, ◌++◌, 
 use Rattle.std.specs.Prelude.{slice_get, map as each}
 use Rattle.std.specs.Option.{option_map}
 use Rattle.std.specs.List.{AllByRecursion}
+use Rattle.std.proofs.lemmas.Option.{slice_get_within}
 
 pub slice_get-each : {X Y : Type 0} (f : X → Y) (xs : List X) (k : ℕ) → slice_get (each f xs) k ≡ option_map f (slice_get xs k)
 slice_get-each f [] k = refl
@@ -39,14 +40,8 @@ slice_get-within [] k h = absurd (omega arith)
 slice_get-within (x ∷ xs) zero h = (x, refl)
 slice_get-within (x ∷ xs) (suc k) h = slice_get-within xs k (omega arith)
 
-pub within-slice_get : {X : Type 0} (xs : List X) (k : ℕ) (x : X) → slice_get xs k ≡ Some x → k < length xs
-within-slice_get [] zero x h = absurd (let e : None ≡ Some x = h in cc)
-within-slice_get [] (suc k) x h = absurd (let e : None ≡ Some x = h in cc)
-within-slice_get (y ∷ xs) zero x h = omega arith
-within-slice_get (y ∷ xs) (suc k) x h = let r = within-slice_get xs k x h in omega arith
-
 pub all_at : {X : Type 0} (P : X → Type 0) (xs : List X) (k : ℕ) (x : X) → AllByRecursion P xs → slice_get xs k ≡ Some x → P x
-all_at P [] k x a h = absurd (let w = within-slice_get [] k x h in omega arith)
+all_at P [] k x a h = absurd (let w = slice_get_within [] k x h in omega arith)
 all_at P (y ∷ xs) zero x a h = let e : y ≡ x = cc in subst P e a.0
 all_at P (y ∷ xs) (suc k) x a h = all_at P xs k x a.1 h
 

@@ -16,18 +16,7 @@ use Rattle.desk_replica.specs.Placement.{IsParted, IsSettled, MayPlace, Places, 
 use Rattle.desk_replica.proofs.Whole.{some_not}
 use Rattle.desk_replica.proofs.PlacedOne.{Stepped, parted_now, same_now, in_tree, del_tree, ins_held, del_held}
 use Rattle.desk_replica.proofs.Sizes.{of_map, map_positive}
-
-place_released : (v w : Waiting) → v.released ≡ w.released → (a : Place) → is_released v a ≡ is_released w a
-place_released v w e Root = refl
-place_released v w e (After p) = ap (λ s. set.contains s p) e
-
--- what is ready goes by the insertions and by what was released
-pub is_ready-same : (v w : Waiting) → v.held.ins ≡ w.held.ins → v.released ≡ w.released → (q : Identifier) → is_ready v q ≡ is_ready w q
-is_ready-same v w ins released q = ap (λ m. option_map_or (λ (n : Node). is_released v n.parent) (map.get m q) false) ins ∙ by (map.get w.held.ins q)
-  where
-    by : (o : Option Node) → option_map_or (λ (n : Node). is_released v n.parent) o false ≡ option_map_or (λ (n : Node). is_released w n.parent) o false
-    by None = refl
-    by (Some n) = place_released v w released n.parent
+use Rattle.pending_ops.proofs.Interface.{is_ready-same}
 
 -- where nothing is released nothing is ready
 pub none_ready : (w : Waiting) → w.released ≡ set.empty → NoneReady w

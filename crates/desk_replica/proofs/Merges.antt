@@ -15,6 +15,7 @@ use Rattle.desk_replica.specs.Reply.{IsRefused}
 use Rattle.desk_replica.specs.Merging.{Disagree, IsBetween, IsMergeRefusal, IsMergeRefused, IsStopped, with_operations}
 use Rattle.desk_replica.proofs.Sizes.{len_map-map, len_set-set}
 use Rattle.desk_replica.proofs.Lists.{slice_get-left, slice_get-right}
+use Rattle.desk_replica.proofs.OnceEach.{nothing_at}
 
 pub disagree_of : (s t : OperationSet) (op : OpView) → ReusesIdentifier s op → Holds t op → Disagree s t
 disagree_of s t (Insert id parent ch) r h = record { id = id; one = r.0; other = record { parent = parent; ch = ch }; in_s = r.1; in_t = h; differ = r.2 }
@@ -121,10 +122,6 @@ pub record Joins (s t u v : OperationSet) (ops : List OpView) : Type 0 where
   pub between : IsBetween s t v
   pub keeps : (op : OpView) → Holds u op → Holds v op
   pub holds : (j : ℕ) (op : OpView) → slice_get ops j ≡ Some op → Holds v op
-
-nothing_at : (j : ℕ) (op : OpView) → slice_get [] j ≡ Some op → ⊥
-nothing_at zero op h = let f : None ≡ Some op = h in cc
-nothing_at (suc j) op h = let f : None ≡ Some op = h in cc
 
 pub joins_all : (s t u : OperationSet) (ops : List OpView) → Agree s t → IsBetween s t u → ((j : ℕ) (op : OpView) → slice_get ops j ≡ Some op → Holds t op) → Joins s t u (with_operations u ops) ops
 joins_all s t u [] agree between of_t = record { between = between; keeps = λ op h. h; holds = λ j op h. absurd (nothing_at j op h) }

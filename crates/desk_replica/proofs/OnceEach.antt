@@ -64,7 +64,7 @@ size_cut s (Erase target) h =
     let p = set_positive s.del (set.len s.del) target refl h in
     omega (arith, l, p)
 
-nothing_at : (j : ℕ) (op : OpView) → slice_get [] j ≡ Some op → ⊥
+pub nothing_at : (j : ℕ) (op : OpView) → slice_get [] j ≡ Some op → ⊥
 nothing_at zero op h = let f : None ≡ Some op = h in cc
 nothing_at (suc j) op h = let f : None ≡ Some op = h in cc
 

@@ -8,12 +8,13 @@ use Rattle.bg_types.specs.Identifier.{Identifier, same_id}
 use Rattle.bg_types.specs.OperationSet.{Node, OperationSet, union}
 use Rattle.bg_types.specs.declared.op.Place.{Place}
 use Rattle.bg_types.specs.declared.op.Place.TheVariants.{Root, After}
-use Rattle.bg_types.proofs.Interface.{neither, id_cmp-total, same_id-is, unwrap_first}
+use Rattle.bg_types.proofs.Interface.{id_cmp-total, same_id-is, unwrap_first}
 use Rattle.rga_tree.specs.Tree.{stands_in}
 use Rattle.rga_tree.specs.Elements.{with_element}
 use Rattle.pending_ops.specs.Waiting.{Waiting, follows, is_after, is_ready}
 use Rattle.desk_replica.specs.Placement.{IsParted, PlacesIn}
 use Rattle.desk_replica.proofs.Whole.{some_not, same_unions}
+use Rattle.std.proofs.lemmas.Bool.{or_parts}
 
 -- what is placed and held after one step, at each identifier
 pub record Stepped (t h : OperationSet) (ready : Identifier → Bool) (id : Identifier) (node : Node) (u v : OperationSet) (next : Identifier → Bool) : Type 0 where
@@ -80,7 +81,7 @@ module _ (t h : OperationSet) (ready : Identifier → Bool) (id : Identifier) (n
   waits_now : (q : Identifier) (n : Node) → map.get v.ins q ≡ Some n → next q ≡ false → stands_in u n.parent ≡ false
   waits_now q n e r =
       let b = back q n (same_id q id) (sym (s.held_ins q) ∙ e) in
-      let k = neither (ready q) (is_after n.parent id) (sym (ready_now q n e) ∙ r) in
+      let k = or_parts (ready q) (is_after n.parent id) (sym (ready_now q n e) ∙ r) in
       still_absent n.parent k.1 (d.waits q n b.1 k.0)
 
   early_now : (q : Identifier) → map.contains_key u.ins q ≡ true → set.contains v.del q ≡ false

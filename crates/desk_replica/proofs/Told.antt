@@ -17,7 +17,7 @@ use Rattle.rga_tree.specs.Row.{hidden_ids, ids_of}
 use Rattle.rga_tree.proofs.Interface.{Entry, IsDistinct-walked, IsAttached-tree, listed-attached}
 use Rattle.pending_ops.specs.Chains.{AreApart, is_in}
 use Rattle.pending_ops.specs.Waiting.{Waiting, ListsOnce}
-use Rattle.pending_ops.proofs.Interface.{IsDistinct-apart, is_in-slice_get}
+use Rattle.pending_ops.proofs.Interface.{IsDistinct-apart, is_in-slice_get, one_place}
 use Rattle.desk_replica.specs.Desk.{Desk, insertion_of}
 use Rattle.desk_replica.specs.Told.{told}
 use Rattle.desk_replica.specs.Placement.{IsSettled, waiting_in, whole}
@@ -28,26 +28,7 @@ use Rattle.desk_replica.proofs.Desks.{desk_of}
 use Rattle.desk_replica.proofs.Lists.{slice_get-left, slice_get-right, slice_get-from, slice_get-to, slice_get-take, length-each}
 use Rattle.desk_replica.proofs.ElementPlaces.{element_at, element_for}
 use Rattle.desk_replica.proofs.OnceEach.{Lists, Once, lists_size}
-
-or_left : (a b : Bool) → a ≡ true → (a || b) ≡ true
-or_left a b h = ap (λ c. c || b) h
-
-or_right : (a b : Bool) → b ≡ true → (a || b) ≡ true
-or_right true b h = refl
-or_right false b h = h
-
--- those that stand once stand in one place
-one_place : (xs : List Identifier) (i j : ℕ) (x : Identifier) → AreApart xs → slice_get xs i ≡ Some x → slice_get xs j ≡ Some x → i ≡ j
-one_place [] zero j x h f g = absurd (let e : None ≡ Some x = f in cc)
-one_place [] (suc i) j x h f g = absurd (let e : None ≡ Some x = f in cc)
-one_place (y ∷ ys) zero zero x h f g = refl
-one_place (y ∷ ys) zero (suc j) x h f g =
-    let same : y ≡ x = let e : Some y ≡ Some x = f in cc in
-    absurd (true≢false (sym (is_in-slice_get ys j x g) ∙ ap (is_in ys) (sym same) ∙ h.0))
-one_place (y ∷ ys) (suc i) zero x h f g =
-    let same : y ≡ x = let e : Some y ≡ Some x = g in cc in
-    absurd (true≢false (sym (is_in-slice_get ys i x f) ∙ ap (is_in ys) (sym same) ∙ h.0))
-one_place (y ∷ ys) (suc i) (suc j) x h f g = ap (λ n. suc n) (one_place ys i j x h.1 f g)
+use Rattle.std.proofs.lemmas.Bool.{or_left, or_right}
 
 -- ---- the hidden ones of a row
 

@@ -10,7 +10,8 @@ use Rattle.bg_types.specs.OperationSet.{OperationSet}
 use Rattle.bg_types.proofs.Interface.{same_id-is, same_id-itself}
 use Rattle.rga_tree.specs.Elements.{element_of}
 use Rattle.rga_tree.proofs.Interface.{Entry, IsAbsent, AreDistinct, same_id-swap, all_passing, all_weaker_by}
-use Rattle.desk_replica.proofs.Lists.{all_at, within-slice_get}
+use Rattle.desk_replica.proofs.Lists.{all_at}
+use Rattle.std.proofs.lemmas.Option.{slice_get_within}
 
 -- none of the absent identifier passes
 not_among : (a : Identifier) (p : Entry → Bool) (es : List Entry) (j : ℕ) (x : Entry) → IsAbsent a es → slice_get (filter p es) j ≡ Some x → same_id a x.0 ≡ false
@@ -23,7 +24,7 @@ one_of_some x y e = cc
 -- after the j-th passing element, which is the only one of its identifier
 pub filter-behind : (p : Entry → Bool) (n : Entry) (es : List Entry) (j m : ℕ) (x : Entry) → p n ≡ true → AreDistinct es → slice_get (filter p es) j ≡ Some x
     → m ≡ prefix_len (λ e. not (same_id x.0 e.0)) es + 1 → filter p (insert es m n) ≡ insert (filter p es) (suc j) n
-filter-behind p n [] j m x passes distinct h e = absurd (let w = within-slice_get [] j x h in omega arith)
+filter-behind p n [] j m x passes distinct h e = absurd (let w = slice_get_within [] j x h in omega arith)
 filter-behind p n (y ∷ es) j zero x passes distinct h e = absurd (omega arith)
 filter-behind p n (y ∷ es) j (suc m) x passes distinct h e =
     elim (same_id x.0 y.0) as (λ b. same_id x.0 y.0 ≡ b → suc m ≡ cond (not b) (1 + prefix_len (λ z. not (same_id x.0 z.0)) es) 0 + 1 → filter p (y ∷ insert es m n) ≡ insert (filter p (y ∷ es)) (suc j) n) [
@@ -86,7 +87,7 @@ lower k q h = ap (λ o. is_lt (ordering_then o (nat_cmp k.site q.site))) (sym (n
 
 -- without the j-th passing element, which is the only one of its identifier
 pub filter-without : (p q : Entry → Bool) (es : List Entry) (j : ℕ) (x : Entry) → ((e : Entry) → q e ≡ (not (same_id e.0 x.0) && p e)) → AreDistinct es → slice_get (filter p es) j ≡ Some x → filter q es ≡ remove (filter p es) j
-filter-without p q [] j x marks distinct h = absurd (let w = within-slice_get [] j x h in omega arith)
+filter-without p q [] j x marks distinct h = absurd (let w = slice_get_within [] j x h in omega arith)
 filter-without p q (y ∷ es) j x marks distinct h = by (same_id x.0 y.0) (p y) j refl refl h (λ i k. filter-without p q es i x marks distinct.1 k)
   where
     turned : (b : Bool) → same_id x.0 y.0 ≡ b → same_id y.0 x.0 ≡ b

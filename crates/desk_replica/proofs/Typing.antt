@@ -35,6 +35,7 @@ use Rattle.desk_replica.proofs.Admitting.{IsContent}
 use Rattle.desk_replica.specs.Desk.{Desk}
 use Rattle.desk_replica.proofs.Desks.{desk_of}
 use Rattle.desk_replica.proofs.Typed.{filter-behind, filter-front, filter-without, each-insert, each-remove, prefix_row, none_greater, lower}
+use Rattle.std.proofs.lemmas.Bool.{or_parts}
 
 -- ---- the next counter is above all
 
@@ -73,10 +74,6 @@ module _ (s : OperationSet) (id : Identifier) (is : id.counter ≡ next s) where
 not_held : (a b : Option Node) → unwrap_first a b ≡ None → (a ≡ None) × (b ≡ None)
 not_held None b e = (refl, e)
 not_held (Some n) b e = let f : Some n ≡ None = e in absurd cc
-
-or_parts : (a b : Bool) → (a || b) ≡ false → (a ≡ false) × (b ≡ false)
-or_parts true b e = absurd (true≢false e)
-or_parts false b e = (refl, e)
 
 module _ (t h : OperationSet) (wh : AllWellFormed h) (c : IsContent t) (d : IsParted t h (λ _. false)) (id : Identifier) (parent : Place) (ch : ℕ)
     (is : id.counter ≡ next (union t h)) (formed : IsWellFormed (Insert id parent ch)) (stands : stands_in t parent ≡ true) where

@@ -10,10 +10,6 @@ use Rattle.bg_types.proofs.Interface.{id_cmp-total, same_sets, get-union, unwrap
 pub contains-union : (t h : OperationSet) (q : Identifier) → set.contains (union t h).del q ≡ (set.contains t.del q || set.contains h.del q)
 contains-union t h q = set.contains-union id_cmp-total t.del h.del q
 
-pub none_of : (o : Option Node) → is_some o ≡ false → o ≡ None
-none_of None h = refl
-none_of (Some n) h = absurd cc
-
 pub some_not : (n : Node) (A : Type 0) → None ≡ Some n → A
 some_not n A e = cc
 

@@ -28,14 +28,14 @@ use Rattle.desk_replica.specs.WorldStep.{WorldState, WorldStep, site_at, typed_t
 use Rattle.desk_replica.specs.WorldRun.{AreSites, WorldRun, empty_world, IsLater, IsWorld, all_made}
 use Rattle.desk_replica.proofs.Merges.{between_start, disagree_apart}
 use Rattle.desk_replica.proofs.Refusals.{reused_apart}
-use Rattle.desk_replica.proofs.Lists.{within-slice_get}
 use Rattle.desk_replica.proofs.Typing.{new_ins, visible_attached}
 use Rattle.desk_replica.proofs.Worlds.{IsSound, IsSound-grown, IsSound-made, agree_parts, joins_part}
+use Rattle.std.proofs.lemmas.Option.{slice_get_within}
 
 -- ---- lists
 
 pub listed_at : {X : Type 0} (xs : List X) (j : ℕ) (x : X) → slice_get xs j ≡ Some x → Contains xs x
-listed_at [] j x h = absurd (let w = within-slice_get [] j x h in omega arith)
+listed_at [] j x h = absurd (let w = slice_get_within [] j x h in omega arith)
 listed_at (y ∷ xs) zero x h = (zero, omega arith, some_is y x h)
 listed_at (y ∷ xs) (suc j) x h = Contains-append_right (y ∷ []) xs x (listed_at xs j x h)
 
@@ -169,7 +169,7 @@ IsSound-empty sites = record {
   well_formed = λ op h. absurd (Holds-no_operations op h);
   part = λ d op h. subst (λ (s : OperationSet). Holds s op) (nothing_at (length sites) d) h;
   own = λ d op at h is. absurd (Holds-no_operations op h);
-  once = λ i j id p q a b at_i at_j. absurd (let w = within-slice_get [] i (Insert id p a) at_i in omega arith);
+  once = λ i j id p q a b at_i at_j. absurd (let w = slice_get_within [] i (Insert id p a) at_i in omega arith);
 }
   where
     nothing_at : (n d : ℕ) → set_at (replicate n no_operations) d ≡ no_operations
@@ -213,7 +213,7 @@ desk_later sites w v world later d op held = part_later sites w v world later op
 
 pub no_reuse : (sites : List ℕ) → AreSites sites → (w v : WorldState) (steps : List Step) (replies : List Reply) → IsSound sites w → WorldRun sites w steps replies v → (k d n : ℕ)
     → (slice_get steps k ≡ Some (Deliver d n)) ⊎ (slice_get steps k ≡ Some (Merge d n)) → slice_get replies k ≡ Some (Refused 1) → ⊥
-no_reuse sites are w v [] [] sound run k d n step reply = absurd (let l = within-slice_get [] k (Refused 1) reply in omega arith)
+no_reuse sites are w v [] [] sound run k d n step reply = absurd (let l = slice_get_within [] k (Refused 1) reply in omega arith)
 no_reuse sites are w v [] (r ∷ replies) sound run k d n step reply = run
 no_reuse sites are w v (s ∷ steps) [] sound run k d n step reply = run
 no_reuse sites are w v (s ∷ steps) (r ∷ replies) sound run (suc k) d n step reply = no_reuse sites are run.0 v steps replies (IsSound-step sites are w sound s r run.0 run.1) run.2 k d n step reply

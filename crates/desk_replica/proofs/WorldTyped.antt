@@ -12,7 +12,7 @@ use Rattle.rga_tree.specs.Walk.{walk, walked_ids}
 use Rattle.rga_tree.specs.Attached.{IsAttached}
 use Rattle.rga_tree.specs.TextOf.{text, visible, visible_ids, is_erased}
 use Rattle.rga_tree.specs.Order.{StandsBefore, Precedes, StandsBetween}
-use Rattle.rga_tree.proofs.Interface.{Entry, StandsBefore-unfiltered, Precedes-attached, StandsBetween-typed, walk-typed_behind, walk-typed_first}
+use Rattle.rga_tree.proofs.Interface.{Entry, StandsBefore-unfiltered, Precedes-attached, StandsBetween-typed, walk-typed_behind, walk-typed_first, filter_ids}
 use Rattle.desk_replica.specs.declared.world.step.Step.{Step}
 use Rattle.desk_replica.specs.declared.world.step.Step.TheVariants.{Typed}
 use Rattle.desk_replica.specs.declared.world.step.Reply.{Reply}
@@ -21,28 +21,20 @@ use Rattle.desk_replica.specs.DeskSets.{set_at}
 use Rattle.desk_replica.specs.Typing.{parent_at}
 use Rattle.desk_replica.specs.WorldStep.{WorldState, WorldStep, next_identifier, site_at}
 use Rattle.desk_replica.specs.WorldRun.{IsLater, IsWorld, empty_world}
-use Rattle.desk_replica.proofs.Lists.{slice_get-from, slice_get-within, within-slice_get, length-each}
+use Rattle.desk_replica.proofs.Lists.{slice_get-from, slice_get-within, length-each}
 use Rattle.desk_replica.proofs.Typed.{each-insert}
 use Rattle.desk_replica.proofs.Typing.{new_del}
 use Rattle.desk_replica.proofs.WorldLaws.{well_formed_there, order_worlds}
 use Rattle.desk_replica.proofs.WorldRuns.{IsSound-world}
 use Rattle.desk_replica.proofs.WorldSteps.{run_on}
+use Rattle.std.proofs.lemmas.Option.{slice_get_within}
 
 -- ---- what stands at a place of a list
 
-filter_ids : (p : Identifier → Bool) (es : List Entry) → each (λ e. e.0) (filter (λ e. p e.0) es) ≡ filter p (each (λ e. e.0) es)
-filter_ids p [] = refl
-filter_ids p (e ∷ es) =
-    let rest = filter_ids p es in
-    elim (p e.0) as (λ b. each (λ (x : Entry). x.0) (cond b (e ∷ filter (λ x. p x.0) es) (filter (λ x. p x.0) es)) ≡ cond b (e.0 ∷ filter p (each (λ x. x.0) es)) (filter p (each (λ x. x.0) es))) [
-      | true ↦ ap (λ r. e.0 ∷ r) rest
-      | false ↦ rest
-    ]
-
 -- one place and the next
 neighbours : (ids : List Identifier) (k : ℕ) (a b : Identifier) → slice_get ids k ≡ Some a → slice_get ids (suc k) ≡ Some b → StandsBefore ids a b
-neighbours [] k a b at_a at_b = absurd (let w = within-slice_get [] k a at_a in omega arith)
-neighbours (x ∷ []) zero a b at_a at_b = absurd (let w = within-slice_get (x ∷ []) 1 b at_b in omega arith)
+neighbours [] k a b at_a at_b = absurd (let w = slice_get_within [] k a at_a in omega arith)
+neighbours (x ∷ []) zero a b at_a at_b = absurd (let w = slice_get_within (x ∷ []) 1 b at_b in omega arith)
 neighbours (x ∷ y ∷ ids) zero a b at_a at_b =
     let here : x ≡ a = cc in
     let next : y ≡ b = cc in
@@ -87,7 +79,7 @@ split_one p true y x es vs k is rest h = split_seen p y x es vs k is rest h
 split_one p false y x es vs k is rest h = split_unseen p y x es k is (rest k h)
 
 split_at : (p : Entry → Bool) (es : List Entry) (k : ℕ) (x : Entry) → slice_get (filter p es) k ≡ Some x → IsSplit p es k x
-split_at p [] k x h = absurd (let w = within-slice_get [] k x h in omega arith)
+split_at p [] k x h = absurd (let w = slice_get_within [] k x h in omega arith)
 split_at p (y ∷ es) k x h = split_one p (p y) y x es (filter p es) k refl (λ j. split_at p es j x) h
 
 -- one more that passes, directly after one that does

@@ -20,7 +20,7 @@ use Rattle.desk_replica.specs.DeskSets.{set_at, with_set}
 use Rattle.desk_replica.specs.WorldStep.{WorldState, site_at, with_made}
 use Rattle.desk_replica.specs.WorldRun.{all_made}
 use Rattle.desk_replica.proofs.Merges.{may_join, between_start}
-use Rattle.desk_replica.proofs.Lists.{within-slice_get}
+use Rattle.std.proofs.lemmas.Option.{slice_get_within}
 
 -- the operation inserts a character of this site
 abbrev pub IsOf : ℕ → OpView → Type 0
@@ -86,7 +86,7 @@ module _ (sites : List ℕ) (w : WorldState) (sound : IsSound sites w) (d : ℕ)
 
 pushed : (made : List OpView) (op x : OpView) (i : ℕ) → slice_get (made ++ op ∷ []) i ≡ Some x → (slice_get made i ≡ Some x) ⊎ ((i ≡ length made) × (op ≡ x))
 pushed [] op x zero h = inr (refl, some_is op x h)
-pushed [] op x (suc i) h = absurd (let w = within-slice_get (op ∷ []) (suc i) x h in omega arith)
+pushed [] op x (suc i) h = absurd (let w = slice_get_within (op ∷ []) (suc i) x h in omega arith)
 pushed (y ∷ made) op x zero h = inl h
 pushed (y ∷ made) op x (suc i) h = elim (pushed made op x i h) [ inl old ↦ inl old | inr new ↦ inr (ap (λ n. suc n) new.0, new.1) ]
 

@@ -11,17 +11,14 @@ use Rattle.line_break.specs.declared.context.Before.{Before}
 use Rattle.line_break.specs.declared.context.After.{After}
 use Rattle.line_break.specs.Rules.{Rule, holds, first_rule, rules, point_rules, mandatory, explicit, item_rules, joiners, enclosing, spaces, quotations, contingent, hyphens, late_rules, ideographs, numbers, syllables, letters, between_letters}
 use Rattle.line_break.proofs.Letters.{no-other}
-use Rattle.line_break.proofs.RuleTable.{AllGive, cases, at_rule, past_rule, at_section, past_section, joiners-give, enclosing-give, quotations-give, hyphens-give, ideographs-give, numbers-give, syllables-give}
+use Rattle.line_break.proofs.RuleTable.{AllGive, at_rule, past_rule, at_section, past_section, joiners-give, enclosing-give, quotations-give, hyphens-give, ideographs-give, numbers-give, syllables-give}
+use Rattle.bg_types.proofs.Interface.{two_cases}
+use Rattle.std.proofs.lemmas.Bool.{or_parts}
 
 -- both of two tests
 both : (x y : Bool) → true ≡ (x && y) → (x ≡ true) × (true ≡ y)
 both true y h = (refl, h)
 both false y h = absurd (cc)
-
--- neither of two tests
-neither : (x y : Bool) → (x || y) ≡ false → (x ≡ false) × (y ≡ false)
-neither false y h = (refl, h)
-neither true y h = absurd (cc)
 
 fails : (x : Bool) → true ≡ not x → x ≡ false
 fails false h = refl
@@ -30,12 +27,12 @@ fails true h = absurd (cc)
 module _ (b : Before) (a : After) where
   -- a rule of no break, whether it holds or not
   no-rule : (r : Rule) (rest : List Rule) → r.status ≡ No → No ≡ first_rule rest May b a → No ≡ first_rule (r ∷ rest) May b a
-  no-rule r rest g k = cases (holds b a r) (λ e. at_rule b a No May r rest g (sym e)) (λ e. past_rule b a No May r rest (sym e) k)
+  no-rule r rest g k = two_cases (holds b a r) (λ e. at_rule b a No May r rest g (sym e)) (λ e. past_rule b a No May r rest (sym e) k)
 
   -- a section of such rules
   no-section : (section rest : List Rule) → AllGive No section → No ≡ first_rule rest May b a → No ≡ first_rule (section ++ rest) May b a
   no-section section rest g k =
-      cases (list_any (holds b a) section)
+      two_cases (list_any (holds b a) section)
       (λ e. at_section b a No May section rest g (sym e))
       (λ e. past_section b a No May section rest (sym e) k)
 
@@ -86,7 +83,7 @@ module _ (b : Before) (a : After) where
       let one = both (one_of (Al ∷ Hl ∷ []) b.item) _ h in
       let two = both (one_of (Al ∷ Hl ∷ []) a.item) _ one.1 in
       let three = both (not (one_of (Bk ∷ Cr ∷ Lf ∷ Nl ∷ []) b.point)) _ two.1 in
-      let ends = neither (sameb the_type Bk b.point) _ (fails _ (sym three.0)) in
+      let ends = or_parts (sameb the_type Bk b.point) _ (fails _ (sym three.0)) in
       all-no one.0 two.0
       (ap (λ t. t || false) ends.0)
       ends.1

@@ -6,6 +6,7 @@ use Rattle.line_break.specs.declared.context.Before.{Before}
 use Rattle.line_break.specs.Classes.{one_of}
 use Rattle.line_break.specs.Items.{is_mark, takes_marks, as_base, with_point, items}
 use Rattle.line_break.specs.Context.{class_of, before_by, before}
+use Rattle.bg_types.proofs.Interface.{two_cases}
 
 fold-push : {A B : Type 0} (f : A → B → A) (a : A) (xs : List B) (x : B) → fold f a (xs ++ x ∷ []) ≡ f (fold f a xs) x
 fold-push f a [] x = refl
@@ -21,10 +22,6 @@ before-push front p =
     ap (λ l. before_by (class_of l) (items (front ++ p ∷ []))) (fold-push (λ _ q. q ∷ []) [] front p)
     ∙ ap (before_by p.class) (items-push front p)
 
-cases : {P : Type 0} (b : Bool) → (b ≡ true → P) → (b ≡ false → P) → P
-cases true f g = f refl
-cases false f g = g refl
-
 takes_marks-sp : takes_marks Sp ≡ false
 unfolding one_of
 takes_marks-sp = refl
@@ -36,9 +33,9 @@ with_point-mark (i ∷ its) p m t = rw m (rw t refl)
 
 -- another code point begins one
 with_point-base : (its : List Item) (p : Item) → (is_mark p.class && takes_marks (class_of its)) ≡ false → with_point its p ≡ as_base p ∷ its
-with_point-base [] p n = cases (is_mark p.class) (λ m. rw m refl) (λ m. rw m refl)
+with_point-base [] p n = two_cases (is_mark p.class) (λ m. rw m refl) (λ m. rw m refl)
 with_point-base (i ∷ its) p n =
-    cases (is_mark p.class)
+    two_cases (is_mark p.class)
     (λ m. let t : takes_marks i.class ≡ false = sym (ap (λ b. b && takes_marks i.class) m) ∙ n in rw m (rw t refl))
     (λ m. rw m refl)
 
@@ -53,7 +50,7 @@ module _ (b : Before) (front : List Item) (e : b ≡ before front) where
 
   pub before-mark : (p : Item) → (is_mark p.class && takes_marks b.item) ≡ true → before_by p.class (items front) ≡ before (front ++ p ∷ [])
   before-mark p t =
-      cases (is_mark p.class)
+      two_cases (is_mark p.class)
       (λ m. let k : takes_marks (class_of (items front)) ≡ true = ap takes_marks (sym item-is) ∙ sym (ap (λ v. v && takes_marks b.item) m) ∙ t in
       sym (before-push front p ∙ ap (before_by p.class) (with_point-mark (items front) p m k)))
       (λ m. absurd (let k = sym (ap (λ v. v && takes_marks b.item) m) ∙ t in cc))

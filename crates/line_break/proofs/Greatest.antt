@@ -2,10 +2,7 @@
 use Rattle.std.proofs.Common.{◌≡◌, ℕ, zero, suc, ◌<◌, ◌≤◌, Bool, true, false, Option, Some, None, cond, unwrap_or, inl, inr, refl, ap, sym, subst, ◌∙◌, arith}
 use Rattle.std.proofs.lemmas.Bool.Decides.{eqb_tells}
 use Rattle.line_break.specs.Lines.{greatest}
-
-pub cases : {P : Type 0} (b : Bool) → (b ≡ true → P) → (b ≡ false → P) → P
-cases true f g = f refl
-cases false f g = g refl
+use Rattle.bg_types.proofs.Interface.{two_cases}
 
 module _ (passes : ℕ → Bool) where
   greatest-here : (n : ℕ) → passes (suc n) ≡ true → greatest passes (suc n) ≡ Some (suc n)
@@ -39,6 +36,6 @@ module _ (passes : ℕ → Bool) where
   unfolding greatest
   greatest-within zero d bound low high le = (low, high)
   greatest-within (suc n) d bound low high le =
-      cases (passes (suc n))
+      two_cases (passes (suc n))
       (λ h. subst (λ (o : Option ℕ). (1 ≤ unwrap_or o d) × (unwrap_or o d ≤ bound)) (sym (greatest-here n h)) (omega arith, le))
       (λ h. subst (λ (o : Option ℕ). (1 ≤ unwrap_or o d) × (unwrap_or o d ≤ bound)) (sym (greatest-below n h)) (greatest-within n d bound low high (omega arith)))

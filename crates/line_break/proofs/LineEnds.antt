@@ -8,8 +8,9 @@ use Rattle.line_break.specs.declared.cluster.Cluster.{Cluster}
 use Rattle.line_break.specs.declared.status.Break.{Break}
 use Rattle.line_break.specs.declared.status.Break.TheVariants.{Must, May, No}
 use Rattle.line_break.specs.Lines.{columns, fits, is_must, is_break, status_at, is_in_reach, is_opportunity, greatest, line_len}
-use Rattle.line_break.proofs.Greatest.{cases, greatest-none, greatest-is}
+use Rattle.line_break.proofs.Greatest.{greatest-none, greatest-is}
 use Rattle.line_break.proofs.Tails.{solid, solid-append, solid-grows, columns-append}
+use Rattle.bg_types.proofs.Interface.{two_cases}
 
 take-add : (cl : List Cluster) (s e : ℕ) → take (s + e) cl ≡ take s cl ++ take e (drop s cl)
 take-add cl zero e = let k : zero + e ≡ e = omega arith in ap (λ n. take n cl) k
@@ -148,7 +149,7 @@ module _ (cl : List Cluster) (w : ℕ) where
     passes-no : (e : ℕ) → is_opportunity (drop s cl) e ≡ false → passes e ≡ false
     unfolding passes
     passes-no e h =
-        cases (is_in_reach w (drop s cl) e)
+        two_cases (is_in_reach w (drop s cl) e)
         (λ r. ap (λ b. b && is_opportunity (drop s cl) e) r ∙ h)
         (λ r. ap (λ b. b && is_opportunity (drop s cl) e) r)
 

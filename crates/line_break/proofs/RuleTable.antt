@@ -7,15 +7,12 @@ use Rattle.line_break.specs.declared.context.Before.{Before}
 use Rattle.line_break.specs.declared.context.After.{After}
 use Rattle.line_break.specs.declared.status.Break.TheVariants.{May, No}
 use Rattle.line_break.specs.Rules.{Rule, holds, first_rule, joiners, enclosing, quotations, contingent, hyphens, ideographs, numbers, syllables, letters, parentheses, pairs}
+use Rattle.bg_types.proofs.Interface.{two_cases}
 
 -- each of these rules has this status
 abbrev pub AllGive : Break → List Rule → Type 0
 AllGive s [] = Unit {0}
 AllGive s (r ∷ rules) = (r.status ≡ s) × AllGive s rules
-
-pub cases : {P : Type 0} (b : Bool) → (b ≡ true → P) → (b ≡ false → P) → P
-cases true f g = f refl
-cases false f g = g refl
 
 module _ (b : Before) (a : After) (s otherwise : Break) where
   -- the first rule holds
@@ -32,7 +29,7 @@ module _ (b : Before) (a : After) (s otherwise : Break) where
   pub at_section : (section rest : List Rule) → AllGive s section → true ≡ list_any (holds b a) section → s ≡ first_rule (section ++ rest) otherwise b a
   at_section [] rest g h = absurd (cc)
   at_section (r ∷ section) rest g h =
-      cases (holds b a r)
+      two_cases (holds b a r)
       (λ e. at_rule r (section ++ rest) g.0 (sym e))
       (λ e. past_rule r (section ++ rest) (sym e) (at_section section rest g.1 (h ∙ ap (λ t. t || list_any (holds b a) section) e)))
 
@@ -41,7 +38,7 @@ module _ (b : Before) (a : After) (s otherwise : Break) where
       → s ≡ first_rule (section ++ rest) otherwise b a
   past_section [] rest h k = k
   past_section (r ∷ section) rest h k =
-      cases (holds b a r)
+      two_cases (holds b a r)
       (λ e. absurd (let f = h ∙ ap (λ t. t || list_any (holds b a) section) e in cc))
       (λ e. past_rule r (section ++ rest) (sym e) (past_section section rest (h ∙ ap (λ t. t || list_any (holds b a) section) e) k))
 

@@ -5,10 +5,7 @@ use Rattle.std.specs.List.{list_all}
 use Rattle.line_break.specs.declared.cluster.Cluster.{Cluster}
 use Rattle.line_break.specs.LineClusters.{hangs}
 use Rattle.line_break.specs.Lines.{without_tail, columns}
-
-cases : {P : Type 0} (b : Bool) → (b ≡ true → P) → (b ≡ false → P) → P
-cases true f g = f refl
-cases false f g = g refl
+use Rattle.bg_types.proofs.Interface.{two_cases}
 
 -- the columns outside the tail
 abbrev pub solid : List Cluster → ℕ
@@ -32,7 +29,7 @@ solid-le [] = omega arith
 solid-le (c ∷ xs) =
     let more = columns-cons c xs in
     let later = solid-le xs in
-    cases (list_all hangs (c ∷ xs))
+    two_cases (list_all hangs (c ∷ xs))
     (λ h. let e = solid-hangs (c ∷ xs) h in omega arith)
     (λ h. let e = solid-stands c xs h in omega arith)
 
@@ -46,7 +43,7 @@ and_false false = refl
 
 all-append : (xs ys : List Cluster) → list_all hangs (xs ++ ys) ≡ (list_all hangs xs && list_all hangs ys)
 all-append [] ys = refl
-all-append (c ∷ xs) ys = cases (hangs c) (λ h. rw h (all-append xs ys)) (λ h. rw h refl)
+all-append (c ∷ xs) ys = two_cases (hangs c) (λ h. rw h (all-append xs ys)) (λ h. rw h refl)
 
 -- a stretch and a stretch that hangs
 pub solid-append-hangs : (xs ys : List Cluster) → list_all hangs ys ≡ true → solid (xs ++ ys) ≡ solid xs
@@ -54,7 +51,7 @@ solid-append-hangs [] ys h = solid-hangs ys h
 solid-append-hangs (c ∷ xs) ys h =
     let same : list_all hangs (c ∷ (xs ++ ys)) ≡ list_all hangs (c ∷ xs) =
     all-append (c ∷ xs) ys ∙ ap (λ b. list_all hangs (c ∷ xs) && b) h ∙ and_true (list_all hangs (c ∷ xs)) in
-    cases (list_all hangs (c ∷ xs))
+    two_cases (list_all hangs (c ∷ xs))
     (λ a. solid-hangs (c ∷ (xs ++ ys)) (same ∙ a) ∙ sym (solid-hangs (c ∷ xs) a))
     (λ a. solid-stands c (xs ++ ys) (same ∙ a) ∙ ap (λ n. c.columns + n) (solid-append-hangs xs ys h) ∙ sym (solid-stands c xs a))
 
@@ -72,7 +69,7 @@ solid-append-stands (c ∷ xs) ys h =
 -- one more cluster
 pub solid-push : (xs : List Cluster) (c : Cluster) → solid (xs ++ c ∷ []) ≡ cond (hangs c) (solid xs) (columns xs + c.columns)
 solid-push xs c =
-    cases (hangs c)
+    two_cases (hangs c)
     (λ h. let one : list_all hangs (c ∷ []) ≡ true = ap (λ b. b && true) h in
     solid-append-hangs xs (c ∷ []) one ∙ ap (λ b. cond b (solid xs) (columns xs + c.columns)) (sym h))
     (λ h. let one : list_all hangs (c ∷ []) ≡ false = ap (λ b. b && true) h in
@@ -85,13 +82,13 @@ solid-push xs c =
 pub solid-append : (xs ys : List Cluster) → solid ys ≡ solid (xs ++ ys) - columns xs
 solid-append xs ys =
     let small = solid-le xs in
-    cases (list_all hangs ys)
+    two_cases (list_all hangs ys)
     (λ h. let e = solid-append-hangs xs ys h in let f = solid-hangs ys h in omega arith)
     (λ h. let e = solid-append-stands xs ys h in omega arith)
 
 pub solid-grows : (xs ys : List Cluster) → solid xs ≤ solid (xs ++ ys)
 solid-grows xs ys =
     let small = solid-le xs in
-    cases (list_all hangs ys)
+    two_cases (list_all hangs ys)
     (λ h. let e = solid-append-hangs xs ys h in omega arith)
     (λ h. let e = solid-append-stands xs ys h in omega arith)

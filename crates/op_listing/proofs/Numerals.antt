@@ -4,7 +4,7 @@ use Rattle.std.proofs.Math.Nat.{pow-le-pow_right}
 use Rattle.std.specs.Prelude.{SomeIff}
 use Rattle.std.specs.Char.{digit_value}
 use Rattle.std.specs.Str.Parse.{AllDigits, digits_value}
-use Rattle.std.proofs.lemmas.Bool.{cases_lt}
+use Rattle.std.proofs.lemmas.Bool.{cases_lt, and_parts}
 use Rattle.std.proofs.lemmas.Int.Digits.{digits_value-lt, digits_value_more, digits_more}
 use Rattle.std.proofs.lemmas.Str.Parse.{digits_value-take-le}
 use borrow.Author.Tests.{ltb-true, lt-ltb, le-leb, lt-leb}
@@ -12,10 +12,6 @@ use Rattle.op_listing.specs.Number.{is_digits, number_in, up_to}
 use Rattle.op_listing.specs.Line.{counter_in, scalar_in}
 
 -- ---- digits
-
-and-true : (a b : Bool) → (a && b) ≡ true → (a ≡ true) × (b ≡ true)
-and-true true b e = (refl, e)
-and-true false b e = absurd cc
 
 none_of : (a b c : Bool) → (b ≡ false) ⊎ (c ≡ false) → (a && b && c) ≡ false
 none_of true true true (inl e) = e
@@ -26,7 +22,7 @@ none_of false b c e = refl
 
 pub AllDigits-from : (base : ℕ) (word : List ℕ) → is_digits base word ≡ true → AllDigits base word
 AllDigits-from base [] e = tt
-AllDigits-from base (c ∷ cs) e = let both = and-true (ltb (digit_value c) base) (is_digits base cs) e in (ltb-true (digit_value c) base both.0, AllDigits-from base cs both.1)
+AllDigits-from base (c ∷ cs) e = let both = and_parts (ltb (digit_value c) base) (is_digits base cs) e in (ltb-true (digit_value c) base both.0, AllDigits-from base cs both.1)
 
 pub is_digits-from : (base : ℕ) (word : List ℕ) → AllDigits base word → is_digits base word ≡ true
 is_digits-from base [] h = refl

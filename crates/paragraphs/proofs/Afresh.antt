@@ -24,10 +24,7 @@ use Rattle.unicode_segmentation.specs.Segments.{prepend, cut, segments}
 use Rattle.unicode_segmentation.proofs.GraphemeLemmas.{is_grapheme_break-inside}
 use Rattle.unicode_segmentation.proofs.CursorLemmas.{break_between_regionals}
 use Rattle.paragraphs.specs.Clusters.{clusters}
-
-cases : {P : Type 0} (b : Bool) → (b ≡ true → P) → (b ≡ false → P) → P
-cases true f g = f refl
-cases false f g = g refl
+use Rattle.bg_types.proofs.Interface.{two_cases}
 
 -- what joins the character before it, whatever this is, unless it ends all
 abbrev joins : GraphemeClusterBreak → Bool
@@ -127,14 +124,14 @@ module _ (b : ℕ) (bs : List ℕ) (f : ℕ) (later : List ℕ) (broken : is_gra
   unfolding ends_in_pictograph
   pictograph_before j =
       let no_extend : is_extend (grapheme_cluster_break b) ≡ false =
-      cases (is_extend (grapheme_cluster_break b))
+      two_cases (is_extend (grapheme_cluster_break b))
       (λ x. absurd (let m : true ≡ false = sym (joined_extend _ x) ∙ ended_joins _ (ends_before j) in cc)) (λ x. x) in
       ap₂ (λ p x. p || (x && ends_in_pictograph bs)) (neither_before j).1 no_extend
 
   flag_before : is_regional (grapheme_cluster_break f) ≡ true → ends_in_half_flag (b ∷ bs) ≡ false
   unfolding ends_in_half_flag
   flag_before r =
-      cases (is_regional (grapheme_cluster_break b))
+      two_cases (is_regional (grapheme_cluster_break b))
       (λ l. not-true _ (sym (break_between_regionals true (b ∷ bs) f later (omega arith) l r) ∙ broken))
       (λ l. ap (λ x. x && not (ends_in_half_flag bs)) l)
 
@@ -246,7 +243,7 @@ first-piece before (c ∷ []) q qs e = record {
   others = sym (ap (λ (ps : List (List ℕ)). drop 1 ps) e);
 }
 first-piece before (c ∷ d ∷ ds) q qs e =
-    cases (is_grapheme_break true (c ∷ before) (d ∷ (ds ++ [])))
+    two_cases (is_grapheme_break true (c ∷ before) (d ∷ (ds ++ [])))
     (λ broken.
     let here : (c ∷ []) ∷ cut (is_grapheme_break true) (c ∷ before) (d ∷ ds) [] ≡ q ∷ qs =
     sym (ap (λ b. attach b c (cut (is_grapheme_break true) (c ∷ before) (d ∷ ds) [])) broken) ∙ e in

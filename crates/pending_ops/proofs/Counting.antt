@@ -16,10 +16,11 @@ use Rattle.pending_ops.specs.declared.chains.Slot.{Slot}
 use Rattle.pending_ops.specs.Waiting.{is_after}
 use Rattle.pending_ops.specs.Below.{CountsBelow, IsChain}
 use Rattle.pending_ops.specs.Chains.{AreApart, IsChainOf, insertions_of, is_in, names, slot_in}
-use Rattle.pending_ops.proofs.Tables.{AreApart-append, is_in-append, is_in-here, is_in-keys_of, is_in-later, is_in-slice_get, keys_of, length-keys_of, length-le, neither, one_of, same_id-equivalence}
+use Rattle.pending_ops.proofs.Tables.{AreApart-append, is_in-append, is_in-here, is_in-keys_of, is_in-later, is_in-slice_get, keys_of, length-keys_of, length-le, one_of, same_id-equivalence}
 use Rattle.pending_ops.proofs.Views.{contains-from_list, follows-insertions_of}
 use Rattle.pending_ops.proofs.HandingOut.{is_after-one}
 use Rattle.pending_ops.proofs.Listing.{len-from_list}
+use Rattle.std.proofs.lemmas.Bool.{or_parts}
 
 -- the slot of q names one of these
 abbrev pub names_one : (Identifier → Option Slot) → List Identifier → Identifier → Bool
@@ -85,7 +86,7 @@ not_before : (done more : List Identifier) (x : Identifier) → AreApart (done +
 not_before [] more x h = refl
 not_before (y ∷ ys) more x h =
     let apart : (is_in ys y || (same_id y x || is_in more y)) ≡ false = sym (is_in-append y ys (x ∷ more)) ∙ h.0 in
-    let other = (neither (same_id y x) (is_in more y) (neither (is_in ys y) (same_id y x || is_in more y) apart).1).0 in
+    let other = (or_parts (same_id y x) (is_in more y) (or_parts (is_in ys y) (same_id y x || is_in more y) apart).1).0 in
     λ i. (same_id-equivalence.symm x y ∙ other) i || not_before ys more x h.1 i
 
 or_assoc : (a b c : Bool) → ((a || b) || c) ≡ (a || (b || c))

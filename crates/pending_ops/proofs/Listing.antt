@@ -69,7 +69,7 @@ module _ {X : Type 0} where
   length-each f (x ∷ xs) = ap (λ n. suc n) (length-each f xs)
 
 -- those that occur once stand in one place
-one_place : (xs : List Identifier) (i j : ℕ) (x : Identifier) → AreApart xs → slice_get xs i ≡ Some x → slice_get xs j ≡ Some x → i ≡ j
+pub one_place : (xs : List Identifier) (i j : ℕ) (x : Identifier) → AreApart xs → slice_get xs i ≡ Some x → slice_get xs j ≡ Some x → i ≡ j
 one_place [] i j x h f g = let e : None ≡ Some x = f in absurd cc
 one_place (y ∷ ys) zero zero x h f g = refl
 one_place (y ∷ ys) zero (suc j) x h f g =

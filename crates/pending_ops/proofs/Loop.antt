@@ -7,7 +7,7 @@ use Rattle.std.specs.FinSet as set
 use Rattle.bg_types.specs.Identifier.{Identifier, id_cmp, same_id}
 use Rattle.bg_types.specs.OperationSet.{Node, OperationSet}
 use Rattle.bg_types.specs.declared.op.OpView.{OpView}
-use Rattle.bg_types.proofs.Interface.{id_cmp-total, id_cmp-exact, same_id-is, and_parts, or_left}
+use Rattle.bg_types.proofs.Interface.{id_cmp-total, id_cmp-exact, same_id-is, same_tests}
 use Rattle.pending_ops.specs.Waiting.{NoneReady, Releases, Waiting, follows, is_after, is_ready}
 use Rattle.pending_ops.specs.Below.{CountsBelow, IsBelow, IsChain}
 use Rattle.pending_ops.specs.Chains.{AreApart}
@@ -17,6 +17,7 @@ use Rattle.pending_ops.proofs.Views.{contains-from_list}
 use Rattle.pending_ops.proofs.Listing.{len-from_list}
 use Rattle.pending_ops.proofs.OneStep.{after_cut, by_false}
 use Rattle.pending_ops.proofs.Placed.{after_parents, apart, followers_placed, ids, placed_below, ready_placed, rest_of, were_held}
+use Rattle.std.proofs.lemmas.Bool.{and_parts, or_left}
 
 -- one more at the end of the loop
 pub PlacesEach-push : (old : Waiting) (ops : List OpView) (new last : Waiting) (op : OpView) → PlacesEach old ops new → PlacesOne new op last → PlacesEach old (ops ++ op ∷ []) last
@@ -38,17 +39,12 @@ length-ids : (ops : List OpView) → length (ids ops) ≡ length ops
 length-ids [] = refl
 length-ids (op ∷ ops) = ap (λ n. suc n) (length-ids ops)
 
-same_test : (a b : Bool) → (a ≡ true → b ≡ true) → (b ≡ true → a ≡ true) → a ≡ b
-same_test true b f g = sym (f refl)
-same_test false true f g = g refl
-same_test false false f g = refl
-
 -- two counts of the same are one
 counted_once : (s : OperationSet) (id : Identifier) (xs : List Identifier) → AreApart xs → ((q : Identifier) → (is_placed xs q ≡ true) ↔ IsBelow s id q)
     → (n : ℕ) → CountsBelow s id n → n ≡ length xs
 counted_once s id xs once exact n counts =
     let same : counts.0 ≡ set.from_list {R = id_cmp} xs = set.same_set id_cmp-total id_cmp-exact _ _ (λ q.
-    same_test (set.contains counts.0 q) (is_placed xs q) (λ h. (exact q).1 ((counts.1.0 q).0 h)) (λ h. (counts.1.0 q).1 ((exact q).0 h)) ∙ sym (contains-from_list xs q)) in
+    same_tests (set.contains counts.0 q) (is_placed xs q) (λ h. (exact q).1 ((counts.1.0 q).0 h)) (λ h. (counts.1.0 q).1 ((exact q).0 h)) ∙ sym (contains-from_list xs q)) in
     sym counts.1.1 ∙ ap set.len same ∙ len-from_list xs once
 
 module _ (old start new : Waiting) (id : Identifier) (ops : List OpView) (none : NoneReady old) (r : Releases old id start) (h : PlacesEach start ops new) (end : NoneReady new) where

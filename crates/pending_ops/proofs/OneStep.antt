@@ -9,10 +9,11 @@ use Rattle.bg_types.specs.OperationSet.{Node, OperationSet}
 use Rattle.bg_types.specs.declared.op.Place.{Place}
 use Rattle.bg_types.specs.declared.op.Place.TheVariants.{Root, After}
 use Rattle.bg_types.specs.declared.op.OpView.TheVariants.{Insert, Erase}
-use Rattle.bg_types.proofs.Interface.{id_cmp-total, and_parts}
+use Rattle.bg_types.proofs.Interface.{id_cmp-total}
 use Rattle.pending_ops.specs.Waiting.{Waiting, follows, is_after, is_ready, is_released}
 use Rattle.pending_ops.specs.Releasing.{PlacesOne}
 use Rattle.pending_ops.proofs.Tables.{one_of}
+use Rattle.std.proofs.lemmas.Bool.{and_parts}
 
 -- one insertion was held and ready, is no longer held, and what stands right after it is ready too
 pub record Steps (old : Waiting) (id : Identifier) (node : Node) (new : Waiting) : Type 0 where

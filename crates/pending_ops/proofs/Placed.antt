@@ -9,13 +9,14 @@ use Rattle.bg_types.specs.Identifier.{Identifier, same_id}
 use Rattle.bg_types.specs.OperationSet.{Holds, Node, OperationSet}
 use Rattle.bg_types.specs.declared.op.OpView.{OpView}
 use Rattle.bg_types.specs.declared.op.OpView.TheVariants.{Insert, Erase}
-use Rattle.bg_types.proofs.Interface.{same_id-is, or_left, or_right}
+use Rattle.bg_types.proofs.Interface.{same_id-is}
 use Rattle.pending_ops.specs.Waiting.{NoneReady, Waiting, follows, is_after, is_ready}
 use Rattle.pending_ops.specs.Below.{IsBelow}
 use Rattle.pending_ops.specs.Chains.{AreApart}
 use Rattle.pending_ops.specs.Releasing.{FollowPlaced, PlacesEach, is_placed, subject}
 use Rattle.pending_ops.proofs.Tables.{one_of, same_id-equivalence}
 use Rattle.pending_ops.proofs.OneStep.{after_cut, back, by_false, decided, follows_back, no_erasure, not_and, ready_back, some_back, step_of}
+use Rattle.std.proofs.lemmas.Bool.{or_left, or_right}
 
 abbrev pub ids : List OpView → List Identifier
 ids ops = each subject ops

@@ -12,7 +12,8 @@ use Rattle.std.proofs.lemmas.Map.Made.{length-le_from_is_member}
 use Rattle.bg_types.specs.Identifier.{Identifier, same_id}
 use Rattle.bg_types.proofs.Interface.{id_cmp-total, same_id-itself}
 use Rattle.pending_ops.specs.Chains.{AreApart, is_in}
-pub use Rattle.bg_types.proofs.Interface.{neither, one_of}
+pub use Rattle.bg_types.proofs.Interface.{one_of}
+use Rattle.std.proofs.lemmas.Bool.{or_parts}
 
 pub same_id-equivalence : IsEquivalence same_id
 same_id-equivalence = eq_by_cmp_equiv id_cmp-total
@@ -70,7 +71,7 @@ AreApart-append (x ∷ xs) ys h k others =
 
 none_is : (x : Identifier) (xs : List Identifier) → is_in xs x ≡ false → AllByRecursion (λ y. same_id x y ≡ false) xs
 none_is x [] h = tt
-none_is x (y ∷ ys) h = let p = neither (same_id x y) (is_in ys x) h in (p.0, none_is x ys p.1)
+none_is x (y ∷ ys) h = let p = or_parts (same_id x y) (is_in ys x) h in (p.0, none_is x ys p.1)
 
 pub AreApart-distinct : (xs : List Identifier) → AreApart xs → IsDistinct same_id xs
 unfolding IsDistinct

@@ -4,15 +4,12 @@ use Rattle.std.specs.Prelude.{◌||◌, if◌then◌else◌}
 use Rattle.std.specs.List.{list_any, range_with_len, enumerate_from}
 use Rattle.reorder.specs.VisualList.{is_odd, greatest, lowest_odd, numbers, reversed_from, arranged, visual_list}
 use Rattle.reorder.proofs.Rearranged.{numbers-enumerate_from}
-
-neither : (a b : Bool) → (a || b) ≡ false → (a ≡ false) × (b ≡ false)
-neither true b e = (e, ap (λ t. if t then b else false) e)
-neither false b e = (refl, e)
+use Rattle.std.proofs.lemmas.Bool.{or_parts}
 
 lowest-none : (none : ℕ) (levels : List ℕ) → list_any is_odd levels ≡ false → lowest_odd none levels ≡ none
 lowest-none none [] e = refl
 lowest-none none (l ∷ ls) e =
-    let h = neither (is_odd l) (list_any is_odd ls) e in
+    let h = or_parts (is_odd l) (list_any is_odd ls) e in
     ap (λ o. if o then min l (lowest_odd none ls) else lowest_odd none ls) h.0 ∙ lowest-none none ls h.1
 
 -- no round is made

@@ -1,7 +1,8 @@
 -- One cluster left of another in a list.
 use Rattle.std.proofs.Common.{ℕ, zero, suc, ◌≡◌, sym, subst, inl, inr, ◌⊎◌, List, [], ◌∷◌, ◌++◌, reverse, Bool}
 use Rattle.reorder.specs.VisualList.{Cluster, runs_reversed_behind, runs_reversed, is_at_least, reversed_from}
-use Rattle.reorder.proofs.Rounds.{reverse-cons, two_cases, round-pass, round-stop}
+use Rattle.reorder.proofs.Rounds.{reverse-cons, round-pass, round-stop}
+use Rattle.bg_types.proofs.Interface.{two_cases}
 
 -- x is in the list
 unfoldable pub In : Cluster → List Cluster → Type 0

@@ -6,13 +6,10 @@ use Rattle.std.proofs.lemmas.List.{reverse-append}
 use Rattle.std.proofs.lemmas.List.Elements.{All-from_recursion, recursion_from_All}
 use Rattle.std.proofs.lemmas.List.Sorted.{IsPermutation-refl, IsPermutation-trans, IsPermutation-append_right, IsPermutation-cons, IsPermutation-middle, All-permutation}
 use Rattle.reorder.specs.VisualList.{Cluster, runs_reversed_behind, runs_reversed, is_at_least, reversed_from}
+use Rattle.bg_types.proofs.Interface.{two_cases}
 
 pub reverse-cons : (z : Cluster) (zs : List Cluster) → reverse (z ∷ zs) ≡ reverse zs ++ z ∷ []
 reverse-cons z zs = reverse-append (z ∷ []) zs
-
-pub two_cases : {P : Type 0} (b : Bool) → (b ≡ true → P) → (b ≡ false → P) → P
-two_cases true f g = f refl
-two_cases false f g = g refl
 
 -- all levels are at least k
 abbrev pub High : ℕ → List Cluster → Type 0

@@ -9,9 +9,9 @@ use Rattle.bg_types.specs.Identifier.{Identifier, id_cmp}
 use Rattle.bg_types.proofs.Interface.{id_cmp-total}
 use Rattle.rga_tree.specs.declared.element.Element.{Element}
 use Rattle.rga_sequence.specs.Blocks.{FallsFrom}
-use Rattle.rga_sequence.proofs.Least.{is_Less}
 use Rattle.rga_sequence.proofs.Passing.{is_greater}
 use Rattle.rga_sequence.proofs.Shown.{hidden_at}
+use Rattle.rga_tree.proofs.Interface.{less_of}
 
 from_before : (at from to k : ℕ) → from ≤ to → (at < to → from < to) → to ≤ k → at < k → from ≤ k - 1
 from_before at from to k low shifted there less = by_shift (nat_lt at to) refl where
@@ -94,7 +94,7 @@ falls-back es id falls i (suc n) d there h =
     let next = falls (i + n) d (omega arith) (omega (arith, there)) in
     let high : is_greater id (get_or es (i + n + 1) d) ≡ true = ap (λ k. is_greater id (get_or es k d)) (sym s) ∙ h in
     falls-back es id falls i n d (omega (arith, there))
-    (ap is_lt (id_cmp-total.trans id (get_or es (i + n + 1) d).id (get_or es (i + n) d).id (is_Less (id_cmp id (get_or es (i + n + 1) d).id) high) (is_Less (id_cmp (get_or es (i + n + 1) d).id (get_or es (i + n) d).id) next)))
+    (ap is_lt (id_cmp-total.trans id (get_or es (i + n + 1) d).id (get_or es (i + n) d).id (less_of (id_cmp id (get_or es (i + n + 1) d).id) high) (less_of (id_cmp (get_or es (i + n + 1) d).id (get_or es (i + n) d).id) next)))
 
 pub falls-parted : (es : List Element) (id : Identifier) → FallsFrom 0 es → (i j : ℕ) (d : Element) → i ≤ j → j < length es → is_greater id (get_or es j d) ≡ true → is_greater id (get_or es i d) ≡ true
 falls-parted es id falls i j d low there h =

@@ -5,10 +5,10 @@ use Rattle.std.specs.Ordering.{is_lt}
 use Rattle.std.specs.List.{list_all, list_any}
 use Rattle.std.proofs.lemmas.List.{take-append-drop}
 use Rattle.bg_types.specs.Identifier.{Identifier, id_cmp, same_id}
-use Rattle.bg_types.proofs.Interface.{and_parts}
 use Rattle.rga_tree.specs.declared.element.Element.{Element}
 use Rattle.rga_sequence.specs.Blocks.{seen, none_below, is_least}
 use Rattle.rga_sequence.proofs.Least.{lower, itself, not_itself}
+use Rattle.std.proofs.lemmas.Bool.{and_from, and_parts}
 
 seen_with : (l r : List Element) (n : Element) → seen (l ++ n ∷ r) ≡ seen (l ++ r) + cond n.hidden 0 1
 seen_with [] r n = elim n.hidden as (λ h. length (cond (not h) (n ∷ filter (λ e. not e.hidden) r) (filter (λ e. not e.hidden) r)) ≡ seen r + cond h 0 1) [ true ↦ omega arith | false ↦ omega arith ]
@@ -32,12 +32,9 @@ pub weight_le : (h : Bool) → cond h 0 1 ≤ 1
 weight_le true = omega arith
 weight_le false = omega arith
 
-and_both : (a b : Bool) → a ≡ true → b ≡ true → (a && b) ≡ true
-and_both a b p q = ap (λ x. x && b) p ∙ q
-
 pub all_with : (p : Element → Bool) (l r : List Element) (n : Element) → p n ≡ true → list_all p (l ++ r) ≡ true → list_all p (l ++ n ∷ r) ≡ true
-all_with p [] r n here rest = and_both (p n) (list_all p r) here rest
-all_with p (x ∷ l) r n here rest = let q = and_parts (p x) (list_all p (l ++ r)) rest in and_both (p x) (list_all p (l ++ n ∷ r)) q.0 (all_with p l r n here q.1)
+all_with p [] r n here rest = and_from (p n) (list_all p r) here rest
+all_with p (x ∷ l) r n here rest = let q = and_parts (p x) (list_all p (l ++ r)) rest in and_from (p x) (list_all p (l ++ n ∷ r)) q.0 (all_with p l r n here q.1)
 
 any_here : (p : Element → Bool) (l r : List Element) (n : Element) → p n ≡ true → list_any p (l ++ n ∷ r) ≡ true
 any_here p [] r n here = ap (λ b. b || list_any p r) here
@@ -56,12 +53,12 @@ least-insert es i n m h = by_test (is_lt (id_cmp n.id m)) refl where
       let p = and_parts (none_below m es) (list_any (λ e. same_id m e.id) es) h in
       let low = lower m n.id es p.0 lt in
       let whole = take-append-drop i es in
-      and_both (none_below n.id (insert es i n)) (list_any (λ e. same_id n.id e.id) (insert es i n))
+      and_from (none_below n.id (insert es i n)) (list_any (λ e. same_id n.id e.id) (insert es i n))
       (all_with (λ e. not (is_lt (id_cmp e.id n.id))) (take i es) (drop i es) n (not_itself n.id) (ap (none_below n.id) whole ∙ low))
       (any_here (λ e. same_id n.id e.id) (take i es) (drop i es) n (itself n.id))
   by_test false ge =
       let p = and_parts (none_below m es) (list_any (λ e. same_id m e.id) es) h in
       let whole = take-append-drop i es in
-      and_both (none_below m (insert es i n)) (list_any (λ e. same_id m e.id) (insert es i n))
+      and_from (none_below m (insert es i n)) (list_any (λ e. same_id m e.id) (insert es i n))
       (all_with (λ e. not (is_lt (id_cmp e.id m))) (take i es) (drop i es) n (ap not ge) (ap (none_below m) whole ∙ p.0))
       (any_kept (λ e. same_id m e.id) (take i es) (drop i es) n (ap (list_any (λ e. same_id m e.id)) whole ∙ p.1))

@@ -1,17 +1,13 @@
 -- Blocks that are at least half full.
 use Rattle.std.proofs.Common.{◌≡◌, ℕ, zero, suc, ◌<◌, ◌≤◌, ◌+◌, ◌*◌, ◌&&◌, Bool, true, List, [], ◌∷◌, length, get_or, refl, ap, ◌∙◌, length-append, arith}
 use Rattle.std.specs.Prelude.{insert, set, nat_lt}
-use Rattle.std.proofs.lemmas.Bool.{ltb-true, lt-ltb}
-use Rattle.bg_types.proofs.Interface.{and_parts}
+use Rattle.std.proofs.lemmas.Bool.{ltb-true, lt-ltb, and_from, and_parts}
 use Rattle.rga_tree.specs.declared.element.Element.{Element}
 use Rattle.rga_sequence.specs.Blocks.{joined}
 use Rattle.rga_sequence.specs.BlockRows.{are_halves, AreHalfFull}
 
 is_half : (x : List Element) → 255 < length x → nat_lt 255 (length x) ≡ true
 is_half x h = lt-ltb 255 (length x) h
-
-both : (a b : Bool) → a ≡ true → b ≡ true → (a && b) ≡ true
-both a b p q = ap (λ x. x && b) p ∙ q
 
 pub halves_sum : (xs : List (List Element)) → are_halves xs ≡ true → 256 * length xs ≤ length (joined xs)
 halves_sum [] h = omega arith
@@ -48,10 +44,10 @@ halves-set [] (suc q) y h more = refl
 halves-set (x ∷ xs) zero y h more =
     let p = and_parts (nat_lt 255 (length x)) (are_halves xs) h in
     let here : 255 < length x = ltb-true _ _ p.0 in
-    both (nat_lt 255 (length y)) (are_halves xs) (is_half y (omega arith)) p.1
+    and_from (nat_lt 255 (length y)) (are_halves xs) (is_half y (omega arith)) p.1
 halves-set (x ∷ xs) (suc q) y h more =
     let p = and_parts (nat_lt 255 (length x)) (are_halves xs) h in
-    both (nat_lt 255 (length x)) (are_halves (set xs q y)) p.0 (halves-set xs q y p.1 more)
+    and_from (nat_lt 255 (length x)) (are_halves (set xs q y)) p.0 (halves-set xs q y p.1 more)
 
 length_set : (xs : List (List Element)) (q : ℕ) (y : List Element) → length (set xs q y) ≡ length xs
 length_set [] zero y = refl
@@ -67,16 +63,16 @@ halves_split : (xs : List (List Element)) (q : ℕ) (low high : List Element) �
 halves_split [] q low high h there l r = absurd (omega arith)
 halves_split (x ∷ xs) zero low high h there l r =
     let p = and_parts (nat_lt 255 (length x)) (are_halves xs) h in
-    both (nat_lt 255 (length low)) (nat_lt 255 (length high) && are_halves xs) (is_half low l) (both (nat_lt 255 (length high)) (are_halves xs) (is_half high r) p.1)
+    and_from (nat_lt 255 (length low)) (nat_lt 255 (length high) && are_halves xs) (is_half low l) (and_from (nat_lt 255 (length high)) (are_halves xs) (is_half high r) p.1)
 halves_split (x ∷ xs) (suc q) low high h there l r =
     let p = and_parts (nat_lt 255 (length x)) (are_halves xs) h in
-    both (nat_lt 255 (length x)) (are_halves (insert (set xs q low) (suc q) high)) p.0 (halves_split xs q low high p.1 (omega arith) l r)
+    and_from (nat_lt 255 (length x)) (are_halves (insert (set xs q low) (suc q) high)) p.0 (halves_split xs q low high p.1 (omega arith) l r)
 
 -- two halves in place of a block
 pub AreHalfFull-split : (xs : List (List Element)) (q : ℕ) (low high : List Element) → AreHalfFull xs → q < length xs → 255 < length low → 255 < length high → AreHalfFull (insert (set xs q low) (q + 1) high)
 AreHalfFull-split xs q low high h there l r = let s : q + 1 ≡ suc q = omega arith in rw s (λ _. by_row xs q h there) where
   by_row : (xs : List (List Element)) (q : ℕ) → AreHalfFull xs → q < length xs → are_halves (insert (set xs q low) (suc q) high) ≡ true
   by_row [] q h there = absurd (omega arith)
-  by_row (x ∷ []) zero h there = both (nat_lt 255 (length low)) (nat_lt 255 (length high) && true) (is_half low l) (both (nat_lt 255 (length high)) true (is_half high r) refl)
+  by_row (x ∷ []) zero h there = and_from (nat_lt 255 (length low)) (nat_lt 255 (length high) && true) (is_half low l) (and_from (nat_lt 255 (length high)) true (is_half high r) refl)
   by_row (x ∷ []) (suc q) h there = absurd (omega arith)
   by_row (x ∷ y ∷ xs) q h there = halves_split (x ∷ y ∷ xs) q low high (h (omega arith)) there l r

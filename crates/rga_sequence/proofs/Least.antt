@@ -9,19 +9,16 @@ use Rattle.std.proofs.lemmas.List.Folds.{list_all_more, list_any_at}
 use Rattle.bg_types.specs.Identifier.{Identifier, id_cmp, same_id}
 use Rattle.rga_tree.specs.declared.element.Element.{Element}
 use Rattle.rga_sequence.specs.Blocks.{none_below}
-use Rattle.bg_types.proofs.Interface.{and_parts, id_cmp-total}
-
-pub is_Less : (o : Ordering) → is_lt o ≡ true → o ≡ Less
-is_Less Less h = refl
-is_Less Equal h = absurd cc
-is_Less Greater h = absurd cc
+use Rattle.bg_types.proofs.Interface.{id_cmp-total}
+use Rattle.std.proofs.lemmas.Bool.{and_parts}
+use Rattle.rga_tree.proofs.Interface.{less_of}
 
 -- what isn't below something isn't below what is smaller
 not_below : (x m n : Identifier) → not (is_lt (id_cmp x m)) ≡ true → is_lt (id_cmp n m) ≡ true → not (is_lt (id_cmp x n)) ≡ true
 not_below x m n h lt = by_test (is_lt (id_cmp x n)) refl where
   by_test : (b : Bool) → is_lt (id_cmp x n) ≡ b → not b ≡ true
   by_test false is = refl
-  by_test true is = let e : is_lt (id_cmp x m) ≡ true = ap is_lt (id_cmp-total.trans x n m (is_Less (id_cmp x n) is) (is_Less (id_cmp n m) lt)) in absurd cc
+  by_test true is = let e : is_lt (id_cmp x m) ≡ true = ap is_lt (id_cmp-total.trans x n m (less_of (id_cmp x n) is) (less_of (id_cmp n m) lt)) in absurd cc
 
 pub lower : (m n : Identifier) (es : List Element) → none_below m es ≡ true → is_lt (id_cmp n m) ≡ true → none_below n es ≡ true
 lower m n [] h lt = refl

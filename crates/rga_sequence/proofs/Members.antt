@@ -5,12 +5,13 @@ use Rattle.std.specs.List.{list_any, prefix_len, AllByRecursion, find as find_in
 use Rattle.std.proofs.lemmas.List.{take-append-drop}
 use Rattle.std.proofs.lemmas.List.Folds.{list_any-append}
 use Rattle.bg_types.specs.Identifier.{Identifier, same_id}
-use Rattle.bg_types.proofs.Interface.{and_parts, neither, or_left, or_right, same_id-is, same_id-itself}
+use Rattle.bg_types.proofs.Interface.{same_id-is, same_id-itself}
 use Rattle.rga_tree.specs.declared.element.Element.{Element}
 use Rattle.rga_tree.specs.Row.{ids_of, is_distinct}
 use Rattle.rga_sequence.specs.Blocks.{joined, offset}
 use Rattle.rga_sequence.specs.BlockRows.{has, home_of}
 use Rattle.rga_sequence.proofs.Split.{AreApart, AreAllApart}
+use Rattle.std.proofs.lemmas.Bool.{and_parts, or_parts, or_left, or_right}
 
 -- ---- distinct rows
 
@@ -25,7 +26,7 @@ distinct-apart (e ∷ x) y d =
     let p = and_parts (not (list_any (same_id e.id) (ids_of (x ++ y)))) (is_distinct (ids_of (x ++ y))) d in
     let rest = distinct-apart x y p.1 in
     let none : has e.id (x ++ y) ≡ false = sym (any_ids e.id (x ++ y)) ∙ unnot (list_any (same_id e.id) (ids_of (x ++ y))) p.0 in
-    let parts = neither (has e.id x) (has e.id y) (sym (list_any-append (λ z. same_id e.id z.id) x y) ∙ none) in (
+    let parts = or_parts (has e.id x) (has e.id y) (sym (list_any-append (λ z. same_id e.id z.id) x y) ∙ none) in (
       (λ q a b. by_first q (same_id q e.id) refl a b parts.1 rest.0),
       (
         (λ i. not ((any_ids e.id x ∙ parts.0) i) && rest.1.0 i),
@@ -120,7 +121,7 @@ until q es = prefix_len (λ e. not (same_id q e.id)) es
 pub until_none : (q : Identifier) (es : List Element) → has q es ≡ false → until q es ≡ length es
 until_none q [] h = refl
 until_none q (e ∷ es) h =
-    let p = neither (same_id q e.id) (has q es) h in
+    let p = or_parts (same_id q e.id) (has q es) h in
     let rest = until_none q es p.1 in
     ap (λ b. cond (not b) (1 + until q es) 0) p.0 ∙ omega (arith, rest)
 
@@ -136,7 +137,7 @@ until_some q (e ∷ es) h =
 until-past : (q : Identifier) (x y : List Element) → has q x ≡ false → until q (x ++ y) ≡ length x + until q y
 until-past q [] y h = sym (zero-add (until q y))
 until-past q (e ∷ x) y h =
-    let p = neither (same_id q e.id) (has q x) h in
+    let p = or_parts (same_id q e.id) (has q x) h in
     let rest = until-past q x y p.1 in
     ap (λ b. cond (not b) (1 + until q (x ++ y)) 0) p.0 ∙ omega (arith, rest)
 
@@ -176,7 +177,7 @@ pub until-first : (xs : List (List Element)) (p : ℕ) (q : Identifier) → p < 
 until-first [] p q there inside before = absurd (omega arith)
 until-first (x ∷ xs) zero q there inside before = zero-add (until q x) ∙ sym (until-in q x (joined xs) inside)
 until-first (x ∷ xs) (suc p) q there inside before =
-    let parts = neither (has q x) (has q (joined (take p xs))) (sym (list_any-append (λ e. same_id q e.id) x (joined (take p xs))) ∙ before) in
+    let parts = or_parts (has q x) (has q (joined (take p xs))) (sym (list_any-append (λ e. same_id q e.id) x (joined (take p xs))) ∙ before) in
     let rest = until-first xs p q (omega arith) inside parts.1 in
     omega (arith, until-past q x (joined xs) parts.0, rest, length-append x (joined (take p xs)))
 
@@ -194,5 +195,5 @@ find-until q (e ∷ es) h =
 pub find_none : (q : Identifier) (es : List Element) → has q es ≡ false → find_in (λ e. same_id q e.id) es ≡ None
 find_none q [] h = refl
 find_none q (e ∷ es) h =
-    let p = neither (same_id q e.id) (has q es) h in
+    let p = or_parts (same_id q e.id) (has q es) h in
     ap (λ b. cond b (Some e) (find_in (λ e. same_id q e.id) es)) p.0 ∙ find_none q es p.1

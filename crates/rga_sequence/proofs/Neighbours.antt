@@ -5,12 +5,12 @@ use Rattle.std.specs.List.{list_any, prefix_len}
 use Rattle.std.specs.declared.cmp.Ordering.{Ordering}
 use Rattle.std.specs.declared.cmp.Ordering.TheVariants.{Less, Equal, Greater}
 use Rattle.std.specs.Ordering.{is_lt}
-use Rattle.std.proofs.lemmas.Bool.{ltb-true, ltb-false, eqb-true, eqb-false}
+use Rattle.std.proofs.lemmas.Bool.{ltb-true, ltb-false, eqb-true, eqb-false, and_parts}
 use Rattle.std.proofs.lemmas.List.{get_or-set_same, get_or-set_other, get_or-drop, take-append-drop}
 use Rattle.std.proofs.lemmas.List.Edits.{get_or-insert_below}
 use Rattle.std.proofs.lemmas.List.Sums.{prefix_len_passes, prefix_len-le-length}
 use Rattle.bg_types.specs.Identifier.{Identifier, id_cmp, same_id}
-use Rattle.bg_types.proofs.Interface.{and_parts, id_cmp-exact, same_id-is}
+use Rattle.bg_types.proofs.Interface.{id_cmp-exact, same_id-is}
 use Rattle.rga_tree.specs.declared.element.Element.{Element}
 use Rattle.rga_sequence.specs.declared.block.Block.{Block}
 use Rattle.rga_sequence.specs.BlockRows.{items_of}
@@ -18,7 +18,8 @@ use Rattle.rga_sequence.specs.Blocks.{none_below}
 use Rattle.rga_sequence.specs.Bounds.{AreBounds, AreBoundsBelow}
 use Rattle.rga_sequence.proofs.Grown.{all_with}
 use Rattle.rga_sequence.proofs.Least.{lower, not_itself}
-use Rattle.rga_sequence.proofs.Passing.{is_passed, items_there, turned, above_least}
+use Rattle.rga_sequence.proofs.Passing.{is_passed, items_there, above_least}
+use Rattle.rga_tree.proofs.Interface.{turned}
 
 none-set : (xs : List (List Element)) (q p : ℕ) (y : List Element) (m : Identifier) → none_below m (get_or xs p []) ≡ true → (p ≡ q → none_below m y ≡ true) → none_below m (get_or (set xs q y) p []) ≡ true
 none-set [] zero p y m kept new = kept

@@ -1,7 +1,7 @@
 -- The place after all greater elements, with whole blocks passed.
 use Rattle.std.proofs.Common.{◌≡◌, ℕ, suc, ◌<◌, ◌≤◌, ◌+◌, ◌||◌, Bool, true, false, cond, not, List, [], ◌∷◌, ◌++◌, length, take, drop, get_or, refl, sym, ap, subst, ◌∙◌, zero-add, length-append, length-drop, ◌-◌, arith}
 use Rattle.std.proofs.lemmas.List.{length-map, length-take-le, drop-map, drop_all, get_or-drop, get_or-map, map-append, take-map, take-append-drop}
-use Rattle.std.proofs.lemmas.Bool.{ltb-true, ltb-false}
+use Rattle.std.proofs.lemmas.Bool.{ltb-true, ltb-false, and_parts}
 use Rattle.std.specs.Prelude.{nat_lt, insert}
 use Rattle.std.specs.declared.cmp.Ordering.{Ordering}
 use Rattle.std.specs.declared.cmp.Ordering.TheVariants.{Less, Equal, Greater}
@@ -9,11 +9,12 @@ use Rattle.std.specs.Ordering.{is_lt, ordering_reverse}
 use Rattle.std.specs.List.{list_all, list_any, prefix_len}
 use Rattle.bg_types.specs.Identifier.{Identifier, id_cmp, same_id}
 use Rattle.rga_tree.specs.declared.element.Element.{Element}
-use Rattle.bg_types.proofs.Interface.{and_parts, id_cmp-total, id_cmp-exact, same_id-is}
+use Rattle.bg_types.proofs.Interface.{id_cmp-total, id_cmp-exact, same_id-is}
 use Rattle.rga_sequence.specs.declared.block.Block.{Block}
 use Rattle.rga_sequence.specs.BlockRows.{items_of}
 use Rattle.rga_sequence.specs.Blocks.{joined, offset, sought}
 use Rattle.rga_sequence.proofs.Joined.{joined-suc, joined-add, drop_joined}
+use Rattle.rga_tree.proofs.Interface.{less_of, turned}
 
 abbrev pub is_greater : Identifier → Element → Bool
 is_greater id e = is_lt (id_cmp id e.id)
@@ -21,21 +22,13 @@ is_greater id e = is_lt (id_cmp id e.id)
 abbrev pub is_passed : Identifier → Block → Bool
 is_passed id b = is_lt (id_cmp id b.least)
 
-lt_is : (o : Ordering) → is_lt o ≡ true → o ≡ Less
-lt_is Less h = refl
-lt_is Equal h = absurd cc
-lt_is Greater h = absurd cc
-
-pub turned : (a b : Identifier) → id_cmp a b ≡ Greater → id_cmp b a ≡ Less
-turned a b h = id_cmp-total.antisymm b a ∙ ap ordering_reverse h
-
 -- what isn't below the least of greater ones is greater
 pub above_least : (id m e : Identifier) → is_lt (id_cmp id m) ≡ true → not (is_lt (id_cmp e m)) ≡ true → is_lt (id_cmp id e) ≡ true
 above_least id m e lt h = by_order (id_cmp e m) refl h where
   by_order : (o : Ordering) → id_cmp e m ≡ o → not (is_lt o) ≡ true → is_lt (id_cmp id e) ≡ true
   by_order Less is h = absurd cc
   by_order Equal is h = subst (λ x. is_lt (id_cmp id x) ≡ true) (sym (id_cmp-exact e m is)) lt
-  by_order Greater is h = ap is_lt (id_cmp-total.trans id m e (lt_is (id_cmp id m) lt) (turned e m is))
+  by_order Greater is h = ap is_lt (id_cmp-total.trans id m e (less_of (id_cmp id m) lt) (turned e m is))
 
 all_pass : (id m : Identifier) (es : List Element) → is_lt (id_cmp id m) ≡ true → list_all (λ e. not (is_lt (id_cmp e.id m))) es ≡ true → prefix_len (is_greater id) es ≡ length es
 all_pass id m [] lt h = refl

@@ -3,12 +3,13 @@ use Rattle.std.proofs.Common.{◌≡◌, ℕ, zero, suc, ◌<◌, ◌||◌, Bool
 use Rattle.std.specs.Prelude.{insert, set}
 use Rattle.std.proofs.lemmas.List.Folds.{list_any-append}
 use Rattle.bg_types.specs.Identifier.{Identifier, same_id}
-use Rattle.bg_types.proofs.Interface.{neither, same_id-is}
+use Rattle.bg_types.proofs.Interface.{same_id-is}
 use Rattle.rga_tree.specs.declared.element.Element.{Element}
 use Rattle.rga_sequence.specs.Blocks.{joined}
 use Rattle.rga_sequence.specs.BlockRows.{has, home_of}
 use Rattle.rga_sequence.proofs.Homes.{swap}
 use Rattle.rga_sequence.proofs.Members.{has-inserted}
+use Rattle.std.proofs.lemmas.Bool.{or_parts}
 
 or_else : (a b : Bool) (n : ℕ) (o : Option ℕ) → cond (a || b) (Some n) o ≡ cond a (Some n) (cond b (Some n) o)
 or_else true b n o = refl
@@ -21,7 +22,7 @@ home_put (x ∷ xs) [] i at n q there many new = absurd (omega arith)
 home_put (x ∷ xs) (m ∷ ns) zero at n q there many new =
     ap (λ b. cond b (Some m) (home_of xs ns q)) (has-inserted x at n q) ∙ or_else (same_id q n.id) (has q x) m (home_of xs ns q)
 home_put (x ∷ xs) (m ∷ ns) (suc i) at n q there many new =
-    let parts = neither (has n.id x) (has n.id (joined xs)) (sym (list_any-append (λ e. same_id n.id e.id) x (joined xs)) ∙ new) in
+    let parts = or_parts (has n.id x) (has n.id (joined xs)) (sym (list_any-append (λ e. same_id n.id e.id) x (joined xs)) ∙ new) in
     ap (cond (has q x) (Some m)) (home_put xs ns i at n q (omega arith) (omega arith) parts.1)
     ∙ swap (has q x) (same_id q n.id) m (get_or ns i 0) (home_of xs ns q)
     (λ inside same. let out : has q x ≡ false = subst (λ k. has k x ≡ false) (sym (same_id-is q n.id same)) parts.0 in absurd cc)

@@ -3,11 +3,11 @@ use Rattle.std.proofs.Common.{◌≡◌, ℕ, zero, suc, ◌<◌, ◌+◌, ◌||
 use Rattle.std.specs.Prelude.{insert, set}
 use Rattle.std.proofs.lemmas.List.Folds.{list_any-append}
 use Rattle.bg_types.specs.Identifier.{Identifier, same_id}
-use Rattle.bg_types.proofs.Interface.{or_left, or_right}
 use Rattle.rga_tree.specs.declared.element.Element.{Element}
 use Rattle.rga_sequence.specs.BlockRows.{has, home_of}
 use Rattle.rga_sequence.specs.Blocks.{joined}
 use Rattle.rga_sequence.proofs.Homes.{swap}
+use Rattle.std.proofs.lemmas.Bool.{or_left, or_right}
 
 -- no identifier is in both
 abbrev pub AreApart : List Element → List Element → Type 0

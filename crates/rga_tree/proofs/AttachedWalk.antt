@@ -7,7 +7,7 @@ use Rattle.bg_types.specs.Identifier.{Identifier, same_id}
 use Rattle.bg_types.specs.OperationSet.{Node, OperationSet, AllWellFormed}
 use Rattle.bg_types.specs.declared.op.Place.{Place}
 use Rattle.bg_types.specs.declared.op.Place.TheVariants.{Root, After}
-use Rattle.bg_types.proofs.Interface.{or_left, or_right, same_id-is, same_id-itself}
+use Rattle.bg_types.proofs.Interface.{same_id-is, same_id-itself}
 use Rattle.rga_tree.specs.Walk.{Insertions, same_place, children, walk_to, walk}
 use Rattle.rga_tree.specs.Attached.{IsAttached}
 use Rattle.rga_tree.specs.Attached.IsAttached.{below_root, below}
@@ -15,7 +15,8 @@ use Rattle.rga_tree.proofs.WalkAmong.{Entry, same_is, all_append}
 use Rattle.rga_tree.proofs.Entries.{entries_of, all_entries, AreWellFounded-entries}
 use Rattle.rga_tree.proofs.Preorder.{all_reverse}
 use Rattle.rga_tree.proofs.Depth.{walk_to-among}
-use Rattle.rga_tree.proofs.Listed.{IsIn, IsIn-reverse, IsIn-filter, IsIn-found, is_listed, listed-append, listed-flat_map, all_listed, or_cases}
+use Rattle.rga_tree.proofs.Listed.{IsIn, IsIn-reverse, IsIn-filter, IsIn-found, is_listed, listed-append, listed-flat_map, all_listed}
+use Rattle.std.proofs.lemmas.Bool.{or_cases, or_left, or_right}
 
 -- ---- what is walked is attached
 

@@ -10,7 +10,7 @@ use Rattle.bg_types.specs.Identifier.{Identifier, IsIdentifier, id_cmp, same_id}
 use Rattle.bg_types.specs.OperationSet.{Node, OperationSet, AllWellFormed, with_operation}
 use Rattle.bg_types.specs.declared.op.Place.TheVariants.{Root}
 use Rattle.bg_types.specs.declared.op.OpView.TheVariants.{Insert, Erase}
-use Rattle.bg_types.proofs.Interface.{and_parts, or_swap, id_cmp-total, id_cmp-exact, same_id-is}
+use Rattle.bg_types.proofs.Interface.{or_swap, id_cmp-total, id_cmp-exact, same_id-is}
 use Rattle.rga_tree.specs.declared.element.Element.{Element}
 use Rattle.rga_tree.specs.Walk.{walk}
 use Rattle.rga_tree.specs.TextOf.{is_erased}
@@ -23,6 +23,7 @@ use Rattle.rga_tree.proofs.Entries.{IsAbsent}
 use Rattle.rga_tree.proofs.SetSteps.{AllWellFormed-with, OnlyErasesPlaced-erase, same_id-swap}
 use Rattle.rga_tree.proofs.RowSets.{has_row}
 use Rattle.rga_tree.proofs.Placing.{present_before}
+use Rattle.std.proofs.lemmas.Bool.{and_parts}
 
 -- the element hidden, if it has the identifier
 abbrev pub marked : Identifier → Element → Element

@@ -1,12 +1,12 @@
 -- What the proofs of crates above may import from this crate's proofs, and nothing else.
-pub use Rattle.rga_tree.proofs.WalkAmong.{Entry}
+pub use Rattle.rga_tree.proofs.WalkAmong.{Entry, turned}
 pub use Rattle.rga_tree.proofs.Entries.{IsAbsent, entries_of, Rises-entries, AreWellFounded-entries}
 pub use Rattle.rga_tree.proofs.Depth.{walk-among}
 pub use Rattle.rga_tree.proofs.SetSteps.{AllWellFormed-with, IsTree-grown, OnlyErasesPlaced-grown, same_id-swap}
 pub use Rattle.rga_tree.proofs.RowPlaces.{AreDistinct}
 pub use Rattle.rga_tree.proofs.RowSets.{has_row}
 pub use Rattle.rga_tree.proofs.Placing.{KeepsWalk-nothing, placing, start_within}
-pub use Rattle.rga_tree.proofs.Siblings.{place_behind_sibling}
+pub use Rattle.rga_tree.proofs.Siblings.{less_of, place_behind_sibling}
 pub use Rattle.rga_tree.proofs.Hiding.{hiding}
 pub use Rattle.rga_tree.proofs.Seen.{element_row, visible_row, seen_at}
 pub use Rattle.rga_tree.proofs.Listed.{is_listed, all_listed}
@@ -17,7 +17,7 @@ pub use Rattle.rga_tree.proofs.AttachedPart.{walk-part}
 pub use Rattle.rga_tree.proofs.LeafWalk.{walk-leaf_attached, walk-leaf_at}
 pub use Rattle.rga_tree.proofs.SubWalk.{walk-sub_walk, is_attached-test, inserted_part, AllWellFormed-part}
 pub use Rattle.rga_tree.proofs.Lines.{either_way, never_both_ways, in_turn, StandsBefore-filtered, StandsBefore-unfiltered}
-pub use Rattle.rga_tree.proofs.OneOrder.{walked_ids-sub_walk, Precedes-attached, Precedes-either, Precedes-never_both, Precedes-in_turn, Precedes-more, Precedes-part, Precedes-agree, StandsBetween-agree, walk-same, text-same_operations}
+pub use Rattle.rga_tree.proofs.OneOrder.{filter_ids, walked_ids-sub_walk, Precedes-attached, Precedes-either, Precedes-never_both, Precedes-in_turn, Precedes-more, Precedes-part, Precedes-agree, StandsBetween-agree, walk-same, text-same_operations}
 pub use Rattle.rga_tree.proofs.Below.{reads_attached, below_listed, listed_below, stretch_of}
 pub use Rattle.rga_tree.proofs.Runs.{runs_apart, runs_at_one_place, IsRun-more}
 pub use Rattle.rga_tree.proofs.TypedPlace.{walk-typed_behind, walk-typed_first, StandsBetween-typed}

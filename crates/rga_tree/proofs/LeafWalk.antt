@@ -9,7 +9,7 @@ use Rattle.bg_types.specs.OperationSet.{Node, OperationSet, AllWellFormed, with_
 use Rattle.bg_types.specs.declared.op.Place.{Place}
 use Rattle.bg_types.specs.declared.op.Place.TheVariants.{Root, After}
 use Rattle.bg_types.specs.declared.op.OpView.TheVariants.{Insert}
-use Rattle.bg_types.proofs.Interface.{id_cmp-total}
+use Rattle.bg_types.proofs.Interface.{id_cmp-total, none_of}
 use Rattle.rga_tree.specs.Walk.{same_place, walk}
 use Rattle.rga_tree.specs.Tree.{stands_in, IsTree}
 use Rattle.rga_tree.specs.Elements.{element_of, elements}
@@ -30,10 +30,6 @@ childless s id none = all_entries s (λ e. same_place e.1.parent (After id) ≡ 
   by_test : (e : Entry) → map.get s.ins e.0 ≡ Some e.1 → (b : Bool) → same_place e.1.parent (After id) ≡ b → b ≡ false
   by_test e held true is = absurd (none (e.0, e.1, held, same_is e.1.parent (After id) is))
   by_test e held false is = refl
-
-none_of : (o : Option Node) → is_some o ≡ false → o ≡ None
-none_of None h = refl
-none_of (Some n) h = absurd cc
 
 listed_before : (s : OperationSet) (a : Identifier) (es : List Entry) → is_listed a es ≡ true
     → prefix_len (λ e. not (same_id a e.id)) (each (element_of s) es) + 1 ≤ length (each (element_of s) es)

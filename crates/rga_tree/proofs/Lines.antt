@@ -5,8 +5,9 @@ use Rattle.std.specs.List.{AllByRecursion, IsDistinct, list_any}
 use Rattle.std.proofs.lemmas.List.Elements.{filter-append}
 use Rattle.std.proofs.lemmas.List.Folds.{list_any-append}
 use Rattle.bg_types.specs.Identifier.{Identifier, same_id}
-use Rattle.bg_types.proofs.Interface.{or_left, or_right, same_id-is, same_id-itself}
+use Rattle.bg_types.proofs.Interface.{same_id-is, same_id-itself}
 use Rattle.rga_tree.specs.Order.{StandsBefore}
+use Rattle.std.proofs.lemmas.Bool.{or_left, or_right}
 
 abbrev pub Ids : Type 0
 Ids = List Identifier

@@ -6,8 +6,9 @@ use Rattle.std.proofs.lemmas.List.{reverse-append}
 use Rattle.std.specs.FinMap.Entries.{find}
 use Rattle.bg_types.specs.Identifier.{Identifier, id_cmp, same_id}
 use Rattle.bg_types.specs.OperationSet.{Node}
-use Rattle.bg_types.proofs.Interface.{or_left, or_right, same_id-is, same_id-itself}
+use Rattle.bg_types.proofs.Interface.{same_id-is, same_id-itself}
 use Rattle.rga_tree.proofs.WalkAmong.{Entry}
+use Rattle.std.proofs.lemmas.Bool.{or_left, or_right}
 
 -- the entry stands in the list
 abbrev pub IsIn : Entry → List Entry → Type 0
@@ -56,10 +57,6 @@ listed-append a (x ∷ xs) ys = ap (λ b. same_id a x.0 || b) (listed-append a x
   or_assoc : (p q r : Bool) → (p || (q || r)) ≡ ((p || q) || r)
   or_assoc true q r = refl
   or_assoc false q r = refl
-
-pub or_cases : (a b : Bool) → (a || b) ≡ true → (a ≡ true) ⊎ (b ≡ true)
-or_cases true b h = inl refl
-or_cases false b h = inr h
 
 -- listed in what one of them gives
 pub listed-flat_map : (a : Identifier) (f : Entry → List Entry) (e : Entry) (xs : List Entry) → IsIn e xs → is_listed a (f e) ≡ true → is_listed a (flat_map f xs) ≡ true

@@ -18,7 +18,7 @@ use Rattle.rga_tree.proofs.WalkDistinct.{IsDistinct-walked}
 use Rattle.rga_tree.proofs.SubWalk.{walk-sub_walk, is_attached-test, AllWellFormed-part}
 use Rattle.rga_tree.proofs.Lines.{is_among, among_here, among_left, either_way, never_both_ways, in_turn, StandsBefore-filtered, StandsBefore-unfiltered}
 
-filter_ids : (p : Identifier → Bool) (es : List Entry) → each (λ e. e.0) (filter (λ e. p e.0) es) ≡ filter p (each (λ e. e.0) es)
+pub filter_ids : (p : Identifier → Bool) (es : List Entry) → each (λ e. e.0) (filter (λ e. p e.0) es) ≡ filter p (each (λ e. e.0) es)
 filter_ids p [] = refl
 filter_ids p (e ∷ es) =
     let rest = filter_ids p es in

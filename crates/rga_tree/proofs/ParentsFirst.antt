@@ -7,11 +7,12 @@ use Rattle.bg_types.specs.Identifier.{Identifier, same_id}
 use Rattle.bg_types.specs.OperationSet.{OperationSet}
 use Rattle.bg_types.specs.declared.op.Place.{Place}
 use Rattle.bg_types.specs.declared.op.Place.TheVariants.{Root, After}
-use Rattle.bg_types.proofs.Interface.{or_left, or_right, same_id-itself}
+use Rattle.bg_types.proofs.Interface.{same_id-itself}
 use Rattle.rga_tree.specs.Walk.{children, walk_to, walk, StandsAmong}
 use Rattle.rga_tree.proofs.WalkAmong.{Entry}
 use Rattle.rga_tree.proofs.Listed.{is_listed, listed-append, Contains-listed}
 use Rattle.rga_tree.proofs.AttachedWalk.{all_children}
+use Rattle.std.proofs.lemmas.Bool.{or_left, or_right}
 
 abbrev IsListed : Place → List Entry → Type 0
 IsListed Root seen = Unit {0}

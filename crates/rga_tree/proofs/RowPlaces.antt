@@ -8,12 +8,13 @@ use Rattle.bg_types.specs.Identifier.{Identifier, id_cmp, same_id}
 use Rattle.bg_types.specs.OperationSet.{OperationSet}
 use Rattle.bg_types.specs.declared.op.Place.{Place}
 use Rattle.bg_types.specs.declared.op.Place.TheVariants.{Root, After}
-use Rattle.bg_types.proofs.Interface.{and_parts, same_id-is}
+use Rattle.bg_types.proofs.Interface.{same_id-is}
 use Rattle.rga_tree.specs.Walk.{same_place}
 use Rattle.rga_tree.specs.Elements.{element_of}
 use Rattle.rga_tree.specs.Row.{ids_of, is_distinct, start_of, place_of}
 use Rattle.rga_tree.proofs.WalkAmong.{Entry, skip, below, among}
 use Rattle.rga_tree.proofs.Entries.{IsAbsent}
+use Rattle.std.proofs.lemmas.Bool.{and_parts}
 
 pub skip-insert : (n : Entry) (r : List Entry) → skip n r ≡ insert r (prefix_len (λ e. is_lt (id_cmp n.0 e.0)) r) n
 skip-insert n [] = refl

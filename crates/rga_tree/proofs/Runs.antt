@@ -10,7 +10,7 @@ use Rattle.bg_types.specs.Identifier.{Identifier, id_cmp, same_id}
 use Rattle.bg_types.specs.OperationSet.{Node, OperationSet, AllWellFormed}
 use Rattle.bg_types.specs.declared.op.Place.{Place}
 use Rattle.bg_types.specs.declared.op.Place.TheVariants.{Root, After}
-use Rattle.bg_types.proofs.Interface.{or_left, or_right, id_cmp-total, same_id-is}
+use Rattle.bg_types.proofs.Interface.{id_cmp-total, same_id-is}
 use Rattle.rga_tree.specs.Walk.{Insertions, same_place, children, walk, walked_ids}
 use Rattle.rga_tree.specs.Attached.{IsAttached}
 use Rattle.rga_tree.specs.Parts.{IsPartOf}
@@ -20,12 +20,13 @@ use Rattle.rga_tree.specs.Stretch.StandsBelow.{child, deeper}
 use Rattle.rga_tree.proofs.WalkAmong.{Entry, Rises}
 use Rattle.rga_tree.proofs.PreorderLaw.{walk-preorder}
 use Rattle.rga_tree.proofs.Entries.{entries_of, Rises-entries}
-use Rattle.rga_tree.proofs.Listed.{IsIn, IsIn-found, or_cases}
+use Rattle.rga_tree.proofs.Listed.{IsIn, IsIn-found}
 use Rattle.rga_tree.proofs.AttachedWalk.{same_place-itself}
 use Rattle.rga_tree.proofs.TreeAttached.{all_in}
 use Rattle.rga_tree.proofs.SubWalk.{listed_ids, attached_parent, inserted_part}
 use Rattle.rga_tree.proofs.Lines.{Ids, is_among, among_right, among_first, among-contains, place_in, head_is, tail_is, filter_at}
 use Rattle.rga_tree.proofs.Below.{child_walk, flat_map_at, split_in, listed_below, below_listed, reads_attached, reads_ids}
+use Rattle.std.proofs.lemmas.Bool.{or_cases, or_left, or_right}
 
 -- ---- blocks of a list
 

@@ -12,7 +12,7 @@ use Rattle.bg_types.specs.declared.op.Place.{Place}
 use Rattle.bg_types.specs.declared.op.Place.TheVariants.{Root, After}
 use Rattle.bg_types.specs.declared.op.OpView.{OpView}
 use Rattle.bg_types.specs.declared.op.OpView.TheVariants.{Insert, Erase}
-use Rattle.bg_types.proofs.Interface.{id_cmp-total, same_id-is, same_id-itself}
+use Rattle.bg_types.proofs.Interface.{id_cmp-total, same_id-is, same_id-itself, none_of}
 use Rattle.rga_tree.specs.declared.element.Element.{Element}
 use Rattle.rga_tree.specs.Walk.{walk}
 use Rattle.rga_tree.specs.TextOf.{is_erased}
@@ -117,10 +117,6 @@ OnlyErasesPlaced-erase s id only stands q held =
     ] refl was
 
 -- ---- the walk
-
-none_of : (o : Option Node) → is_some o ≡ false → o ≡ None
-none_of None h = refl
-none_of (Some n) h = absurd cc
 
 -- the walk with one more leaf: after its parent, and after all greater ones that follow there
 pub walk-leaf : (s : OperationSet) (id : Identifier) (node : Node) → AllWellFormed s → IsTree s → IsWellFormed (Insert id node.parent node.ch) → map.contains_key s.ins id ≡ false

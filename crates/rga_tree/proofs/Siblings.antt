@@ -11,7 +11,7 @@ use Rattle.bg_types.specs.Identifier.{Identifier, id_cmp, same_id}
 use Rattle.bg_types.specs.OperationSet.{OperationSet}
 use Rattle.bg_types.specs.declared.op.Place.{Place}
 use Rattle.bg_types.specs.declared.op.Place.TheVariants.{Root, After}
-use Rattle.bg_types.proofs.Interface.{and_parts, or_right, same_id-is, same_id-itself}
+use Rattle.bg_types.proofs.Interface.{same_id-is, same_id-itself}
 use Rattle.rga_tree.specs.declared.element.Element.{Element}
 use Rattle.rga_tree.specs.Walk.{same_place, walk}
 use Rattle.rga_tree.specs.Elements.{element_of}
@@ -21,6 +21,7 @@ use Rattle.rga_tree.proofs.WalkAmong.{Entry, walk_among, AreAbove, AreAbove-up, 
 use Rattle.rga_tree.proofs.Entries.{entries_of, Rises-entries}
 use Rattle.rga_tree.proofs.Depth.{walk-among}
 use Rattle.rga_tree.proofs.Lines.{Ids}
+use Rattle.std.proofs.lemmas.Bool.{and_parts, or_right}
 
 -- ---- read backwards from a child
 
@@ -102,7 +103,7 @@ behind_at back (e ∷ l) r x h = behind_at (e.id ∷ back) l r x h.1
 
 -- ---- the place of a smaller sibling
 
-less_of : (o : Ordering) → is_lt o ≡ true → o ≡ Less
+pub less_of : (o : Ordering) → is_lt o ≡ true → o ≡ Less
 less_of Less h = refl
 less_of Equal h = absurd cc
 less_of Greater h = absurd cc

@@ -11,6 +11,7 @@ use Rattle.view_cache.specs.declared.key.Key.{Key}
 use Rattle.view_cache.specs.Keys.{ParagraphKey, said, same_key}
 use Rattle.view_cache.specs.Uses.{is_kept, without, used}
 use Rattle.view_cache.specs.contracts.key.KeyPartialEq.TheImpl as key_eq
+use Rattle.bg_types.proofs.Interface.{two_cases}
 
 -- equal keys say the same
 pub eq-said : (a b : Key) → (key_eq.eq-value).it a b ≡ true → said a ≡ said b
@@ -20,10 +21,6 @@ eq-said a b h = search rules
 same-is : (a b : Key) → (key_eq.eq-value).it a b ≡ same_key (said a) (said b)
 unfolding same_key
 same-is a b = refl
-
-two_cases : {P : Type 0} (b : Bool) → (b ≡ true → P) → (b ≡ false → P) → P
-two_cases true f g = f refl
-two_cases false f g = g refl
 
 -- ---- lists of keys
 

@@ -2,10 +2,7 @@
 use Rattle.std.proofs.Common.{◌≡◌, ◌≤◌, ◌<◌, ◌+◌, ◌++◌, ◌∷◌, [], ℕ, zero, suc, Bool, true, false, List, length, take, refl, sym, ap, subst, ◌∙◌, rules, arith, append_assoc, length-append}
 use Rattle.view_cache.specs.Keys.{ParagraphKey, same_key}
 use Rattle.view_cache.specs.Uses.{is_kept, without, used, all_used, laid_anew}
-
-two_cases : {P : Type 0} (b : Bool) → (b ≡ true → P) → (b ≡ false → P) → P
-two_cases true f g = f refl
-two_cases false f g = g refl
+use Rattle.bg_types.proofs.Interface.{two_cases}
 
 -- ---- uses one after the other
 

@@ -1,7 +1,7 @@
 -- The goals of `put_back` that are answered by hand.
 use Rattle.std.proofs.Common.{ℕ, List, ◌+◌, ◌<◌, ◌≤◌, ◌∙◌, length, get_or, drop, ap, sym, subst, map}
 use Rattle.bg_types.specs.declared.class.Bidi.{Bidi}
-use Rattle.bidi_explicit.proofs.Chains.{is_kept-within}
+use Rattle.bidi_explicit.proofs.Interface.{is_kept-within}
 use Rattle.bidi_weak_neutral.specs.Neutral.{n1, n2, implicit_level}
 use Rattle.bidi_weak_neutral.specs.Levels.{levels_at, put_back, types_before, characters_of, types_after_n0}
 use Rattle.bidi_weak_neutral.proofs.PuttingBack.{drop-slice_get, All-slice_get}
