@@ -168,19 +168,20 @@ fn a_sink_takes_at_most_a_piece(rt: HostRuntime) {
 }
 
 /// A writer that takes one byte a call, and then answers with an error or with 0 bytes.
-#[derive(Drop)]
+#[derive(Clone, Copy)]
 struct Dribbles {
-    taken: Vec<u8>,
-    left: u8,
+    taken: [u8; 8],
+    count: u8,
+    most: u8,
     fails: bool,
 }
 
 impl Write for Dribbles {
     fn write(&mut self, bytes: &[u8]) -> io::Result<usize> {
-        match bytes {
-            [first, ..] if self.left > 0 => {
-                self.taken.push(*first)?;
-                self.left -= 1;
+        match (bytes, self.taken.get_mut(usize::from(self.count))) {
+            ([first, ..], Some(slot)) if self.count < self.most => {
+                *slot = *first;
+                self.count += 1;
                 Ok(1)
             }
             _ if self.fails => Err(io::Error::from(ErrorKind::BrokenPipe)),
@@ -194,28 +195,26 @@ impl Write for Dribbles {
 }
 
 /// Whether a sink over such a writer takes all where `whole` says so, and else has failed, after
-/// `left` bytes.
-fn sink_over_dribbles(alloc: Global, left: u8, fails: bool, whole: bool) -> bool {
+/// `most` bytes.
+fn sink_over_dribbles(most: u8, fails: bool, whole: bool) -> bool {
     let mut writer = Dribbles {
-        taken: Vec::new(alloc),
-        left,
+        taken: [0; 8],
+        count: 0,
+        most,
         fails,
     };
     let mut out = Out::new(&mut writer);
     let done = put_all(&mut out, b"bidigrid").is_ok();
     let failed = out.failed();
-    let wanted = b"bidigrid".get(..usize::from(left));
-    done == whole && failed != whole && wanted == Some(writer.taken.as_slice())
+    let wanted = b"bidigrid".get(..usize::from(most));
+    done == whole && failed != whole && wanted == writer.taken.get(..usize::from(writer.count))
 }
 
 #[test]
 fn a_writer_that_fails_in_mid_stream_fails_the_sink(rt: HostRuntime) {
     for fails in [true, false] {
         for (left, whole) in [(0, false), (1, false), (7, false), (8, true)] {
-            assert!(rt;
-                sink_over_dribbles(rt.alloc(), left, fails, whole),
-                "{left} {fails}"
-            );
+            assert!(rt; sink_over_dribbles(left, fails, whole), "{left} {fails}");
         }
     }
 }
