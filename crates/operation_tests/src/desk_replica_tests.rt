@@ -6,8 +6,9 @@
 ghost use Rattle.std.specs.Prelude.{◌≡◌, ◌<◌};
 ghost use Rattle.bg_types.specs.OperationSet.{no_operations};
 
+use crate::ops::{Row, op};
 use Row::{Erase, Insert};
-use bg_types::{Id, Memory, Op, Place};
+use bg_types::{Memory, Op};
 use desk_replica::{Replica, TakeFault, Taken, TypeFault};
 use rga_sequence::Blocks;
 use rga_tree::{Plain, Sequence};
@@ -31,32 +32,8 @@ impl Fresh for Blocks {
     }
 }
 
-/// Counter and site.
-type Name = (u32, u16);
-
-/// An insertion with its parent, (0, 0) for the root, or a deletion.
-#[derive(Clone, Copy)]
-enum Row {
-    Insert(Name, Name, char),
-    Erase(Name),
-}
-
 /// What taking a row is to answer.
 type Answer = Result<Taken, TakeFault>;
-
-fn place_of(name: Name) -> Place {
-    match Id::new(name.0, name.1) {
-        Some(id) => Place::After(id),
-        None => Place::Root,
-    }
-}
-
-fn op(row: Row) -> Option<Op> {
-    match row {
-        Insert(name, parent, ch) => Op::insert(Id::new(name.0, name.1)?, place_of(parent), ch),
-        Erase(name) => Some(Op::erase(Id::new(name.0, name.1)?)),
-    }
-}
 
 /// A desk whose calls promise nothing, so that a test rests on what it sees.
 #[derive(Drop)]

@@ -2,12 +2,12 @@
 
 ghost use Rattle.std.specs.Prelude.{◌<◌};
 
-use crate::op_codec_tests::{EMPTY, TWO, insertion, joined, two};
-use bg_types::Op;
+use crate::op_codec_tests::{EMPTY, FOUR, RUN, TWO, TWO_ROWS};
+use crate::ops::ops_of;
+use bg_types::{Memory, Op};
 use op_codec::*;
 use std::alloc::{AllocError, Global};
 use std::io::Cursor;
-use std::test::*;
 
 /// (2,1) after (2,2), `b`: a parent of no smaller counter.
 const LATE_PARENT: [u8; 24] = [
@@ -53,6 +53,7 @@ fn is_truncated(fault: CodecFault) -> bool {
 fn is_fed_by(alloc: Global, size: usize) -> Result<bool, CodecFault>
     requires { 0 < size }
 {
+    let ops = ops_of(alloc, &TWO_ROWS)?;
     let mut feed = Feed::new(alloc);
     let mut fed = 0usize;
     let mut right = true;
@@ -66,54 +67,53 @@ fn is_fed_by(alloc: Global, size: usize) -> Result<bool, CodecFault>
         };
         right = feed.ops().len() == whole && right;
     }
-    Ok(right && two().is_some_and(|ops| feed.ops() == ops.as_slice()) && feed.finish().is_ok())
+    Ok(right && feed.ops() == ops.as_slice() && feed.finish().is_ok())
+}
+
+fn first_wrong_size(alloc: Global) -> Option<usize> {
+    for size in 1..44usize {
+        if is_fed_by(alloc, size) != Ok(true) {
+            return Some(size);
+        }
+    }
+    None
 }
 
 #[test]
-fn a_file_in_pieces_of_each_size(rt: HostRuntime) -> Result<(), Fail> {
-    for size in 1..44usize {
-        assert!(rt; is_fed_by(rt.alloc(), size)?, "pieces of {size}");
-    }
-    Ok(())
+fn a_file_in_pieces_of_each_size(rt: HostRuntime) {
+    assert_eq!(rt; first_wrong_size(rt.alloc()), None);
 }
 
 /// The first place at which bytes cut into two pieces are fed unlike whole.
-fn wrong_cut(alloc: Global, bytes: &[u8]) -> Result<Option<usize>, AllocError> {
+fn wrong_cut(alloc: Global, bytes: &[u8]) -> Option<usize> {
     for cut in 0..bytes.len() {
-        if !is_fed_like_whole(alloc, &[&bytes[..cut], &bytes[cut..]])? {
-            return Ok(Some(cut));
+        if is_fed_like_whole(alloc, &[&bytes[..cut], &bytes[cut..]]) != Ok(true) {
+            return Some(cut);
         }
     }
-    Ok(None)
-}
-
-/// `a`, `x` and `b` after it, `y` after `x`.
-fn four() -> Option<[Op; 4]> {
-    Some([
-        insertion((1, 1), None, 'a')?,
-        insertion((2, 2), Some((1, 1)), 'x')?,
-        insertion((3, 2), Some((2, 2)), 'y')?,
-        insertion((2, 1), Some((1, 1)), 'b')?,
-    ])
+    None
 }
 
 #[test]
-fn rows_cut_into_two_pieces(rt: HostRuntime) -> Result<(), Fail> {
-    let bad = CodecFault::Malformed {
-        frame: 1,
-        cause: Cause::ParentNotBefore,
-    };
-    assert_eq!(rt; decode_file(rt.alloc(), &LATE_PARENT).err(), Some(bad));
-    let file = encode_file(rt.alloc(), &four().ok_or("well formed")?)?;
-    for bytes in [TWO.as_slice(), &file, &LATE_PARENT] {
-        assert_eq!(rt; wrong_cut(rt.alloc(), bytes)?, None);
+fn rows_cut_into_two_pieces(rt: HostRuntime) {
+    for bytes in [TWO.as_slice(), &FOUR, &LATE_PARENT, &RUN] {
+        assert_eq!(rt; wrong_cut(rt.alloc(), bytes), None, "{bytes:?}");
     }
-    Ok(())
 }
 
-/// The same, of a file in which the byte at a place is another one.
-fn wrong_cut_with(alloc: Global, file: &[u8], place: usize) -> Result<Option<usize>, AllocError> {
-    let mut bytes = Vec::from_slice(alloc, file)?;
+/// Five frames of both kinds.
+const FIVE: [u8; 90] = [
+    0x42, 0x47, 0x4F, 0x50, 1, // BGOP, version 1
+    0, 17, 1, 0, 0, 0, 1, 0, 1, 0, 0, 0, 0, 0, 0, 0, 0, 0, 0x61, // frame 1
+    0, 17, 1, 0, 0, 0, 2, 0, 1, 0, 0, 0, 1, 0, 1, 0, 0, 0, 0x62, // frame 2
+    0, 7, 2, 0, 0, 0, 2, 0, 1, // frame 3
+    0, 17, 1, 0, 0, 0, 1, 0, 1, 0, 0, 0, 0, 0, 0, 0, 0, 0, 0x61, // frame 4
+    0, 17, 1, 0, 0, 0, 2, 0, 1, 0, 0, 0, 1, 0, 1, 0, 0, 0, 0x62, // frame 5
+];
+
+/// The first place at which the five frames, with another byte at a place, are fed unlike whole.
+fn wrong_cut_with(alloc: Global, place: usize) -> Option<usize> {
+    let mut bytes = FIVE;
     if let Some(byte) = bytes.get_mut(place) {
         *byte = 9;
     }
@@ -121,107 +121,126 @@ fn wrong_cut_with(alloc: Global, file: &[u8], place: usize) -> Result<Option<usi
 }
 
 #[test]
-fn a_file_cut_into_two_pieces(rt: HostRuntime) -> Result<(), Fail> {
-    // Five frames of both kinds, right, and with one byte changed.
-    let mut file = joined(rt.alloc(), &TWO, &[0, 7, 2, 0, 0, 0, 2, 0, 1])?;
-    file.extend_from_slice(&TWO[5..])?;
+fn a_file_cut_into_two_pieces(rt: HostRuntime) {
     for other in [255, 0, 3, 4, 6, 7, 9, 20, 27, 41, 45, 50] {
-        assert_eq!(rt; wrong_cut_with(rt.alloc(), &file, other)?, None, "{other}");
+        assert_eq!(rt; wrong_cut_with(rt.alloc(), other), None, "{other}");
     }
-    Ok(())
 }
 
-#[test]
-fn a_fault_stays_and_a_missing_byte_does_not(rt: HostRuntime) -> Result<(), Fail> {
+/// Whether a feed goes on to answer its first fault, and has nothing.
+fn keeps_its_fault(alloc: Global) -> bool {
     let fault = CodecFault::Malformed {
         frame: 0,
         cause: Cause::BadVersion,
     };
-    let mut feed = Feed::new(rt.alloc());
-    assert_eq!(rt; feed.feed(b"BGOP\x03"), Err(fault));
-    assert_eq!(rt; feed.feed(&TWO), Err(fault));
-    assert_eq!(rt; feed.feed(b""), Err(fault));
-    assert!(rt; feed.ops().is_empty());
-    assert_eq!(rt; feed.finish().err(), Some(fault));
-    let nothing = Feed::new(rt.alloc()).finish().err().ok_or("nothing fed")?;
-    assert_eq!(rt; (nothing.frame(), nothing.code()), (Some(0), 3));
-    Ok(())
+    let mut feed = Feed::new(alloc);
+    let mut right = true;
+    for piece in [b"BGOP\x03".as_slice(), &TWO, b""] {
+        right = feed.feed(piece) == Err(fault) && right;
+    }
+    right && feed.ops().is_empty() && feed.finish().err() == Some(fault)
+}
+
+/// Whether a feed of nothing lacks a header.
+fn lacks_a_header(alloc: Global) -> bool {
+    match Feed::new(alloc).finish() {
+        Ok(_) => false,
+        Err(fault) => (fault.frame(), fault.code()) == (Some(0), 3),
+    }
 }
 
 #[test]
-fn a_feed_is_as_before_after_memory(rt: HostRuntime) -> Result<(), Fail> {
-    let mut feed = Feed::new(rt.alloc());
+fn a_fault_stays_and_a_missing_byte_does_not(rt: HostRuntime) {
+    assert!(rt; keeps_its_fault(rt.alloc()));
+    assert!(rt; lacks_a_header(rt.alloc()));
+}
+
+/// Whether a feed that lacked memory for a piece has what it had, and takes the piece again.
+fn is_as_before(alloc: Global) -> Result<bool, CodecFault> {
+    let mut feed = Feed::new(alloc);
+    let mut right = true;
     for piece in [&TWO[..7], &TWO[7..30], &TWO[30..]] {
         let before = feed.ops().len();
         if feed.feed(piece).is_err() {
-            assert_eq!(rt; feed.ops().len(), before);
+            right = feed.ops().len() == before && right;
             // The same again, now with memory.
             feed.feed(piece)?;
         }
     }
-    assert_eq!(rt;
-        feed.finish()?.as_slice(),
-        two().ok_or("well formed")?.as_slice()
-    );
-    Ok(())
+    let fed = feed.finish()?;
+    Ok(right && encodes_to_two(alloc, fed.as_slice()))
 }
 
-/// What a source gives in thirty pieces of ten bytes, and whether it failed.
-fn given<S: Source>(alloc: Global, source: &mut S) -> Result<(Vec<u8>, bool), AllocError> {
-    let mut bytes = Vec::new(alloc);
+/// Whether operations are those of the two insertions, on a second try where memory to say so is refused.
+fn encodes_to_two(alloc: Global, ops: &[Op]) -> bool {
+    match encode_file(alloc, ops) {
+        Err(Memory) => encode_file(alloc, ops).is_ok_and(|file| file.as_slice() == TWO.as_slice()),
+        Ok(file) => file.as_slice() == TWO.as_slice(),
+    }
+}
+
+#[test]
+fn a_feed_is_as_before_after_memory(rt: HostRuntime) {
+    assert_eq!(rt; is_as_before(rt.alloc()), Ok(true));
+}
+
+/// How many bytes a source gives in thirty pieces of ten, whether they are those of `wanted` as far as that goes, and
+/// whether it failed.
+fn given<S: Source>(source: &mut S, wanted: &[u8]) -> (usize, bool, bool) {
+    let mut count = 0usize;
+    let mut right = true;
     for _ in 0..30 {
         let mut piece = [0; 10];
         if source.failed() {
-            return Ok((bytes, true));
+            return (count, right, true);
         }
         match source.get(&mut piece) {
-            Some(0) => return Ok((bytes, false)),
-            Some(n) => bytes.extend_from_slice(&piece[..n.min(10)])?,
-            None => return Ok((bytes, true)),
+            Some(0) => return (count, right, false),
+            Some(n) => {
+                right = is_at(wanted, count, &piece[..n.min(10)]) && right;
+                count = count.saturating_add(n);
+            }
+            None => return (count, right, true),
         }
     }
-    Ok((bytes, false))
+    (count, right, false)
 }
 
-/// Whether a source gives these bytes, and then fails or not.
-fn gives<S: Source>(
-    alloc: Global,
-    source: &mut S,
-    wanted: &[u8],
-    fails: bool,
-) -> Result<bool, AllocError> {
-    let (bytes, failed) = given(alloc, source)?;
-    Ok(bytes.as_slice() == wanted && failed == fails)
+/// Whether a piece stands at this place of the bytes, as far as they go.
+fn is_at(bytes: &[u8], place: usize, piece: &[u8]) -> bool {
+    let rest = bytes.get(place..).unwrap_or(&[]);
+    rest.iter().zip(piece).all(|(byte, other)| byte == other)
 }
 
 #[test]
-fn a_source_gives_its_bytes_and_ends(rt: HostRuntime) -> Result<(), Fail> {
-    let mut read = In::new(Cursor::new(TWO));
-    assert!(rt; gives(rt.alloc(), &mut read, &TWO, false)?);
-    let mut given = Gives::new(&TWO, 3);
-    assert!(rt; gives(rt.alloc(), &mut given, &TWO, false)?);
-    Ok(())
+fn a_source_gives_its_bytes_and_ends(rt: HostRuntime) {
+    assert_eq!(rt;
+        given(&mut In::new(Cursor::new(TWO)), &TWO),
+        (43, true, false)
+    );
+    assert_eq!(rt; given(&mut Gives::new(&TWO, 3), &TWO), (43, true, false));
 }
 
 #[test]
-fn a_source_fails_after_each_number_of_bytes(rt: HostRuntime) -> Result<(), Fail> {
+fn a_source_fails_after_each_number_of_bytes(rt: HostRuntime) {
     for left in 0..50usize {
         let mut source = Gives::new(&TWO, 7).failing_after(left);
-        let wanted = &TWO[..left.min(TWO.len())];
-        let fails = left <= TWO.len();
-        assert!(rt; gives(rt.alloc(), &mut source, wanted, fails)?, "{left}");
+        let wanted = (left.min(43), true, left <= 43);
+        assert_eq!(rt; given(&mut source, &TWO), wanted, "{left}");
     }
-    Ok(())
 }
 
 #[test]
-fn a_source_goes_on_for_ever(rt: HostRuntime) -> Result<(), Fail> {
+fn a_source_goes_on_for_ever(rt: HostRuntime) {
+    // `a` again and again: a header of four bytes and one, then five gets for each 19.
     let mut source = Gives::new(&EMPTY, 4).then_for_ever(&TWO[5..24]);
-    let (bytes, failed) = given(rt.alloc(), &mut source)?;
-    assert!(rt; !failed);
-    // Four bytes and one, then five gets for each 19.
-    assert_eq!(rt; bytes.len(), 5 + 5 * 19 + 12);
-    assert!(rt; bytes.starts_with(&TWO[..24]));
-    assert!(rt; bytes[24..].starts_with(&TWO[5..24]));
-    Ok(())
+    let all = 5 + 5 * 19 + 12;
+    assert_eq!(rt; given(&mut source, &AGAIN), (all, true, false));
 }
+
+/// The header, and the first insertion twice.
+const AGAIN: [u8; 43] = [
+    0x42, 0x47, 0x4F, 0x50, 1, // BGOP, version 1
+    0, 17, 1, 0, 0, 0, 1, 0, 1, 0, 0, 0, 0, 0, 0, 0, 0, 0, 0x61, // frame 1
+    0, 17, 1, 0, 0, 0, 1, 0, 1, 0, 0, 0, 0, 0, 0, 0, 0, 0, 0x61, // frame 2
+];

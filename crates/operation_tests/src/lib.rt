@@ -4,24 +4,24 @@
 #[cfg(test)]
 mod bg_types_tests;
 #[cfg(test)]
+mod codec_fault_tests;
+#[cfg(test)]
 mod desk_replica_tests;
 #[cfg(test)]
 mod every_sequence;
 #[cfg(test)]
 mod feed_tests;
 #[cfg(test)]
-mod migrate_tests;
-#[cfg(test)]
 mod op_codec_tests;
 #[cfg(test)]
 mod op_listing_tests;
+#[cfg(test)]
+mod ops;
 #[cfg(test)]
 mod pending_ops_tests;
 #[cfg(test)]
 mod reading_tests;
 #[cfg(test)]
 mod rga_sequence_tests;
-#[cfg(test)]
-mod run_tests;
 #[cfg(test)]
 mod world_tests;

@@ -1,33 +1,154 @@
-//! Files that were worked out by hand, the names of faults, and refused growths.
+//! Operation files that were worked out by hand, in both versions, and refused growths.
+//! A test tells the number of the first row that does not come out.
 
-use bg_types::{Id, Memory, Op, Place};
+use crate::ops::{Row, op, ops_of};
+use Row::{Erase, Insert};
+use bg_types::{Memory, Op};
 use op_codec::*;
 use std::alloc::{AllocError, Global};
-use std::test::*;
 
-/// (1,1) after the root, `a`; (2,1) after (1,1), `b`.
+pub(crate) const EMPTY: [u8; 5] = *b"BGOP\x01";
+
+const A: Row = Insert((1, 1), (0, 0), 'a');
+
+const B: Row = Insert((2, 1), (1, 1), 'b');
+
+/// `a`, and `b` after it.
+pub(crate) const TWO_ROWS: [Row; 2] = [A, B];
+
 pub(crate) const TWO: [u8; 43] = [
     0x42, 0x47, 0x4F, 0x50, 1, // BGOP, version 1
     0, 17, 1, 0, 0, 0, 1, 0, 1, 0, 0, 0, 0, 0, 0, 0, 0, 0, 0x61, // frame 1
     0, 17, 1, 0, 0, 0, 2, 0, 1, 0, 0, 0, 1, 0, 1, 0, 0, 0, 0x62, // frame 2
 ];
 
-pub(crate) const EMPTY: [u8; 5] = [0x42, 0x47, 0x4F, 0x50, 1];
+/// The same in version 2: one run.
+pub(crate) const RUN: [u8; 28] = [
+    0x42, 0x47, 0x4F, 0x50, 2, // BGOP, version 2
+    0, 21, 3, 0, 0, 0, 1, 0, 1, 0, 0, 0, 0, 0, 0, 0, 0, 0, 0x61, 0, 0, 0, 0x62, // frame 1
+];
 
-pub(crate) fn insertion(id: (u32, u16), parent: Option<(u32, u16)>, ch: char) -> Option<Op> {
-    let place = match parent {
-        None => Place::Root,
-        Some((counter, site)) => Place::After(Id::new(counter, site)?),
-    };
-    Op::insert(Id::new(id.0, id.1)?, place, ch)
+/// `a`, `x` and `b` after it, `y` after `x`.
+const FOUR_ROWS: [Row; 4] = [
+    A,
+    Insert((2, 2), (1, 1), 'x'),
+    Insert((3, 2), (2, 2), 'y'),
+    B,
+];
+
+pub(crate) const FOUR: [u8; 81] = [
+    0x42, 0x47, 0x4F, 0x50, 1, // BGOP, version 1
+    0, 17, 1, 0, 0, 0, 1, 0, 1, 0, 0, 0, 0, 0, 0, 0, 0, 0, 0x61, // frame 1
+    0, 17, 1, 0, 0, 0, 2, 0, 2, 0, 0, 0, 1, 0, 1, 0, 0, 0, 0x78, // frame 2
+    0, 17, 1, 0, 0, 0, 3, 0, 2, 0, 0, 0, 2, 0, 2, 0, 0, 0, 0x79, // frame 3
+    0, 17, 1, 0, 0, 0, 2, 0, 1, 0, 0, 0, 1, 0, 1, 0, 0, 0, 0x62, // frame 4
+];
+
+pub(crate) const FOUR_MIGRATED: [u8; 66] = [
+    0x42, 0x47, 0x4F, 0x50, 2, // BGOP, version 2
+    0, 17, 1, 0, 0, 0, 1, 0, 1, 0, 0, 0, 0, 0, 0, 0, 0, 0, 0x61, // frame 1
+    0, 21, 3, 0, 0, 0, 2, 0, 2, 0, 0, 0, 1, 0, 1, 0, 0, 0, 0x78, 0, 0, 0, 0x79, // frame 2
+    0, 17, 1, 0, 0, 0, 2, 0, 1, 0, 0, 0, 1, 0, 1, 0, 0, 0, 0x62, // frame 3
+];
+
+/// The deletion of (2,1), and (3,1) after (2,1), `c`: a deletion is never joined, nor joins.
+const ERASED: [u8; 33] = [
+    0x42, 0x47, 0x4F, 0x50, 1, // BGOP, version 1
+    0, 7, 2, 0, 0, 0, 2, 0, 1, // frame 1
+    0, 17, 1, 0, 0, 0, 3, 0, 1, 0, 0, 0, 2, 0, 1, 0, 0, 0, 0x63, // frame 2
+];
+
+const ERASED_MIGRATED: [u8; 33] = [
+    0x42, 0x47, 0x4F, 0x50, 2, // BGOP, version 2
+    0, 7, 2, 0, 0, 0, 2, 0, 1, // frame 1
+    0, 17, 1, 0, 0, 0, 3, 0, 1, 0, 0, 0, 2, 0, 1, 0, 0, 0, 0x63, // frame 2
+];
+
+/// Operations, and their files in both versions.
+const FILES: &[(&[Row], &[u8], &[u8])] = &[
+    (&[], &EMPTY, b"BGOP\x02"),
+    (&TWO_ROWS, &TWO, &RUN),
+    (&FOUR_ROWS, &FOUR, &FOUR_MIGRATED),
+    (
+        &[Erase((2, 1)), Insert((3, 1), (2, 1), 'c')],
+        &ERASED,
+        &ERASED_MIGRATED,
+    ),
+];
+
+/// Whether a file of version 1 is that of the operations, both ways.
+fn is_file_of(alloc: Global, file: &[u8], ops: &[Op]) -> Result<bool, CodecFault> {
+    Ok(encode_file(alloc, ops)?.as_slice() == file && decode_file(alloc, file)?.as_slice() == ops)
 }
 
-pub(crate) fn two() -> Option<[Op; 2]> {
-    Some([
-        insertion((1, 1), None, 'a')?,
-        insertion((2, 1), Some((1, 1)), 'b')?,
-    ])
+/// Whether a file of version 2 is that of the operations, both ways, and what it is migrated to.
+fn is_run_file_of(alloc: Global, file: &[u8], ops: &[Op]) -> Result<bool, CodecFault> {
+    Ok(
+        encode_file_v2(alloc, ops)?.as_slice() == file
+            && decode_file(alloc, file)?.as_slice() == ops
+            && migrate(alloc, file)?.as_slice() == file,
+    )
 }
+
+/// Whether operations have these files.
+fn have_files(alloc: Global, rows: &[Row], old: &[u8], new: &[u8]) -> Result<bool, CodecFault> {
+    let ops = ops_of(alloc, rows)?;
+    Ok(
+        ops.len() == rows.len()
+            && is_file_of(alloc, old, &ops)?
+            && is_run_file_of(alloc, new, &ops)?
+            && migrate(alloc, old)?.as_slice() == new,
+    )
+}
+
+fn first_wrong_file(alloc: Global) -> Option<usize> {
+    for (n, (rows, old, new)) in FILES.iter().enumerate() {
+        if have_files(alloc, rows, old, new) != Ok(true) {
+            return Some(n);
+        }
+    }
+    None
+}
+
+#[test]
+fn files_of_both_versions(rt: HostRuntime) {
+    assert_eq!(rt; first_wrong_file(rt.alloc()), None);
+}
+
+/// Operations with the greatest numbers and at the edges of the scalars, and their frames.
+const FRAMES: &[(Row, &[u8])] = &[
+    (
+        Insert(
+            (4_294_967_295, 65_535),
+            (4_294_967_294, 65_535),
+            '\u{10FFFF}',
+        ),
+        &[
+            0, 17, 1, 255, 255, 255, 255, 255, 255, 255, 255, 255, 254, 255, 255, 0, 0x10, 0xFF,
+            0xFF,
+        ],
+    ),
+    (
+        Erase((4_294_967_295, 65_535)),
+        &[0, 7, 2, 255, 255, 255, 255, 255, 255],
+    ),
+    (
+        Insert((258, 772), (0, 0), '\0'),
+        &[0, 17, 1, 0, 0, 1, 2, 3, 4, 0, 0, 0, 0, 0, 0, 0, 0, 0, 0],
+    ),
+    (
+        Insert((2, 3), (1, 65_535), '\u{D7FF}'),
+        &[
+            0, 17, 1, 0, 0, 0, 2, 0, 3, 0, 0, 0, 1, 255, 255, 0, 0, 0xD7, 0xFF,
+        ],
+    ),
+    (
+        Insert((2, 3), (1, 65_535), '\u{E000}'),
+        &[
+            0, 17, 1, 0, 0, 0, 2, 0, 3, 0, 0, 0, 1, 255, 255, 0, 0, 0xE0, 0,
+        ],
+    ),
+];
 
 pub(crate) fn joined(alloc: Global, front: &[u8], back: &[u8]) -> Result<Vec<u8>, AllocError> {
     let mut file = Vec::from_slice(alloc, front)?;
@@ -35,270 +156,90 @@ pub(crate) fn joined(alloc: Global, front: &[u8], back: &[u8]) -> Result<Vec<u8>
     Ok(file)
 }
 
-/// The fault of a file, if it has one: a front, and then a frame.
-pub(crate) fn fault_behind(
-    alloc: Global,
-    front: &[u8],
-    frame: &[u8],
-) -> Result<Option<CodecFault>, AllocError> {
-    let file = joined(alloc, front, frame)?;
-    Ok(decode_file(alloc, &file).err())
-}
-
-fn encodes_to(alloc: Global, ops: &[Op], file: &[u8]) -> Result<bool, Memory> {
-    Ok(encode_file(alloc, ops)?.as_slice() == file)
-}
-
-fn decodes_to(alloc: Global, file: &[u8], ops: &[Op]) -> Result<bool, CodecFault> {
-    Ok(decode_file(alloc, file)?.as_slice() == ops)
-}
-
-/// Whether a file is that of these operations, both ways.
-fn is_file_of(alloc: Global, file: &[u8], ops: &[Op]) -> Result<bool, Fail> {
-    Ok(encodes_to(alloc, ops, file)? && decodes_to(alloc, file, ops)?)
-}
-
-/// Whether these are the frames of the operations.
-fn are_frames_of(alloc: Global, frames: &[u8], ops: &[Op]) -> Result<bool, Memory> {
+/// Whether a frame is that of the operation, alone and behind a header.
+fn is_frame_of(alloc: Global, frame: &[u8], row: Row) -> Result<bool, CodecFault> {
+    let ops = ops_of(alloc, &[row])?;
     let mut written = Vec::new(alloc);
-    for op in ops {
+    for op in &ops {
         encode_op(op, &mut written)?;
     }
-    Ok(written.as_slice() == frames)
-}
-
-#[test]
-fn two_insertions_both_ways(rt: HostRuntime) -> Result<(), Fail> {
-    let ops = two().ok_or("well formed")?;
-    assert!(rt; is_file_of(rt.alloc(), &TWO, &ops)?);
-    assert!(rt; are_frames_of(rt.alloc(), &TWO[5..], &ops)?);
-    Ok(())
-}
-
-#[test]
-fn a_file_without_frames_has_no_operations(rt: HostRuntime) -> Result<(), Fail> {
-    assert!(rt; is_file_of(rt.alloc(), &EMPTY, &[])?);
-    Ok(())
-}
-
-/// Whether a file of this frame is that of the operation.
-fn is_frame_of(alloc: Global, frame: &[u8], op: Option<Op>) -> Result<bool, Fail> {
-    let ops = [op.ok_or("well formed")?];
     let file = joined(alloc, &EMPTY, frame)?;
-    is_file_of(alloc, &file, &ops)
+    Ok(ops.len() == 1 && written.as_slice() == frame && is_file_of(alloc, &file, &ops)?)
 }
 
-#[test]
-fn the_greatest_numbers_and_the_edges_of_the_scalars(rt: HostRuntime) -> Result<(), Fail> {
-    let greatest = (4_294_967_295, 65_535);
-    let rows: [(Option<Op>, &[u8]); 5] = [
-        (
-            insertion(greatest, Some((4_294_967_294, 65_535)), '\u{10FFFF}'),
-            &[
-                0, 17, 1, 255, 255, 255, 255, 255, 255, 255, 255, 255, 254, 255, 255, 0, 0x10,
-                0xFF, 0xFF,
-            ],
-        ),
-        (
-            Id::new(greatest.0, greatest.1).map(Op::erase),
-            &[0, 7, 2, 255, 255, 255, 255, 255, 255],
-        ),
-        (
-            insertion((258, 772), None, '\0'),
-            &[0, 17, 1, 0, 0, 1, 2, 3, 4, 0, 0, 0, 0, 0, 0, 0, 0, 0, 0],
-        ),
-        (
-            insertion((2, 3), Some((1, 65_535)), '\u{D7FF}'),
-            &[
-                0, 17, 1, 0, 0, 0, 2, 0, 3, 0, 0, 0, 1, 255, 255, 0, 0, 0xD7, 0xFF,
-            ],
-        ),
-        (
-            insertion((2, 3), Some((1, 65_535)), '\u{E000}'),
-            &[
-                0, 17, 1, 0, 0, 0, 2, 0, 3, 0, 0, 0, 1, 255, 255, 0, 0, 0xE0, 0,
-            ],
-        ),
-    ];
-    for (op, frame) in rows {
-        assert!(rt; is_frame_of(rt.alloc(), frame, op)?, "{frame:?}");
-    }
-    Ok(())
-}
-
-#[test]
-fn a_file_cut_to_each_length(rt: HostRuntime) -> Result<(), Fail> {
-    for k in 0..44usize {
-        let read = decode_file(rt.alloc(), &TWO[..k]);
-        let cut = match k {
-            0..5 => Some(0),
-            6..24 => Some(1),
-            25..43 => Some(2),
-            _ => None,
-        };
-        match cut {
-            None => assert_eq!(rt; read?.len(), (k - 5) / 19, "at {k}"),
-            Some(frame) => {
-                let cause = Cause::Truncated;
-                assert_eq!(rt;
-                    read.err(),
-                    Some(CodecFault::Malformed { frame, cause }),
-                    "at {k}"
-                );
-            }
+fn first_wrong_frame(alloc: Global) -> Option<usize> {
+    for (n, (row, frame)) in FRAMES.iter().enumerate() {
+        if is_frame_of(alloc, frame, *row) != Ok(true) {
+            return Some(n);
         }
     }
-    Ok(())
+    None
 }
 
-/// Headers with their first fault.
-const FAULTY_HEADERS: &[(&[u8], Cause)] = &[
-    (b"", Cause::Truncated),
-    (b"BGO", Cause::Truncated),
-    (b"BGOP", Cause::Truncated),
-    (b"A", Cause::BadMagic),
-    (b"BF", Cause::BadMagic),
-    (b"BGP", Cause::BadMagic),
-    (b"BGOp", Cause::BadMagic),
-    (b"BGOp\x02", Cause::BadMagic),
-    (b"BGOP\x00", Cause::BadVersion),
-    (b"BGOP\x03", Cause::BadVersion),
-    (b"BGOP\x03\x00", Cause::BadVersion),
-];
-
 #[test]
-fn a_header_shows_its_first_fault(rt: HostRuntime) {
-    for (file, cause) in FAULTY_HEADERS {
-        let wanted = CodecFault::Malformed {
-            frame: 0,
-            cause: *cause,
-        };
-        assert_eq!(rt;
-            decode_file(rt.alloc(), file).err(),
-            Some(wanted),
-            "in {file:?}"
-        );
-    }
+fn the_greatest_numbers_and_the_edges_of_the_scalars(rt: HostRuntime) {
+    assert_eq!(rt; first_wrong_frame(rt.alloc()), None);
 }
 
-/// Frames with their first fault.
-const FAULTY_FRAMES: &[(&[u8], Cause)] = &[
-    (&[0], Cause::Truncated),
-    (&[0, 17], Cause::Truncated),
-    (&[0, 17, 1], Cause::Truncated),
-    (&[0, 7, 2, 0, 0, 0, 1, 0], Cause::Truncated),
-    (
-        &[0, 17, 1, 0, 0, 0, 0, 0, 0, 0, 0, 0, 0, 0, 0, 0, 0, 0],
-        Cause::Truncated,
-    ),
-    (&[0, 1, 0], Cause::UnknownKind),
-    (&[0, 17, 3], Cause::UnknownKind),
-    (&[1, 0, 255], Cause::UnknownKind),
-    (&[0, 7, 1], Cause::BadLength),
-    (&[0, 16, 1], Cause::BadLength),
-    (&[0, 18, 1], Cause::BadLength),
-    (&[0, 17, 2], Cause::BadLength),
-    (&[1, 7, 2], Cause::BadLength),
-    (&[0, 8, 2, 0, 0, 0, 0, 0, 0, 0], Cause::BadLength),
-    (&[0, 7, 2, 0, 0, 0, 0, 0, 1], Cause::ZeroField),
-    (&[0, 7, 2, 0, 0, 0, 1, 0, 0], Cause::ZeroField),
-    (
-        &[0, 17, 1, 0, 0, 0, 0, 0, 1, 0, 0, 0, 0, 0, 0, 0, 0, 0, 0x61],
-        Cause::ZeroField,
-    ),
-    (
-        &[0, 17, 1, 0, 0, 0, 1, 0, 0, 0, 0, 0, 0, 0, 0, 0, 0, 0, 0x61],
-        Cause::ZeroField,
-    ),
-    (
-        &[0, 17, 1, 0, 0, 0, 2, 0, 1, 0, 0, 0, 0, 0, 1, 0, 0, 0, 0x61],
-        Cause::ZeroField,
-    ),
-    (
-        &[0, 17, 1, 0, 0, 0, 2, 0, 1, 0, 0, 0, 3, 0, 0, 0, 0, 0xD8, 0],
-        Cause::ZeroField,
-    ),
-    (
-        &[0, 17, 1, 0, 0, 0, 2, 0, 1, 0, 0, 0, 2, 0, 2, 0, 0, 0, 0x61],
-        Cause::ParentNotBefore,
-    ),
-    (
-        &[0, 17, 1, 0, 0, 0, 2, 0, 1, 0, 0, 0, 3, 0, 1, 0, 0x11, 0, 0],
-        Cause::ParentNotBefore,
-    ),
-    (
-        &[0, 17, 1, 0, 0, 0, 2, 0, 1, 0, 0, 0, 1, 0, 2, 0, 0, 0xD8, 0],
-        Cause::NotAScalar,
-    ),
-    (
-        &[
-            0, 17, 1, 0, 0, 0, 2, 0, 1, 0, 0, 0, 1, 0, 2, 0, 0, 0xDF, 255,
-        ],
-        Cause::NotAScalar,
-    ),
-    (
-        &[0, 17, 1, 0, 0, 0, 2, 0, 1, 0, 0, 0, 0, 0, 0, 0, 0x11, 0, 0],
-        Cause::NotAScalar,
-    ),
-    (
-        &[0, 17, 1, 0, 0, 0, 2, 0, 1, 0, 0, 0, 0, 0, 0, 1, 0, 0, 0x61],
-        Cause::NotAScalar,
-    ),
-];
-
-#[test]
-fn a_frame_shows_its_first_fault(rt: HostRuntime) -> Result<(), Fail> {
-    for (bytes, cause) in FAULTY_FRAMES {
-        for (front, frame) in [(EMPTY.as_slice(), 1), (TWO.as_slice(), 3)] {
-            let fault = fault_behind(rt.alloc(), front, bytes)?;
-            let wanted = CodecFault::Malformed {
-                frame,
-                cause: *cause,
-            };
-            assert_eq!(rt; fault, Some(wanted), "{bytes:?} at {frame}");
+/// This many insertions at site 1, each after the one before.
+fn chain(alloc: Global, count: u32) -> Result<Vec<Op>, Memory> {
+    let mut ops = Vec::new(alloc);
+    for counter in 1..=count {
+        let parent = (counter.saturating_sub(1), u16::from(counter > 1));
+        if let Some(op) = op(Insert((counter, 1), parent, 'a')) {
+            ops.push(op)?;
         }
     }
-    Ok(())
+    Ok(ops)
 }
 
-/// What a fault prints, its number and its frame, as one line.
-fn told(alloc: Global, fault: CodecFault) -> Result<String, AllocError> {
-    format!(in alloc; "{fault} {} {:?}", fault.code(), fault.frame())
+/// Whether a chain of this many is a file of this size in version 2.
+fn is_chain_of_size(alloc: Global, count: u32, size: usize) -> Result<bool, CodecFault> {
+    let ops = chain(alloc, count)?;
+    let file = encode_file_v2(alloc, &ops)?;
+    let old = encode_file(alloc, &ops)?;
+    Ok(
+        file.len() == size
+            && is_run_file_of(alloc, &file, &ops)?
+            && migrate(alloc, &old)?.as_slice() == file.as_slice(),
+    )
+}
+
+/// Chains, and how long their files are: 15 bytes plus four a character, or 19 for one alone, after the header.
+const CHAINS: &[(u32, usize)] = &[
+    (0, 5),
+    (1, 24),
+    (2, 28),
+    (1_024, 4_116),
+    (1_025, 4_135),
+    (2_049, 8_246),
+];
+
+fn first_wrong_chain(alloc: Global) -> Option<u32> {
+    for (count, size) in CHAINS {
+        if is_chain_of_size(alloc, *count, *size) != Ok(true) {
+            return Some(*count);
+        }
+    }
+    None
 }
 
 #[test]
-fn a_fault_has_a_number_a_name_and_a_frame(rt: HostRuntime) -> Result<(), Fail> {
-    let rows = [
-        (Cause::BadMagic, 1, "BadMagic 1 Some(3)"),
-        (Cause::BadVersion, 2, "BadVersion 2 Some(3)"),
-        (Cause::Truncated, 3, "Truncated 3 Some(3)"),
-        (Cause::UnknownKind, 4, "UnknownKind 4 Some(3)"),
-        (Cause::BadLength, 5, "BadLength 5 Some(3)"),
-        (Cause::ZeroField, 6, "ZeroField 6 Some(3)"),
-        (Cause::ParentNotBefore, 7, "ParentNotBefore 7 Some(3)"),
-        (Cause::NotAScalar, 8, "NotAScalar 8 Some(3)"),
-        (Cause::CounterOverflow, 10, "CounterOverflow 10 Some(3)"),
-        (Cause::NotJoined, 11, "NotJoined 11 Some(3)"),
-    ];
-    for (cause, code, line) in rows {
-        assert_eq!(rt; cause.code(), code);
-        let fault = CodecFault::Malformed { frame: 3, cause };
-        assert_eq!(rt; told(rt.alloc(), fault)?.as_str(), line);
-    }
-    assert_eq!(rt;
-        told(rt.alloc(), CodecFault::Memory)?.as_str(),
-        "Memory 9 None"
-    );
-    Ok(())
+fn a_chain_is_cut_after_each_1_024(rt: HostRuntime) {
+    assert_eq!(rt; first_wrong_chain(rt.alloc()), None);
 }
 
-fn encodes_or_says_memory(alloc: Global, ops: &[Op]) -> bool {
-    encodes_to(alloc, ops, &TWO).unwrap_or(true)
+/// Whether what a call made is this, or it says memory.
+fn is_right_or_memory(made: Result<Vec<u8>, CodecFault>, wanted: &[u8]) -> bool {
+    match made {
+        Ok(file) => file.as_slice() == wanted,
+        Err(fault) => fault == CodecFault::Memory,
+    }
 }
 
 fn decodes_or_says_memory(alloc: Global, ops: &[Op]) -> bool {
-    match decodes_to(alloc, &TWO, ops) {
-        Ok(right) => right,
+    match decode_file(alloc, &TWO) {
+        Ok(read) => read.as_slice() == ops,
         Err(fault) => fault == CodecFault::Memory,
     }
 }
@@ -318,13 +259,33 @@ fn appends_or_says_memory(alloc: Global, ops: &[Op]) -> bool {
     right
 }
 
+/// The first call that is neither right nor says memory.
+fn first_wrong_call(alloc: Global) -> Option<&'static str> {
+    let (Some(a), Some(b)) = (op(A), op(B)) else {
+        return Some("op");
+    };
+    let ops = &[a, b];
+    if !is_right_or_memory(encode_file(alloc, ops).map_err(CodecFault::from), &TWO) {
+        return Some("encode_file");
+    }
+    if !is_right_or_memory(encode_file_v2(alloc, ops).map_err(CodecFault::from), &RUN) {
+        return Some("encode_file_v2");
+    }
+    if !is_right_or_memory(migrate(alloc, &FOUR), &FOUR_MIGRATED) {
+        return Some("migrate");
+    }
+    if !decodes_or_says_memory(alloc, ops) {
+        return Some("decode_file");
+    }
+    if !appends_or_says_memory(alloc, ops) {
+        return Some("encode_op");
+    }
+    None
+}
+
 /// With ample memory each call is right; where a growth is refused it says so, and nothing is left
 /// half done.
 #[test]
-fn a_call_is_right_or_says_memory(rt: HostRuntime) -> Result<(), Fail> {
-    let ops = two().ok_or("well formed")?;
-    assert!(rt; encodes_or_says_memory(rt.alloc(), &ops));
-    assert!(rt; decodes_or_says_memory(rt.alloc(), &ops));
-    assert!(rt; appends_or_says_memory(rt.alloc(), &ops));
-    Ok(())
+fn a_call_is_right_or_says_memory(rt: HostRuntime) {
+    assert_eq!(rt; first_wrong_call(rt.alloc()), None);
 }

@@ -7,7 +7,6 @@ use bg_types::{Out, Sink, Stops};
 use op_codec::{Cause, CodecFault};
 use op_listing::*;
 use std::alloc::{AllocError, Global};
-use std::test::Fail;
 
 const EMPTY: [u8; 5] = *b"BGOP\x01";
 
@@ -24,7 +23,19 @@ const TREE: [u8; 90] = [
 const TREE_LISTING: &[u8] =
     b"i 1.1 root 0061\ni 2.2 1.1 0078\ni 3.2 2.2 0079\ni 2.1 1.1 0062\ne 2.2\n";
 
-/// The same operations in version 2: the second and the third are a run.
+/// The first four of them.
+const TREE_WITHOUT_ERASURE: &[u8] = &[
+    0x42, 0x47, 0x4F, 0x50, 1, // BGOP, version 1
+    0, 17, 1, 0, 0, 0, 1, 0, 1, 0, 0, 0, 0, 0, 0, 0, 0, 0, 0x61, // frame 1
+    0, 17, 1, 0, 0, 0, 2, 0, 2, 0, 0, 0, 1, 0, 1, 0, 0, 0, 0x78, // frame 2
+    0, 17, 1, 0, 0, 0, 3, 0, 2, 0, 0, 0, 2, 0, 2, 0, 0, 0, 0x79, // frame 3
+    0, 17, 1, 0, 0, 0, 2, 0, 1, 0, 0, 0, 1, 0, 1, 0, 0, 0, 0x62, // frame 4
+];
+
+const LISTING_WITHOUT_ERASURE: &[u8] =
+    b"i 1.1 root 0061\ni 2.2 1.1 0078\ni 3.2 2.2 0079\ni 2.1 1.1 0062\n";
+
+/// All of them in version 2: the second and the third are a run.
 const TREE_MIGRATED: [u8; 75] = [
     0x42, 0x47, 0x4F, 0x50, 2, // BGOP, version 2
     0, 17, 1, 0, 0, 0, 1, 0, 1, 0, 0, 0, 0, 0, 0, 0, 0, 0, 0x61, // frame 1
@@ -65,21 +76,26 @@ fn is_read_as(alloc: Global, listing: &[u8], plain: &[u8]) -> bool {
         && bytes.as_slice() == plain
 }
 
+/// Whether a listing is packed as a file, and read as itself.
+fn is_listing_of(alloc: Global, file: &[u8], listing: &[u8]) -> bool {
+    let (answer, bytes) = packed(alloc, listing);
+    answer == Ok(()) && bytes.as_slice() == file && is_read_as(alloc, listing, listing)
+}
+
+const LISTINGS: &[(&[u8], &[u8])] = &[
+    (&EMPTY, b""),
+    (&TREE, TREE_LISTING),
+    (TREE_WITHOUT_ERASURE, LISTING_WITHOUT_ERASURE),
+    (
+        b"BGOP\x01\x00\x11\x01\xFF\xFF\xFF\xFF\xFF\xFF\xFF\xFF\xFF\xFE\x00\x01\x00\x10\xFF\xFF",
+        b"i 4294967295.65535 4294967294.1 10FFFF\n",
+    ),
+];
+
 #[test]
 fn files_and_listings_worked_out_by_hand(rt: HostRuntime) {
-    let rows: [(&[u8], &[u8]); 4] = [
-        (&EMPTY, b""),
-        (&TREE, TREE_LISTING),
-        (&TREE[..81], &TREE_LISTING[..61]),
-        (
-            b"BGOP\x01\x00\x11\x01\xFF\xFF\xFF\xFF\xFF\xFF\xFF\xFF\xFF\xFE\x00\x01\x00\x10\xFF\xFF",
-            b"i 4294967295.65535 4294967294.1 10FFFF\n",
-        ),
-    ];
-    for (file, listing) in rows {
-        assert!(rt; is_read_as(rt.alloc(), listing, listing), "{listing:?}");
-        let (answer, bytes) = packed(rt.alloc(), listing);
-        assert_eq!(rt; (answer, bytes.as_slice()), (Ok(()), file));
+    for (file, listing) in LISTINGS {
+        assert!(rt; is_listing_of(rt.alloc(), file, listing), "{listing:?}");
     }
 }
 
@@ -98,12 +114,6 @@ fn a_file_and_its_migration_have_one_listing(rt: HostRuntime) {
     for file in [TREE.as_slice(), TREE_MIGRATED.as_slice()] {
         assert!(rt; is_migrated_and_dumped(rt.alloc(), file), "{file:?}");
     }
-    let fault = FileFault::Malformed {
-        frame: 2,
-        cause: Cause::Truncated,
-    };
-    let (answer, bytes) = migrated(rt.alloc(), &TREE_MIGRATED[..40]);
-    assert_eq!(rt; (answer, bytes.is_empty()), (Err(fault), true));
 }
 
 #[test]
@@ -168,36 +178,58 @@ const FAULTY_LINES: &[(&[u8], usize, LineFault)] = &[
     (b"i 2.1 1.2 110000", 1, NotAScalar),
 ];
 
+/// Whether packing a listing answers this fault, and writes nothing.
+fn is_faulty_line(alloc: Global, listing: &[u8], line: usize, fault: LineFault) -> bool {
+    let (answer, bytes) = packed(alloc, listing);
+    answer == Err(ListingFault::Malformed { line, fault }) && bytes.is_empty()
+}
+
+fn first_wrong_line(alloc: Global) -> Option<usize> {
+    for (n, (listing, line, fault)) in FAULTY_LINES.iter().enumerate() {
+        if !is_faulty_line(alloc, listing, *line, *fault) {
+            return Some(n);
+        }
+    }
+    None
+}
+
 #[test]
 fn a_faulty_line_shows_its_first_fault(rt: HostRuntime) {
-    for (listing, line, fault) in FAULTY_LINES {
-        let (answer, bytes) = packed(rt.alloc(), listing);
-        let wanted = Err(ListingFault::Malformed {
-            line: *line,
-            fault: *fault,
-        });
-        assert_eq!(rt; (answer, bytes.is_empty()), (wanted, true), "{listing:?}");
+    assert_eq!(rt; first_wrong_line(rt.alloc()), None);
+}
+
+/// Lengths to which a file is cut, and the frame that is then.
+const CUTS: &[(&[u8], usize, usize)] = &[
+    (&TREE, 0, 0),
+    (&TREE, 4, 0),
+    (&TREE, 6, 1),
+    (&TREE, 80, 4),
+    (&TREE, 89, 5),
+    (&TREE_MIGRATED, 40, 2),
+];
+
+/// Whether dumping a file, and migrating it, answers a cut in this frame and writes nothing.
+fn is_cut(alloc: Global, file: &[u8], frame: usize) -> bool {
+    let cause = Cause::Truncated;
+    let fault = FileFault::Malformed { frame, cause };
+    let (listing, lines) = dumped(alloc, file);
+    let (migration, bytes) = migrated(alloc, file);
+    (listing, lines.is_empty()) == (Err(fault), true)
+        && (migration, bytes.is_empty()) == (Err(fault), true)
+}
+
+fn first_wrong_cut(alloc: Global) -> Option<usize> {
+    for (n, (file, length, frame)) in CUTS.iter().enumerate() {
+        if !is_cut(alloc, &file[..(*length).min(file.len())], *frame) {
+            return Some(n);
+        }
     }
+    None
 }
 
 #[test]
 fn a_faulty_file_shows_its_first_fault(rt: HostRuntime) {
-    let rows = [
-        (0, 0, Cause::Truncated),
-        (4, 0, Cause::Truncated),
-        (6, 1, Cause::Truncated),
-        (80, 4, Cause::Truncated),
-        (89, 5, Cause::Truncated),
-    ];
-    for (length, frame, cause) in rows {
-        let fault = FileFault::Malformed { frame, cause };
-        let (answer, bytes) = dumped(rt.alloc(), &TREE[..length]);
-        assert_eq!(rt;
-            (answer, bytes.is_empty()),
-            (Err(fault), true),
-            "at {length}"
-        );
-    }
+    assert_eq!(rt; first_wrong_cut(rt.alloc()), None);
 }
 
 /// An engine of this crate, over the tree.
@@ -299,19 +331,26 @@ fn listing_faults(alloc: Global) -> Result<String, AllocError> {
     )
 }
 
+fn is(printed: Result<String, AllocError>, line: &str) -> bool {
+    match printed {
+        Ok(printed) => printed.as_str() == line,
+        Err(AllocError) => false,
+    }
+}
+
 #[test]
-fn faults_print_what_the_line_about_them_says(rt: HostRuntime) -> Result<(), Fail> {
-    assert_eq!(rt;
-        line_faults(rt.alloc())?.as_str(),
-        "BadLine ZeroField ParentNotBefore NotAScalar"
+fn faults_print_what_the_line_about_them_says(rt: HostRuntime) {
+    let line = is(
+        line_faults(rt.alloc()),
+        "BadLine ZeroField ParentNotBefore NotAScalar",
     );
-    assert_eq!(rt;
-        file_faults(rt.alloc())?.as_str(),
-        "file 1 frame 3: ZeroField; device; memory"
+    let file = is(
+        file_faults(rt.alloc()),
+        "file 1 frame 3: ZeroField; device; memory",
     );
-    assert_eq!(rt;
-        listing_faults(rt.alloc())?.as_str(),
-        "listing line 12: BadLine; device; memory"
+    let listing = is(
+        listing_faults(rt.alloc()),
+        "listing line 12: BadLine; device; memory",
     );
-    Ok(())
+    assert_eq!(rt; [line, file, listing], [true; 3]);
 }
