@@ -57,25 +57,25 @@ pub fn run<B: BufRead, S: Sink>(
     file: &mut B,
     out: &mut S,
 ) -> Result<Tally, RunFault> {
+    let tally = compare_all(alloc, tables, kind, file, out)?;
+    let text = summary(alloc, kind.name(), &tally)?;
+    put_text(out, text.as_str())?;
+    Ok(tally)
+}
+
+/// Compares the cases of a test file, and writes the first 20 that differ. Makes what a run owns, and lends it: each way out of a
+/// function proves again that what it owns may be dropped.
+fn compare_all<B: BufRead, S: Sink>(
+    alloc: Global,
+    tables: &Tables,
+    kind: TestFile,
+    file: &mut B,
+    out: &mut S,
+) -> Result<Tally, RunFault> {
     let mut comparison = Comparison::new(alloc, tables);
     let mut line = Vec::new(alloc);
-    for number in 1..u64::MAX {
-        line.clear();
-        if read_line(&mut *file, &mut line).map_err(|fault| at(number, fault))? {
-            break;
-        }
-        comparison
-            .take(kind, &line)
-            .map_err(|fault| at(number, fault))?;
-        if let Some(told) = comparison.told.take() {
-            let name = kind.name();
-            let text = format!(in alloc; "{name} line {number}: {told}\n")?;
-            put_text(out, text.as_str())?;
-        }
-    }
-    let text = summary(alloc, kind.name(), &comparison.tally)?;
-    put_text(out, text.as_str())?;
-    Ok(comparison.tally)
+    let done = comparison.take_lines(kind, file, &mut line, out);
+    done.map(|()| comparison.tally)
 }
 
 /// Writes a text to a sink, which may have failed before.
@@ -117,6 +117,35 @@ impl<'a> Comparison<'a> {
             },
             told: None,
         }
+    }
+
+    /// Compares the cases of each line.
+    fn take_lines<B: BufRead, S: Sink>(
+        &mut self,
+        kind: TestFile,
+        file: &mut B,
+        line: &mut Vec<u8>,
+        out: &mut S,
+    ) -> Result<(), RunFault> {
+        for number in 1..u64::MAX {
+            line.clear();
+            if read_line(&mut *file, line).map_err(|fault| at(number, fault))? {
+                break;
+            }
+            self.take(kind, line).map_err(|fault| at(number, fault))?;
+            self.tell(kind, number, out)?;
+        }
+        Ok(())
+    }
+
+    /// Writes the report of the last case that differed, if it is kept.
+    fn tell<S: Sink>(&mut self, kind: TestFile, number: u64, out: &mut S) -> Result<(), RunFault> {
+        let Some(told) = self.told.take() else {
+            return Ok(());
+        };
+        let text = format!(in self.alloc; "{} line {number}: {told}\n", kind.name())?;
+        put_text(out, text.as_str())?;
+        Ok(())
     }
 
     /// Compares the cases of a line.

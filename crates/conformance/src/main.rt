@@ -22,7 +22,7 @@ pub use fault::{FaultAt, LineFault, RunFault};
 pub use request::Job;
 use std::fmt::Display;
 use std::fs::File;
-use std::io::{self, BufReader, BufWriter};
+use std::io::{self, BufRead, BufReader, BufWriter, Write};
 use std::process::ExitCode;
 pub use tally::{Choice, Tally, Verdict};
 pub use test_file::TestFile;
@@ -42,19 +42,23 @@ fn main(rt: HostRuntime) -> ExitCode {
     }
 }
 
-/// Runs test files in order, and gives the status: 0 where no case differs, 1 where some do.
+/// Loads the data files, and runs the test files by them.
 fn compare_all(rt: &HostRuntime, folder: &str, files: &[&str]) -> ExitCode {
     let data = match read_data(rt, folder) {
         Ok(data) => data,
         Err(unread) => return refuse(rt, &unread),
     };
-    let tables = match data.ucd(false).load(rt.alloc()) {
-        Ok(tables) => tables,
-        Err(fault) => return refuse_at(rt, folder, RunFault::from(fault)),
-    };
+    match data.ucd(false).load(rt.alloc()) {
+        Ok(tables) => compare_each(rt, &tables, files),
+        Err(fault) => refuse_at(rt, folder, RunFault::from(fault)),
+    }
+}
+
+/// Runs test files in order, and gives the status: 0 where no case differs, 1 where some do.
+fn compare_each(rt: &HostRuntime, tables: &Tables, files: &[&str]) -> ExitCode {
     let mut differs = false;
     for path in files {
-        match compare(rt, &tables, path) {
+        match compare(rt, tables, path) {
             Ok(tally) => differs = differs || tally.differ > 0,
             Err(fault) => return refuse_at(rt, path, fault),
         }
@@ -68,15 +72,30 @@ fn compare(rt: &HostRuntime, tables: &Tables, path: &str) -> Result<Tally, RunFa
     let Ok(file) = File::open(rt, path) else {
         return Err(RunFault::ReadFailed);
     };
-    let Ok(mut reader) = BufReader::new(rt.alloc(), file) else {
-        return Err(RunFault::Memory);
-    };
+    match BufReader::new(rt.alloc(), file) {
+        Ok(mut reader) => compare_read(rt, tables, kind, &mut reader),
+        Err(_) => Err(RunFault::Memory),
+    }
+}
+
+/// The same of a test file that is read.
+fn compare_read<B: BufRead>(
+    rt: &HostRuntime,
+    tables: &Tables,
+    kind: TestFile,
+    file: &mut B,
+) -> Result<Tally, RunFault> {
     let Ok(mut buffered) = BufWriter::new(rt.alloc(), io::writer(rt)) else {
         return Err(RunFault::Memory);
     };
-    let mut out = Out::new(&mut buffered);
-    let tally = run(rt.alloc(), tables, kind, &mut reader, &mut out)?;
-    flush(&mut buffered)?;
+    let done = run(rt.alloc(), tables, kind, file, &mut Out::new(&mut buffered));
+    flushed(done, &mut buffered)
+}
+
+/// What a run came to, once all that it wrote is flushed.
+fn flushed<W: Write>(done: Result<Tally, RunFault>, out: &mut W) -> Result<Tally, RunFault> {
+    let tally = done?;
+    flush(out)?;
     Ok(tally)
 }
 

@@ -5,7 +5,7 @@ use bg_types::{Base, Out, Stops};
 use desk_runs::Move::{self, *};
 use desk_runs::{RunFault, Ucd, carets};
 use op_codec::{Cause, CodecFault};
-use std::process::Abort;
+use std::alloc::{AllocError, Global};
 use std::slice::from_ref;
 use std::test::Fail;
 use ucd_files::{UcdFault, UcdFile, vectors};
@@ -28,23 +28,29 @@ fn small_ucd() -> Ucd<'static> {
 /// The width of a walk, its place and its moves.
 type Walk<'a> = (u16, u32, &'a [Move]);
 
-/// Compares what a walk over the text of a file comes to, in a sink that takes at most `most` bytes a
-/// call and stops after `left`, with what is wanted.
-fn assert_walk(
-    rt: &(impl Abort + AllocGlobal),
+/// How many bytes a sink takes at most a call, and after how many it stops.
+type Stopping = (usize, usize);
+
+/// A sink that takes all.
+const ALL: Stopping = (1_000, 1_000);
+
+/// Whether a walk over a file, in a sink that stops so, comes to what is wanted.
+fn is_walk(
+    alloc: Global,
     ucd: &Ucd,
     file: Vec<u8>,
     walk: Walk,
-    most: usize,
-    left: usize,
+    stop: Stopping,
     wanted: Outcome,
-) {
+) -> bool {
     let (width, place, moves) = walk;
-    assert!(rt; most > 0 && 2 <= width && width <= 500);
-    let mut bytes = Vec::new(rt.alloc());
-    let mut out = Stops::new(Out::new(&mut bytes), most, left);
+    let (most, left) = stop;
+    if most == 0 || width < 2 || width > 500 {
+        return false;
+    }
+    let mut room = [0u8; 64];
     let answer = carets(
-        rt.alloc(),
+        alloc,
         KEY,
         ucd,
         width,
@@ -52,9 +58,22 @@ fn assert_walk(
         from_ref(&file),
         place,
         moves,
-        &mut out,
+        &mut Stops::new(Out::new(room.as_mut_slice()), most, left),
     );
-    assert_run(rt, (answer, bytes.as_slice()), wanted, "a walk", left);
+    answer == wanted.0 && are_written(&room, wanted.1)
+}
+
+/// Whether these bytes stand at the start of the room, and nothing after them.
+fn are_written(room: &[u8], bytes: &[u8]) -> bool {
+    room.starts_with(bytes) && room.get(bytes.len()) == Some(&0)
+}
+
+/// The same over the file of a text, with the small data files.
+fn is_walk_over(alloc: Global, text: &str, walk: Walk, stop: Stopping, wanted: Outcome) -> bool {
+    match typed(alloc, 1, text) {
+        Ok(file) => is_walk(alloc, &small_ucd(), file, walk, stop, wanted),
+        Err(_fail) => false,
+    }
 }
 
 /// Texts, walks over them, and their lines.
@@ -83,90 +102,100 @@ const WALKS: [(&str, Walk, &str); 6] = [
     ),
 ];
 
-#[test]
-fn walks_are_written_line_by_line(rt: HostRuntime) -> Result<(), Fail> {
-    for (text, walk, lines) in &WALKS {
-        let file = typed(rt.alloc(), 1, text)?;
-        let wanted = (Ok(()), lines.as_bytes());
-        assert_walk(&rt, &small_ucd(), file, *walk, 1_000, 1_000, wanted);
+fn first_wrong_walk(alloc: Global) -> Option<usize> {
+    for (n, (text, walk, lines)) in WALKS.iter().enumerate() {
+        if !is_walk_over(alloc, text, *walk, ALL, (Ok(()), lines.as_bytes())) {
+            return Some(n);
+        }
     }
-    Ok(())
+    None
 }
 
 #[test]
-fn tables_are_read_before_files_and_files_before_the_place(rt: HostRuntime) -> Result<(), Fail> {
+fn walks_are_written_line_by_line(rt: HostRuntime) {
+    assert_eq!(rt; first_wrong_walk(rt.alloc()), None);
+}
+
+/// Whether a walk to place 9 over a file of these bytes ends with this fault.
+fn is_refused(alloc: Global, ucd: &Ucd, bytes: &[u8], fault: RunFault) -> bool {
+    match bytes.to_vec(alloc) {
+        Ok(file) => is_walk(alloc, ucd, file, (2, 9, &[]), ALL, (Err(fault), b"")),
+        Err(AllocError) => false,
+    }
+}
+
+#[test]
+fn tables_are_read_before_files_and_files_before_the_place(rt: HostRuntime) {
     let faulty = Ucd {
         lb: b"41;Q",
         ..small_ucd()
     };
-    let fault = RunFault::Tables(UcdFault::At {
+    let tables = RunFault::Tables(UcdFault::At {
         file: UcdFile::Lb,
         line: 1,
         cause: ucd_files::Cause::BadCode,
     });
-    let file = b"BGOP".to_vec(rt.alloc())?;
-    let wanted = (Err(fault), b"".as_slice());
-    assert_walk(&rt, &faulty, file, (2, 9, &[]), 1_000, 1_000, wanted);
-    let fault = CodecFault::Malformed {
+    assert!(rt; is_refused(rt.alloc(), &faulty, b"BGOP", tables));
+    let cut = CodecFault::Malformed {
         frame: 0,
         cause: Cause::Truncated,
     };
-    let file = b"BGOP".to_vec(rt.alloc())?;
-    let wanted = (Err(RunFault::File(1, fault)), b"".as_slice());
-    assert_walk(&rt, &small_ucd(), file, (2, 9, &[]), 1_000, 1_000, wanted);
-    let file = typed(rt.alloc(), 1, "a\n")?;
+    assert!(rt; is_refused(rt.alloc(), &small_ucd(), b"BGOP", RunFault::File(1, cut)));
     let wanted = (Err(RunFault::PastEnd(3)), b"".as_slice());
-    assert_walk(
-        &rt,
-        &small_ucd(),
-        file,
-        (2, 3, &[Left]),
-        1_000,
-        1_000,
-        wanted,
-    );
-    Ok(())
+    let walk: Walk = (2, 3, &[Left]);
+    assert!(rt; is_walk_over(rt.alloc(), "a\n", walk, ALL, wanted));
+}
+
+/// A walk over `ab cd`, and its lines.
+const TURNS: Walk<'static> = (2, 0, &[Right, Down, Up]);
+
+const TURNS_LINES: &[u8] = b"0 0 0\n0 1 1\n1 1 4\n0 1 1\n";
+
+/// What is wanted of that walk in a sink that stops after `left` bytes.
+fn wanted_until(left: usize) -> Outcome<'static> {
+    if left < TURNS_LINES.len() {
+        (Err(RunFault::Device), &TURNS_LINES[..left])
+    } else {
+        (Ok(()), TURNS_LINES)
+    }
+}
+
+/// The first number of bytes at which a sink that stops does not come to what is wanted.
+fn first_wrong_stop(alloc: Global) -> Option<usize> {
+    for left in 0..TURNS_LINES.len() + 2 {
+        if !is_walk_over(alloc, "ab cd", TURNS, (5, left), wanted_until(left)) {
+            return Some(left);
+        }
+    }
+    None
 }
 
 #[test]
-fn a_sink_that_stops_keeps_a_beginning_of_the_lines(rt: HostRuntime) -> Result<(), Fail> {
-    let whole = b"0 0 0\n0 1 1\n1 1 4\n0 1 1\n".as_slice();
-    for left in 0..whole.len() + 2 {
-        let wanted = if left < whole.len() {
-            Err(RunFault::Device)
-        } else {
-            Ok(())
-        };
-        let file = typed(rt.alloc(), 1, "ab cd")?;
-        let kept = &whole[..left.min(whole.len())];
-        assert_walk(
-            &rt,
-            &small_ucd(),
-            file,
-            (2, 0, &[Right, Down, Up]),
-            5,
-            left,
-            (wanted, kept),
-        );
-    }
-    Ok(())
+fn a_sink_that_stops_keeps_a_beginning_of_the_lines(rt: HostRuntime) {
+    assert_eq!(rt; first_wrong_stop(rt.alloc()), None);
+}
+
+/// Whether the walk is right, or says that memory was refused, and then has written nothing.
+fn is_right_or_says_memory(alloc: Global) -> Result<bool, Fail> {
+    let file = typed(alloc, 1, "ab cd")?;
+    let (width, place, moves) = TURNS;
+    let mut room = [0u8; 32];
+    let answer = carets(
+        alloc,
+        KEY,
+        &small_ucd(),
+        width,
+        Base::Auto,
+        from_ref(&file),
+        place,
+        moves,
+        &mut Out::new(room.as_mut_slice()),
+    );
+    Ok(is_right_or_memory(answer, &room, TURNS_LINES))
 }
 
 #[test]
 fn a_walk_is_right_or_says_memory(rt: HostRuntime) -> Result<(), Fail> {
-    let file = typed(rt.alloc(), 1, "ab cd")?;
-    let mut room = [0u8; 32];
-    let answer = carets(
-        rt.alloc(),
-        KEY,
-        &small_ucd(),
-        2,
-        Base::Auto,
-        from_ref(&file),
-        0,
-        &[Right, Down, Up],
-        &mut Out::new(room.as_mut_slice()),
-    );
-    assert_right_or_memory(&rt, answer, &room, b"0 0 0\n0 1 1\n1 1 4\n0 1 1\n");
+    assert!(rt; is_right_or_says_memory(rt.alloc())?);
     Ok(())
 }

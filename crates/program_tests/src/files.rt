@@ -123,19 +123,20 @@ pub fn assert_run(rt: &impl Abort, came: Outcome, wanted: Outcome, row: &str, at
 }
 
 /// With ample memory a run is right; where a growth is refused it says so, and nothing is written.
+pub fn is_right_or_memory(answer: Result<(), RunFault>, room: &[u8], right: &[u8]) -> bool {
+    match answer {
+        Ok(()) => room.starts_with(right),
+        Err(fault) => fault == RunFault::Memory && room.starts_with(&[0]),
+    }
+}
+
 pub fn assert_right_or_memory(
     rt: &impl Abort,
     answer: Result<(), RunFault>,
     room: &[u8],
     right: &[u8],
 ) {
-    match answer {
-        Ok(()) => assert!(rt; room.starts_with(right)),
-        Err(fault) => {
-            assert_eq!(rt; fault, RunFault::Memory);
-            assert!(rt; room.starts_with(&[0]));
-        }
-    }
+    assert!(rt; is_right_or_memory(answer, room, right));
 }
 
 /// Compares whether a line was told, and what of it was written, with what is wanted.
