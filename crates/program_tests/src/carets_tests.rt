@@ -69,11 +69,15 @@ fn are_written(room: &[u8], bytes: &[u8]) -> bool {
 }
 
 /// The same over the file of a text, with the small data files.
-fn is_walk_over(alloc: Global, text: &str, walk: Walk, stop: Stopping, wanted: Outcome) -> bool {
-    match typed(alloc, 1, text) {
-        Ok(file) => is_walk(alloc, &small_ucd(), file, walk, stop, wanted),
-        Err(_fail) => false,
-    }
+fn is_walk_over(
+    alloc: Global,
+    text: &str,
+    walk: Walk,
+    stop: Stopping,
+    wanted: Outcome,
+) -> Result<bool, Fail> {
+    let file = typed(alloc, 1, text)?;
+    Ok(is_walk(alloc, &small_ucd(), file, walk, stop, wanted))
 }
 
 /// Texts, walks over them, and their lines.
@@ -102,18 +106,19 @@ const WALKS: [(&str, Walk, &str); 6] = [
     ),
 ];
 
-fn first_wrong_walk(alloc: Global) -> Option<usize> {
+fn first_wrong_walk(alloc: Global) -> Result<Option<usize>, Fail> {
     for (n, (text, walk, lines)) in WALKS.iter().enumerate() {
-        if !is_walk_over(alloc, text, *walk, ALL, (Ok(()), lines.as_bytes())) {
-            return Some(n);
+        if !is_walk_over(alloc, text, *walk, ALL, (Ok(()), lines.as_bytes()))? {
+            return Ok(Some(n));
         }
     }
-    None
+    Ok(None)
 }
 
 #[test]
-fn walks_are_written_line_by_line(rt: HostRuntime) {
-    assert_eq!(rt; first_wrong_walk(rt.alloc()), None);
+fn walks_are_written_line_by_line(rt: HostRuntime) -> Result<(), Fail> {
+    assert_eq!(rt; first_wrong_walk(rt.alloc())?, None);
+    Ok(())
 }
 
 /// Whether a walk to place 9 over a file of these bytes ends with this fault.
@@ -125,7 +130,7 @@ fn is_refused(alloc: Global, ucd: &Ucd, bytes: &[u8], fault: RunFault) -> bool {
 }
 
 #[test]
-fn tables_are_read_before_files_and_files_before_the_place(rt: HostRuntime) {
+fn tables_are_read_before_files_and_files_before_the_place(rt: HostRuntime) -> Result<(), Fail> {
     let faulty = Ucd {
         lb: b"41;Q",
         ..small_ucd()
@@ -143,7 +148,8 @@ fn tables_are_read_before_files_and_files_before_the_place(rt: HostRuntime) {
     assert!(rt; is_refused(rt.alloc(), &small_ucd(), b"BGOP", RunFault::File(1, cut)));
     let wanted = (Err(RunFault::PastEnd(3)), b"".as_slice());
     let walk: Walk = (2, 3, &[Left]);
-    assert!(rt; is_walk_over(rt.alloc(), "a\n", walk, ALL, wanted));
+    assert!(rt; is_walk_over(rt.alloc(), "a\n", walk, ALL, wanted)?);
+    Ok(())
 }
 
 /// A walk over `ab cd`, and its lines.
@@ -161,18 +167,19 @@ fn wanted_until(left: usize) -> Outcome<'static> {
 }
 
 /// The first number of bytes at which a sink that stops does not come to what is wanted.
-fn first_wrong_stop(alloc: Global) -> Option<usize> {
+fn first_wrong_stop(alloc: Global) -> Result<Option<usize>, Fail> {
     for left in 0..TURNS_LINES.len() + 2 {
-        if !is_walk_over(alloc, "ab cd", TURNS, (5, left), wanted_until(left)) {
-            return Some(left);
+        if !is_walk_over(alloc, "ab cd", TURNS, (5, left), wanted_until(left))? {
+            return Ok(Some(left));
         }
     }
-    None
+    Ok(None)
 }
 
 #[test]
-fn a_sink_that_stops_keeps_a_beginning_of_the_lines(rt: HostRuntime) {
-    assert_eq!(rt; first_wrong_stop(rt.alloc()), None);
+fn a_sink_that_stops_keeps_a_beginning_of_the_lines(rt: HostRuntime) -> Result<(), Fail> {
+    assert_eq!(rt; first_wrong_stop(rt.alloc())?, None);
+    Ok(())
 }
 
 /// Whether the walk is right, or says that memory was refused, and then has written nothing.
