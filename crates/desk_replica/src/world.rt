@@ -13,7 +13,7 @@ mod steps;
 
 use crate::replica::Replica;
 use bg_types::{Memory, Op};
-use rga_sequence::Blocks;
+use rga_tree::Fresh;
 use sites::are_sites;
 use std::alloc::{AllocError, Global};
 pub use step::{Reply, Step};
@@ -22,9 +22,9 @@ use thiserror::Error;
 
 /// What steps made of a world of desks.
 #[derive(Drop)]
-pub struct World {
+pub struct World<S: Fresh> {
     /// The desks, in the order of their sites.
-    pub desks: Vec<Replica<Blocks>>,
+    pub desks: Vec<Replica<S>>,
     /// All operations made, in the order in which they were made.
     pub made: Vec<Op>,
     /// What became of each step.
@@ -70,17 +70,17 @@ impl From<AllocError> for WorldFault {
     }
 }
 
-/// Does steps in order at fresh desks with these sites, each step at one desk. Without knowing the
-/// key, nobody can choose identifiers that make the steps slow.
+/// Does steps in order at fresh desks with these sites, each step at one desk. The caller names the desks'
+/// sequence. Without knowing the key, nobody can choose identifiers that make the steps slow.
 ///
 /// `BadSites` where a site is 0 or stands twice, which is tested before the first step; `Memory` where
 /// a growth is refused, which ends the run. What a desk refuses is a reply, and the run goes on.
-pub fn run_world(
+pub fn run_world<S: Fresh>(
     alloc: Global,
     key: u128,
     sites: &[u16],
     steps: &[Step],
-) -> Result<World, WorldFault>
+) -> Result<World<S>, WorldFault>
     ensures world { IfOk result (λ w. WorldRun sites.now (empty_world (length sites.now)) steps.now w.replies.items (world_of w.desks.items w.made.items)) }
     ensures sites { IfOk result (λ w. sites_of w.desks.items ≡ sites.now) }
     ensures are_sites { OnOk result (AreSites sites.now) }
@@ -100,13 +100,13 @@ pub fn run_world(
 }
 
 /// Desks of these sites without operations.
-fn fresh_desks(alloc: Global, key: u128, sites: &[u16]) -> Result<Vec<Replica<Blocks>>, Memory>
+fn fresh_desks<S: Fresh>(alloc: Global, key: u128, sites: &[u16]) -> Result<Vec<Replica<S>>, Memory>
     requires { All (λ site. 0 < site) sites.now }
     ensures { IfOk result (λ desks. desks.items ≡ map fresh sites.now) }
 {
     let mut desks = Vec::with_capacity(alloc, sites.len())?;
     for site in sites {
-        let desk = Replica::new(alloc, *site, Blocks::keyed(alloc, key), key);
+        let desk = Replica::new(alloc, *site, S::fresh(alloc, key), key);
         desks.push(desk)?;
     }
     Ok(desks)

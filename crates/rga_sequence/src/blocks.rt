@@ -18,7 +18,7 @@ use crate::index::empty;
 use crate::look::{Look, find};
 use crate::row::{Row, block_at, hide, make_memory, put, spot, stands};
 use bg_types::{Hashed, Id, Keyed, Memory, Place};
-use rga_tree::{Element, Sequence};
+use rga_tree::{Element, Fresh, Sequence};
 use std::alloc::Global;
 
 /// A sequence in blocks.
@@ -94,6 +94,12 @@ impl Blocks {
     {
         self.looks = 0;
         find(self, k)
+    }
+}
+
+impl Fresh for Blocks {
+    fn fresh(alloc: Global, key: u128) -> Blocks {
+        Blocks::keyed(alloc, key)
     }
 }
 

@@ -8,4 +8,4 @@ mod sequence;
 
 pub use element::{Element, greater_in_front};
 pub use plain::Plain;
-pub use sequence::{Sequence, text_of};
+pub use sequence::{Fresh, Sequence, text_of};

@@ -11,7 +11,7 @@ ghost use Rattle.rga_tree.specs.Row.{operations_of, start_of, place_of};
 ghost use Rattle.rga_tree.specs.KeepsWalk.{KeepsWalk, KeepsWalk-prop};
 
 use crate::element::{Element, greater_in_front};
-use crate::sequence::Sequence;
+use crate::sequence::{Fresh, Sequence};
 use bg_types::{Id, Memory, Place};
 use std::alloc::Global;
 
@@ -115,6 +115,12 @@ impl Sequence for Plain {
     ghost only_placed = { λ p. p.keeps_walk.only_placed };
 
     ghost well_formed = { λ p. p.keeps_walk.well_formed };
+}
+
+impl Fresh for Plain {
+    fn fresh(alloc: Global, _key: u128) -> Plain {
+        Plain::new(alloc)
+    }
 }
 
 /// Puts an element in at a place. There is room for it.

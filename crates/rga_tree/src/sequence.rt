@@ -4,7 +4,7 @@ ghost use Rattle.std.specs.Prelude.{◌≡◌, ◌<◌, ◌≤◌, ◌+◌, ◌+
 ghost use Rattle.std.specs.List.{flat_map};
 ghost use Rattle.std.specs.Option.{option_map};
 ghost use Rattle.std.specs.FinMap as map;
-ghost use Rattle.bg_types.specs.OperationSet.{OperationSet, with_operation, AllWellFormed};
+ghost use Rattle.bg_types.specs.OperationSet.{OperationSet, with_operation, no_operations, AllWellFormed};
 ghost use Rattle.bg_types.specs.WellFormed.{MayFollow};
 ghost use Rattle.bg_types.specs.declared.op.OpView.{OpView};
 ghost use Rattle.bg_types.specs.declared.op.OpView.TheVariants.{Erase};
@@ -124,6 +124,14 @@ pub trait Sequence {
 
     /// Identifiers, parents and characters are those of well-formed operations.
     ghost well_formed: { (s : Self) → AllWellFormed (content s) };
+}
+
+/// A sequence that can begin empty, and be let go.
+pub trait Fresh: Sequence + Drop {
+    /// An empty sequence, which takes no memory. Where it has a table, that is hashed with this key: without
+    /// knowing the key, nobody can choose identifiers that make the calls slow.
+    fn fresh(alloc: Global, key: u128) -> Self
+        ensures { Self.content result ≡ no_operations };
 }
 
 /// The visible characters in order.

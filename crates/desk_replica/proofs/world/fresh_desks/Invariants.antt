@@ -5,4 +5,4 @@ use Rattle.desk_replica.specs.Desk.{fresh}
 use Rattle.desk_replica.proofs.world.fresh_desks.Given as goal
 
 abbrev pub invariant-loop-site : goal.invariant-loop-site
-invariant-loop-site l = l.desks.items ≡ each fresh (take l.site-index l.sites)
+invariant-loop-site g l = l.desks.items ≡ each fresh (take l.site-index l.sites)
