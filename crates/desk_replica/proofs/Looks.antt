@@ -1,11 +1,11 @@
 -- What is kept at an identifier, from what the tree and the store answer.
-use Rattle.std.proofs.Common.{◌≡◌, Bool, true, false, Option, Some, None, refl, sym, ap, subst, ◌∙◌, is_some, true≢false}
+use Rattle.std.proofs.Common.{◌≡◌, ◌≢◌, Bool, true, false, Option, Some, None, refl, sym, ap, subst, ◌∙◌, is_some, true≢false}
 use Rattle.std.specs.Prelude.{◌||◌}
 use Rattle.std.specs.Option.{option_map}
 use Rattle.std.specs.FinMap as map
 use Rattle.std.specs.FinSet as set
 use Rattle.bg_types.specs.Identifier.{Identifier}
-use Rattle.bg_types.specs.OperationSet.{Node, OperationSet, Holds, MayJoin, AllWellFormed, union}
+use Rattle.bg_types.specs.OperationSet.{Node, OperationSet, Holds, MayJoin, ReusesIdentifier, AllWellFormed, union}
 use Rattle.bg_types.specs.WellFormed.{MayFollow}
 use Rattle.bg_types.specs.declared.op.Place.{Place}
 use Rattle.bg_types.specs.declared.op.OpView.{OpView}
@@ -83,6 +83,11 @@ known-insertion s q op is = by (map.get s.ins q) refl is
     by : (o : Option Node) → map.get s.ins q ≡ o → Some op ≡ option_map (op_at q) o → (n : Node) × ((map.get s.ins q ≡ Some n) × (op ≡ op_at q n))
     by None g h = absurd cc
     by (Some n) g h = let same : op ≡ op_at q n = cc in (n, (g, same))
+
+pub reused-insertion : (s : OperationSet) (q : Identifier) (parent : Place) (ch : _) (op : OpView) → IsKept s q (Some op) → op ≢ Insert q parent ch → ReusesIdentifier s (Insert q parent ch)
+reused-insertion s q parent ch op is apart =
+    let k = known-insertion s q op is in
+    (k.0, k.1.0, λ same. apart (k.1.1 ∙ ap (op_at q) same))
 
 pub may_follow : (t : OperationSet) (q : Identifier) (e : Element) → AllWellFormed t → IsElement t q (Some e) → MayFollow e.parent e.id
 may_follow t q e well is =

@@ -6,7 +6,8 @@ use Rattle.bg_types.proofs.Interface.{with_operation-known, size-with_operation}
 use Rattle.pending_ops.specs.Releasing.{subject}
 use Rattle.desk_replica.specs.Desk.{Desk}
 use Rattle.desk_replica.specs.Placement.{IsDesk, whole}
-use Rattle.desk_replica.specs.Reply.{IsAdmitted}
+use Rattle.desk_replica.specs.Reply.{IsAdmitted, IsRefused}
+use Rattle.desk_replica.specs.declared.answer.TakeFault.TheVariants.{Full}
 use Rattle.desk_replica.proofs.Desks.{IsDesk-more}
 use Rattle.desk_replica.proofs.replica.Replica.take.Goals as goal
 
@@ -14,6 +15,13 @@ pub returns-in-Known-clause-ok : goal.returns-in-Known-clause-ok
 returns-in-Known-clause-ok g c =
     let h : Holds c.args.self.now.set c.args.op.now = subst (λ (d : Desk). Holds d.set c.args.op.now) c.self.view_is c.in-Known.ensures in
     sym (with_operation-known c.args.self.now.set c.args.op.now h)
+
+pub returns-then-self-ge-LIMIT-clause-answer : goal.returns-then-self-ge-LIMIT-clause-answer
+returns-then-self-ge-LIMIT-clause-answer g c =
+    let kept = c.self.invariant.counted.kept_is in
+    let limited = c.self.invariant.counted.limited in
+    let full = c.if-self-ge-LIMIT.true in
+    subst (λ (d : Desk). IsRefused d.set c.args.op.now Full) c.self.view_is (c.in-New.ensures.0, c.in-New.ensures.1, omega (arith, kept, limited, full))
 
 pub invariant_of-self : goal.invariant_of-self
 invariant_of-self g c =

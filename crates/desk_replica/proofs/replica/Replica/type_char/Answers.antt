@@ -1,5 +1,5 @@
 -- The goals of `type_char` that are answered by hand.
-use Rattle.std.proofs.Common.{◌≡◌, sym, ap, subst, ◌∙◌, arith}
+use Rattle.std.proofs.Common.{◌≡◌, sym, ap, subst, ◌∙◌, rules, arith}
 use Rattle.bg_types.specs.OperationSet.{size, with_operation}
 use Rattle.bg_types.specs.declared.op.OpView.{OpView}
 use Rattle.desk_replica.specs.Reply.{IsRefused}
@@ -8,6 +8,13 @@ use Rattle.desk_replica.specs.Desk.{Desk}
 use Rattle.desk_replica.specs.Typing.{typed, insertion, IsTypedAt}
 use Rattle.desk_replica.proofs.Typing.{typed_desk, typed_refused}
 use Rattle.desk_replica.proofs.replica.Replica.type_char.Goals as goal
+
+pub returns-then-self-ge-LIMIT-clause-fault : goal.returns-then-self-ge-LIMIT-clause-fault
+returns-then-self-ge-LIMIT-clause-fault g c =
+    let kept = c.self.invariant.counted.kept_is ∙ ap (λ (d : Desk). size d.set) c.self.view_is in
+    let limited = c.self.invariant.counted.limited in
+    let full = c.if-self-ge-LIMIT.true in
+    (search rules, omega (arith, kept, limited, full))
 
 pub returns-in-Ok-clause-typed : goal.returns-in-Ok-clause-typed
 returns-in-Ok-clause-typed g c =
