@@ -1,5 +1,6 @@
 -- The goals of `push_shown` that are answered by hand.
 use Rattle.std.proofs.Common.{◌++◌, sym, ap, ◌∙◌, append_assoc, take, length, ◌<◌}
+use Rattle.std.proofs.lemmas.List.{take_all}
 use Rattle.std.specs.Prelude.{string_bytes, encode_utf8}
 use Rattle.rga_tree.proofs.Texts.{bytes_of, bytes-hidden, bytes-visible}
 use Rattle.rga_tree.proofs.sequence.push_shown.Goals as goal
@@ -21,3 +22,8 @@ loop-element-preserved c =
           ap string_bytes w.read-is ∙ c.loop-element.invariant
           ∙ ap (λ t. first ++ t) (sym (bytes-hidden row j e there c.element-item.is w.if-not-element.false))
     ]
+
+pub returns : goal.returns
+returns c =
+    let row = c.args.row.now in
+    c.loop-element.invariant ∙ ap (λ r. string_bytes c.args.read.now ++ bytes_of r) (take_all c.loop-element.element-index row c.loop-element-test.false)
