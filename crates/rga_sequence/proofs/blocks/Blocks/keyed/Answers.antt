@@ -30,3 +30,6 @@ invariant_of-result c =
       placed_are = sym (ap length row);
       visible_are = sym (ap seen row);
     }
+
+pub returns-clause-hasher : goal.returns-clause-hasher
+returns-clause-hasher c = c.empty.ensures.hasher ∙ c.new-hasher.ensures
