@@ -1,8 +1,21 @@
 -- Each cluster in its turn, from the last.
-use Rattle.std.proofs.Common.{◌≡◌, ◌+◌, ◌-◌, ◌≤◌, ◌<◌, ◌++◌, ◌∙◌, ap, sym, length, get_or, take, drop, sum, replicate, slice_range, arith}
+use Rattle.std.proofs.Common.{◌≡◌, ◌+◌, ◌-◌, ◌≤◌, ◌<◌, ◌++◌, ◌∙◌, refl, ap, sym, length, get_or, take, drop, sum, replicate, slice_range, rules, arith}
+use Rattle.std.proofs.lemmas.List.{take_all, drop_all, append-nil}
 use Rattle.reorder.specs.LineLevels.{begins_reset, resets_before}
 use Rattle.reorder.proofs.L1.{levels_from, resets-part, starts, from-on, made-kept, made-set}
 use Rattle.reorder.proofs.line.line_levels_at.Goals as goal
+
+pub loop-cluster-init : goal.loop-cluster-init
+loop-cluster-init c =
+    let sizes = c.args.sizes.now in
+    let cs = c.args.classes.now in
+    let filled : c.in_ok-of_clusters.of_clusters.items ≡ replicate (length c.args.sizes.now) c.args.para_level = search rules in
+    record {
+      start = sym (ap sum (take_all (length sizes) sizes (omega arith)) ∙ c.requires.whole);
+      len = omega (arith, c.in_ok-of_clusters.ensures.len);
+      resets = rw (drop_all (length cs) cs (omega arith)) refl;
+      made = rw (filled, drop_all (length sizes) sizes (omega arith)) (sym (append-nil (replicate (length sizes) c.args.para_level)));
+    }
 
 pub loop-cluster-preserved-then-not-resets : goal.loop-cluster-preserved-then-not-resets
 loop-cluster-preserved-then-not-resets c =
