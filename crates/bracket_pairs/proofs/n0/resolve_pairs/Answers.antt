@@ -4,6 +4,9 @@ use Rattle.bracket_pairs.proofs.PairSteps.{resolved-same, resolved-more, resolve
 use Rattle.bracket_pairs.proofs.n0.resolve_pairs.Goals as goal
 use Rattle.bracket_pairs.proofs.n0.resolve_pairs.Goals.{in-Some, in_default}
 
+pub resolve_pair-requires-clause-order : goal.resolve_pair-requires-clause-order
+resolve_pair-requires-clause-order c = (c.requires.behind c.loop-opening.opening c.in-Some.closing (omega arith) c.in-Some.is).0
+
 pub loop-opening-preserved : goal.loop-opening-preserved
 loop-opening-preserved c =
     elim c.match-closings-opening.branch [

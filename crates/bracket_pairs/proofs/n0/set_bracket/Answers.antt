@@ -39,3 +39,13 @@ returns-then-not-is_nonspacing-clause-types c =
     (omega (arith, length-set {A = Bidi})) (omega (arith, length-set {A = Bidi}))
     (sym c.is_nonspacing.ensures ∙ c.if-not-is_nonspacing.true))
     ∙ c.loop-mark.invariant.set
+
+pub returns-then-not-is_nonspacing-clause-run : goal.returns-then-not-is_nonspacing-clause-run
+returns-then-not-is_nonspacing-clause-run c = record {
+  within = omega (arith, length-set {A = Bidi});
+  marks = c.loop-mark.invariant.marks;
+  same = c.loop-mark.invariant.same;
+  ended = λ lt.
+      mark-read c.args.before_w1.now c.loop-mark.mark _ _ (omega (arith, length-set {A = Bidi}))
+      (sym c.is_nonspacing.ensures ∙ c.if-not-is_nonspacing.true);
+}

@@ -17,6 +17,9 @@ index_mut-requires c =
     c.in-Closing.c c.in-Some.opening c.loop-place.stack.items c.close.new.stack.items c.loop-place.closings.items c.loop-place.invariant (omega arith) role c.in-Some.ensures in
     omega arith
 
+pub push-requires : goal.push-requires
+push-requires c = (omega arith, grind (arith, nat_tests))
+
 pub loop-place-preserved : goal.loop-place-preserved
 loop-place-preserved c =
     elim c.match-role_of.branch [
