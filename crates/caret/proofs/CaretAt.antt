@@ -5,12 +5,13 @@ use Rattle.std.specs.Option.{option_map_or, IsSomeAnd}
 use Rattle.std.specs.Str.{chars}
 use Rattle.std.proofs.lemmas.Bool.{eq-eqb, ne_eqb}
 use Rattle.std.proofs.lemmas.Option.{slice_get_read}
+use Rattle.cell_grid.specs.declared.entry.Entry.{Entry}
 use Rattle.cell_grid.specs.Rows.{DrawnRow}
 use Rattle.cell_grid.specs.Grids.{DrawnGrid}
 use Rattle.cell_grid.specs.Laws.{RowsFollow}
 use Rattle.caret.specs.declared.caret.Caret.{Caret}
 use Rattle.caret.specs.Gaps.{IsCaretOf}
-use Rattle.caret.specs.Places.{row_at, at_cluster, at_end, gap_zero, caret_in, caret_at}
+use Rattle.caret.specs.Places.{row_at, holds, entry_where, before_cluster, at_cluster, at_end, gap_zero, caret_in, caret_at}
 use Rattle.caret.proofs.RowOrder.{last_place-at_end, end-at_last_place}
 
 -- the row with this number, as it was read
@@ -40,3 +41,9 @@ module _ (grid : DrawnGrid) (p : ℕ) (row : DrawnRow) (follow : RowsFollow 0 gr
   caret_at-cluster other =
       let at = ne_eqb p (length (chars grid.text)) (λ end. other (last_place-at_end (length (chars grid.text)) p grid.rows row follow is end)) in
       sym (caret_at-row ∙ ap (λ b. cond b (at_end (row_at grid.rows p) row) (at_cluster p (row_at grid.rows p) row)) at)
+
+-- the caret at a cluster that was found
+pub at_cluster-found : (p number : ℕ) (row : DrawnRow) (read : List Entry) (gap : ℕ) (entry : Entry)
+    → read ≡ row.entries → Some (gap, entry) ≡ entry_where (holds p) read → at_cluster p number row ≡ before_cluster number (gap, entry)
+at_cluster-found p number row read gap entry same is =
+    ap (λ o. option_map_or (before_cluster number) o (gap_zero number p)) (ap (λ es. entry_where (holds p) es) (sym same) ∙ sym is)

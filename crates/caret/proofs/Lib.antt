@@ -3,5 +3,6 @@ pub mod LastBelow
 pub mod RowOrder
 pub mod CaretAt
 pub mod Steps
+pub mod CaretRows
 pub mod Finding
 pub mod PlaceLaw

@@ -10,7 +10,7 @@ use Rattle.caret.specs.Lists.{element_before}
 use Rattle.caret.specs.Moves.{over_to_right, over_to_left, past_right_edge, past_left_edge, right_in, left_in, right_of, left_of}
 use Rattle.caret.specs.Laws.{moved, StandsAt, CrossesOneEntry, VisitsEveryGap, UndoneByOpposite}
 
-element_before-is : {A : Type 0} (xs : List A) (n : ℕ) → 0 < n → element_before xs n ≡ slice_get xs (n - 1)
+pub element_before-is : {A : Type 0} (xs : List A) (n : ℕ) → 0 < n → element_before xs n ≡ slice_get xs (n - 1)
 element_before-is xs zero some = absurd (omega arith)
 element_before-is xs (suc n) some = ap (λ k. slice_get xs k) (omega arith)
 
@@ -20,11 +20,11 @@ an_entry [] k within then = absurd (omega arith)
 an_entry (e ∷ entries) k within then = then (get_or (e ∷ entries) k e) (slice_get-get_or (e ∷ entries) k e within)
 
 module _ (rows : List DrawnRow) (row : DrawnRow) where
-  right_of-inside : (caret : Caret) (e : Entry) → slice_get rows caret.row ≡ Some row → slice_get row.entries caret.gap ≡ Some e → right_of rows caret ≡ over_to_right caret e
+  pub right_of-inside : (caret : Caret) (e : Entry) → slice_get rows caret.row ≡ Some row → slice_get row.entries caret.gap ≡ Some e → right_of rows caret ≡ over_to_right caret e
   right_of-inside caret e is at =
       ap (λ o. option_map_or (right_in rows caret) o caret) is ∙ ap (λ o. option_map_or (over_to_right caret) o (past_right_edge rows caret row)) at
 
-  left_of-inside : (caret : Caret) (e : Entry) → slice_get rows caret.row ≡ Some row → 0 < caret.gap → slice_get row.entries (caret.gap - 1) ≡ Some e → left_of rows caret ≡ over_to_left caret e
+  pub left_of-inside : (caret : Caret) (e : Entry) → slice_get rows caret.row ≡ Some row → 0 < caret.gap → slice_get row.entries (caret.gap - 1) ≡ Some e → left_of rows caret ≡ over_to_left caret e
   left_of-inside caret e is some at =
       ap (λ o. option_map_or (left_in rows caret) o caret) is
       ∙ ap (λ o. option_map_or (over_to_left caret) o (past_left_edge rows caret row)) (element_before-is row.entries caret.gap some ∙ at)
