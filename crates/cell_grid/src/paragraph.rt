@@ -2,11 +2,13 @@
 
 ghost use Rattle.std.specs.Prelude.{◌≡◌, ℕ, ◌+◌, ◌≤◌, length, map, slice_range, IfOk};
 ghost use Rattle.std.specs.List.{All};
+ghost use Rattle.std.specs.Str.{IsUtf8};
 ghost use Rattle.paragraphs.specs.Text.{code_points};
 ghost use Rattle.paragraphs.specs.Clusters.{clusters, cluster_sizes};
 ghost use Rattle.paragraphs.specs.Spans.{spans};
 ghost use Rattle.bidi_explicit.specs.Embedding.{classes_of};
 ghost use Rattle.line_break.specs.LineClusters.{line_clusters};
+ghost use Rattle.line_break.specs.Lines.{lines};
 ghost use Rattle.cell_grid.specs.Rows.{levels_in_line, row_of, rows_of};
 ghost use Rattle.cell_grid.specs.Shifting.{MayShiftRow};
 ghost use Rattle.cell_grid.specs.Outline.{own_columns, StandIn, IsLine};
@@ -105,6 +107,32 @@ fn columns_of(alloc: Global, clusters: &[Cluster]) -> Result<Vec<u8>, Memory>
     )
 }
 
+/// The rows of a paragraph's lines, from the top, counted from the paragraph's start.
+fn rows_in(alloc: Global, material: &Material, width: u16) -> Result<Vec<Row>, Memory>
+    requires at_least { 2 ≤ width }
+    requires at_most { width ≤ 500 }
+    requires text { IsUtf8 material.now.text.now }
+    requires size { length material.now.text.now ≤ 4_000_000 }
+    requires classes { material.now.classes.items ≡ classes_of material.now.tables.now material.now.text.now }
+    requires levels { length material.now.levels.items ≡ length (code_points material.now.text.now) }
+    requires spans { material.now.clusters.spans.items ≡ spans material.now.text.now }
+    requires sizes { material.now.clusters.sizes.items ≡ cluster_sizes material.now.text.now }
+    requires clusters { material.now.clusters.clusters.items ≡ line_clusters material.now.tables.now material.now.text.now }
+    requires most { All (λ c. c.columns ≤ 2) material.now.clusters.clusters.items }
+    requires columns { material.now.columns.items ≡ own_columns material.now.tables.now material.now.text.now }
+    ensures { IfOk result (λ rows. rows.items
+        ≡ map (row_of material.now.tables.now width material.now.para_level material.now.text.now material.now.levels.items)
+        (lines material.now.tables.now material.now.text.now width)) }
+{
+    laws_below();
+    let lines = lines_of(alloc, &material.clusters.clusters, width)?;
+    let mut rows = Vec::with_capacity(alloc, lines.len())?;
+    for line in &lines {
+        rows.push(row_of(alloc, material, width, *line)?)?;
+    }
+    Ok(rows)
+}
+
 /// The rows of a paragraph of at most 4,000,000 bytes at a width in columns, from the top, with bytes and
 /// places counted from the paragraph's start.
 pub fn rows(
@@ -142,10 +170,5 @@ pub fn rows(
         clusters,
         columns,
     };
-    let lines = lines_of(alloc, &material.clusters.clusters, width)?;
-    let mut rows = Vec::with_capacity(alloc, lines.len())?;
-    for line in &lines {
-        rows.push(row_of(alloc, &material, width, *line)?)?;
-    }
-    Ok(rows)
+    rows_in(alloc, &material, width)
 }

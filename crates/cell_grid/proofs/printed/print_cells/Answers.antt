@@ -26,3 +26,6 @@ pub returns-clause-err : goal.returns-clause-err
 returns-clause-err g c =
     let own = text_over-some c.args.entry.columns (entry_text c.args.tables.now c.args.text.now (Some c.args.entry)) (omega arith) in
     on_err_by c.print_entry.result (subst (AppendsBeginning (g.W.Sink.written c.args.sink.now) (g.W.Sink.written c.print_entry.new.sink)) own) c.print_entry.ensures.err
+
+pub returns-then-entry-eq0-clause-failed : goal.returns-then-entry-eq0-clause-failed
+returns-then-entry-eq0-clause-failed g c = c.requires.working
