@@ -1,13 +1,13 @@
 //! A view that keeps the rows of paragraphs.
 
-ghost use Rattle.std.specs.Prelude.{◌≡◌, ◌++◌, ◌+◌, ◌≤◌, ◌<◌, not, length, map, IfOk, OnOk, OnErr};
+ghost use Rattle.std.specs.Prelude.{◌≡◌, ◌++◌, ◌+◌, ◌≤◌, ◌<◌, true, false, not, length, map, IfOk, OnOk, OnErr};
 ghost use Rattle.std.specs.List.{All};
 ghost use Rattle.std.specs.Str.{IsUtf8};
 ghost use Rattle.paragraphs.specs.Text.{code_points};
 ghost use Rattle.cell_grid.specs.Rows.{shifted};
 ghost use Rattle.cell_grid.specs.Grids.{paragraph_rows};
 ghost use Rattle.cell_grid.specs.Shifting.{MayShiftRow};
-ghost use Rattle.view_cache.specs.Keys.{paragraph_key};
+ghost use Rattle.view_cache.specs.Keys.{said, paragraph_key};
 ghost use Rattle.view_cache.specs.Uses.{is_kept, used};
 ghost use Rattle.view_cache.specs.Drawings.{empty_view, IsDrawing};
 
@@ -148,17 +148,62 @@ impl<'a> View<'a> {
         ensures view { OnOk result (self.new ≡ record self.old { keys = used self.old.room (paragraph_key para.now.text width base) self.old.keys }) }
         ensures err { OnErr result (self.new ≡ self.old) }
     {
-        rows_may_shift();
         let key = Key::of(self.alloc, para.text(), width, base)?;
-        if let Some(rows) = self.kept.peek(&key) {
-            push_shifted(self.alloc, rows, para, drawn)?;
-            self.kept.promote(&key);
+        if self.push_kept(&key, para, drawn)? {
             return Ok(false);
         }
+        self.push_laid(key, width, base, para, drawn)?;
+        Ok(true)
+    }
+
+    /// Appends the rows that are kept under a paragraph's key, and uses it. Returns whether there are any.
+    /// After `Memory` the view is as it was.
+    fn push_kept(&mut self, key: &Key, para: &Para, drawn: &mut Vec<Row>) -> Result<bool, Memory>
+        requires key { (said key.now).text ≡ para.now.text }
+        requires at_least { 2 ≤ (said key.now).width }
+        requires text { IsUtf8 para.now.text }
+        requires bytes { para.now.first_byte + length para.now.text ≤ 4_000_000 }
+        requires places { para.now.first_place + length (code_points para.now.text) ≤ 4_000_000 }
+        ensures kept { IfOk result (λ kept. kept ≡ is_kept (said key.now) self.old.keys) }
+        ensures found_rows { IfOk result (λ kept. kept ≡ true
+            → drawn.new.items ≡ drawn.old.items ++ paragraph_rows self.old.tables (said key.now).width (said key.now).base para.now) }
+        ensures found_view { IfOk result (λ kept. kept ≡ true → self.new ≡ record self.old { keys = used self.old.room (said key.now) self.old.keys }) }
+        ensures absent_rows { IfOk result (λ kept. kept ≡ false → drawn.new ≡ drawn.old) }
+        ensures absent_view { IfOk result (λ kept. kept ≡ false → self.new ≡ self.old) }
+        ensures err { OnErr result (self.new ≡ self.old) }
+    {
+        rows_may_shift();
+        if let Some(rows) = self.kept.peek(key) {
+            push_shifted(self.alloc, rows, para, drawn)?;
+            self.kept.promote(key);
+            return Ok(true);
+        }
+        Ok(false)
+    }
+
+    /// Lays a paragraph out, appends its rows and keeps them under its key. After `Memory` the view is as it was.
+    fn push_laid(
+        &mut self,
+        key: Key,
+        width: u16,
+        base: Base,
+        para: &Para,
+        drawn: &mut Vec<Row>,
+    ) -> Result<(), Memory>
+        requires key { said key ≡ paragraph_key para.now.text width base }
+        requires at_least { 2 ≤ width }
+        requires at_most { width ≤ 500 }
+        requires text { IsUtf8 para.now.text }
+        requires bytes { para.now.first_byte + length para.now.text ≤ 4_000_000 }
+        requires places { para.now.first_place + length (code_points para.now.text) ≤ 4_000_000 }
+        ensures rows { OnOk result (drawn.new.items ≡ drawn.old.items ++ paragraph_rows self.old.tables width base para.now) }
+        ensures view { OnOk result (self.new ≡ record self.old { keys = used self.old.room (paragraph_key para.now.text width base) self.old.keys }) }
+        ensures err { OnErr result (self.new ≡ self.old) }
+    {
         let rows = rows(self.alloc, self.tables, width, base, para)?;
         push_shifted(self.alloc, &rows, para, drawn)?;
         self.kept.put(key, rows)?;
-        Ok(true)
+        Ok(())
     }
 }
 

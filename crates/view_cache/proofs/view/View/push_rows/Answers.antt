@@ -1,76 +1,51 @@
 -- A use that finds the key's rows, and one that doesn't.
-use Rattle.std.proofs.Common.{◌++◌, not, map, sym, ap, subst, ◌∙◌}
-use Rattle.std.specs.Prelude.{is_some}
-use Rattle.std.specs.List.{All}
-use Rattle.cell_grid.specs.Rows.{rows_of, shifted}
-use Rattle.cell_grid.specs.Shifting.{MayShiftRow}
+use Rattle.std.proofs.Common.{◌≤◌, ◌++◌, not, List, Vec, sym, ap, subst, ◌∙◌}
+use Rattle.std.specs.Global.{Global}
+use Rattle.cell_grid.specs.Rows.{DrawnRow}
+use Rattle.cell_grid.specs.Grids.{paragraph_rows}
 use Rattle.view_cache.specs.Keys.{ParagraphKey, paragraph_key}
+use Rattle.view_cache.specs.Uses.{is_kept}
 use Rattle.view_cache.specs.Drawings.{KeptView}
-use Rattle.view_cache.proofs.Kept.{found-laid, used-promoted, used-put, view-used, kept-found}
-use Rattle.view_cache.proofs.Drawing.{none-found}
+use Rattle.view_cache.proofs.Kept.{view_used}
 use Rattle.view_cache.proofs.view.View.push_rows.Goals as goal
 
-pub push_shifted-requires-clause-may : goal.push_shifted-requires-clause-may
-push_shifted-requires-clause-may c =
-    let p = c.args.para.now in
-    let tables = c.self.inside.tables.now in
-    let key = c.in_ok-key.ensures ∙ ap (λ t. paragraph_key t c.args.width c.args.base) c.text.ensures in
-    let rows = c.deref.ensures.value ∙ found-laid tables c.self.inside.kept c.in_ok-key.key c.in-Some.rows.now c.self.invariant (sym c.in-Some.ensures) ∙ ap (λ (k : ParagraphKey). rows_of tables k.width k.base k.text) key in
-    subst (All (MayShiftRow p.first_byte p.first_place)) (sym rows)
-    (c.rows_may_shift.ensures tables c.args.width c.args.base p.text c.requires.at_least c.requires.text p.first_byte p.first_place c.requires.bytes c.requires.places)
+pub push_kept-requires-clause-key : goal.push_kept-requires-clause-key
+push_kept-requires-clause-key c = ap (λ (k : ParagraphKey). k.text) c.in_ok-key.ensures ∙ c.text.ensures
 
-pub invariant_of-self : goal.invariant_of-self
-invariant_of-self c =
-    (used-promoted c.self.inside.tables.now c.self.inside.kept c.promote.new.self c.in_ok-key.key c.self.invariant c.promote.ensures.entries (ap is_some (sym c.in-Some.ensures))).kept
+pub push_kept-requires-clause-at_least : goal.push_kept-requires-clause-at_least
+push_kept-requires-clause-at_least c = subst (λ (k : ParagraphKey). 2 ≤ k.width) (sym c.in_ok-key.ensures) c.requires.at_least
 
-pub returns-in-Some-clause-rows : goal.returns-in-Some-clause-rows
-returns-in-Some-clause-rows c =
-    let p = c.args.para.now in
-    let tables = c.self.inside.tables.now in
-    let key = c.in_ok-key.ensures ∙ ap (λ t. paragraph_key t c.args.width c.args.base) c.text.ensures in
-    let rows = c.deref.ensures.value ∙ found-laid tables c.self.inside.kept c.in_ok-key.key c.in-Some.rows.now c.self.invariant (sym c.in-Some.ensures) ∙ ap (λ (k : ParagraphKey). rows_of tables k.width k.base k.text) key in
-    c.in_ok-push_shifted.ensures
-    ∙ ap (λ l. c.args.drawn.now.items ++ map (shifted p.first_byte p.first_place) l) (rows ∙ ap (λ (v : KeptView). rows_of v.tables c.args.width c.args.base p.text) c.self.view_is)
+pub push_laid-requires-clause-key : goal.push_laid-requires-clause-key
+push_laid-requires-clause-key c = c.in_ok-key.ensures ∙ ap (λ t. paragraph_key t c.args.width c.args.base) c.text.ensures
 
-pub returns-in-Some-clause-laid : goal.returns-in-Some-clause-laid
-returns-in-Some-clause-laid c =
-    let key = c.in_ok-key.ensures ∙ ap (λ t. paragraph_key t c.args.width c.args.base) c.text.ensures in
-    ap (λ b. not (is_some b)) c.in-Some.ensures
-    ∙ ap not (kept-found c.self.inside.tables.now c.self.inside.kept c.self.inside.laid c.args.self.now c.self.view_is c.in_ok-key.key _ key)
+pub returns-then-branch-clause-rows : goal.returns-then-branch-clause-rows
+returns-then-branch-clause-rows c =
+    c.in_ok-push_kept.ensures.found_rows c.if-branch.true
+    ∙ ap (λ (k : ParagraphKey). c.args.drawn.now.items ++ paragraph_rows c.args.self.now.tables k.width k.base c.args.para.now) c.in_ok-key.ensures
 
-pub returns-in-Some-clause-view : goal.returns-in-Some-clause-view
-returns-in-Some-clause-view c =
+pub returns-then-branch-clause-laid : goal.returns-then-branch-clause-laid
+returns-then-branch-clause-laid c =
     let key = c.in_ok-key.ensures ∙ ap (λ t. paragraph_key t c.args.width c.args.base) c.text.ensures in
-    view-used c.self.inside.tables.now c.self.inside.kept c.self.inside.laid c.args.self.now c.self.view_is c.in_ok-key.key _ key c.promote.new.self
-    (used-promoted c.self.inside.tables.now c.self.inside.kept c.promote.new.self c.in_ok-key.key c.self.invariant c.promote.ensures.entries (ap is_some (sym c.in-Some.ensures)))
+    ap not (sym c.if-branch.true ∙ c.in_ok-push_kept.ensures.kept ∙ ap (λ k. is_kept k c.args.self.now.keys) key)
 
-pub invariant_of-self-2 : goal.invariant_of-self-2
-invariant_of-self-2 c =
+pub returns-then-branch-clause-view : goal.returns-then-branch-clause-view
+returns-then-branch-clause-view c =
     let key = c.in_ok-key.ensures ∙ ap (λ t. paragraph_key t c.args.width c.args.base) c.text.ensures in
-    (used-put c.self.inside.tables.now c.self.inside.kept c.put.new.self c.in_ok-key.key c.in_ok-rows.rows c.self.invariant c.in_ok-put.ensures.entries
-    (c.in_ok-rows.ensures.rows ∙ ap (λ (k : ParagraphKey). rows_of c.self.inside.tables.now k.width k.base k.text) (sym key))).kept
+    c.in_ok-push_kept.ensures.found_view c.if-branch.true ∙ ap (λ k. view_used k c.args.self.now) key
+
+pub returns-clause-rows : goal.returns-clause-rows
+returns-clause-rows c =
+    let rows_at : KeptView → List DrawnRow = λ v. paragraph_rows v.tables c.args.width c.args.base c.args.para.now in
+    c.in_ok-push_laid.ensures.rows
+    ∙ ap (λ (d : Vec DrawnRow Global). d.items ++ rows_at c.push_kept.new.self) (c.in_ok-push_kept.ensures.absent_rows c.if-branch.false)
+    ∙ ap (λ v. c.args.drawn.now.items ++ rows_at v) (c.in_ok-push_kept.ensures.absent_view c.if-branch.false)
 
 pub returns-clause-laid : goal.returns-clause-laid
 returns-clause-laid c =
     let key = c.in_ok-key.ensures ∙ ap (λ t. paragraph_key t c.args.width c.args.base) c.text.ensures in
-    let none = none-found c.peek.result _ c.peek.ensures c.in_default.not-Some in
-    ap not (sym none ∙ kept-found c.self.inside.tables.now c.self.inside.kept c.self.inside.laid c.args.self.now c.self.view_is c.in_ok-key.key _ key)
+    ap not (sym c.if-branch.false ∙ c.in_ok-push_kept.ensures.kept ∙ ap (λ k. is_kept k c.args.self.now.keys) key)
 
 pub returns-clause-view : goal.returns-clause-view
 returns-clause-view c =
-    let key = c.in_ok-key.ensures ∙ ap (λ t. paragraph_key t c.args.width c.args.base) c.text.ensures in
-    view-used c.self.inside.tables.now c.self.inside.kept c.self.inside.laid c.args.self.now c.self.view_is c.in_ok-key.key _ key c.put.new.self
-    (used-put c.self.inside.tables.now c.self.inside.kept c.put.new.self c.in_ok-key.key c.in_ok-rows.rows c.self.invariant c.in_ok-put.ensures.entries
-    (c.in_ok-rows.ensures.rows ∙ ap (λ (k : ParagraphKey). rows_of c.self.inside.tables.now k.width k.base k.text) (sym key)))
-
-pub push_shifted-requires-2-clause-may : goal.push_shifted-requires-2-clause-may
-push_shifted-requires-2-clause-may c =
-    let p = c.args.para.now in
-    subst (All (MayShiftRow p.first_byte p.first_place)) (sym c.deref-2.ensures.value)
-    (c.in_ok-rows.ensures.may_shift p.first_byte p.first_place c.requires.bytes c.requires.places)
-
-pub returns-clause-rows : goal.returns-clause-rows
-returns-clause-rows c =
-    let p = c.args.para.now in
-    let rows = c.deref-2.ensures.value ∙ c.in_ok-rows.ensures.rows ∙ ap (λ (v : KeptView). rows_of v.tables c.args.width c.args.base p.text) c.self.view_is in
-    c.in_ok-push_shifted-2.ensures ∙ ap (λ l. c.args.drawn.now.items ++ map (shifted p.first_byte p.first_place) l) rows
+    let key = paragraph_key c.args.para.now.text c.args.width c.args.base in
+    c.in_ok-push_laid.ensures.view ∙ ap (view_used key) (c.in_ok-push_kept.ensures.absent_view c.if-branch.false)
