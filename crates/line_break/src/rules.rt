@@ -2,6 +2,7 @@
 
 ghost use Rattle.std.specs.Prelude.{◌≡◌, ◌&&◌, [], ◌∷◌};
 ghost use Rattle.std.specs.List.{list_any};
+ghost use Rattle.line_break.specs.Classes.{one_of};
 ghost use Rattle.line_break.specs.Rules.{between_letters, holds, point, base, next_point, mark, first_rule, rules, item_rules, late_rules, joiners, enclosing, quotations, contingent, hyphens, ideographs, numbers, syllables, letters, parentheses, pairs};
 
 use crate::class::is_one_of;
@@ -132,6 +133,14 @@ fn joiners(b: Before, a: After) -> bool
         || !is_one_of(b.item, &[Sp, Ba, Hy]) && is_one_of(a.item, &[Gl]) // LB12a
 }
 
+/// Whether a class is one of these, and one after it is one of those.
+#[inline(always)]
+fn between(before: Lb, these: &[Lb], after: Lb, those: &[Lb]) -> bool
+    ensures { result ≡ (one_of these.now before && one_of those.now after) }
+{
+    is_one_of(before, these) && is_one_of(after, those)
+}
+
 /// LB13, LB14, LB15, LB16 and LB17: opening and closing.
 #[tactic(auto, unfolding(crate::specs::Rules::enclosing))]
 fn enclosing(b: Before, a: After) -> bool
@@ -139,9 +148,9 @@ fn enclosing(b: Before, a: After) -> bool
 {
     is_one_of(a.item, &[Cl, Cp, Ex, Is, Sy]) // LB13
         || is_one_of(b.spaced, &[Op]) // LB14
-        || is_one_of(b.spaced, &[Qu]) && is_one_of(a.item, &[Op]) // LB15
-        || is_one_of(b.spaced, &[Cl, Cp]) && is_one_of(a.item, &[Ns]) // LB16
-        || is_one_of(b.spaced, &[B2]) && is_one_of(a.item, &[B2]) // LB17
+        || between(b.spaced, &[Qu], a.item, &[Op]) // LB15
+        || between(b.spaced, &[Cl, Cp], a.item, &[Ns]) // LB16
+        || between(b.spaced, &[B2], a.item, &[B2]) // LB17
 }
 
 /// LB19: quotation marks.
@@ -168,7 +177,7 @@ fn hyphens(b: Before, a: After) -> bool
     is_one_of(a.item, &[Ba, Hy, Ns]) // LB21
         || is_one_of(b.item, &[Bb]) // LB21
         || b.hebrew_hyphen // LB21a
-        || is_one_of(b.item, &[Sy]) && is_one_of(a.item, &[Hl]) // LB21b
+        || between(b.item, &[Sy], a.item, &[Hl]) // LB21b
         || is_one_of(a.item, &[In]) // LB22
 }
 
@@ -177,10 +186,10 @@ fn hyphens(b: Before, a: After) -> bool
 fn ideographs(b: Before, a: After) -> bool
     ensures { result ≡ list_any (holds b a) ideographs }
 {
-    is_one_of(b.item, &[Al, Hl]) && is_one_of(a.item, &[Nu]) // LB23
-        || is_one_of(b.item, &[Nu]) && is_one_of(a.item, &[Al, Hl]) // LB23
-        || is_one_of(b.item, &[Pr]) && is_one_of(a.item, &[Id, Eb, Em]) // LB23a
-        || is_one_of(b.item, &[Id, Eb, Em]) && is_one_of(a.item, &[Po]) // LB23a
+    between(b.item, &[Al, Hl], a.item, &[Nu]) // LB23
+        || between(b.item, &[Nu], a.item, &[Al, Hl]) // LB23
+        || between(b.item, &[Pr], a.item, &[Id, Eb, Em]) // LB23a
+        || between(b.item, &[Id, Eb, Em], a.item, &[Po]) // LB23a
 }
 
 /// LB24 and LB25: prefixes, postfixes and numbers.
@@ -188,11 +197,11 @@ fn ideographs(b: Before, a: After) -> bool
 fn numbers(b: Before, a: After) -> bool
     ensures { result ≡ list_any (holds b a) numbers }
 {
-    is_one_of(b.item, &[Pr, Po]) && is_one_of(a.item, &[Al, Hl]) // LB24
-        || is_one_of(b.item, &[Al, Hl]) && is_one_of(a.item, &[Pr, Po]) // LB24
-        || is_one_of(b.item, &[Cl, Cp, Nu]) && is_one_of(a.item, &[Po, Pr]) // LB25
-        || is_one_of(b.item, &[Po, Pr]) && is_one_of(a.item, &[Op, Nu]) // LB25
-        || is_one_of(b.item, &[Hy, Is, Nu, Sy]) && is_one_of(a.item, &[Nu]) // LB25
+    between(b.item, &[Pr, Po], a.item, &[Al, Hl]) // LB24
+        || between(b.item, &[Al, Hl], a.item, &[Pr, Po]) // LB24
+        || between(b.item, &[Cl, Cp, Nu], a.item, &[Po, Pr]) // LB25
+        || between(b.item, &[Po, Pr], a.item, &[Op, Nu]) // LB25
+        || between(b.item, &[Hy, Is, Nu, Sy], a.item, &[Nu]) // LB25
 }
 
 /// LB26 and LB27: Korean syllable blocks.
@@ -200,11 +209,11 @@ fn numbers(b: Before, a: After) -> bool
 fn syllables(b: Before, a: After) -> bool
     ensures { result ≡ list_any (holds b a) syllables }
 {
-    is_one_of(b.item, &[Jl]) && is_one_of(a.item, &[Jl, Jv, H2, H3]) // LB26
-        || is_one_of(b.item, &[Jv, H2]) && is_one_of(a.item, &[Jv, Jt]) // LB26
-        || is_one_of(b.item, &[Jt, H3]) && is_one_of(a.item, &[Jt]) // LB26
-        || is_one_of(b.item, &[Jl, Jv, Jt, H2, H3]) && is_one_of(a.item, &[Po]) // LB27
-        || is_one_of(b.item, &[Pr]) && is_one_of(a.item, &[Jl, Jv, Jt, H2, H3]) // LB27
+    between(b.item, &[Jl], a.item, &[Jl, Jv, H2, H3]) // LB26
+        || between(b.item, &[Jv, H2], a.item, &[Jv, Jt]) // LB26
+        || between(b.item, &[Jt, H3], a.item, &[Jt]) // LB26
+        || between(b.item, &[Jl, Jv, Jt, H2, H3], a.item, &[Po]) // LB27
+        || between(b.item, &[Pr], a.item, &[Jl, Jv, Jt, H2, H3]) // LB27
 }
 
 /// LB28 and LB29: letters.
@@ -212,8 +221,8 @@ fn syllables(b: Before, a: After) -> bool
 fn letters(b: Before, a: After) -> bool
     ensures { result ≡ list_any (holds b a) letters }
 {
-    is_one_of(b.item, &[Al, Hl]) && is_one_of(a.item, &[Al, Hl]) // LB28
-        || is_one_of(b.item, &[Is]) && is_one_of(a.item, &[Al, Hl]) // LB29
+    between(b.item, &[Al, Hl], a.item, &[Al, Hl]) // LB28
+        || between(b.item, &[Is], a.item, &[Al, Hl]) // LB29
 }
 
 /// LB30: parentheses.
@@ -221,7 +230,7 @@ fn letters(b: Before, a: After) -> bool
 fn parentheses(b: Before, a: After) -> bool
     ensures { result ≡ list_any (holds b a) parentheses }
 {
-    is_one_of(b.item, &[Al, Hl, Nu]) && is_one_of(a.item, &[Op]) && !a.wide
+    between(b.item, &[Al, Hl, Nu], a.item, &[Op]) && !a.wide
         || is_one_of(b.item, &[Cp]) && !b.wide && is_one_of(a.item, &[Al, Hl, Nu])
 }
 
@@ -231,5 +240,5 @@ fn pairs(b: Before, a: After) -> bool
     ensures { result ≡ list_any (holds b a) pairs }
 {
     b.odd_regional && is_one_of(a.item, &[Ri]) // LB30a
-        || is_one_of(b.item, &[Eb]) && is_one_of(a.item, &[Em]) // LB30b
+        || between(b.item, &[Eb], a.item, &[Em]) // LB30b
 }
