@@ -7,6 +7,7 @@ mod folder;
 mod grammar;
 mod help;
 mod request;
+mod table;
 mod words;
 
 pub use fault_line::{PROGRAM, report};

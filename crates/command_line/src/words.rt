@@ -14,13 +14,18 @@ use std::alloc::Global;
 /// Reads the words of a command line, the program's name among them.
 pub fn job<'a>(alloc: Global, words: &'a [String]) -> Result<Job<'a>, Stop> {
     match command(alloc)?.try_get_matches_from(words) {
-        Ok(matches) => match matches.subcommand() {
-            Some((name, asked)) => named_job(alloc, name, asked),
-            None => Ok(Job::Text {
-                files: Vec::new(alloc),
-            }),
-        },
+        Ok(matches) => job_of(alloc, &matches),
         Err(error) => Err(Stop::of(alloc, &error)),
+    }
+}
+
+/// The work of the subcommand.
+fn job_of<'a>(alloc: Global, matches: &ArgMatches<'a>) -> Result<Job<'a>, Stop> {
+    match matches.subcommand() {
+        Some((name, asked)) => named_job(alloc, name, asked),
+        None => Ok(Job::Text {
+            files: Vec::new(alloc),
+        }),
     }
 }
 
@@ -88,17 +93,14 @@ fn files<'a>(alloc: Global, matches: &ArgMatches<'a>, least: usize) -> Result<Ve
     ensures some { IfOk result (λ files. least ≤ vec_len files) }
     ensures at_most { IfOk result (λ files. vec_len files ≤ 64) }
 {
-    let mut files = Vec::new(alloc);
-    if let Some(paths) = matches.get_strs("FILE") {
-        files.extend_from_slice(paths)?;
-    }
-    if files.len() < least || files.len() > 64 {
-        let count = files.len();
+    let files = matches.get_strs("FILE").unwrap_or(&[]);
+    let count = files.len();
+    if count < least || count > 64 {
         return Err(Stop::Usage(format!(in alloc;
             "error: {count} values for '[FILE]...': {least} to 64 are asked for\n"
         )?));
     }
-    Ok(files)
+    Ok(files.to_vec(alloc)?)
 }
 
 /// The site is one that an identifier can have.
@@ -146,22 +148,20 @@ fn is_wide(matches: &ArgMatches) -> bool {
 fn moves(alloc: Global, letters: &str) -> Result<Vec<Move>, Stop> {
     let mut moves = Vec::new(alloc);
     for letter in letters.chars() {
-        let Some(step) = step(letter) else {
-            return Err(Stop::Usage(format!(in alloc;
-                "error: invalid value '{letters}' for '--moves <M>': '{letter}' is none of l, r, u, d\n"
-            )?));
-        };
-        moves.push(step)?;
+        moves.push(step(alloc, letters, letter)?)?;
     }
     Ok(moves)
 }
 
-fn step(letter: char) -> Option<Move> {
+/// The move that one of these letters writes.
+fn step(alloc: Global, letters: &str, letter: char) -> Result<Move, Stop> {
     match letter {
-        'l' => Some(Move::Left),
-        'r' => Some(Move::Right),
-        'u' => Some(Move::Up),
-        'd' => Some(Move::Down),
-        _ => None,
+        'l' => Ok(Move::Left),
+        'r' => Ok(Move::Right),
+        'u' => Ok(Move::Up),
+        'd' => Ok(Move::Down),
+        _ => Err(Stop::Usage(format!(in alloc;
+            "error: invalid value '{letters}' for '--moves <M>': '{letter}' is none of l, r, u, d\n"
+        )?)),
     }
 }
