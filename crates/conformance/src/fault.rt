@@ -41,15 +41,15 @@ pub enum RunFault {
 
 impl fmt::Display for RunFault {
     fn fmt<W: fmt::Write>(&self, f: &mut fmt::Formatter<W>) -> fmt::Result {
-        match self {
-            RunFault::Data(fault) => write!(f, "data: {fault}"),
-            RunFault::ReadFailed => write!(f, "cannot read"),
-            RunFault::Name => write!(f, "not the name of a test file"),
-            RunFault::Line(line, fault) => write!(f, "line {line}: {fault}"),
-            RunFault::TooMany => write!(f, "too many cases"),
-            RunFault::Device => write!(f, "device"),
-            RunFault::Memory => write!(f, "memory"),
-        }
+        f.write_str(match self {
+            RunFault::Data(fault) => return write!(f, "data: {fault}"),
+            RunFault::Line(line, fault) => return write!(f, "line {line}: {fault}"),
+            RunFault::ReadFailed => "cannot read",
+            RunFault::Name => "not the name of a test file",
+            RunFault::TooMany => "too many cases",
+            RunFault::Device => "device",
+            RunFault::Memory => "memory",
+        })
     }
 }
 

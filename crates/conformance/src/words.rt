@@ -1,7 +1,7 @@
 //! The command line, read by `clap`.
 
 use crate::request::Job;
-use clap::{Arg, ArgAction, Command};
+use clap::{Arg, ArgAction, ArgMatches, Command};
 use cli_support::Stop;
 use std::alloc::{AllocError, Global};
 
@@ -14,30 +14,33 @@ const FILE_HELP: &str = "Test files: BidiTest.txt, BidiCharacterTest.txt, LineBr
 
 /// Reads the words of a command line, the program's name among them.
 pub fn job<'a>(alloc: Global, words: &'a [String]) -> Result<Job<'a>, Stop> {
-    let matches = match command(alloc)?.try_get_matches_from(words) {
-        Ok(matches) => matches,
-        Err(error) => return Err(Stop::of(alloc, &error)),
-    };
-    let folder = matches.get_str("FOLDER").unwrap_or("");
-    let mut files = Vec::new(alloc);
-    if let Some(paths) = matches.get_strs("FILE") {
-        files.extend_from_slice(paths)?;
+    match command(alloc)?.try_get_matches_from(words) {
+        Ok(matches) => Ok(job_of(alloc, &matches)?),
+        Err(error) => Err(Stop::of(alloc, &error)),
     }
-    Ok(Job { folder, files })
+}
+
+fn job_of<'a>(alloc: Global, matches: &ArgMatches<'a>) -> Result<Job<'a>, AllocError> {
+    let folder = matches.get_str("FOLDER").unwrap_or("");
+    let paths = matches.get_strs("FILE").unwrap_or(&[]);
+    Ok(Job {
+        folder,
+        files: paths.to_vec(alloc)?,
+    })
 }
 
 fn command<'a>(alloc: Global) -> Result<Command<'a>, AllocError> {
-    let folder = Arg::new(alloc, "FOLDER")
-        .help(FOLDER_HELP)
-        .required(true)
-        .action(ArgAction::Set);
-    let files = Arg::new(alloc, "FILE")
-        .help(FILE_HELP)
-        .required(true)
-        .num_args(1..=3)
-        .action(ArgAction::Append);
     Command::new(alloc, "conformance")
         .about(ABOUT)
-        .arg(folder)?
-        .arg(files)
+        .arg(path(alloc, "FOLDER", FOLDER_HELP).action(ArgAction::Set))?
+        .arg(
+            path(alloc, "FILE", FILE_HELP)
+                .num_args(1..=3)
+                .action(ArgAction::Append),
+        )
+}
+
+/// An argument that has to be there.
+fn path<'a>(alloc: Global, id: &'a str, help: &'a str) -> Arg<'a> {
+    Arg::new(alloc, id).help(help).required(true)
 }
