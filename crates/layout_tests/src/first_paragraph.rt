@@ -1,19 +1,47 @@
-//! The first paragraph of a text, which most tests are about.
+//! The first paragraph of a text, which many rows are about.
 
+use crate::pieces::{Pieces, text_of};
+use crate::rows::Row;
+use bg_types::Memory;
 use paragraphs::{Para, split};
 use std::alloc::Global;
-use std::test::Fail;
 use ucd_files::Tables;
 
-/// The first paragraph of a text.
-pub fn first_paragraph<'a>(
+/// What is seen of a paragraph.
+pub trait OfParagraph {
+    /// Whether it is seen of this one.
+    fn is_of(&self, alloc: Global, tables: &Tables, para: &Para) -> Result<bool, Memory>;
+}
+
+/// Whether this is seen of the first paragraph of a text.
+fn is_of_first<P: OfParagraph>(
     alloc: Global,
     tables: &Tables,
-    text: &'a str,
-) -> Result<Para<'a>, Fail> {
-    let mut paragraphs = split(alloc, tables, text)?;
-    if paragraphs.is_empty() {
-        return Err(Fail::from("no paragraph"));
+    text: &str,
+    seen: &P,
+) -> Result<bool, Memory> {
+    let paragraphs = split(alloc, tables, text)?;
+    match paragraphs.first() {
+        Some(para) => seen.is_of(alloc, tables, para),
+        None => Ok(false),
     }
-    Ok(paragraphs.swap_remove(0))
+}
+
+/// A text, and what is seen of its first paragraph.
+pub struct First<P>(pub &'static str, pub P);
+
+impl<P: OfParagraph> Row for First<P> {
+    fn comes_out(&self, alloc: Global, tables: &Tables) -> Result<bool, Memory> {
+        is_of_first(alloc, tables, self.0, &self.1)
+    }
+}
+
+/// The same of a text of pieces.
+pub struct FirstOf<P>(pub Pieces, pub P);
+
+impl<P: OfParagraph> Row for FirstOf<P> {
+    fn comes_out(&self, alloc: Global, tables: &Tables) -> Result<bool, Memory> {
+        let text = text_of(alloc, self.0)?;
+        is_of_first(alloc, tables, &text, &self.1)
+    }
 }

@@ -12,8 +12,6 @@ mod caret_tests;
 #[cfg(test)]
 mod cell_grid_tests;
 #[cfg(test)]
-mod compared;
-#[cfg(test)]
 mod drawn;
 #[cfg(test)]
 mod first_paragraph;
@@ -22,9 +20,11 @@ mod line_break_tests;
 #[cfg(test)]
 mod paragraphs_tests;
 #[cfg(test)]
+mod pieces;
+#[cfg(test)]
 mod reorder_tests;
 #[cfg(test)]
-mod small_tables;
+mod rows;
 #[cfg(test)]
 mod ucd_files_tests;
 #[cfg(test)]

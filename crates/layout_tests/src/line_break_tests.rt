@@ -1,13 +1,12 @@
-use crate::compared::assert_number;
-use crate::first_paragraph::first_paragraph;
-use crate::small_tables::small_tables;
+//! What no clause says: texts under each rule, and calls that succeed.
+
+use crate::first_paragraph::{First, FirstOf, OfParagraph};
+use crate::rows::{Row, assert_rows, assert_rows_by};
 use bg_types::Memory;
 use line_break::*;
 use paragraphs::Para;
-use std::alloc::{AllocError, Global};
-use std::process::Abort;
-use std::test::Fail;
-use ucd_files::{Tables, UcdFault};
+use std::alloc::Global;
+use ucd_files::{Tables, Ucd, vectors};
 
 /// A letter for each break class; n is an SA of Bidi class NSM, and i, < and > are East Asian W.
 const LETTERS: &[u8] = b"\
@@ -60,16 +59,15 @@ const LETTERS: &[u8] = b"\
 007E;GL
 ";
 
-fn letter_tables(alloc: Global) -> Result<Tables, UcdFault> {
-    Tables::load(
-        alloc,
-        b"006E;NSM",
-        b"",
-        b"",
-        LETTERS,
-        b"003C;W\n003E;W\n0069;W",
-    )
-}
+/// Files of these letters alone.
+const BY_LETTERS: Ucd<'static> = Ucd {
+    bidi: b"006E;NSM",
+    brackets: b"",
+    mirror: b"",
+    lb: LETTERS,
+    ea: b"003C;W\n003E;W\n0069;W",
+    wide_ambiguous: false,
+};
 
 /// The sign of a status, as in UAX #14.
 fn sign(status: Break) -> char {
@@ -80,375 +78,346 @@ fn sign(status: Break) -> char {
     }
 }
 
-/// Compares a status with the next sign.
-fn assert_sign(rt: &impl Abort, status: Break, wanted: Option<char>, text: &str) {
-    assert_eq!(rt; Some(sign(status)), wanted, "in {text:?}");
-}
-
-/// Compares statuses with signs.
-fn assert_signs(rt: &impl Abort, statuses: &[Break], want: &str, text: &str) {
-    let mut wanted = want.chars();
+/// Whether statuses have these signs.
+fn have_signs(statuses: &[Break], signs: &str) -> bool {
+    let mut wanted = signs.chars();
+    let mut right = true;
     for status in statuses {
-        assert_sign(rt, *status, wanted.next(), text);
+        right = wanted.next() == Some(sign(*status)) && right;
     }
-    assert!(rt; wanted.next().is_none(), "in {text:?}");
+    right && wanted.next().is_none()
 }
 
-/// Compares the statuses of a text's first paragraph, written as in UAX #14.
-fn assert_statuses(
-    rt: &(impl Abort + AllocGlobal),
-    tables: &Tables,
-    text: &str,
-    want: &str,
-) -> Result<(), Fail> {
-    let para = first_paragraph(rt.alloc(), tables, text)?;
-    let statuses = opportunities(rt.alloc(), tables, &para)?;
-    assert_signs(rt, &statuses, want, text);
-    Ok(())
-}
+/// The statuses of a paragraph, written as in UAX #14.
+struct Statuses(&'static str);
 
-fn assert_all_statuses(
-    rt: &(impl Abort + AllocGlobal),
-    tables: &Tables,
-    rows: &[(&str, &str)],
-) -> Result<(), Fail> {
-    for (text, want) in rows {
-        assert_statuses(rt, tables, text, want)?;
+impl OfParagraph for Statuses {
+    fn is_of(&self, alloc: Global, tables: &Tables, para: &Para) -> Result<bool, Memory> {
+        match opportunities(alloc, tables, para) {
+            Ok(statuses) => Ok(have_signs(&statuses, self.0)),
+            Err(Memory) => Err(Memory),
+        }
     }
-    Ok(())
 }
 
-const SMALL_TEXTS: &[(&str, &str)] = &[
-    ("ab cd", "××÷×!"),
-    ("a-1", "××!"),
-    ("(a) b", "×××÷!"),
-    ("a\u{4E16}!", "÷×!"),
-    ("\u{5D0}-b", "××!"),
-    ("a\n", "×!"),
-    ("a\u{2028}b", "×!!"),
-    ("a-b c", "×÷×÷!"),
+const SMALL_TEXTS: &[First<Statuses>] = &[
+    First("ab cd", Statuses("××÷×!")),
+    First("a-1", Statuses("××!")),
+    First("(a) b", Statuses("×××÷!")),
+    First("a\u{4E16}!", Statuses("÷×!")),
+    First("\u{5D0}-b", Statuses("××!")),
+    First("a\n", Statuses("×!")),
+    First("a\u{2028}b", Statuses("×!!")),
+    First("a-b c", Statuses("×÷×÷!")),
 ];
 
 #[test]
-fn statuses_of_small_texts(rt: HostRuntime) -> Result<(), Fail> {
-    let tables = small_tables(rt.alloc())?;
-    assert_all_statuses(&rt, &tables, SMALL_TEXTS)
+fn statuses_of_small_texts(rt: HostRuntime) {
+    assert_rows(&rt, SMALL_TEXTS);
 }
 
 /// Texts in the letters of the classes, and their statuses. Under each rule stand texts with a
 /// boundary that it alone decides, or that shows where it ends.
-const RULES: &[(&str, &str)] = &[
+const RULES: &[First<Statuses>] = &[
     // LB2, LB3
-    ("", ""),
-    ("a", "!"),
+    First("", Statuses("")),
+    First("a", Statuses("!")),
     // LB1
-    ("iA", "÷!"),
-    ("Aa", "×!"),
-    ("Sa", "×!"),
-    ("Xa", "×!"),
-    ("iJ", "×!"),
-    ("sa", "×!"),
-    ("in", "×!"),
-    ("na", "×!"),
+    First("iA", Statuses("÷!")),
+    First("Aa", Statuses("×!")),
+    First("Sa", Statuses("×!")),
+    First("Xa", Statuses("×!")),
+    First("iJ", Statuses("×!")),
+    First("sa", Statuses("×!")),
+    First("in", Statuses("×!")),
+    First("na", Statuses("×!")),
     // LB4
-    ("Ka", "!!"),
+    First("Ka", Statuses("!!")),
     // LB5
-    ("RF", "×!"),
-    ("Ra", "!!"),
-    ("Fa", "!!"),
-    ("Na", "!!"),
+    First("RF", Statuses("×!")),
+    First("Ra", Statuses("!!")),
+    First("Fa", Statuses("!!")),
+    First("Na", Statuses("!!")),
     // LB6
-    ("iK", "×!"),
-    ("iR", "×!"),
-    ("iF", "×!"),
-    ("iN", "×!"),
+    First("iK", Statuses("×!")),
+    First("iR", Statuses("×!")),
+    First("iF", Statuses("×!")),
+    First("iN", Statuses("×!")),
     // LB7
-    ("i i", "×÷!"),
-    ("iz", "×!"),
+    First("i i", Statuses("×÷!")),
+    First("iz", Statuses("×!")),
     // LB8
-    ("z!", "÷!"),
-    ("z  !", "××÷!"),
+    First("z!", Statuses("÷!")),
+    First("z  !", Statuses("××÷!")),
     // LB8a
-    ("aji", "××!"),
-    ("iji", "××!"),
-    ("ajci", "××÷!"),
+    First("aji", Statuses("××!")),
+    First("iji", Statuses("××!")),
+    First("ajci", Statuses("××÷!")),
     // LB9
-    ("ic", "×!"),
-    ("ij", "×!"),
-    ("iccc1", "×××÷!"),
-    ("rcr", "××!"),
-    ("Kci", "!÷!"),
-    ("zci", "÷÷!"),
+    First("ic", Statuses("×!")),
+    First("ij", Statuses("×!")),
+    First("iccc1", Statuses("×××÷!")),
+    First("rcr", Statuses("××!")),
+    First("Kci", Statuses("!÷!")),
+    First("zci", Statuses("÷÷!")),
     // LB10
-    ("ca", "×!"),
-    ("ci", "÷!"),
-    ("a ci", "×÷÷!"),
-    ("a cc1", "×÷××!"),
+    First("ca", Statuses("×!")),
+    First("ci", Statuses("÷!")),
+    First("a ci", Statuses("×÷÷!")),
+    First("a cc1", Statuses("×÷××!")),
     // LB11
-    ("iw", "×!"),
-    ("wi", "×!"),
+    First("iw", Statuses("×!")),
+    First("wi", Statuses("×!")),
     // LB12
-    ("~i", "×!"),
+    First("~i", Statuses("×!")),
     // LB12a
-    ("i~", "×!"),
-    (" ~", "÷!"),
-    ("|~", "÷!"),
-    ("-~", "÷!"),
+    First("i~", Statuses("×!")),
+    First(" ~", Statuses("÷!")),
+    First("|~", Statuses("÷!")),
+    First("-~", Statuses("÷!")),
     // LB13
-    ("i!", "×!"),
-    ("i)", "×!"),
-    ("i]", "×!"),
-    ("i,", "×!"),
-    ("i/", "×!"),
-    ("i !", "××!"),
+    First("i!", Statuses("×!")),
+    First("i)", Statuses("×!")),
+    First("i]", Statuses("×!")),
+    First("i,", Statuses("×!")),
+    First("i/", Statuses("×!")),
+    First("i !", Statuses("××!")),
     // LB14
-    ("(i", "×!"),
-    ("(  i", "×××!"),
+    First("(i", Statuses("×!")),
+    First("(  i", Statuses("×××!")),
     // LB15
-    ("\"  (", "×××!"),
+    First("\"  (", Statuses("×××!")),
     // LB16
-    (")  :", "×××!"),
-    ("] :", "××!"),
+    First(")  :", Statuses("×××!")),
+    First("] :", Statuses("××!")),
     // LB17
-    ("==", "×!"),
-    ("=  =", "×××!"),
+    First("==", Statuses("×!")),
+    First("=  =", Statuses("×××!")),
     // LB18
-    ("i :", "×÷!"),
+    First("i :", Statuses("×÷!")),
     // LB19
-    ("i\"", "×!"),
-    ("\"i", "×!"),
+    First("i\"", Statuses("×!")),
+    First("\"i", Statuses("×!")),
     // LB20
-    ("#:", "÷!"),
-    ("`#", "÷!"),
+    First("#:", Statuses("÷!")),
+    First("`#", Statuses("÷!")),
     // LB21
-    ("i|", "×!"),
-    ("i-", "×!"),
-    ("i:", "×!"),
-    ("`i", "×!"),
+    First("i|", Statuses("×!")),
+    First("i-", Statuses("×!")),
+    First("i:", Statuses("×!")),
+    First("`i", Statuses("×!")),
     // LB21a
-    ("h-i", "××!"),
-    ("h|i", "××!"),
-    ("hc-ci", "××××!"),
-    ("a-i", "×÷!"),
+    First("h-i", Statuses("××!")),
+    First("h|i", Statuses("××!")),
+    First("hc-ci", Statuses("××××!")),
+    First("a-i", Statuses("×÷!")),
     // LB21b
-    ("/h", "×!"),
-    ("/a", "÷!"),
+    First("/h", Statuses("×!")),
+    First("/a", Statuses("÷!")),
     // LB22
-    ("i.", "×!"),
+    First("i.", Statuses("×!")),
     // LB23
-    ("a1", "×!"),
-    ("h1", "×!"),
-    ("1a", "×!"),
-    ("1h", "×!"),
+    First("a1", Statuses("×!")),
+    First("h1", Statuses("×!")),
+    First("1a", Statuses("×!")),
+    First("1h", Statuses("×!")),
     // LB23a
-    ("$i", "×!"),
-    ("$e", "×!"),
-    ("$m", "×!"),
-    ("i%", "×!"),
-    ("e%", "×!"),
-    ("m%", "×!"),
+    First("$i", Statuses("×!")),
+    First("$e", Statuses("×!")),
+    First("$m", Statuses("×!")),
+    First("i%", Statuses("×!")),
+    First("e%", Statuses("×!")),
+    First("m%", Statuses("×!")),
     // LB24
-    ("$a", "×!"),
-    ("%h", "×!"),
-    ("a$", "×!"),
-    ("h%", "×!"),
+    First("$a", Statuses("×!")),
+    First("%h", Statuses("×!")),
+    First("a$", Statuses("×!")),
+    First("h%", Statuses("×!")),
     // LB25
-    (")%", "×!"),
-    ("]%", "×!"),
-    (")$", "×!"),
-    ("]$", "×!"),
-    ("1%", "×!"),
-    ("1$", "×!"),
-    ("%(", "×!"),
-    ("%1", "×!"),
-    ("$(", "×!"),
-    ("$1", "×!"),
-    ("-1", "×!"),
-    (",1", "×!"),
-    ("11", "×!"),
-    ("/1", "×!"),
+    First(")%", Statuses("×!")),
+    First("]%", Statuses("×!")),
+    First(")$", Statuses("×!")),
+    First("]$", Statuses("×!")),
+    First("1%", Statuses("×!")),
+    First("1$", Statuses("×!")),
+    First("%(", Statuses("×!")),
+    First("%1", Statuses("×!")),
+    First("$(", Statuses("×!")),
+    First("$1", Statuses("×!")),
+    First("-1", Statuses("×!")),
+    First(",1", Statuses("×!")),
+    First("11", Statuses("×!")),
+    First("/1", Statuses("×!")),
     // LB26
-    ("LL", "×!"),
-    ("LV", "×!"),
-    ("L2", "×!"),
-    ("L3", "×!"),
-    ("VV", "×!"),
-    ("VT", "×!"),
-    ("2V", "×!"),
-    ("2T", "×!"),
-    ("TT", "×!"),
-    ("3T", "×!"),
+    First("LL", Statuses("×!")),
+    First("LV", Statuses("×!")),
+    First("L2", Statuses("×!")),
+    First("L3", Statuses("×!")),
+    First("VV", Statuses("×!")),
+    First("VT", Statuses("×!")),
+    First("2V", Statuses("×!")),
+    First("2T", Statuses("×!")),
+    First("TT", Statuses("×!")),
+    First("3T", Statuses("×!")),
     // LB27
-    ("L%", "×!"),
-    ("V%", "×!"),
-    ("T%", "×!"),
-    ("2%", "×!"),
-    ("3%", "×!"),
-    ("$L", "×!"),
-    ("$V", "×!"),
-    ("$T", "×!"),
-    ("$2", "×!"),
-    ("$3", "×!"),
+    First("L%", Statuses("×!")),
+    First("V%", Statuses("×!")),
+    First("T%", Statuses("×!")),
+    First("2%", Statuses("×!")),
+    First("3%", Statuses("×!")),
+    First("$L", Statuses("×!")),
+    First("$V", Statuses("×!")),
+    First("$T", Statuses("×!")),
+    First("$2", Statuses("×!")),
+    First("$3", Statuses("×!")),
     // LB28
-    ("aa", "×!"),
-    ("ah", "×!"),
-    ("ha", "×!"),
-    ("hh", "×!"),
+    First("aa", Statuses("×!")),
+    First("ah", Statuses("×!")),
+    First("ha", Statuses("×!")),
+    First("hh", Statuses("×!")),
     // LB29
-    (",a", "×!"),
-    (",h", "×!"),
+    First(",a", Statuses("×!")),
+    First(",h", Statuses("×!")),
     // LB30
-    ("a(", "×!"),
-    ("h(", "×!"),
-    ("1(", "×!"),
-    ("]a", "×!"),
-    ("]h", "×!"),
-    ("]1", "×!"),
-    ("a<", "÷!"),
-    ("1<", "÷!"),
-    (">a", "÷!"),
-    (">1", "÷!"),
+    First("a(", Statuses("×!")),
+    First("h(", Statuses("×!")),
+    First("1(", Statuses("×!")),
+    First("]a", Statuses("×!")),
+    First("]h", Statuses("×!")),
+    First("]1", Statuses("×!")),
+    First("a<", Statuses("÷!")),
+    First("1<", Statuses("÷!")),
+    First(">a", Statuses("÷!")),
+    First(">1", Statuses("÷!")),
     // LB30a
-    ("r", "!"),
-    ("rr", "×!"),
-    ("rrr", "×÷!"),
-    ("rrrr", "×÷×!"),
-    ("rrrrr", "×÷×÷!"),
-    ("arr", "÷×!"),
+    First("r", Statuses("!")),
+    First("rr", Statuses("×!")),
+    First("rrr", Statuses("×÷!")),
+    First("rrrr", Statuses("×÷×!")),
+    First("rrrrr", Statuses("×÷×÷!")),
+    First("arr", Statuses("÷×!")),
     // LB30b
-    ("em", "×!"),
+    First("em", Statuses("×!")),
     // LB31
-    ("ai", "÷!"),
-    ("ia", "÷!"),
-    ("me", "÷!"),
+    First("ai", Statuses("÷!")),
+    First("ia", Statuses("÷!")),
+    First("me", Statuses("÷!")),
 ];
 
 #[test]
-fn each_rule_decides(rt: HostRuntime) -> Result<(), Fail> {
-    let tables = letter_tables(rt.alloc())?;
-    assert_all_statuses(&rt, &tables, RULES)
+fn each_rule_decides(rt: HostRuntime) {
+    assert_rows_by(&rt, &BY_LETTERS, RULES);
 }
 
-fn assert_line(rt: &impl Abort, line: &Line, want: (usize, usize), text: &str, width: u16) {
-    assert_eq!(rt; (line.start, line.end), want, "in {text:?} at {width}");
-}
+/// A width, and the numbers of the lines' clusters.
+struct Lines(u16, &'static [(usize, usize)]);
 
-fn assert_found(rt: &impl Abort, found: &[Line], want: &[(usize, usize)], text: &str, width: u16) {
-    assert_number(rt, found.len(), want.len(), text);
+fn are_lines(found: &[Line], want: &[(usize, usize)]) -> bool {
+    let mut right = found.len() == want.len();
     for (line, wanted) in found.iter().zip(want) {
-        assert_line(rt, line, *wanted, text, width);
+        right = (line.start, line.end) == *wanted && right;
+    }
+    right
+}
+
+impl OfParagraph for Lines {
+    fn is_of(&self, alloc: Global, tables: &Tables, para: &Para) -> Result<bool, Memory> {
+        if self.0 < 2 || self.0 > 500 || para.text().len() > 4_000_000 {
+            return Ok(false);
+        }
+        match lines(alloc, tables, para, self.0) {
+            Ok(found) => Ok(are_lines(&found, self.1)),
+            Err(Memory) => Err(Memory),
+        }
     }
 }
 
-/// The lines of a paragraph, after a test of the call's preconditions.
-fn lines_of(
-    rt: &impl Abort,
-    alloc: Global,
-    tables: &Tables,
-    para: &Para,
-    width: u16,
-) -> Result<Vec<Line>, Memory> {
-    assert!(rt; 2 <= width && width <= 500);
-    assert!(rt; para.text().len() <= 4_000_000);
-    lines(alloc, tables, para, width)
-}
-
-/// Compares the lines of a text's first paragraph with their clusters' numbers.
-fn assert_lines(
-    rt: &(impl Abort + AllocGlobal),
-    tables: &Tables,
-    text: &str,
-    width: u16,
-    want: &[(usize, usize)],
-) -> Result<(), Fail> {
-    let para = first_paragraph(rt.alloc(), tables, text)?;
-    let found = lines_of(rt, rt.alloc(), tables, &para, width)?;
-    assert_found(rt, &found, want, text, width);
-    Ok(())
-}
-
-/// Texts, widths, and the numbers of their lines' clusters.
-const LINES: &[(&str, u16, &[(usize, usize)])] = &[
-    ("", 4, &[(0, 0)]),
-    ("a-b c", 3, &[(0, 4), (4, 5)]),
-    ("a-b c", 2, &[(0, 2), (2, 4), (4, 5)]),
-    ("abcdef", 4, &[(0, 4), (4, 6)]),
-    ("ab cd", 2, &[(0, 3), (3, 5)]),
-    ("a\u{4E16}b", 2, &[(0, 1), (1, 2), (2, 3)]),
-    ("a   ", 3, &[(0, 4)]),
-    ("a \u{5D0}\u{5D1} \u{5D2}\u{5D3}", 5, &[(0, 5), (5, 7)]),
-    ("     ", 2, &[(0, 5)]),
+const LINES: &[First<Lines>] = &[
+    First("", Lines(4, &[(0, 0)])),
+    First("a-b c", Lines(3, &[(0, 4), (4, 5)])),
+    First("a-b c", Lines(2, &[(0, 2), (2, 4), (4, 5)])),
+    First("abcdef", Lines(4, &[(0, 4), (4, 6)])),
+    First("ab cd", Lines(2, &[(0, 3), (3, 5)])),
+    First("a\u{4E16}b", Lines(2, &[(0, 1), (1, 2), (2, 3)])),
+    First("a   ", Lines(3, &[(0, 4)])),
+    First(
+        "a \u{5D0}\u{5D1} \u{5D2}\u{5D3}",
+        Lines(5, &[(0, 5), (5, 7)]),
+    ),
+    First("     ", Lines(2, &[(0, 5)])),
     // The last opportunity, not a cut, wherever one fits.
-    ("a b c", 3, &[(0, 4), (4, 5)]),
-    ("ab cdef", 4, &[(0, 3), (3, 7)]),
+    First("a b c", Lines(3, &[(0, 4), (4, 5)])),
+    First("ab cdef", Lines(4, &[(0, 3), (3, 7)])),
     // A wide cluster at the last column, with a break before it and without.
-    ("aa\u{4E16}", 3, &[(0, 2), (2, 3)]),
-    ("a\u{A0}\u{4E16}", 3, &[(0, 2), (2, 3)]),
-    ("a\u{A0}\u{4E16}", 4, &[(0, 3)]),
+    First("aa\u{4E16}", Lines(3, &[(0, 2), (2, 3)])),
+    First("a\u{A0}\u{4E16}", Lines(3, &[(0, 2), (2, 3)])),
+    First("a\u{A0}\u{4E16}", Lines(4, &[(0, 3)])),
     // One cluster more ends two lines.
-    ("|(\u{4E16}", 2, &[(0, 1), (1, 2), (2, 3)]),
+    First("|(\u{4E16}", Lines(2, &[(0, 1), (1, 2), (2, 3)])),
     // A line must end.
-    ("a\u{2028}b", 4, &[(0, 2), (2, 3)]),
-    ("a\n", 2, &[(0, 2)]),
-    ("a\r\n", 2, &[(0, 2)]),
+    First("a\u{2028}b", Lines(4, &[(0, 2), (2, 3)])),
+    First("a\n", Lines(2, &[(0, 2)])),
+    First("a\r\n", Lines(2, &[(0, 2)])),
     // Clusters of several code points, and clusters without columns at a line's end.
-    ("e\u{301}", 2, &[(0, 1)]),
-    ("a\u{200D}\u{4E16} b", 3, &[(0, 3), (3, 4)]),
-    ("abcd\u{2067}\u{2069} ef", 4, &[(0, 7), (7, 9)]),
-    ("ab\u{2067}\u{2069}", 2, &[(0, 4)]),
+    First("e\u{301}", Lines(2, &[(0, 1)])),
+    First("a\u{200D}\u{4E16} b", Lines(3, &[(0, 3), (3, 4)])),
+    First("abcd\u{2067}\u{2069} ef", Lines(4, &[(0, 7), (7, 9)])),
+    First("ab\u{2067}\u{2069}", Lines(2, &[(0, 4)])),
 ];
 
-fn assert_all_lines(rt: &(impl Abort + AllocGlobal), tables: &Tables) -> Result<(), Fail> {
-    for (text, width, want) in LINES {
-        assert_lines(rt, tables, text, *width, want)?;
-    }
-    Ok(())
-}
-
 #[test]
-fn lines_of_small_texts(rt: HostRuntime) -> Result<(), Fail> {
-    let tables = small_tables(rt.alloc())?;
-    assert_all_lines(&rt, &tables)
+fn lines_of_small_texts(rt: HostRuntime) {
+    assert_rows(&rt, LINES);
 }
 
 /// A mark that is a mandatory break stands inside a cluster.
-fn assert_unbroken(rt: &(impl Abort + AllocGlobal), tables: &Tables) -> Result<(), Fail> {
-    assert_statuses(rt, tables, "a\u{301}\u{302}b", "×!×!")?;
-    assert_lines(rt, tables, "a\u{301}\u{302}b", 4, &[(0, 2)])
-}
+const UNBROKEN_STATUSES: &[First<Statuses>] = &[First("a\u{301}\u{302}b", Statuses("×!×!"))];
+
+const UNBROKEN_LINES: &[First<Lines>] = &[First("a\u{301}\u{302}b", Lines(4, &[(0, 2)]))];
 
 #[test]
-fn a_mandatory_break_inside_a_cluster_counts_nowhere(rt: HostRuntime) -> Result<(), Fail> {
-    let lb = b"0301;BK\n0061;AL\n0062;AL";
-    let tables = Tables::load(rt.alloc(), b"", b"", b"", lb, b"")?;
-    assert_unbroken(&rt, &tables)
+fn a_mandatory_break_inside_a_cluster_counts_nowhere(rt: HostRuntime) {
+    let files = Ucd {
+        bidi: b"",
+        brackets: b"",
+        mirror: b"",
+        lb: b"0301;BK\n0061;AL\n0062;AL",
+        ea: b"",
+        wide_ambiguous: false,
+    };
+    assert_rows_by(&rt, &files, UNBROKEN_STATUSES);
+    assert_rows_by(&rt, &files, UNBROKEN_LINES);
 }
 
-/// A letter, so many spaces and another letter.
-fn spaced(alloc: Global, count: usize) -> Result<String, AllocError> {
-    let mut text = String::from_str(alloc, "a")?;
-    for _ in 0..count {
-        text.push(' ')?;
+const TEN_THOUSAND: &[FirstOf<Lines>] = &[FirstOf(
+    &[("a", 1), (" ", 10_000), ("b", 1)],
+    Lines(2, &[(0, 10_001), (10_001, 10_002)]),
+)];
+
+#[test]
+fn ten_thousand_spaces_hang(rt: HostRuntime) {
+    assert_rows(&rt, TEN_THOUSAND);
+}
+
+/// A cluster, and whether it is a space.
+struct Space(&'static str, bool);
+
+impl Row for Space {
+    fn comes_out(&self, _alloc: Global, tables: &Tables) -> Result<bool, Memory> {
+        Ok(is_space(tables, self.0) == self.1)
     }
-    text.push('b')?;
-    Ok(text)
 }
 
-#[test]
-fn ten_thousand_spaces_hang(rt: HostRuntime) -> Result<(), Fail> {
-    let text = spaced(rt.alloc(), 10_000)?;
-    let tables = small_tables(rt.alloc())?;
-    assert_lines(&rt, &tables, &text, 2, &[(0, 10_001), (10_001, 10_002)])
-}
+const SPACES: &[Space] = &[
+    Space(" ", true),
+    Space("a", false),
+    Space(" \u{301}", false),
+    Space("\u{A0}", false),
+];
 
 #[test]
-fn spaces_by_their_class(rt: HostRuntime) -> Result<(), Fail> {
-    let tables = small_tables(rt.alloc())?;
-    assert!(rt; is_space(&tables, " "));
-    assert!(rt; !is_space(&tables, "a"));
-    assert!(rt; !is_space(&tables, " \u{301}"));
-    assert!(rt; !is_space(&tables, "\u{A0}"));
-    Ok(())
+fn spaces_by_their_class(rt: HostRuntime) {
+    assert_rows(&rt, SPACES);
 }
 
 #[test]

@@ -1,166 +1,159 @@
 //! What no clause says: texts drawn again and again, with small tables, beside `cell_grid::draw`.
 //!
-//! A draw that was refused memory is made again, and not counted: so each test also passes with
-//! any one allocation of its draws refused (`rt try --test --fail-alloc N`).
+//! A draw from a view that was refused memory is made again, and not counted.
 
-use crate::compared::{assert_number, assert_text};
-use crate::drawn::drawn;
-use crate::small_tables::small_tables;
+use crate::rows::{Row, assert_rows};
 use bg_types::{Base, Memory};
-use cell_grid::{Grid, Row as GridRow};
+use cell_grid::{Grid, Row as GridRow, draw};
 use std::alloc::{AllocError, Global};
-use std::process::Abort;
-use std::test::Fail;
+use std::slice::from_ref;
 use ucd_files::Tables;
 use view_cache::*;
 
-/// A view with room for this many paragraphs, or for 1,024.
-fn view_of<'a>(
-    rt: &impl Abort,
-    alloc: Global,
-    tables: &'a Tables,
-    room: Option<usize>,
-) -> Result<View<'a>, Memory> {
-    match room {
-        Some(room) => {
-            assert!(rt; 1 <= room && room <= 1_000_000);
-            View::with_room(alloc, tables, room)
-        }
-        None => View::new(alloc, tables),
-    }
+fn is_same_row(row: &GridRow, same: &GridRow) -> bool {
+    row.width() == same.width()
+        && row.first_place() == same.first_place()
+        && row.last_place() == same.last_place()
+        && row.para_level() == same.para_level()
+        && row.entries() == same.entries()
 }
 
-fn assert_same_row(rt: &impl Abort, row: &GridRow, same: &GridRow) {
-    assert_eq!(rt; row.width(), same.width());
-    assert_number(rt, row.first_place(), same.first_place(), "first place");
-    assert_number(rt, row.last_place(), same.last_place(), "last place");
-    assert_eq!(rt; row.para_level(), same.para_level());
-    assert!(rt; row.entries() == same.entries());
-}
-
-/// Compares two grids row by row.
-fn assert_same(rt: &impl Abort, one: &Grid, other: &Grid) {
-    assert_text(rt, one.text(), other.text(), other.text());
-    assert_number(rt, one.rows().len(), other.rows().len(), one.text());
+/// Whether two grids have the same text and rows.
+fn is_same(one: &Grid, other: &Grid) -> bool {
+    let mut right = one.text() == other.text() && one.rows().len() == other.rows().len();
     for (row, same) in one.rows().iter().zip(other.rows()) {
-        assert_same_row(rt, row, same);
+        right = is_same_row(row, same) && right;
     }
-}
-
-/// Draws a text from a view, and compares the grid with that of `cell_grid::draw`. Returns how many
-/// paragraphs were laid out, if no growth was refused.
-fn draw_both(
-    rt: &(impl Abort + AllocGlobal),
-    tables: &Tables,
-    view: &mut View,
-    width: u16,
-    base: Base,
-    text: &str,
-) -> Result<Option<usize>, Fail> {
-    let fresh = drawn(rt, rt.alloc(), tables, width, base, text)?;
-    assert!(rt; 2 <= width && width <= 500);
-    assert!(rt; text.len() <= 4_000_000);
-    let (kept, counted) = match view.draw(width, base, text) {
-        Err(Memory) => (view.draw(width, base, text)?, false),
-        Ok(grid) => (grid, true),
-    };
-    assert_same(rt, &kept, &fresh);
-    Ok(counted.then_some(view.laid()))
-}
-
-/// The same, and compares how many paragraphs were laid out.
-fn assert_laid(
-    rt: &(impl Abort + AllocGlobal),
-    tables: &Tables,
-    view: &mut View,
-    (width, base, text, laid): (u16, Base, &str, usize),
-) -> Result<(), Fail> {
-    let counted = draw_both(rt, tables, view, width, base, text)?;
-    assert_number(rt, counted.unwrap_or(laid), laid, text);
-    Ok(())
+    right
 }
 
 /// A draw, and how many paragraphs it lays out.
-type Row = (u16, Base, &'static str, usize);
+type Draw<'a> = (u16, Base, &'a str, usize);
 
-const WALKS: &[&[Row]] = &[
-    &[
+/// Whether a view draws the same grid, and lays out as many paragraphs as are wanted, if any are and no growth was refused.
+fn draws_same(
+    view: &mut View,
+    fresh: &Grid,
+    (width, base, text): (u16, Base, &str),
+    wanted: Option<usize>,
+) -> Result<bool, Memory> {
+    if width < 2 || width > 500 || text.len() > 4_000_000 {
+        return Ok(false);
+    }
+    let (same, counted) = match view.draw(width, base, text) {
+        Ok(kept) => (is_same(&kept, fresh), true),
+        Err(Memory) => (is_same(&view.draw(width, base, text)?, fresh), false),
+    };
+    Ok(same && (!counted || wanted.is_none_or(|laid| view.laid() == laid)))
+}
+
+/// The same beside the grid of `cell_grid::draw`.
+fn draws_both(
+    alloc: Global,
+    tables: &Tables,
+    view: &mut View,
+    given: (u16, Base, &str),
+    wanted: Option<usize>,
+) -> Result<bool, Memory> {
+    let (width, base, text) = given;
+    if width < 2 || width > 500 || text.len() > 4_000_000 {
+        return Ok(false);
+    }
+    match draw(alloc, tables, width, base, text) {
+        Ok(fresh) => draws_same(view, &fresh, given, wanted),
+        Err(Memory) => Err(Memory),
+    }
+}
+
+fn draws_all(
+    alloc: Global,
+    tables: &Tables,
+    view: &mut View,
+    draws: &[Draw],
+) -> Result<bool, Memory> {
+    let mut right = view.laid() == 0;
+    for (width, base, text, laid) in draws {
+        let given = (*width, *base, *text);
+        right = draws_both(alloc, tables, view, given, Some(*laid))? && right;
+    }
+    Ok(right)
+}
+
+/// Draws from a new view.
+struct Walk(&'static [Draw<'static>]);
+
+impl Row for Walk {
+    fn comes_out(&self, alloc: Global, tables: &Tables) -> Result<bool, Memory> {
+        let mut view = View::new(alloc, tables)?;
+        draws_all(alloc, tables, &mut view, self.0)
+    }
+}
+
+const WALKS: &[Walk] = &[
+    Walk(&[
         (4, Base::Auto, "a\nb", 2),
         (4, Base::Auto, "a\nb", 0),
         (4, Base::Auto, "xa\nb", 1),
-    ],
-    &[(4, Base::Auto, "a\na\n", 2), (4, Base::Auto, "b\na\n", 1)],
-    &[
+    ]),
+    Walk(&[(4, Base::Auto, "a\na\n", 2), (4, Base::Auto, "b\na\n", 1)]),
+    Walk(&[
         (4, Base::Auto, "ab cd", 1),
         (2, Base::Auto, "ab cd", 1),
         (4, Base::Auto, "ab cd", 0),
-    ],
-    &[
+    ]),
+    Walk(&[
         (4, Base::Auto, "a!", 1),
         (4, Base::Right, "a!", 1),
         (4, Base::Auto, "a!", 0),
         (4, Base::Left, "a!", 1),
-    ],
-    &[
+    ]),
+    Walk(&[
         (6, Base::Auto, "\u{5D0}(\n\u{4E16}b\tc\u{301}", 2),
         (6, Base::Auto, "a\n\u{4E16}b\tc\u{301}\n\u{5D0}(\n", 3),
-    ],
+    ]),
 ];
 
-fn assert_draws(
-    rt: &(impl Abort + AllocGlobal),
-    tables: &Tables,
-    view: &mut View,
-    rows: &[Row],
-) -> Result<(), Fail> {
-    for row in rows {
-        assert_laid(rt, tables, view, *row)?;
-    }
-    Ok(())
-}
-
-/// Makes draws from a new view.
-fn assert_walk(rt: &(impl Abort + AllocGlobal), tables: &Tables, walk: &[Row]) -> Result<(), Fail> {
-    let mut view = view_of(rt, rt.alloc(), tables, None)?;
-    assert_eq!(rt; view.laid(), 0);
-    assert_draws(rt, tables, &mut view, walk)
-}
-
 #[test]
-fn what_is_kept_is_not_laid_out_again(rt: HostRuntime) -> Result<(), Fail> {
-    for walk in WALKS {
-        assert_walk(&rt, &small_tables(rt.alloc())?, walk)?;
-    }
-    Ok(())
+fn what_is_kept_is_not_laid_out_again(rt: HostRuntime) {
+    assert_rows(&rt, WALKS);
 }
 
-/// Compares the first and last place of the second row of a text.
-fn assert_second_row(
-    rt: &impl Abort,
-    view: &mut View,
-    text: &str,
-    (first_place, last_place): (usize, usize),
-) -> Result<(), Fail> {
-    assert!(rt; text.len() <= 4_000_000);
+/// Texts that a view draws one after the other, with the first and last place of the second row of each.
+struct Moved(&'static [(&'static str, usize, usize)]);
+
+/// Whether the second row of a text has this first and last place.
+fn has_second_row(view: &mut View, row: &(&str, usize, usize)) -> Result<bool, Memory> {
+    let (text, first_place, last_place) = *row;
+    if text.len() > 4_000_000 {
+        return Ok(false);
+    }
     let grid = view.draw(4, Base::Auto, text)?;
-    let Some(row) = grid.rows().get(1) else {
-        return Err(Fail::from("no second row"));
-    };
-    assert_number(rt, row.first_place(), first_place, text);
-    assert_number(rt, row.last_place(), last_place, text);
-    Ok(())
+    Ok(match grid.rows().get(1) {
+        Some(row) => row.first_place() == first_place && row.last_place() == last_place,
+        None => false,
+    })
 }
 
-fn assert_moved(rt: &impl Abort, view: &mut View) -> Result<(), Fail> {
-    assert_second_row(rt, view, "a\nb", (2, 3))?;
-    assert_second_row(rt, view, "xa\nb", (3, 4))
+fn have_second_rows(view: &mut View, rows: &[(&str, usize, usize)]) -> Result<bool, Memory> {
+    let mut right = true;
+    for row in rows {
+        right = has_second_row(view, row)? && right;
+    }
+    Ok(right)
 }
+
+impl Row for Moved {
+    fn comes_out(&self, alloc: Global, tables: &Tables) -> Result<bool, Memory> {
+        let mut view = View::new(alloc, tables)?;
+        have_second_rows(&mut view, self.0)
+    }
+}
+
+const MOVED: &[Moved] = &[Moved(&[("a\nb", 2, 3), ("xa\nb", 3, 4)])];
 
 #[test]
-fn kept_rows_stand_where_the_paragraph_stands_now(rt: HostRuntime) -> Result<(), Fail> {
-    let tables = small_tables(rt.alloc())?;
-    let mut view = view_of(&rt, rt.alloc(), &tables, None)?;
-    assert_moved(&rt, &mut view)
+fn kept_rows_stand_where_the_paragraph_stands_now(rt: HostRuntime) {
+    assert_rows(&rt, MOVED);
 }
 
 /// The decimal numbers from 1 on, each ended by a line feed.
@@ -175,38 +168,40 @@ fn numbers(alloc: Global, last: usize) -> Result<String, AllocError> {
 /// A view's room, how many numbers there are, and how many paragraphs a draw and the next one lay out.
 ///
 /// With the empty last paragraph there is one more than there are numbers.
-const ROOMS: &[(Option<usize>, usize, usize, usize)] = &[
-    (None, 1_100, 1_101, 1_101),
-    (None, 1_023, 1_024, 0),
-    (None, 1_024, 1_025, 1_025),
-    (Some(1_101), 1_100, 1_101, 0),
-    (Some(1), 0, 1, 0),
+struct Room(Option<usize>, usize, usize, usize);
+
+/// A view with room for this many paragraphs, from 1 to 1,000,000, or for 1,024.
+fn view_of(alloc: Global, tables: &Tables, room: Option<usize>) -> Result<View<'_>, Memory> {
+    match room {
+        Some(room) => View::with_room(alloc, tables, room.clamp(1, 1_000_000)),
+        None => View::new(alloc, tables),
+    }
+}
+
+fn has_room(alloc: Global, tables: &Tables, row: &Room, text: &str) -> Result<bool, Memory> {
+    let mut view = view_of(alloc, tables, row.0)?;
+    let draws = [(8, Base::Auto, text, row.2), (8, Base::Auto, text, row.3)];
+    draws_all(alloc, tables, &mut view, &draws)
+}
+
+impl Row for Room {
+    fn comes_out(&self, alloc: Global, tables: &Tables) -> Result<bool, Memory> {
+        let text = numbers(alloc, self.1)?;
+        has_room(alloc, tables, self, &text)
+    }
+}
+
+const ROOMS: &[Room] = &[
+    Room(None, 1_100, 1_101, 1_101),
+    Room(None, 1_023, 1_024, 0),
+    Room(None, 1_024, 1_025, 1_025),
+    Room(Some(1_101), 1_100, 1_101, 0),
+    Room(Some(1), 0, 1, 0),
 ];
 
-fn assert_room(
-    rt: &(impl Abort + AllocGlobal),
-    tables: &Tables,
-    room: Option<usize>,
-    text: &str,
-    (first, second): (usize, usize),
-) -> Result<(), Fail> {
-    let mut view = view_of(rt, rt.alloc(), tables, room)?;
-    assert_laid(rt, tables, &mut view, (8, Base::Auto, text, first))?;
-    assert_laid(rt, tables, &mut view, (8, Base::Auto, text, second))
-}
-
-fn assert_rooms(rt: &(impl Abort + AllocGlobal), tables: &Tables) -> Result<(), Fail> {
-    for (room, last, first, second) in ROOMS {
-        let text = numbers(rt.alloc(), *last)?;
-        assert_room(rt, tables, *room, &text, (*first, *second))?;
-    }
-    Ok(())
-}
-
 #[test]
-fn beyond_its_room_a_view_keeps_the_latest(rt: HostRuntime) -> Result<(), Fail> {
-    let tables = small_tables(rt.alloc())?;
-    assert_rooms(&rt, &tables)
+fn beyond_its_room_a_view_keeps_the_latest(rt: HostRuntime) {
+    assert_rows(&rt, ROOMS);
 }
 
 /// What random texts are made of.
@@ -253,51 +248,70 @@ fn text_of(alloc: Global, pieces: &[&str]) -> Result<String, AllocError> {
     Ok(text)
 }
 
-fn draw_at_widths(
-    rt: &(impl Abort + AllocGlobal),
+fn draws_at_widths(
+    alloc: Global,
     tables: &Tables,
     view: &mut View,
-    text: &str,
-) -> Result<(), Fail> {
+    pieces: &[&str],
+) -> Result<bool, Memory> {
+    let text = text_of(alloc, pieces)?;
+    let mut right = true;
     for width in [2, 5, 40] {
-        draw_both(rt, tables, view, width, Base::Auto, text)?;
+        let given = (width, Base::Auto, text.as_str());
+        right = draws_both(alloc, tables, view, given, None)? && right;
     }
-    Ok(())
+    Ok(right)
 }
 
-/// Draws 200 texts, each an edit of the one before.
-fn draw_edits(
-    rt: &(impl Abort + AllocGlobal),
+fn draws_edits(
+    alloc: Global,
     tables: &Tables,
     view: &mut View,
-) -> Result<(), Fail> {
+    pieces: &mut Vec<&'static str>,
+) -> Result<bool, Memory> {
     let mut seed = 29;
-    let mut pieces = Vec::new(rt.alloc());
+    let mut right = true;
     for _ in 0..200 {
-        edit(&mut seed, &mut pieces)?;
-        draw_at_widths(rt, tables, view, &text_of(rt.alloc(), &pieces)?)?;
+        edit(&mut seed, pieces)?;
+        right = draws_at_widths(alloc, tables, view, pieces)? && right;
     }
-    Ok(())
+    Ok(right)
+}
+
+/// 200 texts, each an edit of the one before.
+#[derive(Clone, Copy)]
+struct Edits;
+
+impl Row for Edits {
+    fn comes_out(&self, alloc: Global, tables: &Tables) -> Result<bool, Memory> {
+        let mut view = View::with_room(alloc, tables, 12)?;
+        let mut pieces = Vec::new(alloc);
+        draws_edits(alloc, tables, &mut view, &mut pieces)
+    }
 }
 
 #[test]
-fn after_random_edits_a_view_draws_as_from_scratch(rt: HostRuntime) -> Result<(), Fail> {
-    let tables = small_tables(rt.alloc())?;
-    let mut view = view_of(&rt, rt.alloc(), &tables, Some(12))?;
-    draw_edits(&rt, &tables, &mut view)
+fn after_random_edits_a_view_draws_as_from_scratch(rt: HostRuntime) {
+    assert_rows(&rt, &[Edits]);
 }
 
-fn assert_keyed(rt: &(impl Abort + AllocGlobal), tables: &Tables) -> Result<(), Fail> {
-    let mut view = View::keyed(rt.alloc(), 0x2545_F491_4F6C_DD1D, tables, 3)?;
-    assert_laid(rt, tables, &mut view, (4, Base::Auto, "a\na", 2))
+/// A draw from a view with a key.
+struct Keyed(Draw<'static>);
+
+impl Row for Keyed {
+    fn comes_out(&self, alloc: Global, tables: &Tables) -> Result<bool, Memory> {
+        let mut view = View::keyed(alloc, 0x2545_F491_4F6C_DD1D, tables, 3)?;
+        draws_all(alloc, tables, &mut view, from_ref(&self.0))
+    }
 }
+
+const KEYED: &[Keyed] = &[Keyed((4, Base::Auto, "a\na", 2))];
 
 #[test]
-fn views_with_a_key_and_the_laws(rt: HostRuntime) -> Result<(), Fail> {
-    assert_keyed(&rt, &small_tables(rt.alloc())?)?;
+fn views_with_a_key_and_the_laws(rt: HostRuntime) {
+    assert_rows(&rt, KEYED);
     laws::drawn_after_edits();
     laws::edits_cost_what_they_put_in();
     laws::keys_compared();
     laws::kept_while_there_is_room();
-    Ok(())
 }

@@ -1,6 +1,6 @@
 -- The caret stays one of the grid.
 use Rattle.caret.specs.Gaps.{IsCaretOf}
-use Rattle.layout_tests.proofs.caret_tests.assert_walk.Given as goal
+use Rattle.layout_tests.proofs.caret_tests.walks.Given as goal
 
 abbrev pub invariant-loop-stop : goal.invariant-loop-stop
-invariant-loop-stop g l = IsCaretOf l.grid.rows l.caret
+invariant-loop-stop l = IsCaretOf l.grid.rows l.caret
