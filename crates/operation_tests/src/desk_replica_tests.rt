@@ -3,34 +3,15 @@
 //! A refused growth must leave the desk as it was, and the call is made again: so each test
 //! also passes with any one allocation refused (`rt try --test --fail-alloc N`).
 
-ghost use Rattle.std.specs.Prelude.{◌≡◌, ◌<◌};
-ghost use Rattle.bg_types.specs.OperationSet.{no_operations};
+ghost use Rattle.std.specs.Prelude.{◌<◌};
 
 use crate::ops::{Row, op};
 use Row::{Erase, Insert};
 use bg_types::{Memory, Op};
 use desk_replica::{Replica, TakeFault, Taken, TypeFault};
 use rga_sequence::Blocks;
-use rga_tree::{Plain, Sequence};
+use rga_tree::{Fresh, Plain};
 use std::alloc::Global;
-
-/// Makes the empty sequence that a desk begins with.
-trait Fresh: Sequence + Drop {
-    fn fresh(alloc: Global) -> Self
-        ensures { Self.content result ≡ no_operations };
-}
-
-impl Fresh for Plain {
-    fn fresh(alloc: Global) -> Plain {
-        Plain::new(alloc)
-    }
-}
-
-impl Fresh for Blocks {
-    fn fresh(alloc: Global) -> Blocks {
-        Blocks::new(alloc)
-    }
-}
 
 /// What taking a row is to answer.
 type Answer = Result<Taken, TakeFault>;
@@ -136,7 +117,7 @@ fn desk_of<S: Fresh>(alloc: Global, site: u16) -> Desk<S>
     requires { 0 < site }
 {
     Desk {
-        desk: Replica::new(alloc, site, S::fresh(alloc), 7),
+        desk: Replica::new(alloc, site, S::fresh(alloc, 7), 7),
     }
 }
 

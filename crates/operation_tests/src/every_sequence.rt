@@ -4,18 +4,11 @@
 //! also passes with any one allocation refused (`rt try --test --fail-alloc N`).
 
 ghost use Rattle.std.specs.Prelude.{◌≡◌};
-ghost use Rattle.bg_types.specs.OperationSet.{no_operations};
 ghost use Rattle.rga_tree.specs.Tree.{stands_in};
 
 use bg_types::{Id, Memory, Place};
-use rga_tree::{Element, Sequence, text_of};
+use rga_tree::{Element, Fresh, Sequence, text_of};
 use std::alloc::Global;
-
-/// Makes the empty sequence that a test begins with.
-pub trait Fresh: Sequence + Drop {
-    fn fresh(alloc: Global) -> Self
-        ensures { Self.content result ≡ no_operations };
-}
 
 /// Counter and site.
 pub type Name = (u32, u16);
@@ -68,7 +61,7 @@ pub struct Tried<S: Fresh> {
 impl<S: Fresh> Tried<S> {
     pub fn new(alloc: Global) -> Tried<S> {
         Tried {
-            seq: S::fresh(alloc),
+            seq: S::fresh(alloc, 7),
             alloc,
         }
     }

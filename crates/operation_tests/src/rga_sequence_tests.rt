@@ -3,18 +3,6 @@ use rga_sequence::*;
 use rga_tree::{Plain, Sequence};
 use std::alloc::Global;
 
-impl Fresh for Plain {
-    fn fresh(alloc: Global) -> Plain {
-        Plain::new(alloc)
-    }
-}
-
-impl Fresh for Blocks {
-    fn fresh(alloc: Global) -> Blocks {
-        Blocks::keyed(alloc, 7)
-    }
-}
-
 #[test]
 fn both_keep_every_line(rt: HostRuntime) {
     assert!(rt; keeps_every_line::<Blocks>(rt.alloc()));

@@ -7,6 +7,7 @@ use Reply::{Done, NoSuch};
 use Step::{Deliver, Erase, Merge, Typed};
 use bg_types::{Id, Memory, Op, Place};
 use desk_replica::{Reply, Step, World, WorldFault, run_world};
+use rga_sequence::Blocks;
 use std::alloc::Global;
 
 /// A step, its reply, and the text of each desk then.
@@ -16,7 +17,7 @@ type Row<'a> = (Step, Reply, &'a [&'a str]);
 const ROWS: usize = 16;
 
 /// Steps done at fresh desks.
-fn world(alloc: Global, sites: &[u16], steps: &[Step]) -> Result<World, WorldFault> {
+fn world(alloc: Global, sites: &[u16], steps: &[Step]) -> Result<World<Blocks>, WorldFault> {
     match run_world(alloc, 0x5eed, sites, steps) {
         Err(WorldFault::Memory) => run_world(alloc, 0x5eed, sites, steps),
         made => made,
@@ -29,7 +30,7 @@ fn reads(read: Result<String, Memory>, text: &str) -> bool {
 }
 
 /// Whether the desks read as these texts.
-fn shows(world: &World, texts: &[&str]) -> bool {
+fn shows(world: &World<Blocks>, texts: &[&str]) -> bool {
     let mut right = world.desks.len() == texts.len();
     for (desk, text) in world.desks.iter().zip(texts) {
         let shown = match desk.text() {
