@@ -35,3 +35,9 @@ returns-in-Err-clause-ops c = take-length c.args.ops.now.items
 
 pub returns-in-Err-clause-grown : goal.returns-in-Err-clause-grown
 returns-in-Err-clause-grown c = ap (take (length c.args.kept.now.items)) c.append.ensures ∙ take-append_seam c.args.kept.now.items _
+
+pub returns-in_err-push_frame-in-Ok-clause-grown : goal.returns-in_err-push_frame-in-Ok-clause-grown
+returns-in_err-push_frame-in-Ok-clause-grown c = ap (take (length c.args.kept.now.items)) c.append.ensures ∙ take-append_seam c.args.kept.now.items _
+
+pub returns-in_ok-push_frame-in-Ok-clause-grown : goal.returns-in_ok-push_frame-in-Ok-clause-grown
+returns-in_ok-push_frame-in-Ok-clause-grown c = ap (take (length c.args.kept.now.items)) c.append.ensures ∙ take-append_seam c.args.kept.now.items _
