@@ -1,13 +1,13 @@
 //! What no clause says: the texts, what a command line comes to, and files that can't be read.
 
-use crate::files::{assert_told, assert_unread};
+use crate::files::{are_written, assert_unread};
 use crate::given::Given;
+use crate::rows::{Row, assert_rows};
 use bg_types::{Device, Memory, Out, Stops};
 use clap::{Arg, ArgAction, Command};
 use cli_support::*;
 use std::alloc::{AllocError, Global};
 use std::io::{self, ErrorKind, Read};
-use std::process::Abort;
 use std::test::Fail;
 
 /// A program with one option `--at`.
@@ -16,94 +16,106 @@ fn named<'a>(alloc: Global) -> Result<Command<'a>, AllocError> {
     Command::new(alloc, "named").arg(at)
 }
 
-/// What stops the program at these words: lack of memory, where it has no words.
-fn stop_at(alloc: Global, words: &[&str]) -> Result<Stop, Fail> {
+/// What stops the program at these words, if anything does: lack of memory, where it has no words.
+fn stop_at(alloc: Global, words: &[&str]) -> Result<Option<Stop>, Memory> {
     if words.is_empty() {
-        return Ok(Stop::Memory);
+        return Ok(Some(Stop::Memory));
     }
     match named(alloc)?.try_get_matches_from(words) {
-        Ok(_matches) => Err(Fail::from("nothing stops it")),
+        Ok(_matches) => Ok(None),
         Err(error) => match Stop::of(alloc, &error) {
-            Stop::Memory => Err(Fail::from(Memory)),
-            stop => Ok(stop),
+            Stop::Memory => Err(Memory),
+            stop => Ok(Some(stop)),
         },
     }
 }
 
 /// Words, how many bytes may be written, the status, and what the output and the errors begin with.
-type End<'a> = (&'a [&'a str], usize, u8, &'a str, &'a str);
+struct End(
+    &'static [&'static str],
+    usize,
+    u8,
+    &'static str,
+    &'static str,
+);
 
-/// Compares how a stopped run ends with a row.
-fn assert_end(rt: &impl Abort, stop: &Stop, row: &End, written: &mut Vec<u8>, told: &mut Vec<u8>) {
-    let (words, left, status, output, error) = *row;
-    let mut out = Stops::new(Out::new(&mut *written), 7, left);
-    let came = end("named", stop, &mut out, &mut Out::new(&mut *told));
-    assert_eq!(rt; came, status, "{words:?}");
-    let right = written.starts_with(output.as_bytes())
-        && told.starts_with(error.as_bytes())
-        && told.is_empty() == error.is_empty();
-    assert!(rt; right, "{words:?}");
+/// Ends a run into a sink that stops after `left` bytes.
+fn ended(stop: &Stop, left: usize, written: &mut [u8], told: &mut [u8]) -> u8 {
+    let mut out = Stops::new(Out::new(written), 7, left);
+    end("named", stop, &mut out, &mut Out::new(told))
 }
 
-fn assert_ended(rt: &(impl Abort + AllocGlobal), row: &End) -> Result<(), Fail> {
-    let mut written = Vec::with_capacity(rt.alloc(), 10_000)?;
-    let mut told = Vec::with_capacity(rt.alloc(), 10_000)?;
-    let stop = stop_at(rt.alloc(), row.0)?;
-    assert_end(rt, &stop, row, &mut written, &mut told);
-    Ok(())
+fn is_end(stop: &Stop, row: &End) -> bool {
+    let (mut written, mut told) = ([0; 2_000], [0; 2_000]);
+    let status = ended(stop, row.1, &mut written, &mut told);
+    status == row.2
+        && written.starts_with(row.3.as_bytes())
+        && told.starts_with(row.4.as_bytes())
+        && (told[0] == 0) == row.4.is_empty()
+}
+
+impl Row for End {
+    fn comes_out(&self, alloc: Global) -> Result<bool, Memory> {
+        match stop_at(alloc, self.0)? {
+            Some(stop) => Ok(is_end(&stop, self)),
+            None => Ok(false),
+        }
+    }
 }
 
 /// The ends of runs that are stopped at their words.
-const ENDS: [End; 5] = [
-    (
+const ENDS: &[End] = &[
+    End(
         &["named", "--help"],
         10_000,
         0,
         "Usage: named [OPTIONS]",
         "",
     ),
-    (&["named", "--help"], 10, 3, "Usage: nam", "named: device\n"),
-    (
+    End(&["named", "--help"], 10, 3, "Usage: nam", "named: device\n"),
+    End(
         &["named", "--to", "3"],
         0,
         2,
         "",
         "error: unexpected argument '--to' found",
     ),
-    (
+    End(
         &["named", "--at"],
         0,
         2,
         "",
         "error: a value is required for '--at <AT>'",
     ),
-    (&[], 0, 3, "", "named: memory\n"),
+    End(&[], 0, 3, "", "named: memory\n"),
 ];
 
 #[test]
-fn help_and_usage_end_a_run(rt: HostRuntime) -> Result<(), Fail> {
-    for row in &ENDS {
-        assert_ended(&rt, row)?;
-    }
-    Ok(())
+fn help_and_usage_end_a_run(rt: HostRuntime) {
+    assert_rows(&rt, ENDS);
 }
 
-/// Compares the line of a file that can't be read with this one.
-fn assert_line(rt: &(impl Abort + AllocGlobal), fault: &Unread, line: &str) {
-    let mut told = Vec::new(rt.alloc());
-    let done = tell("named", fault, &mut Out::new(&mut told));
-    assert_told(rt, (done, told.as_slice()), (Ok(()), line.as_bytes()));
+/// Whether this line is told of a file that can't be read.
+fn is_line(fault: &Unread, line: &str) -> bool {
+    let mut room = [0; 64];
+    let done = tell("named", fault, &mut Out::new(room.as_mut_slice()));
+    done == Ok(()) && are_written(&room, line.as_bytes())
+}
+
+/// Whether a line is told as far as a sink takes it.
+fn is_cut_line() -> bool {
+    let mut room = [0; 64];
+    let mut out = Stops::new(Out::new(room.as_mut_slice()), 3, 9);
+    let done = tell("named", &CannotRead("c"), &mut out);
+    done == Err(Device) && are_written(&room, b"named: ca")
 }
 
 #[test]
-fn a_fault_is_one_line(rt: HostRuntime) -> Result<(), Fail> {
+fn a_fault_is_one_line(rt: HostRuntime) -> Result<(), AllocError> {
     let unread = Unread::ReadFailed(String::from_str(rt.alloc(), "a/b")?);
-    assert_line(&rt, &unread, "named: cannot read a/b\n");
-    assert_line(&rt, &Unread::Memory, "named: memory\n");
-    let mut told = Vec::new(rt.alloc());
-    let mut out = Stops::new(Out::new(&mut told), 3, 9);
-    let done = tell("named", &CannotRead("c"), &mut out);
-    assert_told(&rt, (done, told.as_slice()), (Err(Device), b"named: ca"));
+    assert!(rt; is_line(&unread, "named: cannot read a/b\n"));
+    assert!(rt; is_line(&Unread::Memory, "named: memory\n"));
+    assert!(rt; is_cut_line());
     Ok(())
 }
 
@@ -121,42 +133,47 @@ impl Read for Breaks<'_> {
 }
 
 /// Bytes, the greatest number that is read, and what is read.
-type Limited<'a> = (&'a [u8], u64, Option<&'a [u8]>);
+struct Limited(&'static [u8], u64, Option<&'static [u8]>);
 
-fn assert_read(rt: &(impl Abort + AllocGlobal), row: &Limited) -> Result<(), Fail> {
-    let (bytes, limit, wanted) = *row;
-    assert!(rt; limit < 8);
-    let read = read_whole(rt.alloc(), bytes, limit)?;
-    assert_eq!(rt; read.as_deref(), wanted, "{bytes:?} up to {limit}");
-    Ok(())
+impl Row for Limited {
+    fn comes_out(&self, alloc: Global) -> Result<bool, Memory> {
+        if self.1 >= 8 {
+            return Ok(false);
+        }
+        match read_whole(alloc, self.0, self.1) {
+            Ok(read) => Ok(read.as_deref() == self.2),
+            Err(error) if error.kind() == ErrorKind::OutOfMemory => Err(Memory),
+            Err(_) => Ok(false),
+        }
+    }
 }
 
-const READS: [Limited; 5] = [
-    (b"", 0, Some(b"")),
-    (b"abc", 4, Some(b"abc")),
-    (b"abc", 3, Some(b"abc")),
-    (b"abc", 2, None),
-    (b"abc", 0, None),
+const READS: &[Limited] = &[
+    Limited(b"", 0, Some(b"")),
+    Limited(b"abc", 4, Some(b"abc")),
+    Limited(b"abc", 3, Some(b"abc")),
+    Limited(b"abc", 2, None),
+    Limited(b"abc", 0, None),
 ];
 
-#[test]
-fn a_reader_is_read_up_to_the_limit(rt: HostRuntime) -> Result<(), Fail> {
-    for row in &READS {
-        assert_read(&rt, row)?;
-    }
-    match read_whole(rt.alloc(), Breaks(b"abc"), 8) {
-        Ok(_read) => Err(Fail::from("a reader that fails was read")),
-        Err(error) => assert_other(&rt, error.kind()),
+/// A reader that fails.
+#[derive(Clone, Copy)]
+struct Failing;
+
+impl Row for Failing {
+    fn comes_out(&self, alloc: Global) -> Result<bool, Memory> {
+        match read_whole(alloc, Breaks(b"abc"), 8) {
+            Ok(_read) => Ok(false),
+            Err(error) if error.kind() == ErrorKind::OutOfMemory => Err(Memory),
+            Err(error) => Ok(error.kind() == ErrorKind::Other),
+        }
     }
 }
 
-/// Whether it is the fault of a reader, and no lack of memory.
-fn assert_other(rt: &impl Abort, kind: ErrorKind) -> Result<(), Fail> {
-    if kind == ErrorKind::OutOfMemory {
-        return Err(Fail::from(Memory));
-    }
-    assert_eq!(rt; kind, ErrorKind::Other);
-    Ok(())
+#[test]
+fn a_reader_is_read_up_to_the_limit(rt: HostRuntime) {
+    assert_rows(&rt, READS);
+    assert_rows(&rt, &[Failing]);
 }
 
 #[test]
@@ -172,21 +189,15 @@ fn a_file_that_cannot_be_read_is_named(rt: HostRuntime) -> Result<(), Fail> {
     Ok(())
 }
 
-/// The words of a command line.
-fn words_of(alloc: Global, line: &[&[u8]]) -> Result<Vec<String>, Stop> {
-    let given = Given {
-        words: line,
-        value: None,
-    };
-    words(&(given, alloc))
-}
+/// Words of a command line, and what comes of them: two words, or what is wrong.
+struct Words(
+    &'static [&'static [u8]],
+    Result<(&'static str, &'static str), &'static str>,
+);
 
-/// Whether these are the words of a line, or what is wrong with it, lack of memory aside.
-fn are_words(
-    came: &Result<Vec<String>, Stop>,
-    wanted: Result<(&str, &str), &str>,
-) -> Result<bool, Memory> {
-    match (came, wanted) {
+/// Whether these are the words of a line, or what is wrong with it.
+fn are_words(came: &Result<Vec<String>, Stop>, row: &Words) -> Result<bool, Memory> {
+    match (came, row.1) {
         (Err(Stop::Memory), _) => Err(Memory),
         (Ok(words), Ok((first, second))) => match words.as_slice() {
             [one, other] => Ok(one.as_str() == first && other.as_str() == second),
@@ -197,15 +208,25 @@ fn are_words(
     }
 }
 
+impl Row for Words {
+    fn comes_out(&self, alloc: Global) -> Result<bool, Memory> {
+        let given = Given {
+            words: self.0,
+            value: None,
+        };
+        are_words(&words(&(given, alloc)), self)
+    }
+}
+
+const WORDS: &[Words] = &[
+    Words(&[b"named", b"\xD7\x90"], Ok(("named", "\u{5D0}"))),
+    Words(
+        &[b"named", b"\xFF"],
+        Err("error: an argument is not valid UTF-8\n"),
+    ),
+];
+
 #[test]
-fn words_are_utf_8(rt: HostRuntime) -> Result<(), Fail> {
-    let wrong = "error: an argument is not valid UTF-8\n";
-    let right = are_words(
-        &words_of(rt.alloc(), &[b"named", b"\xD7\x90"]),
-        Ok(("named", "\u{5D0}")),
-    );
-    assert!(rt; right?);
-    let right = are_words(&words_of(rt.alloc(), &[b"named", b"\xFF"]), Err(wrong));
-    assert!(rt; right?);
-    Ok(())
+fn words_are_utf_8(rt: HostRuntime) {
+    assert_rows(&rt, WORDS);
 }

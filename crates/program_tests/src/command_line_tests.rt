@@ -2,16 +2,16 @@
 
 use crate::files::assert_unread;
 use crate::given::Given;
+use crate::rows::{Row, assert_rows};
 use bg_types::{Base, Memory};
 use cli_support::{Stop, Unread};
 use command_line::*;
 use std::alloc::{AllocError, Global};
-use std::process::Abort;
 use std::rt::Files;
 use std::test::Fail;
 
 /// Appends words to a command line.
-fn put_words(alloc: Global, line: &mut Vec<String>, words: &[&str]) -> Result<(), Fail> {
+fn put_words(alloc: Global, line: &mut Vec<String>, words: &[&str]) -> Result<(), AllocError> {
     for word in words {
         line.push(String::from_str(alloc, word)?)?;
     }
@@ -25,7 +25,7 @@ fn put_line(
     files: &[&str],
     more: &[&str],
     files_behind: &[&str],
-) -> Result<(), Fail> {
+) -> Result<(), AllocError> {
     put_words(alloc, line, &["bidigrid"])?;
     put_words(alloc, line, words)?;
     put_words(alloc, line, files)?;
@@ -41,7 +41,7 @@ fn line(
     files: &[&str],
     more: &[&str],
     files_behind: &[&str],
-) -> Result<Vec<String>, Fail> {
+) -> Result<Vec<String>, AllocError> {
     let mut line = Vec::new(alloc);
     put_line(alloc, &mut line, words, files, more, files_behind)?;
     Ok(line)
@@ -85,40 +85,49 @@ fn told(alloc: Global, job: &Result<Job, Stop>) -> Result<String, AllocError> {
 }
 
 /// The same of a command line of these words.
-fn told_of(alloc: Global, words: &[&str]) -> Result<String, Fail> {
+fn told_of(alloc: Global, words: &[&str]) -> Result<String, AllocError> {
     let line = line(alloc, words, &[], &[], &[])?;
-    let told = told(alloc, &job(alloc, line.as_slice()));
-    Ok(told?)
+    let job = job(alloc, &line);
+    told(alloc, &job)
 }
 
 /// Words behind the program's name, and what they ask for.
-const JOBS: [(&[&str], &str); 22] = [
-    (&["text", "b", "a", "b"], r#"text ["b", "a", "b"]"#),
-    (&[], "usage"),
-    (&["--version"], "help"),
-    (&["paint"], "usage"),
-    (&["text"], "usage"),
-    (&["text", "--width", "4", "file"], "usage"),
-    (&["--help"], "help"),
-    (&["text", "--help"], "help"),
-    (&["replay", "--help"], "help"),
-    (&["help", "text"], "help"),
-    (&["dump", "a"], "dump a"),
-    (&["migrate", "c"], "migrate c"),
-    (&["pack", "b"], "pack b"),
-    (
+struct Asks(&'static [&'static str], &'static str);
+
+impl Row for Asks {
+    fn comes_out(&self, alloc: Global) -> Result<bool, Memory> {
+        let told = told_of(alloc, self.0)?;
+        Ok(told.as_str() == self.1)
+    }
+}
+
+const JOBS: &[Asks] = &[
+    Asks(&["text", "b", "a", "b"], r#"text ["b", "a", "b"]"#),
+    Asks(&[], "usage"),
+    Asks(&["--version"], "help"),
+    Asks(&["paint"], "usage"),
+    Asks(&["text"], "usage"),
+    Asks(&["text", "--width", "4", "file"], "usage"),
+    Asks(&["--help"], "help"),
+    Asks(&["text", "--help"], "help"),
+    Asks(&["replay", "--help"], "help"),
+    Asks(&["help", "text"], "help"),
+    Asks(&["dump", "a"], "dump a"),
+    Asks(&["migrate", "c"], "migrate c"),
+    Asks(&["pack", "b"], "pack b"),
+    Asks(
         &[
             "caret", "--ucd", "dir", "--width", "8", "--at", "3", "--moves", "", "a",
         ],
         r#"caret Some("dir") 8 Auto false 3 [] ["a"]"#,
     ),
-    (
+    Asks(
         &[
             "caret", "--ucd", "dir", "--width", "8", "--at", "3", "--moves", "lrud", "a",
         ],
         r#"caret Some("dir") 8 Auto false 3 [Left, Right, Up, Down] ["a"]"#,
     ),
-    (
+    Asks(
         &[
             "replay",
             "--ucd",
@@ -132,36 +141,32 @@ const JOBS: [(&[&str], &str); 22] = [
         ],
         r#"replay Some("dir") 2 Auto false Some("s") ["a", "b"]"#,
     ),
-    (
+    Asks(
         &["replay", "--ucd", "dir", "--width", "500", "a", "b"],
         r#"replay Some("dir") 500 Auto false None ["a", "b"]"#,
     ),
-    (&["type", "--site=7"], "type 7 None 0 None Two []"),
-    (
+    Asks(&["type", "--site=7"], "type 7 None 0 None Two []"),
+    Asks(
         &["type", "--site", "7", "a", "b"],
         r#"type 7 None 0 None Two ["a", "b"]"#,
     ),
-    (
+    Asks(
         &["type", "--site=7", "a", "--at=3", "--erase=2", "--text=x y"],
         r#"type 7 Some(3) 2 Some("x y") Two ["a"]"#,
     ),
-    (
+    Asks(
         &["type", "--site=7", "--version", "1"],
         "type 7 None 0 None One []",
     ),
-    (
+    Asks(
         &["type", "--site=7", "--version", "2"],
         "type 7 None 0 None Two []",
     ),
 ];
 
 #[test]
-fn words_ask_for_a_job(rt: HostRuntime) -> Result<(), Fail> {
-    for (words, wanted) in &JOBS {
-        let told = told_of(rt.alloc(), words)?;
-        assert_eq!(rt; told.as_str(), *wanted, "{words:?}");
-    }
-    Ok(())
+fn words_ask_for_a_job(rt: HostRuntime) {
+    assert_rows(&rt, JOBS);
 }
 
 /// How many files a command line names, its base direction and whether ambiguous characters are
@@ -180,50 +185,20 @@ fn outcome(job: &Result<Job, Stop>) -> Result<Outcome, Memory> {
     }
 }
 
-/// What a command line of these parts comes to.
+/// What a command line comes to.
 fn outcome_of(
     alloc: Global,
     words: &[&str],
     files: &[&str],
     more: &[&str],
     files_behind: &[&str],
-) -> Result<Outcome, Fail> {
+) -> Result<Outcome, Memory> {
     let line = line(alloc, words, files, more, files_behind)?;
-    let came = outcome(&job(alloc, line.as_slice()));
-    Ok(came?)
+    let job = job(alloc, &line);
+    outcome(&job)
 }
 
-/// Compares what a command line of these parts comes to with what is wanted.
-fn assert_outcome(
-    rt: &(impl Abort + AllocGlobal),
-    words: &[&str],
-    files: &[&str],
-    more: &[&str],
-    files_behind: &[&str],
-    wanted: Outcome,
-) -> Result<(), Fail> {
-    let came = outcome_of(rt.alloc(), words, files, more, files_behind)?;
-    let (first, second) = (files.len(), files_behind.len());
-    assert_eq!(rt;
-        came,
-        wanted,
-        "{words:?} {more:?}, {first} and {second} files"
-    );
-    Ok(())
-}
-
-/// Numbers of files before a subcommand's last option and after it, and how many it then has.
-const COUNTS: [(usize, usize, Option<usize>); 7] = [
-    (0, 0, None),
-    (1, 0, Some(1)),
-    (0, 1, Some(1)),
-    (64, 0, Some(64)),
-    (30, 34, Some(64)),
-    (65, 0, None),
-    (40, 25, None),
-];
-
-const FILES: [&str; 65] = ["file"; 65];
+const FILES: &[&str] = &["file"; 65];
 
 /// The words before a subcommand's last option, and that option.
 const OPTIONS: [(&[&str], &[&str]); 4] = [
@@ -233,63 +208,95 @@ const OPTIONS: [(&[&str], &[&str]); 4] = [
     (&["caret", "--ucd=D", "--width=4", "--at=0"], &["--moves=l"]),
 ];
 
-#[test]
-fn a_run_has_one_to_64_files(rt: HostRuntime) -> Result<(), Fail> {
-    for (first, second, count) in &COUNTS {
-        let wanted = match *count {
+/// Whether each subcommand comes to this with files before its last option and after it.
+fn each_comes_to(
+    alloc: Global,
+    files: &[&str],
+    behind: &[&str],
+    wanted: Outcome,
+) -> Result<bool, Memory> {
+    let mut right = true;
+    for (words, last) in &OPTIONS {
+        right = outcome_of(alloc, words, files, last, behind)? == wanted && right;
+    }
+    Ok(right)
+}
+
+/// Numbers of files before a subcommand's last option and after it, and how many it then has.
+struct Counts(usize, usize, Option<usize>);
+
+impl Row for Counts {
+    fn comes_out(&self, alloc: Global) -> Result<bool, Memory> {
+        let wanted = match self.2 {
             Some(count) => Ok((count, Base::Auto, false)),
             None => Err("usage"),
         };
-        let files = &FILES[..(*first).min(65)];
-        let behind = &FILES[..(*second).min(65)];
-        for (words, last) in &OPTIONS {
-            assert_outcome(&rt, words, files, last, behind, wanted)?;
-        }
+        let (before, behind) = (self.0.min(65), self.1.min(65));
+        each_comes_to(alloc, &FILES[..before], &FILES[..behind], wanted)
     }
-    Ok(())
+}
+
+const COUNTS: &[Counts] = &[
+    Counts(0, 0, None),
+    Counts(1, 0, Some(1)),
+    Counts(0, 1, Some(1)),
+    Counts(64, 0, Some(64)),
+    Counts(30, 34, Some(64)),
+    Counts(65, 0, None),
+    Counts(40, 25, None),
+];
+
+#[test]
+fn a_run_has_one_to_64_files(rt: HostRuntime) {
+    assert_rows(&rt, COUNTS);
 }
 
 /// Options that a subcommand has not, or that say what can't be.
-const WRONG_OPTIONS: [&[&str]; 24] = [
-    &["caret", "--ucd=d", "--width=1", "--at=0", "--moves=l", "a"],
-    &["caret", "--ucd=d", "--width=8", "--at=x", "--moves=l", "a"],
-    &[
+struct Wrong(&'static [&'static str]);
+
+impl Row for Wrong {
+    fn comes_out(&self, alloc: Global) -> Result<bool, Memory> {
+        Ok(outcome_of(alloc, self.0, &[], &[], &[])? == Err("usage"))
+    }
+}
+
+const WRONG_OPTIONS: &[Wrong] = &[
+    Wrong(&["caret", "--ucd=d", "--width=1", "--at=0", "--moves=l", "a"]),
+    Wrong(&["caret", "--ucd=d", "--width=8", "--at=x", "--moves=l", "a"]),
+    Wrong(&[
         "caret",
         "--ucd=d",
         "--width=8",
         "--at=4294967296",
         "--moves=l",
         "a",
-    ],
-    &["caret", "--ucd=d", "--width=8", "--at=0", "--moves=lx", "a"],
-    &["replay", "--ucd", "d", "--width", "1", "a"],
-    &["replay", "--ucd", "d", "--width", "501", "a"],
-    &["replay", "--ucd", "d", "--width", "65536", "a"],
-    &["replay", "--ucd", "d", "--width", "x", "a"],
-    &["replay", "--ucd", "d", "a"],
-    &["replay", "--ucd", "d", "--width", "4"],
-    &["replay", "--ucd", "d", "--width", "4", "--schedule"],
-    &["dump"],
-    &["dump", "a", "b"],
-    &["migrate"],
-    &["migrate", "a", "b"],
-    &["pack"],
-    &["pack", "a", "b"],
-    &["type", "a"],
-    &["type", "--site", "0"],
-    &["type", "--site", "65536"],
-    &["type", "--site", "1", "--at", "-1"],
-    &["type", "--site", "1", "--erase", "x"],
-    &["type", "--site", "1", "--version"],
-    &["type", "--site", "1", "--version", "3"],
+    ]),
+    Wrong(&["caret", "--ucd=d", "--width=8", "--at=0", "--moves=lx", "a"]),
+    Wrong(&["replay", "--ucd", "d", "--width", "1", "a"]),
+    Wrong(&["replay", "--ucd", "d", "--width", "501", "a"]),
+    Wrong(&["replay", "--ucd", "d", "--width", "65536", "a"]),
+    Wrong(&["replay", "--ucd", "d", "--width", "x", "a"]),
+    Wrong(&["replay", "--ucd", "d", "a"]),
+    Wrong(&["replay", "--ucd", "d", "--width", "4"]),
+    Wrong(&["replay", "--ucd", "d", "--width", "4", "--schedule"]),
+    Wrong(&["dump"]),
+    Wrong(&["dump", "a", "b"]),
+    Wrong(&["migrate"]),
+    Wrong(&["migrate", "a", "b"]),
+    Wrong(&["pack"]),
+    Wrong(&["pack", "a", "b"]),
+    Wrong(&["type", "a"]),
+    Wrong(&["type", "--site", "0"]),
+    Wrong(&["type", "--site", "65536"]),
+    Wrong(&["type", "--site", "1", "--at", "-1"]),
+    Wrong(&["type", "--site", "1", "--erase", "x"]),
+    Wrong(&["type", "--site", "1", "--version"]),
+    Wrong(&["type", "--site", "1", "--version", "3"]),
 ];
 
 #[test]
-fn wrong_options_are_a_usage_fault(rt: HostRuntime) -> Result<(), Fail> {
-    for words in &WRONG_OPTIONS {
-        assert_outcome(&rt, words, &[], &[], &[], Err("usage"))?;
-    }
-    Ok(())
+fn wrong_options_are_a_usage_fault(rt: HostRuntime) {
+    assert_rows(&rt, WRONG_OPTIONS);
 }
 
 /// The subcommands that draw, with what they ask for.
@@ -301,43 +308,50 @@ const GRIDS: [&[&str]; 2] = [
 ];
 
 /// Choices of a subcommand that draws, and what they choose; nothing where they are wrong.
-const CHOICES: [(&[&str], Option<(Base, bool)>); 13] = [
-    (&[], Some((Base::Auto, false))),
-    (
-        &["--base", "auto", "--ambiguous", "narrow"],
-        Some((Base::Auto, false)),
-    ),
-    (&["--base=left"], Some((Base::Left, false))),
-    (&["--base", "right"], Some((Base::Right, false))),
-    (&["--ambiguous=wide"], Some((Base::Auto, true))),
-    (
-        &["--ambiguous", "wide", "--base", "left"],
-        Some((Base::Left, true)),
-    ),
-    (
-        &["--base", "right", "--ambiguous", "wide"],
-        Some((Base::Right, true)),
-    ),
-    (&["--base"], None),
-    (&["--base", ""], None),
-    (&["--base", "Left"], None),
-    (&["--base", "rtl"], None),
-    (&["--ambiguous", "2"], None),
-    (&["--base", "left", "--base", "right"], None),
-];
+struct Choice(&'static [&'static str], Option<(Base, bool)>);
 
-#[test]
-fn base_and_width_of_ambiguous_characters_are_chosen(rt: HostRuntime) -> Result<(), Fail> {
-    for (choices, chosen) in &CHOICES {
-        let wanted = match *chosen {
+impl Row for Choice {
+    fn comes_out(&self, alloc: Global) -> Result<bool, Memory> {
+        let wanted = match self.1 {
             Some((base, wide)) => Ok((1, base, wide)),
             None => Err("usage"),
         };
+        let mut right = true;
         for words in &GRIDS {
-            assert_outcome(&rt, words, &[], choices, &[], wanted)?;
+            right = outcome_of(alloc, words, &[], self.0, &[])? == wanted && right;
         }
+        Ok(right)
     }
-    Ok(())
+}
+
+const CHOICES: &[Choice] = &[
+    Choice(&[], Some((Base::Auto, false))),
+    Choice(
+        &["--base", "auto", "--ambiguous", "narrow"],
+        Some((Base::Auto, false)),
+    ),
+    Choice(&["--base=left"], Some((Base::Left, false))),
+    Choice(&["--base", "right"], Some((Base::Right, false))),
+    Choice(&["--ambiguous=wide"], Some((Base::Auto, true))),
+    Choice(
+        &["--ambiguous", "wide", "--base", "left"],
+        Some((Base::Left, true)),
+    ),
+    Choice(
+        &["--base", "right", "--ambiguous", "wide"],
+        Some((Base::Right, true)),
+    ),
+    Choice(&["--base"], None),
+    Choice(&["--base", ""], None),
+    Choice(&["--base", "Left"], None),
+    Choice(&["--base", "rtl"], None),
+    Choice(&["--ambiguous", "2"], None),
+    Choice(&["--base", "left", "--base", "right"], None),
+];
+
+#[test]
+fn base_and_width_of_ambiguous_characters_are_chosen(rt: HostRuntime) {
+    assert_rows(&rt, CHOICES);
 }
 
 /// Whether this is the folder that is found, or what is wrong, lack of memory aside.
@@ -351,24 +365,32 @@ fn is_folder(came: &Result<String, Stop>, wanted: Result<&str, &str>) -> Result<
 }
 
 /// The folder that is named, that of the environment, and the one that is found.
-const FOLDERS: [(Option<&str>, Option<&[u8]>, Result<&str, &str>); 4] = [
-    (Some("a"), None, Ok("a")),
-    (Some("a"), Some(b"b"), Ok("a")),
-    (None, Some(b"b"), Ok("b")),
-    (None, None, Err("error: --ucd <DIR> is left out")),
+struct Folder(
+    Option<&'static str>,
+    Option<&'static [u8]>,
+    Result<&'static str, &'static str>,
+);
+
+impl Row for Folder {
+    fn comes_out(&self, alloc: Global) -> Result<bool, Memory> {
+        let given = Given {
+            words: &[],
+            value: self.1,
+        };
+        is_folder(&folder_of(&(given, alloc), self.0), self.2)
+    }
+}
+
+const FOLDERS: &[Folder] = &[
+    Folder(Some("a"), None, Ok("a")),
+    Folder(Some("a"), Some(b"b"), Ok("a")),
+    Folder(None, Some(b"b"), Ok("b")),
+    Folder(None, None, Err("error: --ucd <DIR> is left out")),
 ];
 
 #[test]
-fn the_command_line_names_the_folder_or_the_environment(rt: HostRuntime) -> Result<(), Fail> {
-    for (named, value, wanted) in &FOLDERS {
-        let given = Given {
-            words: &[],
-            value: *value,
-        };
-        let right = is_folder(&folder_of(&(given, rt.alloc()), *named), *wanted);
-        assert!(rt; right?, "{named:?}");
-    }
-    Ok(())
+fn the_command_line_names_the_folder_or_the_environment(rt: HostRuntime) {
+    assert_rows(&rt, FOLDERS);
 }
 
 /// How many files were opened.

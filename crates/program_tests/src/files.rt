@@ -1,12 +1,29 @@
 //! Operation files that tests give, and what runs over files come to.
 
-use bg_types::{Device, Id, Memory, Op, Place};
+use bg_types::Memory;
 use cli_support::Unread;
 use desk_runs::RunFault;
-use op_codec::encode_file;
-use std::alloc::Global;
+use std::alloc::{AllocError, Global};
 use std::process::Abort;
-use std::test::Fail;
+
+/// Any key.
+pub const KEY: u128 = 0x2545_F491_4F6C_DD1D;
+
+/// (1,1) after the root, `a`; (2,1) after (1,1), `b`.
+pub const TWO: [u8; 43] = [
+    0x42, 0x47, 0x4F, 0x50, 1, // BGOP, version 1
+    0, 17, 1, 0, 0, 0, 1, 0, 1, 0, 0, 0, 0, 0, 0, 0, 0, 0, 0x61, // frame 1
+    0, 17, 1, 0, 0, 0, 2, 0, 1, 0, 0, 0, 1, 0, 1, 0, 0, 0, 0x62, // frame 2
+];
+
+/// `a`, `x` and `b` after it, `y` after `x`.
+pub const FOUR: [u8; 81] = [
+    0x42, 0x47, 0x4F, 0x50, 1, // BGOP, version 1
+    0, 17, 1, 0, 0, 0, 1, 0, 1, 0, 0, 0, 0, 0, 0, 0, 0, 0, 0x61, // frame 1
+    0, 17, 1, 0, 0, 0, 2, 0, 2, 0, 0, 0, 1, 0, 1, 0, 0, 0, 0x78, // frame 2
+    0, 17, 1, 0, 0, 0, 3, 0, 2, 0, 0, 0, 2, 0, 2, 0, 0, 0, 0x79, // frame 3
+    0, 17, 1, 0, 0, 0, 2, 0, 1, 0, 0, 0, 1, 0, 1, 0, 0, 0, 0x62, // frame 4
+];
 
 /// (2,1) after (2,2), `b`: a parent of no smaller counter.
 pub const LATE_PARENT: [u8; 24] = [
@@ -14,139 +31,98 @@ pub const LATE_PARENT: [u8; 24] = [
     0, 17, 1, 0, 0, 0, 2, 0, 1, 0, 0, 0, 2, 0, 2, 0, 0, 0, 0x62, // frame 1
 ];
 
-/// An insertion by counters and sites. No identifier has counter 0, so (0, 0) is the root.
-fn insertion(id: (u32, u16), parent: (u32, u16), ch: char) -> Option<Op> {
-    let place = match Id::new(parent.0, parent.1) {
-        Some(parent) => Place::After(parent),
-        None => Place::Root,
+/// A file that a test gives.
+#[derive(Clone, Copy)]
+pub enum Given {
+    /// The operations that letters stand for: (1,1) `a`, after it (2,2) `x` with (3,2) `y`, and
+    /// (2,1) `b`; (1,2) `b` is `z`, a `b` with the identifier of `a` is `B`, and `e` erases `x`.
+    Letters(&'static str),
+    /// What a site types, each character after the one before it, with counters from 1.
+    Typed(u16, &'static str),
+    Bytes(&'static [u8]),
+}
+
+/// The frame of an insertion. No identifier has counter 0, so (0, 0) is the root.
+fn frame(id: (u32, u16), parent: (u32, u16), ch: char) -> [u8; 19] {
+    let [a, b, c, d] = id.0.to_be_bytes();
+    let [e, f] = id.1.to_be_bytes();
+    let [g, h, i, j] = parent.0.to_be_bytes();
+    let [k, l] = parent.1.to_be_bytes();
+    let [m, n, o, p] = (ch as u32).to_be_bytes();
+    [0, 17, 1, a, b, c, d, e, f, g, h, i, j, k, l, m, n, o, p]
+}
+
+/// Appends the operation of a letter.
+fn put_letter(file: &mut Vec<u8>, letter: char) -> Result<(), AllocError> {
+    let frame = match letter {
+        'a' => frame((1, 1), (0, 0), 'a'),
+        'x' => frame((2, 2), (1, 1), 'x'),
+        'y' => frame((3, 2), (2, 2), 'y'),
+        'b' => frame((2, 1), (1, 1), 'b'),
+        'z' => frame((1, 2), (0, 0), 'b'),
+        'B' => frame((1, 1), (0, 0), 'b'),
+        _ => return file.extend_from_slice(&[0, 7, 2, 0, 0, 0, 2, 0, 2]),
     };
-    Op::insert(Id::new(id.0, id.1)?, place, ch)
+    file.extend_from_slice(&frame)
 }
 
-/// The operation that a letter stands for: (1,1) `a`, after it (2,2) `x` with (3,2) `y`, and
-/// (2,1) `b`; (1,2) `b` is `z`, a `b` with the identifier of `a` is `B`, and `e` erases `x`.
-fn op_of(letter: u8) -> Option<Op> {
-    match letter {
-        b'a' => insertion((1, 1), (0, 0), 'a'),
-        b'x' => insertion((2, 2), (1, 1), 'x'),
-        b'y' => insertion((3, 2), (2, 2), 'y'),
-        b'b' => insertion((2, 1), (1, 1), 'b'),
-        b'z' => insertion((1, 2), (0, 0), 'b'),
-        b'B' => insertion((1, 1), (0, 0), 'b'),
-        _ => Some(Op::erase(Id::new(2, 2)?)),
-    }
-}
-
-fn put_ops(ops: &mut Vec<Op>, letters: &[u8]) -> Result<(), Fail> {
-    for letter in letters {
-        ops.push(op_of(*letter).ok_or("well formed")?)?;
+fn put_letters(file: &mut Vec<u8>, letters: &str) -> Result<(), AllocError> {
+    file.extend_from_slice(b"BGOP\x01")?;
+    for letter in letters.chars() {
+        put_letter(file, letter)?;
     }
     Ok(())
 }
 
-/// The file of the operations of some letters.
-pub fn file_of(alloc: Global, letters: &[u8]) -> Result<Vec<u8>, Fail> {
-    let mut ops = Vec::new(alloc);
-    put_ops(&mut ops, letters)?;
-    Ok(encode_file(alloc, ops.as_slice())?)
-}
-
-fn put_each(alloc: Global, files: &mut Vec<Vec<u8>>, letters: &[u8]) -> Result<(), Fail> {
-    for letter in letters {
-        files.push(file_of(alloc, &[*letter])?)?;
-    }
-    Ok(())
-}
-
-/// A file for each of some operations.
-pub fn files_of(alloc: Global, letters: &str) -> Result<Vec<Vec<u8>>, Fail> {
-    let mut files = Vec::new(alloc);
-    put_each(alloc, &mut files, letters.as_bytes())?;
-    Ok(files)
-}
-
-/// Appends files of these bytes.
-pub fn put_files(alloc: Global, files: &mut Vec<Vec<u8>>, bytes: &[&[u8]]) -> Result<(), Fail> {
-    for bytes in bytes {
-        files.push(bytes.to_vec(alloc)?)?;
-    }
-    Ok(())
-}
-
-/// Files of these bytes.
-pub fn copies(alloc: Global, bytes: &[&[u8]]) -> Result<Vec<Vec<u8>>, Fail> {
-    let mut files = Vec::new(alloc);
-    put_files(alloc, &mut files, bytes)?;
-    Ok(files)
-}
-
-/// Appends what a site types, each character after the one before it, with counters from 1.
-fn put_typed(ops: &mut Vec<Op>, site: u16, text: &str) -> Result<(), Fail> {
-    let mut before = 0u32;
+fn put_typed(file: &mut Vec<u8>, site: u16, text: &str) -> Result<(), AllocError> {
+    file.extend_from_slice(b"BGOP\x01")?;
+    let mut before = (0u32, 0u16);
     for ch in text.chars() {
-        let counter = before.saturating_add(1);
-        ops.push(insertion((counter, site), (before, site), ch).ok_or("well formed")?)?;
-        before = counter;
+        let id = (before.0.saturating_add(1), site);
+        file.extend_from_slice(&frame(id, before, ch))?;
+        before = id;
     }
     Ok(())
 }
 
-/// The file of a text that a site types from its start.
-pub fn typed(alloc: Global, site: u16, text: &str) -> Result<Vec<u8>, Fail> {
-    let mut ops = Vec::new(alloc);
-    put_typed(&mut ops, site, text)?;
-    Ok(encode_file(alloc, ops.as_slice())?)
-}
-
-/// Appends the files of texts, each with the site that types it.
-fn put_texts(alloc: Global, files: &mut Vec<Vec<u8>>, texts: &[(u16, &str)]) -> Result<(), Fail> {
-    for (site, text) in texts {
-        files.push(typed(alloc, *site, text)?)?;
+fn put(file: &mut Vec<u8>, given: Given) -> Result<(), AllocError> {
+    match given {
+        Given::Letters(letters) => put_letters(file, letters),
+        Given::Typed(site, text) => put_typed(file, site, text),
+        Given::Bytes(bytes) => file.extend_from_slice(bytes),
     }
-    Ok(())
 }
 
-/// The files of texts, each with the site that types it.
-pub fn typed_by(alloc: Global, texts: &[(u16, &str)]) -> Result<Vec<Vec<u8>>, Fail> {
+/// The bytes of a file.
+pub fn file_of(alloc: Global, given: Given) -> Result<Vec<u8>, AllocError> {
+    let mut file = Vec::new(alloc);
+    put(&mut file, given)?;
+    Ok(file)
+}
+
+/// The same of each file.
+pub fn files_of(alloc: Global, given: &[Given]) -> Result<Vec<Vec<u8>>, AllocError> {
     let mut files = Vec::new(alloc);
-    put_texts(alloc, &mut files, texts)?;
+    for given in given {
+        files.push(file_of(alloc, *given)?)?;
+    }
     Ok(files)
 }
 
 /// What a run answers, and what is written.
 pub type Outcome<'a> = (Result<(), RunFault>, &'a [u8]);
 
-/// Compares what a run came to with what is wanted.
-pub fn assert_run(rt: &impl Abort, came: Outcome, wanted: Outcome, row: &str, at: usize) {
-    assert_eq!(rt; came.0, wanted.0, "{row} at {at}");
-    assert_eq!(rt; came.1, wanted.1, "{row} at {at}");
+/// Whether these bytes stand at the start of the room, and nothing after them.
+pub fn are_written(room: &[u8], bytes: &[u8]) -> bool {
+    room.starts_with(bytes) && room.get(bytes.len()) == Some(&0)
 }
 
 /// With ample memory a run is right; where a growth is refused it says so, and nothing is written.
 pub fn is_right_or_memory(answer: Result<(), RunFault>, room: &[u8], right: &[u8]) -> bool {
     match answer {
-        Ok(()) => room.starts_with(right),
+        Ok(()) => are_written(room, right),
         Err(fault) => fault == RunFault::Memory && room.starts_with(&[0]),
     }
-}
-
-pub fn assert_right_or_memory(
-    rt: &impl Abort,
-    answer: Result<(), RunFault>,
-    room: &[u8],
-    right: &[u8],
-) {
-    assert!(rt; is_right_or_memory(answer, room, right));
-}
-
-/// Compares whether a line was told, and what of it was written, with what is wanted.
-pub fn assert_told(
-    rt: &impl Abort,
-    came: (Result<(), Device>, &[u8]),
-    wanted: (Result<(), Device>, &[u8]),
-) {
-    assert_eq!(rt; came.0, wanted.0);
-    assert_eq!(rt; came.1, wanted.1);
 }
 
 /// Compares the path that can't be read with this one, lack of memory aside.

@@ -16,6 +16,8 @@ mod given;
 #[cfg(test)]
 mod replay_tests;
 #[cfg(test)]
+mod rows;
+#[cfg(test)]
 mod run_fault_tests;
 #[cfg(test)]
 mod text_tests;

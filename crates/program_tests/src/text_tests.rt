@@ -3,25 +3,16 @@
 ghost use Rattle.std.specs.Prelude.{◌<◌, map as each};
 ghost use Rattle.desk_files.specs.Readers.{AreWorking};
 
+use crate::files::Given::{Bytes, Letters};
 use crate::files::*;
-use bg_types::{Out, Stops};
+use crate::rows::{Row, assert_none, assert_rows};
+use bg_types::{Memory, Out, Stops};
 use desk_replica::TakeFault;
 use desk_runs::{RunFault, text, text_from};
 use op_codec::{Cause, CodecFault, Gives, In, Source};
+use std::alloc::{AllocError, Global};
 use std::io::Read;
-use std::process::Abort;
 use std::slice::from_ref;
-use std::test::Fail;
-
-/// (1,1) after the root, `a`; (2,1) after (1,1), `b`.
-const TWO: [u8; 43] = [
-    0x42, 0x47, 0x4F, 0x50, 1, // BGOP, version 1
-    0, 17, 1, 0, 0, 0, 1, 0, 1, 0, 0, 0, 0, 0, 0, 0, 0, 0, 0x61, // frame 1
-    0, 17, 1, 0, 0, 0, 2, 0, 1, 0, 0, 0, 1, 0, 1, 0, 0, 0, 0x62, // frame 2
-];
-
-/// Any key.
-const KEY: u128 = 0x2545_F491_4F6C_DD1D;
 
 /// The second operation has the identifier of the first one.
 const REFUSED: RunFault = RunFault::Step(0, 1, TakeFault::IdentifierReused);
@@ -30,82 +21,114 @@ fn malformed(file: usize, frame: usize, cause: Cause) -> RunFault {
     RunFault::File(file, CodecFault::Malformed { frame, cause })
 }
 
-/// Compares what these files come to with what is wanted.
-fn assert_text(
-    rt: &(impl Abort + AllocGlobal),
+/// Runs over files into a sink that takes at most `most` bytes a call, and stops after `left`.
+fn run(
+    alloc: Global,
     files: &[Vec<u8>],
-    wanted: Outcome,
-    row: &str,
-    at: usize,
-) {
-    let mut bytes = Vec::new(rt.alloc());
-    let answer = text(rt.alloc(), KEY, files, &mut Out::new(&mut bytes));
-    assert_run(rt, (answer, bytes.as_slice()), wanted, row, at);
-}
-
-/// The same of one file.
-fn assert_file(
-    rt: &(impl Abort + AllocGlobal),
-    file: Vec<u8>,
-    wanted: Outcome,
-    row: &str,
-    at: usize,
-) {
-    assert_text(rt, from_ref(&file), wanted, row, at);
-}
-
-/// The same of the files of readers.
-fn assert_read<'a>(
-    rt: &(impl Abort + AllocGlobal),
-    readers: &mut [Gives<'a>],
-    wanted: Outcome,
-    at: usize,
-)
-    requires { AreWorking (each ⟦<Gives<'a> as Source>⟧.has_failed readers.old) }
+    most: usize,
+    left: usize,
+    room: &mut [u8],
+) -> Result<(), RunFault>
+    requires { 0 < most }
 {
-    let mut bytes = Vec::new(rt.alloc());
-    let answer = text_from(rt.alloc(), KEY, readers, &mut Out::new(&mut bytes));
-    assert_run(rt, (answer, bytes.as_slice()), wanted, "readers", at);
+    text(
+        alloc,
+        KEY,
+        files,
+        &mut Stops::new(Out::new(room), most, left),
+    )
+}
+
+/// Whether such a run comes to what is wanted.
+fn is_text(alloc: Global, files: &[Vec<u8>], most: usize, left: usize, wanted: Outcome) -> bool
+    requires { 0 < most }
+{
+    let mut room = [0; 16];
+    let answer = run(alloc, files, most, left, &mut room);
+    answer == wanted.0 && are_written(&room, wanted.1)
+}
+
+/// The same of one file of these bytes.
+fn is_text_of(alloc: Global, bytes: &[u8], most: usize, left: usize, wanted: Outcome) -> bool
+    requires { 0 < most }
+{
+    match bytes.to_vec(alloc) {
+        Ok(file) => is_text(alloc, from_ref(&file), most, left, wanted),
+        Err(AllocError) => false,
+    }
+}
+
+/// Files, and what a run over them comes to.
+struct Text(&'static [Given], Outcome<'static>);
+
+impl Row for Text {
+    fn comes_out(&self, alloc: Global) -> Result<bool, Memory> {
+        let files = files_of(alloc, self.0)?;
+        Ok(is_text(alloc, &files, 100, 100, self.1))
+    }
 }
 
 /// Orders of operations, and the text that they make.
-const ORDERS: [(&str, &str); 9] = [
-    ("az", "ba"),
-    ("za", "ba"),
-    ("axyb", "axyb"),
-    ("ybxa", "axyb"),
-    ("aaaxxxyyybbb", "axyb"),
-    ("ybxaybxaybxa", "axyb"),
-    ("eaxyb", "ayb"),
-    ("aeybxe", "ayb"),
-    ("xyb", ""),
+const ORDERS: &[Text] = &[
+    Text(&[Letters("az")], (Ok(()), b"ba")),
+    Text(&[Letters("za")], (Ok(()), b"ba")),
+    Text(&[Letters("axyb")], (Ok(()), b"axyb")),
+    Text(&[Letters("ybxa")], (Ok(()), b"axyb")),
+    Text(&[Letters("aaaxxxyyybbb")], (Ok(()), b"axyb")),
+    Text(&[Letters("ybxaybxaybxa")], (Ok(()), b"axyb")),
+    Text(&[Letters("eaxyb")], (Ok(()), b"ayb")),
+    Text(&[Letters("aeybxe")], (Ok(()), b"ayb")),
+    Text(&[Letters("xyb")], (Ok(()), b"")),
 ];
 
 #[test]
-fn orders_repeats_and_early_operations_do_not_matter(rt: HostRuntime) -> Result<(), Fail> {
-    for (letters, text) in &ORDERS {
-        let file = file_of(rt.alloc(), letters.as_bytes())?;
-        assert_file(&rt, file, (Ok(()), text.as_bytes()), letters, 0);
-    }
-    Ok(())
+fn orders_repeats_and_early_operations_do_not_matter(rt: HostRuntime) {
+    assert_rows(&rt, ORDERS);
 }
+
+const A: Given = Letters("a");
+
+const X: Given = Letters("x");
+
+const Y: Given = Letters("y");
+
+const B: Given = Letters("b");
 
 /// The files of four operations, in every order.
-const FOUR: &str = "\
-axyb axby ayxb aybx abxy abyx xayb xaby xyab xyba xbay xbya \
-yaxb yabx yxab yxba ybax ybxa baxy bayx bxay bxya byax byxa";
+const EVERY_ORDER: &[Text] = &[
+    Text(&[A, X, Y, B], (Ok(()), b"axyb")),
+    Text(&[A, X, B, Y], (Ok(()), b"axyb")),
+    Text(&[A, Y, X, B], (Ok(()), b"axyb")),
+    Text(&[A, Y, B, X], (Ok(()), b"axyb")),
+    Text(&[A, B, X, Y], (Ok(()), b"axyb")),
+    Text(&[A, B, Y, X], (Ok(()), b"axyb")),
+    Text(&[X, A, Y, B], (Ok(()), b"axyb")),
+    Text(&[X, A, B, Y], (Ok(()), b"axyb")),
+    Text(&[X, Y, A, B], (Ok(()), b"axyb")),
+    Text(&[X, Y, B, A], (Ok(()), b"axyb")),
+    Text(&[X, B, A, Y], (Ok(()), b"axyb")),
+    Text(&[X, B, Y, A], (Ok(()), b"axyb")),
+    Text(&[Y, A, X, B], (Ok(()), b"axyb")),
+    Text(&[Y, A, B, X], (Ok(()), b"axyb")),
+    Text(&[Y, X, A, B], (Ok(()), b"axyb")),
+    Text(&[Y, X, B, A], (Ok(()), b"axyb")),
+    Text(&[Y, B, A, X], (Ok(()), b"axyb")),
+    Text(&[Y, B, X, A], (Ok(()), b"axyb")),
+    Text(&[B, A, X, Y], (Ok(()), b"axyb")),
+    Text(&[B, A, Y, X], (Ok(()), b"axyb")),
+    Text(&[B, X, A, Y], (Ok(()), b"axyb")),
+    Text(&[B, X, Y, A], (Ok(()), b"axyb")),
+    Text(&[B, Y, A, X], (Ok(()), b"axyb")),
+    Text(&[B, Y, X, A], (Ok(()), b"axyb")),
+];
 
 #[test]
-fn four_files_in_every_order(rt: HostRuntime) -> Result<(), Fail> {
-    for order in FOUR.split(' ') {
-        let files = files_of(rt.alloc(), order)?;
-        assert_text(&rt, files.as_slice(), (Ok(()), b"axyb"), order, 0);
-    }
-    Ok(())
+fn four_files_in_every_order(rt: HostRuntime) {
+    assert_rows(&rt, EVERY_ORDER);
 }
 
-#[test]
-fn a_file_cut_to_each_length(rt: HostRuntime) -> Result<(), Fail> {
+/// The first length at which a cut file does not come to what is wanted.
+fn wrong_cut(alloc: Global) -> Option<usize> {
     for k in 0..44usize {
         let (wanted, characters) = match k {
             5 => (Ok(()), 0),
@@ -115,172 +138,259 @@ fn a_file_cut_to_each_length(rt: HostRuntime) -> Result<(), Fail> {
             6..24 => (Err(malformed(1, 1, Cause::Truncated)), 0),
             _ => (Err(malformed(1, 2, Cause::Truncated)), 0),
         };
-        let file = TWO[..k].to_vec(rt.alloc())?;
-        assert_file(&rt, file, (wanted, &b"ab"[..characters]), "a cut", k);
-    }
-    Ok(())
-}
-
-#[test]
-fn the_first_faulty_file_decides_before_a_refusal(rt: HostRuntime) -> Result<(), Fail> {
-    let file = file_of(rt.alloc(), b"aB")?;
-    assert_file(&rt, file, (Err(REFUSED), b""), "alone", 0);
-    let file = file_of(rt.alloc(), b"yBxa")?;
-    assert_file(&rt, file, (Err(REFUSED), b""), "out of order", 0);
-    let late = LATE_PARENT.to_vec(rt.alloc())?;
-    let fault = malformed(1, 1, Cause::ParentNotBefore);
-    assert_file(&rt, late, (Err(fault), b""), "alone", 1);
-    let refused = file_of(rt.alloc(), b"aB")?;
-    let files = copies(rt.alloc(), &[&refused, &LATE_PARENT, &TWO[..42]])?;
-    let fault = malformed(2, 1, Cause::ParentNotBefore);
-    assert_text(&rt, files.as_slice(), (Err(fault), b""), "together", 0);
-    Ok(())
-}
-
-/// Compares what a sink that takes `left` bytes in all, at most `piece` a call, keeps of a text.
-fn assert_kept(rt: &(impl Abort + AllocGlobal), file: &Vec<u8>, piece: usize, left: usize)
-    requires { 0 < piece }
-{
-    let mut bytes = Vec::new(rt.alloc());
-    let mut sink = Stops::new(Out::new(&mut bytes), piece, left);
-    let answer = text(rt.alloc(), KEY, from_ref(file), &mut sink);
-    let wanted = if left < 4 {
-        Err(RunFault::Device)
-    } else {
-        Ok(())
-    };
-    let kept = &b"axyb"[..left.min(4)];
-    assert_run(rt, (answer, bytes.as_slice()), (wanted, kept), "left", left);
-}
-
-#[test]
-fn a_sink_that_stops_keeps_a_beginning(rt: HostRuntime) -> Result<(), Fail> {
-    let file = file_of(rt.alloc(), b"axyb")?;
-    for left in 0..6usize {
-        for piece in 1..4usize {
-            assert_kept(&rt, &file, piece, left);
+        if !is_text_of(alloc, &TWO[..k], 100, 100, (wanted, &b"ab"[..characters])) {
+            return Some(k);
         }
     }
-    Ok(())
+    None
 }
 
 #[test]
-fn a_run_is_right_or_says_memory(rt: HostRuntime) -> Result<(), Fail> {
-    let files = copies(rt.alloc(), &[&TWO, &TWO])?;
-    let mut room = [0u8; 4];
-    let out = &mut Out::new(room.as_mut_slice());
-    let answer = text(rt.alloc(), KEY, files.as_slice(), out);
-    assert_right_or_memory(&rt, answer, &room, b"ab");
+fn a_file_cut_to_each_length(rt: HostRuntime) {
+    assert_none(&rt, "the lengths", wrong_cut(rt.alloc()));
+}
+
+/// `TWO` without its last byte.
+const CUT: &[u8] = &[
+    0x42, 0x47, 0x4F, 0x50, 1, // BGOP, version 1
+    0, 17, 1, 0, 0, 0, 1, 0, 1, 0, 0, 0, 0, 0, 0, 0, 0, 0, 0x61, // frame 1
+    0, 17, 1, 0, 0, 0, 2, 0, 1, 0, 0, 0, 1, 0, 1, 0, 0, 0, // frame 2
+];
+
+const FIRST_LATE: RunFault = RunFault::File(
+    1,
+    CodecFault::Malformed {
+        frame: 1,
+        cause: Cause::ParentNotBefore,
+    },
+);
+
+const SECOND_LATE: RunFault = RunFault::File(
+    2,
+    CodecFault::Malformed {
+        frame: 1,
+        cause: Cause::ParentNotBefore,
+    },
+);
+
+const FAULTY: &[Text] = &[
+    Text(&[Letters("aB")], (Err(REFUSED), b"")),
+    Text(&[Letters("yBxa")], (Err(REFUSED), b"")),
+    Text(&[Bytes(&LATE_PARENT)], (Err(FIRST_LATE), b"")),
+    Text(
+        &[Letters("aB"), Bytes(&LATE_PARENT), Bytes(CUT)],
+        (Err(SECOND_LATE), b""),
+    ),
+];
+
+#[test]
+fn the_first_faulty_file_decides_before_a_refusal(rt: HostRuntime) {
+    assert_rows(&rt, FAULTY);
+}
+
+/// The first number of bytes after which a sink that stops does not keep a beginning.
+fn wrong_stop(alloc: Global, most: usize) -> Option<usize>
+    requires { 0 < most }
+{
+    for left in 0..6usize {
+        let answer = if left < 4 {
+            Err(RunFault::Device)
+        } else {
+            Ok(())
+        };
+        let kept = &b"axyb"[..left.min(4)];
+        if !is_text_of(alloc, &FOUR, most, left, (answer, kept)) {
+            return Some(left);
+        }
+    }
+    None
+}
+
+#[test]
+fn a_sink_that_stops_keeps_a_beginning(rt: HostRuntime) {
+    assert_none(&rt, "single bytes", wrong_stop(rt.alloc(), 1));
+    assert_none(&rt, "two bytes", wrong_stop(rt.alloc(), 2));
+    assert_none(&rt, "three bytes", wrong_stop(rt.alloc(), 3));
+}
+
+fn is_right_or_says_memory(alloc: Global) -> Result<bool, Memory> {
+    let files = files_of(alloc, &[Bytes(&TWO), Bytes(&TWO)])?;
+    let mut room = [0; 16];
+    let answer = run(alloc, &files, 100, 100, &mut room);
+    Ok(is_right_or_memory(answer, &room, b"ab"))
+}
+
+#[test]
+fn a_run_is_right_or_says_memory(rt: HostRuntime) -> Result<(), Memory> {
+    assert!(rt; is_right_or_says_memory(rt.alloc())?);
     Ok(())
 }
 
-/// Compares what a file comes to that is read in pieces of each size.
-fn assert_pieces(rt: &(impl Abort + AllocGlobal), file: &[u8], wanted: Outcome) {
+/// Runs over the files of readers.
+fn run_from<S: Source>(alloc: Global, readers: &mut [S], room: &mut [u8]) -> Result<(), RunFault>
+    requires { AreWorking (each S.has_failed readers.old) }
+{
+    text_from(alloc, KEY, readers, &mut Out::new(room))
+}
+
+/// Whether such a run comes to what is wanted.
+fn is_read<S: Source>(alloc: Global, readers: &mut [S], wanted: Outcome) -> bool
+    requires { AreWorking (each S.has_failed readers.old) }
+{
+    let mut room = [0; 16];
+    let answer = run_from(alloc, readers, &mut room);
+    answer == wanted.0 && are_written(&room, wanted.1)
+}
+
+/// The first size of pieces in which a file does not come to what is wanted.
+fn wrong_size(alloc: Global, file: &[u8], wanted: Outcome) -> Option<usize> {
     for size in 1..44usize {
-        assert_read(rt, &mut [Gives::new(file, size)], wanted, size);
+        if !is_read(alloc, &mut [Gives::new(file, size)], wanted) {
+            return Some(size);
+        }
+    }
+    None
+}
+
+const CUT_SHORT: RunFault = RunFault::File(
+    1,
+    CodecFault::Malformed {
+        frame: 2,
+        cause: Cause::Truncated,
+    },
+);
+
+/// Files, and what they come to.
+const READ: &[(&[u8], Outcome<'static>)] = &[
+    (&TWO, (Ok(()), b"ab")),
+    (&FOUR, (Ok(()), b"axyb")),
+    (&LATE_PARENT, (Err(FIRST_LATE), b"")),
+    (CUT, (Err(CUT_SHORT), b"")),
+];
+
+#[test]
+fn files_in_pieces_of_each_size(rt: HostRuntime) {
+    for (file, wanted) in READ {
+        assert_none(&rt, "the sizes", wrong_size(rt.alloc(), file, *wanted));
     }
 }
 
-#[test]
-fn files_in_pieces_of_each_size(rt: HostRuntime) -> Result<(), Fail> {
-    let four = file_of(rt.alloc(), b"axyb")?;
-    let late = malformed(1, 1, Cause::ParentNotBefore);
-    let cut = malformed(1, 2, Cause::Truncated);
-    assert_pieces(&rt, &TWO, (Ok(()), b"ab"));
-    assert_pieces(&rt, &four, (Ok(()), b"axyb"));
-    assert_pieces(&rt, &LATE_PARENT, (Err(late), b""));
-    assert_pieces(&rt, &TWO[..42], (Err(cut), b""));
-    Ok(())
+/// Whether a file comes to what is wanted that is read in two pieces.
+fn is_cut_at(alloc: Global, first: &[u8], second: &[u8], wanted: Outcome) -> bool {
+    is_read(alloc, &mut [In::new(first.chain(second))], wanted)
 }
 
-/// Compares what a file comes to that is read in two pieces.
-fn assert_two_pieces(
-    rt: &(impl Abort + AllocGlobal),
-    first: &[u8],
-    second: &[u8],
-    wanted: Outcome,
-) {
-    let mut bytes = Vec::new(rt.alloc());
-    let mut readers = [In::new(first.chain(second))];
-    let answer = text_from(rt.alloc(), KEY, &mut readers, &mut Out::new(&mut bytes));
-    let came = (answer, bytes.as_slice());
-    assert_run(rt, came, wanted, "two pieces", first.len());
-}
-
-/// Compares what a file comes to that is cut into two pieces at each place.
-fn assert_cuts(rt: &(impl Abort + AllocGlobal), file: &[u8], wanted: Outcome) {
+/// The first place at which a file that is cut into two pieces does not come to what is wanted.
+fn wrong_place(alloc: Global, file: &[u8], wanted: Outcome) -> Option<usize> {
     for cut in 0..file.len() {
-        assert_two_pieces(rt, &file[..cut], &file[cut..], wanted);
+        if !is_cut_at(alloc, &file[..cut], &file[cut..], wanted) {
+            return Some(cut);
+        }
+    }
+    None
+}
+
+#[test]
+fn files_cut_into_two_pieces(rt: HostRuntime) {
+    for (file, wanted) in READ {
+        assert_none(&rt, "the cuts", wrong_place(rt.alloc(), file, *wanted));
     }
 }
 
-#[test]
-fn files_cut_into_two_pieces(rt: HostRuntime) -> Result<(), Fail> {
-    let four = file_of(rt.alloc(), b"axyb")?;
-    let late = malformed(1, 1, Cause::ParentNotBefore);
-    assert_cuts(&rt, &TWO, (Ok(()), b"ab"));
-    assert_cuts(&rt, &four, (Ok(()), b"axyb"));
-    assert_cuts(&rt, &LATE_PARENT, (Err(late), b""));
-    Ok(())
+/// An operation, another one with its identifier, and the first again.
+const REUSED: &[u8] = &[
+    0x42, 0x47, 0x4F, 0x50, 1, // BGOP, version 1
+    0, 17, 1, 0, 0, 0, 1, 0, 1, 0, 0, 0, 0, 0, 0, 0, 0, 0, 0x61, // frame 1
+    0, 17, 1, 0, 0, 0, 1, 0, 1, 0, 0, 0, 0, 0, 0, 0, 0, 0, 0x62, // frame 2
+    0, 17, 1, 0, 0, 0, 1, 0, 1, 0, 0, 0, 0, 0, 0, 0, 0, 0, 0x61, // frame 3
+];
+
+const SECOND_CUT: RunFault = RunFault::File(
+    2,
+    CodecFault::Malformed {
+        frame: 2,
+        cause: Cause::Truncated,
+    },
+);
+
+/// Bytes that come after `REUSED`, how many of them are read before their reader fails, and the fault.
+struct Waits(&'static [u8], usize, RunFault);
+
+impl Row for Waits {
+    fn comes_out(&self, alloc: Global) -> Result<bool, Memory> {
+        let first = Gives::new(REUSED, 7);
+        let second = Gives::new(self.0, 7).failing_after(self.1);
+        Ok(is_read(alloc, &mut [first, second], (Err(self.2), b"")))
+    }
 }
 
-/// Compares the fault of two files, of which the second fails after `left` bytes.
-fn assert_waits(
-    rt: &(impl Abort + AllocGlobal),
-    first: &[u8],
-    second: &[u8],
-    left: usize,
-    fault: RunFault,
-) {
-    let first = Gives::new(first, 7);
-    let second = Gives::new(second, 7).failing_after(left);
-    assert_read(rt, &mut [first, second], (Err(fault), b""), left);
+/// Files after a refusal that fail, are right, or are faulty.
+const WAITS: &[Waits] = &[
+    Waits(&TWO, 43, RunFault::ReadFailed(2)),
+    Waits(&TWO, 44, REFUSED),
+    Waits(&LATE_PARENT, 44, SECOND_LATE),
+    Waits(CUT, 44, SECOND_CUT),
+];
+
+/// A refusal in a file is reported after all files are read.
+#[test]
+fn a_refusal_waits_for_the_files_after_it(rt: HostRuntime) {
+    assert_rows(&rt, WAITS);
 }
 
-/// A refusal in a file is reported after all files are read: those that follow it may be faulty, fail,
-/// or be right.
-#[test]
-fn a_refusal_waits_for_the_files_after_it(rt: HostRuntime) -> Result<(), Fail> {
-    let again = file_of(rt.alloc(), b"aBa")?;
-    let late = malformed(2, 1, Cause::ParentNotBefore);
-    let cut = malformed(2, 2, Cause::Truncated);
-    assert_waits(&rt, &again, &TWO, 43, RunFault::ReadFailed(2));
-    assert_waits(&rt, &again, &TWO, 44, REFUSED);
-    assert_waits(&rt, &again, &LATE_PARENT, 44, late);
-    assert_waits(&rt, &again, &TWO[..42], 44, cut);
-    Ok(())
+/// The first number of bytes after which a reader in pieces of this size fails otherwise.
+fn wrong_failure(alloc: Global, size: usize) -> Option<usize>
+    requires { 0 < size }
+{
+    for left in 0..44usize {
+        let reader = Gives::new(&TWO, size).failing_after(left);
+        if !is_read(alloc, &mut [reader], (Err(RunFault::ReadFailed(1)), b"")) {
+            return Some(left);
+        }
+    }
+    None
 }
 
 #[test]
 fn a_reader_that_fails_after_each_byte(rt: HostRuntime) {
-    let failed = Err(RunFault::ReadFailed(1));
-    for left in 0..44usize {
-        for size in 1..9usize {
-            let reader = Gives::new(&TWO, size).failing_after(left);
-            assert_read(&rt, &mut [reader], (failed, b""), left);
-        }
+    for size in 1..9usize {
+        assert_none(&rt, "the failures", wrong_failure(rt.alloc(), size));
     }
 }
+
+const UNKNOWN_KIND: RunFault = RunFault::File(
+    1,
+    CodecFault::Malformed {
+        frame: 3,
+        cause: Cause::UnknownKind,
+    },
+);
 
 #[test]
 fn a_fault_of_an_endless_reader_is_told(rt: HostRuntime) {
     let reader = Gives::new(&TWO, 4_096).then_for_ever(&[0]);
-    let fault = malformed(1, 3, Cause::UnknownKind);
-    assert_read(&rt, &mut [reader], (Err(fault), b""), 0);
+    assert!(rt; is_read(rt.alloc(), &mut [reader], (Err(UNKNOWN_KIND), b"")));
 }
 
-/// Compares the fault of three files, of which the second fails after `left` bytes.
-fn assert_decides(rt: &(impl Abort + AllocGlobal), first: &[u8], left: usize, fault: RunFault) {
-    let first = Gives::new(first, 7);
-    let second = Gives::new(&LATE_PARENT[..20], 7).failing_after(left.min(20));
-    let third = Gives::new(&[], 7);
-    assert_read(rt, &mut [first, second, third], (Err(fault), b""), left);
+/// The bytes of the first of three files, after how many the second fails, and the fault.
+struct Decides(&'static [u8], usize, RunFault);
+
+impl Row for Decides {
+    fn comes_out(&self, alloc: Global) -> Result<bool, Memory> {
+        let first = Gives::new(self.0, 7);
+        let second = Gives::new(&LATE_PARENT[..20], 7).failing_after(self.1);
+        let third = Gives::new(&[], 7);
+        Ok(is_read(alloc, &mut [first, second, third], (Err(self.2), b"")))
+    }
 }
+
+const DECIDES: &[Decides] = &[
+    Decides(&LATE_PARENT, 3, FIRST_LATE),
+    Decides(&TWO, 3, RunFault::ReadFailed(2)),
+    Decides(&TWO, 20, RunFault::ReadFailed(2)),
+];
 
 #[test]
 fn the_first_file_that_can_not_be_read_decides(rt: HostRuntime) {
-    let late = malformed(1, 1, Cause::ParentNotBefore);
-    assert_decides(&rt, &LATE_PARENT, 3, late);
-    assert_decides(&rt, &TWO, 3, RunFault::ReadFailed(2));
-    assert_decides(&rt, &TWO, 24, RunFault::ReadFailed(2));
+    assert_rows(&rt, DECIDES);
 }
