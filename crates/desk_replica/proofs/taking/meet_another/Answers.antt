@@ -1,5 +1,5 @@
 -- The goals of `meet_another` that are answered by hand.
-use Rattle.std.proofs.Common.{sym, arith}
+use Rattle.std.proofs.Common.{sym, arith, rules}
 use Rattle.desk_replica.proofs.DeskLists.{met_behind, met_before}
 use Rattle.desk_replica.proofs.taking.meet_another.Goals as goal
 
@@ -18,3 +18,23 @@ returns g c =
     let above = c.if-desk-from.false in
     met_before c.split_at_mut-front-2.result.0.now c.split_at_mut-front-2.result.1.now c.args.desks.now (sym c.split_at_mut-front-2.ensures.value) c.meet-2.new.desk c.meet-2.result (omega arith)
     c.args.desk c.args.from c.index-back-0-2.result c.index-front-from.result long (omega arith) c.meet-2.ensures
+
+pub bounds-front-desk : goal.bounds-front-desk
+bounds-front-desk g c =
+    let long = c.split_at_mut-front.ensures.front_len in
+    omega arith
+
+pub bounds-back-0 : goal.bounds-back-0
+bounds-back-0 g c =
+    let rest = c.split_at_mut-front.ensures.back_len in
+    omega arith
+
+pub bounds-back-0-2 : goal.bounds-back-0-2
+bounds-back-0-2 g c =
+    let rest = c.split_at_mut-front-2.ensures.back_len in
+    omega arith
+
+pub bounds-front-from : goal.bounds-front-from
+bounds-front-from g c =
+    let long = c.split_at_mut-front-2.ensures.front_len in
+    omega arith
