@@ -1,5 +1,5 @@
 -- The goals of `take_front` that are answered by hand.
-use Rattle.std.proofs.Common.{◌≡◌, true, false, List, None, Some, sym, ap, subst, ◌∙◌, true≢false, is_some}
+use Rattle.std.proofs.Common.{◌≡◌, true, false, List, None, Some, sym, ap, subst, ◌∙◌, true≢false, is_some, length, arith}
 use Rattle.std.specs.Prelude.{slice_get}
 use Rattle.std.specs.Option.{option_map_or}
 use Rattle.std.proofs.lemmas.Map.Made.{lookup_key_passes}
@@ -59,3 +59,21 @@ returns-clause-at c =
 
 pub returns-clause-cut : goal.returns-clause-cut
 returns-clause-cut c = lookup-updated c.args.slots.now.entries c.swap_remove.new.self.entries c.in_ok-at.first.now None c.swap_remove.ensures.updates.0
+
+pub returns-clause-first : goal.returns-clause-first
+returns-clause-first c = sym (lookup-id_eq c.args.firsts.now.entries c.in_ok-parent.field-0.now) ∙ sym c.in_ok-at.ensures.value
+
+pub returns-clause-slot : goal.returns-clause-slot
+returns-clause-slot c = sym (lookup-id_eq c.args.slots.now.entries c.in_ok-at.first.now) ∙ sym c.in_ok-slot.ensures.value
+
+pub returns-clause-len : goal.returns-clause-len
+returns-clause-len c = omega (arith, c.in_ok-slot.ensures.len)
+
+pub returns-clause-spare : goal.returns-clause-spare
+returns-clause-spare c = c.swap_remove.ensures.room.0
+
+pub returns-in_err-slot-clause-len : goal.returns-in_err-slot-clause-len
+returns-in_err-slot-clause-len c = omega (arith, ap length c.in_err-slot.ensures.unchanged)
+
+pub returns-in_err-slot-clause-spare : goal.returns-in_err-slot-clause-spare
+returns-in_err-slot-clause-spare c = c.swap_remove.ensures.room.0
