@@ -1,5 +1,5 @@
 -- The goals of `falling_with` that are answered by hand.
-use Rattle.std.proofs.Common.{◌≡◌, ◌<◌, ◌≤◌, ◌-◌, ◌∙◌, true, length, get_or, sym, arith}
+use Rattle.std.proofs.Common.{◌≡◌, ◌<◌, ◌≤◌, ◌+◌, ◌-◌, ◌∙◌, true, length, get_or, sym, arith}
 use Rattle.std.specs.Ordering.{is_lt}
 use Rattle.std.proofs.lemmas.List.{get_or_default}
 use Rattle.bg_types.specs.Identifier.{id_cmp}
@@ -38,3 +38,33 @@ returns-clause-falls c = λ n is.
       | else-at-row-via-else-at-row w ↦ absurd (omega (arith, w.if-at-row.false, less))
     ] in
     falls-insert es at falling falling n c.requires.within c.requires.falls (omega arith) (λ less. absurd (omega (arith, less, c.if-at-falling.false))) before after
+
+pub overflow_add-result : goal.overflow_add-result
+overflow_add-result c = omega arith
+
+pub overflow_add-result-then-not-is_below : goal.overflow_add-result-then-not-is_below
+overflow_add-result-then-not-is_below c = omega arith
+
+pub overflow_sub-at : goal.overflow_sub-at
+overflow_sub-at c = omega arith
+
+pub bounds-row-at : goal.bounds-row-at
+bounds-row-at c = omega arith
+
+pub bounds-row-at-then-falling-at : goal.bounds-row-at-then-falling-at
+bounds-row-at-then-falling-at c = omega arith
+
+pub bounds-row-at-then-falling-at-2 : goal.bounds-row-at-then-falling-at-2
+bounds-row-at-then-falling-at-2 c = omega arith
+
+pub returns-then-at-falling-clause-falls : goal.returns-then-at-falling-clause-falls
+returns-then-at-falling-clause-falls c = λ n is.
+    let falling = c.args.falling in
+    let low : c.args.at < falling = c.if-at-falling.true in
+    falls-insert c.args.row.now c.args.at falling (falling + 1) n c.requires.within c.requires.falls (omega arith) (λ _. omega arith) (λ d less. absurd (omega (arith, low, less))) (λ d le _. absurd (omega (arith, low, le)))
+
+pub returns-then-not-is_below-clause-falls : goal.returns-then-not-is_below-clause-falls
+returns-then-not-is_below-clause-falls c = λ n is.
+    let at = c.args.at in
+    let low : c.args.falling ≤ at = c.if-at-falling.false in
+    falls-insert c.args.row.now at c.args.falling (at + 1) n c.requires.within c.requires.falls (omega (arith, low)) (λ _. omega (arith, low)) (λ d less. absurd (omega (arith, less))) (λ d le _. absurd (omega (arith, le)))
