@@ -1,6 +1,6 @@
 //! The clusters of a paragraph.
 
-ghost use Rattle.std.specs.Prelude.{◌≡◌, ◌≤◌, length, IfOk};
+ghost use Rattle.std.specs.Prelude.{◌≡◌, ◌≤◌, [], length, vec_capacity, vec_len, IfOk};
 ghost use Rattle.std.specs.List.{All};
 ghost use Rattle.paragraphs.specs.Clusters.{cluster_sizes};
 ghost use Rattle.paragraphs.specs.Spans.{spans};
@@ -25,6 +25,21 @@ pub struct Outline {
     pub clusters: Vec<Cluster>,
 }
 
+impl Outline {
+    /// That of no clusters yet, with room for so many.
+    fn with_room(alloc: Global, clusters: usize) -> Result<Outline, Memory>
+        ensures spans { IfOk result (λ o. (o.spans.items ≡ []) × (vec_len o.spans ≡ 0) × (clusters ≤ vec_capacity o.spans)) }
+        ensures sizes { IfOk result (λ o. (o.sizes.items ≡ []) × (vec_len o.sizes ≡ 0) × (clusters ≤ vec_capacity o.sizes)) }
+        ensures clusters { IfOk result (λ o. (o.clusters.items ≡ []) × (vec_len o.clusters ≡ 0) × (clusters ≤ vec_capacity o.clusters)) }
+    {
+        Ok(Outline {
+            spans: Vec::with_capacity(alloc, clusters)?,
+            sizes: Vec::with_capacity(alloc, clusters)?,
+            clusters: Vec::with_capacity(alloc, clusters)?,
+        })
+    }
+}
+
 /// The clusters of a paragraph of at most 4,000,000 bytes. It is cut into clusters once, and each
 /// is measured once.
 pub fn outline_of(alloc: Global, tables: &Tables, para: &Para) -> Result<Outline, Memory>
@@ -38,11 +53,7 @@ pub fn outline_of(alloc: Global, tables: &Tables, para: &Para) -> Result<Outline
     laws::cluster_places();
     let statuses = opportunities(alloc, tables, para)?;
     // No paragraph has more clusters than code points.
-    let mut outline = Outline {
-        spans: Vec::with_capacity(alloc, statuses.len())?,
-        sizes: Vec::with_capacity(alloc, statuses.len())?,
-        clusters: Vec::with_capacity(alloc, statuses.len())?,
-    };
+    let mut outline = Outline::with_room(alloc, statuses.len())?;
     let length = para.text().len();
     let mut clusters = para.clusters();
     let mut byte = 0;

@@ -9,7 +9,7 @@ use Rattle.line_break.specs.declared.measure.Measure.{Measure}
 use Rattle.line_break.specs.Statuses.{breaks}
 use Rattle.line_break.proofs.Measuring.{IsMeasuredTo-start, line_clusters-end, IsMeasuredTo-on, measured-is, two-line_clusters}
 use Rattle.line_break.proofs.Measuring.{cluster-some as points-some, cluster-fits as points-within}
-use Rattle.line_break.proofs.Outlining.{IsUtf8-concat, IsOutlinedTo-start, cluster-fits, cluster-points, cluster-end, IsOutlinedTo-at, HasRoom-on}
+use Rattle.line_break.proofs.Outlining.{IsUtf8-concat, IsOutlinedTo-start, cluster-some, cluster-fits, cluster-points, cluster-end, IsOutlinedTo-at, HasRoom-on, spans-end, sizes-end}
 use Rattle.line_break.proofs.outline.outline_of.Goals as goal
 
 pub loop-measure-init : goal.loop-measure-init
@@ -20,14 +20,30 @@ loop-measure-init c =
     record {
       outlined =
           IsOutlinedTo-start text _ _ _ given.clusters given.utf8 given.some given.joined
-          c.in_ok-with_capacity.ensures.items c.in_ok-with_capacity-2.ensures.items;
+          c.in_ok-outline.ensures.spans.0 c.in_ok-outline.ensures.sizes.0;
       measured =
           IsMeasuredTo-start c.args.tables.now text _ _ given.clusters given.utf8
-          (c.cluster_places.ensures.some text u) (c.cluster_places.ensures.sum text u) c.in_ok-with_capacity-3.ensures.items;
-      spans = let n = c.in_ok-with_capacity.ensures.len in let m = c.in_ok-with_capacity.ensures.capacity in record { filled = omega arith; room = omega arith };
-      sizes = let n = c.in_ok-with_capacity-2.ensures.len in let m = c.in_ok-with_capacity-2.ensures.capacity in record { filled = omega arith; room = omega arith };
-      clusters = let n = c.in_ok-with_capacity-3.ensures.len in let m = c.in_ok-with_capacity-3.ensures.capacity in record { filled = omega arith; room = omega arith };
+          (c.cluster_places.ensures.some text u) (c.cluster_places.ensures.sum text u) c.in_ok-outline.ensures.clusters.0;
+      spans = let room = c.in_ok-outline.ensures.spans in record { filled = omega arith; room = omega arith };
+      sizes = let room = c.in_ok-outline.ensures.sizes in record { filled = omega arith; room = omega arith };
+      clusters = let room = c.in_ok-outline.ensures.clusters in record { filled = omega arith; room = omega arith };
     }
+
+pub of_next-requires-clause-some : goal.of_next-requires-clause-some
+of_next-requires-clause-some c = c.loop-measure.invariant.outlined.some
+
+pub of_next-requires-clause-few : goal.of_next-requires-clause-few
+of_next-requires-clause-few c =
+    let all = c.loop-measure.invariant.outlined.bytes in
+    omega (arith, c.requires)
+
+pub overflow_sub-span : goal.overflow_sub-span
+overflow_sub-span c =
+    let m = c.loop-measure.invariant.outlined in
+    let cluster = c.in-Some.ensures.cluster in
+    let some = cluster-some _ _ _ _ _ _ m cluster _ c.in-Some.ensures.taken in
+    let end = cluster-end _ _ _ _ _ _ m cluster _ c.in-Some.ensures.taken _ c.bytes_left.result (ap length c.text-length.ensures) c.bytes_left.ensures in
+    omega arith
 
 pub overflow_add-span : goal.overflow_add-span
 overflow_add-span c =
@@ -85,6 +101,9 @@ index-requires c =
     let all = ap length c.in_ok-statuses.ensures in
     omega arith
 
+pub loop-measure-smaller : goal.loop-measure-smaller
+loop-measure-smaller c = omega (arith, ap length c.in-Some.ensures.taken)
+
 pub loop-measure-preserved : goal.loop-measure-preserved
 loop-measure-preserved c =
     let t = c.args.tables.now in
@@ -111,6 +130,16 @@ loop-measure-preserved c =
       sizes = HasRoom-on _ _ _ _ here.size _ _ c.loop-measure.invariant.sizes (omega arith) c.push_reserved-in-Some.ensures.len c.push_reserved-in-Some.ensures.capacity;
       clusters = HasRoom-on _ _ _ _ here.size _ _ c.loop-measure.invariant.clusters (omega arith) c.push_reserved-in-Some-2.ensures.len c.push_reserved-in-Some-2.ensures.capacity;
     }
+
+pub returns-clause-spans : goal.returns-clause-spans
+returns-clause-spans c = spans-end _ _ _ _ _ _ c.loop-measure.invariant.outlined c.in_default.ensures
+
+pub returns-clause-sizes : goal.returns-clause-sizes
+returns-clause-sizes c = sizes-end _ _ _ _ _ _ c.loop-measure.invariant.outlined c.in_default.ensures
+
+pub returns-clause-clusters : goal.returns-clause-clusters
+returns-clause-clusters c =
+    line_clusters-end c.args.tables.now c.args.para.now.text _ _ c.loop-measure.place c.loop-measure.invariant.measured c.in_default.ensures
 
 pub returns-clause-columns : goal.returns-clause-columns
 returns-clause-columns c =
