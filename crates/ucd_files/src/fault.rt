@@ -5,46 +5,61 @@ ghost use Rattle.ucd_files.specs.declared.fault.UcdFault.TheVariants.{Memory as 
 ghost use Rattle.ucd_files.specs.FaultCode.{cause_code, fault_code};
 
 use std::alloc::AllocError;
-use thiserror::Error;
+use std::error::Error;
+use std::fmt;
 
 /// One of the five files.
-#[derive(Clone, Copy, Debug, PartialEq, Eq, Error)]
+#[derive(Clone, Copy, Debug, PartialEq, Eq)]
 pub enum UcdFile {
-    #[error("bidi")]
     Bidi,
-    #[error("brackets")]
     Brackets,
-    #[error("mirror")]
     Mirror,
-    #[error("lb")]
     Lb,
-    #[error("ea")]
     Ea,
 }
 
-/// What is wrong with a line.
-#[derive(Clone, Copy, Debug, PartialEq, Eq, Error)]
+/// Its name among the five arguments of a load.
+impl fmt::Display for UcdFile {
+    fn fmt<W: fmt::Write>(&self, f: &mut fmt::Formatter<W>) -> fmt::Result {
+        f.write_str(match self {
+            UcdFile::Bidi => "bidi",
+            UcdFile::Brackets => "brackets",
+            UcdFile::Mirror => "mirror",
+            UcdFile::Lb => "lb",
+            UcdFile::Ea => "ea",
+        })
+    }
+}
+
+impl Error for UcdFile {}
+
+/// What is wrong with a line. Each prints its bare name.
+#[derive(Clone, Copy, Debug, PartialEq, Eq)]
 pub enum Cause {
     /// A byte is not part of UTF-8.
-    #[error("BadUtf8")]
     BadUtf8,
     /// A code doesn't have 4 to 6 hexadecimal digits, is above 10FFFF or, as a paired or mirrored code,
     /// is a surrogate.
-    #[error("BadCode")]
     BadCode,
     /// The first code of a range is above its last.
-    #[error("BadRange")]
     BadRange,
     /// A named field is missing or empty.
-    #[error("MissingField")]
     MissingField,
     /// The value is none of those that the file may have.
-    #[error("UnknownValue")]
     UnknownValue,
 }
 
+/// Its bare name, as `Debug` writes it.
+impl fmt::Display for Cause {
+    fn fmt<W: fmt::Write>(&self, f: &mut fmt::Formatter<W>) -> fmt::Result {
+        fmt::Debug::fmt(self, f)
+    }
+}
+
+impl Error for Cause {}
+
 /// Why the files were not loaded.
-#[derive(Clone, Copy, Debug, PartialEq, Eq, Error)]
+#[derive(Clone, Copy, Debug, PartialEq, Eq, thiserror::Error)]
 pub enum UcdFault {
     /// A line, counted from 1, is faulty.
     #[error("{file} line {line}: {cause}")]

@@ -49,3 +49,18 @@ loop-line-preserved g c =
           ∙ c.loop-line.invariant.5 k d v),
       c.loop-line.invariant.6,
     )
+
+pub write-requires-clause-len : goal.write-requires-clause-len
+write-requires-clause-len g c = c.loop-line.invariant.3
+
+pub write-requires-clause-skips : goal.write-requires-clause-skips
+write-requires-clause-skips g c = c.loop-line.invariant.4
+
+pub loop-line-smaller-in-Some-said_in : goal.loop-line-smaller-in-Some-said_in
+loop-line-smaller-in-Some-said_in g c = omega (arith, ap length c.in-Some.ensures.steps)
+
+pub loop-line-smaller : goal.loop-line-smaller
+loop-line-smaller g c = omega (arith, ap length c.in-Some.ensures.steps)
+
+pub returns-clause-unset : goal.returns-clause-unset
+returns-clause-unset g c = c.loop-line.invariant.6
