@@ -11,15 +11,23 @@ use std::alloc::Global;
 use std::marker::Model;
 
 /// What a character does to the levels, and the place of the PDI that matches it.
-#[derive(Clone, Copy, Default)]
+#[derive(Clone, Copy)]
 pub(crate) struct Control {
     pub(crate) kind: Kind,
     pub(crate) pdi: Option<usize>,
 }
 
+impl Control {
+    /// That of a character that does nothing.
+    const NONE: Control = Control {
+        kind: Kind::Other,
+        pdi: None,
+    };
+}
+
 /// A PDI that no initiator read so far has matched, and whether what stands after it, up to the next such
 /// one, is right to left.
-#[derive(Clone, Copy, Default)]
+#[derive(Clone, Copy)]
 struct OpenPdi {
     place: usize,
     odd: bool,
@@ -121,7 +129,7 @@ fn kind_of(odd: bool, class: Bidi) -> Kind
 pub(crate) fn controls(alloc: Global, classes: &[Bidi]) -> Result<Vec<Control>, Memory>
     ensures { IfOk result (λ controls. controls.items ≡ controls_from 0 classes.now) }
 {
-    let mut controls = vec![in alloc; Control::default(); classes.len()]?;
+    let mut controls = vec![in alloc; Control::NONE; classes.len()]?;
     let mut matcher = Matcher::new(alloc);
     for place in (0..classes.len()).rev() {
         controls[place] = matcher.pass(place, classes[place])?;

@@ -17,7 +17,7 @@ pub(crate) struct Entry {
 }
 
 /// What a class does to the levels.
-#[derive(Clone, Copy, Default)]
+#[derive(Clone, Copy)]
 pub(crate) enum Kind {
     /// Whether an odd level is wanted, and the override.
     Embedding(bool, Option<Bidi>),
@@ -25,6 +25,5 @@ pub(crate) enum Kind {
     Initiator(bool),
     PopIsolate,
     PopEmbedding,
-    #[default]
     Other,
 }
