@@ -2,12 +2,16 @@
 
 ghost use Rattle.std.specs.Prelude.{◌≡◌, ◌<◌, ◌↔◌, IfOk, IfSome, IsTrue, length, replicate, sum, None};
 ghost use Rattle.std.specs.List.{All, filter};
+ghost use Rattle.paragraphs.specs.Text.{code_points};
+ghost use Rattle.bidi_weak_neutral.specs.Levels.{levels_of};
+ghost use Rattle.reorder.specs.LineLevels.{line_levels_of};
+ghost use Rattle.reorder.specs.VisualList.{visual_list};
 ghost use Rattle.conformance.specs.Came.{IsLineOf, IsOneParagraph};
 ghost use Rattle.conformance.specs.Agreement.{is_level, EachIsLevel, AreLevels, is_wanted_at};
 
 use crate::fault::{LineFault, RunFault};
 use bg_types::{Base, Memory};
-use bidi_explicit::explicit;
+use bidi_explicit::paragraph_level;
 use bidi_weak_neutral::levels;
 use paragraphs::{Para, split};
 use reorder::{line_levels, visual};
@@ -57,19 +61,39 @@ fn paragraph_line(
 ) -> Result<BidiLine, RunFault>
     ensures { IfOk result (IsLineOf tables.now base para.now.text) }
 {
-    let level = explicit(alloc, tables, para, base)?.level();
-    let resolved = levels(alloc, tables, para, base)?;
-    let sizes = ones(alloc, resolved.len())?;
-    let levels = line_levels(alloc, tables, para.text(), &resolved, &sizes, level)?;
-    if levels.len() > LONGEST {
-        return Err(RunFault::Line(0, LineFault::TooLong));
-    }
-    let order = visual(alloc, &levels)?;
+    let level = paragraph_level(tables, para, base);
+    let levels = levels_of_line(alloc, tables, base, para, level)?;
+    let order = order_of(alloc, &levels)?;
     Ok(BidiLine {
         level,
         levels,
         order,
     })
+}
+
+/// The levels of a paragraph of this level after L1.
+fn levels_of_line(
+    alloc: Global,
+    tables: &Tables,
+    base: Base,
+    para: &Para,
+    level: u8,
+) -> Result<Vec<u8>, Memory>
+    ensures { IfOk result (λ levels. levels.items ≡ line_levels_of tables.now para.now.text (levels_of tables.now base para.now.text) (replicate (length (code_points para.now.text)) 1) level) }
+{
+    let resolved = levels(alloc, tables, para, base)?;
+    let sizes = ones(alloc, resolved.len())?;
+    line_levels(alloc, tables, para.text(), &resolved, &sizes, level)
+}
+
+/// The order of a line of these levels, unless it is too long.
+fn order_of(alloc: Global, levels: &[u8]) -> Result<Vec<u32>, RunFault>
+    ensures { IfOk result (λ order. order.items ≡ visual_list levels.now) }
+{
+    if levels.len() > LONGEST {
+        return Err(RunFault::Line(0, LineFault::TooLong));
+    }
+    Ok(visual(alloc, levels)?)
 }
 
 /// The sizes of a number of clusters of one code point.

@@ -4,7 +4,6 @@ use crate::class::point_of;
 use crate::fault::{LineFault, RunFault};
 use crate::field;
 use bg_types::Base;
-use std::alloc::Global;
 
 /// The levels and the order that are wanted for a line of text.
 #[derive(Drop)]
@@ -17,22 +16,13 @@ pub struct Wanted {
     pub order: Vec<u32>,
 }
 
-/// A line of `BidiCharacterTest.txt`.
-#[derive(Drop)]
-pub struct CharacterCase {
-    pub text: String,
-    /// The direction that is asked for.
-    pub base: Base,
-    pub wanted: Wanted,
-}
-
 /// A line of `BidiTest.txt`.
-#[derive(Drop)]
-pub enum ClassLine {
-    Levels(Vec<Option<u8>>),
-    Order(Vec<u32>),
-    /// A text, and the bits of the directions for which the last levels and order are wanted.
-    Case { text: String, directions: u8 },
+#[derive(Clone, Copy)]
+pub enum ClassLine<'a> {
+    Levels(&'a str),
+    Order(&'a str),
+    /// The classes of a text, and the bits of the directions for which the last levels and order are wanted.
+    Case { classes: &'a str, directions: u8 },
     /// A line of a kind that is to be ignored.
     Other,
 }
@@ -46,71 +36,75 @@ pub struct BreakCase {
 
 const BAD_LINE: RunFault = RunFault::Line(0, LineFault::BadLine);
 
-/// Reads a line of `BidiCharacterTest.txt`.
-pub fn character_case(alloc: Global, line: &str) -> Result<CharacterCase, RunFault> {
+/// Reads a line of `BidiCharacterTest.txt`, in place of the text before and of what was wanted of
+/// it, and gives the direction that is asked for.
+pub fn read_characters(
+    line: &str,
+    text: &mut String,
+    wanted: &mut Wanted,
+) -> Result<Base, RunFault> {
     let mut fields = line.split(';');
-    let text = field::text(alloc, fields.next().unwrap_or(""))?;
-    let base = match fields.next().unwrap_or("") {
-        "0" => Base::Left,
-        "1" => Base::Right,
-        "2" => Base::Auto,
-        _ => return Err(BAD_LINE),
-    };
-    let level = field::number(fields.next().unwrap_or(""))?;
-    let levels = field::levels(alloc, fields.next().ok_or(BAD_LINE)?)?;
-    let order = field::places(alloc, fields.next().ok_or(BAD_LINE)?)?;
-    Ok(CharacterCase {
-        text,
-        base,
-        wanted: Wanted {
-            level: Some(level),
-            levels,
-            order,
-        },
-    })
+    field::read_text(fields.next().unwrap_or(""), text)?;
+    let base = base_of(fields.next().unwrap_or(""))?;
+    wanted.level = Some(field::number(fields.next().unwrap_or(""))?);
+    field::read_levels(fields.next().ok_or(BAD_LINE)?, &mut wanted.levels)?;
+    field::read_places(fields.next().ok_or(BAD_LINE)?, &mut wanted.order)?;
+    Ok(base)
 }
 
-/// Reads a line of `BidiTest.txt`.
-pub fn class_line(alloc: Global, line: &str) -> Result<ClassLine, RunFault> {
+/// The direction that a field asks for.
+fn base_of(field: &str) -> Result<Base, RunFault> {
+    match field {
+        "0" => Ok(Base::Left),
+        "1" => Ok(Base::Right),
+        "2" => Ok(Base::Auto),
+        _ => Err(BAD_LINE),
+    }
+}
+
+/// What a line of `BidiTest.txt` is.
+pub fn class_line(line: &str) -> Result<ClassLine<'_>, RunFault> {
     if let Some(levels) = line.strip_prefix("@Levels:") {
-        return Ok(ClassLine::Levels(field::levels(alloc, levels)?));
+        return Ok(ClassLine::Levels(levels));
     }
     if let Some(order) = line.strip_prefix("@Reorder:") {
-        return Ok(ClassLine::Order(field::places(alloc, order)?));
+        return Ok(ClassLine::Order(order));
     }
     if line.starts_with('@') {
         return Ok(ClassLine::Other);
     }
     let (classes, bits) = line.split_once(';').ok_or(BAD_LINE)?;
-    let Ok(directions) = u8::from_str_radix(bits.trim(), 16) else {
-        return Err(BAD_LINE);
-    };
-    let text = classes_text(alloc, classes)?;
-    Ok(ClassLine::Case { text, directions })
+    match u8::from_str_radix(bits.trim(), 16) {
+        Ok(directions) => Ok(ClassLine::Case {
+            classes,
+            directions,
+        }),
+        Err(_) => Err(BAD_LINE),
+    }
 }
 
-/// A text that has a code point of each class of a list.
-fn classes_text(alloc: Global, classes: &str) -> Result<String, RunFault> {
-    let mut text = String::new(alloc);
+/// Makes a text that has a code point of each class of a list, in place of the one before.
+pub fn read_classes(classes: &str, text: &mut String) -> Result<(), RunFault> {
+    text.clear();
     for class in classes.split_whitespace() {
         text.push(point_of(class).ok_or(BAD_LINE)?)?;
     }
-    Ok(text)
+    Ok(())
 }
 
 /// Reads a line of `LineBreakTest.txt`: a mark, and then a code point and a mark in turn.
-pub fn break_case(alloc: Global, line: &str) -> Result<BreakCase, RunFault> {
-    let mut text = String::new(alloc);
-    let mut breaks = Vec::new(alloc);
+pub fn read_breaks(line: &str, case: &mut BreakCase) -> Result<(), RunFault> {
+    case.text.clear();
+    case.breaks.clear();
     let mut words = line.split_whitespace();
     if is_break(words.next().unwrap_or(""))? {
         return Err(BAD_LINE);
     }
     while let Some(word) = words.next() {
-        text.push(field::code_point(word)?)?;
-        breaks.push(is_break(words.next().unwrap_or(""))?)?;
+        case.text.push(field::code_point(word)?)?;
+        case.breaks.push(is_break(words.next().unwrap_or(""))?)?;
     }
-    Ok(BreakCase { text, breaks })
+    Ok(())
 }
 
 /// Whether a mark is that of a break.

@@ -10,15 +10,15 @@ ghost use Rattle.conformance.specs.declared.tally.Verdict.TheVariants.{Agrees, D
 use crate::bidi::{BidiLine, are_levels, is_level, line_of, wanted_places};
 use crate::breaks::breaks_of;
 use crate::case::{
-    BreakCase, CharacterCase, ClassLine, Wanted, break_case, character_case, class_line,
+    BreakCase, ClassLine, Wanted, class_line, read_breaks, read_characters, read_classes,
 };
 use crate::choice::choice_of;
 use crate::fault::{LineFault, RunFault};
-use crate::field::content;
-use crate::report::{summary, tell_breaks, tell_levels};
+use crate::field::{content, read_levels, read_places};
+use crate::report::{put_summary, tell_breaks, tell_levels};
 use crate::tally::{Tally, Verdict};
 use crate::test_file::TestFile;
-use bg_types::{Base, Device, Sink, put_all};
+use bg_types::{Base, Sink, put_all};
 use std::alloc::Global;
 use std::io::{BufRead, ErrorKind};
 use ucd_files::Tables;
@@ -42,8 +42,12 @@ struct Comparison<'a> {
     alloc: Global,
     tables: &'a Tables,
     tally: Tally,
-    /// What the last lines `@Levels` and `@Reorder` said.
+    /// The text that is compared.
+    text: String,
+    /// What is wanted of it: in `BidiTest.txt` what the last lines `@Levels` and `@Reorder` said.
     wanted: Wanted,
+    /// The case of a line of `LineBreakTest.txt`.
+    breaks: BreakCase,
     /// The report of the last case that differed.
     told: Option<String>,
 }
@@ -58,9 +62,20 @@ pub fn run<B: BufRead, S: Sink>(
     out: &mut S,
 ) -> Result<Tally, RunFault> {
     let tally = compare_all(alloc, tables, kind, file, out)?;
-    let text = summary(alloc, kind.name(), &tally)?;
-    put_text(out, text.as_str())?;
-    Ok(tally)
+    let mut text = String::new(alloc);
+    let done = tell_all(kind, &tally, &mut text, out);
+    done.map(|()| tally)
+}
+
+/// Writes the line of counts.
+fn tell_all<S: Sink>(
+    kind: TestFile,
+    tally: &Tally,
+    text: &mut String,
+    out: &mut S,
+) -> Result<(), RunFault> {
+    put_summary(text, kind.name(), tally)?;
+    put_text(out, text.as_str())
 }
 
 /// Compares the cases of a test file, and writes the first 20 that differ. Makes what a run owns, and lends it: each way out of a
@@ -79,11 +94,23 @@ fn compare_all<B: BufRead, S: Sink>(
 }
 
 /// Writes a text to a sink, which may have failed before.
-fn put_text<S: Sink>(out: &mut S, text: &str) -> Result<(), Device> {
+fn put_text<S: Sink>(out: &mut S, text: &str) -> Result<(), RunFault> {
     if out.failed() {
-        return Err(Device);
+        return Err(RunFault::Device);
     }
-    put_all(out, text.as_bytes())
+    Ok(put_all(out, text.as_bytes())?)
+}
+
+/// Writes the report of a case of a line.
+fn put_told<S: Sink>(
+    alloc: Global,
+    kind: TestFile,
+    number: u64,
+    told: &str,
+    out: &mut S,
+) -> Result<(), RunFault> {
+    let text = format!(in alloc; "{} line {number}: {told}\n", kind.name())?;
+    put_text(out, text.as_str())
 }
 
 /// A fault of the line of this number.
@@ -110,10 +137,15 @@ impl<'a> Comparison<'a> {
             alloc,
             tables,
             tally: Tally::default(),
+            text: String::new(alloc),
             wanted: Wanted {
                 level: None,
                 levels: Vec::new(alloc),
                 order: Vec::new(alloc),
+            },
+            breaks: BreakCase {
+                text: String::new(alloc),
+                breaks: Vec::new(alloc),
             },
             told: None,
         }
@@ -140,12 +172,10 @@ impl<'a> Comparison<'a> {
 
     /// Writes the report of the last case that differed, if it is kept.
     fn tell<S: Sink>(&mut self, kind: TestFile, number: u64, out: &mut S) -> Result<(), RunFault> {
-        let Some(told) = self.told.take() else {
-            return Ok(());
-        };
-        let text = format!(in self.alloc; "{} line {number}: {told}\n", kind.name())?;
-        put_text(out, text.as_str())?;
-        Ok(())
+        match self.told.take() {
+            Some(told) => put_told(self.alloc, kind, number, told.as_str(), out),
+            None => Ok(()),
+        }
     }
 
     /// Compares the cases of a line.
@@ -189,43 +219,46 @@ impl<'a> Comparison<'a> {
     fn take_characters(&mut self, line: &str) -> Result<(), RunFault>
         ensures once { OnOk result (cases_of self.new.tally ≡ cases_of self.old.tally + 1) }
     {
-        let CharacterCase { text, base, wanted } = character_case(self.alloc, line)?;
-        let found = compare_line(self.alloc, self.tables, text.as_str(), base, &wanted)?;
-        self.keep(found)
+        let base = read_characters(line, &mut self.text, &mut self.wanted)?;
+        self.take_direction(base)
     }
 
     fn take_classes(&mut self, line: &str) -> Result<(), RunFault> {
-        match class_line(self.alloc, line)? {
-            ClassLine::Levels(levels) => self.wanted.levels = levels,
-            ClassLine::Order(order) => self.wanted.order = order,
-            ClassLine::Case { text, directions } => {
-                self.take_directions(text.as_str(), directions)?;
+        match class_line(line)? {
+            ClassLine::Levels(levels) => read_levels(levels, &mut self.wanted.levels),
+            ClassLine::Order(order) => read_places(order, &mut self.wanted.order),
+            ClassLine::Case {
+                classes,
+                directions,
+            } => {
+                read_classes(classes, &mut self.text)?;
+                self.take_directions(directions)
             }
-            ClassLine::Other => {}
+            ClassLine::Other => Ok(()),
         }
-        Ok(())
     }
 
-    /// Compares a text for each direction that is asked for.
-    fn take_directions(&mut self, text: &str, directions: u8) -> Result<(), RunFault>
+    /// Compares the text for each direction that is asked for.
+    fn take_directions(&mut self, directions: u8) -> Result<(), RunFault>
         ensures each { OnOk result (cases_of self.new.tally ≡ cases_of self.old.tally + asked_of directions) }
     {
         if directions & AUTOMATIC != 0 {
-            self.take_direction(text, Base::Auto)?;
+            self.take_direction(Base::Auto)?;
         }
         if directions & LEFT_TO_RIGHT != 0 {
-            self.take_direction(text, Base::Left)?;
+            self.take_direction(Base::Left)?;
         }
         if directions & RIGHT_TO_LEFT != 0 {
-            self.take_direction(text, Base::Right)?;
+            self.take_direction(Base::Right)?;
         }
         Ok(())
     }
 
-    /// Compares a text with what the last lines `@Levels` and `@Reorder` want.
-    fn take_direction(&mut self, text: &str, base: Base) -> Result<(), RunFault>
+    /// Compares the text with what is wanted of it.
+    fn take_direction(&mut self, base: Base) -> Result<(), RunFault>
         ensures once { OnOk result (cases_of self.new.tally ≡ cases_of self.old.tally + 1) }
     {
+        let text = self.text.as_str();
         let found = compare_line(self.alloc, self.tables, text, base, &self.wanted)?;
         self.keep(found)
     }
@@ -234,8 +267,8 @@ impl<'a> Comparison<'a> {
     fn take_breaks(&mut self, line: &str) -> Result<(), RunFault>
         ensures once { OnOk result (cases_of self.new.tally ≡ cases_of self.old.tally + 1) }
     {
-        let case = break_case(self.alloc, line)?;
-        let found = compare_breaks(self.alloc, self.tables, &case)?;
+        read_breaks(line, &mut self.breaks)?;
+        let found = compare_breaks(self.alloc, self.tables, &self.breaks)?;
         self.keep(found)
     }
 }

@@ -3,7 +3,6 @@
 ghost use Rattle.std.specs.Prelude.{◌≡◌, None, IfOk, codes};
 
 use crate::fault::{LineFault, RunFault};
-use std::alloc::Global;
 
 const BAD_LINE: RunFault = RunFault::Line(0, LineFault::BadLine);
 
@@ -31,13 +30,13 @@ pub fn number(word: &str) -> Result<u8, RunFault> {
     }
 }
 
-/// The levels that a field lists, `None` for an `x`.
-pub fn levels(alloc: Global, field: &str) -> Result<Vec<Option<u8>>, RunFault> {
-    let mut levels = Vec::new(alloc);
+/// Reads the levels that a field lists, `None` for an `x`, in place of those before.
+pub fn read_levels(field: &str, levels: &mut Vec<Option<u8>>) -> Result<(), RunFault> {
+    levels.clear();
     for word in field.split_whitespace() {
         levels.push(level(word)?)?;
     }
-    Ok(levels)
+    Ok(())
 }
 
 /// The level that a word writes, `None` for an `x`.
@@ -50,23 +49,23 @@ fn level(word: &str) -> Result<Option<u8>, RunFault>
     }
 }
 
-/// The places that a field lists.
-pub fn places(alloc: Global, field: &str) -> Result<Vec<u32>, RunFault> {
-    let mut places = Vec::new(alloc);
+/// Reads the places that a field lists, in place of those before.
+pub fn read_places(field: &str, places: &mut Vec<u32>) -> Result<(), RunFault> {
+    places.clear();
     for word in field.split_whitespace() {
         match word.parse() {
             Ok(place) => places.push(place)?,
             Err(_) => return Err(BAD_LINE),
         }
     }
-    Ok(places)
+    Ok(())
 }
 
-/// The text whose code points a field lists in hexadecimal.
-pub fn text(alloc: Global, field: &str) -> Result<String, RunFault> {
-    let mut text = String::new(alloc);
+/// Reads the text whose code points a field lists in hexadecimal, in place of the one before.
+pub fn read_text(field: &str, text: &mut String) -> Result<(), RunFault> {
+    text.clear();
     for word in field.split_whitespace() {
         text.push(code_point(word)?)?;
     }
-    Ok(text)
+    Ok(())
 }

@@ -26,7 +26,7 @@ use std::io::{self, BufRead, BufReader, BufWriter, Write};
 use std::process::ExitCode;
 pub use tally::{Choice, Tally, Verdict};
 pub use test_file::TestFile;
-use ucd_files::Tables;
+use ucd_files::{Tables, Ucd};
 
 /// The name at the front of the line about a fault.
 const NAME: &str = "conformance";
@@ -48,7 +48,12 @@ fn compare_all(rt: &HostRuntime, folder: &str, files: &[&str]) -> ExitCode {
         Ok(data) => data,
         Err(unread) => return refuse(rt, &unread),
     };
-    match data.ucd(false).load(rt.alloc()) {
+    compare_by(rt, folder, &data.ucd(false), files)
+}
+
+/// Runs the test files by the data files of a folder.
+fn compare_by(rt: &HostRuntime, folder: &str, ucd: &Ucd, files: &[&str]) -> ExitCode {
+    match ucd.load(rt.alloc()) {
         Ok(tables) => compare_each(rt, &tables, files),
         Err(fault) => refuse_at(rt, folder, RunFault::from(fault)),
     }

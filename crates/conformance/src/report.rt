@@ -14,17 +14,27 @@ pub fn tell_levels(
     came: &BidiLine,
     places: &[u32],
 ) -> Result<String, RunFault> {
-    let mut text = String::from_str(alloc, "wanted levels")?;
-    put_levels(&mut text, &wanted.levels)?;
+    let mut text = String::new(alloc);
+    let told = put_line(&mut text, wanted, came, places);
+    told.map(|()| text)
+}
+
+fn put_line(
+    text: &mut String,
+    wanted: &Wanted,
+    came: &BidiLine,
+    places: &[u32],
+) -> Result<(), RunFault> {
+    text.push_str("wanted levels")?;
+    put_levels(text, &wanted.levels)?;
     text.push_str(" order")?;
-    put_numbers(&mut text, &wanted.order)?;
+    put_numbers(text, &wanted.order)?;
     text.push_str(", came levels")?;
     for level in &came.levels {
         write!(text, " {level}")?;
     }
     text.push_str(" order")?;
-    put_numbers(&mut text, places)?;
-    Ok(text)
+    put_numbers(text, places)
 }
 
 /// What breaks of a text are wanted, and which came.
@@ -34,11 +44,21 @@ pub fn tell_breaks(
     wanted: &[bool],
     came: &[bool],
 ) -> Result<String, RunFault> {
-    let mut told = String::from_str(alloc, "wanted ×")?;
-    put_marks(&mut told, text, wanted)?;
+    let mut told = String::new(alloc);
+    let whole = put_breaks(&mut told, text, wanted, came);
+    whole.map(|()| told)
+}
+
+fn put_breaks(
+    told: &mut String,
+    text: &str,
+    wanted: &[bool],
+    came: &[bool],
+) -> Result<(), RunFault> {
+    told.push_str("wanted ×")?;
+    put_marks(told, text, wanted)?;
     told.push_str(", came ×")?;
-    put_marks(&mut told, text, came)?;
-    Ok(told)
+    put_marks(told, text, came)
 }
 
 fn put_levels(text: &mut String, levels: &[Option<u8>]) -> Result<(), RunFault> {
@@ -72,14 +92,13 @@ fn put_marks(told: &mut String, text: &str, breaks: &[bool]) -> Result<(), RunFa
     Ok(())
 }
 
-/// The line of counts.
-pub fn summary(alloc: Global, name: &str, tally: &Tally) -> Result<String, RunFault> {
+/// Writes the line of counts.
+pub fn put_summary(text: &mut String, name: &str, tally: &Tally) -> Result<(), RunFault> {
     let cases = tally.cases();
     let agree = tally.agree;
     let differ = tally.differ;
     let pairs = tally.pairs;
     let pictographs = tally.pictographs;
-    let mut text = String::new(alloc);
     write!(
         text,
         "{name}: {cases} cases, {agree} agree, {differ} differ"
@@ -88,5 +107,5 @@ pub fn summary(alloc: Global, name: &str, tally: &Tally) -> Result<String, RunFa
         write!(text, ", by choice {pairs} LB25 {pictographs} LB30b")?;
     }
     text.push_str("\n")?;
-    Ok(text)
+    Ok(())
 }
