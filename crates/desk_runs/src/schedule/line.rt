@@ -1,9 +1,9 @@
 //! One line of a schedule.
 
-ghost use Rattle.std.specs.Prelude.{◌≡◌, Ok, Err, IfOk, IfSome, MatchResult};
+ghost use Rattle.std.specs.Prelude.{◌≡◌, Some, Ok, Err, IfOk, IfSome, MatchResult};
 ghost use Rattle.op_listing.specs.Words.{words};
 ghost use Rattle.desk_files.specs.Files.{lists_of};
-ghost use Rattle.desk_runs.specs.Schedule.{count_in, is_among as is_one_of, is_comment, line_says, step_in, IsStepOf, take_in, merge_in, show_in};
+ghost use Rattle.desk_runs.specs.Schedule.{count_in, is_among as is_one_of, is_comment, line_says, step_in, IsStepOf, take_of, take_in, merge_in, show_in};
 
 use super::step::Step;
 use bg_types::Op;
@@ -64,6 +64,19 @@ fn read_take(fields: &[u8], files: &[Vec<Op>]) -> Result<Step, ScheduleFault>
     let desk = read_count(desk).ok_or(ScheduleFault::BadNumber)?;
     let file = read_count(file).ok_or(ScheduleFault::BadNumber)?;
     let op = read_count(op).ok_or(ScheduleFault::BadNumber)?;
+    tested_take(desk, file, op, files)
+}
+
+/// The step by which a desk takes an operation of a file, if all three are there.
+fn tested_take(
+    desk: usize,
+    file: usize,
+    op: usize,
+    files: &[Vec<Op>],
+) -> Result<Step, ScheduleFault>
+    ensures said { result ≡ take_of (lists_of files.now) (Some desk) (Some file) (Some op) }
+    ensures there { IfOk result (IsStepOf (lists_of files.now)) }
+{
     if !is_among(desk, files.len()) {
         return Err(ScheduleFault::NoSuchDesk);
     }
