@@ -3,7 +3,7 @@
 ghost use Rattle.std.specs.Prelude.{◌≡◌, Some, Ok, Err, IfOk, IfSome, MatchResult};
 ghost use Rattle.op_listing.specs.Words.{words};
 ghost use Rattle.desk_files.specs.Files.{lists_of};
-ghost use Rattle.desk_runs.specs.Schedule.{count_in, is_among as is_one_of, is_comment, line_says, step_in, IsStepOf, take_of, take_in, merge_in, show_in};
+ghost use Rattle.desk_runs.specs.Schedule.{count_in, is_among as is_one_of, is_comment, line_says, step_in, IsStepOf, take_of, merge_of, show_of, take_in, merge_in, show_in};
 
 use super::step::Step;
 use bg_types::Op;
@@ -98,6 +98,14 @@ fn read_merge(fields: &[u8], files: &[Vec<Op>]) -> Result<Step, ScheduleFault>
     let (desk, from) = two_words(fields).ok_or(ScheduleFault::WrongWords)?;
     let desk = read_count(desk).ok_or(ScheduleFault::BadNumber)?;
     let from = read_count(from).ok_or(ScheduleFault::BadNumber)?;
+    tested_merge(desk, from, files)
+}
+
+/// The step by which a desk takes all that another holds, if both are there.
+fn tested_merge(desk: usize, from: usize, files: &[Vec<Op>]) -> Result<Step, ScheduleFault>
+    ensures said { result ≡ merge_of (lists_of files.now) (Some desk) (Some from) }
+    ensures there { IfOk result (IsStepOf (lists_of files.now)) }
+{
     if !is_among(desk, files.len()) || !is_among(from, files.len()) {
         return Err(ScheduleFault::NoSuchDesk);
     }
@@ -112,6 +120,14 @@ fn read_show(fields: &[u8], files: &[Vec<Op>]) -> Result<Step, ScheduleFault>
 {
     let desk = one_word(fields).ok_or(ScheduleFault::WrongWords)?;
     let desk = read_count(desk).ok_or(ScheduleFault::BadNumber)?;
+    tested_show(desk, files)
+}
+
+/// The step by which a desk is shown, if it is there.
+fn tested_show(desk: usize, files: &[Vec<Op>]) -> Result<Step, ScheduleFault>
+    ensures said { result ≡ show_of (lists_of files.now) (Some desk) }
+    ensures there { IfOk result (IsStepOf (lists_of files.now)) }
+{
     if !is_among(desk, files.len()) {
         return Err(ScheduleFault::NoSuchDesk);
     }
