@@ -110,9 +110,29 @@ frame_within at old piece kept after f n n_is kept_is takes cut =
 
 -- ---- a header that a piece completes
 
-pub header_completed : (version : Version) (old piece kept after : List ℕ) (n : ℕ) → kept ≡ old ++ take n piece → kept ≡ header version ++ after → header_cause (old ++ piece) ≡ None
-header_completed version old piece kept after n kept_is read =
-    let whole : old ++ piece ≡ header version ++ (after ++ drop n piece) =
+-- a piece completes a header: it stands in front of all the bytes
+header_whole : (version : Version) (old piece kept after : List ℕ) (n : ℕ) → kept ≡ old ++ take n piece → kept ≡ header version ++ after → old ++ piece ≡ header version ++ (after ++ drop n piece)
+header_whole version old piece kept after n kept_is read =
     ap (λ (s : List ℕ). old ++ s) (sym (take-append-drop n piece)) ∙ sym (append_assoc old (take n piece) (drop n piece)) ∙ ap (λ (s : List ℕ). s ++ drop n piece) (sym kept_is ∙ read)
-    ∙ append_assoc (header version) after (drop n piece) in
-    ap header_cause whole ∙ header_cause-header version (after ++ drop n piece)
+    ∙ append_assoc (header version) after (drop n piece)
+
+pub header_completed : (version : Version) (old piece kept after : List ℕ) (n : ℕ) → kept ≡ old ++ take n piece → kept ≡ header version ++ after → header_cause (old ++ piece) ≡ None
+header_completed version old piece kept after n kept_is read = ap header_cause (header_whole version old piece kept after n kept_is read) ∙ header_cause-header version (after ++ drop n piece)
+
+-- what lacks a byte is shorter than a header
+pub cut_header : (old : List ℕ) → header_cause old ≡ Some Truncated → length old < 5
+cut_header old cut = elim (header_settles old []) [
+  | missing e few ↦ few
+  | settled e never ↦ absurd (never cut)
+]
+
+-- what follows the header is of the piece
+pub header_read : (version : Version) (old piece kept after : List ℕ) (n : ℕ) → n ≡ min (length piece) (5 - length old) → header_cause old ≡ Some Truncated → kept ≡ old ++ take n piece → kept ≡ header version ++ after
+    → old ++ piece ≡ header version ++ take (length piece - n) (drop n piece)
+header_read version old piece kept after n n_is cut kept_is read =
+    let few = cut_header old cut in
+    let sizes : length old + length (take n piece) ≡ length (header version) + length after =
+    sym (length-append old (take n piece)) ∙ ap (λ (s : List ℕ). length s) (sym kept_is ∙ read) ∙ length-append (header version) after in
+    let none : [] ≡ after = take_all 0 after (omega (arith, few, sizes, length-take n piece, n_is)) in
+    let rest = take_all (length piece - n) (drop n piece) (omega (arith, length-drop n piece)) in
+    header_whole version old piece kept after n kept_is read ∙ (λ i. header version ++ (sym none i ++ sym rest i))

@@ -8,6 +8,7 @@ pub mod Faultless
 pub mod Unique
 pub mod Shown
 pub mod Complete
+pub mod Causes
 pub mod Runs
 pub mod Gathers
 pub mod Written

@@ -2,7 +2,7 @@
 use Rattle.std.proofs.Common.{sym, ap, ◌∙◌, arith, take, length}
 use Rattle.std.proofs.Math.Seq.{take-append_seam}
 use Rattle.op_codec.specs.Fault.{header_cause}
-use Rattle.op_codec.proofs.Cuts.{header_kept, header_completed}
+use Rattle.op_codec.proofs.Cuts.{header_kept, header_completed, cut_header, header_read}
 use Rattle.op_codec.proofs.cut.complete_header.Goals as goal
 
 pub returns-in-Err-clause-none : goal.returns-in-Err-clause-none
@@ -19,3 +19,11 @@ returns-in-Err-clause-grown c = ap (take (length c.args.kept.now.items)) c.appen
 
 pub returns-in-Ok-clause-grown : goal.returns-in-Ok-clause-grown
 returns-in-Ok-clause-grown c = ap (take (length c.args.kept.now.items)) c.append.ensures ∙ take-append_seam c.args.kept.now.items _
+
+pub overflow_sub-len : goal.overflow_sub-len
+overflow_sub-len c = omega (arith, cut_header c.args.kept.now.items c.requires, c.len.ensures.value)
+
+pub returns-in-Ok-clause-some : goal.returns-in-Ok-clause-some
+returns-in-Ok-clause-some c =
+    header_read c.in-Ok.read.0 c.args.kept.now.items c.args.piece.now c.append.new.kept.items c.in-Ok.read.1.now c.min-taken.result (omega (arith, c.min-taken.ensures, c.len.ensures.value)) c.requires c.append.ensures
+    (sym c.deref.ensures.0 ∙ c.in-Ok.ensures.ok)
