@@ -21,7 +21,7 @@ pub type Table<V> = IndexMap<Id, V, Keyed>;
 pub type Names = IndexSet<Id, Keyed>;
 
 /// A held insertion, with the next one that names its parent.
-#[derive(Clone, Copy, Debug)]
+#[derive(Clone, Copy)]
 pub struct Slot {
     pub parent: Place,
     pub ch: char,
@@ -92,7 +92,7 @@ pub fn append_chain(slots: &Table<Slot>, firsts: &Table<Id>, parent: Id, queue: 
 }
 
 /// The front of the last released parent's chain, and where that chain stands among `firsts`.
-#[derive(Clone, Copy, Debug)]
+#[derive(Clone, Copy)]
 pub struct Front {
     pub at: usize,
     pub parent: Id,
