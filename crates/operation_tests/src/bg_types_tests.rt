@@ -1,156 +1,237 @@
 //! What no clause says: rows at the ends of the ranges, printed names, and failing writers.
 
-ghost use Rattle.std.specs.Prelude.{◌<◌};
+ghost use Rattle.std.specs.Prelude.{◌≡◌, ◌<◌, false};
 
+use crate::ops::{Name, place_of};
+use crate::rows::{Row, assert_none, assert_rows};
 use bg_types::*;
-use std::alloc::Global;
+use std::alloc::{AllocError, Global};
 use std::cmp::Ordering;
 use std::io;
 use std::io::{ErrorKind, Write};
-use std::test::Fail;
 
-#[test]
-fn identifiers_have_no_zero(rt: HostRuntime) {
-    for (counter, site, valid) in [
-        (0, 0, false),
-        (0, 1, false),
-        (1, 0, false),
-        (4_294_967_295, 0, false),
-        (65_536, 0, false),
-        (0, 65_535, false),
-        (1, 1, true),
-        (1, 65_535, true),
-        (65_535, 1, true),
-        (65_536, 1, true),
-        (0x1234_5678, 0x9abc, true),
-        (4_294_967_295, 1, true),
-        (4_294_967_295, 65_535, true),
-    ] {
-        let parts = Id::new(counter, site).map(|id| (id.counter(), id.site()));
-        let wanted = if valid { Some((counter, site)) } else { None };
-        assert_eq!(rt; parts, wanted, "({counter}, {site})");
+/// A counter and a site, and whether they make an identifier.
+struct Parts(u32, u16, bool);
+
+impl Row for Parts {
+    fn comes_out(&self, _alloc: Global) -> Result<bool, Memory> {
+        Ok(match Id::new(self.0, self.1) {
+            Some(id) => self.2 && id.counter() == self.0 && id.site() == self.1,
+            None => !self.2,
+        })
     }
 }
 
-/// How two identifiers compare, and whether they are equal.
-fn compared(id: (u32, u16), other: (u32, u16)) -> Option<(Ordering, bool)> {
-    let id = Id::new(id.0, id.1)?;
-    let other = Id::new(other.0, other.1)?;
-    Some((id.cmp(&other), id == other))
+const PARTS: &[Parts] = &[
+    Parts(0, 0, false),
+    Parts(0, 1, false),
+    Parts(1, 0, false),
+    Parts(4_294_967_295, 0, false),
+    Parts(65_536, 0, false),
+    Parts(0, 65_535, false),
+    Parts(1, 1, true),
+    Parts(1, 65_535, true),
+    Parts(65_535, 1, true),
+    Parts(65_536, 1, true),
+    Parts(0x1234_5678, 0x9abc, true),
+    Parts(4_294_967_295, 1, true),
+    Parts(4_294_967_295, 65_535, true),
+];
+
+#[test]
+fn identifiers_have_no_zero(rt: HostRuntime) {
+    assert_rows(&rt, PARTS);
+}
+
+/// Identifiers, each of them greater than the one before.
+const RISING: &[Name] = &[
+    (1, 1),
+    (1, 2),
+    (1, 65_535),
+    (2, 1),
+    (2, 2),
+    (65_535, 2),
+    (65_536, 1),
+    (65_537, 1),
+    (131_071, 1),
+    (131_072, 1),
+    (4_294_967_295, 1),
+    (4_294_967_295, 65_535),
+];
+
+/// Whether two identifiers compare so, and are equal where that says so.
+fn compare_so(one: Name, other: Name, wanted: Ordering) -> bool {
+    match (Id::new(one.0, one.1), Id::new(other.0, other.1)) {
+        (Some(id), Some(other)) => {
+            id.cmp(&other) == wanted && (id == other) == (wanted == Ordering::Equal)
+        }
+        _ => false,
+    }
+}
+
+/// The first of them that compares otherwise with one of them.
+fn first_out_of_order() -> Option<usize> {
+    for (i, one) in RISING.iter().enumerate() {
+        for (j, other) in RISING.iter().enumerate() {
+            if !compare_so(*one, *other, i.cmp(&j)) {
+                return Some(i);
+            }
+        }
+    }
+    None
 }
 
 #[test]
 fn identifiers_are_ordered_by_counter_and_then_by_site(rt: HostRuntime) {
-    let rising = [
-        (1, 1),
-        (1, 2),
-        (1, 65_535),
-        (2, 1),
-        (2, 2),
-        (65_535, 2),
-        (65_536, 1),
-        (65_537, 1),
-        (131_071, 1),
-        (131_072, 1),
-        (4_294_967_295, 1),
-        (4_294_967_295, 65_535),
-    ];
-    for i in 0..rising.len() {
-        for j in 0..rising.len() {
-            let wanted = Some((i.cmp(&j), i == j));
-            assert_eq!(rt; compared(rising[i], rising[j]), wanted, "rows {i} and {j}");
-        }
+    assert_none(&rt, "the identifiers", first_out_of_order());
+}
+
+/// An identifier and a parent, (0, 0) for the root, and whether there is such an insertion.
+struct Child(Name, Name, bool);
+
+/// Whether there is an insertion of this identifier after this parent, which then is seen as its parts.
+fn is_insertion(id: Id, parent: Place, valid: bool) -> bool {
+    let ch = '\u{5D0}';
+    match Op::insert(id, parent, ch) {
+        None => !valid,
+        Some(op) => valid && op.view() == (OpView::Insert { id, parent, ch }),
     }
 }
 
-/// Whether there is an insertion of this identifier after this parent, or the root, which then is seen as its parts.
-fn is_insertion(id: (u32, u16), parent: Option<(u32, u16)>) -> Option<bool> {
-    let id = Id::new(id.0, id.1)?;
-    let parent = match parent {
-        None => Place::Root,
-        Some((counter, site)) => Place::After(Id::new(counter, site)?),
-    };
-    let ch = '\u{5D0}';
-    match Op::insert(id, parent, ch) {
-        None => Some(false),
-        Some(op) if op.view() == (OpView::Insert { id, parent, ch }) => Some(true),
-        Some(_) => None,
+impl Row for Child {
+    fn comes_out(&self, _alloc: Global) -> Result<bool, Memory> {
+        Ok(match Id::new(self.0.0, self.0.1) {
+            Some(id) => is_insertion(id, place_of(self.1), self.2),
+            None => false,
+        })
     }
 }
+
+const CHILDREN: &[Child] = &[
+    Child((1, 1), (0, 0), true),
+    Child((4_294_967_295, 65_535), (0, 0), true),
+    Child((1, 2), (1, 1), false),
+    Child((1, 1), (1, 2), false),
+    Child((2, 1), (1, 65_535), true),
+    Child((2, 1), (3, 1), false),
+    Child((4_294_967_295, 1), (4_294_967_294, 2), true),
+    Child((4_294_967_295, 2), (4_294_967_295, 1), false),
+];
 
 #[test]
 fn a_parent_has_a_smaller_counter(rt: HostRuntime) {
-    for (id, parent, valid) in [
-        ((1, 1), None, true),
-        ((4_294_967_295, 65_535), None, true),
-        ((1, 2), Some((1, 1)), false),
-        ((1, 1), Some((1, 2)), false),
-        ((2, 1), Some((1, 65_535)), true),
-        ((2, 1), Some((3, 1)), false),
-        ((4_294_967_295, 1), Some((4_294_967_294, 2)), true),
-        ((4_294_967_295, 2), Some((4_294_967_295, 1)), false),
-    ] {
-        assert_eq!(rt; is_insertion(id, parent), Some(valid), "{id:?} {parent:?}");
+    assert_rows(&rt, CHILDREN);
+}
+
+/// The erasure of an element.
+struct Erasure(Name);
+
+impl Row for Erasure {
+    fn comes_out(&self, _alloc: Global) -> Result<bool, Memory> {
+        Ok(match Id::new(self.0.0, self.0.1) {
+            Some(target) => Op::erase(target).view() == OpView::Erase { target },
+            None => false,
+        })
     }
 }
 
-#[test]
-fn an_erasure_names_its_target(rt: HostRuntime) -> Result<(), Fail> {
-    let target = Id::new(7, 3).ok_or("a zero")?;
-    assert_eq!(rt; Op::erase(target).view(), OpView::Erase { target });
-    Ok(())
-}
+const ERASURES: &[Erasure] = &[Erasure((7, 3))];
 
 #[test]
-fn an_identifier_prints_its_counter_and_its_site(rt: HostRuntime) -> Result<(), Fail> {
-    let id = Id::new(65_537, 3).ok_or("a zero")?;
-    assert_eq!(rt;
-        format!(in rt.alloc(); "{id:?}")?.as_str(),
-        "Id { counter: 65537, site: 3 }"
-    );
-    Ok(())
+fn an_erasure_names_its_target(rt: HostRuntime) {
+    assert_rows(&rt, ERASURES);
 }
+
+/// An identifier, and what is printed of it.
+struct Printed(Name, &'static str);
+
+fn text_of(alloc: Global, id: Id) -> Result<String, AllocError> {
+    format!(in alloc; "{id:?}")
+}
+
+impl Row for Printed {
+    fn comes_out(&self, alloc: Global) -> Result<bool, Memory> {
+        let Some(id) = Id::new(self.0.0, self.0.1) else {
+            return Ok(false);
+        };
+        let printed = text_of(alloc, id)?;
+        Ok(printed.as_str() == self.1)
+    }
+}
+
+const PRINTED: &[Printed] = &[Printed((65_537, 3), "Id { counter: 65537, site: 3 }")];
 
 #[test]
-fn faults_print_their_names_and_have_numbers(rt: HostRuntime) -> Result<(), Fail> {
-    assert_eq!(rt;
-        format!(in rt.alloc(); "{Memory} {Device}")?.as_str(),
-        "Memory Device"
-    );
-    assert_eq!(rt; (Memory.code(), Device.code()), (9, 1));
-    Ok(())
+fn an_identifier_prints_its_counter_and_its_site(rt: HostRuntime) {
+    assert_rows(&rt, PRINTED);
 }
 
-/// Whether a sink that stops after `total` bytes keeps these, and takes all or not.
-fn keeps(alloc: Global, piece: usize, total: usize, wanted: &[u8], whole: bool) -> bool
+/// What is printed of the faults that every part shares, and their numbers.
+struct Faults(&'static str);
+
+fn text_of_faults(alloc: Global) -> Result<String, AllocError> {
+    format!(in alloc; "{Memory} {Device} {} {}", Memory.code(), Device.code())
+}
+
+impl Row for Faults {
+    fn comes_out(&self, alloc: Global) -> Result<bool, Memory> {
+        let printed = text_of_faults(alloc)?;
+        Ok(printed.as_str() == self.0)
+    }
+}
+
+const FAULTS: &[Faults] = &[Faults("Memory Device 9 1")];
+
+#[test]
+fn faults_print_their_names_and_have_numbers(rt: HostRuntime) {
+    assert_rows(&rt, FAULTS);
+}
+
+/// After how many bytes a sink stops, what it keeps, and whether that is all.
+struct Kept(usize, &'static [u8], bool);
+
+/// Whether a sink over this room that stops after `total` bytes takes all.
+fn takes_all(room: &mut [u8], piece: usize, total: usize) -> bool
     requires { 0 < piece }
 {
-    let mut bytes = Vec::new(alloc);
-    let done = {
-        let mut sink = Stops::new(Out::new(&mut bytes), piece, total);
-        put_all(&mut sink, b"bidigrid").is_ok()
-    };
-    bytes.as_slice() == wanted && done == whole
+    let mut sink = Stops::new(Out::new(room), piece, total);
+    put_all(&mut sink, b"bidigrid").is_ok()
 }
+
+impl Kept {
+    /// Whether it keeps them in pieces of this size.
+    fn is_right_by(&self, piece: usize) -> bool
+        requires { 0 < piece }
+    {
+        let mut room = [0; 16];
+        let all = takes_all(&mut room, piece, self.0);
+        all == self.2 && room.starts_with(self.1) && room.get(self.1.len()) == Some(&0)
+    }
+}
+
+impl Row for Kept {
+    fn comes_out(&self, _alloc: Global) -> Result<bool, Memory> {
+        Ok(self.is_right_by(1) && self.is_right_by(3) && self.is_right_by(100))
+    }
+}
+
+const KEPT: &[Kept] = &[
+    Kept(0, b"", false),
+    Kept(1, b"b", false),
+    Kept(7, b"bidigri", false),
+    Kept(8, b"bidigrid", true),
+    Kept(9, b"bidigrid", true),
+];
 
 #[test]
 fn a_sink_that_stops_keeps_a_beginning(rt: HostRuntime) {
-    for (total, wanted, whole) in [
-        (0, b"".as_slice(), false),
-        (1, b"b", false),
-        (7, b"bidigri", false),
-        (8, b"bidigrid", true),
-        (9, b"bidigrid", true),
-    ] {
-        for piece in [1, 3, 100] {
-            let right = keeps(rt.alloc(), piece, total, wanted, whole);
-            assert!(rt; right, "{total} bytes by {piece}");
-        }
-    }
+    assert_rows(&rt, KEPT);
 }
 
-/// What a put of these bytes answers, and whether the sink has failed then.
-fn puts<S: Sink>(sink: &mut S, bytes: &[u8]) -> (Option<usize>, bool) {
+/// What a put of some bytes answers, and whether the sink has failed then.
+type Put = (&'static [u8], (Option<usize>, bool));
+
+fn answer_of<S: Sink>(sink: &mut S, bytes: &[u8]) -> (Option<usize>, bool) {
     if sink.failed() || bytes.is_empty() {
         return (None, sink.failed());
     }
@@ -158,35 +239,52 @@ fn puts<S: Sink>(sink: &mut S, bytes: &[u8]) -> (Option<usize>, bool) {
     (taken, sink.failed())
 }
 
+/// Puts into a sink that takes at most three bytes, and stops after four.
+struct Puts(&'static [Put]);
+
+impl Row for Puts {
+    fn comes_out(&self, _alloc: Global) -> Result<bool, Memory> {
+        let mut room = [0; 16];
+        let mut sink = Stops::new(Out::new(room.as_mut_slice()), 3, 4);
+        let mut right = true;
+        for (bytes, answer) in self.0 {
+            right = answer_of(&mut sink, bytes) == *answer && right;
+        }
+        Ok(right)
+    }
+}
+
+const PIECES: &[Puts] = &[Puts(&[
+    (b"bidigrid", (Some(3), false)),
+    (b"igrid", (Some(1), false)),
+    (b"grid", (None, true)),
+])];
+
 #[test]
 fn a_sink_takes_at_most_a_piece(rt: HostRuntime) {
-    let mut bytes = Vec::new(rt.alloc());
-    let mut sink = Stops::new(Out::new(&mut bytes), 3, 4);
-    assert_eq!(rt; puts(&mut sink, b"bidigrid"), (Some(3), false));
-    assert_eq!(rt; puts(&mut sink, b"igrid"), (Some(1), false));
-    assert_eq!(rt; puts(&mut sink, b"grid"), (None, true));
+    assert_rows(&rt, PIECES);
 }
 
 /// A writer that takes one byte a call, and then answers with an error or with 0 bytes.
 #[derive(Clone, Copy)]
 struct Dribbles {
     taken: [u8; 8],
-    count: u8,
-    most: u8,
+    count: usize,
+    most: usize,
     fails: bool,
 }
 
 impl Write for Dribbles {
     fn write(&mut self, bytes: &[u8]) -> io::Result<usize> {
-        match (bytes, self.taken.get_mut(usize::from(self.count))) {
-            ([first, ..], Some(slot)) if self.count < self.most => {
-                *slot = *first;
-                self.count += 1;
-                Ok(1)
-            }
-            _ if self.fails => Err(io::Error::from(ErrorKind::BrokenPipe)),
-            _ => Ok(0),
+        if self.count < self.most && self.count < self.taken.len() && !bytes.is_empty() {
+            self.taken[self.count] = bytes[0];
+            self.count += 1;
+            return Ok(1);
         }
+        if self.fails {
+            return Err(io::Error::from(ErrorKind::BrokenPipe));
+        }
+        Ok(0)
     }
 
     fn flush(&mut self) -> io::Result<()> {
@@ -194,27 +292,46 @@ impl Write for Dribbles {
     }
 }
 
-/// Whether a sink over such a writer takes all where `whole` says so, and else has failed, after
-/// `most` bytes.
-fn sink_over_dribbles(most: u8, fails: bool, whole: bool) -> bool {
-    let mut writer = Dribbles {
-        taken: [0; 8],
-        count: 0,
-        most,
-        fails,
-    };
-    let mut out = Out::new(&mut writer);
-    let done = put_all(&mut out, b"bidigrid").is_ok();
-    let failed = out.failed();
-    let wanted = b"bidigrid".get(..usize::from(most));
-    done == whole && failed != whole && wanted == writer.taken.get(..usize::from(writer.count))
+/// Whether a sink over a writer takes all of the bytes, and whether it then has failed.
+fn put_over(writer: &mut Dribbles) -> (bool, bool) {
+    let mut out = Out::new(writer);
+    let whole = put_all(&mut out, b"bidigrid").is_ok();
+    (whole, out.failed())
 }
+
+/// How many bytes such a writer takes, whether it then fails, and whether a sink over it takes all, and else has failed.
+struct Dribbled(usize, bool, bool);
+
+impl Row for Dribbled {
+    fn comes_out(&self, _alloc: Global) -> Result<bool, Memory> {
+        let mut writer = Dribbles {
+            taken: [0; 8],
+            count: 0,
+            most: self.0,
+            fails: self.1,
+        };
+        let answer = put_over(&mut writer);
+        let count = self.0.min(8);
+        Ok(
+            answer == (self.2, !self.2)
+                && writer.count == self.0
+                && writer.taken[..count] == b"bidigrid"[..count],
+        )
+    }
+}
+
+const DRIBBLED: &[Dribbled] = &[
+    Dribbled(0, true, false),
+    Dribbled(1, true, false),
+    Dribbled(7, true, false),
+    Dribbled(8, true, true),
+    Dribbled(0, false, false),
+    Dribbled(1, false, false),
+    Dribbled(7, false, false),
+    Dribbled(8, false, true),
+];
 
 #[test]
 fn a_writer_that_fails_in_mid_stream_fails_the_sink(rt: HostRuntime) {
-    for fails in [true, false] {
-        for (left, whole) in [(0, false), (1, false), (7, false), (8, true)] {
-            assert!(rt; sink_over_dribbles(left, fails, whole), "{left} {fails}");
-        }
-    }
+    assert_rows(&rt, DRIBBLED);
 }

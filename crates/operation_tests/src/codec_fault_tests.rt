@@ -1,14 +1,19 @@
 //! Operation files that are cut or faulty, in both versions, and what is told of a fault.
 
 use crate::op_codec_tests::{EMPTY, FOUR_MIGRATED, RUN, TWO, joined};
+use crate::rows::{Row, assert_none, assert_rows};
+use bg_types::Memory;
 use op_codec::*;
 use std::alloc::{AllocError, Global};
+use std::process::Abort;
 
-/// Files, and where their header and each frame end, with the operations until there.
-const ENDS: &[(&[u8], &[(usize, usize)])] = &[
-    (&TWO, &[(5, 0), (24, 1), (43, 2)]),
-    (&RUN, &[(5, 0), (28, 2)]),
-    (&FOUR_MIGRATED, &[(5, 0), (24, 1), (47, 3), (66, 4)]),
+/// A file, and where its header and each frame end, with the operations until there.
+struct Ends(&'static [u8], &'static [(usize, usize)]);
+
+const ENDS: &[Ends] = &[
+    Ends(&TWO, &[(5, 0), (24, 1), (43, 2)]),
+    Ends(&RUN, &[(5, 0), (28, 2)]),
+    Ends(&FOUR_MIGRATED, &[(5, 0), (24, 1), (47, 3), (66, 4)]),
 ];
 
 /// What the first `k` bytes have: so many operations, or a cut in this frame.
@@ -24,29 +29,36 @@ fn wanted_at(ends: &[(usize, usize)], k: usize) -> Result<usize, usize> {
     Err(ends.len())
 }
 
+/// How many operations a file has.
+fn count(alloc: Global, file: &[u8]) -> Result<usize, CodecFault> {
+    Ok(decode_file(alloc, file)?.len())
+}
+
 /// Whether reading a beginning of a file, and migrating it, answers so.
 fn is_cut(alloc: Global, front: &[u8], wanted: Result<usize, usize>) -> bool {
     let cause = Cause::Truncated;
     match wanted {
-        Ok(count) => decode_file(alloc, front).is_ok_and(|ops| ops.len() == count),
+        Ok(wanted) => count(alloc, front) == Ok(wanted),
         Err(frame) => is_fault(alloc, front, CodecFault::Malformed { frame, cause }),
     }
 }
 
-/// The first length at which a file is cut otherwise.
-fn wrong_length(alloc: Global, file: &[u8], ends: &[(usize, usize)]) -> Option<usize> {
-    for k in 0..=file.len() {
-        if !is_cut(alloc, &file[..k], wanted_at(ends, k)) {
-            return Some(k);
+impl Ends {
+    /// The first length at which the file is cut otherwise.
+    fn wrong_length(&self, alloc: Global) -> Option<usize> {
+        for k in 0..=self.0.len() {
+            if !is_cut(alloc, &self.0[..k], wanted_at(self.1, k)) {
+                return Some(k);
+            }
         }
+        None
     }
-    None
 }
 
 #[test]
 fn a_file_cut_to_each_length(rt: HostRuntime) {
-    for (file, ends) in ENDS {
-        assert_eq!(rt; wrong_length(rt.alloc(), file, ends), None);
+    for ends in ENDS {
+        assert_none(&rt, "the lengths", ends.wrong_length(rt.alloc()));
     }
 }
 
@@ -196,22 +208,14 @@ const JOINED: &[(&[u8], Cause)] = &[
     ),
 ];
 
-/// A table of bytes with their first fault, and what stands before them, with the frame that they are then.
-type Faulty = (
-    &'static [(&'static [u8], usize)],
-    &'static [(&'static [u8], Cause)],
-);
+/// What reading bytes answers, and what migrating them answers.
+fn faults_of(alloc: Global, file: &[u8]) -> [Option<CodecFault>; 2] {
+    [decode_file(alloc, file).err(), migrate(alloc, file).err()]
+}
 
-const FAULTY: &[Faulty] = &[
-    (&[(b"", 0)], FAULTY_HEADERS),
-    (&[(&EMPTY, 1), (&TWO, 3)], FAULTY_FRAMES),
-    (&[(b"BGOP\x02", 1), (&TYPED_AND_ERASED, 3)], FAULTY_FRAMES_2),
-    (&[(&RUN, 2)], JOINED),
-];
-
-/// Whether reading bytes and migrating them answers this fault.
+/// Whether both answer this fault.
 fn is_fault(alloc: Global, file: &[u8], wanted: CodecFault) -> bool {
-    decode_file(alloc, file).err() == Some(wanted) && migrate(alloc, file).err() == Some(wanted)
+    faults_of(alloc, file) == [Some(wanted); 2]
 }
 
 /// The same of bytes behind others.
@@ -222,99 +226,121 @@ fn is_fault_behind(alloc: Global, front: &[u8], back: &[u8], wanted: CodecFault)
     }
 }
 
-/// The first row that has another fault behind what stands before.
-fn wrong_fault(
-    alloc: Global,
-    front: &[u8],
-    frame: usize,
-    rows: &[(&[u8], Cause)],
-) -> Option<usize> {
-    for (n, (bytes, cause)) in rows.iter().enumerate() {
-        let cause = *cause;
-        if !is_fault_behind(alloc, front, bytes, CodecFault::Malformed { frame, cause }) {
-            return Some(n);
+/// What stands before bytes, and the frame that they are then.
+struct Front(&'static [u8], usize);
+
+impl Front {
+    /// The first row that has another fault behind it.
+    fn wrong(&self, alloc: Global, rows: &[(&[u8], Cause)]) -> Option<usize> {
+        let frame = self.1;
+        for (n, (bytes, cause)) in rows.iter().enumerate() {
+            let cause = *cause;
+            if !is_fault_behind(alloc, self.0, bytes, CodecFault::Malformed { frame, cause }) {
+                return Some(n);
+            }
         }
+        None
     }
-    None
 }
 
-/// The same of a table, behind each of what stands before its rows.
-fn wrong_row(alloc: Global, faulty: &Faulty) -> Option<usize> {
-    for (front, frame) in faulty.0 {
-        if let Some(n) = wrong_fault(alloc, front, *frame, faulty.1) {
-            return Some(n);
-        }
+/// Compares the faults of a table behind each of these.
+fn assert_faults(
+    rt: &(impl Abort + AllocGlobal),
+    what: &str,
+    fronts: &[Front],
+    rows: &[(&[u8], Cause)],
+) {
+    for front in fronts {
+        assert_none(rt, what, front.wrong(rt.alloc(), rows));
     }
-    None
 }
+
+const START: &[Front] = &[Front(b"", 0)];
+
+const BEHIND_RUN: &[Front] = &[Front(&RUN, 2)];
+
+const FRONTS: &[Front] = &[Front(&EMPTY, 1), Front(&TWO, 3)];
+
+const FRONTS_2: &[Front] = &[Front(b"BGOP\x02", 1), Front(&TYPED_AND_ERASED, 3)];
 
 #[test]
 fn a_file_shows_its_first_fault(rt: HostRuntime) {
-    for (table, faulty) in FAULTY.iter().enumerate() {
-        assert_eq!(rt; wrong_row(rt.alloc(), faulty), None, "table {table}");
+    assert_faults(&rt, "the headers", START, FAULTY_HEADERS);
+    assert_faults(&rt, "the frames", FRONTS, FAULTY_FRAMES);
+    assert_faults(&rt, "the frames of version 2", FRONTS_2, FAULTY_FRAMES_2);
+    assert_faults(&rt, "the joined frames", BEHIND_RUN, JOINED);
+}
+
+/// A frame behind the run that can't be joined to it.
+struct Apart(&'static [u8]);
+
+impl Row for Apart {
+    fn comes_out(&self, alloc: Global) -> Result<bool, Memory> {
+        let file = joined(alloc, &RUN, self.0)?;
+        Ok(count(alloc, &file) == Ok(3))
     }
 }
 
-/// Frames behind the run that can't be joined to it: of another site, after another parent, with a greater counter.
-const APART: &[&[u8]] = &[
-    &[0, 17, 1, 0, 0, 0, 3, 0, 2, 0, 0, 0, 2, 0, 1, 0, 0, 0, 0x63],
-    &[0, 17, 1, 0, 0, 0, 3, 0, 1, 0, 0, 0, 1, 0, 1, 0, 0, 0, 0x63],
-    &[0, 17, 1, 0, 0, 0, 4, 0, 1, 0, 0, 0, 2, 0, 1, 0, 0, 0, 0x63],
+/// Of another site, after another parent, with a greater counter.
+const APART: &[Apart] = &[
+    Apart(&[0, 17, 1, 0, 0, 0, 3, 0, 2, 0, 0, 0, 2, 0, 1, 0, 0, 0, 0x63]),
+    Apart(&[0, 17, 1, 0, 0, 0, 3, 0, 1, 0, 0, 0, 1, 0, 1, 0, 0, 0, 0x63]),
+    Apart(&[0, 17, 1, 0, 0, 0, 4, 0, 1, 0, 0, 0, 2, 0, 1, 0, 0, 0, 0x63]),
 ];
-
-/// How many operations the run and a frame behind it have.
-fn count_behind_run(alloc: Global, frame: &[u8]) -> Result<usize, CodecFault> {
-    let file = joined(alloc, &RUN, frame)?;
-    Ok(decode_file(alloc, &file)?.len())
-}
 
 #[test]
 fn what_could_not_be_one_frame_stays_apart(rt: HostRuntime) {
-    for frame in APART {
-        assert_eq!(rt; count_behind_run(rt.alloc(), frame), Ok(3), "{frame:?}");
-    }
+    assert_rows(&rt, APART);
 }
 
 /// What a fault prints, its number and its frame, as one line.
-fn told(alloc: Global, fault: CodecFault) -> Result<String, AllocError> {
+fn line_of(alloc: Global, fault: CodecFault) -> Result<String, AllocError> {
     format!(in alloc; "{fault} {} {:?}", fault.code(), fault.frame())
 }
 
-/// Causes, their numbers, and what is told of a fault in frame 3.
-const CAUSES: &[(Cause, u8, &str)] = &[
-    (Cause::BadMagic, 1, "BadMagic 1 Some(3)"),
-    (Cause::BadVersion, 2, "BadVersion 2 Some(3)"),
-    (Cause::Truncated, 3, "Truncated 3 Some(3)"),
-    (Cause::UnknownKind, 4, "UnknownKind 4 Some(3)"),
-    (Cause::BadLength, 5, "BadLength 5 Some(3)"),
-    (Cause::ZeroField, 6, "ZeroField 6 Some(3)"),
-    (Cause::ParentNotBefore, 7, "ParentNotBefore 7 Some(3)"),
-    (Cause::NotAScalar, 8, "NotAScalar 8 Some(3)"),
-    (Cause::CounterOverflow, 10, "CounterOverflow 10 Some(3)"),
-    (Cause::NotJoined, 11, "NotJoined 11 Some(3)"),
+/// Whether this is told of a fault.
+fn is_told(alloc: Global, fault: CodecFault, line: &str) -> Result<bool, Memory> {
+    let told = line_of(alloc, fault)?;
+    Ok(told.as_str() == line)
+}
+
+/// A cause, its number, and what is told of it in frame 3.
+struct Told(Cause, u8, &'static str);
+
+impl Row for Told {
+    fn comes_out(&self, alloc: Global) -> Result<bool, Memory> {
+        let cause = self.0;
+        let fault = CodecFault::Malformed { frame: 3, cause };
+        Ok(cause.code() == self.1 && is_told(alloc, fault, self.2)?)
+    }
+}
+
+const CAUSES: &[Told] = &[
+    Told(Cause::BadMagic, 1, "BadMagic 1 Some(3)"),
+    Told(Cause::BadVersion, 2, "BadVersion 2 Some(3)"),
+    Told(Cause::Truncated, 3, "Truncated 3 Some(3)"),
+    Told(Cause::UnknownKind, 4, "UnknownKind 4 Some(3)"),
+    Told(Cause::BadLength, 5, "BadLength 5 Some(3)"),
+    Told(Cause::ZeroField, 6, "ZeroField 6 Some(3)"),
+    Told(Cause::ParentNotBefore, 7, "ParentNotBefore 7 Some(3)"),
+    Told(Cause::NotAScalar, 8, "NotAScalar 8 Some(3)"),
+    Told(Cause::CounterOverflow, 10, "CounterOverflow 10 Some(3)"),
+    Told(Cause::NotJoined, 11, "NotJoined 11 Some(3)"),
 ];
 
-fn is_told(alloc: Global, cause: Cause, code: u8, line: &str) -> bool {
-    let fault = CodecFault::Malformed { frame: 3, cause };
-    match told(alloc, fault) {
-        Ok(told) => told.as_str() == line && cause.code() == code,
-        Err(AllocError) => false,
+/// What is told of lack of memory.
+struct ToldOfMemory(&'static str);
+
+impl Row for ToldOfMemory {
+    fn comes_out(&self, alloc: Global) -> Result<bool, Memory> {
+        is_told(alloc, CodecFault::Memory, self.0)
     }
 }
 
-fn first_wrong_cause(alloc: Global) -> Option<usize> {
-    for (n, (cause, code, line)) in CAUSES.iter().enumerate() {
-        if !is_told(alloc, *cause, *code, line) {
-            return Some(n);
-        }
-    }
-    None
-}
+const MEMORY: &[ToldOfMemory] = &[ToldOfMemory("Memory 9 None")];
 
 #[test]
 fn a_fault_has_a_number_a_name_and_a_frame(rt: HostRuntime) {
-    assert_eq!(rt; first_wrong_cause(rt.alloc()), None);
-    let memory = told(rt.alloc(), CodecFault::Memory).is_ok_and(|told| told.as_str()
-        == "Memory 9 None");
-    assert!(rt; memory);
+    assert_rows(&rt, CAUSES);
+    assert_rows(&rt, MEMORY);
 }

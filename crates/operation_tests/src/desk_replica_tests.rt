@@ -5,8 +5,8 @@
 
 ghost use Rattle.std.specs.Prelude.{◌<◌};
 
-use crate::ops::{Row, op};
-use Row::{Erase, Insert};
+use crate::ops::{OpRow, op};
+use OpRow::{Erase, Insert};
 use bg_types::{Memory, Op};
 use desk_replica::{Replica, TakeFault, Taken, TypeFault};
 use rga_sequence::Blocks;
@@ -32,7 +32,10 @@ impl<S: Fresh> Desk<S> {
     }
 
     fn reads(&self, text: &str) -> bool {
-        self.text().is_ok_and(|read| read.as_str() == text)
+        match self.text() {
+            Ok(read) => read.as_str() == text,
+            Err(Memory) => false,
+        }
     }
 
     /// Whether text and number of operations are these.
@@ -79,10 +82,9 @@ impl<S: Fresh> Desk<S> {
         match self.desk.merge(&other.desk) {
             Err(TakeFault::Memory) => {
                 let taken = self.desk.op_count().saturating_sub(kept);
-                let answer = self.desk.merge(&other.desk);
-                answer.map(|n| taken.saturating_add(n as usize))
+                Ok(taken.saturating_add(self.desk.merge(&other.desk)? as usize))
             }
-            answer => answer.map(|n| n as usize),
+            answer => Ok(answer? as usize),
         }
     }
 
@@ -92,20 +94,31 @@ impl<S: Fresh> Desk<S> {
     }
 
     /// Whether taking this row answers so at the first try, as what is paid for takes no memory.
-    fn takes_paid(&mut self, row: Row, answer: Answer) -> bool {
-        op(row).is_some_and(|op| self.desk.take(&op) == answer)
+    fn takes_paid(&mut self, row: OpRow, answer: Answer) -> bool {
+        match op(row) {
+            Some(op) => self.desk.take(&op) == answer,
+            None => false,
+        }
     }
 
     /// Whether taking this row answers so.
-    fn takes(&mut self, row: Row, answer: Answer) -> bool {
+    fn takes(&mut self, row: OpRow, answer: Answer) -> bool {
         match op(row) {
             Some(op) => self.take(&op) == answer,
             None => false,
         }
     }
 
+    /// Whether this row is taken.
+    fn takes_well(&mut self, row: OpRow) -> bool {
+        match op(row) {
+            Some(op) => self.take(&op).is_ok(),
+            None => false,
+        }
+    }
+
     /// Whether typing the character of an insertion makes it, or erasing makes a deletion.
-    fn makes(&mut self, place: usize, row: Row) -> bool {
+    fn makes(&mut self, place: usize, row: OpRow) -> bool {
         match row {
             Insert(_, _, ch) => self.type_char(place, ch).ok() == op(row),
             Erase(_) => self.erase_at(place) == op(row),
@@ -130,16 +143,16 @@ const HELD: Answer = Ok(Taken::Held);
 const REUSED: Answer = Err(TakeFault::IdentifierReused);
 
 /// `a`, `x` and `b` after it, `y` after `x`.
-const A: Row = Insert((1, 1), (0, 0), 'a');
+const A: OpRow = Insert((1, 1), (0, 0), 'a');
 
-const X: Row = Insert((2, 2), (1, 1), 'x');
+const X: OpRow = Insert((2, 2), (1, 1), 'x');
 
-const Y: Row = Insert((3, 2), (2, 2), 'y');
+const Y: OpRow = Insert((3, 2), (2, 2), 'y');
 
-const B: Row = Insert((2, 1), (1, 1), 'b');
+const B: OpRow = Insert((2, 1), (1, 1), 'b');
 
 /// Whether a desk gives each row its answer.
-fn takes_each<S: Fresh>(desk: &mut Desk<S>, rows: &[(Row, Answer)]) -> bool {
+fn takes_each<S: Fresh>(desk: &mut Desk<S>, rows: &[(OpRow, Answer)]) -> bool {
     let mut right = true;
     for (row, answer) in rows {
         right = desk.takes(*row, *answer) && right;
@@ -151,12 +164,12 @@ fn takes_each<S: Fresh>(desk: &mut Desk<S>, rows: &[(Row, Answer)]) -> bool {
 #[derive(Clone, Copy)]
 enum Case {
     /// The first desk gives each row its answer, and reads as this text then.
-    Plays(&'static [(Row, Answer)], &'static str),
+    Plays(&'static [(OpRow, Answer)], &'static str),
     /// What is paid for is taken at the first try.
     PlaysPaid,
     MergesPaid,
     /// Once each desk has taken its rows, the first merges the other one as is said.
-    Merges(&'static [Row], &'static [Row], Merged),
+    Merges(&'static [OpRow], &'static [OpRow], Merged),
     Types,
     /// A held insertion with the greatest counter leaves none to type with.
     Spends,
@@ -204,10 +217,10 @@ fn first_wrong(alloc: Global, cases: &[Case]) -> Option<usize> {
 }
 
 /// `b` at the front, of another desk.
-const FRONT: Row = Insert((1, 2), (0, 0), 'b');
+const FRONT: OpRow = Insert((1, 2), (0, 0), 'b');
 
 /// `a`, `x`, `y` and `b` with one that comes early.
-const EARLY: [(Row, Answer); 4] = [
+const EARLY: [(OpRow, Answer); 4] = [
     (A, PLACED),
     (Y, HELD),
     (X, Ok(Taken::Placed(1))),
@@ -285,10 +298,10 @@ fn merges_paid<S: Fresh>(one: &mut Desk<S>, two: &mut Desk<S>) -> bool {
 }
 
 /// Whether a desk takes each row.
-fn takes_all<S: Fresh>(desk: &mut Desk<S>, rows: &[Row]) -> bool {
+fn takes_all<S: Fresh>(desk: &mut Desk<S>, rows: &[OpRow]) -> bool {
     let mut all = true;
     for row in rows {
-        all = op(*row).is_some_and(|op| desk.take(&op).is_ok()) && all;
+        all = desk.takes_well(*row) && all;
     }
     all
 }
@@ -296,8 +309,8 @@ fn takes_all<S: Fresh>(desk: &mut Desk<S>, rows: &[Row]) -> bool {
 fn merges<S: Fresh>(
     one: &mut Desk<S>,
     two: &mut Desk<S>,
-    mine: &[Row],
-    others: &[Row],
+    mine: &[OpRow],
+    others: &[OpRow],
     merged: Merged,
 ) -> bool {
     let taken = takes_all(one, mine);
@@ -327,7 +340,7 @@ const MERGES: [Case; 5] = [
 ];
 
 /// What typing or erasing at each place makes.
-const TYPED: [(usize, Row); 4] = [
+const TYPED: [(usize, OpRow); 4] = [
     (0, Insert((1, 1), (0, 0), 'a')),
     (1, Insert((2, 1), (1, 1), 'b')),
     (0, Erase((1, 1))),
@@ -350,7 +363,10 @@ fn spends<S: Fresh>(desk: &mut Desk<S>) -> bool {
 }
 
 fn counts<S: Fresh>(desk: &mut Desk<S>) -> bool {
-    op(Y).is_some_and(|late| counts_no_refused(desk, &late))
+    match op(Y) {
+        Some(late) => counts_no_refused(desk, &late),
+        None => false,
+    }
 }
 
 /// Whether a refused insertion, as this one, leaves the next counter as it was.

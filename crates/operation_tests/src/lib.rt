@@ -24,4 +24,6 @@ mod reading_tests;
 #[cfg(test)]
 mod rga_sequence_tests;
 #[cfg(test)]
+mod rows;
+#[cfg(test)]
 mod world_tests;

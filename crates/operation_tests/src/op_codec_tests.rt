@@ -1,20 +1,20 @@
 //! Operation files that were worked out by hand, in both versions, and refused growths.
-//! A test tells the number of the first row that does not come out.
 
-use crate::ops::{Row, op, ops_of};
-use Row::{Erase, Insert};
+use crate::ops::{OpRow, op, ops_of};
+use crate::rows::{Row, assert_rows};
+use OpRow::{Erase, Insert};
 use bg_types::{Memory, Op};
 use op_codec::*;
 use std::alloc::{AllocError, Global};
 
 pub(crate) const EMPTY: [u8; 5] = *b"BGOP\x01";
 
-const A: Row = Insert((1, 1), (0, 0), 'a');
+const A: OpRow = Insert((1, 1), (0, 0), 'a');
 
-const B: Row = Insert((2, 1), (1, 1), 'b');
+const B: OpRow = Insert((2, 1), (1, 1), 'b');
 
 /// `a`, and `b` after it.
-pub(crate) const TWO_ROWS: [Row; 2] = [A, B];
+pub(crate) const TWO_ROWS: [OpRow; 2] = [A, B];
 
 pub(crate) const TWO: [u8; 43] = [
     0x42, 0x47, 0x4F, 0x50, 1, // BGOP, version 1
@@ -29,7 +29,7 @@ pub(crate) const RUN: [u8; 28] = [
 ];
 
 /// `a`, `x` and `b` after it, `y` after `x`.
-const FOUR_ROWS: [Row; 4] = [
+const FOUR_ROWS: [OpRow; 4] = [
     A,
     Insert((2, 2), (1, 1), 'x'),
     Insert((3, 2), (2, 2), 'y'),
@@ -64,17 +64,14 @@ const ERASED_MIGRATED: [u8; 33] = [
     0, 17, 1, 0, 0, 0, 3, 0, 1, 0, 0, 0, 2, 0, 1, 0, 0, 0, 0x63, // frame 2
 ];
 
-/// Operations, and their files in both versions.
-const FILES: &[(&[Row], &[u8], &[u8])] = &[
-    (&[], &EMPTY, b"BGOP\x02"),
-    (&TWO_ROWS, &TWO, &RUN),
-    (&FOUR_ROWS, &FOUR, &FOUR_MIGRATED),
-    (
-        &[Erase((2, 1)), Insert((3, 1), (2, 1), 'c')],
-        &ERASED,
-        &ERASED_MIGRATED,
-    ),
-];
+/// What a call found, where a fault but memory is as wrong as what is not so.
+fn found(answer: Result<bool, CodecFault>) -> Result<bool, Memory> {
+    match answer {
+        Ok(right) => Ok(right),
+        Err(CodecFault::Memory) => Err(Memory),
+        Err(_) => Ok(false),
+    }
+}
 
 /// Whether a file of version 1 is that of the operations, both ways.
 fn is_file_of(alloc: Global, file: &[u8], ops: &[Op]) -> Result<bool, CodecFault> {
@@ -90,34 +87,74 @@ fn is_run_file_of(alloc: Global, file: &[u8], ops: &[Op]) -> Result<bool, CodecF
     )
 }
 
-/// Whether operations have these files.
-fn have_files(alloc: Global, rows: &[Row], old: &[u8], new: &[u8]) -> Result<bool, CodecFault> {
-    let ops = ops_of(alloc, rows)?;
-    Ok(
-        ops.len() == rows.len()
-            && is_file_of(alloc, old, &ops)?
-            && is_run_file_of(alloc, new, &ops)?
-            && migrate(alloc, old)?.as_slice() == new,
-    )
+/// Operations, and their files in both versions.
+struct Files(&'static [OpRow], &'static [u8], &'static [u8]);
+
+impl Files {
+    /// Whether these operations have the files.
+    fn are_of(&self, alloc: Global, ops: &[Op]) -> Result<bool, CodecFault> {
+        Ok(
+            ops.len() == self.0.len()
+                && is_file_of(alloc, self.1, ops)?
+                && is_run_file_of(alloc, self.2, ops)?
+                && migrate(alloc, self.1)?.as_slice() == self.2,
+        )
+    }
 }
 
-fn first_wrong_file(alloc: Global) -> Option<usize> {
-    for (n, (rows, old, new)) in FILES.iter().enumerate() {
-        if have_files(alloc, rows, old, new) != Ok(true) {
-            return Some(n);
-        }
+impl Row for Files {
+    fn comes_out(&self, alloc: Global) -> Result<bool, Memory> {
+        let ops = ops_of(alloc, self.0)?;
+        found(self.are_of(alloc, &ops))
     }
-    None
 }
+
+const FILES: &[Files] = &[
+    Files(&[], &EMPTY, b"BGOP\x02"),
+    Files(&TWO_ROWS, &TWO, &RUN),
+    Files(&FOUR_ROWS, &FOUR, &FOUR_MIGRATED),
+    Files(
+        &[Erase((2, 1)), Insert((3, 1), (2, 1), 'c')],
+        &ERASED,
+        &ERASED_MIGRATED,
+    ),
+];
 
 #[test]
 fn files_of_both_versions(rt: HostRuntime) {
-    assert_eq!(rt; first_wrong_file(rt.alloc()), None);
+    assert_rows(&rt, FILES);
 }
 
-/// Operations with the greatest numbers and at the edges of the scalars, and their frames.
-const FRAMES: &[(Row, &[u8])] = &[
-    (
+pub(crate) fn joined(alloc: Global, front: &[u8], back: &[u8]) -> Result<Vec<u8>, AllocError> {
+    let mut file = Vec::from_slice(alloc, front)?;
+    file.extend_from_slice(back)?;
+    Ok(file)
+}
+
+/// An operation, and its frame.
+struct Framed(OpRow, &'static [u8]);
+
+impl Framed {
+    /// Whether the frame is that of these operations, alone and as this file.
+    fn is_of(&self, alloc: Global, ops: &[Op], file: &[u8]) -> Result<bool, CodecFault> {
+        let mut written = Vec::new(alloc);
+        for op in ops {
+            encode_op(op, &mut written)?;
+        }
+        Ok(ops.len() == 1 && written.as_slice() == self.1 && is_file_of(alloc, file, ops)?)
+    }
+}
+
+impl Row for Framed {
+    fn comes_out(&self, alloc: Global) -> Result<bool, Memory> {
+        let ops = ops_of(alloc, &[self.0])?;
+        let file = joined(alloc, &EMPTY, self.1)?;
+        found(self.is_of(alloc, &ops, &file))
+    }
+}
+/// Operations with the greatest numbers and at the edges of the scalars.
+const FRAMES: &[Framed] = &[
+    Framed(
         Insert(
             (4_294_967_295, 65_535),
             (4_294_967_294, 65_535),
@@ -128,21 +165,21 @@ const FRAMES: &[(Row, &[u8])] = &[
             0xFF,
         ],
     ),
-    (
+    Framed(
         Erase((4_294_967_295, 65_535)),
         &[0, 7, 2, 255, 255, 255, 255, 255, 255],
     ),
-    (
+    Framed(
         Insert((258, 772), (0, 0), '\0'),
         &[0, 17, 1, 0, 0, 1, 2, 3, 4, 0, 0, 0, 0, 0, 0, 0, 0, 0, 0],
     ),
-    (
+    Framed(
         Insert((2, 3), (1, 65_535), '\u{D7FF}'),
         &[
             0, 17, 1, 0, 0, 0, 2, 0, 3, 0, 0, 0, 1, 255, 255, 0, 0, 0xD7, 0xFF,
         ],
     ),
-    (
+    Framed(
         Insert((2, 3), (1, 65_535), '\u{E000}'),
         &[
             0, 17, 1, 0, 0, 0, 2, 0, 3, 0, 0, 0, 1, 255, 255, 0, 0, 0xE0, 0,
@@ -150,39 +187,13 @@ const FRAMES: &[(Row, &[u8])] = &[
     ),
 ];
 
-pub(crate) fn joined(alloc: Global, front: &[u8], back: &[u8]) -> Result<Vec<u8>, AllocError> {
-    let mut file = Vec::from_slice(alloc, front)?;
-    file.extend_from_slice(back)?;
-    Ok(file)
-}
-
-/// Whether a frame is that of the operation, alone and behind a header.
-fn is_frame_of(alloc: Global, frame: &[u8], row: Row) -> Result<bool, CodecFault> {
-    let ops = ops_of(alloc, &[row])?;
-    let mut written = Vec::new(alloc);
-    for op in &ops {
-        encode_op(op, &mut written)?;
-    }
-    let file = joined(alloc, &EMPTY, frame)?;
-    Ok(ops.len() == 1 && written.as_slice() == frame && is_file_of(alloc, &file, &ops)?)
-}
-
-fn first_wrong_frame(alloc: Global) -> Option<usize> {
-    for (n, (row, frame)) in FRAMES.iter().enumerate() {
-        if is_frame_of(alloc, frame, *row) != Ok(true) {
-            return Some(n);
-        }
-    }
-    None
-}
-
 #[test]
 fn the_greatest_numbers_and_the_edges_of_the_scalars(rt: HostRuntime) {
-    assert_eq!(rt; first_wrong_frame(rt.alloc()), None);
+    assert_rows(&rt, FRAMES);
 }
 
 /// This many insertions at site 1, each after the one before.
-fn chain(alloc: Global, count: u32) -> Result<Vec<Op>, Memory> {
+fn chain_of(alloc: Global, count: u32) -> Result<Vec<Op>, Memory> {
     let mut ops = Vec::new(alloc);
     for counter in 1..=count {
         let parent = (counter.saturating_sub(1), u16::from(counter > 1));
@@ -193,40 +204,42 @@ fn chain(alloc: Global, count: u32) -> Result<Vec<Op>, Memory> {
     Ok(ops)
 }
 
-/// Whether a chain of this many is a file of this size in version 2.
-fn is_chain_of_size(alloc: Global, count: u32, size: usize) -> Result<bool, CodecFault> {
-    let ops = chain(alloc, count)?;
-    let file = encode_file_v2(alloc, &ops)?;
-    let old = encode_file(alloc, &ops)?;
-    Ok(
-        file.len() == size
-            && is_run_file_of(alloc, &file, &ops)?
-            && migrate(alloc, &old)?.as_slice() == file.as_slice(),
-    )
-}
+/// Of how many operations a chain is, and how long its file of version 2.
+struct Chain(u32, usize);
 
-/// Chains, and how long their files are: 15 bytes plus four a character, or 19 for one alone, after the header.
-const CHAINS: &[(u32, usize)] = &[
-    (0, 5),
-    (1, 24),
-    (2, 28),
-    (1_024, 4_116),
-    (1_025, 4_135),
-    (2_049, 8_246),
-];
-
-fn first_wrong_chain(alloc: Global) -> Option<u32> {
-    for (count, size) in CHAINS {
-        if is_chain_of_size(alloc, *count, *size) != Ok(true) {
-            return Some(*count);
-        }
+impl Chain {
+    fn is_of(&self, alloc: Global, ops: &[Op]) -> Result<bool, CodecFault> {
+        let file = encode_file_v2(alloc, ops)?;
+        Ok(file.len() == self.1 && is_migrated_to(alloc, ops, &file)?)
     }
-    None
 }
+
+/// Whether the file of the operations is this one in version 2, both ways and migrated.
+fn is_migrated_to(alloc: Global, ops: &[Op], file: &[u8]) -> Result<bool, CodecFault> {
+    let old = encode_file(alloc, ops)?;
+    Ok(is_run_file_of(alloc, file, ops)? && migrate(alloc, &old)?.as_slice() == file)
+}
+
+impl Row for Chain {
+    fn comes_out(&self, alloc: Global) -> Result<bool, Memory> {
+        let ops = chain_of(alloc, self.0)?;
+        found(self.is_of(alloc, &ops))
+    }
+}
+
+/// A file has 15 bytes plus four a character, or 19 for one alone, after the header.
+const CHAINS: &[Chain] = &[
+    Chain(0, 5),
+    Chain(1, 24),
+    Chain(2, 28),
+    Chain(1_024, 4_116),
+    Chain(1_025, 4_135),
+    Chain(2_049, 8_246),
+];
 
 #[test]
 fn a_chain_is_cut_after_each_1_024(rt: HostRuntime) {
-    assert_eq!(rt; first_wrong_chain(rt.alloc()), None);
+    assert_rows(&rt, CHAINS);
 }
 
 /// Whether what a call made is this, or it says memory.

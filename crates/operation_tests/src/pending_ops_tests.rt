@@ -3,6 +3,7 @@
 //! A refused growth must leave the store as it was, and the call is made again: so each test also passes
 //! with any one allocation refused (`rt try --test --fail-alloc N`).
 
+use crate::rows::assert_none;
 use bg_types::{Id, Op, OpView, Place};
 use pending_ops::Held;
 use std::alloc::Global;
@@ -14,6 +15,10 @@ fn id(counter: u32) -> Option<Id> {
 
 fn insertion(counter: u32, parent: u32) -> Option<Op> {
     Op::insert(id(counter)?, Place::After(id(parent)?), 'x')
+}
+
+fn erasure(target: u32) -> Option<Op> {
+    Some(Op::erase(id(target)?))
 }
 
 /// What a caller can see of a store: the first of its operations, and their number.
@@ -52,7 +57,15 @@ impl Store {
         is_new && self.held.hold(op).is_ok()
     }
 
-    /// The same, on a second try where the first one failed and changed nothing.
+    /// Whether an operation is held at the first try.
+    fn holds_paid(&mut self, op: Option<Op>) -> bool {
+        match op {
+            Some(op) => self.try_hold(op),
+            None => false,
+        }
+    }
+
+    /// Holds an operation, on a second try where the first one failed and changed nothing.
     fn hold(&mut self, op: Op) -> bool {
         let before = self.seen();
         if self.try_hold(op) {
@@ -163,8 +176,8 @@ fn empty_store(alloc: Global) -> Store {
 /// What room was made for is held at the first try.
 fn paid_in_advance(store: &mut Store) -> bool {
     let mut all = store.reserve();
-    for op in [id(2).map(Op::erase), insertion(3, 2), insertion(2, 1)] {
-        all = op.is_some_and(|op| store.try_hold(op)) && all;
+    for op in [erasure(2), insertion(3, 2), insertion(2, 1)] {
+        all = store.holds_paid(op) && all;
     }
     all && store.held.room() == 0
         && store.insert(4, 3)
@@ -239,26 +252,41 @@ fn deletion_and_insertion(store: &mut Store) -> bool {
         && store.insert(2, 1)
         && !store.insert(2, 1)
         && store.times(insertion(2, 1)) == 1
-        && store.times(id(2).map(Op::erase)) == 1
+        && store.times(erasure(2)) == 1
         && store.places_row(1, 1, 1)
         && store.drop_erasure(2)
         && !store.drop_erasure(2)
 }
 
-/// Which rows come out. One store for all of them, each of which leaves it empty.
-fn rows_of_one_store(alloc: Global) -> [bool; 6] {
-    let mut store = empty_store(alloc);
+/// Which rows come out, each of which leaves the store empty.
+fn rows_of(store: &mut Store) -> [bool; 6] {
     [
-        paid_in_advance(&mut store),
-        reversed_chain(&mut store),
-        bush(&mut store),
-        one_chain_of_two(&mut store),
-        both_chains_of_two(&mut store),
-        deletion_and_insertion(&mut store),
+        paid_in_advance(store),
+        reversed_chain(store),
+        bush(store),
+        one_chain_of_two(store),
+        both_chains_of_two(store),
+        deletion_and_insertion(store),
     ]
+}
+
+/// The first row that does not come out of one store for all of them.
+fn first_wrong(alloc: Global) -> Option<usize> {
+    let mut store = empty_store(alloc);
+    let rows = rows_of(&mut store);
+    first_false(&rows)
+}
+
+fn first_false(rows: &[bool]) -> Option<usize> {
+    for (n, right) in rows.iter().enumerate() {
+        if !*right {
+            return Some(n);
+        }
+    }
+    None
 }
 
 #[test]
 fn what_came_early_is_handed_out_once_in_order(rt: HostRuntime) {
-    assert_eq!(rt; rows_of_one_store(rt.alloc()), [true; 6]);
+    assert_none(&rt, "the rows", first_wrong(rt.alloc()));
 }
