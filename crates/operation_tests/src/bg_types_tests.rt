@@ -2,7 +2,7 @@
 
 ghost use Rattle.std.specs.Prelude.{◌≡◌, ◌<◌, false};
 
-use crate::ops::{Name, place_of};
+use crate::ops::Name;
 use crate::rows::{Row, assert_none, assert_rows};
 use bg_types::*;
 use std::alloc::{AllocError, Global};
@@ -86,36 +86,39 @@ fn identifiers_are_ordered_by_counter_and_then_by_site(rt: HostRuntime) {
     assert_none(&rt, "the identifiers", first_out_of_order());
 }
 
-/// An identifier and a parent, (0, 0) for the root, and whether there is such an insertion.
-struct Child(Name, Name, bool);
+/// An identifier, a parent or the root, and whether there is such an insertion.
+struct Child(Name, Option<Name>, bool);
 
-/// Whether there is an insertion of this identifier after this parent, which then is seen as its parts.
-fn is_insertion(id: Id, parent: Place, valid: bool) -> bool {
+/// Whether there is an insertion of this identifier after this parent, or the root, which then is seen as its parts.
+fn is_insertion(id: (u32, u16), parent: Option<(u32, u16)>) -> Option<bool> {
+    let id = Id::new(id.0, id.1)?;
+    let parent = match parent {
+        None => Place::Root,
+        Some((counter, site)) => Place::After(Id::new(counter, site)?),
+    };
     let ch = '\u{5D0}';
     match Op::insert(id, parent, ch) {
-        None => !valid,
-        Some(op) => valid && op.view() == (OpView::Insert { id, parent, ch }),
+        None => Some(false),
+        Some(op) if op.view() == (OpView::Insert { id, parent, ch }) => Some(true),
+        Some(_) => None,
     }
 }
 
 impl Row for Child {
     fn comes_out(&self, _alloc: Global) -> Result<bool, Memory> {
-        Ok(match Id::new(self.0.0, self.0.1) {
-            Some(id) => is_insertion(id, place_of(self.1), self.2),
-            None => false,
-        })
+        Ok(is_insertion(self.0, self.1) == Some(self.2))
     }
 }
 
 const CHILDREN: &[Child] = &[
-    Child((1, 1), (0, 0), true),
-    Child((4_294_967_295, 65_535), (0, 0), true),
-    Child((1, 2), (1, 1), false),
-    Child((1, 1), (1, 2), false),
-    Child((2, 1), (1, 65_535), true),
-    Child((2, 1), (3, 1), false),
-    Child((4_294_967_295, 1), (4_294_967_294, 2), true),
-    Child((4_294_967_295, 2), (4_294_967_295, 1), false),
+    Child((1, 1), None, true),
+    Child((4_294_967_295, 65_535), None, true),
+    Child((1, 2), Some((1, 1)), false),
+    Child((1, 1), Some((1, 2)), false),
+    Child((2, 1), Some((1, 65_535)), true),
+    Child((2, 1), Some((3, 1)), false),
+    Child((4_294_967_295, 1), Some((4_294_967_294, 2)), true),
+    Child((4_294_967_295, 2), Some((4_294_967_295, 1)), false),
 ];
 
 #[test]

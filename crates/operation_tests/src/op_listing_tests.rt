@@ -2,8 +2,9 @@
 
 ghost use Rattle.std.specs.Prelude.{◌≡◌, false};
 
+use crate::rows::{Row, assert_rows};
 use LineFault::{BadLine, NotAScalar, ParentNotBefore, ZeroField};
-use bg_types::{Out, Sink, Stops};
+use bg_types::{Memory, Out, Sink, Stops};
 use op_codec::{Cause, CodecFault};
 use op_listing::*;
 use std::alloc::{AllocError, Global};
@@ -44,49 +45,80 @@ const TREE_MIGRATED: [u8; 75] = [
     0, 7, 2, 0, 0, 0, 2, 0, 2, // frame 4
 ];
 
-/// What `dump` answers, and what is written.
-fn dumped(alloc: Global, file: &[u8]) -> (Result<(), FileFault>, Vec<u8>) {
-    let mut bytes = Vec::new(alloc);
-    let answer = dump(alloc, file, &mut Out::new(&mut bytes));
-    (answer, bytes)
+/// What stands in a room where nothing is written: no byte of a file or listing here.
+const UNWRITTEN: u8 = 0xEE;
+
+/// Whether these bytes stand at the start of a room, and nothing after them.
+fn are_written(room: &[u8], bytes: &[u8]) -> bool {
+    room.starts_with(bytes) && room.get(bytes.len()) == Some(&UNWRITTEN)
 }
 
-/// What `migrate` answers, and what is written.
-fn migrated(alloc: Global, file: &[u8]) -> (Result<(), FileFault>, Vec<u8>) {
-    let mut bytes = Vec::new(alloc);
-    let answer = migrate(alloc, file, &mut Out::new(&mut bytes));
-    (answer, bytes)
+/// What a call found that answered so and wrote into this room.
+fn found(
+    answer: Result<(), FileFault>,
+    room: &[u8],
+    wanted: Result<(), FileFault>,
+    bytes: &[u8],
+) -> Result<bool, Memory> {
+    if answer == Err(FileFault::Memory) {
+        return Err(Memory);
+    }
+    Ok(answer == wanted && are_written(room, bytes))
 }
 
-/// What `pack` answers, and what is written.
-fn packed(alloc: Global, listing: &[u8]) -> (Result<(), ListingFault>, Vec<u8>) {
-    let mut bytes = Vec::new(alloc);
-    let answer = pack(alloc, listing, &mut Out::new(&mut bytes));
-    (answer, bytes)
+/// Whether dumping a file answers this and writes these bytes.
+fn dumps(
+    alloc: Global,
+    file: &[u8],
+    wanted: Result<(), FileFault>,
+    bytes: &[u8],
+) -> Result<bool, Memory> {
+    let mut room = [UNWRITTEN; 128];
+    let answer = dump(alloc, file, &mut Out::new(room.as_mut_slice()));
+    found(answer, &room, wanted, bytes)
 }
 
-/// Whether a listing is packed as this plain one, which is what is dumped of the file.
-fn is_read_as(alloc: Global, listing: &[u8], plain: &[u8]) -> bool {
-    let (answer, file) = packed(alloc, listing);
-    let (_, same) = packed(alloc, plain);
-    let (told, bytes) = dumped(alloc, &file);
-    answer == Ok(())
-        && file.as_slice() == same.as_slice()
-        && told == Ok(())
-        && bytes.as_slice() == plain
+/// Whether migrating a file answers this and writes these bytes.
+fn migrates(
+    alloc: Global,
+    file: &[u8],
+    wanted: Result<(), FileFault>,
+    bytes: &[u8],
+) -> Result<bool, Memory> {
+    let mut room = [UNWRITTEN; 128];
+    let answer = migrate(alloc, file, &mut Out::new(room.as_mut_slice()));
+    found(answer, &room, wanted, bytes)
 }
 
-/// Whether a listing is packed as a file, and read as itself.
-fn is_listing_of(alloc: Global, file: &[u8], listing: &[u8]) -> bool {
-    let (answer, bytes) = packed(alloc, listing);
-    answer == Ok(()) && bytes.as_slice() == file && is_read_as(alloc, listing, listing)
+/// Whether packing a listing answers this and writes these bytes.
+fn packs(
+    alloc: Global,
+    listing: &[u8],
+    wanted: Result<(), ListingFault>,
+    bytes: &[u8],
+) -> Result<bool, Memory> {
+    let mut room = [UNWRITTEN; 128];
+    let answer = pack(alloc, listing, &mut Out::new(room.as_mut_slice()));
+    if answer == Err(ListingFault::Memory) {
+        return Err(Memory);
+    }
+    Ok(answer == wanted && are_written(&room, bytes))
 }
 
-const LISTINGS: &[(&[u8], &[u8])] = &[
-    (&EMPTY, b""),
-    (&TREE, TREE_LISTING),
-    (TREE_WITHOUT_ERASURE, LISTING_WITHOUT_ERASURE),
-    (
+/// A file, and its listing.
+struct Listed(&'static [u8], &'static [u8]);
+
+impl Row for Listed {
+    fn comes_out(&self, alloc: Global) -> Result<bool, Memory> {
+        Ok(packs(alloc, self.1, Ok(()), self.0)? && dumps(alloc, self.0, Ok(()), self.1)?)
+    }
+}
+
+const LISTINGS: &[Listed] = &[
+    Listed(&EMPTY, b""),
+    Listed(&TREE, TREE_LISTING),
+    Listed(TREE_WITHOUT_ERASURE, LISTING_WITHOUT_ERASURE),
+    Listed(
         b"BGOP\x01\x00\x11\x01\xFF\xFF\xFF\xFF\xFF\xFF\xFF\xFF\xFF\xFE\x00\x01\x00\x10\xFF\xFF",
         b"i 4294967295.65535 4294967294.1 10FFFF\n",
     ),
@@ -94,142 +126,161 @@ const LISTINGS: &[(&[u8], &[u8])] = &[
 
 #[test]
 fn files_and_listings_worked_out_by_hand(rt: HostRuntime) {
-    for (file, listing) in LISTINGS {
-        assert!(rt; is_listing_of(rt.alloc(), file, listing), "{listing:?}");
+    assert_rows(&rt, LISTINGS);
+}
+
+/// A file of the tree.
+struct OfTree(&'static [u8]);
+
+impl Row for OfTree {
+    fn comes_out(&self, alloc: Global) -> Result<bool, Memory> {
+        Ok(
+            migrates(alloc, self.0, Ok(()), &TREE_MIGRATED)?
+                && dumps(alloc, self.0, Ok(()), TREE_LISTING)?,
+        )
     }
 }
 
-/// Whether a file of the tree is migrated and dumped.
-fn is_migrated_and_dumped(alloc: Global, file: &[u8]) -> bool {
-    let (migration, bytes) = migrated(alloc, file);
-    let (listing, lines) = dumped(alloc, file);
-    migration == Ok(())
-        && bytes.as_slice() == TREE_MIGRATED.as_slice()
-        && listing == Ok(())
-        && lines.as_slice() == TREE_LISTING
-}
+const OF_TREE: &[OfTree] = &[OfTree(&TREE), OfTree(&TREE_MIGRATED)];
 
 #[test]
 fn a_file_and_its_migration_have_one_listing(rt: HostRuntime) {
-    for file in [TREE.as_slice(), TREE_MIGRATED.as_slice()] {
-        assert!(rt; is_migrated_and_dumped(rt.alloc(), file), "{file:?}");
+    assert_rows(&rt, OF_TREE);
+}
+
+/// A listing, and the plain one that is dumped of its file.
+struct Free(&'static [u8], &'static [u8]);
+
+/// The operation file of a listing.
+fn file_of(alloc: Global, listing: &[u8]) -> Result<Vec<u8>, ListingFault> {
+    let mut bytes = Vec::new(alloc);
+    pack(alloc, listing, &mut Out::new(&mut bytes))?;
+    Ok(bytes)
+}
+
+impl Free {
+    /// Whether both have this file.
+    fn has_file(&self, alloc: Global, file: &[u8]) -> Result<bool, Memory> {
+        Ok(packs(alloc, self.0, Ok(()), file)? && dumps(alloc, file, Ok(()), self.1)?)
     }
 }
+
+impl Row for Free {
+    fn comes_out(&self, alloc: Global) -> Result<bool, Memory> {
+        match file_of(alloc, self.1) {
+            Ok(file) => self.has_file(alloc, &file),
+            Err(ListingFault::Memory) => Err(Memory),
+            Err(_) => Ok(false),
+        }
+    }
+}
+
+const FREEDOMS: &[Free] = &[
+    Free(b"i  01.1  root  000061", b"i 1.1 root 0061\n"),
+    Free(b"e 0000000001.0000000001\n", b"e 1.1\n"),
+    Free(b"e 4294967295.65535", b"e 4294967295.65535\n"),
+    Free(b"i 2.1 1.1 10ffff\n", b"i 2.1 1.1 10FFFF\n"),
+    Free(b"i 1.1 root 1f600\n", b"i 1.1 root 1F600\n"),
+    Free(b"i 1.1 root 0000\n", b"i 1.1 root 0000\n"),
+    Free(b"e 1.1\r\ne 2.1\r\n", b"e 1.1\ne 2.1\n"),
+    Free(b"\n   \n\r\n  e 1.1  \n\n e 2.1", b"e 1.1\ne 2.1\n"),
+    Free(b"\n\r\n", b""),
+];
 
 #[test]
 fn a_listing_is_read_with_its_freedoms(rt: HostRuntime) {
-    let rows: [(&[u8], &[u8]); 9] = [
-        (b"i  01.1  root  000061", b"i 1.1 root 0061\n"),
-        (b"e 0000000001.0000000001\n", b"e 1.1\n"),
-        (b"e 4294967295.65535", b"e 4294967295.65535\n"),
-        (b"i 2.1 1.1 10ffff\n", b"i 2.1 1.1 10FFFF\n"),
-        (b"i 1.1 root 1f600\n", b"i 1.1 root 1F600\n"),
-        (b"i 1.1 root 0000\n", b"i 1.1 root 0000\n"),
-        (b"e 1.1\r\ne 2.1\r\n", b"e 1.1\ne 2.1\n"),
-        (b"\n   \n\r\n  e 1.1  \n\n e 2.1", b"e 1.1\ne 2.1\n"),
-        (b"\n\r\n", b""),
-    ];
-    for (listing, plain) in rows {
-        assert!(rt; is_read_as(rt.alloc(), listing, plain), "{listing:?}");
+    assert_rows(&rt, FREEDOMS);
+}
+
+/// A listing, the number of its first faulty line, and its fault.
+struct FaultyLine(&'static [u8], usize, LineFault);
+
+impl Row for FaultyLine {
+    fn comes_out(&self, alloc: Global) -> Result<bool, Memory> {
+        let (line, fault) = (self.1, self.2);
+        packs(
+            alloc,
+            self.0,
+            Err(ListingFault::Malformed { line, fault }),
+            b"",
+        )
     }
 }
 
-/// Listings, the number of their first faulty line, and its fault.
-const FAULTY_LINES: &[(&[u8], usize, LineFault)] = &[
-    (b"i 1.1 root 61", 1, BadLine),
-    (b"i 1.1 root 0000061", 1, BadLine),
-    (b"i 1.1 root 006G", 1, BadLine),
-    (b"i 1.1 root", 1, BadLine),
-    (b"i 1.1", 1, BadLine),
-    (b"i", 1, BadLine),
-    (b"i 1.1 root 0061 x", 1, BadLine),
-    (b"i 1.1 Root 0061", 1, BadLine),
-    (b"i 1.1 roots 0061", 1, BadLine),
-    (b"i 4294967296.1 root 0061", 1, BadLine),
-    (b"i 9999999999.1 root 0061", 1, BadLine),
-    (b"i 1.65536 root 0061", 1, BadLine),
-    (b"i 2.1 1.65536 0061", 1, BadLine),
-    (b"i 1.1.1 root 0061", 1, BadLine),
-    (b"i\t1.1 root 0061", 1, BadLine),
-    (b"i 1.1\troot 0061", 1, BadLine),
-    (b"e 1.1 x", 1, BadLine),
-    (b"e", 1, BadLine),
-    (b"e 1", 1, BadLine),
-    (b"e 1.", 1, BadLine),
-    (b"e .1", 1, BadLine),
-    (b"e +1.1", 1, BadLine),
-    (b"e 1.1.1", 1, BadLine),
-    (b"e 00000000001.1", 1, BadLine),
-    (b"e 1.00000000001", 1, BadLine),
-    (b"E 1.1", 1, BadLine),
-    (b"\xFF 1.1", 1, BadLine),
-    (b"e 1.1\r", 1, BadLine),
-    (b"e 1.1\r\r\n", 1, BadLine),
-    (b"e 1.1\n\r\n\ne 0.1\nx", 4, ZeroField),
-    (b"e 1.1\ne 1.1\nx", 3, BadLine),
-    (b"i 0.1 root 0061", 1, ZeroField),
-    (b"i 1.0 root 0061", 1, ZeroField),
-    (b"i 2.1 0.0 0061", 1, ZeroField),
-    (b"i 2.1 1.0 0061", 1, ZeroField),
-    (b"i 0.1 root 61", 1, BadLine),
-    (b"i 0.1 5.1 D800", 1, ZeroField),
-    (b"i 2.1 2.2 D800", 1, ParentNotBefore),
-    (b"i 1.1 root D800", 1, NotAScalar),
-    (b"i 2.1 1.2 110000", 1, NotAScalar),
+const FAULTY_LINES: &[FaultyLine] = &[
+    FaultyLine(b"i 1.1 root 61", 1, BadLine),
+    FaultyLine(b"i 1.1 root 0000061", 1, BadLine),
+    FaultyLine(b"i 1.1 root 006G", 1, BadLine),
+    FaultyLine(b"i 1.1 root", 1, BadLine),
+    FaultyLine(b"i 1.1", 1, BadLine),
+    FaultyLine(b"i", 1, BadLine),
+    FaultyLine(b"i 1.1 root 0061 x", 1, BadLine),
+    FaultyLine(b"i 1.1 Root 0061", 1, BadLine),
+    FaultyLine(b"i 1.1 roots 0061", 1, BadLine),
+    FaultyLine(b"i 4294967296.1 root 0061", 1, BadLine),
+    FaultyLine(b"i 9999999999.1 root 0061", 1, BadLine),
+    FaultyLine(b"i 1.65536 root 0061", 1, BadLine),
+    FaultyLine(b"i 2.1 1.65536 0061", 1, BadLine),
+    FaultyLine(b"i 1.1.1 root 0061", 1, BadLine),
+    FaultyLine(b"i\t1.1 root 0061", 1, BadLine),
+    FaultyLine(b"i 1.1\troot 0061", 1, BadLine),
+    FaultyLine(b"e 1.1 x", 1, BadLine),
+    FaultyLine(b"e", 1, BadLine),
+    FaultyLine(b"e 1", 1, BadLine),
+    FaultyLine(b"e 1.", 1, BadLine),
+    FaultyLine(b"e .1", 1, BadLine),
+    FaultyLine(b"e +1.1", 1, BadLine),
+    FaultyLine(b"e 1.1.1", 1, BadLine),
+    FaultyLine(b"e 00000000001.1", 1, BadLine),
+    FaultyLine(b"e 1.00000000001", 1, BadLine),
+    FaultyLine(b"E 1.1", 1, BadLine),
+    FaultyLine(b"\xFF 1.1", 1, BadLine),
+    FaultyLine(b"e 1.1\r", 1, BadLine),
+    FaultyLine(b"e 1.1\r\r\n", 1, BadLine),
+    FaultyLine(b"e 1.1\n\r\n\ne 0.1\nx", 4, ZeroField),
+    FaultyLine(b"e 1.1\ne 1.1\nx", 3, BadLine),
+    FaultyLine(b"i 0.1 root 0061", 1, ZeroField),
+    FaultyLine(b"i 1.0 root 0061", 1, ZeroField),
+    FaultyLine(b"i 2.1 0.0 0061", 1, ZeroField),
+    FaultyLine(b"i 2.1 1.0 0061", 1, ZeroField),
+    FaultyLine(b"i 0.1 root 61", 1, BadLine),
+    FaultyLine(b"i 0.1 5.1 D800", 1, ZeroField),
+    FaultyLine(b"i 2.1 2.2 D800", 1, ParentNotBefore),
+    FaultyLine(b"i 1.1 root D800", 1, NotAScalar),
+    FaultyLine(b"i 2.1 1.2 110000", 1, NotAScalar),
 ];
-
-/// Whether packing a listing answers this fault, and writes nothing.
-fn is_faulty_line(alloc: Global, listing: &[u8], line: usize, fault: LineFault) -> bool {
-    let (answer, bytes) = packed(alloc, listing);
-    answer == Err(ListingFault::Malformed { line, fault }) && bytes.is_empty()
-}
-
-fn first_wrong_line(alloc: Global) -> Option<usize> {
-    for (n, (listing, line, fault)) in FAULTY_LINES.iter().enumerate() {
-        if !is_faulty_line(alloc, listing, *line, *fault) {
-            return Some(n);
-        }
-    }
-    None
-}
 
 #[test]
 fn a_faulty_line_shows_its_first_fault(rt: HostRuntime) {
-    assert_eq!(rt; first_wrong_line(rt.alloc()), None);
+    assert_rows(&rt, FAULTY_LINES);
 }
 
-/// Lengths to which a file is cut, and the frame that is then.
-const CUTS: &[(&[u8], usize, usize)] = &[
-    (&TREE, 0, 0),
-    (&TREE, 4, 0),
-    (&TREE, 6, 1),
-    (&TREE, 80, 4),
-    (&TREE, 89, 5),
-    (&TREE_MIGRATED, 40, 2),
-];
+/// A file, the length to which it is cut, and the frame that is cut then.
+struct Cut(&'static [u8], usize, usize);
 
-/// Whether dumping a file, and migrating it, answers a cut in this frame and writes nothing.
-fn is_cut(alloc: Global, file: &[u8], frame: usize) -> bool {
-    let cause = Cause::Truncated;
-    let fault = FileFault::Malformed { frame, cause };
-    let (listing, lines) = dumped(alloc, file);
-    let (migration, bytes) = migrated(alloc, file);
-    (listing, lines.is_empty()) == (Err(fault), true)
-        && (migration, bytes.is_empty()) == (Err(fault), true)
-}
-
-fn first_wrong_cut(alloc: Global) -> Option<usize> {
-    for (n, (file, length, frame)) in CUTS.iter().enumerate() {
-        if !is_cut(alloc, &file[..(*length).min(file.len())], *frame) {
-            return Some(n);
-        }
+impl Row for Cut {
+    fn comes_out(&self, alloc: Global) -> Result<bool, Memory> {
+        let front = &self.0[..self.1.min(self.0.len())];
+        let fault = FileFault::Malformed {
+            frame: self.2,
+            cause: Cause::Truncated,
+        };
+        Ok(dumps(alloc, front, Err(fault), b"")? && migrates(alloc, front, Err(fault), b"")?)
     }
-    None
 }
+
+const CUTS: &[Cut] = &[
+    Cut(&TREE, 0, 0),
+    Cut(&TREE, 4, 0),
+    Cut(&TREE, 6, 1),
+    Cut(&TREE, 80, 4),
+    Cut(&TREE, 89, 5),
+    Cut(&TREE_MIGRATED, 40, 2),
+];
 
 #[test]
 fn a_faulty_file_shows_its_first_fault(rt: HostRuntime) {
-    assert_eq!(rt; first_wrong_cut(rt.alloc()), None);
+    assert_rows(&rt, CUTS);
 }
 
 /// An engine of this crate, over the tree.
@@ -272,13 +323,39 @@ fn number(answer: Result<(), FileFault>) -> u8 {
 
 /// Whether an engine that may write `left` bytes writes the first of them, and says so where they are not all.
 fn keeps_a_beginning(alloc: Global, engine: Engine, left: usize) -> bool {
-    let mut bytes = Vec::new(alloc);
-    let mut out = Stops::new(Out::new(&mut bytes), 7, left);
+    let mut room = [UNWRITTEN; 128];
+    let mut out = Stops::new(Out::new(room.as_mut_slice()), 7, left);
     let answer = answered(alloc, engine, &mut out);
     let whole = whole(engine);
     let wanted = if left < whole.len() { 7 } else { 0 };
-    answer == wanted && bytes.as_slice() == &whole[..left.min(whole.len())]
+    answer == wanted && are_written(&room, &whole[..left.min(whole.len())])
 }
+
+/// After how many bytes a sink stops.
+struct Stop(usize);
+
+impl Row for Stop {
+    fn comes_out(&self, alloc: Global) -> Result<bool, Memory> {
+        Ok(
+            keeps_a_beginning(alloc, Engine::Dump, self.0)
+                && keeps_a_beginning(alloc, Engine::Migrate, self.0)
+                && keeps_a_beginning(alloc, Engine::Pack, self.0),
+        )
+    }
+}
+
+const STOPS: &[Stop] = &[
+    Stop(0),
+    Stop(1),
+    Stop(60),
+    Stop(66),
+    Stop(67),
+    Stop(74),
+    Stop(75),
+    Stop(89),
+    Stop(90),
+    Stop(91),
+];
 
 /// Whether an engine is right, or says that memory was refused, and then has written nothing.
 fn is_right_or_says_memory(alloc: Global, engine: Engine) -> bool {
@@ -291,19 +368,20 @@ fn is_right_or_says_memory(alloc: Global, engine: Engine) -> bool {
 
 #[test]
 fn a_sink_that_stops_keeps_a_beginning(rt: HostRuntime) {
-    for left in [0, 1, 60, 66, 67, 74, 75, 89, 90, 91] {
-        for engine in [Engine::Dump, Engine::Migrate, Engine::Pack] {
-            let right = keeps_a_beginning(rt.alloc(), engine, left);
-            assert!(rt; right, "{left} of {}", whole(engine).len());
-        }
+    assert_rows(&rt, STOPS);
+}
+
+impl Row for Engine {
+    fn comes_out(&self, alloc: Global) -> Result<bool, Memory> {
+        Ok(is_right_or_says_memory(alloc, *self))
     }
 }
 
+const ENGINES: &[Engine] = &[Engine::Dump, Engine::Migrate, Engine::Pack];
+
 #[test]
 fn a_call_is_right_or_says_memory(rt: HostRuntime) {
-    for engine in [Engine::Dump, Engine::Migrate, Engine::Pack] {
-        assert!(rt; is_right_or_says_memory(rt.alloc(), engine));
-    }
+    assert_rows(&rt, ENGINES);
 }
 
 /// What the faults of a line, of a file and of a listing print.
@@ -331,26 +409,40 @@ fn listing_faults(alloc: Global) -> Result<String, AllocError> {
     )
 }
 
-fn is(printed: Result<String, AllocError>, line: &str) -> bool {
-    match printed {
-        Ok(printed) => printed.as_str() == line,
-        Err(AllocError) => false,
+/// Which faults are printed.
+enum Printed {
+    OfLine,
+    OfFile,
+    OfListing,
+}
+
+/// Faults, and what is printed of them.
+struct Faults(Printed, &'static str);
+
+impl Row for Faults {
+    fn comes_out(&self, alloc: Global) -> Result<bool, Memory> {
+        let printed = match self.0 {
+            Printed::OfLine => line_faults(alloc)?,
+            Printed::OfFile => file_faults(alloc)?,
+            Printed::OfListing => listing_faults(alloc)?,
+        };
+        Ok(printed.as_str() == self.1)
     }
 }
 
+const FAULTS: &[Faults] = &[
+    Faults(
+        Printed::OfLine,
+        "BadLine ZeroField ParentNotBefore NotAScalar",
+    ),
+    Faults(Printed::OfFile, "file 1 frame 3: ZeroField; device; memory"),
+    Faults(
+        Printed::OfListing,
+        "listing line 12: BadLine; device; memory",
+    ),
+];
+
 #[test]
 fn faults_print_what_the_line_about_them_says(rt: HostRuntime) {
-    let line = is(
-        line_faults(rt.alloc()),
-        "BadLine ZeroField ParentNotBefore NotAScalar",
-    );
-    let file = is(
-        file_faults(rt.alloc()),
-        "file 1 frame 3: ZeroField; device; memory",
-    );
-    let listing = is(
-        listing_faults(rt.alloc()),
-        "listing line 12: BadLine; device; memory",
-    );
-    assert_eq!(rt; [line, file, listing], [true; 3]);
+    assert_rows(&rt, FAULTS);
 }

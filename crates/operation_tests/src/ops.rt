@@ -13,7 +13,7 @@ pub(crate) enum OpRow {
     Erase(Name),
 }
 
-pub(crate) fn place_of(name: Name) -> Place {
+fn place_of(name: Name) -> Place {
     match Id::new(name.0, name.1) {
         Some(id) => Place::After(id),
         None => Place::Root,
