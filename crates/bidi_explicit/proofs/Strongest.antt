@@ -6,7 +6,7 @@ use Rattle.std.proofs.lemmas.Str.{chars-nil, chars_past_char, IsUtf8-past_char, 
 use Rattle.std.proofs.lemmas.List.{nil_from_length, length-append}
 use Rattle.bg_types.specs.declared.class.Bidi.{Bidi}
 use Rattle.bg_types.specs.declared.class.Bidi.TheVariants.{L, R, Al, Lri, Rli, Fsi, Pdi}
-use Rattle.ucd_files.specs.Tables.{TableValues, bidi_of}
+use Rattle.unicode_tables.specs.Tables.{TableValues, bidi_of}
 use Rattle.paragraphs.specs.Text.{code_points}
 use Rattle.bidi_explicit.specs.Nesting.{Nodes, end, isolate, unclosed, nest, split_at_pdi, base, enclose}
 use Rattle.bidi_explicit.specs.Strong.{strong_level, depth_behind}

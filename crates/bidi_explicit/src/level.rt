@@ -6,7 +6,7 @@ ghost use Rattle.bidi_explicit.specs.Embedding.{paragraph_level, classes_of};
 
 use bg_types::{Base, Bidi};
 use paragraphs::Para;
-use ucd_files::Tables;
+use unicode_tables::Tables;
 
 /// A paragraph's level, 0 or 1: by its first strong character outside isolates (P2, P3), or as the base says (HL1).
 /// Takes no memory.

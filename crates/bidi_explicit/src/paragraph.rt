@@ -15,7 +15,7 @@ use crate::uniform::{has_controls, uniform};
 use bg_types::{Base, Bidi, Memory};
 use paragraphs::Para;
 use std::alloc::Global;
-use ucd_files::Tables;
+use unicode_tables::Tables;
 
 /// What the rules make of a paragraph of this level, whatever its classes.
 fn by_controls(alloc: Global, level: u8, classes: &[Bidi]) -> Result<Embedded, Memory>

@@ -4,7 +4,7 @@ use Rattle.std.specs.Prelude.{slice_set}
 use Rattle.std.specs.List.{All}
 use Rattle.std.proofs.lemmas.List.{length-set, length-replicate}
 use Rattle.std.proofs.lemmas.List.Elements.{All-nil, All-cons, All-head, All-tail, All-same, All-set, All-replicate}
-use Rattle.ucd_files.specs.Tables.{TableValues}
+use Rattle.unicode_tables.specs.Tables.{TableValues}
 use Rattle.bidi_explicit.specs.declared.kept.Kept.{Kept}
 use Rattle.bidi_explicit.specs.Embedding.{Embedding}
 use Rattle.bidi_explicit.specs.Sequences.{RunSequence}

@@ -7,7 +7,7 @@ use Rattle.bg_types.specs.declared.class.Bidi.{Bidi}
 use Rattle.bg_types.specs.declared.class.Bidi.TheVariants.{L, R, Al}
 use Rattle.bg_types.specs.declared.class.Base.{Base}
 use Rattle.bg_types.specs.declared.class.Base.TheVariants.{Auto, Left, Right}
-use Rattle.ucd_files.specs.Tables.{TableValues}
+use Rattle.unicode_tables.specs.Tables.{TableValues}
 use Rattle.bidi_explicit.specs.Embedding.{Embedding, paragraph_level}
 use Rattle.bidi_explicit.specs.Nesting.{Nodes, end, char, isolate, unclosed, base, nest}
 use Rattle.bidi_weak_neutral.specs.Classes.{is, is_number}

@@ -10,7 +10,7 @@ use Rattle.bg_types.specs.declared.class.Bidi.{Bidi}
 use Rattle.bg_types.specs.declared.class.Bidi.TheVariants.{L, En, Es, Et, Cs, Nsm, B, S, Ws, On}
 use Rattle.bg_types.specs.declared.class.Base.{Base}
 use Rattle.bg_types.specs.declared.class.Base.TheVariants.{Auto, Left, Right}
-use Rattle.ucd_files.specs.Tables.{TableValues, bidi_of}
+use Rattle.unicode_tables.specs.Tables.{TableValues, bidi_of}
 use Rattle.paragraphs.specs.Text.{code_points}
 use Rattle.paragraphs.specs.Classes.{is_separator, is_removed}
 use Rattle.bidi_explicit.specs.declared.kept.Kept.{Kept}

@@ -7,7 +7,7 @@ use Rattle.std.proofs.lemmas.Bool.{false≢true}
 use Rattle.std.proofs.lemmas.List.Elements.{All-nil, All-cons, All-head, All-tail, All-map, All-append, All-take, All-drop, All-weaker}
 use Rattle.bg_types.specs.declared.class.Bidi.{Bidi}
 use Rattle.bg_types.specs.declared.class.Bidi.TheVariants.{L, R, Al, En, Es, Et, An, Cs, Nsm, B, S, Ws, On}
-use Rattle.ucd_files.specs.Tables.{TableValues}
+use Rattle.unicode_tables.specs.Tables.{TableValues}
 use Rattle.bracket_pairs.specs.Pairs.{Pair, roles, pairs_in_order}
 use Rattle.bracket_pairs.specs.N0.{direction_of_level, direction_of, opposite, is_direction, has_strong, pair_direction, is_nonspacing, marks_set, bracket_set, pair_set, pair_resolved, last_strong, n0}
 use Rattle.bg_types.specs.Classes.{is_isolate_control}

@@ -4,7 +4,7 @@ use Rattle.std.specs.List.{list_all}
 use Rattle.bg_types.specs.declared.class.Bidi.{Bidi}
 use Rattle.bg_types.specs.declared.class.Bidi.TheVariants.{On}
 use Rattle.bg_types.specs.declared.class.Base.{Base}
-use Rattle.ucd_files.specs.Tables.{TableValues, bidi_of}
+use Rattle.unicode_tables.specs.Tables.{TableValues, bidi_of}
 use Rattle.paragraphs.specs.Text.{code_points}
 use Rattle.bidi_explicit.specs.declared.kept.Kept.{Kept}
 use Rattle.bidi_explicit.specs.Embedding.{Embedding, embedding, classes_of}

@@ -1,7 +1,7 @@
 //! The resolved levels of a paragraph.
 
 ghost use Rattle.std.specs.Prelude.{◌≡◌, ◌<◌, ◌≤◌, IfOk, OnOk, All, Some, None, length, map, replicate, if◌then◌else◌};
-ghost use Rattle.ucd_files.specs.Tables.{bidi_of};
+ghost use Rattle.unicode_tables.specs.Tables.{bidi_of};
 ghost use Rattle.std.specs.List.{list_all};
 ghost use Rattle.paragraphs.specs.Text.{code_points};
 ghost use Rattle.bidi_explicit.specs.Embedding.{embedding_at};
@@ -15,7 +15,7 @@ use bg_types::{Base, Bidi, Memory};
 use bidi_explicit::{Embedded, Kept, Sequence, explicit_at, paragraph_level};
 use paragraphs::{Para, code_points_of};
 use std::alloc::Global;
-use ucd_files::Tables;
+use unicode_tables::Tables;
 
 /// What is kept from one sequence to the next, so that memory is taken only for the longest.
 #[derive(Drop)]

@@ -9,7 +9,7 @@ use bg_types::{Bidi, Memory};
 use bidi_explicit::{Kept, Sequence};
 use bracket_pairs::resolve;
 use std::alloc::Global;
-use ucd_files::Tables;
+use unicode_tables::Tables;
 
 /// The type of what is kept at a place, after overrides.
 #[inline]

@@ -8,7 +8,7 @@ use Rattle.std.proofs.lemmas.Option.{same_Some}
 use Rattle.std.proofs.lemmas.List.Folds.{find-append}
 use Rattle.std.proofs.lemmas.List.Elements.{filter_map-append}
 use Rattle.bg_types.specs.declared.class.Bidi.{Bidi}
-use Rattle.ucd_files.specs.Tables.{TableValues}
+use Rattle.unicode_tables.specs.Tables.{TableValues}
 use Rattle.bracket_pairs.specs.declared.role.Role.{Role}
 use Rattle.bracket_pairs.specs.declared.role.Role.TheVariants.{Opening}
 use Rattle.bracket_pairs.specs.declared.search.Waiting.{Waiting}

@@ -5,7 +5,7 @@ use Rattle.std.specs.Option.{option_or}
 use Rattle.bg_types.specs.declared.class.Bidi.{Bidi}
 use Rattle.bg_types.specs.declared.class.Bidi.TheVariants.{L, R, En, An}
 unfoldable pub use Rattle.bg_types.specs.Classes.{is_nonspacing}
-use Rattle.ucd_files.specs.Tables.{TableValues}
+use Rattle.unicode_tables.specs.Tables.{TableValues}
 use Rattle.bracket_pairs.specs.declared.direction.Direction.{Direction}
 use Rattle.bracket_pairs.specs.declared.direction.Direction.TheVariants.{LeftToRight, RightToLeft}
 use Rattle.bracket_pairs.specs.declared.role.Role.{Role}

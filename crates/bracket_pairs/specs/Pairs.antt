@@ -3,9 +3,9 @@ use Rattle.std.specs.Prelude.{ℕ, zero, suc, ◌==◌, nat_le, nat_lt, not, ◌
 use Rattle.std.specs.List.{list_any, filter_map}
 use Rattle.bg_types.specs.declared.class.Bidi.{Bidi}
 use Rattle.bg_types.specs.declared.class.Bidi.TheVariants.{On}
-use Rattle.ucd_files.specs.Tables.{TableValues, bracket_of}
-use Rattle.ucd_files.specs.declared.value.Bracket.{Bracket}
-use Rattle.ucd_files.specs.declared.value.Bracket.TheVariants.{Open, Close, None as no_bracket}
+use Rattle.unicode_tables.specs.Tables.{TableValues, bracket_of}
+use Rattle.unicode_tables.specs.declared.bracket.Bracket.{Bracket}
+use Rattle.unicode_tables.specs.declared.bracket.Bracket.TheVariants.{Open, Close, None as no_bracket}
 use Rattle.bracket_pairs.specs.declared.role.Role.{Role}
 use Rattle.bracket_pairs.specs.declared.role.Role.TheVariants.{Opening, Closing, Neither}
 

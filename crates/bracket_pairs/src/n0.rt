@@ -11,7 +11,7 @@ use crate::direction::Direction;
 use crate::search::{closings, has_opening};
 use bg_types::{Bidi, Memory};
 use std::alloc::Global;
-use ucd_files::Tables;
+use unicode_tables::Tables;
 
 /// A bracket and the nonspacing marks after it, all of one type: the places from `start` to `end`.
 #[derive(Clone, Copy)]

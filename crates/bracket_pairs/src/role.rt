@@ -4,7 +4,7 @@ ghost use Rattle.std.specs.Prelude.{◌≡◌};
 ghost use Rattle.bracket_pairs.specs.Pairs.{canonical, role_of};
 
 use bg_types::Bidi;
-use ucd_files::{Bracket, Tables};
+use unicode_tables::{Bracket, Tables};
 
 /// What a character does in the search for pairs.
 #[derive(Clone, Copy)]

@@ -9,7 +9,7 @@ use crate::role::{Role, role_of};
 use arrayvec::ArrayVec;
 use bg_types::{Bidi, Memory};
 use std::alloc::Global;
-use ucd_files::Tables;
+use unicode_tables::Tables;
 
 /// How many opening brackets may wait.
 const MOST_OPEN: usize = 63;

@@ -7,7 +7,7 @@ use Rattle.std.proofs.lemmas.Bool.Decides.{leb_tells}
 use Rattle.std.specs.List.{All}
 use Rattle.std.specs.Str.{IsUtf8}
 use Rattle.bg_types.specs.declared.class.Base.{Base}
-use Rattle.ucd_files.specs.Tables.{TableValues}
+use Rattle.unicode_tables.specs.Tables.{TableValues}
 use Rattle.paragraphs.specs.Text.{code_points}
 use Rattle.paragraphs.specs.Clusters.{clusters}
 use Rattle.paragraphs.specs.Paragraphs.{Paragraph, paragraphs, StandsIn, ParagraphsFollow}

@@ -1,7 +1,7 @@
 -- What a row prints, entry by entry.
 use Rattle.std.proofs.Common.{◌≡◌, ℕ, zero, suc, ◌+◌, List, [], ◌∷◌, ◌++◌, length, replicate, slice_get, Some, flat_map, refl, sym, ap, ◌∙◌, arith, append_assoc, append-nil, length-append}
 use Rattle.std.proofs.lemmas.List.Concat.{flat_map-append, flat_map-cons}
-use Rattle.ucd_files.specs.Tables.{TableValues}
+use Rattle.unicode_tables.specs.Tables.{TableValues}
 use Rattle.cell_grid.specs.declared.entry.Entry.{Entry}
 use Rattle.cell_grid.specs.declared.cell.Cell.{Cell}
 use Rattle.cell_grid.specs.declared.cell.Cell.TheVariants.{Blank, Head, Tail}

@@ -9,7 +9,7 @@ use Rattle.std.specs.Str.{IsUtf8}
 use Rattle.bg_types.specs.declared.class.Base.{Base}
 use Rattle.bg_types.specs.declared.class.Bidi.TheVariants.{B}
 use Rattle.bg_types.specs.Classes.{is_removed}
-use Rattle.ucd_files.specs.Tables.{TableValues, bidi_of, lb_of}
+use Rattle.unicode_tables.specs.Tables.{TableValues, bidi_of, lb_of}
 use Rattle.paragraphs.specs.Text.{code_points}
 use Rattle.paragraphs.specs.Classes.{is_separator, is_line_end}
 use Rattle.paragraphs.specs.Clusters.{clusters, cluster_sizes}

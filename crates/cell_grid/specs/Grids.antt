@@ -3,7 +3,7 @@ use Rattle.std.specs.Prelude.{◌≡◌, ℕ, ◌≤◌, List, map, length}
 use Rattle.std.specs.List.{flat_map}
 use Rattle.std.specs.Str.{IsUtf8}
 use Rattle.bg_types.specs.declared.class.Base.{Base}
-use Rattle.ucd_files.specs.Tables.{TableValues}
+use Rattle.unicode_tables.specs.Tables.{TableValues}
 use Rattle.paragraphs.specs.Paragraphs.{Paragraph, paragraphs}
 use Rattle.cell_grid.specs.Rows.{DrawnRow, rows_of, shifted}
 

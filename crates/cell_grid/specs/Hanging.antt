@@ -1,6 +1,6 @@
 -- The columns of a line's clusters, those of the spaces at its end among them.
 use Rattle.std.specs.Prelude.{ℕ, suc, ◌-◌, nat_le, List, [], ◌∷◌, ◌++◌, map, length, replicate, slice_range, if◌then◌else◌}
-use Rattle.ucd_files.specs.Tables.{TableValues}
+use Rattle.unicode_tables.specs.Tables.{TableValues}
 use Rattle.line_break.specs.declared.line.Line.{Line}
 use Rattle.line_break.specs.LineClusters.{line_clusters}
 use Rattle.line_break.specs.Lines.{without_tail, tail, columns}

@@ -1,7 +1,7 @@
 -- Words of the laws of rows and grids.
 use Rattle.std.specs.Prelude.{◌≡◌, ℕ, ◌+◌, ◌<◌, ◌≤◌, List, [], ◌∷◌, map, length, slice_get, Some, true, false}
 use Rattle.std.specs.List.{All, flat_map}
-use Rattle.ucd_files.specs.Tables.{TableValues}
+use Rattle.unicode_tables.specs.Tables.{TableValues}
 use Rattle.paragraphs.specs.Paragraphs.{Paragraph, paragraphs}
 use Rattle.reorder.specs.VisualList.{is_odd}
 use Rattle.paragraphs.specs.declared.span.Span.{Span}

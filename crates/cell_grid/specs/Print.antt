@@ -4,7 +4,7 @@ use Rattle.std.specs.List.{flat_map}
 use Rattle.bg_types.specs.declared.class.Base.{Base}
 use Rattle.bg_types.specs.declared.class.Bidi.{Bidi}
 use Rattle.bg_types.specs.declared.class.Bidi.TheVariants.{S}
-use Rattle.ucd_files.specs.Tables.{TableValues, bidi_of}
+use Rattle.unicode_tables.specs.Tables.{TableValues, bidi_of}
 use Rattle.paragraphs.specs.Text.{code_points}
 use Rattle.reorder.specs.Mirrored.{mirrored_of}
 use Rattle.cell_grid.specs.declared.entry.Entry.{Entry}

@@ -1,7 +1,7 @@
 -- The one row of a paragraph that is its separator alone.
 use Rattle.std.specs.Prelude.{ℕ, ◌≡◌, List, [], ◌∷◌}
 use Rattle.bg_types.specs.declared.class.Bidi.TheVariants.{B}
-use Rattle.ucd_files.specs.Tables.{TableValues, bidi_of}
+use Rattle.unicode_tables.specs.Tables.{TableValues, bidi_of}
 use Rattle.paragraphs.specs.Text.{code_points}
 use Rattle.cell_grid.specs.Rows.{DrawnRow, row_with}
 

@@ -12,7 +12,7 @@ use bg_types::{Base, Memory};
 use paragraphs::{Para, split};
 use std::alloc::Global;
 use std::marker::Model;
-use ucd_files::Tables;
+use unicode_tables::Tables;
 
 /// A text as it is drawn: a row for each line of each paragraph. It borrows the text and the
 /// tables.

@@ -4,7 +4,7 @@ ghost use Rattle.std.specs.Prelude.{ℕ, ◌+◌, ◌<◌, ◌≤◌, List, leng
 ghost use Rattle.std.specs.List.{All};
 ghost use Rattle.std.specs.Str.{IsUtf8};
 ghost use Rattle.bg_types.specs.declared.class.Base.{Base};
-ghost use Rattle.ucd_files.specs.Tables.{TableValues};
+ghost use Rattle.unicode_tables.specs.Tables.{TableValues};
 ghost use Rattle.paragraphs.specs.Text.{code_points};
 ghost use Rattle.cell_grid.specs.Grids.{DrawnGrid, IsDrawn};
 ghost use Rattle.cell_grid.specs.Rows.{rows_of};

@@ -24,7 +24,7 @@ use line_break::{Cluster, Line, Outline, lines_of, outline_of};
 use paragraphs::{Para, Span, code_points_of};
 use reorder::line_levels_at;
 use std::alloc::Global;
-use ucd_files::Tables;
+use unicode_tables::Tables;
 
 /// What the rows of a paragraph are made of.
 #[derive(Drop)]

@@ -14,7 +14,7 @@ use crate::laws_below::laws_below;
 use crate::row::Row;
 use bg_types::{Bidi, Device, Sink, put_all};
 use reorder::mirrored;
-use ucd_files::Tables;
+use unicode_tables::Tables;
 
 /// Writes a grid: the text of each cell, and one LF after each row. Takes no memory.
 ///

@@ -6,7 +6,7 @@ ghost use Rattle.cell_grid.specs.Separators.{IsSeparatorAlone, separator_row};
 use crate::row::Row;
 use bg_types::{Bidi, Memory};
 use std::alloc::Global;
-use ucd_files::Tables;
+use unicode_tables::Tables;
 
 /// Whether a text is one character, which ends paragraphs.
 #[inline]

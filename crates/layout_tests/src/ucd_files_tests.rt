@@ -19,13 +19,15 @@ const NONE: Ucd<'static> = Ucd {
 
 /// Loads one file with four empty ones.
 fn load(alloc: Global, file: UcdFile, bytes: &[u8]) -> Result<Tables, UcdFault> {
+    let mut files = NONE;
     match file {
-        UcdFile::Bidi => Tables::load(alloc, bytes, b"", b"", b"", b""),
-        UcdFile::Brackets => Tables::load(alloc, b"", bytes, b"", b"", b""),
-        UcdFile::Mirror => Tables::load(alloc, b"", b"", bytes, b"", b""),
-        UcdFile::Lb => Tables::load(alloc, b"", b"", b"", bytes, b""),
-        UcdFile::Ea => Tables::load(alloc, b"", b"", b"", b"", bytes),
+        UcdFile::Bidi => files.bidi = bytes,
+        UcdFile::Brackets => files.brackets = bytes,
+        UcdFile::Mirror => files.mirror = bytes,
+        UcdFile::Lb => files.lb = bytes,
+        UcdFile::Ea => files.ea = bytes,
     }
+    files.load(alloc)
 }
 
 /// A character's Bidi class, break class and width.

@@ -4,7 +4,7 @@ use Rattle.std.proofs.lemmas.List.{length-drop, length-map, nil_from_length}
 use Rattle.std.proofs.lemmas.List.Folds.{drop_split}
 use Rattle.std.proofs.Math.ListN.{drop_of_length-le}
 use Rattle.std.specs.List.{flat_map}
-use Rattle.ucd_files.specs.Tables.{TableValues}
+use Rattle.unicode_tables.specs.Tables.{TableValues}
 use Rattle.paragraphs.specs.Text.{code_points}
 use Rattle.paragraphs.specs.Clusters.{clusters, cluster_code_points}
 use Rattle.line_break.specs.declared.cluster.Cluster.{Cluster}

@@ -4,7 +4,7 @@ use Rattle.std.proofs.lemmas.List.{append_assoc, nil_from_length}
 use Rattle.std.proofs.lemmas.Str.{chars-nil, chars_past_char, IsUtf8-past_char, length-le-encodes}
 use Rattle.std.specs.Prelude.{encode_utf8, encode_utf8_all as encodes}
 use Rattle.std.specs.Str.{IsUtf8}
-use Rattle.ucd_files.specs.Tables.{TableValues}
+use Rattle.unicode_tables.specs.Tables.{TableValues}
 use Rattle.paragraphs.specs.Text.{code_points}
 use Rattle.line_break.specs.declared.context.Before.{Before}
 use Rattle.line_break.specs.declared.item.Item.{Item}

@@ -2,7 +2,7 @@
 use Rattle.std.specs.Prelude.{ℕ, Bool, not, List, [], ◌∷◌, fold, if◌then◌else◌}
 use Rattle.bg_types.specs.declared.class.Lb.{Lb}
 use Rattle.bg_types.specs.declared.class.Lb.TheVariants.{Al, Bk, Cm, Cr, Lf, Nl, Sp, Zw, Zwj}
-use Rattle.ucd_files.specs.Tables.{TableValues, bidi_of, lb_of, ea_of}
+use Rattle.unicode_tables.specs.Tables.{TableValues, bidi_of, lb_of, ea_of}
 use Rattle.line_break.specs.declared.item.Item.{Item}
 use Rattle.line_break.specs.Classes.{one_of, resolved, is_east_asian}
 

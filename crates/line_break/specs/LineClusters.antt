@@ -2,7 +2,7 @@
 use Rattle.std.specs.Prelude.{ℕ, Bool, ◌-◌, ◌==◌, ◌||◌, List, [], ◌∷◌, drop, length, slice_index_or}
 use Rattle.std.specs.List.{list_all}
 use Rattle.bg_types.specs.declared.class.Lb.TheVariants.{Sp}
-use Rattle.ucd_files.specs.Tables.{TableValues, lb_of}
+use Rattle.unicode_tables.specs.Tables.{TableValues, lb_of}
 use Rattle.paragraphs.specs.Clusters.{cluster_code_points}
 use Rattle.paragraphs.specs.Columns.{columns_of}
 use Rattle.line_break.specs.declared.cluster.Cluster.{Cluster}

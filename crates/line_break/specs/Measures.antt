@@ -1,6 +1,6 @@
 -- What is read of a cluster by itself.
 use Rattle.std.specs.Prelude.{◌≡◌, ℕ, List, ◌∷◌, length}
-use Rattle.ucd_files.specs.Tables.{TableValues}
+use Rattle.unicode_tables.specs.Tables.{TableValues}
 use Rattle.paragraphs.specs.Text.{code_points}
 use Rattle.paragraphs.specs.Columns.{columns_of}
 use Rattle.line_break.specs.declared.measure.Measure.{Measure}

@@ -1,11 +1,11 @@
 //! Line breaking classes as the rules see them.
 
 ghost use Rattle.std.specs.Prelude.{◌≡◌};
-ghost use Rattle.ucd_files.specs.Tables.{bidi_of, lb_of};
+ghost use Rattle.unicode_tables.specs.Tables.{bidi_of, lb_of};
 ghost use Rattle.line_break.specs.Classes.{one_of, resolved, is_east_asian};
 
 use bg_types::{Ea, Lb};
-use ucd_files::Tables;
+use unicode_tables::Tables;
 
 /// Whether the class is one of these.
 #[inline]

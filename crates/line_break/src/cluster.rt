@@ -7,7 +7,7 @@ ghost use Rattle.line_break.specs.LineClusters.{is_space, hangs};
 use crate::class::is_one_of;
 use crate::status::Break;
 use bg_types::Lb;
-use ucd_files::Tables;
+use unicode_tables::Tables;
 
 /// What lines ask of a cluster: its columns, 0 to 2, whether it has only spaces, and the status of
 /// the boundary after it.

@@ -5,7 +5,7 @@ ghost use Rattle.line_break.specs.Items.{is_mark, takes_marks};
 
 use crate::class::{is_east_asian, is_one_of, resolved};
 use bg_types::Lb;
-use ucd_files::Tables;
+use unicode_tables::Tables;
 
 /// A base with its marks: the base's class by LB1, and whether it is East Asian F, W or H.
 #[derive(Clone, Copy)]

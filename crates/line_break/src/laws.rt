@@ -2,7 +2,7 @@
 
 ghost use Rattle.std.specs.Prelude.{◌≡◌, ℕ, ◌<◌, ◌≤◌, true, List, [], ◌∷◌, length, slice_range};
 ghost use Rattle.std.specs.List.{All, flat_map};
-ghost use Rattle.ucd_files.specs.Tables.{TableValues};
+ghost use Rattle.unicode_tables.specs.Tables.{TableValues};
 ghost use Rattle.paragraphs.specs.Clusters.{clusters};
 ghost use Rattle.line_break.specs.LineClusters.{line_clusters};
 ghost use Rattle.line_break.specs.Lines.{fits, lines};

@@ -11,7 +11,7 @@ use crate::outline::outline_of;
 use bg_types::Memory;
 use paragraphs::Para;
 use std::alloc::Global;
-use ucd_files::Tables;
+use unicode_tables::Tables;
 
 /// A line: the numbers of its first cluster and of the one after its last, counted in the
 /// paragraph from 0.

@@ -8,7 +8,7 @@ use crate::class::is_one_of;
 use crate::cluster::is_space;
 use bg_types::Lb;
 use paragraphs::{Clusters, columns, columns_of_one};
-use ucd_files::Tables;
+use unicode_tables::Tables;
 
 /// How many code points a cluster has, its columns, and whether it has only spaces.
 #[derive(Clone, Copy)]

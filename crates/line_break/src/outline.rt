@@ -12,7 +12,7 @@ use crate::status::opportunities;
 use bg_types::Memory;
 use paragraphs::{Para, Span, laws};
 use std::alloc::Global;
-use ucd_files::Tables;
+use unicode_tables::Tables;
 
 /// The clusters of a paragraph, in order: three lists with an element for each.
 #[derive(Debug, Drop)]

@@ -10,7 +10,7 @@ use crate::rules::status;
 use bg_types::Memory;
 use paragraphs::Para;
 use std::alloc::Global;
-use ucd_files::Tables;
+use unicode_tables::Tables;
 
 /// What the boundary after a code point means for a line (UAX #14, LD).
 #[derive(Clone, Copy, Debug, PartialEq, Eq, Hash)]

@@ -6,7 +6,7 @@ use Rattle.std.proofs.lemmas.Str.{chars-nil, chars_past_char, encodes-chars, len
 use Rattle.std.specs.List.{All}
 use Rattle.std.specs.Prelude.{encode_utf8, encode_utf8_all}
 use Rattle.std.specs.Str.{IsUtf8, IsCharBoundary}
-use Rattle.ucd_files.specs.Tables.{TableValues, bidi_of}
+use Rattle.unicode_tables.specs.Tables.{TableValues, bidi_of}
 use Rattle.paragraphs.specs.Text.{code_points}
 use Rattle.paragraphs.specs.Paragraphs.{Paragraph, ends_paragraph, paragraph_between, pieces, paragraphs, StandsIn}
 use Rattle.paragraphs.proofs.Cutting.{cuts_from, cuts-is, drop-step, step-le}

@@ -1,7 +1,7 @@
 -- ClustersAndColumns, its second half: the columns of a cluster, by cases in their order.
 use Rattle.std.specs.Prelude.{ℕ, Bool, false, ◌==◌, ◌&&◌, ◌||◌, if◌then◌else◌, List, [], ◌∷◌}
 use Rattle.std.specs.List.{list_all, list_any}
-use Rattle.ucd_files.specs.Tables.{TableValues, bidi_of, lb_of, ea_of}
+use Rattle.unicode_tables.specs.Tables.{TableValues, bidi_of, lb_of, ea_of}
 use Rattle.paragraphs.specs.Classes.{is_separator, is_removed, is_isolate_control, is_line_end, is_wide, is_ambiguous}
 
 -- c has Bidi class B or break class BK, CR, LF or NL

@@ -2,7 +2,7 @@
 
 ghost use Rattle.std.specs.Prelude.{◌≡◌, IfOk, map};
 ghost use Rattle.std.specs.List.{All, concat};
-ghost use Rattle.ucd_files.specs.Tables.{bidi_of};
+ghost use Rattle.unicode_tables.specs.Tables.{bidi_of};
 ghost use Rattle.paragraphs.specs.Text.{code_points};
 ghost use Rattle.paragraphs.specs.Paragraphs.{begins_with_line_feed, ends_paragraph, paragraphs, StandsIn};
 
@@ -10,7 +10,7 @@ use crate::class::is_separator;
 use crate::para::Para;
 use bg_types::Memory;
 use std::alloc::Global;
-use ucd_files::Tables;
+use unicode_tables::Tables;
 
 /// Whether a text begins with a U+000A of class B.
 #[inline]

@@ -3,7 +3,7 @@
 ghost use Rattle.std.specs.Prelude.{◌≡◌, ℕ, ◌+◌, ◌<◌, List, length, map, slice_index, sum, take};
 ghost use Rattle.std.specs.List.{All, concat};
 ghost use Rattle.std.specs.Str.{IsUtf8};
-ghost use Rattle.ucd_files.specs.Tables.{TableValues};
+ghost use Rattle.unicode_tables.specs.Tables.{TableValues};
 ghost use Rattle.paragraphs.specs.Text.{code_points};
 ghost use Rattle.paragraphs.specs.Clusters.{clusters, cluster_code_points, cluster_sizes};
 ghost use Rattle.paragraphs.specs.Spans.{spans};

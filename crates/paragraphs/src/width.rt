@@ -6,7 +6,7 @@ ghost use Rattle.paragraphs.specs.Text.{code_points};
 ghost use Rattle.paragraphs.specs.Columns.{ends_line, begins_with_end, is_direction_mark, is_invisible, takes_two, takes_two_by_choice, columns_by_choice, columns_of};
 
 use crate::class::{is_ambiguous, is_line_end, is_removed, is_separator, is_wide};
-use ucd_files::Tables;
+use unicode_tables::Tables;
 
 /// The columns of a cluster, 0 to 2. It has none if it begins with what ends a line or a
 /// paragraph, or if each of its characters is invisible; and two if one of them is wide, or

@@ -4,7 +4,7 @@ use Rattle.std.specs.Str.{chars}
 use Rattle.bg_types.specs.declared.class.Bidi.{Bidi}
 use Rattle.bg_types.specs.declared.class.Bidi.TheVariants.{S, B, Ws}
 use Rattle.bg_types.specs.Classes.{is_removed, is_isolate_control}
-use Rattle.ucd_files.specs.Tables.{TableValues, bidi_of}
+use Rattle.unicode_tables.specs.Tables.{TableValues, bidi_of}
 
 -- the separators of segments and paragraphs
 unfoldable pub is_separator : Bidi → Bool

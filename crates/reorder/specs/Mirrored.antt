@@ -1,6 +1,6 @@
 -- The character that is shown: UAX #9, L4.
 use Rattle.std.specs.Prelude.{ℕ, if◌then◌else◌, unwrap_or}
-use Rattle.ucd_files.specs.Tables.{TableValues, mirror_of}
+use Rattle.unicode_tables.specs.Tables.{TableValues, mirror_of}
 use Rattle.reorder.specs.VisualList.{is_odd}
 
 -- at an odd level the mirror of a character that the mirroring file lists, else the character

@@ -6,7 +6,7 @@ ghost use Rattle.reorder.specs.LineLevels.{is_separator, is_run_class, resets_be
 
 use bg_types::{Bidi, Memory};
 use std::alloc::Global;
-use ucd_files::Tables;
+use unicode_tables::Tables;
 
 /// Whether L1 resets a code point of a class, given whether the one after it in the line is reset.
 #[tactic(auto, unfolding(crate::specs::LineLevels::is_separator, crate::specs::LineLevels::is_run_class, bg_types::specs::Classes::is_removed, bg_types::specs::Classes::is_isolate_control))]

@@ -1,5 +1,4 @@
 -- The modules of this crate's proofs.
-pub mod CodePoints
 pub mod Codes
 pub mod FirstFault
 pub mod LineFields
@@ -7,4 +6,5 @@ pub mod LinesBack
 pub mod LinesOf
 pub mod Named
 pub mod UnsetPlaces
+pub mod TablesOf
 pub mod Writes

@@ -6,8 +6,8 @@ use Rattle.bg_types.specs.declared.class.Lb.{Lb}
 use Rattle.bg_types.specs.declared.class.Lb.TheVariants.{Xx}
 use Rattle.bg_types.specs.declared.class.Ea.{Ea}
 use Rattle.bg_types.specs.declared.class.Ea.TheVariants.{N}
-use Rattle.ucd_files.specs.declared.value.Bracket.{Bracket}
-use Rattle.ucd_files.specs.declared.value.Bracket.TheVariants.{None as no_bracket}
+use Rattle.unicode_tables.specs.declared.bracket.Bracket.{Bracket}
+use Rattle.unicode_tables.specs.declared.bracket.Bracket.TheVariants.{None as no_bracket}
 use Rattle.ucd_files.specs.Reading.{Reading}
 use Rattle.ucd_files.specs.Fields.{line_by, property_fields, bracket_fields, mirror_fields, property_missing}
 use Rattle.ucd_files.specs.Names.{named}

@@ -10,7 +10,7 @@ use crate::entry::Entry;
 use crate::fault::Cause;
 use crate::line::{has_two_fields, next_field, text_and_comment};
 use crate::names::{value_named, value_of};
-use crate::value::Bracket;
+use unicode_tables::Bracket;
 
 /// What a code or a range says, with the value of a name.
 fn entry<V: Copy>(codes: &[u8], value: Option<V>) -> Result<Entry<V>, Cause>

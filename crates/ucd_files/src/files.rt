@@ -3,9 +3,10 @@
 ghost use Rattle.std.specs.Prelude.{◌≡◌, ◌≢◌, None, Some, IfOk, IfErr, OnOk};
 ghost use Rattle.ucd_files.specs.Ucd.{tables_of_ucd, fault_of_ucd};
 
-use crate::fault::UcdFault;
-use crate::tables::Tables;
+use crate::fault::{UcdFault, UcdFile};
+use crate::read::read;
 use std::alloc::Global;
+use unicode_tables::Tables;
 
 /// The bytes of the five data files, and how wide ambiguous characters are.
 #[derive(Clone, Copy, Debug)]
@@ -34,14 +35,12 @@ impl Ucd<'_> {
         ensures sound { OnOk result (fault_of_ucd self.now ≡ None) }
         ensures fault { IfErr result (λ e. e ≢ UcdFault.Memory → fault_of_ucd self.now ≡ Some e) }
     {
-        let tables = Tables::load(
-            alloc,
-            self.bidi,
-            self.brackets,
-            self.mirror,
-            self.lb,
-            self.ea,
-        )?;
+        let bidi = read(alloc, UcdFile::Bidi, self.bidi)?;
+        let brackets = read(alloc, UcdFile::Brackets, self.brackets)?;
+        let mirror = read(alloc, UcdFile::Mirror, self.mirror)?;
+        let lb = read(alloc, UcdFile::Lb, self.lb)?;
+        let ea = read(alloc, UcdFile::Ea, self.ea)?;
+        let tables = Tables::new(bidi, brackets, mirror, lb, ea);
         Ok(tables.with_wide_ambiguous(self.wide_ambiguous))
     }
 }

@@ -3,7 +3,8 @@
 ghost use Rattle.std.specs.Prelude.{◌≡◌, ℕ, ◌<◌, List};
 ghost use Rattle.ucd_files.specs.Reading.{value_at};
 ghost use Rattle.ucd_files.specs.Files.{bidi_file, brackets_file, mirror_file, lb_file, ea_file};
-ghost use Rattle.ucd_files.specs.Tables.{tables_of, bidi_of, bracket_of, mirror_of, lb_of, ea_of};
+ghost use Rattle.ucd_files.specs.Ucd.{tables_of};
+ghost use Rattle.unicode_tables.specs.Tables.{bidi_of, bracket_of, mirror_of, lb_of, ea_of};
 
 /// The tables of five files have at each code point the value that each file gives it.
 pub fn table_values()

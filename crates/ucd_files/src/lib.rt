@@ -1,4 +1,4 @@
-//! The five Unicode data files, read exactly, and looked up by code point.
+//! The five Unicode data files, read exactly into tables.
 #![tactic(auto)]
 
 mod code;
@@ -11,13 +11,10 @@ mod line;
 mod lines;
 mod names;
 mod read;
-mod tables;
 mod unset;
-mod value;
 mod values;
 pub mod vectors;
 
 pub use fault::{Cause, UcdFault, UcdFile};
 pub use files::Ucd;
-pub use tables::Tables;
-pub use value::Bracket;
+pub use unicode_tables::{Bracket, Tables};

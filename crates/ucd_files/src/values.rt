@@ -5,8 +5,8 @@ use crate::fault::Cause;
 use crate::fields::{bracket_line, mirror_line, property_line, property_missing};
 use crate::names::{BIDI_LONG_NAMES, BIDI_NAMES, EA_LONG_NAMES, EA_NAMES, LB_LONG_NAMES, LB_NAMES};
 use crate::read::FileValue;
-use crate::value::Bracket;
 use bg_types::{Bidi, Ea, Lb};
+use unicode_tables::Bracket;
 
 #[tactic(auto, unfolding(crate::specs::Files::bidi_file))]
 impl FileValue for Bidi {

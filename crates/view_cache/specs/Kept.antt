@@ -3,7 +3,7 @@ use Rattle.std.specs.Prelude.{◌≡◌, ◌<◌, ◌≤◌, length, Vec}
 use Rattle.std.specs.List.{All}
 use Rattle.std.specs.Global.{Global}
 use Rattle.lru.specs.LruCache.{LruCache}
-use Rattle.ucd_files.specs.Tables.{TableValues}
+use Rattle.unicode_tables.specs.Tables.{TableValues}
 use Rattle.cell_grid.specs.Rows.{DrawnRow, rows_of}
 use Rattle.view_cache.specs.declared.key.Key.{Key}
 use Rattle.view_cache.specs.Keys.{said}

@@ -2,7 +2,7 @@
 use Rattle.std.specs.Prelude.{◌≡◌, ℕ, List, [], ◌∷◌, ◌++◌, map, take, drop, Result}
 use Rattle.bg_types.specs.declared.class.Base.{Base}
 use Rattle.bg_types.specs.declared.fault.Memory.{Memory}
-use Rattle.ucd_files.specs.Tables.{TableValues}
+use Rattle.unicode_tables.specs.Tables.{TableValues}
 use Rattle.paragraphs.specs.Paragraphs.{Paragraph, paragraphs}
 use Rattle.cell_grid.specs.Grids.{DrawnGrid}
 use Rattle.view_cache.specs.Drawings.{KeptView, IsDrawing}

@@ -21,7 +21,7 @@ use paragraphs::{Para, split};
 use std::alloc::Global;
 use std::marker::Model;
 use std::num::NonZeroUsize;
-use ucd_files::Tables;
+use unicode_tables::Tables;
 
 /// How many paragraphs `View::new` has room for.
 const ROOM: usize = 1_024;

@@ -1,6 +1,6 @@
 -- The scan finds the level.
 use Rattle.std.proofs.Common.{◌≡◌, ◌∙◌, sym, ap, None}
-use Rattle.ucd_files.specs.Tables.{bidi_of}
+use Rattle.unicode_tables.specs.Tables.{bidi_of}
 use Rattle.bidi_explicit.specs.Strong.{strong_level, depth_behind}
 use Rattle.bidi_explicit.proofs.Strongest.{IsScanned-start, IsScanned-end, IsScanned-strong, IsScanned-on}
 use Rattle.bidi_explicit.proofs.level.first_strong_level.Goals as goal

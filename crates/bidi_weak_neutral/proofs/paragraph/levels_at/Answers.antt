@@ -1,7 +1,7 @@
 -- A paragraph of plain classes at level 0 has level 0 throughout.
 use Rattle.std.proofs.Common.{◌∙◌, ◌≡◌, ap, sym, subst, rules, replicate, length, map}
 use Rattle.std.proofs.lemmas.List.{length-map}
-use Rattle.ucd_files.specs.Tables.{bidi_of}
+use Rattle.unicode_tables.specs.Tables.{bidi_of}
 use Rattle.bidi_weak_neutral.proofs.PlainParagraph.{plain-at_zero}
 use Rattle.bidi_weak_neutral.proofs.paragraph.levels_at.Goals as goal
 

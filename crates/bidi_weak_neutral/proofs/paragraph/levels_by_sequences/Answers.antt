@@ -2,7 +2,7 @@
 use Rattle.std.proofs.Common.{arith, ℕ, List, All, ◌∙◌, ◌≤◌, ◌++◌, ◌≡◌, ap, sym, subst, length, map, take, drop}
 use Rattle.std.proofs.lemmas.List.{drop_all, append-nil, take_all, length-map}
 use Rattle.std.proofs.lemmas.List.Elements.{All-same}
-use Rattle.ucd_files.specs.Tables.{bidi_of}
+use Rattle.unicode_tables.specs.Tables.{bidi_of}
 use Rattle.bidi_explicit.specs.Embedding.{embedding_at}
 use Rattle.bidi_weak_neutral.specs.Levels.{resolved_levels}
 use Rattle.bidi_weak_neutral.proofs.Bounds.{resolved_levels-le}

@@ -1,7 +1,7 @@
 -- The classes of a line are a part of the paragraph's.
 use Rattle.std.proofs.Common.{◌≡◌, ℕ, List, map, chars, slice_range, sym, ap, ap₂, ◌∙◌}
 use Rattle.bg_types.specs.declared.class.Bidi.{Bidi}
-use Rattle.ucd_files.specs.Tables.{bidi_of}
+use Rattle.unicode_tables.specs.Tables.{bidi_of}
 use Rattle.paragraphs.specs.Text.{code_points}
 use Rattle.paragraphs.specs.declared.span.Span.{Span}
 use Rattle.bidi_explicit.specs.Embedding.{classes_of}

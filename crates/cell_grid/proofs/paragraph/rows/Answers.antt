@@ -4,7 +4,7 @@ use Rattle.std.specs.List.{All}
 use Rattle.std.specs.Str.{IsUtf8}
 use Rattle.bg_types.specs.declared.class.Bidi.{Bidi}
 use Rattle.bg_types.specs.declared.class.Base.{Base}
-use Rattle.ucd_files.specs.Tables.{TableValues, bidi_of}
+use Rattle.unicode_tables.specs.Tables.{TableValues, bidi_of}
 use Rattle.paragraphs.specs.Text.{code_points}
 use Rattle.bidi_explicit.specs.Embedding.{paragraph_level, classes_of, embedding_at}
 use Rattle.bidi_weak_neutral.specs.Levels.{levels_of, resolved_levels}

@@ -9,7 +9,7 @@ use Rattle.std.specs.Str.{IsUtf8}
 use Rattle.std.specs.Str.Iter.{chars_rest}
 use Rattle.std.specs.Io.KnownBytes.{Appends}
 use Rattle.bg_types.specs.Sink.{AppendsBeginning}
-use Rattle.ucd_files.specs.Tables.{TableValues, mirror_of}
+use Rattle.unicode_tables.specs.Tables.{TableValues, mirror_of}
 use Rattle.paragraphs.specs.Text.{code_points}
 use Rattle.reorder.specs.Mirrored.{mirrored_of}
 use Rattle.cell_grid.specs.Print.{mirrored_text}

@@ -4,7 +4,7 @@ use Rattle.std.proofs.KnownBytes.{Appends-nil}
 use Rattle.std.specs.Io.KnownBytes.{Appends}
 use Rattle.std.specs.List.{All}
 use Rattle.bg_types.specs.Sink.{AppendsBeginning}
-use Rattle.ucd_files.specs.Tables.{TableValues}
+use Rattle.unicode_tables.specs.Tables.{TableValues}
 use Rattle.cell_grid.specs.declared.entry.Entry.{Entry}
 use Rattle.cell_grid.specs.declared.cell.Cell.{Cell}
 use Rattle.cell_grid.specs.declared.cell.Cell.TheVariants.{Blank}

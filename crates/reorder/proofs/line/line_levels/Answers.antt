@@ -2,7 +2,7 @@
 use Rattle.std.proofs.Common.{sym, ◌∙◌, ap, map, length}
 use Rattle.std.specs.Str.{chars}
 use Rattle.std.proofs.lemmas.List.{length-map}
-use Rattle.ucd_files.specs.Tables.{bidi_of}
+use Rattle.unicode_tables.specs.Tables.{bidi_of}
 use Rattle.reorder.specs.LineLevels.{group_firsts, levels_after_l1}
 use Rattle.reorder.proofs.line.line_levels.Goals as goal
 

@@ -3,10 +3,10 @@ use Rattle.std.specs.Prelude.{None}
 use Rattle.bg_types.specs.declared.class.Bidi.TheVariants.{L}
 use Rattle.bg_types.specs.declared.class.Lb.TheVariants.{Xx}
 use Rattle.bg_types.specs.declared.class.Ea.TheVariants.{N}
-use Rattle.ucd_files.specs.declared.value.Bracket.TheVariants.{None as no_bracket}
+use Rattle.unicode_tables.specs.declared.bracket.Bracket.TheVariants.{None as no_bracket}
 use Rattle.ucd_files.specs.Reading.{value_at}
 use Rattle.ucd_files.specs.Files.{bidi_file, brackets_file, mirror_file, lb_file, ea_file}
-use Rattle.ucd_files.proofs.CodePoints.{each_below-at}
+use Rattle.unicode_tables.proofs.Interface.{each_below-at}
 use Rattle.ucd_files.proofs.laws.table_values.Goals as goal
 
 pub returns-clause-bidi : goal.returns-clause-bidi

@@ -1,7 +1,7 @@
 -- Each paragraph's key is used in turn.
 use Rattle.std.proofs.Common.{◌<◌, ◌++◌, not, List, length, take, flat_map, get_or, sym, ap, subst, ◌∙◌, arith}
 use Rattle.std.proofs.lemmas.Result.{err_from_is_err_and}
-use Rattle.ucd_files.specs.Tables.{TableValues}
+use Rattle.unicode_tables.specs.Tables.{TableValues}
 use Rattle.paragraphs.specs.Paragraphs.{Paragraph, paragraphs, StandsIn}
 use Rattle.cell_grid.specs.Rows.{DrawnRow}
 use Rattle.cell_grid.specs.Grids.{paragraph_rows}

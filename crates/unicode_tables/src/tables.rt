@@ -1,12 +1,9 @@
-//! The five tables, and the looking up.
+//! The tables, and the looking up.
 
-ghost use Rattle.std.specs.Prelude.{◌≡◌, ◌≢◌, None, Some, map, IfOk, IfErr, OnOk, slice_index_or};
+ghost use Rattle.std.specs.Prelude.{◌≡◌, map, IfOk, slice_index_or};
 ghost use Rattle.std.specs.Str.{chars};
-ghost use Rattle.ucd_files.specs.Faults.{fault_of};
 
-use crate::fault::{UcdFault, UcdFile};
-use crate::read::read;
-use crate::value::Bracket;
+use crate::bracket::Bracket;
 use bg_types::{Bidi, Ea, Lb, Memory};
 use std::alloc::Global;
 use std::marker::Model;
@@ -23,23 +20,11 @@ pub struct Tables {
 }
 
 impl Model for Tables {
-    ghost use Rattle.std.specs.Prelude.{slice_index_or, None};
-    ghost use Rattle.bg_types.specs.declared.class.Bidi.TheVariants.{L};
-    ghost use Rattle.bg_types.specs.declared.class.Lb.TheVariants.{Xx};
-    ghost use Rattle.bg_types.specs.declared.class.Ea.TheVariants.{N};
-    ghost use Rattle.ucd_files.specs.declared.value.Bracket.TheVariants.{None as no_bracket};
-    ghost use Rattle.ucd_files.specs.Tables.{TableValues, each_code_point};
+    ghost use Rattle.unicode_tables.specs.Tables.{TableValues, tables_of_lists, with_width};
 
     ghost Value = { TableValues };
 
-    ghost view = { λ t. record {
-      bidi = each_code_point (λ c. slice_index_or t.bidi.items c L);
-      bracket = each_code_point (λ c. slice_index_or t.bracket.items c no_bracket);
-      mirror = each_code_point (λ c. slice_index_or t.mirror.items c None);
-      lb = each_code_point (λ c. slice_index_or t.lb.items c Xx);
-      ea = each_code_point (λ c. slice_index_or t.ea.items c N);
-      wide_ambiguous = t.wide_ambiguous;
-    } };
+    ghost view = { λ t. with_width (tables_of_lists t.bidi.items t.bracket.items t.mirror.items t.lb.items t.ea.items) t.wide_ambiguous };
 }
 
 /// The value at a character, or the absent one after the table's end.
@@ -54,34 +39,27 @@ fn at<V: Copy>(table: &[V], c: char, absent: V) -> V
 }
 
 impl Tables {
-    ghost use Rattle.ucd_files.specs.Tables.{tables_of, with_width, bidi_of, bracket_of, mirror_of, lb_of, ea_of};
+    ghost use Rattle.unicode_tables.specs.Tables.{tables_of_lists, with_width, bidi_of, bracket_of, mirror_of, lb_of, ea_of};
 
-    /// Reads the five files; ambiguous characters are narrow. The fault is the first of the first
-    /// faulty file, in the order bidi, brackets, mirror, lb, ea.
-    pub fn load(
-        alloc: Global,
-        bidi: &[u8],
-        brackets: &[u8],
-        mirror: &[u8],
-        lb: &[u8],
-        ea: &[u8],
-    ) -> Result<Tables, UcdFault>
-        ensures ok { IfOk result (λ tables. tables
-            ≡ tables_of bidi.now brackets.now mirror.now lb.now ea.now) }
-
-        // So the call answers Ok exactly where no file is faulty, unless a growth was refused.
-        ensures sound { OnOk result (fault_of bidi.now brackets.now mirror.now lb.now ea.now ≡ None) }
-        ensures fault { IfErr result (λ e. e ≢ UcdFault.Memory
-            → fault_of bidi.now brackets.now mirror.now lb.now ea.now ≡ Some e) }
+    /// The tables of five lists: at a code point the element with its number, after a list's end the default of
+    /// the data files (L, no bracket, no mirror, XX, N). Ambiguous characters are narrow. Takes no memory.
+    pub fn new(
+        bidi: Vec<Bidi>,
+        bracket: Vec<Bracket>,
+        mirror: Vec<Option<char>>,
+        lb: Vec<Lb>,
+        ea: Vec<Ea>,
+    ) -> Tables
+        ensures { result ≡ tables_of_lists bidi.items bracket.items mirror.items lb.items ea.items }
     {
-        Ok(Tables {
-            bidi: read(alloc, UcdFile::Bidi, bidi)?,
-            bracket: read(alloc, UcdFile::Brackets, brackets)?,
-            mirror: read(alloc, UcdFile::Mirror, mirror)?,
-            lb: read(alloc, UcdFile::Lb, lb)?,
-            ea: read(alloc, UcdFile::Ea, ea)?,
+        Tables {
+            bidi,
+            bracket,
+            mirror,
+            lb,
+            ea,
             wide_ambiguous: false,
-        })
+        }
     }
 
     /// The same tables, in which characters of East_Asian_Width A are wide or not (UAX #11, 5: the

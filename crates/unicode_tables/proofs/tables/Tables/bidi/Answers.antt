@@ -1,9 +1,9 @@
 -- The goals of `bidi` that are answered by hand.
 use Rattle.std.proofs.Common.{ap, ◌∙◌, arith}
 use Rattle.bg_types.specs.declared.class.Bidi.TheVariants.{L}
-use Rattle.ucd_files.specs.Tables.{bidi_of}
-use Rattle.ucd_files.proofs.CodePoints.{looked_up}
-use Rattle.ucd_files.proofs.tables.Tables.bidi.Goals as goal
+use Rattle.unicode_tables.specs.Tables.{bidi_of}
+use Rattle.unicode_tables.proofs.CodePoints.{looked_up}
+use Rattle.unicode_tables.proofs.tables.Tables.bidi.Goals as goal
 
 pub returns : goal.returns
 returns c =

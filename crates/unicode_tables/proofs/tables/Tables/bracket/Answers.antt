@@ -1,9 +1,9 @@
 -- The goals of `bracket` that are answered by hand.
 use Rattle.std.proofs.Common.{ap, ◌∙◌, arith}
-use Rattle.ucd_files.specs.declared.value.Bracket.TheVariants.{None}
-use Rattle.ucd_files.specs.Tables.{bracket_of}
-use Rattle.ucd_files.proofs.CodePoints.{looked_up}
-use Rattle.ucd_files.proofs.tables.Tables.bracket.Goals as goal
+use Rattle.unicode_tables.specs.declared.bracket.Bracket.TheVariants.{None}
+use Rattle.unicode_tables.specs.Tables.{bracket_of}
+use Rattle.unicode_tables.proofs.CodePoints.{looked_up}
+use Rattle.unicode_tables.proofs.tables.Tables.bracket.Goals as goal
 
 pub returns : goal.returns
 returns c =

@@ -1,4 +1,4 @@
--- What the five tables are.
+-- What tables answer at each code point.
 use Rattle.std.specs.Prelude.{ℕ, Bool, false, List, map, Option, None, slice_index_or}
 use Rattle.std.specs.List.{range_with_len}
 use Rattle.bg_types.specs.declared.class.Bidi.{Bidi}
@@ -7,10 +7,8 @@ use Rattle.bg_types.specs.declared.class.Lb.{Lb}
 use Rattle.bg_types.specs.declared.class.Lb.TheVariants.{Xx}
 use Rattle.bg_types.specs.declared.class.Ea.{Ea}
 use Rattle.bg_types.specs.declared.class.Ea.TheVariants.{N}
-use Rattle.ucd_files.specs.declared.value.Bracket.{Bracket}
-use Rattle.ucd_files.specs.declared.value.Bracket.TheVariants.{None as no_bracket}
-use Rattle.ucd_files.specs.Reading.{value_at}
-use Rattle.ucd_files.specs.Files.{bidi_file, brackets_file, mirror_file, lb_file, ea_file}
+use Rattle.unicode_tables.specs.declared.bracket.Bracket.{Bracket}
+use Rattle.unicode_tables.specs.declared.bracket.Bracket.TheVariants.{None as no_bracket}
 
 -- the values at 0 and on, below n
 unfoldable pub each_below : {V : Type 0} → ℕ → (ℕ → V) → List V
@@ -44,14 +42,15 @@ lb_of tables c = slice_index_or tables.lb c Xx
 abbrev pub ea_of : TableValues → ℕ → Ea
 ea_of tables c = slice_index_or tables.ea c N
 
--- the tables of five files: at each code point the value that the file gives it, and ambiguous characters narrow
-abbrev pub tables_of : (bidi brackets mirror lb ea : List ℕ) → TableValues
-tables_of bidi brackets mirror lb ea = record {
-  bidi = each_code_point (value_at bidi_file bidi);
-  bracket = each_code_point (value_at brackets_file brackets);
-  mirror = each_code_point (value_at mirror_file mirror);
-  lb = each_code_point (value_at lb_file lb);
-  ea = each_code_point (value_at ea_file ea);
+-- the tables of five lists: at each code point the element with its number, after a list's end the default, and ambiguous
+-- characters narrow
+abbrev pub tables_of_lists : List Bidi → List Bracket → List (Option ℕ) → List Lb → List Ea → TableValues
+tables_of_lists bidi bracket mirror lb ea = record {
+  bidi = each_code_point (λ c. slice_index_or bidi c L);
+  bracket = each_code_point (λ c. slice_index_or bracket c no_bracket);
+  mirror = each_code_point (λ c. slice_index_or mirror c None);
+  lb = each_code_point (λ c. slice_index_or lb c Xx);
+  ea = each_code_point (λ c. slice_index_or ea c N);
   wide_ambiguous = false;
 }
 

@@ -1,8 +1,8 @@
 -- The goals of `mirror` that are answered by hand.
 use Rattle.std.proofs.Common.{ap, ◌∙◌, arith, None}
-use Rattle.ucd_files.specs.Tables.{mirror_of}
-use Rattle.ucd_files.proofs.CodePoints.{looked_up}
-use Rattle.ucd_files.proofs.tables.Tables.mirror.Goals as goal
+use Rattle.unicode_tables.specs.Tables.{mirror_of}
+use Rattle.unicode_tables.proofs.CodePoints.{looked_up}
+use Rattle.unicode_tables.proofs.tables.Tables.mirror.Goals as goal
 
 pub returns : goal.returns
 returns c =

@@ -1,0 +1,3 @@
+-- The modules of this crate's proofs.
+pub mod CodePoints
+pub mod Interface

@@ -1,0 +1,2 @@
+-- The modules of this crate's definitions.
+pub mod Tables
