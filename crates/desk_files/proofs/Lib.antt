@@ -12,4 +12,5 @@ pub mod OneCause
 pub mod Decided
 pub mod TextDecided
 pub mod TextSize
+pub mod ReadSteps
 pub mod Interface

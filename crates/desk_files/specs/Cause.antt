@@ -1,5 +1,6 @@
 -- Why a part of a run ended early. Each fault stands only where its cause is present, and lack of memory has none.
-use Rattle.std.specs.Prelude.{◌≡◌, ℕ, List}
+use Rattle.std.specs.Prelude.{◌≡◌, ℕ, List, Option, Some}
+use Rattle.ucd_files.specs.declared.fault.UcdFault.{UcdFault}
 use Rattle.op_codec.specs.declared.fault.CodecFault.{CodecFault}
 use Rattle.op_codec.specs.declared.fault.CodecFault.TheVariants as codec
 use Rattle.desk_replica.specs.declared.answer.TakeFault.{TakeFault}
@@ -7,7 +8,24 @@ use Rattle.desk_replica.specs.declared.answer.TakeFault.TheVariants as take
 use Rattle.desk_files.specs.declared.run_fault.RunFault.{RunFault}
 use Rattle.desk_files.specs.declared.run_fault.RunFault.TheVariants.{Tables, File, Schedule, Step, Listing, Device, PastEnd, ReadFailed, Memory, TooLong}
 use Rattle.desk_files.specs.Reading.{malformed, too_long}
+use Rattle.bg_types.specs.declared.op.OpView.{OpView}
 use Rattle.desk_files.specs.Files.{IsFaultyFile, AreRefused}
+use Rattle.desk_files.specs.Schedule.{IsFaultyStep}
+
+-- ---- the data files
+
+-- the first fault of the data files
+abbrev pub IsTablesCaused : Option UcdFault → RunFault → Type 0
+IsTablesCaused first (Tables fault) = first ≡ Some fault
+IsTablesCaused first (File n fault) = ⊥
+IsTablesCaused first (Schedule line fault) = ⊥
+IsTablesCaused first (Step line desk fault) = ⊥
+IsTablesCaused first (Listing line fault) = ⊥
+IsTablesCaused first Device = ⊥
+IsTablesCaused first (PastEnd place) = ⊥
+IsTablesCaused first (ReadFailed file) = ⊥
+IsTablesCaused first (TooLong file) = ⊥
+IsTablesCaused first Memory = Unit {0}
 
 -- ---- the files
 
@@ -24,6 +42,21 @@ IsReadCaused files (PastEnd place) = ⊥
 IsReadCaused files (ReadFailed file) = ⊥
 IsReadCaused files (TooLong n) = IsFaultyFile files n too_long
 IsReadCaused files Memory = Unit {0}
+
+-- ---- a schedule, in a run over files of these operations
+
+-- its first faulty line
+abbrev pub IsScheduleCaused : List (List OpView) → List ℕ → RunFault → Type 0
+IsScheduleCaused files bytes (Tables fault) = ⊥
+IsScheduleCaused files bytes (File n fault) = ⊥
+IsScheduleCaused files bytes (Schedule line fault) = IsFaultyStep files bytes line fault
+IsScheduleCaused files bytes (Step line desk fault) = ⊥
+IsScheduleCaused files bytes (Listing line fault) = ⊥
+IsScheduleCaused files bytes Device = ⊥
+IsScheduleCaused files bytes (PastEnd place) = ⊥
+IsScheduleCaused files bytes (ReadFailed file) = ⊥
+IsScheduleCaused files bytes (TooLong file) = ⊥
+IsScheduleCaused files bytes Memory = Unit {0}
 
 -- ---- one desk that takes the operations of all files
 

@@ -5,6 +5,7 @@ pub mod Readers
 pub mod Files
 pub mod Taking
 pub mod OneOutcome
+pub mod Schedule
 pub mod Cause
 pub mod Written
 pub mod TextOutcome

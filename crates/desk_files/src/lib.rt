@@ -1,4 +1,5 @@
-//! The operation files of a run, read piece by piece, and the one desk that takes what they hold: its text is written.
+//! The files of a run: its data files, and operation files, read piece by piece, and the one desk that takes what they
+//! hold: its text is written.
 #![tactic(auto)]
 
 mod desk;
@@ -8,7 +9,9 @@ pub mod laws;
 mod one_desk;
 mod reading;
 mod run_fault;
+mod schedule;
 mod schedule_fault;
+mod tables;
 
 pub use desk::{Desk, new_desk, read_text};
 pub use desk_replica::TakeFault;
@@ -17,4 +20,6 @@ pub use in_memory::{InMemory, readers_of};
 pub use one_desk::{desk_of, joined_text, step_fault};
 pub use reading::read_all;
 pub use run_fault::{RunFault, status};
+pub use schedule::{Numbered, Step, read_schedule};
 pub use schedule_fault::ScheduleFault;
+pub use tables::read_tables;

@@ -1,5 +1,4 @@
 -- The modules of this crate's proofs.
-pub mod ReadSteps
 pub mod OnePlan
 pub mod FreshDesks
 pub mod Rooms
@@ -9,6 +8,3 @@ pub mod StepAnswers
 pub mod OneRefusal
 pub mod Plans
 pub mod ReplayDecided
-pub mod Walks
-pub mod WalkAnswers
-pub mod CaretsDecided

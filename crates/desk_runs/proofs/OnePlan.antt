@@ -2,8 +2,8 @@
 use Rattle.std.proofs.Common.{◌≡◌, ℕ, List, Option, Some, None, sym, ◌∙◌}
 use Rattle.bg_types.specs.declared.op.OpView.{OpView}
 use Rattle.desk_files.specs.declared.schedule_fault.ScheduleFault.{ScheduleFault}
-use Rattle.desk_runs.specs.declared.schedule.step.Numbered.{Numbered}
-use Rattle.desk_runs.specs.Schedule.{Schedules, IsFaultyStep}
+use Rattle.desk_files.specs.declared.schedule.step.Numbered.{Numbered}
+use Rattle.desk_files.specs.Schedule.{Schedules, IsFaultyStep}
 use Rattle.desk_runs.specs.ReplayOutcome.{IsPlan, IsFaultyPlan}
 
 -- what the law of schedules says

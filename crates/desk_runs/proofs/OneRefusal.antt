@@ -6,8 +6,8 @@ use Rattle.desk_replica.specs.declared.answer.TakeFault.{TakeFault}
 use Rattle.desk_replica.specs.Reply.{IsRefusal}
 use Rattle.desk_replica.specs.Merging.{IsMergeRefusal}
 use Rattle.desk_replica.specs.DeskSets.{DeskStep, takes, merges, set_at, IsStepRefused as IsDeskStepRefused}
-use Rattle.desk_runs.specs.declared.schedule.step.Step.{Step as OneStep}
-use Rattle.desk_runs.specs.declared.schedule.step.Numbered.{Numbered}
+use Rattle.desk_files.specs.declared.schedule.step.Step.{Step as OneStep}
+use Rattle.desk_files.specs.declared.schedule.step.Numbered.{Numbered}
 use Rattle.desk_runs.specs.Steps.{desk_step, sets_after_step, sets_after, IsDoneRefused, IsStepRefused, NoneRefused, FirstRefused, desk_of}
 
 -- what the law of refusals says

@@ -7,7 +7,7 @@ use Rattle.std.proofs.lemmas.List.{append-nil}
 use Rattle.bg_types.specs.OperationSet.{OperationSet}
 use Rattle.bg_types.specs.declared.op.OpView.{OpView}
 use Rattle.desk_files.specs.declared.run_fault.RunFault.{RunFault}
-use Rattle.desk_runs.specs.declared.schedule.step.Numbered.{Numbered}
+use Rattle.desk_files.specs.declared.schedule.step.Numbered.{Numbered}
 use Rattle.desk_runs.specs.Shows.{Ran, IsStepsEnd, IsStepsOutcome}
 use Rattle.desk_runs.proofs.Running.{ran_then, end_then, end_before}
 use Rattle.desk_files.proofs.Interface.{answer_handed}

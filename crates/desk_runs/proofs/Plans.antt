@@ -1,5 +1,5 @@
 -- Runs of a plan, and what they are for the data that a run is given.
-use Rattle.std.proofs.Common.{◌≡◌, ℕ, List, Result, Ok, Err, inl, inr, length, Option, None, subst}
+use Rattle.std.proofs.Common.{◌≡◌, ℕ, List, Result, Ok, Err, inl, inr, length, Option, Some, None, subst}
 use Rattle.std.specs.Prelude.{Bool, false}
 use Rattle.std.specs.List.{AllZip}
 use Rattle.std.proofs.KnownBytes.{Keeps-refl}
@@ -8,10 +8,9 @@ use Rattle.bg_types.specs.declared.op.OpView.{OpView}
 use Rattle.op_codec.specs.declared.fault.CodecFault.TheVariants as codec
 use Rattle.desk_files.specs.declared.run_fault.RunFault.{RunFault}
 use Rattle.desk_files.specs.declared.run_fault.RunFault.TheVariants.{Tables, File, Schedule, Step, Listing, Device, PastEnd, ReadFailed, Memory, TooLong}
-use Rattle.desk_runs.specs.declared.schedule.step.Numbered.{Numbered}
+use Rattle.desk_files.specs.declared.schedule.step.Numbered.{Numbered}
 use Rattle.desk_files.specs.Reading.{IsReadAs}
-use Rattle.desk_files.specs.Cause.{IsReadCaused}
-use Rattle.desk_runs.specs.Cause.{IsTablesCaused}
+use Rattle.desk_files.specs.Cause.{IsTablesCaused, IsReadCaused, IsScheduleCaused}
 use Rattle.desk_replica.specs.DeskSets.{empty_desks}
 use Rattle.desk_runs.specs.Shows.{IsStepsOutcome}
 use Rattle.desk_runs.specs.ReplayOutcome.{Given, print_of, IsPlan, IsUnplanned, IsPlanOutcome, IsUnread, IsReplayOutcome}
@@ -30,6 +29,19 @@ module _ (print : List ℕ → List ℕ) (files : List (List OpView)) (schedule 
 
   pub plan_unread : (failed : Bool) (fault : RunFault) → failed ≡ false → IsUnplanned files schedule fault → IsPlanOutcome print files schedule old old failed (Err fault)
   plan_unread failed fault working h = inl (h, (working, Keeps-refl old))
+
+-- where a line of a schedule is faulty, a run by it has no plan
+pub unscheduled : (files : List (List OpView)) (bytes : List ℕ) (fault : RunFault) → IsScheduleCaused files bytes fault → IsUnplanned files (Some bytes) fault
+unscheduled files bytes (Tables fault) h = h
+unscheduled files bytes (File n fault) h = h
+unscheduled files bytes (Schedule line fault) h = h
+unscheduled files bytes (Step line desk fault) h = h
+unscheduled files bytes (Listing line fault) h = h
+unscheduled files bytes (PastEnd place) h = h
+unscheduled files bytes Device h = h
+unscheduled files bytes (ReadFailed file) h = h
+unscheduled files bytes (TooLong file) h = h
+unscheduled files bytes Memory h = h
 
 -- ---- the data of a run
 

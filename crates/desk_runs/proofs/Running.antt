@@ -12,7 +12,7 @@ use Rattle.desk_replica.specs.declared.answer.TakeFault.{TakeFault}
 use Rattle.desk_replica.specs.declared.answer.TakeFault.TheVariants.{IdentifierReused, Full, Memory}
 use Rattle.desk_files.specs.declared.run_fault.RunFault.{RunFault}
 use Rattle.desk_files.specs.declared.run_fault.RunFault.TheVariants as run
-use Rattle.desk_runs.specs.declared.schedule.step.Numbered.{Numbered}
+use Rattle.desk_files.specs.declared.schedule.step.Numbered.{Numbered}
 use Rattle.desk_runs.specs.Steps.{sets_after_step, sets_after, IsStepRefused, NoneRefused, desk_of}
 use Rattle.desk_runs.specs.Shows.{shown, shows, Ran, IsStepsEnd, IsStepsOutcome, IsShowOutcome}
 use Rattle.desk_runs.specs.Cause.{answer_of}

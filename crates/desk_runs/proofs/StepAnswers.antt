@@ -9,10 +9,10 @@ use Rattle.bg_types.specs.declared.op.OpView.{OpView}
 use Rattle.desk_replica.specs.declared.answer.TakeFault.{TakeFault}
 use Rattle.desk_replica.specs.declared.answer.TakeFault.TheVariants.{Memory}
 use Rattle.desk_replica.specs.DeskSets.{DeskStep, sets_after_step as sets_after_desk_step, IsStepRefused as IsDeskStepRefused}
-use Rattle.desk_runs.specs.declared.schedule.step.Step.{Step}
-use Rattle.desk_runs.specs.declared.schedule.step.Step.TheVariants.{Show}
+use Rattle.desk_files.specs.declared.schedule.step.Step.{Step}
+use Rattle.desk_files.specs.declared.schedule.step.Step.TheVariants.{Show}
 use Rattle.desk_files.specs.Files.{lists_of}
-use Rattle.desk_runs.specs.Schedule.{file_at}
+use Rattle.desk_files.specs.Schedule.{file_at}
 use Rattle.desk_runs.specs.Steps.{operation_at, desk_step, sets_after_done, sets_after_step, IsDoneRefused, IsStepRefused}
 
 pub file_there : (files : List (Vec OpView)) (file : ℕ) (v : Vec OpView) → 1 ≤ file → file ≤ length files → file_at (lists_of files) file ≡ (get_or files (file - 1) v).items

@@ -1,5 +1,4 @@
 -- The modules of this crate's definitions.
-pub mod Schedule
 pub mod Cause
 pub mod Desks
 pub mod Steps
@@ -7,7 +6,5 @@ pub mod Shows
 pub mod Round
 pub mod Printed
 pub mod ReplayOutcome
-pub mod Carets
-pub mod CaretsOutcome
 pub mod Setting
 pub mod Room

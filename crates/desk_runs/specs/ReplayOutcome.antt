@@ -13,11 +13,11 @@ use Rattle.ucd_files.specs.declared.files.Ucd.{Ucd}
 use Rattle.desk_files.specs.declared.schedule_fault.ScheduleFault.{ScheduleFault}
 use Rattle.desk_files.specs.declared.run_fault.RunFault.{RunFault}
 use Rattle.desk_files.specs.declared.run_fault.RunFault.TheVariants.{Tables, File, Schedule, Step, Listing, Device, PastEnd, ReadFailed, Memory, TooLong}
-use Rattle.desk_runs.specs.declared.schedule.step.Numbered.{Numbered}
+use Rattle.desk_files.specs.declared.schedule.step.Numbered.{Numbered}
 use Rattle.desk_files.specs.Reading.{IsReadAs, Flaw, malformed, too_long, flaw_fault}
 use Rattle.desk_files.specs.Readers.{IsRunOver}
 use Rattle.desk_files.specs.Files.{IsFaultyFile}
-use Rattle.desk_runs.specs.Schedule.{Schedules, IsFaultyStep}
+use Rattle.desk_files.specs.Schedule.{Schedules, IsFaultyStep}
 use Rattle.desk_runs.specs.Round.{round}
 use Rattle.desk_replica.specs.DeskSets.{empty_desks}
 use Rattle.desk_runs.specs.Steps.{NoneRefused, FirstRefused}

@@ -2,10 +2,10 @@
 use Rattle.std.specs.Prelude.{ℕ, ◌+◌, ◌-◌, ◌%◌, List, ◌++◌, length, map as each}
 use Rattle.std.specs.List.{flat_map, range_with_len}
 use Rattle.bg_types.specs.declared.op.OpView.{OpView}
-use Rattle.desk_runs.specs.declared.schedule.step.Step.{Step}
-use Rattle.desk_runs.specs.declared.schedule.step.Step.TheVariants.{Take, Show}
-use Rattle.desk_runs.specs.declared.schedule.step.Numbered.{Numbered}
-use Rattle.desk_runs.specs.Schedule.{file_at}
+use Rattle.desk_files.specs.declared.schedule.step.Step.{Step}
+use Rattle.desk_files.specs.declared.schedule.step.Step.TheVariants.{Take, Show}
+use Rattle.desk_files.specs.declared.schedule.step.Numbered.{Numbered}
+use Rattle.desk_files.specs.Schedule.{file_at}
 
 -- a step of no line
 abbrev pub unnumbered : Step → Numbered

@@ -8,9 +8,9 @@ use Rattle.rga_tree.specs.TextOf.{text}
 use Rattle.desk_replica.specs.declared.answer.TakeFault.{TakeFault}
 use Rattle.desk_files.specs.declared.run_fault.RunFault.{RunFault}
 use Rattle.desk_files.specs.declared.run_fault.RunFault.TheVariants.{Tables, File, Schedule, Step as Refused, Listing, Device, PastEnd, ReadFailed, Memory, TooLong}
-use Rattle.desk_runs.specs.declared.schedule.step.Step.{Step}
-use Rattle.desk_runs.specs.declared.schedule.step.Step.TheVariants.{Take, Merge, Show}
-use Rattle.desk_runs.specs.declared.schedule.step.Numbered.{Numbered}
+use Rattle.desk_files.specs.declared.schedule.step.Step.{Step}
+use Rattle.desk_files.specs.declared.schedule.step.Step.TheVariants.{Take, Merge, Show}
+use Rattle.desk_files.specs.declared.schedule.step.Numbered.{Numbered}
 use Rattle.desk_replica.specs.DeskSets.{set_at}
 use Rattle.desk_runs.specs.Steps.{sets_after_step, sets_after, NoneRefused, FirstRefused}
 

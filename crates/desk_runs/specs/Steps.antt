@@ -5,10 +5,10 @@ use Rattle.bg_types.specs.OperationSet.{OperationSet}
 use Rattle.bg_types.specs.declared.op.OpView.{OpView}
 use Rattle.desk_replica.specs.declared.answer.TakeFault.{TakeFault}
 use Rattle.desk_replica.specs.DeskSets.{DeskStep, takes, merges, sets_after_step as sets_after_desk_step, IsStepRefused as IsDeskStepRefused}
-use Rattle.desk_runs.specs.declared.schedule.step.Step.{Step}
-use Rattle.desk_runs.specs.declared.schedule.step.Step.TheVariants.{Take, Merge, Show}
-use Rattle.desk_runs.specs.declared.schedule.step.Numbered.{Numbered}
-use Rattle.desk_runs.specs.Schedule.{file_at}
+use Rattle.desk_files.specs.declared.schedule.step.Step.{Step}
+use Rattle.desk_files.specs.declared.schedule.step.Step.TheVariants.{Take, Merge, Show}
+use Rattle.desk_files.specs.declared.schedule.step.Numbered.{Numbered}
+use Rattle.desk_files.specs.Schedule.{file_at}
 
 -- ---- what a step does to the desks
 

@@ -1,4 +1,3 @@
-//! The engines, one for each subcommand that draws.
+//! The engine of the subcommand `replay`.
 
-pub mod carets;
 pub mod replay;

@@ -1,38 +1,17 @@
 //! Laws of the definitions: each function's contract is the law, and its body is empty or calls the laws
 //! that the proof stands on.
 
-ghost use Rattle.std.specs.Prelude.{◌≡◌, ◌<◌, ◌+◌, ◌⊎◌, ℕ, Bool, List, Option, Some, Result, length, map as each, slice_get};
-ghost use Rattle.bg_types.specs.declared.op.OpView.{OpView};
+ghost use Rattle.std.specs.Prelude.{◌≡◌, ◌<◌, ◌+◌, ℕ, Bool, List, Option, Some, Result, length, map as each, slice_get};
 ghost use Rattle.desk_replica.specs.Desk.{fresh};
 ghost use Rattle.desk_replica.specs.DeskSets.{sets_of, empty_desks};
 ghost use Rattle.desk_files.specs.declared.run_fault.RunFault.{RunFault};
-ghost use Rattle.desk_files.specs.declared.schedule_fault.ScheduleFault.{ScheduleFault};
-ghost use Rattle.desk_runs.specs.declared.schedule.step.Numbered.{Numbered};
-ghost use Rattle.desk_runs.specs.Schedule.{Schedules, IsFaultyStep};
 ghost use Rattle.desk_runs.specs.Desks.{fresh_desks};
 ghost use Rattle.desk_files.specs.Readers.{IsFileOutcome};
 ghost use Rattle.desk_files.specs.Written.{IsSilent};
 ghost use Rattle.desk_runs.specs.ReplayOutcome.{Given, IsReplayOutcome, IsReplayOutcomeOver, IsReplayDecided};
-ghost use Rattle.desk_runs.specs.CaretsOutcome.{Asked, IsCaretsOutcome, IsCaretsOutcomeOver, IsCaretsDecided};
 
-use desk_files::{ScheduleFault, laws as files};
+use desk_files::laws as files;
 use desk_replica::laws as desks;
-use op_listing::laws as lines;
-
-/// In a run over files of these operations, a schedule says one list of steps or has one first faulty
-/// line, never both.
-pub fn scheduled_or_faulty()
-    ensures either { (files : List (List OpView)) (bytes : List ℕ)
-        → ((steps : List Numbered) × Schedules files bytes steps) ⊎ ((n : ℕ) × (fault : ScheduleFault) × IsFaultyStep files bytes n fault) }
-    ensures one_list { (files : List (List OpView)) (bytes : List ℕ) (a b : List Numbered)
-        → Schedules files bytes a → Schedules files bytes b → a ≡ b }
-    ensures never_both { (files : List (List OpView)) (bytes : List ℕ) (steps : List Numbered) (n : ℕ) (fault : ScheduleFault)
-        → Schedules files bytes steps → IsFaultyStep files bytes n fault → ⊥ }
-    ensures one_fault { (files : List (List OpView)) (bytes : List ℕ) (m n : ℕ) (f g : ScheduleFault)
-        → IsFaultyStep files bytes m f → IsFaultyStep files bytes n g → (m ≡ n) × (f ≡ g) }
-{
-    lines::first_fault::<ScheduleFault>();
-}
 
 /// In a run, desk k, from 1, has site k, and all desks begin with nothing.
 pub fn desks_of_a_run()
@@ -44,10 +23,8 @@ pub fn desks_of_a_run()
 /// Where readers tell their bytes, a run over them has an outcome of a run over files of these bytes,
 /// or a reader has failed: number n, from 1, and no other.
 pub fn readers_tell_files()
-    ensures replay { (files : List (List ℕ)) (lost : List Bool) (gives : List (List ℕ) → Given) (old new : Option (List ℕ)) (failed : Bool) (result : Result (Unit {0}) RunFault)
+    ensures { (files : List (List ℕ)) (lost : List Bool) (gives : List (List ℕ) → Given) (old new : Option (List ℕ)) (failed : Bool) (result : Result (Unit {0}) RunFault)
         → IsReplayOutcomeOver (each Some files) lost gives old new failed result → IsFileOutcome lost (IsSilent old new failed) (IsReplayOutcome (gives files) old new failed) result }
-    ensures carets { (files : List (List ℕ)) (lost : List Bool) (asks : List (List ℕ) → Asked) (old new : Option (List ℕ)) (failed : Bool) (result : Result (Unit {0}) RunFault)
-        → IsCaretsOutcomeOver (each Some files) lost asks old new failed result → IsFileOutcome lost (IsSilent old new failed) (IsCaretsOutcome (asks files) old new failed) result }
 {}
 
 /// A run of `replay` has the answer of its data, unless memory runs out or a write fails.
@@ -56,14 +33,6 @@ pub fn replay_is_decided()
         → IsReplayOutcome g old new failed result → IsReplayDecided g old new failed result }
 {
     files::one_outcome();
-    scheduled_or_faulty();
+    files::scheduled_or_faulty();
     desks::one_refusal();
-}
-
-/// A run of `carets` has the answer of its data, unless memory runs out or a write fails.
-pub fn carets_are_decided()
-    ensures { (a : Asked) (old new : Option (List ℕ)) (failed : Bool) (result : Result (Unit {0}) RunFault)
-        → IsCaretsOutcome a old new failed result → IsCaretsDecided a old new failed result }
-{
-    files::one_outcome();
 }

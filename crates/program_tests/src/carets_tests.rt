@@ -4,11 +4,13 @@ use crate::files::Given::{Bytes, Typed};
 use crate::files::*;
 use crate::rows::{Row, assert_none, assert_rows};
 use bg_types::{Base, Memory, Out, Stops};
-use desk_runs::Move::{self, *};
-use desk_runs::{RunFault, Ucd, carets};
+use desk_carets::Move::{self, *};
+use desk_carets::carets;
+use desk_files::RunFault;
 use op_codec::{Cause, CodecFault};
 use std::alloc::{AllocError, Global};
 use std::slice::from_ref;
+use ucd_files::Ucd;
 use ucd_files::vectors::SMALL;
 use ucd_files::{UcdFault, UcdFile};
 

@@ -12,9 +12,9 @@ pub use cli_support::Stop;
 use cli_support::{Data, LIMIT, Unread, end, flush, read, read_data, read_whole, tell};
 pub use command_line::{Job, Replay, Typing, Walk, job, report};
 use command_line::{PROGRAM, folder_of, open_all, path_of};
+pub use desk_carets::{Move, carets, carets_from};
 pub use desk_runs::{
-    Move, RunFault, ScheduleFault, TakeFault, Ucd, carets, carets_from, replay, replay_from,
-    status, text, text_from,
+    RunFault, ScheduleFault, TakeFault, Ucd, replay, replay_from, status, text, text_from,
 };
 pub use desk_typing::{Change, TypingFault, typed};
 use key::draw_key;

@@ -14,10 +14,8 @@ mod show;
 mod steps;
 
 use crate::desks::new_desks;
-use crate::schedule::read_schedule;
-use crate::tables::load;
 use bg_types::{Base, Sink};
-use desk_files::{RunFault, read_all, readers_of};
+use desk_files::{RunFault, read_all, read_schedule, read_tables, readers_of};
 use op_codec::Source;
 use room::new_view;
 use round::run_round;
@@ -77,7 +75,7 @@ pub fn replay_from<R: Source, S: Sink>(
         (λ told. given ucd.now width base told (option_copied schedule.entry))
         (S.written out.old) (S.written out.new) (S.has_failed out.new) result }
 {
-    let tables = load(alloc, ucd)?;
+    let tables = read_tables(alloc, ucd)?;
     let lists = read_all(alloc, files)?;
     let setting = Setting {
         alloc,

@@ -8,9 +8,8 @@ ghost use Rattle.desk_runs.specs.Shows.{IsStepsOutcome};
 
 use super::setting::Setting;
 use super::steps::run_step;
-use crate::schedule::{Numbered, Step};
 use bg_types::Sink;
-use desk_files::{Desk, RunFault};
+use desk_files::{Desk, Numbered, RunFault, Step};
 use view_cache::View;
 
 /// Each desk takes all files, beginning with that of its own number, and then each is shown.

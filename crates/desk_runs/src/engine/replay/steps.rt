@@ -4,15 +4,14 @@ ghost use Rattle.std.specs.Prelude.{◌≡◌, ◌∷◌, [], false, length};
 ghost use Rattle.std.specs.List.{AllByRecursion};
 ghost use Rattle.desk_replica.specs.DeskSets.{sets_of};
 ghost use Rattle.desk_runs.specs.Setting.{print_in, files_in};
-ghost use Rattle.desk_runs.specs.Schedule.{IsStepOf};
+ghost use Rattle.desk_files.specs.Schedule.{IsStepOf};
 ghost use Rattle.desk_runs.specs.Shows.{IsStepsOutcome};
 ghost use Rattle.desk_runs.specs.Cause.{answer_of};
 
 use super::setting::Setting;
 use super::show::show;
-use crate::schedule::{Numbered, Step};
 use bg_types::Sink;
-use desk_files::{Desk, RunFault, step_fault};
+use desk_files::{Desk, Numbered, RunFault, Step, step_fault};
 use desk_replica::{TakeFault, merge_at, take_at};
 use view_cache::View;
 

@@ -9,8 +9,7 @@ use Rattle.ucd_files.specs.Ucd.{fault_of_ucd}
 use Rattle.desk_runs.specs.Printed.{printed}
 use Rattle.desk_files.specs.Reading.{IsReadAs}
 use Rattle.desk_files.specs.Files.{lists_of}
-use Rattle.desk_files.specs.Cause.{IsReadCaused}
-use Rattle.desk_runs.specs.Cause.{IsTablesCaused}
+use Rattle.desk_files.specs.Cause.{IsTablesCaused, IsReadCaused}
 use Rattle.desk_runs.specs.ReplayOutcome.{Given, given, print_of, IsPlanOutcome, IsReplayOutcome, IsReplayOutcomeOver}
 use Rattle.desk_runs.proofs.Plans.{ended_by_tables, ended_by_files, plan_of_run}
 use Rattle.desk_files.proofs.Interface.{answer_handed, ends_unread, run_ended, run_told}

@@ -3,7 +3,7 @@ use Rattle.std.proofs.Common.{Some, List, length, ap, sym, subst, ◌∙◌}
 use Rattle.std.specs.Global.{Vec}
 use Rattle.std.proofs.lemmas.List.{length-map}
 use Rattle.bg_types.specs.declared.op.OpView.{OpView}
-use Rattle.desk_runs.specs.declared.schedule.step.Numbered.{Numbered}
+use Rattle.desk_files.specs.declared.schedule.step.Numbered.{Numbered}
 use Rattle.desk_files.specs.declared.run_fault.RunFault.TheVariants as run
 use Rattle.desk_replica.specs.Desk.{Desk}
 use Rattle.desk_replica.specs.DeskSets.{sets_of, empty_desks}
@@ -11,7 +11,7 @@ use Rattle.desk_runs.specs.Setting.{print_in, files_in}
 use Rattle.desk_runs.specs.Shows.{IsStepsOutcome}
 use Rattle.desk_runs.specs.ReplayOutcome.{IsPlanOutcome}
 use Rattle.desk_runs.proofs.FreshDesks.{fresh-empty, fresh-count}
-use Rattle.desk_runs.proofs.Plans.{plan_unread, steps_of_plan}
+use Rattle.desk_runs.proofs.Plans.{plan_unread, steps_of_plan, unscheduled}
 use Rattle.desk_files.proofs.Interface.{answer_handed}
 use Rattle.desk_runs.proofs.engine.replay.run_schedule.Goals as goal
 
@@ -23,7 +23,7 @@ returns-in_err-steps g c =
     let old = g.S.Sink.written c.args.out.now in
     let failed = g.S.Sink.has_failed c.args.out.now in
     answer_handed (IsPlanOutcome print files schedule old old failed) c.from_residual.result c.in_err-steps.field-0.0 c.from_residual.ensures.1
-    (plan_unread print files schedule old failed c.in_err-steps.field-0.0 c.requires.working c.in_err-steps.ensures.fault)
+    (plan_unread print files schedule old failed c.in_err-steps.field-0.0 c.requires.working (unscheduled files c.args.schedule.now c.in_err-steps.field-0.0 c.in_err-steps.ensures.fault))
 
 pub returns-in_err-desks : goal.returns-in_err-desks
 returns-in_err-desks g c =

@@ -5,9 +5,9 @@ use Rattle.std.specs.List.{flat_map, range_with_len}
 use Rattle.std.proofs.lemmas.List.{length-map}
 use Rattle.bg_types.specs.declared.op.OpView.{OpView}
 use Rattle.desk_replica.specs.DeskSets.{sets_of}
-use Rattle.desk_runs.specs.declared.schedule.step.Numbered.{Numbered}
+use Rattle.desk_files.specs.declared.schedule.step.Numbered.{Numbered}
 use Rattle.desk_runs.specs.Setting.{print_in, files_in}
-use Rattle.desk_runs.specs.declared.schedule.step.Step.TheVariants.{Show}
+use Rattle.desk_files.specs.declared.schedule.step.Step.TheVariants.{Show}
 use Rattle.desk_runs.specs.Round.{unnumbered, all_shows}
 use Rattle.desk_runs.proofs.Pieces.{piece_done, piece_stopped, pieces_done, each-flat}
 use Rattle.desk_runs.proofs.engine.replay.round.show_all.Goals as goal

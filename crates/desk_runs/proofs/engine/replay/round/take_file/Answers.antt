@@ -4,10 +4,10 @@ use Rattle.std.specs.Global.{Vec}
 use Rattle.std.specs.List.{flat_map, range_with_len}
 use Rattle.bg_types.specs.declared.op.OpView.{OpView}
 use Rattle.desk_replica.specs.DeskSets.{sets_of}
-use Rattle.desk_runs.specs.declared.schedule.step.Numbered.{Numbered}
+use Rattle.desk_files.specs.declared.schedule.step.Numbered.{Numbered}
 use Rattle.desk_runs.specs.Setting.{print_in, files_in}
-use Rattle.desk_runs.specs.declared.schedule.step.Step.TheVariants.{Take}
-use Rattle.desk_runs.specs.Schedule.{file_at}
+use Rattle.desk_files.specs.declared.schedule.step.Step.TheVariants.{Take}
+use Rattle.desk_files.specs.Schedule.{file_at}
 use Rattle.desk_runs.specs.Round.{unnumbered, file_takes}
 use Rattle.desk_runs.proofs.StepAnswers.{file_there}
 use Rattle.desk_runs.proofs.Pieces.{piece_done, piece_stopped, pieces_done, each-flat}

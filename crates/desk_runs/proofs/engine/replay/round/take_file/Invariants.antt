@@ -2,7 +2,7 @@
 use Rattle.std.proofs.Common.{◌≡◌, ◌-◌, ◌∷◌, []}
 use Rattle.desk_replica.specs.DeskSets.{sets_of}
 use Rattle.desk_runs.specs.Setting.{print_in, files_in}
-use Rattle.desk_runs.specs.declared.schedule.step.Step.TheVariants.{Take}
+use Rattle.desk_files.specs.declared.schedule.step.Step.TheVariants.{Take}
 use Rattle.desk_runs.specs.Round.{unnumbered}
 use Rattle.desk_runs.proofs.Pieces.{IsDoneTo}
 use Rattle.desk_runs.proofs.engine.replay.round.take_file.Given as goal

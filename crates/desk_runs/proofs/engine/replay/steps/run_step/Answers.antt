@@ -9,7 +9,7 @@ use Rattle.rga_tree.specs.TextOf.{text}
 use Rattle.desk_replica.specs.Desk.{Desk}
 use Rattle.desk_replica.specs.DeskSets.{sets_of, set_at, takes, merges}
 use Rattle.desk_runs.specs.Setting.{print_in, files_in}
-use Rattle.desk_runs.specs.Schedule.{IsStepOf}
+use Rattle.desk_files.specs.Schedule.{IsStepOf}
 use Rattle.desk_runs.specs.Steps.{desk_step, desk_of, sets_after_step}
 use Rattle.desk_runs.specs.Shows.{shown, IsStepsOutcome}
 use Rattle.desk_runs.proofs.Running.{answered, shown_is}

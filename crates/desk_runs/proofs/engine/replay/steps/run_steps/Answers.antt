@@ -1,7 +1,7 @@
 -- The goals of `run_steps` that are answered by hand.
 use Rattle.std.proofs.Common.{◌∙◌}
-use Rattle.desk_runs.specs.declared.schedule.step.Step.TheVariants.{Take}
-use Rattle.desk_runs.specs.declared.schedule.step.Numbered.{Numbered}
+use Rattle.desk_files.specs.declared.schedule.step.Step.TheVariants.{Take}
+use Rattle.desk_files.specs.declared.schedule.step.Numbered.{Numbered}
 use Rattle.desk_replica.specs.DeskSets.{sets_of}
 use Rattle.desk_runs.specs.Setting.{print_in, files_in}
 use Rattle.desk_runs.specs.Shows.{IsStepsOutcome}

@@ -1,0 +1,48 @@
+-- Reading the lines of a schedule one after the other.
+use Rattle.std.proofs.Common.{◌≡◌, ℕ, ◌+◌, List, [], ◌∷◌, ◌++◌, length, refl, sym, ap, subst, ◌∙◌, append_assoc, arith}
+use Rattle.std.specs.List.{AllByRecursion}
+use Rattle.std.specs.Str.Lines.{lines}
+use Rattle.std.proofs.lemmas.List.{append-nil}
+use Rattle.bg_types.specs.declared.op.OpView.{OpView}
+use Rattle.op_listing.specs.FirstFault.{AreFaultless, AreRead}
+use Rattle.desk_files.specs.declared.schedule.step.Numbered.{Numbered}
+use Rattle.desk_files.specs.Schedule.{line_says, fault_in, step_said, with_line, steps_from, IsStepOf, Schedules}
+
+module _ (files : List (List OpView)) where
+  -- the lines before the rest are read: this many, none faulty, and they say these steps
+  pub record AreStepsRead (text rest : List ℕ) (number : ℕ) (steps : List Numbered) : Type 0 where
+    pub done : List (List ℕ)
+    pub lines_are : AreRead (fault_in files) text rest number done
+    pub said : steps ≡ steps_from files 1 done
+
+  pub no_line_read : (text : List ℕ) → AreRead (fault_in files) text text 0 [] → AreStepsRead text text 0 []
+  no_line_read text h = record { done = []; lines_are = h; said = refl }
+
+  steps_push : (n : ℕ) (xs : List (List ℕ)) (x : List ℕ) → steps_from files n (xs ++ x ∷ []) ≡ steps_from files n xs ++ with_line (n + length xs) (step_said (line_says files x))
+  steps_push n [] x = let here : n ≡ n + 0 = omega arith in append-nil (with_line n (step_said (line_says files x))) ∙ ap (λ k. with_line k (step_said (line_says files x))) here
+  steps_push n (y ∷ xs) x =
+      let there : n + 1 + length xs ≡ n + length (y ∷ xs) = omega arith in
+      ap (λ (s : List Numbered). with_line n (step_said (line_says files y)) ++ s) (steps_push (n + 1) xs x ∙ ap (λ k. steps_from files (n + 1) xs ++ with_line k (step_said (line_says files x))) there)
+      ∙ sym (append_assoc (with_line n (step_said (line_says files y))) (steps_from files (n + 1) xs) (with_line (n + length (y ∷ xs)) (step_said (line_says files x))))
+
+  -- one more line is read, and may say a step
+  pub one_step_read : (text rest after line : List ℕ) (number : ℕ) (steps more : List Numbered) (h : AreStepsRead text rest number steps) → AreRead (fault_in files) text after (number + 1) (h.done ++ line ∷ [])
+      → with_line (number + 1) (step_said (line_says files line)) ≡ more → AreStepsRead text after (number + 1) (steps ++ more)
+  one_step_read text rest after line number steps more h next said = record {
+    done = h.done ++ line ∷ [];
+    lines_are = next;
+    said =
+        let so_far = h.lines_are.count in
+        let number_is : number + 1 ≡ 1 + length h.done = omega (arith, so_far) in
+        (λ i. h.said i ++ sym said i) ∙ ap (λ k. steps_from files 1 h.done ++ with_line k (step_said (line_says files line))) number_is ∙ sym (steps_push 1 h.done line);
+  }
+
+  pub all_steps_read : (text rest : List ℕ) (number : ℕ) (steps : List Numbered) (h : AreStepsRead text rest number steps) → h.done ≡ lines text → Schedules files text steps
+  all_steps_read text rest number steps h all = record {
+    faultless = subst (AreFaultless (fault_in files)) all h.lines_are.faultless;
+    said = h.said ∙ ap (steps_from files 1) all;
+  }
+
+  pub all_there : (xs : List Numbered) (x : Numbered) → AllByRecursion (λ s. IsStepOf files s.step) xs → IsStepOf files x.step → AllByRecursion (λ s. IsStepOf files s.step) (xs ++ x ∷ [])
+  all_there [] x h p = (p, tt)
+  all_there (y ∷ xs) x h p = (h.0, all_there xs x h.1 p)
