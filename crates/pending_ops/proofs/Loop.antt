@@ -1,5 +1,5 @@
 -- What the loop of taking, placing and releasing has placed once nothing is ready.
-use Rattle.std.proofs.Common.{◌≡◌, ◌++◌, ℕ, Bool, true, false, not, cond, List, [], ◌∷◌, length, None, sym, ap, subst, ◌∙◌, refl, suc, true≢false}
+use Rattle.std.proofs.Common.{◌≡◌, ◌++◌, ℕ, true, false, not, cond, List, [], ◌∷◌, length, None, sym, ap, subst, ◌∙◌, refl, suc, true≢false}
 use Rattle.std.specs.Prelude.{◌||◌, ◌↔◌}
 use Rattle.std.specs.Option.{option_map_or}
 use Rattle.std.specs.FinMap as map

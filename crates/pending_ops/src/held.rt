@@ -5,15 +5,13 @@ ghost use Rattle.std.specs.Bool.{OnFalse};
 ghost use Rattle.std.specs.Option.{option_map};
 ghost use Rattle.std.specs.FinMap as map;
 ghost use Rattle.std.specs.FinSet as set;
-ghost use Rattle.indexmap.specs.IndexMap.{spare};
-ghost use Rattle.indexmap.specs.IndexSet as index_set;
 ghost use Rattle.bg_types.specs.Identifier.{Identifier};
 ghost use Rattle.bg_types.specs.OperationSet.{OperationSet, Node, with_operation, size};
 ghost use Rattle.bg_types.specs.WellFormed.{MayFollow, IsWellFormed};
 ghost use Rattle.bg_types.specs.declared.op.OpView.TheVariants.{Insert, Erase};
 ghost use Rattle.pending_ops.specs.Waiting.{Waiting, IsNew, ListsOnce, NoneReady, Releases, TakesOut, nothing_waits, without_erasure, is_ready};
 ghost use Rattle.pending_ops.specs.Below.{CountsBelow};
-ghost use Rattle.pending_ops.specs.Chains.{IsChainOf, first_in, insertions_of, slot_in};
+ghost use Rattle.pending_ops.specs.Chains.{HasRoom, IsChainOf, first_in, insertions_of, slot_in};
 ghost use Rattle.pending_ops.specs.declared.chains.Slot.{Slot};
 
 use crate::chains::{
@@ -21,7 +19,7 @@ use crate::chains::{
 };
 use bg_types::{Id, Keyed, Memory, Op, OpView, Place};
 use indexmap::{IndexMap, IndexSet};
-use std::alloc::Global;
+use std::alloc::{AllocError, Global};
 use std::marker::Model;
 
 /// Operations that wait: insertions whose parent is not placed yet, and deletions whose target is
@@ -71,30 +69,24 @@ fn make_room(
     erased: &mut Names,
     queue: &mut Vec<Id>,
     n: usize,
-) -> Result<(), Memory>
+) -> Result<(), AllocError>
     requires { n ≤ 1_000_000 }
     ensures slots { slots.new.entries ≡ slots.old.entries }
     ensures firsts { firsts.new.entries ≡ firsts.old.entries }
     ensures released { released.new.keys ≡ released.old.keys }
     ensures erased { erased.new.keys ≡ erased.old.keys }
     ensures queue { queue.new.items ≡ queue.old.items }
-    ensures slot { OnOk result (n ≤ spare slots.new) }
-    ensures first { OnOk result (n ≤ spare firsts.new) }
-    ensures release { OnOk result (length firsts.old.entries + n ≤ index_set.spare released.new) }
-    ensures erasure { OnOk result (n ≤ index_set.spare erased.new) }
-    ensures count { OnOk result (length slots.old.entries + n ≤ vec_capacity queue.new) }
-    ensures kept_slots { spare slots.old ≤ spare slots.new }
-    ensures kept_firsts { spare firsts.old ≤ spare firsts.new }
-    ensures kept_release { index_set.spare released.old ≤ index_set.spare released.new }
-    ensures kept_erasures { index_set.spare erased.old ≤ index_set.spare erased.new }
-    ensures kept_count { vec_capacity queue.old ≤ vec_capacity queue.new }
+    ensures ok { OnOk result
+        (HasRoom slots.new firsts.new released.new erased.new (vec_capacity queue.new) n) }
+    ensures kept { (m : ℕ)
+        → HasRoom slots.old firsts.old released.old erased.old (vec_capacity queue.old) m
+        → HasRoom slots.new firsts.new released.new erased.new (vec_capacity queue.new) m }
 {
     slots.reserve(n)?;
     firsts.reserve(n)?;
     released.reserve(firsts.len() + n)?;
     erased.reserve(n)?;
-    queue.reserve(slots.len() + n)?;
-    Ok(())
+    queue.reserve(slots.len() + n)
 }
 
 impl Held {

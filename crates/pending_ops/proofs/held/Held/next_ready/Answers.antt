@@ -5,7 +5,7 @@ use Rattle.bg_types.specs.declared.op.OpView.{OpView}
 use Rattle.bg_types.specs.declared.op.OpView.TheVariants.{Insert}
 use Rattle.pending_ops.specs.Waiting.{HandsOut, NoneReady}
 use Rattle.pending_ops.specs.Chains.{node_in, waiting_of}
-use Rattle.pending_ops.proofs.Tables.{lookup-updated, not_both}
+use Rattle.pending_ops.proofs.Tables.{not_both}
 use Rattle.pending_ops.proofs.HandingOut.{AreLinked-handed_out, hands_out, none_ready}
 use Rattle.pending_ops.proofs.held.Held.next_ready.Goals as goal
 
