@@ -1,5 +1,5 @@
 -- Blocks that are at least half full.
-use Rattle.std.proofs.Common.{◌≡◌, ℕ, zero, suc, ◌<◌, ◌≤◌, ◌+◌, ◌*◌, ◌&&◌, Bool, true, List, [], ◌∷◌, length, get_or, refl, ap, ◌∙◌, length-append, arith}
+use Rattle.std.proofs.Common.{◌≡◌, ℕ, zero, suc, ◌<◌, ◌≤◌, ◌+◌, ◌*◌, ◌&&◌, true, List, [], ◌∷◌, length, get_or, refl, ap, length-append, arith}
 use Rattle.std.specs.Prelude.{insert, set, nat_lt}
 use Rattle.std.proofs.lemmas.Bool.{ltb-true, lt-ltb, and_from, and_parts}
 use Rattle.rga_tree.specs.declared.element.Element.{Element}

@@ -1,15 +1,23 @@
 -- The numbers of blocks.
 use Rattle.std.proofs.Common.{◌≡◌, ℕ, zero, suc, ◌<◌, List, [], ◌∷◌, ◌++◌, length, take, drop, get_or, refl, sym, ap, ◌∙◌, arith}
-use Rattle.std.specs.Prelude.{insert, set}
+use Rattle.std.specs.Prelude.{insert, set, vec_len}
 use Rattle.std.proofs.lemmas.List.{length-map, drop-map, map-append, take-map}
 use Rattle.rga_sequence.specs.declared.block.Block.{Block}
+use Rattle.rga_sequence.specs.declared.row.Row.{Row}
 use Rattle.rga_sequence.specs.BlockRows.{items_of, numbers_of}
+use Rattle.rga_sequence.specs.Indexed.{blocks_in}
 
 pub length-items : (bs : List Block) → length (items_of bs) ≡ length bs
 length-items bs = length-map bs (λ b. b.elements.items)
 
 pub length-numbers : (bs : List Block) → length (numbers_of bs) ≡ length bs
 length-numbers bs = length-map bs (λ b. b.number)
+
+pub block_there : (r : Row) (q : ℕ) → q < vec_len r.blocks → q < length (blocks_in r)
+block_there r q there = omega (arith, length-items r.blocks.items, r.blocks.ok, there)
+
+pub as_many_numbers : (bs : List Block) → length (items_of bs) ≡ length (numbers_of bs)
+as_many_numbers bs = length-items bs ∙ sym (length-numbers bs)
 
 -- a block that keeps its number
 pub numbers-set : (bs : List Block) (q : ℕ) (d new : Block) → q < length bs → new.number ≡ (get_or bs q d).number → numbers_of (set bs q new) ≡ numbers_of bs

@@ -1,9 +1,10 @@
 //! Looking for a visible element block by block, with a count of the looks.
 
-ghost use Rattle.std.specs.Prelude.{◌≡◌, ◌+◌, ◌<◌, ◌≤◌, ◌^◌, ℕ, List, length, take, drop, filter, not, false, slice_get, get_or, [], Some, IsSome};
+ghost use Rattle.std.specs.Prelude.{◌≡◌, ◌+◌, ◌<◌, ◌≤◌, ◌^◌, ℕ, List, length, take, drop, filter, not, ◌||◌, nat_lt, false, slice_get, get_or, [], Some, IsSome};
 ghost use Rattle.rga_tree.specs.declared.element.Element.{Element};
 ghost use Rattle.rga_sequence.specs.Blocks.{seen, seen_all, joined, FindsBy};
 
+use crate::block::weight;
 use rga_tree::Element;
 
 /// A row of blocks of at most 512 elements each, which counts how often it is looked at. Blocks,
@@ -97,12 +98,18 @@ fn element_of<L: Look>(row: &mut L, b: usize, k: usize) -> (usize, Element)
     let mut left = k;
     let mut j = 0;
     let mut element = row.element(b, 0);
-    while element.hidden || left > 0 {
-        if !element.hidden {
-            left -= 1;
-        }
+    while is_later(element.hidden, left) {
+        left -= weight(element.hidden);
         j += 1;
         element = row.element(b, j);
     }
     (j, element)
+}
+
+/// Whether the one that is looked for stands later: this one is hidden, or visible ones are left before it.
+#[inline(always)]
+fn is_later(hidden: bool, left: usize) -> bool
+    ensures { result ≡ (hidden || nat_lt 0 left) }
+{
+    hidden || left > 0
 }

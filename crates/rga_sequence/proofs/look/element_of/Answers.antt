@@ -1,56 +1,52 @@
 -- The goals of `element_of` that are answered by hand.
-use Rattle.std.proofs.Common.{◌≡◌, ◌<◌, ◌+◌, ◌∙◌, false, sym, ap, cond, take, get_or, [], arith}
+use Rattle.std.proofs.Common.{◌+◌, ◌∙◌, sym, ap, get_or, [], arith}
 use Rattle.std.specs.Prelude.{slice_get}
-use Rattle.rga_sequence.specs.Blocks.{seen}
-use Rattle.rga_sequence.proofs.Seen.{element_more, seen-more, fell, kept}
-use Rattle.rga_sequence.proofs.look.element_of.Goals.{then-not-element, else-not-element, then-element, else-element+then-left-gt0}
+use Rattle.rga_sequence.proofs.Seen.{passed, found_here}
 use Rattle.rga_sequence.proofs.look.element_of.Goals as goal
+
+pub overflow_sub-left : goal.overflow_sub-left
+overflow_sub-left g c =
+    let i = c.loop-element.invariant in
+    (passed (get_or (g.L.Look.blocks c.args.row.now) c.args.b []) c.loop-element.j c.loop-element.left c.args.k c.weight-left.result c.loop-element.element i.there i.before c.requires.there
+    c.weight-left.ensures (sym c.is_later.ensures ∙ c.loop-element-test.true)).weighs
 
 pub element-element-requires-in-loop-element-clause-there : goal.element-element-requires-in-loop-element-clause-there
 element-element-requires-in-loop-element-clause-there g c =
     let i = c.loop-element.invariant in
-    let es = get_or (g.L.Look.blocks c.args.row.now) c.args.b [] in
-    let e = c.loop-element.element in
-    let some : e.hidden ≡ false → 0 < c.loop-element.left = λ shown. elim c.if-element.branch [ then-element v ↦ let h = v.if-element.true in absurd cc | else-element+then-left-gt0 v ↦ v.if-left-gt0.true ] in
-    let less : c.if-not-element.left + cond e.hidden 0 1 ≡ c.loop-element.left =
-    elim c.if-not-element.branch [
-      | then-not-element w ↦ fell e.hidden c.loop-element.left c.if-not-element.left w.if-not-element.true some w.left-is
-      | else-not-element w ↦ kept e.hidden c.loop-element.left c.if-not-element.left w.if-not-element.false w.left-is
-    ] in
-    let before : seen (take (c.loop-element.j + 1) es) + c.if-not-element.left ≡ c.args.k = omega (arith, seen-more es c.loop-element.j e i.there, i.before, less) in
-    rw i.same (element_more es c.loop-element.j c.if-not-element.left c.args.k before c.requires.there)
+    rw i.same
+    (passed (get_or (g.L.Look.blocks c.args.row.now) c.args.b []) c.loop-element.j c.loop-element.left c.args.k c.weight-left.result c.loop-element.element i.there i.before c.requires.there
+    c.weight-left.ensures (sym c.is_later.ensures ∙ c.loop-element-test.true)).more
 
 pub element-element-requires-in-loop-element-clause-room : goal.element-element-requires-in-loop-element-clause-room
 element-element-requires-in-loop-element-clause-room g c =
     let i = c.loop-element.invariant in
-    let es = get_or (g.L.Look.blocks c.args.row.now) c.args.b [] in
-    let e = c.loop-element.element in
-    let some : e.hidden ≡ false → 0 < c.loop-element.left = λ shown. elim c.if-element.branch [ then-element v ↦ let h = v.if-element.true in absurd cc | else-element+then-left-gt0 v ↦ v.if-left-gt0.true ] in
-    let less : c.if-not-element.left + cond e.hidden 0 1 ≡ c.loop-element.left =
-    elim c.if-not-element.branch [
-      | then-not-element w ↦ fell e.hidden c.loop-element.left c.if-not-element.left w.if-not-element.true some w.left-is
-      | else-not-element w ↦ kept e.hidden c.loop-element.left c.if-not-element.left w.if-not-element.false w.left-is
-    ] in
-    let before : seen (take (c.loop-element.j + 1) es) + c.if-not-element.left ≡ c.args.k = omega (arith, seen-more es c.loop-element.j e i.there, i.before, less) in
-    let more = element_more es c.loop-element.j c.if-not-element.left c.args.k before c.requires.there in
-    omega (arith, i.looks, c.requires.room, c.requires.few, more)
+    let step = passed (get_or (g.L.Look.blocks c.args.row.now) c.args.b []) c.loop-element.j c.loop-element.left c.args.k c.weight-left.result c.loop-element.element i.there i.before c.requires.there
+    c.weight-left.ensures (sym c.is_later.ensures ∙ c.loop-element-test.true) in
+    omega (arith, i.looks, c.requires.room, c.requires.few, step.more)
 
 pub loop-element-preserved : goal.loop-element-preserved
 loop-element-preserved g c =
     let i = c.loop-element.invariant in
-    let es = get_or (g.L.Look.blocks c.args.row.now) c.args.b [] in
-    let e = c.loop-element.element in
-    let some : e.hidden ≡ false → 0 < c.loop-element.left = λ shown. elim c.if-element.branch [ then-element v ↦ let h = v.if-element.true in absurd cc | else-element+then-left-gt0 v ↦ v.if-left-gt0.true ] in
-    let less : c.if-not-element.left + cond e.hidden 0 1 ≡ c.loop-element.left =
-    elim c.if-not-element.branch [
-      | then-not-element w ↦ fell e.hidden c.loop-element.left c.if-not-element.left w.if-not-element.true some w.left-is
-      | else-not-element w ↦ kept e.hidden c.loop-element.left c.if-not-element.left w.if-not-element.false w.left-is
-    ] in
+    let step = passed (get_or (g.L.Look.blocks c.args.row.now) c.args.b []) c.loop-element.j c.loop-element.left c.args.k c.weight-left.result c.loop-element.element i.there i.before c.requires.there
+    c.weight-left.ensures (sym c.is_later.ensures ∙ c.loop-element-test.true) in
     let call = c.element-element-in-loop-element.ensures in
     record {
       same = call.content ∙ i.same;
       aside = call.aside ∙ i.aside;
       there = ap (λ x. slice_get (get_or x c.args.b []) (c.loop-element.j + 1)) (sym i.same) ∙ call.value;
-      before = omega (arith, seen-more es c.loop-element.j e i.there, i.before, less);
+      before = step.before;
       looks = omega (arith, call.looks, i.looks);
+    }
+
+pub returns : goal.returns
+returns g c =
+    let i = c.loop-element.invariant in
+    let here = found_here c.loop-element.element.hidden c.loop-element.left (sym c.is_later.ensures ∙ c.loop-element-test.false) in
+    record {
+      there = i.there;
+      visible = here.0;
+      before = omega (arith, i.before, here.1);
+      looks = i.looks;
+      content = i.same;
+      aside = i.aside;
     }

@@ -1,77 +1,75 @@
 -- The goals of `indexed_spot` that are answered by hand.
-use Rattle.std.proofs.Common.{◌≡◌, ℕ, ◌<◌, ◌∙◌, [], Some, sym, ap, length, get_or, arith}
+use Rattle.std.proofs.Common.{◌≡◌, ℕ, ◌<◌, ◌∙◌, [], Some, sym, ap, get_or, length, arith}
 use Rattle.std.specs.Prelude.{slice_get, is_some}
-use Rattle.rga_sequence.specs.declared.block.Block.{Block}
-use Rattle.rga_sequence.specs.Blocks.{offset}
-use Rattle.rga_sequence.specs.BlockRows.{items_of, numbers_of, home_of}
+use Rattle.bg_types.specs.Identifier.{Identifier}
 use Rattle.rga_tree.specs.Row.{ids_of, is_distinct}
-use Rattle.rga_sequence.proofs.Members.{until, until_some, until-first, is_some-home, distinct_in}
+use Rattle.rga_sequence.specs.declared.block.Block.{Block}
+use Rattle.rga_sequence.specs.declared.row.Row.{Row}
+use Rattle.rga_sequence.specs.Blocks.{offset}
+use Rattle.rga_sequence.specs.BlockRows.{numbers_of, home_of}
+use Rattle.rga_sequence.specs.Grouped.{home_in}
+use Rattle.rga_sequence.specs.Indexed.{blocks_in, IsIndexed}
+use Rattle.rga_sequence.proofs.Homes.{id_eq}
+use Rattle.rga_sequence.proofs.Members.{IsFirst, until, until_some, until-first, is_some-home, distinct_in}
 use Rattle.rga_sequence.proofs.Passing.{items_there}
 use Rattle.rga_sequence.proofs.Spots.{found_first, found_within}
-use Rattle.rga_sequence.proofs.Numbers.{length-items, length-numbers}
+use Rattle.rga_sequence.proofs.Numbers.{length-items, as_many_numbers}
 use Rattle.rga_sequence.proofs.row.indexed_spot.Goals as goal
+
+inverts : (r : Row) → IsIndexed id_eq r → (p : ℕ) → p < length (blocks_in r) → slice_get r.places.items (get_or (numbers_of r.blocks.items) p 0) ≡ Some p
+inverts r indexed p there = indexed.places p (omega (arith, length-items r.blocks.items, there))
+
+found : (r : Row) (q : Identifier) (number : ℕ) → IsIndexed id_eq r → Some number ≡ home_in id_eq r.index q → home_of (blocks_in r) (numbers_of r.blocks.items) q ≡ Some number
+found r q number indexed is = sym (indexed.homes q) ∙ sym is
+
+-- the block at the number's place is the first that has the identifier
+first_at : (r : Row) (q : Identifier) (number p : ℕ) → IsIndexed id_eq r → Some number ≡ home_in id_eq r.index q → p ≡ get_or r.places.items number p
+    → IsFirst (blocks_in r) (numbers_of r.blocks.items) q number p
+first_at r q number p indexed is at = found_first (blocks_in r) (numbers_of r.blocks.items) r.places.items q number p (inverts r indexed) (found r q number indexed is) at
+
+elements_there : (r : Row) (p : ℕ) (b : Block) → p < length (blocks_in r) → b ≡ get_or r.blocks.items p b → b.elements.items ≡ get_or (blocks_in r) p []
+elements_there r p b there at = ap (λ (d : Block). d.elements.items) at ∙ sym (items_there r.blocks.items p b (omega (arith, length-items r.blocks.items, there)))
 
 pub index-p-requires : goal.index-p-requires
 index-p-requires c =
-    let bs = c.args.row.now.blocks.items in
-    let xs = items_of bs in
-    let ns = numbers_of bs in
-    let len_xs : length xs ≡ length bs = length-items bs in
-    let inverts : (p : ℕ) → p < length xs → slice_get c.args.row.now.places.items (get_or ns p 0) ≡ Some p = λ p h. c.requires.indexed.places p (omega (arith, len_xs, h)) in
-    let found : home_of xs ns c.args.id ≡ Some c.in-Some.number = sym (c.requires.indexed.homes c.args.id) ∙ sym c.in-Some.ensures in
-    omega (arith, found_within xs ns c.args.row.now.places.items c.args.id c.in-Some.number inverts found, c.args.row.now.places.ok)
+    let row = c.args.row.now in
+    omega (
+      arith,
+      found_within (blocks_in row) (numbers_of row.blocks.items) row.places.items c.args.id c.in-Some.number (inverts row c.requires.indexed)
+          (found row c.args.id c.in-Some.number c.requires.indexed c.in-Some.ensures),
+      row.places.ok,
+    )
 
 pub index-block-requires : goal.index-block-requires
 index-block-requires c =
-    let bs = c.args.row.now.blocks.items in
-    let xs = items_of bs in
-    let ns = numbers_of bs in
-    let len_xs : length xs ≡ length bs = length-items bs in
-    let inverts : (p : ℕ) → p < length xs → slice_get c.args.row.now.places.items (get_or ns p 0) ≡ Some p = λ p h. c.requires.indexed.places p (omega (arith, len_xs, h)) in
-    let found : home_of xs ns c.args.id ≡ Some c.in-Some.number = sym (c.requires.indexed.homes c.args.id) ∙ sym c.in-Some.ensures in
-    let r = c.index-p.result.now in
-    let first = found_first xs ns c.args.row.now.places.items c.args.id c.in-Some.number r inverts found c.index-p.ensures in
-    omega (arith, first.there, len_xs, c.args.row.now.blocks.ok)
+    let row = c.args.row.now in
+    let first = first_at row c.args.id c.in-Some.number c.index-p.result.now c.requires.indexed c.in-Some.ensures c.index-p.ensures in
+    omega (arith, first.there, length-items row.blocks.items, row.blocks.ok)
 
 pub returns-in-None-clause-absent : goal.returns-in-None-clause-absent
 returns-in-None-clause-absent c =
     let bs = c.args.row.now.blocks.items in
-    let xs = items_of bs in
-    let ns = numbers_of bs in
-    let len_xs : length xs ≡ length bs = length-items bs in
-    let len_ns : length ns ≡ length bs = length-numbers bs in
-    sym (is_some-home xs ns c.args.id (omega (arith, len_xs, len_ns))) ∙ ap is_some (sym (c.requires.indexed.homes c.args.id) ∙ sym c.in-None.ensures)
+    sym (is_some-home (blocks_in c.args.row.now) (numbers_of bs) c.args.id (as_many_numbers bs)) ∙ ap is_some (sym (c.requires.indexed.homes c.args.id) ∙ sym c.in-None.ensures)
 
 pub returns-in-Some : goal.returns-in-Some
 returns-in-Some c =
-    let bs = c.args.row.now.blocks in
-    let xs = items_of bs.items in
-    let ns = numbers_of bs.items in
-    let len_xs : length xs ≡ length bs.items = length-items bs.items in
-    let inverts : (p : ℕ) → p < length xs → slice_get c.args.row.now.places.items (get_or ns p 0) ≡ Some p = λ p h. c.requires.indexed.places p (omega (arith, len_xs, h)) in
-    let found : home_of xs ns c.args.id ≡ Some c.in-Some.number = sym (c.requires.indexed.homes c.args.id) ∙ sym c.in-Some.ensures in
-    let r = c.index-p.result.now in
-    let first = found_first xs ns c.args.row.now.places.items c.args.id c.in-Some.number r inverts found c.index-p.ensures in
-    let block_is : c.deref.result.now ≡ get_or xs r [] =
-    c.deref.ensures.value ∙ ap (λ (b : Block). b.elements.items) c.index-block.ensures ∙ sym (items_there bs.items r c.index-block.result.now (omega (arith, first.there, len_xs))) in
-    let at_is : c.before-in-Some.result ≡ until c.args.id (get_or xs r []) = c.before-in-Some.ensures ∙ ap (until c.args.id) block_is in
+    let row = c.args.row.now in
+    let xs = blocks_in row in
+    let p = c.index-p.result.now in
+    let first = first_at row c.args.id c.in-Some.number p c.requires.indexed c.in-Some.ensures c.index-p.ensures in
+    let block_is = c.deref.ensures.value ∙ elements_there row p c.index-block.result.now first.there c.index-block.ensures in
+    let at_is : c.before-in-Some.result ≡ until c.args.id (get_or xs p []) = c.before-in-Some.ensures ∙ ap (until c.args.id) block_is in
     record {
       absent = tt;
-      block = omega (arith, first.there, len_xs, bs.ok);
-      within = omega (arith, at_is, until_some c.args.id (get_or xs r []) first.inside);
-      place = ap (offset xs r) at_is ∙ until-first xs r c.args.id first.there first.inside first.before;
+      block = omega (arith, first.there, length-items row.blocks.items, row.blocks.ok);
+      within = omega (arith, at_is, until_some c.args.id (get_or xs p []) first.inside);
+      place = ap (offset xs p) at_is ∙ until-first xs p c.args.id first.there first.inside first.before;
     }
 
 pub before-requires : goal.before-requires
 before-requires c =
-    let bs = c.args.row.now.blocks.items in
-    let xs = items_of bs in
-    let ns = numbers_of bs in
-    let len_xs : length xs ≡ length bs = length-items bs in
-    let inverts : (p : ℕ) → p < length xs → slice_get c.args.row.now.places.items (get_or ns p 0) ≡ Some p = λ p h. c.requires.indexed.places p (omega (arith, len_xs, h)) in
-    let found : home_of xs ns c.args.id ≡ Some c.in-Some.number = sym (c.requires.indexed.homes c.args.id) ∙ sym c.in-Some.ensures in
-    let r = c.index-p.result.now in
-    let first = found_first xs ns c.args.row.now.places.items c.args.id c.in-Some.number r inverts found c.index-p.ensures in
-    let block_is : c.deref.result.now ≡ get_or xs r [] =
-    c.deref.ensures.value ∙ ap (λ (b : Block). b.elements.items) c.index-block.ensures ∙ sym (items_there bs r c.index-block.result.now (omega (arith, first.there, len_xs))) in
-    ap (λ es. is_distinct (ids_of es)) block_is ∙ distinct_in xs r first.there c.requires.distinct
+    let row = c.args.row.now in
+    let p = c.index-p.result.now in
+    let first = first_at row c.args.id c.in-Some.number p c.requires.indexed c.in-Some.ensures c.index-p.ensures in
+    let block_is = c.deref.ensures.value ∙ elements_there row p c.index-block.result.now first.there c.index-block.ensures in
+    ap (λ es. is_distinct (ids_of es)) block_is ∙ distinct_in (blocks_in row) p first.there c.requires.distinct

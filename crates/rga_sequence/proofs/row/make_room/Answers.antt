@@ -1,9 +1,16 @@
 -- The goals of `make_room` that are answered by hand.
-use Rattle.std.proofs.Common.{◌≡◌, ◌<◌, ◌∙◌, [], refl, ap, length, get_or, arith}
+use Rattle.std.proofs.Common.{◌≡◌, ℕ, ◌+◌, ◌<◌, ◌∙◌, [], refl, ap, take, drop, length, get_or, arith}
+use Rattle.std.specs.Prelude.{insert, set, vec_len}
+use Rattle.rga_sequence.specs.declared.row.Row.{Row}
 use Rattle.rga_sequence.specs.BlockRows.{items_of}
-use Rattle.rga_sequence.proofs.Joined.{halved}
-use Rattle.rga_sequence.proofs.Numbers.{length-items}
+use Rattle.rga_sequence.specs.Indexed.{blocks_in}
+use Rattle.rga_sequence.proofs.Joined.{IsHalved, halved}
+use Rattle.rga_sequence.proofs.Numbers.{length-items, block_there}
 use Rattle.rga_sequence.proofs.row.make_room.Goals as goal
+
+split_full : (r new : Row) (q : ℕ) → q < vec_len r.blocks → length (get_or (blocks_in r) q []) ≡ 512
+    → blocks_in new ≡ insert (set (blocks_in r) q (take 256 (get_or (blocks_in r) q []))) (q + 1) (drop 256 (get_or (blocks_in r) q [])) → IsHalved (blocks_in r) (blocks_in new) q
+split_full r new q there full is = halved (blocks_in r) (blocks_in new) q (block_there r q there) full is
 
 pub returns-then-count_in-lt-FULL : goal.returns-then-count_in-lt-FULL
 returns-then-count_in-lt-FULL c =
@@ -20,15 +27,11 @@ returns-then-count_in-lt-FULL c =
 
 pub returns-then-at-le-HALF : goal.returns-then-at-le-HALF
 returns-then-at-le-HALF c =
-    let bs = c.args.row.now.blocks in
     let new = c.split.new.row.blocks in
-    let xs = items_of bs.items in
-    let there : c.args.q < length xs = omega (arith, length-items bs.items, bs.ok, c.requires.block) in
     let here = c.count_in.ensures.count ∙ ap (λ d. length (get_or (items_of d) c.args.q [])) c.deref.ensures.value in
-    let full : length (get_or xs c.args.q []) ≡ 512 = omega (arith, here, c.count_in.ensures.most, c.if-count_in-lt-FULL.false) in
-    let h = halved xs (items_of new.items) c.args.q there full c.split.ensures.blocks in
+    let h = split_full c.args.row.now c.split.new.row c.args.q c.requires.block (omega (arith, here, c.count_in.ensures.most, c.if-count_in-lt-FULL.false)) c.split.ensures.blocks in
     record {
-      block = omega (arith, h.longer, length-items new.items, new.ok, there);
+      block = omega (arith, h.longer, length-items new.items, new.ok, block_there c.args.row.now c.args.q c.requires.block);
       within = omega (arith, h.low, c.if-at-le-HALF.true);
       free = omega (arith, h.low);
       place = h.place_low c.args.at;
@@ -39,16 +42,12 @@ returns-then-at-le-HALF c =
 
 pub returns-else-at-le-HALF : goal.returns-else-at-le-HALF
 returns-else-at-le-HALF c =
-    let bs = c.args.row.now.blocks in
     let new = c.split.new.row.blocks in
-    let xs = items_of bs.items in
-    let there : c.args.q < length xs = omega (arith, length-items bs.items, bs.ok, c.requires.block) in
     let here = c.count_in.ensures.count ∙ ap (λ d. length (get_or (items_of d) c.args.q [])) c.deref.ensures.value in
-    let full : length (get_or xs c.args.q []) ≡ 512 = omega (arith, here, c.count_in.ensures.most, c.if-count_in-lt-FULL.false) in
-    let h = halved xs (items_of new.items) c.args.q there full c.split.ensures.blocks in
+    let h = split_full c.args.row.now c.split.new.row c.args.q c.requires.block (omega (arith, here, c.count_in.ensures.most, c.if-count_in-lt-FULL.false)) c.split.ensures.blocks in
     record {
-      block = omega (arith, h.longer, length-items new.items, new.ok, there);
-      within = omega (arith, h.high, c.requires.within, full);
+      block = omega (arith, h.longer, length-items new.items, new.ok, block_there c.args.row.now c.args.q c.requires.block);
+      within = omega (arith, h.high, c.requires.within, here, c.count_in.ensures.most);
       free = omega (arith, h.high);
       place = h.place_high c.args.at (omega (arith, c.if-at-le-HALF.false));
       elements = h.same;

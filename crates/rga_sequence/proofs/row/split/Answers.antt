@@ -1,5 +1,5 @@
 -- The goals of `split` that are answered by hand.
-use Rattle.std.proofs.Common.{◌≡◌, ◌<◌, ◌≤◌, ◌+◌, ◌*◌, ◌++◌, ◌∙◌, ◌∷◌, [], Some, cond, true, sym, ap, subst, length, take, drop, get_or, length-append, length-drop, length-take-le, arith}
+use Rattle.std.proofs.Common.{◌≡◌, ℕ, List, ◌<◌, ◌≤◌, ◌+◌, ◌*◌, ◌++◌, ◌∙◌, ◌∷◌, [], Some, cond, true, sym, ap, subst, length, take, drop, get_or, length-append, length-drop, length-take-le, arith}
 use Rattle.std.specs.Prelude.{insert, set, slice_get, IsSome, is_ok, is_some, vec_len}
 use Rattle.std.specs.List.{AllByRecursion}
 use Rattle.std.specs.Option.{option_to_list}
@@ -9,54 +9,45 @@ use Rattle.rga_tree.specs.declared.element.Element.{Element}
 use Rattle.rga_sequence.specs.declared.block.Block.{Block}
 use Rattle.rga_sequence.specs.Blocks.{joined}
 use Rattle.rga_sequence.specs.BlockRows.{items_of, numbers_of, has, home_of, AreHalfFull}
+use Rattle.rga_sequence.specs.Indexed.{blocks_in}
 use Rattle.rga_sequence.specs.Bounds.{AreBounds, AreBoundsBelow}
 use Rattle.rga_sequence.specs.Grouped.{home_in}
 use Rattle.rga_sequence.proofs.Halves.{full_paid, AreHalfFull-split}
 use Rattle.rga_sequence.proofs.Homes.{id_eq}
-use Rattle.rga_sequence.proofs.Joined.{split_joined, split_high}
+use Rattle.rga_sequence.proofs.Joined.{split_joined, split_high, split_long}
 use Rattle.rga_sequence.proofs.Members.{all_have, has_drop, is_some-home, all_apart, halves_apart}
 use Rattle.rga_sequence.proofs.Neighbours.{bounds-split}
 use Rattle.rga_sequence.proofs.Passing.{items_there}
 use Rattle.rga_sequence.proofs.Places.{Inverts, inserted_known, inserted_apart, inserted_before}
 use Rattle.rga_sequence.proofs.Split.{has_joined, home_split-at}
-use Rattle.rga_sequence.proofs.Numbers.{length-items, length-numbers}
+use Rattle.rga_sequence.proofs.Numbers.{length-items, length-numbers, block_there, as_many_numbers}
 use Rattle.rga_sequence.proofs.row.split.Goals as goal
+
+-- the block after the one that was split has its upper half
+upper_half : (xs : List (List Element)) (q : ℕ) (new : List Block) (b : Block) → q < length xs
+    → items_of new ≡ insert (set xs q (take 256 (get_or xs q []))) (q + 1) (drop 256 (get_or xs q [])) → b ≡ get_or new (q + 1) b → b.elements.items ≡ drop 256 (get_or xs q [])
+upper_half xs q new b there items at =
+    let low = take 256 (get_or xs q []) in
+    let high = drop 256 (get_or xs q []) in
+    let longer : q + 1 < length new = omega (arith, length-items new, ap length items, split_long xs q low high there, there) in
+    ap (λ (d : Block). d.elements.items) at ∙ sym (items_there new (q + 1) b longer) ∙ ap (λ r. get_or r (q + 1) []) items ∙ split_high xs q low high there
 
 pub unwrap-upper-requires : goal.unwrap-upper-requires
 unwrap-upper-requires c =
-    let bs = c.args.row.now.blocks.items in
-    let xs = items_of bs in
-    let ns = numbers_of bs in
-    let q = c.args.q in
-    let x = get_or xs q [] in
-    let low = take 256 x in
-    let high = drop 256 x in
-    let len_xs : length xs ≡ length bs = length-items bs in
-    let len_ns : length ns ≡ length bs = length-numbers bs in
-    let there : q < length xs = omega (arith, len_xs, c.args.row.now.blocks.ok, c.requires.block) in
-    let paid = full_paid xs q c.requires.indexed.halves there c.requires.full in
-    c.pop.ensures.variant.1 (omega (arith, paid, c.requires.room.paid, len_xs, c.args.row.now.blocks.ok))
+    let xs = blocks_in c.args.row.now in
+    let paid = full_paid xs c.args.q c.requires.indexed.halves (block_there c.args.row.now c.args.q c.requires.block) c.requires.full in
+    c.pop.ensures.variant.1 (omega (arith, paid, c.requires.room.paid, length-items c.args.row.now.blocks.items, c.args.row.now.blocks.ok))
 
 pub rehome-requires-clause-known : goal.rehome-requires-clause-known
 rehome-requires-clause-known c =
     let bs = c.args.row.now.blocks.items in
     let xs = items_of bs in
-    let ns = numbers_of bs in
     let q = c.args.q in
-    let x = get_or xs q [] in
-    let low = take 256 x in
-    let high = drop 256 x in
-    let len_xs : length xs ≡ length bs = length-items bs in
-    let len_ns : length ns ≡ length bs = length-numbers bs in
-    let there : q < length xs = omega (arith, len_xs, c.args.row.now.blocks.ok, c.requires.block) in
-    let new = c.split_at.new.blocks.items in
-    let longer : q + 1 < length new = omega (arith, c.split_at.new.blocks.ok, c.split_at.ensures.len, c.requires.block) in
-    let moved_is : c.deref.result.now ≡ high =
-    c.deref.ensures.value ∙ ap (λ (b : Block). b.elements.items) c.index.ensures ∙ sym (items_there new (q + 1) c.index.result.now longer)
-    ∙ ap (λ r. get_or r (q + 1) []) c.split_at.ensures.items ∙ split_high xs q low high there in
+    let there = block_there c.args.row.now q c.requires.block in
+    let moved_is = c.deref.ensures.value ∙ upper_half xs q c.split_at.new.blocks.items c.index.result.now there c.split_at.ensures.items c.index.ensures in
     let at_home : Identifier → Type 0 = λ k. IsSome (home_in id_eq c.args.row.now.index k) in
-    let all : AllByRecursion (λ (e : Element). at_home e.id) high = all_have at_home high (λ k inside.
-    ap is_some (c.requires.indexed.homes k) ∙ is_some-home xs ns k (omega (arith, len_xs, len_ns)) ∙ has_joined xs q k there (has_drop 256 x k inside)) in
+    let all : AllByRecursion (λ (e : Element). at_home e.id) (drop 256 (get_or xs q [])) = all_have at_home _ (λ k inside.
+    ap is_some (c.requires.indexed.homes k) ∙ is_some-home xs (numbers_of bs) k (as_many_numbers bs) ∙ has_joined xs q k there (has_drop 256 (get_or xs q []) k inside)) in
     subst (λ es. AllByRecursion (λ (e : Element). at_home e.id) es) (sym moved_is) all
 
 pub rehome-requires-clause-few : goal.rehome-requires-clause-few
@@ -67,19 +58,13 @@ rehome-requires-clause-few c =
 pub renumber-requires : goal.renumber-requires
 renumber-requires c =
     let bs = c.args.row.now.blocks.items in
-    let xs = items_of bs in
     let ns = numbers_of bs in
     let q = c.args.q in
-    let x = get_or xs q [] in
-    let low = take 256 x in
-    let high = drop 256 x in
-    let len_xs : length xs ≡ length bs = length-items bs in
     let len_ns : length ns ≡ length bs = length-numbers bs in
-    let there : q < length xs = omega (arith, len_xs, c.args.row.now.blocks.ok, c.requires.block) in
     let places = c.args.row.now.places.items in
     let many : length places ≡ length ns = omega (arith, len_ns, c.args.row.now.blocks.ok, c.args.row.now.places.ok, c.requires.indexed.as_many) in
     let inverts : Inverts ns places = λ p h. c.requires.indexed.places p (omega (arith, len_ns, h)) in
-    let within : q + 1 ≤ length ns = omega (arith, len_ns, len_xs, there) in
+    let within : q + 1 ≤ length ns = omega (arith, len_ns, c.args.row.now.blocks.ok, c.requires.block) in
     let count : c.len-number.result ≡ length ns = omega (arith, c.len-number.ensures, c.args.row.now.blocks.ok, len_ns) in
     let numbers_is : numbers_of c.deref-2.result.now ≡ insert ns (q + 1) (length ns) = ap numbers_of c.deref-2.ensures.value ∙ c.split_at.ensures.numbers ∙ ap (insert ns (q + 1)) count in
     let ok : is_ok c.push.result ≡ true = ap is_ok c.unwrap.ensures in
@@ -107,16 +92,11 @@ returns c =
     let x = get_or xs q [] in
     let low = take 256 x in
     let high = drop 256 x in
-    let len_xs : length xs ≡ length bs = length-items bs in
-    let len_ns : length ns ≡ length bs = length-numbers bs in
-    let there : q < length xs = omega (arith, len_xs, c.args.row.now.blocks.ok, c.requires.block) in
+    let there = block_there c.args.row.now q c.requires.block in
     let new = c.split_at.new.blocks.items in
-    let longer : q + 1 < length new = omega (arith, c.split_at.new.blocks.ok, c.split_at.ensures.len, c.requires.block) in
-    let moved_is : c.deref.result.now ≡ high =
-    c.deref.ensures.value ∙ ap (λ (b : Block). b.elements.items) c.index.ensures ∙ sym (items_there new (q + 1) c.index.result.now longer)
-    ∙ ap (λ r. get_or r (q + 1) []) c.split_at.ensures.items ∙ split_high xs q low high there in
+    let moved_is = c.deref.ensures.value ∙ upper_half xs q new c.index.result.now there c.split_at.ensures.items c.index.ensures in
     let number = c.len-number.result in
-    let numbered : q < length ns = omega (arith, len_xs, len_ns, there) in
+    let numbered : q < length ns = omega (arith, as_many_numbers bs, there) in
     let halved : x ≡ low ++ high = sym (take-append-drop 256 x) in
     let items = c.split_at.ensures.items in
     let l : length low ≡ 256 = length-take-le 256 x (omega (arith, c.requires.full)) in
@@ -159,7 +139,7 @@ renew-requires c =
     let halves = insert (set xs q (take 256 x)) (q + 1) (drop 256 x) in
     let ms = c.args.row.now.bounds in
     let from = 32 * c.min-from.result in
-    let there : q < length xs = omega (arith, length-items c.args.row.now.blocks.items, c.args.row.now.blocks.ok, c.requires.block) in
+    let there = block_there c.args.row.now q c.requires.block in
     let before : AreBoundsBelow from ms.items halves = bounds-split ms.items xs q from (take 256 x) (drop 256 x) there (omega (arith, c.min-from.ensures)) c.requires.indexed.bounds in
     let few : from ≤ 32 * length ms.items = omega (arith, c.min-from.ensures, c.len.ensures, ms.ok) in
     let added : AreBoundsBelow from c.add.new.bounds.items halves = c.add.ensures from halves few before in
