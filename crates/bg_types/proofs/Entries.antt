@@ -23,12 +23,12 @@ less_of Less h = refl
 less_of Equal h = absurd h
 less_of Greater h = absurd h
 
-both_of : (a b : Bool) → T (a && b) → T a × T b
+pub both_of : (a b : Bool) → T (a && b) → T a × T b
 both_of true b h = (tt, h)
 both_of false b h = absurd h
 
 module _ {X : Type 0} where
-  above_of : (k : Identifier) (es : List (Identifier × X)) → T (below_all id_cmp k es) → AllByRecursion (λ e. id_cmp k e.0 ≡ Less) es
+  pub above_of : (k : Identifier) (es : List (Identifier × X)) → T (below_all id_cmp k es) → AllByRecursion (λ e. id_cmp k e.0 ≡ Less) es
   above_of k [] h = tt
   above_of k (e ∷ es) h = let p = both_of (is_lt (id_cmp k e.0)) (below_all id_cmp k es) h in (less_of (id_cmp k e.0) p.0, above_of k es p.1)
 

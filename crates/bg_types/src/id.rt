@@ -1,9 +1,7 @@
 //! Identifiers.
 
 ghost use Rattle.std.specs.Prelude.{◌≡◌, ◌<◌, ◌↔◌, ◌==◌, ◌&&◌, ◌*◌, ◌+◌, ◌/◌, ◌%◌, ◌++◌, IsSome, IfSome, refl};
-ghost use Rattle.std.proofs.Common.{rules};
-ghost use Rattle.std.specs.Cmp.{nat_cmp_total, on_total, then_total, both_tied, unsigned_ties, partial_order_from_own_ties};
-ghost use Rattle.std.specs.Cmp.Rules.{comparing, hashing};
+ghost use Rattle.std.specs.Cmp.{nat_cmp_total, nat_eq_equiv, on_total, on_equiv, then_total, and_equiv, both_tied, unsigned_ties, unsigned_Decides, first_so, second_so, partial_equiv_from_equiv, po};
 ghost use Rattle.std.specs.Hash as fed;
 ghost use Rattle.std.specs.Ordering.{as_partial_cmp};
 ghost use Rattle.bg_types.specs.Identifier.{Identifier, IsIdentifier, id_cmp};
@@ -49,7 +47,7 @@ impl fmt::Debug for Id {
 impl PartialEq for Id {
     ghost eq = { λ a b. (a.counter == b.counter) && (a.site == b.site) };
 
-    ghost laws = { Prim.search (comparing, rules) };
+    ghost laws = { partial_equiv_from_equiv (and_equiv (on_equiv (λ a. a.counter) nat_eq_equiv) (on_equiv (λ a. a.site) nat_eq_equiv)) };
 
     fn eq(&self, other: &Id) -> bool {
         self.counter() == other.counter() && self.site() == other.site()
@@ -57,7 +55,7 @@ impl PartialEq for Id {
 }
 
 impl Eq for Id {
-    ghost laws = { Prim.search (comparing, rules) };
+    ghost laws = { and_equiv (on_equiv (λ a. a.counter) nat_eq_equiv) (on_equiv (λ a. a.site) nat_eq_equiv) };
 }
 
 impl Ord for Id {
@@ -79,8 +77,8 @@ impl Ord for Id {
 impl PartialOrd for Id {
     ghost partial_cmp = { as_partial_cmp id_cmp };
 
-    ghost laws = { partial_order_from_own_ties (Prim.search (comparing, rules))
-        (Prim.search (comparing, rules)) };
+    ghost laws = { po (then_total (on_total (λ a. a.counter) nat_cmp_total) (on_total (λ a. a.site) nat_cmp_total))
+        (λ a b. both_tied _ _ _ _ (unsigned_ties a.counter b.counter) (unsigned_ties a.site b.site)) };
 
     fn partial_cmp(&self, other: &Id) -> Option<Ordering> {
         Some(self.cmp(other))
@@ -90,7 +88,9 @@ impl PartialOrd for Id {
 impl Hash for Id {
     ghost hash_input = { λ a. fed.u32 a.counter ++ fed.u16 a.site };
 
-    ghost respects_eq = { Prim.search (hashing, rules) };
+    ghost respects_eq = { λ a b same i.
+        fed.u32 ((unsigned_Decides a.counter b.counter).0 (first_so (a.counter == b.counter) (a.site == b.site) same) i)
+        ++ fed.u16 ((unsigned_Decides a.site b.site).0 (second_so (a.counter == b.counter) (a.site == b.site) same) i) };
 
     fn hash<H: Hasher>(&self, state: &mut H) {
         self.counter().hash(state);
