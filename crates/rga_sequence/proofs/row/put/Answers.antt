@@ -4,9 +4,15 @@ use Rattle.std.specs.Prelude.{insert}
 use Rattle.rga_tree.specs.declared.element.Element.{Element}
 use Rattle.rga_tree.specs.Row.{place_of}
 use Rattle.rga_sequence.specs.Blocks.{offset, sought}
-use Rattle.rga_sequence.specs.BlockRows.{items_of}
+use Rattle.rga_sequence.specs.BlockRows.{has, items_of}
 use Rattle.rga_sequence.specs.Indexed.{blocks_in, elements_in}
 use Rattle.rga_sequence.proofs.row.put.Goals as goal
+
+pub make_room-q-requires-clause-distinct : goal.make_room-q-requires-clause-distinct
+make_room-q-requires-clause-distinct c = c.requires.keeps_walk.distinct
+
+pub put_into-requires-clause-new : goal.put_into-requires-clause-new
+put_into-requires-clause-new c = ap (has c.args.id) c.make_room-q.ensures.elements ∙ c.requires.new
 
 pub put_into-requires-clause-room : goal.put_into-requires-clause-room
 put_into-requires-clause-room c = c.make_room-q.ensures.room 1 c.requires.room
