@@ -116,9 +116,13 @@ pub fn take_front(slots: &mut Table<Slot>, firsts: &Table<Id>, released: &Names)
     ensures spare { spare slots.old ≤ spare slots.new }
 {
     let parent = *released.last()?;
-    let (at, _, first) = firsts.get_full(&parent)?;
+    let Some((at, _, first)) = firsts.get_full(&parent) else {
+        unreachable!()
+    };
     let id = *first;
-    let slot = slots.swap_remove(&id)?;
+    let Some(slot) = slots.swap_remove(&id) else {
+        unreachable!()
+    };
     Some(Front {
         at,
         parent,

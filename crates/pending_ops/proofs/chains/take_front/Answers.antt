@@ -15,12 +15,12 @@ use Rattle.pending_ops.proofs.chains.take_front.Goals as goal
 pub returns-clause-parent : goal.returns-clause-parent
 returns-clause-parent c = before_last c.args.released.now.keys c.in_ok-parent.field-0.now (sym c.in_ok-parent.ensures.key)
 
-pub returns-in_err-at-clause-none : goal.returns-in_err-at-clause-none
-returns-in_err-at-clause-none c =
+pub unreachable-requires : goal.unreachable-requires
+unreachable-requires c =
     let parent = c.in_ok-parent.field-0.now in
     let there : is_in c.args.released.now.keys parent ≡ true = is_in-slice_get c.args.released.now.keys _ parent (sym c.in_ok-parent.ensures.key) in
-    let gone : first_in c.args.firsts.now.entries parent ≡ None = sym (lookup-id_eq c.args.firsts.now.entries parent) ∙ sym c.in_err-at.ensures.value in
-    absurd (true≢false (sym (c.requires.needed parent there) ∙ ap is_some gone))
+    let gone : first_in c.args.firsts.now.entries parent ≡ None = sym (lookup-id_eq c.args.firsts.now.entries parent) ∙ sym c.in_default.ensures.value in
+    true≢false (sym (c.requires.needed parent there) ∙ ap is_some gone)
 
 -- the first of a chain has a slot
 some_slot : (slots : List (Identifier × Slot)) (firsts : List (Identifier × Identifier)) (released : List Identifier) (parent id : Identifier)
@@ -29,51 +29,35 @@ some_slot slots firsts released parent id linked first gone =
     let named = first_names (slot_in slots) parent id (first_in firsts parent) (linked.chains parent) first in
     true≢false (sym named ∙ ap (λ o. option_map_or (λ (s : Slot). is_after s.parent parent) o false) gone)
 
-pub returns-in_err-slot-clause-none : goal.returns-in_err-slot-clause-none
-returns-in_err-slot-clause-none c =
+pub unreachable-requires-in_default-swap_remove : goal.unreachable-requires-in_default-swap_remove
+unreachable-requires-in_default-swap_remove c =
     let parent = c.in_ok-parent.field-0.now in
-    let id = c.in_ok-at.first.now in
+    let id = c.in-Some.first.now in
     let slots = c.args.slots.now.entries in
     let firsts = c.args.firsts.now.entries in
-    let first : first_in firsts parent ≡ Some id = sym (lookup-id_eq firsts parent) ∙ sym c.in_ok-at.ensures.value in
-    let gone : slot_in slots id ≡ None = sym (lookup-id_eq slots id) ∙ sym c.in_err-slot.ensures.value in
-    absurd (some_slot slots firsts c.args.released.now.keys parent id c.requires first gone)
-
-pub returns-in_err-slot-clause-unchanged : goal.returns-in_err-slot-clause-unchanged
-returns-in_err-slot-clause-unchanged c =
-    let parent = c.in_ok-parent.field-0.now in
-    let id = c.in_ok-at.first.now in
-    let slots = c.args.slots.now.entries in
-    let firsts = c.args.firsts.now.entries in
-    let first : first_in firsts parent ≡ Some id = sym (lookup-id_eq firsts parent) ∙ sym c.in_ok-at.ensures.value in
-    let gone : slot_in slots id ≡ None = sym (lookup-id_eq slots id) ∙ sym c.in_err-slot.ensures.value in
-    absurd (some_slot slots firsts c.args.released.now.keys parent id c.requires first gone)
+    let first : first_in firsts parent ≡ Some id = sym (lookup-id_eq firsts parent) ∙ sym c.in-Some.ensures.value in
+    let gone : slot_in slots id ≡ None = sym (lookup-id_eq slots id) ∙ sym c.in_default-swap_remove.ensures.value in
+    some_slot slots firsts c.args.released.now.keys parent id c.requires first gone
 
 pub returns-clause-at : goal.returns-clause-at
 returns-clause-at c =
     let parent = c.in_ok-parent.field-0.now in
     let firsts = c.args.firsts.now.entries in
-    let key = c.in_ok-at.field-0-1.now in
-    let own : key ≡ parent = sym (same_id-is parent key (sym (id_eq-is parent key) ∙ lookup_key_passes (id_eq parent) firsts key (sym c.in_ok-at.ensures.key))) in
-    subst (λ k. slice_get firsts c.in_ok-at.at ≡ Some (k, c.in_ok-at.first.now)) own c.in_ok-at.ensures.entry
+    let key = c.in-Some.field-0-1.now in
+    let own : key ≡ parent = sym (same_id-is parent key (sym (id_eq-is parent key) ∙ lookup_key_passes (id_eq parent) firsts key (sym c.in-Some.ensures.key))) in
+    subst (λ k. slice_get firsts c.in-Some.at ≡ Some (k, c.in-Some.first.now)) own c.in-Some.ensures.entry
 
 pub returns-clause-cut : goal.returns-clause-cut
-returns-clause-cut c = lookup-updated c.args.slots.now.entries c.swap_remove.new.self.entries c.in_ok-at.first.now None c.swap_remove.ensures.updates.0
+returns-clause-cut c = lookup-updated c.args.slots.now.entries c.swap_remove.new.self.entries c.in-Some.first.now None c.swap_remove.ensures.updates.0
 
 pub returns-clause-first : goal.returns-clause-first
-returns-clause-first c = sym (lookup-id_eq c.args.firsts.now.entries c.in_ok-parent.field-0.now) ∙ sym c.in_ok-at.ensures.value
+returns-clause-first c = sym (lookup-id_eq c.args.firsts.now.entries c.in_ok-parent.field-0.now) ∙ sym c.in-Some.ensures.value
 
 pub returns-clause-slot : goal.returns-clause-slot
-returns-clause-slot c = sym (lookup-id_eq c.args.slots.now.entries c.in_ok-at.first.now) ∙ sym c.in_ok-slot.ensures.value
+returns-clause-slot c = sym (lookup-id_eq c.args.slots.now.entries c.in-Some.first.now) ∙ sym c.in-Some-swap_remove.ensures.value
 
 pub returns-clause-len : goal.returns-clause-len
-returns-clause-len c = omega (arith, c.in_ok-slot.ensures.len)
+returns-clause-len c = omega (arith, c.in-Some-swap_remove.ensures.len)
 
 pub returns-clause-spare : goal.returns-clause-spare
 returns-clause-spare c = c.swap_remove.ensures.room.0
-
-pub returns-in_err-slot-clause-len : goal.returns-in_err-slot-clause-len
-returns-in_err-slot-clause-len c = omega (arith, ap length c.in_err-slot.ensures.unchanged)
-
-pub returns-in_err-slot-clause-spare : goal.returns-in_err-slot-clause-spare
-returns-in_err-slot-clause-spare c = c.swap_remove.ensures.room.0
