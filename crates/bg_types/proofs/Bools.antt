@@ -1,5 +1,5 @@
 -- Lemmas on tests that compute.
-use Rattle.std.proofs.Common.{◌≡◌, Bool, true, false, ◌&&◌, refl, ap}
+use Rattle.std.proofs.Common.{◌≡◌, Bool, true, false, refl}
 use Rattle.std.specs.Prelude.{◌||◌}
 
 pub two_cases : {P : Type 0} (b : Bool) → (b ≡ true → P) → (b ≡ false → P) → P
