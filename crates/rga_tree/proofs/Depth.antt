@@ -9,9 +9,10 @@ use Rattle.std.specs.FinMap as map
 use Rattle.bg_types.specs.OperationSet.{OperationSet, AllWellFormed}
 use Rattle.bg_types.specs.declared.op.Place.{Place}
 use Rattle.bg_types.specs.declared.op.Place.TheVariants.{After}
+use Rattle.bg_types.proofs.Interface.{all_weaker}
 use Rattle.rga_tree.specs.Walk.{Insertions, same_place, children, walk_to, walk}
 use Rattle.rga_tree.proofs.WalkAmong.{Entry, walk_among, Rises, AreAbove, AreWellFounded, IsLow, low_all, not_at}
-use Rattle.rga_tree.proofs.Entries.{all_weaker, entries_of, Rises-entries, AreWellFounded-entries}
+use Rattle.rga_tree.proofs.Entries.{entries_of, Rises-entries, AreWellFounded-entries}
 use Rattle.rga_tree.proofs.Preorder.{children_among, flat_map-same, all_reverse, all_filter, walk_among-children}
 
 -- the walk to a depth, among insertions in rising order

@@ -1,6 +1,6 @@
 -- The walk with one more leaf is the old walk with the leaf put in at its place.
-use Rattle.std.proofs.Common.{◌≡◌, ◌≤◌, ◌+◌, Bool, true, false, cond, not, ◌||◌, List, [], ◌∷◌, length, Option, Some, None, refl, sym, ap, subst, ◌∙◌, true≢false, arith}
-use Rattle.std.specs.Prelude.{map as each, insert, is_some}
+use Rattle.std.proofs.Common.{◌≡◌, ◌≤◌, ◌+◌, Bool, true, false, cond, not, ◌||◌, List, [], ◌∷◌, length, Some, refl, sym, ap, subst, ◌∙◌, true≢false, arith}
+use Rattle.std.specs.Prelude.{map as each, insert}
 use Rattle.std.specs.List.{prefix_len}
 use Rattle.std.specs.FinMap as map
 use Rattle.bg_types.specs.Identifier.{Identifier, same_id}

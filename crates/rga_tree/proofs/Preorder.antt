@@ -9,7 +9,7 @@ use Rattle.bg_types.specs.declared.op.Place.{Place}
 use Rattle.bg_types.specs.declared.op.Place.TheVariants.{After}
 use Rattle.rga_tree.specs.Walk.{same_place}
 use Rattle.rga_tree.proofs.WalkAmong.{Entry, walk_among, Rises, AreWellFounded, IsLow, all_append, low_all, not_at}
-use Rattle.rga_tree.proofs.Entries.{all_weaker}
+use Rattle.bg_types.proofs.Interface.{all_weaker}
 
 abbrev child_walk : List Entry → Entry → List Entry
 child_walk es e = e ∷ walk_among es (After e.0)

@@ -1,5 +1,5 @@
 -- The operations that a row stands for, and what one more element does to them.
-use Rattle.std.proofs.Common.{◌≡◌, ℕ, Bool, true, false, cond, ◌||◌, List, [], ◌∷◌, ◌++◌, take, drop, Option, Some, None, refl, sym, ap, subst, ◌∙◌}
+use Rattle.std.proofs.Common.{◌≡◌, ℕ, Bool, true, false, cond, ◌||◌, List, [], ◌∷◌, ◌++◌, take, drop, Some, refl, sym, ap, subst, ◌∙◌}
 use Rattle.std.specs.Prelude.{map as each, filter, insert, is_some}
 use Rattle.std.specs.Ordering.{eq_by_cmp}
 use Rattle.std.specs.List.{AllByRecursion, list_any}
@@ -8,7 +8,6 @@ use Rattle.std.specs.FinSet as set
 use Rattle.std.specs.FinMap.Entries.{find}
 use Rattle.std.proofs.lemmas.List.{take-append-drop, map-append}
 use Rattle.bg_types.specs.Identifier.{Identifier, id_cmp, same_id}
-use Rattle.bg_types.specs.OperationSet.{Node}
 use Rattle.bg_types.proofs.Interface.{or_swap, id_cmp-total, id_cmp-exact, same_id-is, none_of}
 use Rattle.rga_tree.specs.declared.element.Element.{Element}
 use Rattle.rga_tree.specs.Row.{entry_of, hidden_ids, operations_of}

@@ -8,10 +8,10 @@ use Rattle.bg_types.specs.Identifier.{id_cmp, same_id}
 use Rattle.bg_types.specs.OperationSet.{OperationSet, AllWellFormed}
 use Rattle.bg_types.specs.declared.op.Place.{Place}
 use Rattle.bg_types.specs.declared.op.Place.TheVariants.{Root, After}
-use Rattle.bg_types.proofs.Interface.{id_cmp-total, same_id-is, same_id-itself}
+use Rattle.bg_types.proofs.Interface.{all_weaker, all_both, id_cmp-total, same_id-is, same_id-itself}
 use Rattle.rga_tree.specs.Walk.{same_place, walk, walked_ids}
 use Rattle.rga_tree.proofs.WalkAmong.{Entry, walk_among, Rises, AreWellFounded, IsLow, all_append, low_all, not_at, walk_all, same_is}
-use Rattle.rga_tree.proofs.Entries.{IsAbsent, all_weaker, both_all, entries_of, Rises-entries, AreWellFounded-entries}
+use Rattle.rga_tree.proofs.Entries.{IsAbsent, entries_of, Rises-entries, AreWellFounded-entries}
 use Rattle.rga_tree.proofs.Depth.{walk-among}
 use Rattle.rga_tree.proofs.RowPlaces.{AreDistinct}
 use Rattle.rga_tree.proofs.AttachedWalk.{same_place-itself}
@@ -55,7 +55,7 @@ AreDistinct-append (x ∷ xs) ys p q apart = (all_append (λ e. same_id x.0 e.0 
 -- an identifier with another top is another identifier
 other_top : (es ys : List Entry) (a : Entry) (p q : Place) → same_place p q ≡ false → top_among es (After a.0) ≡ p → AllByRecursion (λ y. top_among es (After y.0) ≡ q) ys → IsAbsent a.0 ys
 other_top es ys a p q apart at h =
-    all_weaker (λ y. top_among es (After y.0) ≡ q) (λ y. same_id a.0 y.0 ≡ false)
+    all_weaker {A = Entry} (λ y. top_among es (After y.0) ≡ q) (λ y. same_id a.0 y.0 ≡ false)
     (λ y there. elim (same_id a.0 y.0) as (λ b. same_id a.0 y.0 ≡ b → b ≡ false) [
       | true ↦ λ same.
           let one : p ≡ q = sym at ∙ ap (λ i. top_among es (After i)) (same_id-is a.0 y.0 same) ∙ there in
@@ -77,7 +77,7 @@ AreDistinct-walk (x ∷ rest) q rises founded =
           let low_x : IsLow q x.0 = subst (λ p. IsLow p x.0) (same_is x.1.parent q at) founded.0 in
           let tops_w = top-walk rest q rises.1 founded.1 (low_all q x.0 rest low_x rises.0) in
           let tops_v = top-walk rest (After x.0) rises.1 founded.1 rises.0 in
-          let both = both_all (λ a. id_cmp x.0 a.0 ≡ Less) (λ a. top_among rest (After a.0) ≡ q) w above_w tops_w in
+          let both = all_both (λ a. id_cmp x.0 a.0 ≡ Less) (λ a. top_among rest (After a.0) ≡ q) w above_w tops_w in
           AreDistinct-append w (x ∷ v) distinct_w (all_weaker (λ e. id_cmp x.0 e.0 ≡ Less) (λ e. same_id x.0 e.0 ≡ false) (λ e h. ap is_eq h) v above_v, AreDistinct-walk rest (After x.0) rises.1 founded.1)
           (all_weaker (λ a. (id_cmp x.0 a.0 ≡ Less) × (top_among rest (After a.0) ≡ q)) (λ a. IsAbsent a.0 (x ∷ v))
           (λ a h. (ap is_eq (id_cmp-total.antisymm a.0 x.0 ∙ ap ordering_reverse h.0), other_top rest v a q (After x.0) (not_at q x.0 low_x) h.1 tops_v)) w both)
