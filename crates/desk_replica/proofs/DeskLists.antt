@@ -1,17 +1,21 @@
 -- A list of desks of which one has changed.
-use Rattle.std.proofs.Common.{◌≡◌, ◌<◌, ℕ, List, ◌++◌, length, get_or, Result, Ok, Err, ◌⊎◌, inl, inr, refl, sym, ap, subst, ◌∙◌, arith}
-use Rattle.std.specs.Prelude.{OnOk, IfErr}
+use Rattle.std.proofs.Common.{◌≡◌, ◌≤◌, ◌<◌, ◌+◌, ℕ, List, ◌++◌, length, get_or, Result, Ok, Err, ◌⊎◌, inl, inr, refl, sym, ap, subst, ◌∙◌, arith}
+use Rattle.std.specs.Prelude.{OnOk, IfOk, IfErr}
 use Rattle.std.proofs.Math.ListN.{set, get_or-append}
 use Rattle.std.proofs.Math.Seq.{map-set_same}
-use Rattle.std.proofs.lemmas.List.{map-set, get_or-map, get_or_default, set-get_or, set-append_left, set-append_right, get_or-append_right}
-use Rattle.bg_types.specs.OperationSet.{OperationSet, no_operations, union}
+use Rattle.std.proofs.lemmas.List.{map-set, get_or-map, get_or_default, get_or-set_same, length-map, set-get_or, set-append_left, set-append_right, get_or-append_right}
+use Rattle.bg_types.specs.OperationSet.{OperationSet, no_operations, size, union}
+use Rattle.bg_types.proofs.Interface.{some_is}
+use Rattle.desk_replica.specs.declared.answer.Taken.{Taken}
 use Rattle.desk_replica.specs.declared.answer.TakeFault.{TakeFault}
 use Rattle.desk_replica.specs.declared.answer.TakeFault.TheVariants.{IdentifierReused, Full, Memory}
 use Rattle.bg_types.specs.declared.op.OpView.{OpView}
 use Rattle.desk_replica.specs.Desk.{Desk, fresh}
-use Rattle.desk_replica.specs.Reply.{IsRefusal, IsRefused}
+use Rattle.desk_replica.specs.Reply.{IsRefusal, IsRefused, IsTake}
 use Rattle.desk_replica.specs.Merging.{IsMerge, IsMergeRefusal, IsMergeRefused}
-use Rattle.desk_replica.specs.DeskSets.{sets_of, sites_of, set_at, with_set, desk_in, merges, sets_after_step, IsStepRefused, LeavesMerged, IsMergeAt}
+use Rattle.desk_replica.specs.DeskSets.{sets_of, sites_of, set_at, with_set, desk_in, merges, sets_after_step, IsStepRefused, LeavesMerged, IsTakeAt, IsMergeAt}
+use Rattle.desk_replica.proofs.Merges.{merge_accepted}
+use Rattle.desk_replica.proofs.UnionLaw.{idempotent}
 
 -- ---- a desk of the list
 
@@ -23,6 +27,29 @@ sets_of-set desks i d = map-set (λ (x : Desk). x.set) desks i d
 
 pub sites_of-set : (desks : List Desk) (i : ℕ) (d e : Desk) → d.site ≡ (get_or desks i e).site → sites_of (set desks i d) ≡ sites_of desks
 sites_of-set desks i d e is = map-set_same (λ (x : Desk). x.site) desks i d e is
+
+set_at-set : (desks : List Desk) (i : ℕ) (d : Desk) → i < length desks → set_at (sets_of (set desks i d)) i ≡ d.set
+set_at-set desks i d lt =
+    ap (λ (sets : List OperationSet). set_at sets i) (sets_of-set desks i d)
+    ∙ get_or-set_same (sets_of desks) i d.set no_operations (subst (λ n. i < n) (sym (length-map desks (λ (x : Desk). x.set))) lt)
+
+-- a desk of the list takes an operation
+pub taken_there : (desks : List Desk) (desk : ℕ) (x after : Desk) (op : OpView) (r : Result Taken TakeFault) → desk < length desks → IsTake (get_or desks desk x) op after r → IsTakeAt desks (set desks desk after) desk op r
+taken_there desks desk x after op r lt h = record { after = after; new_is = refl; take = subst (λ (d : Desk). IsTake d op after r) (get_or_default desks desk x (fresh 0) lt) h }
+
+-- a desk meets itself
+pub met_self : (d : Desk) → size d.set ≤ 1_000_000 → IsMerge d d d (Ok 0)
+met_self d limited = record {
+  ok = sym (idempotent d.set);
+  count = omega arith;
+  accepted = merge_accepted d.set d.set (λ id a b in_a in_b. some_is a b (sym in_a ∙ in_b)) (subst (λ (s : OperationSet). size s ≤ 1_000_000) (sym (idempotent d.set)) limited);
+  fault = tt;
+  reused = tt;
+  nothing_new = λ _. refl;
+  site = refl;
+  spare = omega arith;
+  unpaid = tt;
+}
 
 -- a desk of the list meets itself
 pub met_itself : (desks : List Desk) (desk from : ℕ) (x : Desk) (r : Result ℕ TakeFault) → desk < length desks → desk ≡ from → IsMerge (get_or desks desk x) (get_or desks desk x) (get_or desks desk x) r
@@ -70,6 +97,10 @@ module _ (old new : List Desk) (desk from : ℕ) (here : desk < length old) (the
   pub merged_sets : (r : Result ℕ TakeFault) → IsMergeAt old new desk from r → OnOk r (sets_of new ≡ sets_after_step (sets_of old) (merges desk from))
   merged_sets (Ok n) h = ap sets_of h.new_is ∙ sets_of-set old desk h.after ∙ ap (with_set (sets_of old) desk) (h.merge.ok ∙ sym (λ i. union (own i) (others i)))
   merged_sets (Err fault) h = tt
+
+  pub merged_count : (r : Result ℕ TakeFault) → IsMergeAt old new desk from r → IfOk r (λ n. size (set_at (sets_of new) desk) ≡ size (set_at (sets_of old) desk) + n)
+  merged_count (Ok n) h = ap (λ (l : List Desk). size (set_at (sets_of l) desk)) h.new_is ∙ ap size (set_at-set old desk h.after here) ∙ h.merge.count ∙ ap (λ (s : OperationSet). size s + n) (sym own)
+  merged_count (Err fault) h = tt
 
   refusal_there : (fault : TakeFault) → IsMergeRefusal (set_at (sets_of old) desk) (set_at (sets_of old) from) fault → IsMergeRefusal (desk_in old desk).set (desk_in old from).set fault
   refusal_there fault h = subst (λ (s : OperationSet). IsMergeRefusal s (desk_in old from).set fault) own (subst (λ (t : OperationSet). IsMergeRefusal (set_at (sets_of old) desk) t fault) others h)

@@ -2,9 +2,10 @@
 use Rattle.std.specs.Prelude.{◌≡◌, ℕ, List, [], ◌∷◌, Result, map as each, replicate, slice_set, slice_index_or}
 use Rattle.bg_types.specs.OperationSet.{OperationSet, no_operations, with_operation, union}
 use Rattle.bg_types.specs.declared.op.OpView.{OpView}
+use Rattle.desk_replica.specs.declared.answer.Taken.{Taken}
 use Rattle.desk_replica.specs.declared.answer.TakeFault.{TakeFault}
 use Rattle.desk_replica.specs.Desk.{Desk, fresh}
-use Rattle.desk_replica.specs.Reply.{IsRefusal}
+use Rattle.desk_replica.specs.Reply.{IsRefusal, IsTake}
 use Rattle.desk_replica.specs.Merging.{IsMergeRefusal, IsMergeRefused, IsMerge}
 
 -- ---- what desks hold. Desks count from 0
@@ -59,6 +60,12 @@ pub record LeavesMerged (old new : List OperationSet) (desk from : ℕ) (fault :
 
 abbrev pub desk_in : List Desk → ℕ → Desk
 desk_in desks desk = slice_index_or desks desk (fresh 0)
+
+-- one desk of a list took an operation, and the others are as they were
+pub record IsTakeAt (old new : List Desk) (desk : ℕ) (op : OpView) (answer : Result Taken TakeFault) : Type 0 where
+  pub after : Desk
+  pub new_is : new ≡ slice_set old desk after
+  pub take : IsTake (desk_in old desk) op after answer
 
 -- one desk of a list met another one, and the others are as they were
 pub record IsMergeAt (old new : List Desk) (desk from : ℕ) (answer : Result ℕ TakeFault) : Type 0 where

@@ -1,5 +1,5 @@
 -- What a merge takes, and what one that ends early leaves.
-use Rattle.std.specs.Prelude.{◌≡◌, ◌≢◌, ◌⊎◌, ◌<◌, ◌+◌, ◌++◌, ℕ, Some, List, [], ◌∷◌, Contains, Result, OnOk, IfOk, IfErr}
+use Rattle.std.specs.Prelude.{◌≡◌, ◌≢◌, ◌⊎◌, ◌<◌, ◌≤◌, ◌+◌, ◌++◌, ℕ, Some, List, [], ◌∷◌, Contains, Result, OnOk, IfOk, IfErr, IsOk}
 use Rattle.std.specs.FinMap as map
 use Rattle.bg_types.specs.Identifier.{Identifier}
 use Rattle.bg_types.specs.OperationSet.{Node, OperationSet, Holds, Agree, ReusesIdentifier, with_operation, union, size}
@@ -61,4 +61,8 @@ pub record IsMerge (desk other after : Desk) (answer : Result ℕ TakeFault) : T
   pub count : IfOk answer (λ n. size after.set ≡ size desk.set + n)
   pub accepted : OnOk answer ((fault : TakeFault) → ¬ (IsMergeRefusal desk.set other.set fault))
   pub fault : IfErr answer (IsMergeRefused desk.set other.set after.set)
+  pub reused : IfErr answer (λ fault. fault ≡ IdentifierReused → after ≡ desk)
+  pub nothing_new : ((op : OpView) → Holds other.set op → Holds desk.set op) → IsOk answer
   pub site : after.site ≡ desk.site
+  pub spare : size desk.set + desk.spare ≤ size after.set + after.spare
+  pub unpaid : IfErr answer (λ fault. fault ≡ Memory → desk.spare < size other.set)

@@ -1,11 +1,12 @@
 -- What a desk that keeps S answers to an operation: reply(S, op) of the definition DeskSet.
-use Rattle.std.specs.Prelude.{◌≡◌, ◌<◌, ◌+◌, ℕ, length}
+use Rattle.std.specs.Prelude.{◌≡◌, ◌<◌, ◌≤◌, ◌+◌, ℕ, length, Result, OnOk, OnErr, IfErr, MatchResult}
 use Rattle.bg_types.specs.OperationSet.{OperationSet, Holds, MayJoin, ReusesIdentifier, with_operation, size}
 use Rattle.bg_types.specs.declared.op.Place.TheVariants.{Root}
 use Rattle.bg_types.specs.declared.op.OpView.{OpView}
 use Rattle.bg_types.specs.declared.op.OpView.TheVariants.{Insert, Erase}
 use Rattle.rga_tree.specs.Walk.{walk}
 use Rattle.rga_tree.specs.Attached.{IsAttached}
+use Rattle.desk_replica.specs.Desk.{Desk}
 use Rattle.desk_replica.specs.declared.answer.Taken.{Taken}
 use Rattle.desk_replica.specs.declared.answer.Taken.TheVariants.{Known, Placed, Hidden, Held}
 use Rattle.desk_replica.specs.declared.answer.TakeFault.{TakeFault}
@@ -50,3 +51,13 @@ abbrev pub IsRefused : OperationSet → OpView → TakeFault → Type 0
 IsRefused s op IdentifierReused = IsRefusal s op IdentifierReused
 IsRefused s op Full = IsRefusal s op Full
 IsRefused s op Memory = IsAdmitted s op × (¬ (IsHiding s op))
+
+-- a desk took an operation, answered, and is after now
+pub record IsTake (desk : Desk) (op : OpView) (after : Desk) (answer : Result Taken TakeFault) : Type 0 where
+  pub answer_is : MatchResult answer (IsTaken desk.set op) (IsRefused desk.set op)
+  pub accepted : OnOk answer ((fault : TakeFault) → ¬ (IsRefusal desk.set op fault))
+  pub ok : OnOk answer (after.set ≡ with_operation desk.set op)
+  pub err : OnErr answer (after ≡ desk)
+  pub site : after.site ≡ desk.site
+  pub spare : size desk.set + desk.spare ≤ size after.set + after.spare
+  pub unpaid : IfErr answer (λ fault. fault ≡ Memory → desk.spare ≡ 0)

@@ -1,12 +1,12 @@
 //! Desks of a list, which take operations and what the others hold. They count from 0.
 
-ghost use Rattle.std.specs.Prelude.{◌≡◌, ◌≢◌, ◌⊎◌, ◌<◌, OnOk, OnErr, IfErr, length};
+ghost use Rattle.std.specs.Prelude.{◌≡◌, ◌≢◌, ◌⊎◌, ◌<◌, ◌+◌, OnOk, OnErr, IfOk, IfErr, length};
+ghost use Rattle.bg_types.specs.OperationSet.{size};
 ghost use Rattle.desk_replica.specs.declared.answer.TakeFault.{TakeFault as Fault};
 ghost use Rattle.desk_replica.specs.Merging.{IsMerge};
-ghost use Rattle.desk_replica.specs.DeskSets.{takes, merges, sets_of, sites_of, sets_after_step, IsStepRefused, IsMergeAt, LeavesMerged};
+ghost use Rattle.desk_replica.specs.DeskSets.{takes, merges, sets_of, set_at, sites_of, sets_after_step, IsStepRefused, IsTakeAt, IsMergeAt, LeavesMerged};
 
 use crate::answer::{TakeFault, Taken};
-use crate::laws;
 use crate::replica::Replica;
 use bg_types::Op;
 use rga_tree::Sequence;
@@ -23,6 +23,8 @@ pub fn take_at<S: Sequence>(
     ensures fault { IfErr result (λ fault. (fault ≡ TakeFault.Memory) ⊎ IsStepRefused (sets_of desks.old) (takes desk op.now) fault) }
     ensures err { OnErr result (desks.new ≡ desks.old) }
     ensures sites { sites_of desks.new ≡ sites_of desks.old }
+    // Its answer is that of `take`, and the other desks are as they were.
+    ensures taken { IsTakeAt desks.old desks.new desk op.now result }
 {
     desks[desk].take(op)
 }
@@ -38,10 +40,14 @@ pub fn merge_at<S: Sequence>(
     requires desk { desk < length desks.old }
     requires from { from < length desks.old }
     ensures ok { OnOk result (sets_of desks.new ≡ sets_after_step (sets_of desks.old) (merges desk from)) }
+    ensures count { IfOk result (λ n. size (set_at (sets_of desks.new) desk) ≡ size (set_at (sets_of desks.old) desk) + n) }
     ensures accepted { OnOk result ((fault : Fault) → ¬ (IsStepRefused (sets_of desks.old) (merges desk from) fault)) }
     ensures fault { IfErr result (λ fault. (fault ≡ TakeFault.Memory) ⊎ IsStepRefused (sets_of desks.old) (merges desk from) fault) }
     ensures left { IfErr result (LeavesMerged (sets_of desks.old) (sets_of desks.new) desk from) }
     ensures sites { sites_of desks.new ≡ sites_of desks.old }
+    ensures itself { desk ≡ from → desks.new ≡ desks.old }
+    // Its answer is that of `merge`, and the other desks are as they were.
+    ensures met { IsMergeAt desks.old desks.new desk from result }
 {
     if desk == from {
         return Ok(meet_itself(&desks[desk]));
@@ -54,7 +60,6 @@ fn meet_itself<S: Sequence>(desk: &Replica<S>) -> u32
     ensures none { result ≡ 0 }
     ensures meets { IsMerge desk.now desk.now desk.now (Ok result) }
 {
-    laws::union_law();
     // Reading the count tells the proof that the desk keeps its limit.
     let _kept = desk.op_count();
     0

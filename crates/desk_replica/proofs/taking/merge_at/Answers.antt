@@ -1,11 +1,14 @@
 -- The goals of `merge_at` that are answered by hand.
 use Rattle.std.proofs.Common.{Ok}
 use Rattle.desk_replica.specs.DeskSets.{sets_of}
-use Rattle.desk_replica.proofs.DeskLists.{met_itself, merged_sets, merged_accepted, merged_left, merged_sites, left_refused}
+use Rattle.desk_replica.proofs.DeskLists.{met_itself, merged_sets, merged_count, merged_accepted, merged_left, merged_sites, left_refused}
 use Rattle.desk_replica.proofs.taking.merge_at.Goals as goal
 
 pub returns-clause-ok : goal.returns-clause-ok
 returns-clause-ok g c = merged_sets c.args.desks.now c.meet_another.new.desks c.args.desk c.args.from c.requires.desk c.requires.from c.meet_another.result c.meet_another.ensures
+
+pub returns-clause-count : goal.returns-clause-count
+returns-clause-count g c = merged_count c.args.desks.now c.meet_another.new.desks c.args.desk c.args.from c.requires.desk c.requires.from c.meet_another.result c.meet_another.ensures
 
 pub returns-clause-accepted : goal.returns-clause-accepted
 returns-clause-accepted g c = merged_accepted c.args.desks.now c.meet_another.new.desks c.args.desk c.args.from c.requires.desk c.requires.from c.meet_another.result c.meet_another.ensures
@@ -21,10 +24,19 @@ returns-clause-fault g c =
 pub returns-clause-sites : goal.returns-clause-sites
 returns-clause-sites g c = merged_sites c.args.desks.now c.meet_another.new.desks c.args.desk c.args.from c.requires.desk c.requires.from c.meet_another.result c.meet_another.ensures
 
+pub returns-clause-met : goal.returns-clause-met
+returns-clause-met g c = c.meet_another.ensures
+
 pub returns-then-desk-from-clause-ok : goal.returns-then-desk-from-clause-ok
 returns-then-desk-from-clause-ok g c =
     let desks = c.args.desks.now in
     merged_sets desks desks c.args.desk c.args.from c.requires.desk c.requires.from (Ok c.meet_itself.result)
+    (met_itself desks c.args.desk c.args.from c.index-desks-desk.result (Ok c.meet_itself.result) c.requires.desk c.if-desk-from.true c.meet_itself.ensures.meets)
+
+pub returns-then-desk-from-clause-count : goal.returns-then-desk-from-clause-count
+returns-then-desk-from-clause-count g c =
+    let desks = c.args.desks.now in
+    merged_count desks desks c.args.desk c.args.from c.requires.desk c.requires.from (Ok c.meet_itself.result)
     (met_itself desks c.args.desk c.args.from c.index-desks-desk.result (Ok c.meet_itself.result) c.requires.desk c.if-desk-from.true c.meet_itself.ensures.meets)
 
 pub returns-then-desk-from-clause-accepted : goal.returns-then-desk-from-clause-accepted
@@ -32,3 +44,10 @@ returns-then-desk-from-clause-accepted g c =
     let desks = c.args.desks.now in
     merged_accepted desks desks c.args.desk c.args.from c.requires.desk c.requires.from (Ok c.meet_itself.result)
     (met_itself desks c.args.desk c.args.from c.index-desks-desk.result (Ok c.meet_itself.result) c.requires.desk c.if-desk-from.true c.meet_itself.ensures.meets)
+
+pub returns-then-desk-from-clause-met : goal.returns-then-desk-from-clause-met
+returns-then-desk-from-clause-met g c =
+    met_itself c.args.desks.now c.args.desk c.args.from c.index-desks-desk.result (Ok c.meet_itself.result) c.requires.desk c.if-desk-from.true c.meet_itself.ensures.meets
+
+pub returns-clause-itself : goal.returns-clause-itself
+returns-clause-itself g c = λ same. absurd (c.if-desk-from.false same)

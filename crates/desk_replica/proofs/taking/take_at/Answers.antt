@@ -8,7 +8,7 @@ use Rattle.bg_types.specs.OperationSet.{OperationSet, with_operation}
 use Rattle.desk_replica.specs.declared.answer.TakeFault.{TakeFault}
 use Rattle.desk_replica.specs.Reply.{IsRefusal, IsRefused}
 use Rattle.desk_replica.specs.DeskSets.{sets_of, with_set}
-use Rattle.desk_replica.proofs.DeskLists.{set_at-desk, sets_of-set, sites_of-set, refusal_or_lack}
+use Rattle.desk_replica.proofs.DeskLists.{set_at-desk, sets_of-set, sites_of-set, taken_there, refusal_or_lack}
 use Rattle.desk_replica.proofs.taking.take_at.Goals as goal
 
 pub returns-clause-ok : goal.returns-clause-ok
@@ -34,3 +34,14 @@ pub returns-clause-err : goal.returns-clause-err
 returns-clause-err g c =
     let desks = c.args.desks.now in
     on_err_weaker c.take.result (λ same. ap (set desks c.args.desk) same ∙ set-get_or desks c.args.desk c.index-desks-desk.result) c.take.ensures.err
+
+pub returns-clause-taken : goal.returns-clause-taken
+returns-clause-taken g c = taken_there c.args.desks.now c.args.desk c.index-desks-desk.result c.take.new.self c.args.op.now c.take.result c.requires (record {
+  answer_is = c.take.ensures.answer;
+  accepted = c.take.ensures.accepted;
+  ok = c.take.ensures.ok;
+  err = c.take.ensures.err;
+  site = c.take.ensures.site;
+  spare = c.take.ensures.spare;
+  unpaid = c.take.ensures.unpaid;
+})
