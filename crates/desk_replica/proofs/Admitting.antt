@@ -1,6 +1,6 @@
 -- What is answered to a new operation.
-use Rattle.std.proofs.Common.{◌≡◌, ◌≤◌, ◌+◌, ◌-◌, ℕ, suc, Bool, true, false, cond, List, [], ◌∷◌, length, Option, None, Some, sym, ap, subst, ◌∙◌, refl, true≢false, is_some, arith}
-use Rattle.std.specs.Prelude.{◌||◌, map as each, OnOk, OnErr, Result, Ok, Err}
+use Rattle.std.proofs.Common.{◌≡◌, ◌≤◌, ◌+◌, ◌-◌, ℕ, Bool, true, false, cond, length, Option, None, Some, sym, ap, subst, ◌∙◌, refl, true≢false, is_some, arith}
+use Rattle.std.specs.Prelude.{◌||◌, OnErr, Result, Ok, Err}
 use Rattle.std.specs.FinMap as map
 use Rattle.std.specs.FinSet as set
 use Rattle.bg_types.specs.Identifier.{Identifier, same_id}
@@ -84,8 +84,12 @@ settled_as t u w v e eh er d = subst (λ x. IsSettled x v) (sym e) (record {
 pub whole_as : (t u : OperationSet) (w v : Waiting) → u ≡ t → v.held ≡ w.held → whole u v ≡ whole t w
 whole_as t u w v e eh i = union (e i) (eh i)
 
-pub on_ok : {A E : Type 0} (r : Result A E) (x : A) (P : Type 0) → r ≡ Ok x → OnOk r P → P
-on_ok r x P is h = subst (λ y. OnOk y P) is h
+-- more room pays for what was paid for
+pub still_paid : (old new : ℕ) (w v : Waiting) (n m : ℕ) → old ≤ new → v ≡ w → m ≡ n → IsPaid old w n → IsPaid new v m
+still_paid old new w v n m more e same p = record {
+  placed = omega (arith, ap (λ (x : Waiting). map.len x.held.ins) e, more, same, p.placed);
+  held = omega (arith, ap (λ (x : Waiting). x.room) e, same, p.held);
+}
 
 -- one that is held uses up one of what is paid for
 pub held_paid : (placings : ℕ) (w v : Waiting) (op : OpView) (n : ℕ) → v.held ≡ with_operation w.held op → v.room ≡ w.room - 1 → IsPaid placings w (n + 1) → IsPaid placings v n

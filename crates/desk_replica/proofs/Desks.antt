@@ -75,6 +75,16 @@ IsDesk-more t u old new w v site kept greatest spare left op d a is room settled
   paid = paid;
 }
 
+-- a desk keeps its limit
+pub desk_limited : (t : OperationSet) (w : Waiting) (site spare kept greatest : ℕ) (d : Desk) → IsCounted (whole t w) kept greatest → desk_of t w site spare ≡ d → size d.set ≤ 1_000_000
+desk_limited t w site spare kept greatest d counted e =
+    let le : size (whole t w) ≤ 1_000_000 = omega (arith, counted.kept_is, counted.limited) in
+    subst (λ (x : Desk). size x.set ≤ 1_000_000) e le
+
+-- a desk whose parts are what they were
+pub desk_same : (t u : OperationSet) (w v : Waiting) (site spare left : ℕ) (d : Desk) → u ≡ t → v ≡ w → left ≡ spare → desk_of t w site spare ≡ d → desk_of u v site left ≡ d
+desk_same t u w v site spare left d et ew es e = (λ i. desk_of (et i) (ew i) site (es i)) ∙ e
+
 -- ---- what is read off the tree
 
 -- the tree of a desk tells its walk, its elements and what is visible

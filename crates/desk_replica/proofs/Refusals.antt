@@ -10,7 +10,7 @@ use Rattle.bg_types.proofs.Interface.{Holds-with_operation, same_operations, siz
 use Rattle.desk_replica.specs.declared.answer.TakeFault.{TakeFault}
 use Rattle.desk_replica.specs.declared.answer.TakeFault.TheVariants.{IdentifierReused, Full, Memory}
 use Rattle.desk_replica.specs.SetOf.{IsSetOf}
-use Rattle.desk_replica.specs.Reply.{IsRefusal}
+use Rattle.desk_replica.specs.Reply.{IsAdmitted, IsRefusal}
 use Rattle.desk_replica.specs.Refusal.{IsFirstRefusal}
 use Rattle.desk_replica.specs.Merging.{IsMergeRefusal}
 use Rattle.desk_replica.proofs.Merges.{disagree_apart, size_more}
@@ -54,6 +54,17 @@ reused_apart kept s (Insert id parent ch) part held reused =
     let there : map.get s.ins id ≡ Some node = part (Insert id node.parent node.ch) reused.1 in
     reused.2 (let equal = sym there ∙ held in cc)
 reused_apart kept s (Erase target) part held reused = reused
+
+-- what is kept, and what is admitted, is not refused
+pub known_accepted : (s : OperationSet) (op : OpView) → Holds s op → (fault : TakeFault) → ¬ (IsRefusal s op fault)
+known_accepted s op held IdentifierReused h = reused_apart s s op (λ _ there. there) held h
+known_accepted s op held Full h = h.1 held
+known_accepted s op held Memory h = h
+
+pub admitted_accepted : (s : OperationSet) (op : OpView) → IsAdmitted s op → (fault : TakeFault) → ¬ (IsRefusal s op fault)
+admitted_accepted s op a IdentifierReused h = reused_not_new s op h a.joins
+admitted_accepted s op a Full h = let room = a.room in let full = h.2 in omega (arith, room, full)
+admitted_accepted s op a Memory h = h
 
 full_apart : (kept s : OperationSet) (op : OpView) → IsPart kept s → Holds s op → MayJoin kept op → ¬ (Holds kept op) → size kept + 1 ≤ size s
 full_apart kept s op part held may new =

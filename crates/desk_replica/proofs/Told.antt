@@ -17,7 +17,7 @@ use Rattle.rga_tree.specs.Row.{hidden_ids, ids_of}
 use Rattle.rga_tree.proofs.Interface.{Entry, IsDistinct-walked, IsAttached-tree, listed-attached}
 use Rattle.pending_ops.specs.Chains.{AreApart, is_in}
 use Rattle.pending_ops.specs.Waiting.{Waiting, ListsOnce}
-use Rattle.pending_ops.proofs.Interface.{IsDistinct-apart, is_in-slice_get, one_place}
+use Rattle.pending_ops.proofs.Interface.{IsDistinct-apart, one_place}
 use Rattle.desk_replica.specs.Desk.{Desk, insertion_of}
 use Rattle.desk_replica.specs.Told.{told}
 use Rattle.desk_replica.specs.Placement.{IsSettled, waiting_in, whole}

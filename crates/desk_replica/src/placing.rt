@@ -10,7 +10,7 @@ ghost use Rattle.bg_types.specs.WellFormed.{IsWellFormed};
 ghost use Rattle.bg_types.specs.declared.op.OpView.TheVariants.{Insert};
 ghost use Rattle.rga_tree.specs.Tree.{stands_in};
 ghost use Rattle.pending_ops.specs.Releasing.{subject};
-ghost use Rattle.pending_ops.specs.Waiting.{ListsOnce, is_ready};
+ghost use Rattle.pending_ops.specs.Waiting.{IsNew, ListsOnce, is_ready};
 ghost use Rattle.desk_replica.specs.Placement.{IsParted, IsSettled, IsPaid, MayPlace, Places, reaches_in, waiting_in, whole};
 ghost use Rattle.desk_replica.specs.Reply.{IsAdmitted, IsTaken, IsHiding, attached_count};
 ghost use Rattle.desk_replica.specs.Standing.{IsStanding};
@@ -25,7 +25,7 @@ use rga_tree::Sequence;
 const AHEAD: usize = 64;
 
 /// How an operation stands to those that are kept.
-#[derive(Clone, Copy, Debug, PartialEq, Eq)]
+#[derive(Clone, Copy)]
 pub enum Standing {
     Known,
     /// Its identifier is kept with another parent or character.
@@ -150,7 +150,7 @@ pub fn admit<S: Sequence>(
 {
     if !reaches(seq, op) {
         pay(seq, held, spare)?;
-        held.hold(*op).unwrap();
+        keep_waiting(held, op);
         return Ok(Taken::Held);
     }
     match op.view() {
@@ -163,6 +163,17 @@ pub fn admit<S: Sequence>(
             Ok(Taken::Hidden)
         }
     }
+}
+
+/// Holds a new operation, which is paid for.
+fn keep_waiting(held: &mut Held, op: &Op)
+    requires new { IsNew held.old.held op.now }
+    requires room { 0 < held.old.room }
+    ensures kept { held.new.held ≡ with_operation held.old.held op.now }
+    ensures released { held.new.released ≡ held.old.released }
+    ensures room { held.new.room ≡ held.old.room - 1 }
+{
+    held.hold(*op).unwrap();
 }
 
 /// Whether an operation need not wait: its parent or its target is placed.

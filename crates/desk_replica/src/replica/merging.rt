@@ -98,7 +98,10 @@ impl<S: Sequence> Replica<S> {
         ensures yes { OnTrue result (ReusesIdentifier self.now.set op.now) }
         ensures no { OnFalse result (MayJoin self.now.set op.now) }
     {
-        look_up(&self.seq, &self.held, self.greatest, op) == Standing::Reused
+        matches!(
+            look_up(&self.seq, &self.held, self.greatest, op),
+            Standing::Reused
+        )
     }
 
     /// Takes the operations of another desk in the order in which `op_at` tells them. The elements

@@ -1,15 +1,40 @@
 -- The goals of `take` that are answered by hand.
-use Rattle.std.proofs.Common.{◌≡◌, ◌<◌, ◌+◌, sym, ap, subst, arith}
+use Rattle.std.proofs.Common.{◌≡◌, ◌<◌, ◌+◌, sym, ap, subst, ◌∙◌, arith}
 use Rattle.std.specs.Prelude.{max}
-use Rattle.bg_types.specs.OperationSet.{Holds, size}
+use Rattle.bg_types.specs.OperationSet.{Holds, ReusesIdentifier, size, with_operation}
 use Rattle.bg_types.proofs.Interface.{with_operation-known, size-with_operation}
+use Rattle.pending_ops.specs.Waiting.{Waiting}
 use Rattle.pending_ops.specs.Releasing.{subject}
 use Rattle.desk_replica.specs.Desk.{Desk}
-use Rattle.desk_replica.specs.Placement.{IsDesk, whole}
-use Rattle.desk_replica.specs.Reply.{IsAdmitted, IsRefused}
+use Rattle.desk_replica.specs.Placement.{IsCounted, IsDesk, whole}
+use Rattle.desk_replica.specs.Reply.{IsAdmitted, IsHiding, IsRefusal, IsRefused, IsTaken}
+use Rattle.desk_replica.specs.declared.answer.TakeFault.{TakeFault}
 use Rattle.desk_replica.specs.declared.answer.TakeFault.TheVariants.{Full}
-use Rattle.desk_replica.proofs.Desks.{IsDesk-more}
+use Rattle.desk_replica.proofs.Admitting.{whole_as}
+use Rattle.desk_replica.proofs.Desks.{IsDesk-more, desk_limited, desk_same}
+use Rattle.desk_replica.proofs.Refusals.{known_accepted, admitted_accepted}
 use Rattle.desk_replica.proofs.replica.Replica.take.Goals as goal
+
+pub returns-in-Known-clause-answer : goal.returns-in-Known-clause-answer
+returns-in-Known-clause-answer g c = subst (λ (d : Desk). Holds d.set c.args.op.now) c.self.view_is c.in-Known.ensures
+
+pub returns-in-Known-clause-accepted : goal.returns-in-Known-clause-accepted
+returns-in-Known-clause-accepted g c = known_accepted c.args.self.now.set c.args.op.now (subst (λ (d : Desk). Holds d.set c.args.op.now) c.self.view_is c.in-Known.ensures)
+
+pub returns-in-Known-clause-limited : goal.returns-in-Known-clause-limited
+returns-in-Known-clause-limited g c =
+    desk_limited (g.S.Sequence.content c.self.inside.seq) c.self.inside.held c.self.inside.site c.self.inside.spare c.self.inside.kept c.self.inside.greatest c.args.self.now c.self.invariant.counted c.self.view_is
+
+pub returns-in-Reused-clause-answer : goal.returns-in-Reused-clause-answer
+returns-in-Reused-clause-answer g c = subst (λ (d : Desk). ReusesIdentifier d.set c.args.op.now) c.self.view_is c.in-Reused.ensures
+
+pub returns-in-Reused-clause-limited : goal.returns-in-Reused-clause-limited
+returns-in-Reused-clause-limited g c =
+    desk_limited (g.S.Sequence.content c.self.inside.seq) c.self.inside.held c.self.inside.site c.self.inside.spare c.self.inside.kept c.self.inside.greatest c.args.self.now c.self.invariant.counted c.self.view_is
+
+pub returns-then-self-ge-LIMIT-clause-limited : goal.returns-then-self-ge-LIMIT-clause-limited
+returns-then-self-ge-LIMIT-clause-limited g c =
+    desk_limited (g.S.Sequence.content c.self.inside.seq) c.self.inside.held c.self.inside.site c.self.inside.spare c.self.inside.kept c.self.inside.greatest c.args.self.now c.self.invariant.counted c.self.view_is
 
 pub returns-in-Known-clause-ok : goal.returns-in-Known-clause-ok
 returns-in-Known-clause-ok g c =
@@ -53,3 +78,56 @@ returns-in-Ok-clause-spare g c =
     let set = ap (λ (d : Desk). size d.set) c.self.view_is in
     let spare = ap (λ (d : Desk). d.spare) c.self.view_is in
     omega (arith, grown, new, set, spare, c.in-Ok.ensures.spare)
+
+pub admit-requires-clause-admitted : goal.admit-requires-clause-admitted
+admit-requires-clause-admitted g c =
+    let kept = c.self.invariant.counted.kept_is in
+    let room = c.if-self-ge-LIMIT.false in
+    record { joins = c.in-New.ensures.0; is_new = c.in-New.ensures.1; room = omega (arith, kept, room) }
+
+pub returns-in-Ok-clause-answer : goal.returns-in-Ok-clause-answer
+returns-in-Ok-clause-answer g c = subst (λ (d : Desk). IsTaken d.set c.args.op.now c.in-Ok.taken) c.self.view_is c.in-Ok.ensures.answer
+
+pub returns-in-Ok-clause-accepted : goal.returns-in-Ok-clause-accepted
+returns-in-Ok-clause-accepted g c =
+    let kept = c.self.invariant.counted.kept_is in
+    let room = c.if-self-ge-LIMIT.false in
+    let before = whole (g.S.Sequence.content c.self.inside.seq) c.self.inside.held in
+    subst (λ (d : Desk). (fault : TakeFault) → ¬ (IsRefusal d.set c.args.op.now fault)) c.self.view_is
+    (admitted_accepted before c.args.op.now (record { joins = c.in-New.ensures.0; is_new = c.in-New.ensures.1; room = omega (arith, kept, room) }))
+
+pub returns-in-Ok-clause-ok : goal.returns-in-Ok-clause-ok
+returns-in-Ok-clause-ok g c = c.in-Ok.ensures.ok ∙ ap (λ (d : Desk). with_operation d.set c.args.op.now) c.self.view_is
+
+pub invariant_of-self-in-Err : goal.invariant_of-self-in-Err
+invariant_of-self-in-Err g c =
+    let same = whole_as (g.S.Sequence.content c.self.inside.seq) (g.S.Sequence.content c.admit.new.seq) c.self.inside.held c.admit.new.held c.in-Err.ensures.content (ap (λ (w : Waiting). w.held) c.in-Err.ensures.held) in
+    record {
+      settled = c.in-Err.ensures.settled;
+      counted = subst (λ s. IsCounted s c.self.inside.kept c.self.inside.greatest) (sym same) c.self.invariant.counted;
+      sited = c.self.invariant.sited;
+      paid = c.in-Err.ensures.paid;
+    }
+
+pub returns-in-Err-clause-answer : goal.returns-in-Err-clause-answer
+returns-in-Err-clause-answer g c =
+    let kept = c.self.invariant.counted.kept_is in
+    let room = c.if-self-ge-LIMIT.false in
+    subst (λ (d : Desk). IsAdmitted d.set c.args.op.now × (¬ (IsHiding d.set c.args.op.now))) c.self.view_is
+    (record { joins = c.in-New.ensures.0; is_new = c.in-New.ensures.1; room = omega (arith, kept, room) }, c.in-Err.ensures.memory)
+
+pub returns-in-Err-clause-err : goal.returns-in-Err-clause-err
+returns-in-Err-clause-err g c =
+    desk_same (g.S.Sequence.content c.self.inside.seq) (g.S.Sequence.content c.admit.new.seq) c.self.inside.held c.admit.new.held c.self.inside.site c.self.inside.spare c.admit.new.spare c.args.self.now
+    c.in-Err.ensures.content c.in-Err.ensures.held c.in-Err.ensures.same c.self.view_is
+
+pub returns-in-Err-clause-limited : goal.returns-in-Err-clause-limited
+returns-in-Err-clause-limited g c =
+    let same = whole_as (g.S.Sequence.content c.self.inside.seq) (g.S.Sequence.content c.admit.new.seq) c.self.inside.held c.admit.new.held c.in-Err.ensures.content (ap (λ (w : Waiting). w.held) c.in-Err.ensures.held) in
+    omega (arith, ap size same, c.self.invariant.counted.kept_is, c.self.invariant.counted.limited)
+
+pub returns-in-Err-clause-spare : goal.returns-in-Err-clause-spare
+returns-in-Err-clause-spare g c =
+    let same = desk_same (g.S.Sequence.content c.self.inside.seq) (g.S.Sequence.content c.admit.new.seq) c.self.inside.held c.admit.new.held c.self.inside.site c.self.inside.spare c.admit.new.spare c.args.self.now
+    c.in-Err.ensures.content c.in-Err.ensures.held c.in-Err.ensures.same c.self.view_is in
+    omega (arith, ap (λ (d : Desk). size d.set) same, ap (λ (d : Desk). d.spare) same)
