@@ -1,9 +1,10 @@
 -- The step of a world that names what is not there, the step by what was made before, and the step that is refused.
 use Rattle.std.proofs.Common.{◌≡◌, ◌≢◌, ◌<◌, ◌≤◌, ℕ, List, length, get_or, Result, Ok, Err, Some, ◌⊎◌, inl, inr, refl, sym, ap, subst, ◌∙◌}
-use Rattle.std.specs.Prelude.{IfOk, slice_get}
+use Rattle.std.specs.Prelude.{IfOk, IfErr, OnOk, OnErr, slice_get}
 use Rattle.std.proofs.Math.ListN.{set}
 use Rattle.std.proofs.lemmas.List.{length-map, set-get_or}
-use Rattle.bg_types.specs.OperationSet.{OperationSet, size}
+use Rattle.bg_types.specs.WellFormed.{IsWellFormed}
+use Rattle.bg_types.specs.OperationSet.{OperationSet, size, with_operation}
 use Rattle.bg_types.specs.declared.op.OpView.{OpView}
 use Rattle.rga_tree.specs.TextOf.{visible}
 use Rattle.desk_replica.specs.declared.answer.TakeFault.{TakeFault}
@@ -17,10 +18,11 @@ use Rattle.desk_replica.specs.declared.world.step.Reply.TheVariants.{Done, Refus
 use Rattle.desk_replica.specs.Codes.{take_code, type_code}
 use Rattle.desk_replica.specs.Desk.{Desk}
 use Rattle.desk_replica.specs.DeskSets.{sets_of, sites_of, set_at, takes, merges, sets_after_step, IsStepRefused, LeavesMerged}
-use Rattle.desk_replica.specs.Typing.{IsTypeRefusal, IsTypeRefused}
+use Rattle.desk_replica.specs.Typing.{typed, insertion, IsErasedAt, IsTypeRefusal, IsTypeRefused}
 use Rattle.desk_replica.specs.WorldStep.{WorldState, WorldStep, IsThere, IsRefusedAs}
-use Rattle.desk_replica.specs.WorldRun.{world_of, DoStep}
+use Rattle.desk_replica.specs.WorldRun.{world_of, DoStep, IsReplied}
 use Rattle.desk_replica.proofs.DeskLists.{set_at-desk}
+use Rattle.desk_replica.proofs.WorldSteps.{typed_done, erased_done}
 
 refusal_of : (s : OperationSet) (fault : TypeFault) → fault ≢ TypingMemory → IsTypeRefused s fault → IsTypeRefusal s fault
 refusal_of s CounterSpent told h = h
@@ -70,26 +72,43 @@ module _ (desks : List Desk) (made : List OpView) where
     sites = sites;
   }
 
-  module _ (desk : ℕ) (x after : Desk) (within : desk < length desks) (same : after ≡ get_or desks desk x) where
-    unchanged : set desks desk after ≡ desks
-    unchanged = ap (set desks desk) same ∙ set-get_or desks desk x
+  -- ---- what a desk made is a step that is done, and what it refused to make one that is refused
 
-    own_set : set_at (sets_of desks) desk ≡ (get_or desks desk x).set
+  module _ (desk : ℕ) (x after : Desk) (within : desk < length desks) (site : after.site ≡ (get_or desks desk x).site) (place : ℕ) (more : List OpView) where
+    abbrev own : Desk
+    own = get_or desks desk x
+
+    own_set : set_at (sets_of desks) desk ≡ own.set
     own_set = set_at-desk desks desk x within
 
-    pub typing_refused : {E : Type 0} (place ch : ℕ) (r : Result Reply E) (fault : TypeFault) → place ≤ length (visible (get_or desks desk x).set) → IfOk r (λ reply. (reply ≡ Refused (type_code fault)) × (fault ≢ TypingMemory))
-        → IsTypeRefused (get_or desks desk x).set fault → IfOk r (DoStep desks made (Typed desk place ch) (set desks desk after) made)
-    typing_refused place ch (Err e) fault at told why = tt
-    typing_refused place ch (Ok reply) fault at told why =
-        refused (set desks desk after) (Typed desk place ch) (type_code fault) reply (within_sets desk within, subst (λ (s : OperationSet). place ≤ length (visible s)) (sym own_set) at)
-        (fault, subst (λ (s : OperationSet). IsTypeRefusal s fault) (sym own_set) (refusal_of _ fault told.1 why), refl, ap (λ (l : List Desk). world_of l made) unchanged) (ap sites_of unchanged) told.0
+    unchanged : after ≡ own → set desks desk after ≡ desks
+    unchanged same = ap (set desks desk) same ∙ set-get_or desks desk x
 
-    pub erasing_refused : {E : Type 0} (place : ℕ) (r : Result Reply E) (fault : TypeFault) → place < length (visible (get_or desks desk x).set) → IfOk r (λ reply. (reply ≡ Refused (type_code fault)) × (fault ≢ TypingMemory))
-        → (fault ≡ TypingFull) × (size (get_or desks desk x).set ≡ 1_000_000) → IfOk r (DoStep desks made (Erase desk place) (set desks desk after) made)
-    erasing_refused place (Err e) fault at told why = tt
-    erasing_refused place (Ok reply) fault at told why =
-        refused (set desks desk after) (Erase desk place) (type_code fault) reply (within_sets desk within, subst (λ (s : OperationSet). place < length (visible s)) (sym own_set) at)
-        (ap size own_set ∙ why.1, ap type_code why.0, ap (λ (l : List Desk). world_of l made) unchanged) (ap sites_of unchanged) told.0
+    unmade : (step : Step) (number : ℕ) (reply : Reply) → after ≡ own → more ≡ made → reply ≡ Refused number → IsThere here step → IsRefusedAs here step number here → DoStep desks made step (set desks desk after) more reply
+    unmade step number reply same none is there how =
+        subst (λ (l : List OpView). DoStep desks made step (set desks desk after) l reply) (sym none)
+        (subst (λ (l : List Desk). DoStep desks made step l made reply) (sym (unchanged same)) (refused desks step number reply there how refl is))
+
+    pub typed_replied : {E : Type 0} (ch : ℕ) (r : Result Reply E) (answer : Result OpView TypeFault) → place ≤ length (visible own.set) → IfOk r (IsReplied answer made more)
+        → IfOk answer (λ op. op ≡ insertion (typed own.set own.site place ch)) → IfOk answer IsWellFormed → OnOk answer ((fault : TypeFault) → ¬ (IsTypeRefusal own.set fault))
+        → OnOk answer (after.set ≡ with_operation own.set (insertion (typed own.set own.site place ch))) → IfErr answer (IsTypeRefused own.set) → OnErr answer (after ≡ own)
+        → IfOk r (DoStep desks made (Typed desk place ch) (set desks desk after) more)
+    typed_replied ch (Err e) answer at told is formed accepted grown why same = tt
+    typed_replied ch (Ok reply) (Ok op) at told is formed accepted grown why same =
+        subst (λ (y : Reply). DoStep desks made (Typed desk place ch) (set desks desk after) more y) (sym told.0) (typed_done desks made desk x after within place ch op more at is formed accepted grown site told.1)
+    typed_replied ch (Ok reply) (Err fault) at told is formed accepted grown why same =
+        unmade (Typed desk place ch) (type_code fault) reply same told.2 told.0 (within_sets desk within, subst (λ (s : OperationSet). place ≤ length (visible s)) (sym own_set) at)
+        (fault, subst (λ (s : OperationSet). IsTypeRefusal s fault) (sym own_set) (refusal_of _ fault told.1 why), refl, refl)
+
+    pub erased_replied : {E : Type 0} (r : Result Reply E) (answer : Result OpView TypeFault) → place < length (visible own.set) → IfOk r (IsReplied answer made more)
+        → IfOk answer (λ op. IsErasedAt own.set after.set place op) → OnOk answer (size own.set < 1_000_000) → IfErr answer (λ fault. (fault ≡ TypingFull) × (size own.set ≡ 1_000_000)) → OnErr answer (after ≡ own)
+        → IfOk r (DoStep desks made (Erase desk place) (set desks desk after) more)
+    erased_replied (Err e) answer at told erased room why same = tt
+    erased_replied (Ok reply) (Ok op) at told erased room why same =
+        subst (λ (y : Reply). DoStep desks made (Erase desk place) (set desks desk after) more y) (sym told.0) (erased_done desks made desk x after within place op more at erased room site told.1)
+    erased_replied (Ok reply) (Err fault) at told erased room why same =
+        unmade (Erase desk place) (type_code fault) reply same told.2 told.0 (within_sets desk within, subst (λ (s : OperationSet). place < length (visible s)) (sym own_set) at)
+        (ap size own_set ∙ why.1, ap type_code why.0, refl)
 
   -- ---- an operation made before is taken, or refused
 

@@ -87,9 +87,6 @@ run_on sites w v [] (r ∷ replies) run step reply u next = absurd run
 run_on sites w v (s ∷ steps) [] run step reply u next = absurd run
 run_on sites w v (s ∷ steps) (r ∷ replies) run step reply u next = (run.0, run.1, run_on sites run.0 v steps replies run.2 step reply u next)
 
-pub no_steps : (desks : List Desk) (made : List OpView) → DoSteps desks made [] desks made []
-no_steps desks made = record { run = refl; sites = refl }
-
 pub next_step : (desks mid new : List Desk) (made between more : List OpView) (steps : List Step) (i : ℕ) (d step : Step) (replies all : List Reply) (reply : Reply) → i < length steps → step ≡ get_or steps i d
     → all ≡ replies ++ reply ∷ [] → DoSteps desks made (take i steps) mid between replies → DoStep mid between step new more reply → DoSteps desks made (take (i + 1) steps) new more all
 next_step desks mid new made between more steps i d step replies all reply lt is longer before now = record {

@@ -1,10 +1,14 @@
 -- Runs of a world of desks: steps done one after the other, from fresh desks with distinct sites.
-use Rattle.std.specs.Prelude.{◌≡◌, ◌≢◌, ◌<◌, ℕ, List, [], ◌∷◌, All, length}
+use Rattle.std.specs.Prelude.{◌≡◌, ◌≢◌, ◌<◌, ◌++◌, ℕ, List, [], ◌∷◌, All, Result, Ok, Err, length}
 use Rattle.std.specs.List.{AllPairs}
 use Rattle.bg_types.specs.OperationSet.{OperationSet, no_operations}
 use Rattle.bg_types.specs.declared.op.OpView.{OpView}
+use Rattle.desk_replica.specs.declared.answer.TypeFault.{TypeFault}
+use Rattle.desk_replica.specs.declared.answer.TypeFault.TheVariants.{Memory}
 use Rattle.desk_replica.specs.declared.world.step.Step.{Step}
 use Rattle.desk_replica.specs.declared.world.step.Reply.{Reply}
+use Rattle.desk_replica.specs.declared.world.step.Reply.TheVariants.{Done, Refused}
+use Rattle.desk_replica.specs.Codes.{type_code}
 use Rattle.desk_replica.specs.Desk.{Desk}
 use Rattle.desk_replica.specs.DeskSets.{sets_of, sites_of, empty_desks}
 use Rattle.desk_replica.specs.Merging.{with_operations}
@@ -29,6 +33,11 @@ WorldRun sites w [] [] v = v ≡ w
 WorldRun sites w [] (reply ∷ replies) v = ⊥
 WorldRun sites w (step ∷ steps) [] v = ⊥
 WorldRun sites w (step ∷ steps) (reply ∷ replies) v = (u : WorldState) × WorldStep sites w step reply u × WorldRun sites u steps replies v
+
+-- the reply to what a desk made, which is then the last of the operations made, or refused to make. Lack of memory is no reply
+abbrev pub IsReplied : Result OpView TypeFault → List OpView → List OpView → Reply → Type 0
+IsReplied (Ok op) made more reply = (reply ≡ Done) × (more ≡ made ++ op ∷ [])
+IsReplied (Err fault) made more reply = (reply ≡ Refused (type_code fault)) × (fault ≢ Memory) × (more ≡ made)
 
 -- the desks do a step, and keep their sites
 pub record DoStep (old : List Desk) (made : List OpView) (step : Step) (new : List Desk) (more : List OpView) (reply : Reply) : Type 0 where

@@ -2,7 +2,7 @@
 
 ghost use Rattle.std.specs.Prelude.{◌≡◌, ◌≢◌, ◌<◌, IfOk, OnErr};
 ghost use Rattle.desk_replica.specs.Codes.{take_code, type_code};
-ghost use Rattle.desk_replica.specs.WorldRun.{DoStep, DoSteps};
+ghost use Rattle.desk_replica.specs.WorldRun.{DoStep, DoSteps, IsReplied};
 
 use super::step::{Reply, Step};
 use crate::answer::{TakeFault, TypeFault};
@@ -59,13 +59,7 @@ fn type_char<S: Sequence>(
     if desk >= desks.len() || place > desks[desk].len() {
         return Ok(Reply::NoSuch);
     }
-    match desks[desk].type_char(place, ch) {
-        Ok(op) => {
-            made.push(op)?;
-            Ok(Reply::Done)
-        }
-        Err(fault) => typing_refused(fault),
-    }
+    typing_reply(made, desks[desk].type_char(place, ch))
 }
 
 /// A desk erases a character.
@@ -80,13 +74,7 @@ fn erase<S: Sequence>(
     if desk >= desks.len() || place >= desks[desk].len() {
         return Ok(Reply::NoSuch);
     }
-    match desks[desk].erase_at(place) {
-        Ok(op) => {
-            made.push(op)?;
-            Ok(Reply::Done)
-        }
-        Err(fault) => typing_refused(fault),
-    }
+    typing_reply(made, desks[desk].erase_at(place))
 }
 
 /// A desk takes an operation that some desk made.
@@ -133,6 +121,19 @@ pub fn taking_refused(fault: TakeFault) -> Result<Reply, Memory>
     match fault {
         TakeFault::Memory => Err(Memory),
         TakeFault::IdentifierReused | TakeFault::Full => Ok(Reply::Refused(fault.code())),
+    }
+}
+
+/// The reply to what a desk made, which is added to the operations made before, or refused to make.
+fn typing_reply(made: &mut Vec<Op>, answer: Result<Op, TypeFault>) -> Result<Reply, Memory>
+    ensures { IfOk result (IsReplied answer made.old.items made.new.items) }
+{
+    match answer {
+        Ok(op) => {
+            made.push(op)?;
+            Ok(Reply::Done)
+        }
+        Err(fault) => typing_refused(fault),
     }
 }
 

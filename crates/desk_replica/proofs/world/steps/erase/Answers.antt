@@ -1,21 +1,11 @@
 -- The goals of `erase` that are answered by hand.
-use Rattle.std.proofs.Common.{arith, ap, length}
+use Rattle.std.proofs.Common.{ap, length, arith, rules}
 use Rattle.std.proofs.lemmas.List.{get_or_default}
 use Rattle.rga_tree.specs.TextOf.{visible}
 use Rattle.desk_replica.specs.Desk.{Desk, fresh}
-use Rattle.desk_replica.proofs.WorldSteps.{erased_done}
-use Rattle.desk_replica.proofs.Replies.{none_erased, erasing_refused}
+use Rattle.desk_replica.proofs.Replies.{none_erased, erased_replied}
 use Rattle.desk_replica.proofs.world.steps.erase.Goals as goal
 use Rattle.desk_replica.proofs.world.steps.erase.Goals.{then-desk-desks-via-then-desk-desks, then-desk-desks-via-else-desk-desks+then-place-len}
-
-pub returns-in_ok-push-in-Ok : goal.returns-in_ok-push-in-Ok
-returns-in_ok-push-in-Ok g c =
-    let above = c.if-place-len.false in
-    let long = c.len.ensures in
-    let beyond = c.if-desk-desks.false in
-    let same = ap (λ (d : Desk). length (visible d.set)) (get_or_default c.args.desks.now c.args.desk c.index-desks-desk.result c.index-desks-desk-2.result (omega (arith, beyond))) in
-    erased_done c.args.desks.now c.args.made.now.items c.args.desk c.index-desks-desk-2.result c.erase_at.new.self (omega (arith, beyond)) c.args.place c.in-Ok.op c.push.new.self.items (omega (arith, above, long, same))
-    c.in-Ok.ensures.op c.in-Ok.ensures.accepted c.erase_at.ensures.site c.in_ok-push-in-Ok.ensures.items
 
 pub returns-then-desk-desks : goal.returns-then-desk-desks
 returns-then-desk-desks g c =
@@ -25,11 +15,35 @@ returns-then-desk-desks g c =
           none_erased c.args.desks.now c.args.made.now.items c.args.desk c.args.place w.index-desks-desk.result (λ within at. omega (arith, at, w.if-place-len.true, w.len.ensures))
     ]
 
-pub returns-in-Err : goal.returns-in-Err
-returns-in-Err g c =
+pub erase_at-requires : goal.erase_at-requires
+erase_at-requires g c =
     let above = c.if-place-len.false in
     let long = c.len.ensures in
-    let beyond = c.if-desk-desks.false in
-    let same = ap (λ (d : Desk). length (visible d.set)) (get_or_default c.args.desks.now c.args.desk c.index-desks-desk.result c.index-desks-desk-2.result (omega (arith, beyond))) in
-    erasing_refused c.args.desks.now c.args.made.now.items c.args.desk c.index-desks-desk-2.result c.erase_at.new.self (omega (arith, beyond)) c.in-Err.ensures.err c.args.place c.typing_refused.result c.in-Err.fault
-    (omega (arith, above, long, same)) c.typing_refused.ensures.reply c.in-Err.ensures.fault
+    let same = ap (λ (d : Desk). length (visible d.set)) (get_or_default c.args.desks.now c.args.desk c.index-desks-desk.result c.index-desks-desk-2.result c.if-desk-desks.false) in
+    omega (arith, above, long, same)
+
+pub returns : goal.returns
+returns g c =
+    let own = c.index-desks-desk-2.result in
+    let above = c.if-place-len.false in
+    let long = c.len.ensures in
+    let same = ap (λ (d : Desk). length (visible d.set)) (get_or_default c.args.desks.now c.args.desk c.index-desks-desk.result own c.if-desk-desks.false) in
+    let made = c.erase_at.ensures in
+    erased_replied c.args.desks.now c.args.made.now.items c.args.desk own c.erase_at.new.self c.if-desk-desks.false made.site c.args.place c.typing_reply.new.made.items c.typing_reply.result c.erase_at.result (omega (arith, above, long, same))
+    c.typing_reply.ensures made.op made.accepted made.fault made.err
+
+pub bounds-desks-desk : goal.bounds-desks-desk
+bounds-desks-desk g c = c.if-desk-desks.false
+
+pub bounds-desks-desk-2 : goal.bounds-desks-desk-2
+bounds-desks-desk-2 g c = c.if-desk-desks.false
+
+pub offset_bounds-desks-desk : goal.offset_bounds-desks-desk
+offset_bounds-desks-desk g c =
+    let within = c.if-desk-desks.false in
+    search rules
+
+pub offset_bounds-desks-desk-2 : goal.offset_bounds-desks-desk-2
+offset_bounds-desks-desk-2 g c =
+    let within = c.if-desk-desks.false in
+    search rules
