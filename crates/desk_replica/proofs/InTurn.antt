@@ -1,5 +1,5 @@
 -- Operations that are taken one after the other, as rows of elements or a store tell them.
-use Rattle.std.proofs.Common.{◌≡◌, ◌≤◌, ◌<◌, ◌+◌, ◌++◌, ℕ, List, [], ◌∷◌, length, take, drop, get_or, refl, sym, ap, ◌∙◌, append_assoc}
+use Rattle.std.proofs.Common.{◌≡◌, ◌≤◌, ◌<◌, ◌+◌, ◌++◌, ℕ, List, [], ◌∷◌, length, take, drop, get_or, refl, sym, ap, subst, ◌∙◌, append_assoc}
 use Rattle.std.proofs.lemmas.List.{append-nil, take_more, take-append-drop, drop_more}
 use Rattle.std.specs.List.{flat_map}
 use Rattle.std.proofs.lemmas.List.Concat.{flat_map-append}
@@ -87,7 +87,7 @@ module _ (tell : List Element → List OpView) (tell-append : (xs ys : List Elem
         taken_both s u v (tell (take j row)) (tell (e ∷ [])) taken more
         ∙ ap (with_operations s) (sym (tell-append (take j row) (e ∷ [])) ∙ ap tell (sym (take_push row j e within is)))
 
-    pub row_stopped : (op : OpView) (fault : TakeFault) → tell (e ∷ []) ≡ op ∷ [] → IsRefused u op fault → IsStopped s (tell row) u fault
+    row_stopped : (op : OpView) (fault : TakeFault) → tell (e ∷ []) ≡ op ∷ [] → IsRefused u op fault → IsStopped s (tell row) u fault
     row_stopped op fault told refused =
         let rest = drop (j + 1) row in
         record {
@@ -98,6 +98,10 @@ module _ (tell : List Element → List OpView) (tell-append : (xs ys : List Elem
           taken = taken;
           refused = refused;
         }
+
+    -- the refusal changed nothing
+    pub row_ended : (v : OperationSet) (op : OpView) (fault : TakeFault) → v ≡ u → tell (e ∷ []) ≡ op ∷ [] → IsRefused u op fault → IsStopped s (tell row) v fault
+    row_ended v op fault same told refused = subst (λ x. IsStopped s (tell row) x fault) (sym same) (row_stopped op fault told refused)
 
   -- one more part
   module _ (u v : OperationSet) (parts : List (List Element)) (p : ℕ) (row : List Element) (within : p < length parts) (is : row ≡ get_or parts p []) (taken : u ≡ with_operations s (tell (joined (take p parts)))) where

@@ -1,5 +1,5 @@
 -- The goals of `meet_another` that are answered by hand.
-use Rattle.std.proofs.Common.{sym, arith, rules}
+use Rattle.std.proofs.Common.{◌<◌, length, sym, arith, rules}
 use Rattle.desk_replica.proofs.DeskLists.{met_behind, met_before}
 use Rattle.desk_replica.proofs.taking.meet_another.Goals as goal
 
@@ -38,3 +38,21 @@ pub bounds-front-from : goal.bounds-front-from
 bounds-front-from g c =
     let long = c.split_at_mut-front-2.ensures.front_len in
     omega arith
+
+pub split_at_mut-front-requires : goal.split_at_mut-front-requires
+split_at_mut-front-requires g c = omega (arith, c.requires.from)
+
+pub split_at_mut-front-requires-2 : goal.split_at_mut-front-requires-2
+split_at_mut-front-requires-2 g c = omega (arith, c.requires.desk)
+
+pub offset_bounds-front-desk : goal.offset_bounds-front-desk
+offset_bounds-front-desk g c =
+    let long = c.split_at_mut-front.ensures.front_len in
+    let within : c.args.desk < length c.split_at_mut-front.result.0.now = omega arith in
+    search rules
+
+pub offset_bounds-front-from : goal.offset_bounds-front-from
+offset_bounds-front-from g c =
+    let long = c.split_at_mut-front-2.ensures.front_len in
+    let within : c.args.from < length c.split_at_mut-front-2.result.0.now = omega arith in
+    search rules

@@ -1,5 +1,5 @@
 -- The goals of `erase_row` that are answered by hand.
-use Rattle.std.proofs.Common.{◌≡◌, [], ◌∷◌, sym, ap, subst, ◌∙◌, refl, arith}
+use Rattle.std.proofs.Common.{◌≡◌, [], ◌∷◌, sym, ap, ◌∙◌, refl, arith}
 use Rattle.std.specs.Prelude.{map as each}
 use Rattle.std.proofs.lemmas.Result.{err_from_is_err_and}
 use Rattle.bg_types.specs.OperationSet.{size, with_operation}
@@ -7,9 +7,9 @@ use Rattle.bg_types.specs.declared.op.OpView.{OpView}
 use Rattle.bg_types.specs.declared.op.OpView.TheVariants.{Erase}
 use Rattle.desk_replica.specs.Desk.{Desk}
 use Rattle.desk_replica.specs.Told.{deletions_in}
-use Rattle.desk_replica.specs.Merging.{IsStopped, with_operations}
+use Rattle.desk_replica.specs.Merging.{with_operations}
 use Rattle.desk_replica.proofs.Rows.{deletions-append, hidden_one, hidden_none}
-use Rattle.desk_replica.proofs.InTurn.{row_next, row_stopped}
+use Rattle.desk_replica.proofs.InTurn.{row_next, row_ended}
 use Rattle.desk_replica.proofs.replica.Replica.erase_row.Goals as goal
 use Rattle.desk_replica.proofs.replica.Replica.erase_row.Goals.{then-e+in_ok-take, else-e}
 
@@ -23,10 +23,9 @@ returns-in_err-take-clause-fault g c =
     let e = c.e-item.result in
     let fault = c.in_err-take.field-0.0 in
     let p = err_from_is_err_and c.from_residual.result c.from_residual.ensures.1 in
-    let same : c.take.new.self.set ≡ c.loop-e.self.set = ap (λ (d : Desk). d.set) c.in_err-take.ensures.err in
     let told : deletions_in (e ∷ []) ≡ c.erase.result ∷ [] = ap (each Erase) (hidden_one e c.if-e.true) ∙ ap (λ (op : OpView). op ∷ []) (sym c.erase.ensures.value) in
-    let stopped = row_stopped deletions_in deletions-append s c.loop-e.self.set row c.loop-e.e-index e c.loop-e-test.true c.e-item.is c.loop-e.invariant.taken c.erase.result fault told c.in_err-take.ensures.answer in
-    rw (p.1, p.2) (subst (λ x. IsStopped s (deletions_in row) x fault) (sym same) stopped)
+    rw (p.1, p.2) (row_ended deletions_in deletions-append s c.loop-e.self.set row c.loop-e.e-index e c.loop-e-test.true c.e-item.is c.loop-e.invariant.taken c.take.new.self.set c.erase.result fault
+    (ap (λ (d : Desk). d.set) c.in_err-take.ensures.err) told c.in_err-take.ensures.answer)
 
 pub loop-e-preserved : goal.loop-e-preserved
 loop-e-preserved g c =

@@ -1,13 +1,12 @@
 -- The goals of `insert_row` that are answered by hand.
-use Rattle.std.proofs.Common.{◌≡◌, [], ◌∷◌, sym, ap, subst, ◌∙◌, refl, arith}
+use Rattle.std.proofs.Common.{[], ◌∷◌, sym, ap, ◌∙◌, refl, arith}
 use Rattle.std.proofs.lemmas.Result.{err_from_is_err_and}
 use Rattle.bg_types.specs.OperationSet.{with_operation}
 use Rattle.bg_types.specs.declared.op.OpView.{OpView}
 use Rattle.desk_replica.specs.Desk.{Desk}
 use Rattle.desk_replica.specs.Told.{insertions_in}
-use Rattle.desk_replica.specs.Merging.{IsStopped}
 use Rattle.desk_replica.proofs.Rows.{insertions-append}
-use Rattle.desk_replica.proofs.InTurn.{row_next, row_stopped}
+use Rattle.desk_replica.proofs.InTurn.{row_next, row_ended}
 use Rattle.desk_replica.proofs.replica.Replica.insert_row.Goals as goal
 
 pub loop-e-init : goal.loop-e-init
@@ -20,10 +19,8 @@ returns-in_err-take-clause-fault g c =
     let e = c.e-item.result in
     let fault = c.in_err-take.field-0.0 in
     let p = err_from_is_err_and c.from_residual.result c.from_residual.ensures.1 in
-    let same : c.take.new.self.set ≡ c.loop-e.self.set = ap (λ (d : Desk). d.set) c.in_err-take.ensures.err in
-    let stopped = row_stopped insertions_in insertions-append s c.loop-e.self.set row c.loop-e.e-index e c.loop-e-test.true c.e-item.is c.loop-e.invariant.taken c.insertion_of.result fault
-    (ap (λ (op : OpView). op ∷ []) (sym c.insertion_of.ensures)) c.in_err-take.ensures.answer in
-    rw (p.1, p.2) (subst (λ x. IsStopped s (insertions_in row) x fault) (sym same) stopped)
+    rw (p.1, p.2) (row_ended insertions_in insertions-append s c.loop-e.self.set row c.loop-e.e-index e c.loop-e-test.true c.e-item.is c.loop-e.invariant.taken c.take.new.self.set c.insertion_of.result fault
+    (ap (λ (d : Desk). d.set) c.in_err-take.ensures.err) (ap (λ (op : OpView). op ∷ []) (sym c.insertion_of.ensures)) c.in_err-take.ensures.answer)
 
 pub loop-e-preserved : goal.loop-e-preserved
 loop-e-preserved g c =
