@@ -64,7 +64,7 @@ impl Cause {
 }
 
 /// Why a file was not read. It prints the bare name of its cause, or `Memory`.
-#[derive(Clone, Copy, Debug, PartialEq, Eq, thiserror::Error)]
+#[derive(Clone, Copy, PartialEq, Eq, thiserror::Error)]
 pub enum CodecFault {
     /// The bytes are faulty: this is their first cause. Frame 0 is the header, frames
     /// count from 1.
@@ -73,6 +73,13 @@ pub enum CodecFault {
     /// A growth was refused. This says nothing of the bytes.
     #[error("Memory")]
     Memory,
+}
+
+/// As it prints.
+impl fmt::Debug for CodecFault {
+    fn fmt<W: fmt::Write>(&self, f: &mut fmt::Formatter<W>) -> fmt::Result {
+        fmt::Display::fmt(self, f)
+    }
 }
 
 impl CodecFault {

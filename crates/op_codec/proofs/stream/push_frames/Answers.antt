@@ -24,3 +24,16 @@ loop-read-preserved c =
       few = omega (arith, shorter, count, few);
       grown = grown_twice c.args.ops.now.items l.ops.items ops l.invariant.grown pushed.grown;
     }
+
+pub push_frame-requires : goal.push_frame-requires
+push_frame-requires c =
+    let l = c.loop-read in
+    let f : Frame = record { first = c.in-Ok.read.first; further = characters_in c.in-Ok.read.further.now } in
+    let shorter = frame_shortens l.at l.rest.now c.in-Ok.read.rest.now f c.in-Ok.ensures.ok in
+    record { is_frame = c.in-Ok.ensures.ok.begins.is_frame; counted = omega (arith, shorter, l.invariant.few, c.requires.few) }
+
+pub loop-read-smaller : goal.loop-read-smaller
+loop-read-smaller c =
+    let f : Frame = record { first = c.in-Ok.read.first; further = characters_in c.in-Ok.read.further.now } in
+    let shorter = frame_shortens c.loop-read.at c.loop-read.rest.now c.in-Ok.read.rest.now f c.in-Ok.ensures.ok in
+    omega (arith, shorter)
