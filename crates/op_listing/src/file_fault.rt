@@ -6,11 +6,12 @@ ghost use Rattle.op_listing.specs.Code.{file_code, file_fault_of};
 
 use bg_types::{Device, Memory};
 use op_codec::{Cause, CodecFault};
+use std::fmt;
 use thiserror::Error;
 
 /// Why an operation file was not converted. Each prints as in the line on standard error,
 /// without the program's name; the file has number 1.
-#[derive(Clone, Copy, Debug, PartialEq, Eq, Error)]
+#[derive(Clone, Copy, PartialEq, Eq, Error)]
 pub enum FileFault {
     /// The file is faulty: this is its first cause. Frame 0 is the header, frames
     /// count from 1.
@@ -22,6 +23,13 @@ pub enum FileFault {
     /// A growth was refused.
     #[error("memory")]
     Memory,
+}
+
+/// As it prints.
+impl fmt::Debug for FileFault {
+    fn fmt<W: fmt::Write>(&self, f: &mut fmt::Formatter<W>) -> fmt::Result {
+        fmt::Display::fmt(self, f)
+    }
 }
 
 impl FileFault {

@@ -1,7 +1,7 @@
 //! One line of a listing, written and read.
 
-ghost use Rattle.std.specs.Prelude.{◌≡◌, ◌++◌, Some, None, string_bytes, option_to_list, not, is_some, OnOk, IfOk, IfSome, MatchResult};
-ghost use Rattle.op_listing.specs.Listing.{line_of, parent_word, scalar_word};
+ghost use Rattle.std.specs.Prelude.{◌≡◌, [], ◌∷◌, ◌++◌, Some, None, codes, string_bytes, option_to_list, not, is_some, OnOk, IfOk, IfSome, MatchResult};
+ghost use Rattle.op_listing.specs.Listing.{line_of, identifier_word, parent_word, scalar_word};
 ghost use Rattle.op_listing.specs.Words.{words};
 ghost use Rattle.op_listing.specs.Line.{operation_in, insertion_in, erasure_in, parent_has_zero, operation_fault, written_fault, line_fault};
 ghost use Rattle.op_listing.specs.Listed.{line_operations};
@@ -26,19 +26,26 @@ pub fn push_line(op: &Op, text: &mut String) -> Result<(), AllocError>
 fn push_insertion(id: Id, parent: &Place, ch: char, text: &mut String) -> Result<(), AllocError>
     ensures { OnOk result (string_bytes text.new ≡ string_bytes text.old ++ line_of (OpView.Insert id parent.now ch)) }
 {
-    write!(text, "i {}.{} ", id.counter(), id.site())?;
+    push_start(id, text)?;
     push_parent(parent, text)?;
-    text.push_str(" ")?;
     push_scalar(ch, text)?;
     text.push_str("\n")
 }
 
+/// Appends an insertion's verb and its identifier.
+fn push_start(id: Id, text: &mut String) -> Result<(), AllocError>
+    ensures { OnOk result (string_bytes text.new ≡ string_bytes text.old ++ (codes "i " ++ identifier_word id)) }
+{
+    write!(text, "i {}.{}", id.counter(), id.site())
+}
+
+/// Appends a parent's word, between two spaces.
 fn push_parent(parent: &Place, text: &mut String) -> Result<(), AllocError>
-    ensures { OnOk result (string_bytes text.new ≡ string_bytes text.old ++ parent_word parent.now) }
+    ensures { OnOk result (string_bytes text.new ≡ string_bytes text.old ++ 32 ∷ (parent_word parent.now ++ 32 ∷ [])) }
 {
     match parent {
-        Place::Root => text.push_str("root"),
-        Place::After(id) => write!(text, "{}.{}", id.counter(), id.site()),
+        Place::Root => text.push_str(" root "),
+        Place::After(id) => write!(text, " {}.{} ", id.counter(), id.site()),
     }
 }
 

@@ -7,11 +7,12 @@ ghost use Rattle.op_listing.specs.Code.{listing_code};
 use crate::line_fault::LineFault;
 use bg_types::{Device, Memory};
 use std::alloc::{AllocError, AllocFailed};
+use std::fmt;
 use thiserror::Error;
 
 /// Why a listing was not converted. Each prints as in the line on standard error, without the
 /// program's name.
-#[derive(Clone, Copy, Debug, PartialEq, Eq, Error)]
+#[derive(Clone, Copy, PartialEq, Eq, Error)]
 pub enum ListingFault {
     /// The first faulty line, counted from 1, and its first fault.
     #[error("listing line {line}: {fault}")]
@@ -22,6 +23,13 @@ pub enum ListingFault {
     /// A growth was refused.
     #[error("memory")]
     Memory,
+}
+
+/// As it prints.
+impl fmt::Debug for ListingFault {
+    fn fmt<W: fmt::Write>(&self, f: &mut fmt::Formatter<W>) -> fmt::Result {
+        fmt::Display::fmt(self, f)
+    }
 }
 
 impl ListingFault {
