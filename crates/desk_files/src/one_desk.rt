@@ -1,7 +1,7 @@
 //! One desk that takes the operations of all files.
 
-ghost use Rattle.std.specs.Prelude.{◌≡◌, ◌≢◌, ◌≤◌, ◌⊎◌, ◌++◌, [], false, List, Some, None, map as each, OnOk, IfOk, IfErr, length, string_bytes, encode_utf8_all};
-ghost use Rattle.bg_types.specs.OperationSet.{size};
+ghost use Rattle.std.specs.Prelude.{◌≡◌, ◌≢◌, ◌≤◌, ◌⊎◌, ◌++◌, false, List, Some, map as each, OnOk, IfOk, IfErr, length, string_bytes, encode_utf8_all};
+ghost use Rattle.bg_types.specs.OperationSet.{no_operations, size};
 ghost use Rattle.bg_types.specs.declared.op.OpView.{OpView as Operation};
 ghost use Rattle.desk_replica.specs.SetOf.{IsSetOf};
 ghost use Rattle.desk_replica.specs.Refusal.{IsFirstRefusal};
@@ -13,7 +13,7 @@ ghost use Rattle.desk_files.specs.Cause.{IsTakingCaused, step_fault_of};
 ghost use Rattle.desk_files.specs.TextOutcome.{IsTextOfFiles};
 ghost use Rattle.desk_files.specs.declared.run_fault.RunFault.TheVariants.{Memory as run_memory};
 
-use crate::desk::{Desk, new_desk, read_text};
+use crate::desk::{Desk, let_go, new_desk, read_text};
 use crate::reading::{LIMIT, PIECE, feed_piece, finish};
 use crate::run_fault::RunFault;
 use bg_types::{Id, Memory, Op, OpView, Place, laws as sets};
@@ -42,8 +42,23 @@ pub fn joined_text<R: Source>(alloc: Global, key: u128, files: &mut [R]) -> Resu
     ensures size { IfOk result (λ text. length (string_bytes text) ≤ 4_000_000) }
     ensures fault { IfErr result (EndsOver (each R.remaining files.old) (each R.has_failed files.new) IsTakingCaused) }
 {
-    let desk = desk_of(alloc, key, files)?;
-    text_of(&desk)
+    let mut desk = new_desk(alloc, SITE, key);
+    let text = text_with(alloc, files, &mut desk);
+    let_go(desk);
+    text
+}
+
+/// The same by a desk without operations.
+fn text_with<R: Source>(alloc: Global, files: &mut [R], desk: &mut Desk) -> Result<String, RunFault>
+    requires working { AreWorking (each R.has_failed files.old) }
+    requires empty { desk.old.set ≡ no_operations }
+    ensures ok { IfOk result (λ text. AreTold (each R.remaining files.old) (each R.has_failed files.new)
+        (λ told. IsTextOfFiles told (string_bytes text))) }
+    ensures size { IfOk result (λ text. length (string_bytes text) ≤ 4_000_000) }
+    ensures fault { IfErr result (EndsOver (each R.remaining files.old) (each R.has_failed files.new) IsTakingCaused) }
+{
+    take_files(alloc, files, desk)?;
+    text_of(desk)
 }
 
 /// A desk's text, or the fault of a run that lacks memory for it.
@@ -56,28 +71,20 @@ fn text_of(desk: &Desk) -> Result<String, RunFault>
     Ok(text)
 }
 
-/// A desk that has taken the operations of the files of all readers. A refusal is
-/// reported only once all files are read, since a faulty file is reported first.
-pub fn desk_of<R: Source>(alloc: Global, key: u128, files: &mut [R]) -> Result<Desk, RunFault>
-    requires { AreWorking (each R.has_failed files.old) }
-    ensures ok { IfOk result (λ desk. AreTold (each R.remaining files.old) (each R.has_failed files.new) (λ told. IsSetOfFiles told desk.set)) }
-    ensures limited { IfOk result (λ desk. size desk.set ≤ 1_000_000) }
-    ensures fault { IfErr result (EndsOver (each R.remaining files.old) (each R.has_failed files.new) IsTakingCaused) }
-{
-    sets::nothing_held();
-    let mut desk = new_desk(alloc, SITE, key);
-    take_files(alloc, files, &mut desk)?;
-    Ok(desk)
-}
-
-/// Lets a desk without operations take those of the files of all readers, one file after the other.
-fn take_files<R: Source>(alloc: Global, files: &mut [R], desk: &mut Desk) -> Result<(), RunFault>
+/// Lets a desk without operations take those of the files of all readers, one file after the other. A
+/// refusal is reported only once all files are read, since a faulty file is reported first.
+pub fn take_files<R: Source>(
+    alloc: Global,
+    files: &mut [R],
+    desk: &mut Desk,
+) -> Result<(), RunFault>
     requires working { AreWorking (each R.has_failed files.old) }
-    requires empty { HasTaken [] desk.old.set None }
+    requires empty { desk.old.set ≡ no_operations }
     ensures ok { OnOk result (AreTold (each R.remaining files.old) (each R.has_failed files.new) (λ told. IsSetOfFiles told desk.new.set)) }
     ensures limited { OnOk result (size desk.new.set ≤ 1_000_000) }
     ensures fault { IfErr result (EndsOver (each R.remaining files.old) (each R.has_failed files.new) IsTakingCaused) }
 {
+    sets::nothing_held();
     let mut refused = None;
     for place in 0..files.len() {
         take_file(alloc, place + 1, &mut files[place], desk, &mut refused)?;

@@ -7,7 +7,7 @@ use Rattle.desk_files.specs.declared.run_fault.RunFault.TheVariants as run
 use Rattle.desk_files.specs.Readers.{IsUnreadFile, lacks_memory}
 use Rattle.desk_files.specs.Taking.{HasTaken, HasTakenBut}
 use Rattle.desk_files.proofs.AnyOrder.{but-more}
-use Rattle.desk_files.proofs.Feeding.{read_none, end_within, read_more, read_told, read_flawed, read_stopped}
+use Rattle.desk_files.proofs.Feeding.{read_none, end_few, read_few, end_within, read_more, read_told, read_flawed, read_stopped, read_lost}
 use Rattle.desk_files.proofs.HandedOn.{err_handed}
 use Rattle.desk_files.proofs.one_desk.take_file.Goals as goal
 
@@ -93,3 +93,19 @@ loop-given-preserved g c =
           (subst (λ (ops : List OpView). HasTakenBut more ops l.desk.set l.refused) (append_assoc before l.invariant.ops (added waiting more)) (but-more waiting more (before ++ l.invariant.ops) l.desk.set l.refused fed.grown (l.invariant.taken before h)));
       working = c.in-Some.ensures.failed;
     }
+
+pub finish-requires : goal.finish-requires
+finish-requires g c =
+    let l = c.loop-given in
+    record { few = end_few (g.R.Source.remaining c.args.reader.now) (g.R.Source.remaining l.reader) l.stream l.left l.invariant.ops l.invariant.read }
+
+pub feed_piece-requires : goal.feed_piece-requires
+feed_piece-requires g c =
+    let l = c.loop-given in
+    let size = length-take c.in-Some.given c.get.new.piece in
+    record { few = read_few (g.R.Source.remaining c.args.reader.now) (g.R.Source.remaining l.reader) l.stream l.left l.invariant.ops l.invariant.read (length (take c.in-Some.given c.get.new.piece)) (omega (arith, size)) }
+
+pub returns-clause-fault : goal.returns-clause-fault
+returns-clause-fault g c =
+    let l = c.loop-given in
+    read_lost (g.R.Source.remaining c.args.reader.now) (g.R.Source.remaining l.reader) l.stream l.left l.invariant.ops l.invariant.read c.args.number _ c.in_default.ensures.failed

@@ -1,5 +1,5 @@
 -- The goals of `take_files` that are answered by hand.
-use Rattle.std.proofs.Common.{List, [], ◌∷◌, ◌++◌, inr, sym, subst, arith}
+use Rattle.std.proofs.Common.{List, [], ◌∷◌, ◌++◌, None, inr, sym, subst, arith}
 use Rattle.std.specs.Prelude.{map as each, slice_set}
 use Rattle.std.specs.List.{AllZip}
 use Rattle.bg_types.specs.declared.op.OpView.{OpView}
@@ -9,13 +9,14 @@ use Rattle.desk_files.specs.Files.{IsSetOfFiles, joined}
 use Rattle.desk_files.specs.Taking.{HasTaken}
 use Rattle.desk_files.specs.Cause.{IsReadCaused, IsTakingCaused}
 use Rattle.desk_files.proofs.Spelled.{joined-push}
+use Rattle.desk_files.proofs.Taking.{nothing-taken}
 use Rattle.desk_files.proofs.Answered.{taking-refused, taking-unread}
 use Rattle.desk_files.proofs.HandedOn.{err_handed}
 use Rattle.desk_files.proofs.Readings.{none_read, asked_works, next_read, not_read, all_read, told_so, ends_so}
 use Rattle.desk_files.proofs.one_desk.take_files.Goals as goal
 
 pub loop-place-init : goal.loop-place-init
-loop-place-init g c = record { lists = []; read = none_read g.R.Source.remaining g.R.Source.has_failed c.args.files.now c.requires.working; taken = c.requires.empty }
+loop-place-init g c = record { lists = []; read = none_read g.R.Source.remaining g.R.Source.has_failed c.args.files.now c.requires.working; taken = subst (λ s. HasTaken [] s None) (sym c.requires.empty) (nothing-taken c.nothing_held.ensures) }
 
 pub take_file-requires : goal.take_file-requires
 take_file-requires g c =

@@ -51,8 +51,8 @@ loop-place-preserved g c =
     next_read g.R.Source.remaining g.R.Source.has_failed c.args.files.now c.loop-place.files c.loop-place.place lists c.loop-place.invariant.read c.loop-place-test.true
     c.index-files-place.result c.read_file.new.reader c.index-files-place.is c.in_ok-read_file.field-0.items c.in_ok-read_file.ensures.ok c.in_ok-read_file.ensures.working in
     let grown : each (λ ops. ops.items) c.push.new.self.items ≡ lists ++ c.in_ok-read_file.field-0.items ∷ [] =
-    ap (each (λ ops. ops.items)) c.in_ok-push.ensures.items ∙ map-append (λ ops. ops.items) c.loop-place.all.items (c.in_ok-read_file.field-0 ∷ []) in
-    let longer : length c.push.new.self.items ≡ length c.loop-place.all.items + 1 = ap (λ (l : List (Vec OpView)). length l) c.in_ok-push.ensures.items ∙ length-append c.loop-place.all.items (c.in_ok-read_file.field-0 ∷ []) in
+    ap (each (λ ops. ops.items)) {y = c.loop-place.all.items ++ c.in_ok-read_file.field-0 ∷ []} c.in_ok-push.ensures.items ∙ map-append (λ ops. ops.items) c.loop-place.all.items (c.in_ok-read_file.field-0 ∷ []) in
+    let longer : length c.push.new.self.items ≡ length c.loop-place.all.items + 1 = ap (λ (l : List (Vec OpView)). length l) {y = c.loop-place.all.items ++ c.in_ok-read_file.field-0 ∷ []} c.in_ok-push.ensures.items ∙ length-append c.loop-place.all.items (c.in_ok-read_file.field-0 ∷ []) in
     let count = c.loop-place.invariant.count in
     record {
       read = subst (λ (ls : List (List OpView)). ReadTo g.R.Source.remaining g.R.Source.has_failed c.args.files.now now (c.loop-place.place + 1) ls) (sym grown) next;

@@ -4,7 +4,7 @@ use Rattle.std.proofs.lemmas.List.{length-take}
 use Rattle.bg_types.specs.declared.op.OpView.{OpView}
 use Rattle.op_codec.specs.Feed.{StandsAfter}
 use Rattle.desk_files.specs.Readers.{IsUnreadFile}
-use Rattle.desk_files.proofs.Feeding.{added_all, end_within, read_more, read_told, read_flawed, read_stopped}
+use Rattle.desk_files.proofs.Feeding.{added_all, end_few, read_few, end_within, read_more, read_told, read_flawed, read_stopped, read_lost}
 use Rattle.desk_files.proofs.HandedOn.{err_handed}
 use Rattle.desk_files.proofs.reading.read_file.Goals as goal
 
@@ -61,3 +61,19 @@ loop-given-preserved g c =
           stands (fed.sound read.bytes l.ops.items read.stands read.so);
       working = c.in-Some.ensures.failed;
     }
+
+pub finish-requires : goal.finish-requires
+finish-requires g c =
+    let l = c.loop-given in
+    record { few = end_few (g.R.Source.remaining c.args.reader.now) (g.R.Source.remaining l.reader) l.stream l.left l.ops.items l.invariant.read }
+
+pub feed_piece-requires : goal.feed_piece-requires
+feed_piece-requires g c =
+    let l = c.loop-given in
+    let size = length-take c.in-Some.given c.get.new.piece in
+    record { few = read_few (g.R.Source.remaining c.args.reader.now) (g.R.Source.remaining l.reader) l.stream l.left l.ops.items l.invariant.read (length (take c.in-Some.given c.get.new.piece)) (omega (arith, size)) }
+
+pub returns-clause-fault : goal.returns-clause-fault
+returns-clause-fault g c =
+    let l = c.loop-given in
+    read_lost (g.R.Source.remaining c.args.reader.now) (g.R.Source.remaining l.reader) l.stream l.left l.ops.items l.invariant.read c.args.number _ c.in_default.ensures.failed
