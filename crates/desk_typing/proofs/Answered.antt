@@ -1,6 +1,6 @@
 -- What a run answers where there is a file of the change, and where there is none.
 use Rattle.std.proofs.Common.{◌≡◌, inr, Bool, ℕ, List, Option, Result, Ok, Err, sym, subst}
-use Rattle.std.specs.Prelude.{OnOk, IfOk, IfErr, IsErrAnd}
+use Rattle.std.specs.Prelude.{OnOk, IfOk, IfErr}
 use Rattle.std.specs.Str.{chars, IsUtf8}
 use Rattle.bg_types.specs.OperationSet.{OperationSet}
 use Rattle.bg_types.specs.declared.op.OpView.{OpView}
@@ -10,24 +10,12 @@ use Rattle.desk_files.specs.declared.run_fault.RunFault.TheVariants.{Memory}
 use Rattle.desk_files.specs.Readers.{AreTold}
 use Rattle.desk_files.specs.Files.{IsSetOfFiles}
 use Rattle.desk_files.specs.Cause.{IsTakingCaused}
+use Rattle.desk_files.proofs.Interface.{told_so}
 use Rattle.desk_typing.specs.declared.change.Change.{Change}
 use Rattle.desk_typing.specs.declared.typing_fault.TypingFault.{TypingFault}
 use Rattle.desk_typing.specs.declared.typing_fault.TypingFault.TheVariants.{NotUtf8, Run, PastEnd, Full, CounterSpent}
 use Rattle.desk_typing.specs.Changing.{operations_of, Fits, IsUnfit}
 use Rattle.desk_typing.specs.TypedOutcome.{IsTypedFile, IsUnfitFor, IsUntyped}
-
--- what holds of a fault that is handed on
-pub err_handed : {A : Type 0} (P : TypingFault → Type 0) (r : Result A TypingFault) (fault : TypingFault) → IsErrAnd r (λ e. e ≡ fault) → P fault → IfErr r P
-err_handed P (Ok done) fault h p = absurd h
-err_handed P (Err e) fault h p = subst P (sym h) p
-
-pub answer_handed : {A : Type 0} (P : Result A TypingFault → Type 0) (r : Result A TypingFault) (fault : TypingFault) → IsErrAnd r (λ e. e ≡ fault) → P (Err fault) → P r
-answer_handed P (Ok done) fault h p = absurd h
-answer_handed P (Err e) fault h p = subst (λ f. P (Err f)) (sym h) p
-
--- more holds of the files that readers give
-pub told_so : (readers : List (Option (List ℕ))) (lost : List Bool) (A B : List (List ℕ) → Type 0) → ((files : List (List ℕ)) → A files → B files) → AreTold readers lost A → AreTold readers lost B
-told_so readers lost A B f t = record { files = t.files; told = t.told; working = t.working; so = f t.files t.so }
 
 module _ (readers : List (Option (List ℕ))) (lost : List Bool) (change : Change) (text : List ℕ) (utf8 : IsUtf8 text) (s : OperationSet) (told : AreTold readers lost (λ files. IsSetOfFiles files s)) where
   lacking : IsUntyped readers lost change text (Run Memory)
@@ -43,18 +31,21 @@ module _ (readers : List (Option (List ℕ))) (lost : List Bool) (change : Chang
   unfit Full h = unfit_for Full h
   unfit CounterSpent h = unfit_for CounterSpent h
 
-  pub made : {A : Type 0} (items : A → List ℕ) (version : Version) (typed : List ℕ) → typed ≡ text → (r : Result A TypingFault) → OnOk r (Fits s change (chars typed))
-      → IfOk r (λ file. SpellsIn version (items file) (operations_of s change (chars typed))) → IfOk r (λ file. AreTold readers lost (λ files. IsTypedFile version files change text (items file)))
-  made items version typed same (Ok file) fits spelled = told_so readers lost (λ files. IsSetOfFiles files s) (λ files. IsTypedFile version files change text (items file))
-      (λ files of_files. record {
-        set = s;
-        of_files = of_files;
-        utf8 = utf8;
-        fits = subst (λ (t : List ℕ). Fits s change (chars t)) same fits;
-        spelled = subst (λ (t : List ℕ). SpellsIn version (items file) (operations_of s change (chars t))) same spelled;
-      }) told
-  made items version typed same (Err fault) fits spelled = tt
+  pub made : {A : Type 0} (items : A → List ℕ) (version : Version) (r : Result A TypingFault) → OnOk r (Fits s change (chars text))
+      → IfOk r (λ file. SpellsIn version (items file) (operations_of s change (chars text))) → IfOk r (λ file. AreTold readers lost (λ files. IsTypedFile version files change text (items file)))
+  made items version (Ok file) fits spelled =
+      told_so readers lost (λ files. IsSetOfFiles files s) (λ files. IsTypedFile version files change text (items file)) (λ files of_files. record { set = s; of_files = of_files; utf8 = utf8; fits = fits; spelled = spelled }) told
+  made items version (Err fault) fits spelled = tt
 
-  pub not_made : {A : Type 0} (typed : List ℕ) → typed ≡ text → (r : Result A TypingFault) → IfErr r (IsUnfit s change (chars typed)) → IfErr r (IsUntyped readers lost change text)
-  not_made typed same (Ok file) h = tt
-  not_made typed same (Err fault) h = unfit fault (subst (λ (t : List ℕ). IsUnfit s change (chars t) fault) same h)
+  pub not_made : {A : Type 0} (r : Result A TypingFault) → IfErr r (IsUnfit s change (chars text)) → IfErr r (IsUntyped readers lost change text)
+  not_made (Ok file) h = tt
+  not_made (Err fault) h = unfit fault h
+
+-- ---- the bytes of a text are the text
+
+module _ {A : Type 0} (readers : List (Option (List ℕ))) (lost : List Bool) (change : Change) (words text : List ℕ) (same : words ≡ text) (r : Result A TypingFault) where
+  pub made_of : (items : A → List ℕ) (version : Version) → IfOk r (λ file. AreTold readers lost (λ files. IsTypedFile version files change words (items file))) → IfOk r (λ file. AreTold readers lost (λ files. IsTypedFile version files change text (items file)))
+  made_of items version h = subst (λ (t : List ℕ). IfOk r (λ file. AreTold readers lost (λ files. IsTypedFile version files change t (items file)))) same h
+
+  pub not_made_of : IfErr r (IsUntyped readers lost change words) → IfErr r (IsUntyped readers lost change text)
+  not_made_of h = subst (λ (t : List ℕ). IfErr r (IsUntyped readers lost change t)) same h

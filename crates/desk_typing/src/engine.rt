@@ -2,6 +2,7 @@
 
 ghost use Rattle.std.specs.Prelude.{◌≡◌, ◌<◌, ◌⊎◌, false, map as each, OnOk, IfOk, IfErr};
 ghost use Rattle.std.specs.Str.{chars};
+ghost use Rattle.bg_types.specs.OperationSet.{no_operations};
 ghost use Rattle.op_codec.specs.Spelling.{SpellsIn};
 ghost use Rattle.desk_files.specs.Readers.{AreWorking, AreTold};
 ghost use Rattle.desk_files.specs.declared.run_fault.RunFault.TheVariants.{Memory as run_memory};
@@ -13,7 +14,7 @@ use crate::change::Change;
 use crate::operations::operations;
 use crate::typing_fault::TypingFault;
 use bg_types::{Memory, Op, Sink, put_all};
-use desk_files::{Desk, desk_of};
+use desk_files::{Desk, let_go, new_desk, take_files};
 use op_codec::{Source, Version, encode_file, encode_file_v2};
 use std::alloc::Global;
 
@@ -64,8 +65,30 @@ fn typed_file<R: Source>(
         Ok(text) => text,
         Err(error) => return Err(TypingFault::NotUtf8(error.valid_up_to())),
     };
-    match desk_of(alloc, key, files) {
-        Ok(mut desk) => file_at(alloc, &mut desk, change, text, version),
+    let mut desk = new_desk(alloc, change.site, key);
+    let file = file_with(alloc, files, &mut desk, change, text, version);
+    let_go(desk);
+    file
+}
+
+/// The same by a desk without operations, which takes those of the files.
+fn file_with<R: Source>(
+    alloc: Global,
+    files: &mut [R],
+    desk: &mut Desk,
+    change: &Change,
+    text: &str,
+    version: Version,
+) -> Result<Vec<u8>, TypingFault>
+    requires site { 0 < change.now.site }
+    requires readers { AreWorking (each R.has_failed files.old) }
+    requires empty { desk.old.set ≡ no_operations }
+    ensures ok { IfOk result (λ file. AreTold (each R.remaining files.old) (each R.has_failed files.new)
+        (λ told. IsTypedFile version told change.now text.now file.items)) }
+    ensures fault { IfErr result (IsUntyped (each R.remaining files.old) (each R.has_failed files.new) change.now text.now) }
+{
+    match take_files(alloc, files, desk) {
+        Ok(()) => file_at(alloc, desk, change, text, version),
         Err(fault) => Err(TypingFault::Run(fault)),
     }
 }

@@ -13,7 +13,7 @@ use std::fmt;
 
 /// Why a change is not written. Each prints as in the line on standard error, without the
 /// program's name.
-#[derive(Clone, Copy, Debug, PartialEq, Eq)]
+#[derive(Clone, Copy, PartialEq, Eq)]
 pub enum TypingFault {
     /// The text is not UTF-8: how many of its bytes come before the first wrong one.
     NotUtf8(usize),
@@ -39,6 +39,13 @@ impl fmt::Display for TypingFault {
             TypingFault::Full => write!(f, "text: Full"),
             TypingFault::CounterSpent => write!(f, "text: CounterSpent"),
         }
+    }
+}
+
+/// As it prints.
+impl fmt::Debug for TypingFault {
+    fn fmt<W: fmt::Write>(&self, f: &mut fmt::Formatter<W>) -> fmt::Result {
+        fmt::Display::fmt(self, f)
     }
 }
 

@@ -1,13 +1,9 @@
 -- The goals of `typed_file` that are answered by hand.
-use Rattle.desk_typing.proofs.Answered.{made, not_made}
+use Rattle.desk_typing.proofs.Answered.{made_of, not_made_of}
 use Rattle.desk_typing.proofs.engine.typed_file.Goals as goal
 
-pub returns-in-Ok-desk_of-clause-ok : goal.returns-in-Ok-desk_of-clause-ok
-returns-in-Ok-desk_of-clause-ok g c =
-    made _ _ c.args.change.now c.args.text.now c.in-Ok.ensures.cases.1 c.in-Ok-desk_of.desk.set c.in-Ok-desk_of.ensures.ok (λ file. file.items) c.args.version
-    c.in-Ok.text.now c.in-Ok.ensures.cases.0 c.file_at.result c.file_at.ensures.fits c.file_at.ensures.spelled
+pub returns-clause-ok : goal.returns-clause-ok
+returns-clause-ok g c = made_of _ _ c.args.change.now c.in-Ok.text.now c.args.text.now c.in-Ok.ensures.cases.0 c.file_with-file.result (λ file. file.items) c.args.version c.file_with-file.ensures.ok
 
-pub returns-in-Ok-desk_of-clause-fault : goal.returns-in-Ok-desk_of-clause-fault
-returns-in-Ok-desk_of-clause-fault g c =
-    not_made _ _ c.args.change.now c.args.text.now c.in-Ok.ensures.cases.1 c.in-Ok-desk_of.desk.set c.in-Ok-desk_of.ensures.ok
-    c.in-Ok.text.now c.in-Ok.ensures.cases.0 c.file_at.result c.file_at.ensures.fault
+pub returns-clause-fault : goal.returns-clause-fault
+returns-clause-fault g c = not_made_of _ _ c.args.change.now c.in-Ok.text.now c.args.text.now c.in-Ok.ensures.cases.0 c.file_with-file.result c.file_with-file.ensures.fault
