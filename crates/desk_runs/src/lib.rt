@@ -5,6 +5,6 @@ mod desks;
 mod engine;
 pub mod laws;
 
-pub use desk_files::{Desk, RunFault, ScheduleFault, TakeFault, desk_of, status, text, text_from};
+pub use desk_files::{Desk, RunFault, ScheduleFault, TakeFault, status, text, text_from};
 pub use engine::replay::{replay, replay_from};
 pub use ucd_files::Ucd;

@@ -4,7 +4,7 @@ ghost use Rattle.std.specs.Prelude.{◌<◌};
 
 /// A change of a text: characters from a place on are erased, and others typed there. Places
 /// count visible characters, from 0. A character is a Unicode scalar value.
-#[derive(Clone, Copy)]
+#[derive(Clone, Copy, Debug)]
 pub struct Change {
     /// The site that makes the change, at least 1.
     pub site: u16,
