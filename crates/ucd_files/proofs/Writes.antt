@@ -13,7 +13,7 @@ use Rattle.ucd_files.specs.declared.read.Pass.TheVariants.{Defaults, DataLines}
 use Rattle.ucd_files.specs.Entry.{covers, last_value}
 use Rattle.ucd_files.specs.Line.{lines_of}
 use Rattle.ucd_files.specs.Reading.{Reading, data_lines, value_at}
-use Rattle.ucd_files.specs.Passes.{said_in, end_of, reach, written, overlaid}
+use Rattle.ucd_files.specs.Passes.{said_in, end_of, reach, written, overlaid, filled}
 
 -- what all lines reach, the first one and those after it reach
 pub reach-first : {V : Type 0} (pass : Pass) (reading : Reading V) (lines : List (List ℕ)) (line : List ℕ) (n : ℕ) → reach reading (line ∷ lines) ≤ n →
@@ -76,7 +76,7 @@ overlaid-is pass reading (line ∷ lines) c before =
 
 -- both passes over a table of defaults give each code point its value
 value_at-passes : {V : Type 0} (reading : Reading V) (bytes : List ℕ) (c : ℕ)
-    → overlaid DataLines reading (lines_of bytes) c (overlaid Defaults reading (lines_of bytes) c reading.absent) ≡ value_at reading bytes c
+    → filled reading bytes c reading.absent ≡ value_at reading bytes c
 unfolding value_at
 value_at-passes reading bytes c =
     overlaid-is DataLines reading (lines_of bytes) c (overlaid Defaults reading (lines_of bytes) c reading.absent)
@@ -89,11 +89,11 @@ get_or-filled items n c v len each = ⊎_elim (each c) (λ h. get_or_past items 
 -- a table of absent values, lent whole to both passes, ends with each code point's value
 pub filled-value : {V : Type 0} (reading : Reading V) (bytes : List ℕ) (kept lent new : List V) (n c : ℕ)
     → lent ≡ kept → length new ≡ length lent → length kept ≡ n → ((k : ℕ) → k < n → get_or kept k reading.absent ≡ reading.absent)
-    → get_or new c reading.absent ≡ overlaid DataLines reading (lines_of bytes) c (overlaid Defaults reading (lines_of bytes) c (get_or lent c reading.absent))
+    → get_or new c reading.absent ≡ filled reading bytes c (get_or lent c reading.absent)
     → get_or (take n (new ++ drop (length new) kept)) c reading.absent ≡ value_at reading bytes c
 filled-value reading bytes kept lent new n c same len kept_len each passes =
     ap (λ t. get_or t c reading.absent) (take_at new (drop (length new) kept) n (len ∙ ap length same ∙ kept_len))
     ∙ passes
-    ∙ ap (λ v. overlaid DataLines reading (lines_of bytes) c (overlaid Defaults reading (lines_of bytes) c v))
+    ∙ ap (filled reading bytes c)
     (ap (λ t. get_or t c reading.absent) same ∙ get_or-filled kept n c reading.absent kept_len each)
     ∙ value_at-passes reading bytes c

@@ -4,6 +4,7 @@ use Rattle.ucd_files.specs.declared.entry.Entry.{Entry}
 use Rattle.ucd_files.specs.declared.read.Pass.{Pass}
 use Rattle.ucd_files.specs.declared.read.Pass.TheVariants.{Defaults, DataLines}
 use Rattle.ucd_files.specs.Entry.{covers}
+use Rattle.ucd_files.specs.Line.{lines_of}
 use Rattle.ucd_files.specs.Reading.{Reading, said}
 
 -- what a line says in a pass
@@ -30,3 +31,7 @@ written (Some entry) c before = if covers c entry then entry.value else before
 abbrev pub overlaid : {V : Type 0} → Pass → Reading V → List (List ℕ) → ℕ → V → V
 overlaid pass reading [] c before = before
 overlaid pass reading (line ∷ lines) c before = overlaid pass reading lines c (written (said_in pass reading line) c before)
+
+-- the value at c, after the defaults of a file's lines and then their data
+abbrev pub filled : {V : Type 0} → Reading V → (bytes : List ℕ) → ℕ → V → V
+filled reading bytes c before = overlaid DataLines reading (lines_of bytes) c (overlaid Defaults reading (lines_of bytes) c before)

@@ -5,7 +5,7 @@ ghost use Rattle.std.specs.Str.Lossy.{utf8_valid_len};
 ghost use Rattle.ucd_files.specs.Line.{lines_of};
 ghost use Rattle.ucd_files.specs.Reading.{Reading, value_at, line_at, first_faulty};
 ghost use Rattle.ucd_files.specs.Faults.{fault_in};
-ghost use Rattle.ucd_files.specs.Passes.{said_in, end_of, reach, written, overlaid};
+ghost use Rattle.ucd_files.specs.Passes.{said_in, end_of, reach, written, overlaid, filled};
 
 use crate::entry::Entry;
 use crate::fault::{Cause, UcdFault, UcdFile};
@@ -147,9 +147,7 @@ fn fill<V: FileValue>(table: &mut [V], pass: Pass, bytes: &[u8])
 /// Writes the defaults, and then the data lines over them.
 fn fill_over<V: FileValue>(table: &mut [V], bytes: &[u8])
     requires { reach V.reading (lines_of bytes.now) ≤ length table.old }
-    ensures value { (c : ℕ) (d : V) → slice_index_or table.new c d
-        ≡ overlaid Pass.DataLines V.reading (lines_of bytes.now) c
-        (overlaid Pass.Defaults V.reading (lines_of bytes.now) c (slice_index_or table.old c d)) }
+    ensures value { (c : ℕ) (d : V) → slice_index_or table.new c d ≡ filled V.reading bytes.now c (slice_index_or table.old c d) }
     ensures len { length table.new ≡ length table.old }
 {
     fill(table, Pass::Defaults, bytes);
@@ -165,9 +163,7 @@ fn fill_both<V: FileValue>(
     bytes: &[u8],
 ) -> Result<(), AllocError>
     requires { reach V.reading (lines_of bytes.now) ≤ length table.old }
-    ensures value { OnOk result ((c : ℕ) (d : V) → slice_index_or table.new c d
-        ≡ overlaid Pass.DataLines V.reading (lines_of bytes.now) c
-        (overlaid Pass.Defaults V.reading (lines_of bytes.now) c (slice_index_or table.old c d))) }
+    ensures value { OnOk result ((c : ℕ) (d : V) → slice_index_or table.new c d ≡ filled V.reading bytes.now c (slice_index_or table.old c d)) }
     ensures len { length table.new ≡ length table.old }
 {
     if covered > MOST_COVERED {

@@ -2,7 +2,7 @@
 
 ghost use Rattle.std.specs.Prelude.{◌≡◌, ◌<◌, ◌≤◌, ◌+◌, ℕ, true, false, length, Some, IfOk, OnOk, slice_index_or};
 ghost use Rattle.ucd_files.specs.Line.{lines_of};
-ghost use Rattle.ucd_files.specs.Passes.{reach, written, overlaid};
+ghost use Rattle.ucd_files.specs.Passes.{reach, written, overlaid, filled};
 ghost use Rattle.ucd_files.specs.UnsetPlaces.{is_unset, told, Skips};
 
 use crate::entry::Entry;
@@ -98,9 +98,7 @@ fn fill_both<V: FileValue>(table: &mut [V], next: &mut [usize], bytes: &[u8])
     requires len { length next.old ≡ length table.old + 1 }
     requires skips { Skips next.old }
     requires unset { (c : ℕ) → is_unset next.old c ≡ true }
-    ensures value { (c : ℕ) (d : V) → slice_index_or table.new c d
-        ≡ overlaid Pass.DataLines V.reading (lines_of bytes.now) c
-        (overlaid Pass.Defaults V.reading (lines_of bytes.now) c (slice_index_or table.old c d)) }
+    ensures value { (c : ℕ) (d : V) → slice_index_or table.new c d ≡ filled V.reading bytes.now c (slice_index_or table.old c d) }
     ensures len { length table.new ≡ length table.old }
 {
     fill(table, next, Pass::DataLines, bytes);
@@ -115,9 +113,7 @@ pub(crate) fn fill_unset<V: FileValue>(
     bytes: &[u8],
 ) -> Result<(), AllocError>
     requires { reach V.reading (lines_of bytes.now) ≤ length table.old }
-    ensures value { OnOk result ((c : ℕ) (d : V) → slice_index_or table.new c d
-        ≡ overlaid Pass.DataLines V.reading (lines_of bytes.now) c
-        (overlaid Pass.Defaults V.reading (lines_of bytes.now) c (slice_index_or table.old c d))) }
+    ensures value { OnOk result ((c : ℕ) (d : V) → slice_index_or table.new c d ≡ filled V.reading bytes.now c (slice_index_or table.old c d)) }
     ensures len { length table.new ≡ length table.old }
 {
     // The place after the table is never written, so each look-up ends there.
