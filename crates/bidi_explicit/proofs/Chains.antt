@@ -3,7 +3,7 @@ use Rattle.std.proofs.Common.{ℕ, zero, suc, ◌≡◌, ◌≤◌, ◌<◌, ◌
 use Rattle.std.specs.Prelude.{is_some}
 use Rattle.std.proofs.lemmas.Option.{slice_get-get_or}
 use Rattle.bidi_explicit.specs.declared.kept.Kept.{Kept}
-use Rattle.bidi_explicit.specs.Sequences.{kept_at, is_kept, kept_from, kept_before, chain, last_or}
+use Rattle.bidi_explicit.specs.Sequences.{kept_at, is_kept, kept_from, kept_after, kept_before, has_level_of, over_isolate, next_by, chain, last_or}
 use Rattle.bidi_explicit.specs.Links.{following, IsForward}
 
 pub kept_at-is : (places : List (Option Kept)) (i : ℕ) (d : Option Kept) → i < length places → kept_at places i ≡ get_or places i d
@@ -115,3 +115,15 @@ IsWalkedTo-end nexts first last old order w e =
 
 pub following-is : (nexts : List (Option ℕ)) (i : ℕ) (d : Option ℕ) → i < length nexts → following nexts i ≡ get_or nexts i d
 following-is nexts i d inside = rw (slice_get-get_or nexts i d inside, following) refl
+
+-- what comes after a place in its sequence, case by case
+module _ (places : List (Option Kept)) (pdi : Option ℕ) (i : ℕ) where
+  pub next-out : is_kept places i ≡ false → next_by places pdi i ≡ None
+  next-out out = rw (out, next_by) refl
+
+  module _ (kept : is_kept places i ≡ true) where
+    pub next-after : (j : ℕ) → kept_after places i ≡ Some j → has_level_of places i (Some j) ≡ true → next_by places pdi i ≡ Some j
+    next-after j after same = rw (kept, after, same, next_by) refl
+
+    pub next-over : has_level_of places i (kept_after places i) ≡ false → next_by places pdi i ≡ over_isolate places pdi
+    next-over apart = rw (kept, apart, next_by) refl

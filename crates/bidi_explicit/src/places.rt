@@ -9,6 +9,7 @@ use crate::controls::Control;
 use crate::kept::Kept;
 use crate::kind::Direction;
 use crate::stack::LevelStack;
+use crate::uniform::is_control;
 use bg_types::{Bidi, Memory};
 use std::alloc::Global;
 
@@ -29,24 +30,11 @@ fn place_of(level: u8, direction: Direction, class: Bidi) -> Option<Kept>
 
 /// Whether a class does not simply take the direction of the stack's last entry (X6).
 #[inline]
-#[tactic(auto, unfolding(bg_types::specs::Classes::is_removed, bg_types::specs::Classes::is_isolate_control, paragraphs::specs::Classes::is_separator))]
+#[tactic(auto, unfolding(paragraphs::specs::Classes::is_separator))]
 fn is_apart(class: Bidi) -> bool
     ensures { result ≡ is_apart class }
 {
-    matches!(
-        class,
-        Bidi::Rle
-            | Bidi::Lre
-            | Bidi::Rlo
-            | Bidi::Lro
-            | Bidi::Pdf
-            | Bidi::Bn
-            | Bidi::Lri
-            | Bidi::Rli
-            | Bidi::Fsi
-            | Bidi::Pdi
-            | Bidi::B
-    )
+    is_control(class) || matches!(class, Bidi::B)
 }
 
 /// A place of a class that takes a direction.

@@ -15,7 +15,7 @@ use std::alloc::Global;
 /// Whether X9 removes a character of this class, or it is an isolate control.
 #[inline]
 #[tactic(auto, unfolding(bg_types::specs::Classes::is_removed, bg_types::specs::Classes::is_isolate_control))]
-fn is_control(class: Bidi) -> bool
+pub(crate) fn is_control(class: Bidi) -> bool
     ensures { result ≡ is_control class }
 {
     matches!(
