@@ -14,7 +14,7 @@ resets-append [] rest = refl
 resets-append (c ∷ cs) rest = ap (λ b. is_separator c || (is_run_class c && b)) (resets-append cs rest)
 
 -- the part from a place on
-pub resets-part : (cs : List Bidi) (start end : ℕ) → start ≤ end →
+resets-part : (cs : List Bidi) (start end : ℕ) → start ≤ end →
     resets_before (begins_reset (drop end cs)) (slice_range cs start end) ≡ begins_reset (drop start cs)
 resets-part cs start end le =
     resets-append (slice_range cs start end) (drop end cs) ∙ ap begins_reset (sym (drop_split cs start end le))
@@ -75,14 +75,14 @@ module _ (para : ℕ) (cs : List Bidi) (levels sizes : List ℕ) (same : length 
       levels-drop para (get_or sizes k 0) (drop start cs) (drop start levels) (omega arith)
       ∙ ap₂ (levels_after_l1 para) (drop-drop (get_or sizes k 0) start cs ∙ ap (λ n. drop n cs) ends) (drop-drop (get_or sizes k 0) start levels ∙ ap (λ n. drop n levels) ends)
 
-  pub from-on : levels_from para cs levels sizes k start ≡ (if begins_reset (drop start cs) then para else get_or levels start 0) ∷ levels_from para cs levels sizes (k + 1) end
+  from-on : levels_from para cs levels sizes k start ≡ (if begins_reset (drop start cs) then para else get_or levels start 0) ∷ levels_from para cs levels sizes (k + 1) end
   from-on =
       ap (λ s. group_firsts s (levels_after_l1 para (drop start cs) (drop start levels))) (drop_more sizes k 0 lt)
       ∙ ap₂ (λ x l. x ∷ group_firsts (drop (k + 1) sizes) l) head later
 
 -- where a cluster starts
 
-pub starts : (sizes : List ℕ) (k start whole : ℕ) → All (λ size. 0 < size) sizes → k < length sizes → sum sizes ≡ whole → start ≡ sum (take (k + 1) sizes) →
+starts : (sizes : List ℕ) (k start whole : ℕ) → All (λ size. 0 < size) sizes → k < length sizes → sum sizes ≡ whole → start ≡ sum (take (k + 1) sizes) →
     (start ≡ sum (take k sizes) + get_or sizes k 0) × (0 < get_or sizes k 0) × (start ≤ whole)
 starts sizes k start whole positive lt all at =
     let more = sum_by_more (λ (n : ℕ). n) sizes k 0 lt in
@@ -93,13 +93,58 @@ starts sizes k start whole positive lt all at =
 -- the levels made from the last cluster on
 
 module _ (para k : ℕ) (made later whole : List ℕ) (is : made ≡ replicate (k + 1) para ++ later) where
-  pub made-kept : (b : Bool) (level : ℕ) → b ≡ true → whole ≡ (if b then para else level) ∷ later → made ≡ replicate k para ++ whole
+  made-kept : (b : Bool) (level : ℕ) → b ≡ true → whole ≡ (if b then para else level) ∷ later → made ≡ replicate k para ++ whole
   made-kept b level reset e =
       is ∙ ap (λ l. l ++ later) (sym (replicate_more k para)) ∙ append_assoc (replicate k para) (para ∷ []) later
       ∙ ap (λ l. replicate k para ++ l) (ap (λ x. (if x then para else level) ∷ later) (sym reset) ∙ sym e)
 
-  pub made-set : (b : Bool) (level : ℕ) → b ≡ false → whole ≡ (if b then para else level) ∷ later → set made k level ≡ replicate k para ++ whole
+  made-set : (b : Bool) (level : ℕ) → b ≡ false → whole ≡ (if b then para else level) ∷ later → set made k level ≡ replicate k para ++ whole
   made-set b level kept e =
       ap (λ l. set l k level) (is ∙ ap (λ l. l ++ later) (sym (replicate_more k para)) ∙ append_assoc (replicate k para) (para ∷ []) later)
       ∙ set_at (replicate k para) para later level k (length-replicate k para)
       ∙ ap (λ l. replicate k para ++ l) (ap (λ x. (if x then para else level) ∷ later) (sym kept) ∙ sym e)
+
+-- the levels of the clusters from one on are made, where it begins at `begin` and `reset` says whether L1 resets what begins there
+pub record IsMadeFrom (para : ℕ) (cs : List Bidi) (levels sizes : List ℕ) (cluster begin : ℕ) (reset : Bool) (made : List ℕ) : Type 0 where
+  pub start : begin ≡ sum (take cluster sizes)
+  pub resets : reset ≡ begins_reset (drop begin cs)
+  pub levels_made : made ≡ replicate cluster para ++ levels_from para cs levels sizes cluster begin
+
+-- one cluster more
+module _ (para : ℕ) (cs : List Bidi) (levels sizes : List ℕ) (same : length levels ≡ length cs) (positive : All (λ size. 0 < size) sizes) (whole : sum sizes ≡ length cs)
+    (cluster end : ℕ) (after : Bool) (made : List ℕ) (some : 0 < cluster) (within : cluster ≤ length sizes) (h : IsMadeFrom para cs levels sizes cluster end after made) where
+  abbrev k : ℕ
+  k = cluster - 1
+
+  abbrev begin : ℕ
+  begin = end - get_or sizes k 0
+
+  up : cluster ≡ k + 1
+  up = omega arith
+
+  at : (end ≡ sum (take k sizes) + get_or sizes k 0) × (0 < get_or sizes k 0) × (end ≤ length cs)
+  at = starts sizes k end (length cs) positive (omega arith) whole (h.start ∙ ap (λ n. sum (take n sizes)) up)
+
+  on : levels_from para cs levels sizes k begin ≡ (if begins_reset (drop begin cs) then para else get_or levels begin 0) ∷ levels_from para cs levels sizes (k + 1) end
+  on = let a = at in from-on para cs levels sizes same k begin end (omega arith) (omega arith) (omega arith)
+
+  module _ (reset : Bool) (is : reset ≡ resets_before after (slice_range cs begin end)) where
+    now : reset ≡ begins_reset (drop begin cs)
+    now = is ∙ ap (λ b. resets_before b (slice_range cs begin end)) h.resets ∙ resets-part cs begin end (omega arith)
+
+    before : made ≡ replicate (k + 1) para ++ levels_from para cs levels sizes (k + 1) end
+    before = h.levels_made ∙ ap (λ n. replicate n para ++ levels_from para cs levels sizes n end) up
+
+    pub made-on-kept : reset ≡ true → IsMadeFrom para cs levels sizes k begin reset made
+    made-on-kept kept = let a = at in record {
+      start = omega arith;
+      resets = now;
+      levels_made = made-kept para k made (levels_from para cs levels sizes (k + 1) end) (levels_from para cs levels sizes k begin) before (begins_reset (drop begin cs)) (get_or levels begin 0) (sym now ∙ kept) on;
+    }
+
+    pub made-on-set : reset ≡ false → IsMadeFrom para cs levels sizes k begin reset (set made k (get_or levels begin 0))
+    made-on-set own = let a = at in record {
+      start = omega arith;
+      resets = now;
+      levels_made = made-set para k made (levels_from para cs levels sizes (k + 1) end) (levels_from para cs levels sizes k begin) before (begins_reset (drop begin cs)) (get_or levels begin 0) (sym now ∙ own) on;
+    }

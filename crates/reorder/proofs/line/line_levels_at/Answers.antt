@@ -1,8 +1,7 @@
 -- Each cluster in its turn, from the last.
-use Rattle.std.proofs.Common.{◌≡◌, ◌+◌, ◌-◌, ◌≤◌, ◌<◌, ◌++◌, ◌∙◌, refl, ap, sym, length, get_or, take, drop, sum, replicate, slice_range, rules, arith}
+use Rattle.std.proofs.Common.{◌≡◌, ◌∙◌, refl, ap, sym, length, sum, replicate, rules, arith}
 use Rattle.std.proofs.lemmas.List.{take_all, drop_all, append-nil}
-use Rattle.reorder.specs.LineLevels.{begins_reset, resets_before}
-use Rattle.reorder.proofs.L1.{levels_from, resets-part, starts, from-on, made-kept, made-set}
+use Rattle.reorder.proofs.L1.{made-on-kept, made-on-set}
 use Rattle.reorder.proofs.line.line_levels_at.Goals as goal
 
 pub loop-cluster-init : goal.loop-cluster-init
@@ -20,61 +19,19 @@ loop-cluster-init c =
 pub loop-cluster-preserved-then-not-resets : goal.loop-cluster-preserved-then-not-resets
 loop-cluster-preserved-then-not-resets c =
     let h = c.loop-cluster.invariant in
-    let sizes = c.args.sizes.now in
-    let cs = c.args.classes.now in
-    let levels = c.args.levels.now in
-    let para = c.args.para_level in
-    let k = c.loop-cluster.cluster - 1 in
-    let end = c.loop-cluster.start in
-    let size = get_or sizes k 0 in
-    let pos : 0 < c.loop-cluster.cluster = c.loop-cluster-test.true in
-    let top : c.loop-cluster.cluster ≤ length c.args.sizes.now = c.loop-cluster.auto.cluster in
-    let up : c.loop-cluster.cluster ≡ c.loop-cluster.cluster - 1 + 1 = omega arith in
-    let lt : c.loop-cluster.cluster - 1 < length c.args.sizes.now = omega arith in
-    let at = starts sizes k end (length cs) c.requires.positive lt c.requires.whole (h.start ∙ ap (λ n. sum (take n sizes)) up) in
-    let start = end - size in
-    let ends : start + size ≡ end = omega arith in
-    let within : start < length cs = omega arith in
-    let resets : c.begins_reset-resets.result ≡ begins_reset (drop start cs) =
-    c.begins_reset-resets.ensures ∙ ap (λ b. resets_before b (slice_range cs start end)) h.resets ∙ resets-part cs start end (omega arith) in
-    let on = from-on para cs levels sizes c.requires.each_code_point k start end lt within ends in
-    record {
-      start = omega arith;
-      len = h.len;
-      resets = resets;
-      made =
-          made-set para k c.loop-cluster.of_clusters.items (levels_from para cs levels sizes (k + 1) end) (levels_from para cs levels sizes k start)
-          (h.made ∙ ap (λ n. replicate n para ++ levels_from para cs levels sizes n end) up)
-          (begins_reset (drop start cs)) (get_or levels start 0) (sym resets ∙ c.if-not-resets.true) on;
-    }
+    let next =
+    made-on-set c.args.para_level c.args.classes.now c.args.levels.now c.args.sizes.now c.requires.each_code_point c.requires.positive c.requires.whole
+    c.loop-cluster.cluster c.loop-cluster.start c.loop-cluster.resets c.loop-cluster.of_clusters.items c.loop-cluster-test.true c.loop-cluster.auto.cluster
+    (record { start = h.start; resets = h.resets; levels_made = h.made })
+    c.begins_reset-resets.result c.begins_reset-resets.ensures c.if-not-resets.true in
+    record { start = next.start; len = h.len; resets = next.resets; made = next.levels_made }
 
 pub loop-cluster-preserved : goal.loop-cluster-preserved
 loop-cluster-preserved c =
     let h = c.loop-cluster.invariant in
-    let sizes = c.args.sizes.now in
-    let cs = c.args.classes.now in
-    let levels = c.args.levels.now in
-    let para = c.args.para_level in
-    let k = c.loop-cluster.cluster - 1 in
-    let end = c.loop-cluster.start in
-    let size = get_or sizes k 0 in
-    let pos : 0 < c.loop-cluster.cluster = c.loop-cluster-test.true in
-    let top : c.loop-cluster.cluster ≤ length c.args.sizes.now = c.loop-cluster.auto.cluster in
-    let up : c.loop-cluster.cluster ≡ c.loop-cluster.cluster - 1 + 1 = omega arith in
-    let lt : c.loop-cluster.cluster - 1 < length c.args.sizes.now = omega arith in
-    let at = starts sizes k end (length cs) c.requires.positive lt c.requires.whole (h.start ∙ ap (λ n. sum (take n sizes)) up) in
-    let start = end - size in
-    let ends : start + size ≡ end = omega arith in
-    let within : start < length cs = omega arith in
-    let resets : c.begins_reset-resets.result ≡ begins_reset (drop start cs) =
-    c.begins_reset-resets.ensures ∙ ap (λ b. resets_before b (slice_range cs start end)) h.resets ∙ resets-part cs start end (omega arith) in
-    let on = from-on para cs levels sizes c.requires.each_code_point k start end lt within ends in
-    record {
-      start = omega arith;
-      len = h.len;
-      resets = resets;
-      made =
-          made-kept para k c.loop-cluster.of_clusters.items (levels_from para cs levels sizes (k + 1) end) (levels_from para cs levels sizes k start)
-          (h.made ∙ ap (λ n. replicate n para ++ levels_from para cs levels sizes n end) up)
-          (begins_reset (drop start cs)) (get_or levels start 0) (sym resets ∙ c.if-not-resets.false) on;
-    }
+    let next =
+    made-on-kept c.args.para_level c.args.classes.now c.args.levels.now c.args.sizes.now c.requires.each_code_point c.requires.positive c.requires.whole
+    c.loop-cluster.cluster c.loop-cluster.start c.loop-cluster.resets c.loop-cluster.of_clusters.items c.loop-cluster-test.true c.loop-cluster.auto.cluster
+    (record { start = h.start; resets = h.resets; levels_made = h.made })
+    c.begins_reset-resets.result c.begins_reset-resets.ensures c.if-not-resets.false in
+    record { start = next.start; len = h.len; resets = next.resets; made = next.levels_made }
