@@ -126,26 +126,6 @@ fn resolve_levels(
     Ok(())
 }
 
-/// The resolved levels of any paragraph of this level.
-fn levels_by_sequences(
-    alloc: Global,
-    tables: &Tables,
-    level: u8,
-    points: &[char],
-    classes: &[Bidi],
-) -> Result<Vec<u8>, Memory>
-    requires level { level ≤ 1 }
-    requires classes { classes.now ≡ map (bidi_of tables.now) points.now }
-    ensures levels { IfOk result (λ levels. levels.items ≡ resolved_levels tables.now points.now (embedding_at level classes.now)) }
-    ensures one_each { IfOk result (λ levels. length levels.items ≡ length points.now) }
-    ensures bound { IfOk result (λ levels. All (λ level. level ≤ 126) levels.items) }
-{
-    let embedded = explicit_at(alloc, level, classes)?;
-    let mut levels = vec![in alloc; embedded.level(); points.len()]?;
-    resolve_levels(alloc, tables, points, &embedded, &mut levels)?;
-    Ok(levels)
-}
-
 /// Whether all classes are plain.
 fn are_plain(classes: &[Bidi]) -> bool
     ensures { result ≡ list_all is_plain classes.now }
@@ -170,7 +150,10 @@ pub fn levels_at(
     if level == 0 && are_plain(classes) {
         return Ok(vec![in alloc; 0; points.len()]?);
     }
-    levels_by_sequences(alloc, tables, level, points, classes)
+    let embedded = explicit_at(alloc, level, classes)?;
+    let mut levels = vec![in alloc; embedded.level(); points.len()]?;
+    resolve_levels(alloc, tables, points, &embedded, &mut levels)?;
+    Ok(levels)
 }
 
 /// The resolved levels of any paragraph.
@@ -182,7 +165,7 @@ fn levels_of_any(alloc: Global, tables: &Tables, para: &Para, base: Base) -> Res
     let points = code_points_of(alloc, para.text())?;
     let classes = tables.bidi_of_each(alloc, &points)?;
     let level = paragraph_level(tables, para, base);
-    levels_by_sequences(alloc, tables, level, &points, &classes)
+    levels_at(alloc, tables, level, &points, &classes)
 }
 
 /// The number of code points of a text that goes left to right by itself, else `None`.

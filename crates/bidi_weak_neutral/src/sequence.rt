@@ -11,14 +11,25 @@ use bracket_pairs::resolve;
 use std::alloc::Global;
 use unicode_tables::Tables;
 
-/// The type of what is kept at a place, after overrides.
+/// The type of what is kept, after overrides.
+#[inline]
+fn class_of(kept: Option<Kept>) -> Bidi
+    ensures { result ≡ type_of kept }
+{
+    match kept {
+        Some(kept) => kept.class,
+        None => Bidi::On,
+    }
+}
+
+/// The type of what is kept at a place.
 #[inline]
 fn type_of(places: &[Option<Kept>], place: usize) -> Bidi
     ensures { result ≡ type_of (kept_at places.now place) }
 {
     match places.get(place) {
-        Some(Some(kept)) => kept.class,
-        _ => Bidi::On,
+        Some(kept) => class_of(*kept),
+        None => Bidi::On,
     }
 }
 

@@ -7,8 +7,8 @@ use Rattle.bidi_explicit.specs.Embedding.{embedding_at, classes_of}
 use Rattle.bidi_weak_neutral.specs.Levels.{resolved_levels}
 use Rattle.bidi_weak_neutral.proofs.paragraph.levels_of_any.Goals as goal
 
-pub levels_by_sequences-requires-clause-classes : goal.levels_by_sequences-requires-clause-classes
-levels_by_sequences-requires-clause-classes c =
+pub levels_at-requires-clause-classes : goal.levels_at-requires-clause-classes
+levels_at-requires-clause-classes c =
     let points = c.deref.ensures.value in
     let lent = c.deref-2.ensures.value in
     c.deref-3.ensures.value ∙ c.in_ok-classes.ensures ∙ ap (map (bidi_of c.args.tables.now)) (points ∙ sym lent)
