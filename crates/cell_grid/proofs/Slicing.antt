@@ -2,7 +2,7 @@
 use Rattle.std.proofs.Common.{◌≡◌, ℕ, ◌+◌, ◌<◌, ◌≤◌, List, [], ◌∷◌, ◌++◌, map, length, take, drop, refl, sym, ap, subst, ◌∙◌, arith, append_assoc, length-append, length-take-le, take-append-drop}
 use Rattle.std.proofs.lemmas.List.{length-map, get_or-map}
 use Rattle.std.proofs.lemmas.List.Folds.{drop_split}
-use Rattle.std.proofs.lemmas.List.Elements.{All-nil, All-cons, All-head, All-tail, All-append}
+use Rattle.std.proofs.lemmas.List.Elements.{All-nil, All-cons, All-head, All-tail, All-append, All-weaker}
 use Rattle.std.proofs.lemmas.Str.{length-le-encodes, encodes-chars, IsUtf8-append, IsUtf8-drop, IsUtf8-take, IsUtf8-between, IsCharBoundary-at_seam}
 use Rattle.std.specs.List.{All, concat}
 use Rattle.std.specs.Str.{IsUtf8, IsCharBoundary}
@@ -12,6 +12,7 @@ use Rattle.paragraphs.specs.Paragraphs.{Paragraph, StandsIn}
 use Rattle.paragraphs.specs.declared.span.Span.{Span}
 use Rattle.cell_grid.specs.LawsBelow.{LawsBelow}
 use Rattle.cell_grid.specs.Spans.{span_at, spans_from, spans, shifted_span}
+use Rattle.cell_grid.specs.Grids.{IsDrawable}
 use Rattle.cell_grid.specs.Printable.{IsSlice}
 use Rattle.cell_grid.proofs.Standing.{bytes, points, bytes-append, points-append, same_spans, start-boundary, end-boundary, points-all}
 
@@ -105,11 +106,7 @@ module _ (text : List ℕ) (u : IsUtf8 text) (p : Paragraph) (h : StandsIn text 
       let order = is.slice.order in
       record { order = omega arith; start = boundary-in s.first_byte is.slice.start; end = boundary-in s.end_byte is.slice.end }
 
-  -- it ends within the text
-  pub paragraph-fits : p.first_byte + length p.text ≤ length text
-  paragraph-fits = h.end.0
-
-  pub paragraph-places : p.first_place + length (code_points p.text) ≤ length text
+  paragraph-places : p.first_place + length (code_points p.text) ≤ length text
   paragraph-places =
       let before = points-fit (take p.first_byte text) (IsUtf8-take text p.first_byte u h.start) in
       let n = length-take-le p.first_byte text h.start.0 in
@@ -117,3 +114,11 @@ module _ (text : List ℕ) (u : IsUtf8 text) (p : Paragraph) (h : StandsIn text 
       let place = h.place in
       let fits = h.end.0 in
       omega arith
+
+  -- it may be drawn where the text may
+  paragraph-drawable : length text ≤ 4_000_000 → IsDrawable p
+  paragraph-drawable size = let places = paragraph-places in let fits = h.end.0 in record { utf8 = paragraph-utf8; bytes = omega arith; places = omega arith }
+
+-- each paragraph of a text that may be drawn may be drawn
+pub all-drawable : (text : List ℕ) → IsUtf8 text → length text ≤ 4_000_000 → (ps : List Paragraph) → All (StandsIn text) ps → All IsDrawable ps
+all-drawable text u size ps stand = All-weaker (StandsIn text) IsDrawable (λ p h. paragraph-drawable text u p h size) ps stand

@@ -24,11 +24,6 @@ take-whole [] (suc i) le = refl
 take-whole (x ∷ xs) zero le = absurd (omega arith)
 take-whole (x ∷ xs) (suc i) le = ap (λ l. x ∷ l) (take-whole xs i (omega arith))
 
--- what is left in a vector of n elements whose slice was written whole
-pub written : {X : Type 0} (n : ℕ) (new old : List X) → length new ≡ n → length old ≡ n → take n (new ++ drop (length new) old) ≡ new
-written n new old a b =
-    ap (λ t. take n (new ++ t)) (drop-none old (length new) (omega arith)) ∙ ap (take n) (append-nil new) ∙ take-whole new n (omega arith)
-
 -- what one more element adds to a list of lists, and what follows it
 module _ {X Y : Type 0} (f : X → List Y) (xs : List X) (i : ℕ) (x d : X) (lt : i < length xs) (is : x ≡ get_or xs i d) where
   pub flat_map-take_next : flat_map f (take (i + 1) xs) ≡ flat_map f (take i xs) ++ f x

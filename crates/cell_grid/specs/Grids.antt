@@ -1,11 +1,18 @@
 -- Grid: the rows of a text.
-use Rattle.std.specs.Prelude.{◌≡◌, ℕ, ◌≤◌, List, map, length}
+use Rattle.std.specs.Prelude.{◌≡◌, ℕ, ◌+◌, ◌≤◌, List, map, length}
 use Rattle.std.specs.List.{flat_map}
 use Rattle.std.specs.Str.{IsUtf8}
 use Rattle.bg_types.specs.declared.class.Base.{Base}
 use Rattle.unicode_tables.specs.Tables.{TableValues}
+use Rattle.paragraphs.specs.Text.{code_points}
 use Rattle.paragraphs.specs.Paragraphs.{Paragraph, paragraphs}
 use Rattle.cell_grid.specs.Rows.{DrawnRow, rows_of, shifted}
+
+-- a paragraph of a text of at most 4,000,000 bytes
+pub record IsDrawable (p : Paragraph) : Type 0 where
+  pub utf8 : IsUtf8 p.text
+  pub bytes : p.first_byte + length p.text ≤ 4_000_000
+  pub places : p.first_place + length (code_points p.text) ≤ 4_000_000
 
 -- a grid: the tables and the text that it was drawn from, and its rows
 pub record DrawnGrid : Type 0 where

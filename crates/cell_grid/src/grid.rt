@@ -1,9 +1,7 @@
 //! The grid of a text.
 
-ghost use Rattle.std.specs.Prelude.{◌≡◌, ◌+◌, ◌++◌, ◌≤◌, length, IfOk, OnOk};
-ghost use Rattle.std.specs.Str.{IsUtf8};
-ghost use Rattle.paragraphs.specs.Text.{code_points};
-ghost use Rattle.cell_grid.specs.Grids.{paragraph_rows, grid_of, IsDrawn};
+ghost use Rattle.std.specs.Prelude.{◌≡◌, ◌++◌, ◌≤◌, length, IfOk, OnOk};
+ghost use Rattle.cell_grid.specs.Grids.{IsDrawable, paragraph_rows, grid_of, IsDrawn};
 
 use crate::laws_below::laws_below;
 use crate::paragraph::rows;
@@ -106,9 +104,7 @@ fn push_rows(
 ) -> Result<(), Memory>
     requires at_least { 2 ≤ width }
     requires at_most { width ≤ 500 }
-    requires text { IsUtf8 para.now.text }
-    requires bytes { para.now.first_byte + length para.now.text ≤ 4_000_000 }
-    requires places { para.now.first_place + length (code_points para.now.text) ≤ 4_000_000 }
+    requires para { IsDrawable para.now }
     ensures { OnOk result (drawn.new.items ≡ drawn.old.items ++ paragraph_rows tables.now width base para.now) }
 {
     laws_below();

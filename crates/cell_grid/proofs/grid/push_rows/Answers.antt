@@ -16,7 +16,7 @@ shift-requires c =
     let list = YieldsList-from_vec {s = c.into_iter-row-iterator.result} c.in_ok-made.made.items into.0 (into.1 ∙ c.in_ok-made.made.ok.0) in
     let turn = YieldsList-turn list c.loop-row.yielded c.loop-row.row-iterator c.loop-row.yielded_by c.next.result c.next.new.self c.in-Some.row c.in-Some.is c.next.ensures.steps in
     let p = c.args.para.now in
-    let may = c.in_ok-made.ensures.may_shift p.first_byte p.first_place c.requires.bytes c.requires.places in
+    let may = c.in_ok-made.ensures.may_shift p.first_byte p.first_place c.requires.para.bytes c.requires.para.places in
     let here = subst (MayShiftRow p.first_byte p.first_place) (sym turn.1) (may (length c.loop-row.yielded) c.in-Some.row turn.0) in
     subst (λ n. MayShiftRow n c.first_place.result c.in-Some.row) (sym c.first_byte.ensures) (subst (λ n. MayShiftRow p.first_byte n c.in-Some.row) (sym c.first_place.ensures) here)
 
