@@ -1,7 +1,7 @@
 -- What is kept stays right.
-use Rattle.std.proofs.Common.{◌≡◌, ◌≤◌, ◌∷◌, ℕ, true, List, Some, Vec, All, Contains, length, take, inl, inr, refl, sym, ap, subst, ◌∙◌, rules, arith}
+use Rattle.std.proofs.Common.{◌≡◌, ◌≤◌, ◌-◌, ◌^◌, [], ◌∷◌, ℕ, true, List, Some, Vec, All, Contains, length, take, inl, inr, refl, sym, ap, subst, ◌∙◌, rules, arith}
 use Rattle.std.proofs.lemmas.List.{length-map, length-take}
-use Rattle.std.proofs.lemmas.List.Elements.{All-contains, All-contains_itself}
+use Rattle.std.proofs.lemmas.List.Elements.{All-nil, All-contains, All-contains_itself}
 use Rattle.std.specs.Prelude.{is_some}
 use Rattle.std.specs.Global.{Global}
 use Rattle.std.specs.Map.{lookup}
@@ -9,10 +9,11 @@ use Rattle.lru.specs.LruCache.{LruCache, lru_cache, promoted, put_entries}
 use Rattle.lru.proofs.CallerLemmas.{Contains-lookup, Contains-promoted, Contains-put_entries}
 use Rattle.unicode_tables.specs.Tables.{TableValues}
 use Rattle.cell_grid.specs.Rows.{DrawnRow, rows_of}
+use Rattle.cell_grid.proofs.Interface.{take-whole}
 use Rattle.view_cache.specs.declared.key.Key.{Key}
 use Rattle.view_cache.specs.Keys.{ParagraphKey, said}
 use Rattle.view_cache.specs.Uses.{is_kept, without, used}
-use Rattle.view_cache.specs.Drawings.{KeptView}
+use Rattle.view_cache.specs.Drawings.{KeptView, empty_view}
 use Rattle.view_cache.specs.Kept.{IsLaid, IsKept}
 use Rattle.view_cache.specs.contracts.key.KeyPartialEq.TheImpl as key_eq
 use Rattle.view_cache.proofs.Keys.{eq-said, keys, is_kept-lookup, keys-put, keys-promoted}
@@ -87,6 +88,19 @@ module _ (tables : TableValues) where
 -- a view with this cache
 abbrev pub view_of : TableValues → Cache → (laid : ℕ) → KeptView
 view_of tables c laid = record { tables = tables; room = c.cap; keys = keys c.entries; laid = laid }
+
+-- an empty cache with some room is kept right, and its view has drawn nothing
+module _ (tables : TableValues) (c : Cache) (room : ℕ) (is : c ≡ lru_cache [] room) where
+  pub empty-kept : 1 ≤ room → IsKept tables c
+  empty-kept some = subst (IsKept tables) (sym is) (record { laid = All-nil (IsLaid tables); fits = omega arith; some = some })
+
+  pub empty-view : view_of tables c 0 ≡ empty_view tables room
+  empty-view = ap (λ (d : Cache). view_of tables d 0) is
+
+-- an empty cache that is given this room
+pub resized-empty : (c d : Cache) (n room : ℕ) → c ≡ lru_cache [] (2 ^ 64 - 1) → d ≡ lru_cache (take n c.entries) n → n ≡ room → d ≡ lru_cache [] room
+resized-empty c d n room none resized is =
+    resized ∙ ap (λ (e : Cache). lru_cache (take n e.entries) n) none ∙ ap (λ es. lru_cache es n) (take-whole [] n (omega arith)) ∙ ap (λ m. lru_cache [] m) is
 
 -- a view after a use of a key
 abbrev pub view_used : ParagraphKey → KeptView → KeptView

@@ -19,9 +19,13 @@ pub record KeptView : Type 0 where
 abbrev pub empty_view : TableValues → (room : ℕ) → KeptView
 empty_view tables room = record { tables = tables; room = room; keys = []; laid = 0 }
 
--- the keys that a draw of a text uses: those of its paragraphs, in order
+-- the keys of paragraphs, in order
+abbrev pub paragraph_keys : (width : ℕ) → Base → List Paragraph → List ParagraphKey
+paragraph_keys width base ps = map (λ (p : Paragraph). paragraph_key p.text width base) ps
+
+-- the keys that a draw of a text uses: those of its paragraphs
 abbrev pub uses_of : TableValues → (width : ℕ) → Base → List ℕ → List ParagraphKey
-uses_of tables width base text = map (λ (p : Paragraph). paragraph_key p.text width base) (paragraphs tables text)
+uses_of tables width base text = paragraph_keys width base (paragraphs tables text)
 
 -- kept and counted: a draw of a text at a width and a base, the view before and after it and the answer
 pub record IsDrawing (before : KeptView) (width : ℕ) (base : Base) (text : List ℕ) (answer : Result DrawnGrid Memory) (after : KeptView) : Type 0 where

@@ -1,15 +1,14 @@
 //! A view that keeps the rows of paragraphs.
 
-ghost use Rattle.std.specs.Prelude.{◌≡◌, ◌++◌, ◌+◌, ◌≤◌, ◌<◌, true, false, not, length, map, IfOk, OnOk, OnErr};
-ghost use Rattle.std.specs.List.{All};
-ghost use Rattle.std.specs.Str.{IsUtf8};
-ghost use Rattle.paragraphs.specs.Text.{code_points};
+ghost use Rattle.std.specs.Prelude.{◌≡◌, ◌++◌, ◌≤◌, ℕ, true, false, not, [], length, map, take, IfOk, OnOk, OnErr};
+ghost use Rattle.std.specs.List.{All, flat_map};
+ghost use Rattle.lru.specs.LruCache.{lru_cache};
 ghost use Rattle.cell_grid.specs.Rows.{shifted};
-ghost use Rattle.cell_grid.specs.Grids.{paragraph_rows};
+ghost use Rattle.cell_grid.specs.Grids.{IsDrawable, paragraph_rows};
 ghost use Rattle.cell_grid.specs.Shifting.{MayShiftRow};
 ghost use Rattle.view_cache.specs.Keys.{said, paragraph_key};
-ghost use Rattle.view_cache.specs.Uses.{is_kept, used};
-ghost use Rattle.view_cache.specs.Drawings.{empty_view, IsDrawing};
+ghost use Rattle.view_cache.specs.Uses.{is_kept, used, all_used, laid_anew};
+ghost use Rattle.view_cache.specs.Drawings.{empty_view, paragraph_keys, IsDrawing};
 
 use crate::hasher::KeyedText;
 use crate::key::Key;
@@ -86,10 +85,7 @@ impl<'a> View<'a> {
         requires most { room ≤ 1_000_000 }
         ensures { IfOk result (λ view. view ≡ empty_view tables.now room) }
     {
-        let mut kept = LruCache::unbounded_with_hasher(alloc, KeyedText::new(key))?;
-        if let Some(room) = NonZeroUsize::new(room) {
-            kept.resize(room);
-        }
+        let kept = empty_cache(alloc, key, room)?;
         Ok(View {
             alloc,
             tables,
@@ -117,16 +113,39 @@ impl<'a> View<'a> {
         ensures { IsDrawing self.old width base text.now result self.new }
     {
         let paragraphs = split(self.alloc, self.tables, text)?;
+        let mut rows = Vec::new(self.alloc);
+        let laid = self.push_each(width, base, &paragraphs, &mut rows)?;
+        self.laid = laid;
+        Ok(Grid::of(self.tables, text, rows))
+    }
+
+    /// Uses the keys of paragraphs in order, and appends the rows of each. Returns how many were laid out
+    /// anew. After `Memory` a beginning of the keys was used.
+    fn push_each(
+        &mut self,
+        width: u16,
+        base: Base,
+        paragraphs: &[Para],
+        drawn: &mut Vec<Row>,
+    ) -> Result<usize, Memory>
+        requires at_least { 2 ≤ width }
+        requires at_most { width ≤ 500 }
+        requires paragraphs { All IsDrawable paragraphs.now }
+        ensures rows { OnOk result (drawn.new.items ≡ drawn.old.items ++ flat_map (paragraph_rows self.old.tables width base) paragraphs.now) }
+        ensures laid { IfOk result (λ laid. laid ≡ laid_anew self.old.room (paragraph_keys width base paragraphs.now) self.old.keys) }
+        ensures view { OnOk result (self.new ≡ record self.old { keys = all_used self.old.room (paragraph_keys width base paragraphs.now) self.old.keys }) }
+        ensures begun { OnErr result ((n : ℕ)
+            × (self.new ≡ record self.old { keys = all_used self.old.room (take n (paragraph_keys width base paragraphs.now)) self.old.keys })) }
+    {
         // Each paragraph has at least one row.
-        let mut rows = Vec::with_capacity(self.alloc, paragraphs.len())?;
+        drawn.reserve(paragraphs.len())?;
         let mut laid = 0;
-        for para in &paragraphs {
-            if self.push_rows(width, base, para, &mut rows)? {
+        for para in paragraphs {
+            if self.push_rows(width, base, para, drawn)? {
                 laid += 1;
             }
         }
-        self.laid = laid;
-        Ok(Grid::of(self.tables, text, rows))
+        Ok(laid)
     }
 
     /// Uses the key of a paragraph, and appends its rows, moved to where they stand in the text. Returns
@@ -140,9 +159,7 @@ impl<'a> View<'a> {
     ) -> Result<bool, Memory>
         requires at_least { 2 ≤ width }
         requires at_most { width ≤ 500 }
-        requires text { IsUtf8 para.now.text }
-        requires bytes { para.now.first_byte + length para.now.text ≤ 4_000_000 }
-        requires places { para.now.first_place + length (code_points para.now.text) ≤ 4_000_000 }
+        requires para { IsDrawable para.now }
         ensures rows { OnOk result (drawn.new.items ≡ drawn.old.items ++ paragraph_rows self.old.tables width base para.now) }
         ensures laid { IfOk result (λ laid. laid ≡ not (is_kept (paragraph_key para.now.text width base) self.old.keys)) }
         ensures view { OnOk result (self.new ≡ record self.old { keys = used self.old.room (paragraph_key para.now.text width base) self.old.keys }) }
@@ -161,9 +178,7 @@ impl<'a> View<'a> {
     fn push_kept(&mut self, key: &Key, para: &Para, drawn: &mut Vec<Row>) -> Result<bool, Memory>
         requires key { (said key.now).text ≡ para.now.text }
         requires at_least { 2 ≤ (said key.now).width }
-        requires text { IsUtf8 para.now.text }
-        requires bytes { para.now.first_byte + length para.now.text ≤ 4_000_000 }
-        requires places { para.now.first_place + length (code_points para.now.text) ≤ 4_000_000 }
+        requires para { IsDrawable para.now }
         ensures kept { IfOk result (λ kept. kept ≡ is_kept (said key.now) self.old.keys) }
         ensures found_rows { IfOk result (λ kept. kept ≡ true
             → drawn.new.items ≡ drawn.old.items ++ paragraph_rows self.old.tables (said key.now).width (said key.now).base para.now) }
@@ -193,9 +208,7 @@ impl<'a> View<'a> {
         requires key { said key ≡ paragraph_key para.now.text width base }
         requires at_least { 2 ≤ width }
         requires at_most { width ≤ 500 }
-        requires text { IsUtf8 para.now.text }
-        requires bytes { para.now.first_byte + length para.now.text ≤ 4_000_000 }
-        requires places { para.now.first_place + length (code_points para.now.text) ≤ 4_000_000 }
+        requires para { IsDrawable para.now }
         ensures rows { OnOk result (drawn.new.items ≡ drawn.old.items ++ paragraph_rows self.old.tables width base para.now) }
         ensures view { OnOk result (self.new ≡ record self.old { keys = used self.old.room (paragraph_key para.now.text width base) self.old.keys }) }
         ensures err { OnErr result (self.new ≡ self.old) }
@@ -205,6 +218,22 @@ impl<'a> View<'a> {
         self.kept.put(key, rows)?;
         Ok(())
     }
+}
+
+/// An empty cache with room for this many paragraphs, its table hashed with this key.
+fn empty_cache(
+    alloc: Global,
+    key: u128,
+    room: usize,
+) -> Result<LruCache<Key, Vec<Row>, KeyedText>, Memory>
+    requires { 1 ≤ room }
+    ensures { IfOk result (λ cache. cache ≡ lru_cache [] room) }
+{
+    let mut cache = LruCache::unbounded_with_hasher(alloc, KeyedText::new(key))?;
+    if let Some(room) = NonZeroUsize::new(room) {
+        cache.resize(room);
+    }
+    Ok(cache)
 }
 
 /// Appends copies of a paragraph's rows, moved to where the paragraph stands in its text.

@@ -17,7 +17,7 @@ push_shifted-requires-clause-may c =
     let tables = c.self.inside.tables.now in
     let rows = c.deref.ensures.value ∙ found-laid tables c.self.inside.kept c.args.key.now c.in-Some.rows.now c.self.invariant (sym c.in-Some.ensures) ∙ ap (rows_of tables key.width key.base) c.requires.key in
     subst (All (MayShiftRow p.first_byte p.first_place)) (sym rows)
-    (c.rows_may_shift.ensures tables key.width key.base p.text c.requires.at_least c.requires.text p.first_byte p.first_place c.requires.bytes c.requires.places)
+    (c.rows_may_shift.ensures tables key.width key.base p.text c.requires.at_least c.requires.para.utf8 p.first_byte p.first_place c.requires.para.bytes c.requires.para.places)
 
 pub invariant_of-self : goal.invariant_of-self
 invariant_of-self c =

@@ -12,7 +12,7 @@ pub push_shifted-requires-clause-may : goal.push_shifted-requires-clause-may
 push_shifted-requires-clause-may c =
     let p = c.args.para.now in
     subst (All (MayShiftRow p.first_byte p.first_place)) (sym c.deref.ensures.value)
-    (c.in_ok-rows.ensures.may_shift p.first_byte p.first_place c.requires.bytes c.requires.places)
+    (c.in_ok-rows.ensures.may_shift p.first_byte p.first_place c.requires.para.bytes c.requires.para.places)
 
 pub invariant_of-self-2 : goal.invariant_of-self-2
 invariant_of-self-2 c =

@@ -1,0 +1,70 @@
+-- Each paragraph's key is used in turn.
+use Rattle.std.proofs.Common.{◌++◌, append-nil, refl, sym, ap, subst, ◌∙◌, arith}
+use Rattle.cell_grid.specs.Grids.{IsDrawable}
+use Rattle.cell_grid.proofs.Interface.{take-whole, on_err}
+use Rattle.view_cache.proofs.Drawing.{so_far, laid_so_far, rows_so_far, so_far-begun, next-view, next-rows, counted-then, counted-else, most-then, most-else}
+use Rattle.view_cache.proofs.view.View.push_each.Goals as goal
+use Rattle.view_cache.proofs.view.View.push_each.Goals.{then-branch, else-branch}
+
+pub returns-in_err-reserve-clause-begun : goal.returns-in_err-reserve-clause-begun
+returns-in_err-reserve-clause-begun c = on_err c.from_residual.result (0, refl)
+
+pub loop-para-init : goal.loop-para-init
+loop-para-init c = record { rows = c.in_ok-reserve.ensures.items ∙ sym (append-nil c.args.drawn.now.items); view = refl; laid = refl; most = omega arith }
+
+pub push_rows-requires-clause-at_least : goal.push_rows-requires-clause-at_least
+push_rows-requires-clause-at_least c = c.requires.at_least
+
+pub push_rows-requires-clause-at_most : goal.push_rows-requires-clause-at_most
+push_rows-requires-clause-at_most c = c.requires.at_most
+
+pub push_rows-requires-clause-para : goal.push_rows-requires-clause-para
+push_rows-requires-clause-para c = subst IsDrawable (sym c.para-item.is) (c.requires.paragraphs c.loop-para.para-index c.para-item.result c.loop-para-test.true)
+
+pub returns-in_err-push_rows-clause-begun : goal.returns-in_err-push_rows-clause-begun
+returns-in_err-push_rows-clause-begun c =
+    on_err c.from_residual-in_err-push_rows.result
+    (c.loop-para.para-index, c.in_err-push_rows.ensures.err ∙ c.loop-para.invariant.view ∙ so_far-begun c.args.width c.args.base c.args.self.now c.loop-para.para-index c.args.paragraphs.now)
+
+pub loop-para-preserved : goal.loop-para-preserved
+loop-para-preserved c =
+    let before = c.args.self.now in
+    let items = c.args.paragraphs.now in
+    let i = c.loop-para.para-index in
+    let p = c.para-item.result in
+    let h = c.loop-para.invariant in
+    let rows = next-rows c.args.width c.args.base before items i p p c.loop-para-test.true c.para-item.is c.loop-para.self h.view _ _ _ h.rows c.in_ok-push_rows.ensures.rows in
+    let view = next-view c.args.width c.args.base before items i p p c.loop-para-test.true c.para-item.is c.loop-para.self h.view _ c.in_ok-push_rows.ensures.view in
+    elim c.if-branch.branch [
+      | then-branch w ↦ record {
+        rows = rows;
+        view = view;
+        laid =
+            counted-then c.args.width c.args.base before items i p p c.loop-para-test.true c.para-item.is c.loop-para.self h.view c.loop-para.laid c.if-branch.laid h.laid c.in_ok-push_rows.field-0
+            c.in_ok-push_rows.ensures.laid w.if-branch.true w.laid-is;
+        most = most-then c.loop-para.laid c.if-branch.laid i h.most w.laid-is;
+      }
+      | else-branch w ↦ record {
+        rows = rows;
+        view = view;
+        laid =
+            counted-else c.args.width c.args.base before items i p p c.loop-para-test.true c.para-item.is c.loop-para.self h.view c.loop-para.laid c.if-branch.laid h.laid c.in_ok-push_rows.field-0
+            c.in_ok-push_rows.ensures.laid w.if-branch.false w.laid-is;
+        most = most-else c.loop-para.laid c.if-branch.laid i h.most w.laid-is;
+      }
+    ]
+
+pub returns-clause-rows : goal.returns-clause-rows
+returns-clause-rows c =
+    c.loop-para.invariant.rows
+    ∙ ap (λ l. c.args.drawn.now.items ++ rows_so_far c.args.width c.args.base c.args.self.now l) (take-whole c.args.paragraphs.now c.loop-para.para-index c.loop-para-test.false)
+
+pub returns-clause-laid : goal.returns-clause-laid
+returns-clause-laid c =
+    c.loop-para.invariant.laid
+    ∙ ap (laid_so_far c.args.width c.args.base c.args.self.now) (take-whole c.args.paragraphs.now c.loop-para.para-index c.loop-para-test.false)
+
+pub returns-clause-view : goal.returns-clause-view
+returns-clause-view c =
+    c.loop-para.invariant.view
+    ∙ ap (so_far c.args.width c.args.base c.args.self.now) (take-whole c.args.paragraphs.now c.loop-para.para-index c.loop-para-test.false)
