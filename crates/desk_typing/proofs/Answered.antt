@@ -3,7 +3,6 @@ use Rattle.std.proofs.Common.{◌≡◌, inr, Bool, ℕ, List, Option, Result, O
 use Rattle.std.specs.Prelude.{OnOk, IfOk, IfErr}
 use Rattle.std.specs.Str.{chars, IsUtf8}
 use Rattle.bg_types.specs.OperationSet.{OperationSet}
-use Rattle.bg_types.specs.declared.op.OpView.{OpView}
 use Rattle.op_codec.specs.declared.position.Version.{Version}
 use Rattle.op_codec.specs.Spelling.{SpellsIn}
 use Rattle.desk_files.specs.declared.run_fault.RunFault.TheVariants.{Memory}
