@@ -1,12 +1,12 @@
 //! The five data files of a folder.
 
 ghost use Rattle.std.specs.Prelude.{◌≤◌, IfOk, vec_len};
-ghost use Rattle.cli_support.specs.Data.{IsUcdOf, IsWithin};
+ghost use Rattle.cli_support.specs.Data.{IsUcdOf, IsWithin, IsReadFrom, path_in};
+ghost use Rattle.cli_support.specs.Given.{AreGiven};
 
+use crate::opener::Opener;
 use crate::reading::{LIMIT, read};
 use crate::unread::Unread;
-use std::alloc::Global;
-use std::rt::Files;
 use ucd_files::Ucd;
 
 /// The five data files in their folder, in the order in which they are read.
@@ -46,8 +46,9 @@ impl Data {
 
 /// The bytes of the data files of a folder, or the first that can't be opened or read, or is too
 /// long.
-pub fn read_data<R: Files + AllocGlobal>(rt: &R, folder: &str) -> Result<Data, Unread>
-    ensures { IfOk result (IsWithin LIMIT) }
+pub fn read_data<O: Opener + AllocGlobal>(rt: &O, folder: &str) -> Result<Data, Unread>
+    ensures each { IfOk result (IsReadFrom (O.gives rt.now) folder.now) }
+    ensures within { IfOk result (IsWithin LIMIT) }
 {
     let [bidi, brackets, mirror, lb, ea] = DATA_FILES;
     Ok(Data {
@@ -59,8 +60,9 @@ pub fn read_data<R: Files + AllocGlobal>(rt: &R, folder: &str) -> Result<Data, U
     })
 }
 
-fn read_in<R: Files + AllocGlobal>(rt: &R, folder: &str, name: &str) -> Result<Vec<u8>, Unread>
-    ensures { IfOk result (λ bytes. vec_len bytes ≤ LIMIT) }
+fn read_in<O: Opener + AllocGlobal>(rt: &O, folder: &str, name: &str) -> Result<Vec<u8>, Unread>
+    ensures given { IfOk result (λ bytes. AreGiven (O.gives rt.now (path_in folder.now name.now)) bytes.items) }
+    ensures within { IfOk result (λ bytes. vec_len bytes ≤ LIMIT) }
 {
     let path = format!(in rt.alloc(); "{folder}/{name}")?;
     read(rt, path.as_str())

@@ -4,11 +4,13 @@
 mod command_line;
 mod data;
 mod ending;
+mod opener;
 mod reading;
 mod unread;
 
 pub use command_line::{Stop, words};
 pub use data::{DATA_FILES, Data, read_data};
 pub use ending::{end, flush, tell};
+pub use opener::Opener;
 pub use reading::{LIMIT, open, read, read_whole};
 pub use unread::{CannotRead, Unread};

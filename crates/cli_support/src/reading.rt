@@ -1,7 +1,9 @@
 //! Files: read whole, or opened to be read piece by piece.
 
 ghost use Rattle.std.specs.Prelude.{◌≡◌, ◌<◌, ◌≤◌, ◌-◌, ◌^◌, IfOk, IfSome, IfNone, length, vec_len};
+ghost use Rattle.cli_support.specs.Given.{AreGiven};
 
+use crate::opener::Opener;
 use crate::unread::Unread;
 use std::alloc::Global;
 use std::fs::File;
@@ -27,20 +29,16 @@ pub fn read_whole<F: Read + Drop>(alloc: Global, file: F, limit: u64) -> io::Res
 }
 
 /// The bytes of a file that can be opened and read, and is not longer than the limit.
-pub fn read<R: Files + AllocGlobal>(rt: &R, path: &str) -> Result<Vec<u8>, Unread>
-    ensures { IfOk result (λ bytes. vec_len bytes ≤ LIMIT) }
+pub fn read<O: Opener + AllocGlobal>(rt: &O, path: &str) -> Result<Vec<u8>, Unread>
+    ensures given { IfOk result (λ bytes. AreGiven (O.gives rt.now path.now) bytes.items) }
+    ensures within { IfOk result (λ bytes. vec_len bytes ≤ LIMIT) }
 {
-    match open_and_read(rt, path) {
+    let file = rt.open(path)?;
+    match read_whole(rt.alloc(), file, LIMIT) {
         Ok(Some(bytes)) => Ok(bytes),
         Err(error) if error.kind() == ErrorKind::OutOfMemory => Err(Unread::Memory),
         _ => Err(Unread::ReadFailed(String::from_str(rt.alloc(), path)?)),
     }
-}
-
-fn open_and_read<R: Files + AllocGlobal>(rt: &R, path: &str) -> io::Result<Option<Vec<u8>>>
-    ensures { IfOk result (λ read. IfSome read (λ bytes. vec_len bytes ≤ LIMIT)) }
-{
-    read_whole(rt.alloc(), File::open(rt, path)?, LIMIT)
 }
 
 /// A file that can be opened, to be read from its front.
