@@ -1,21 +1,22 @@
 //! The operation files of a run, opened to be read piece by piece.
 
 ghost use Rattle.std.specs.Prelude.{◌≡◌, ◌+◌, ◌<◌, ℕ, Some, IfOk, length, map, slice_get, vec_len};
+ghost use Rattle.std.specs.List.{AllZip};
 ghost use Rattle.desk_files.specs.Readers.{AreWorking};
 
-use cli_support::{Unread, open};
+use cli_support::{Opener, Unread};
 use desk_files::RunFault;
 use op_codec::{In, Source};
-use std::rt::Files;
 
 /// The files in order, each open, or the first that can't be opened.
-pub fn open_all<R: Files + AllocGlobal>(rt: &R, paths: &[&str]) -> Result<Vec<In<R::File>>, Unread>
+pub fn open_all<O: Opener + AllocGlobal>(rt: &O, paths: &[&str]) -> Result<Vec<In<O::File>>, Unread>
     ensures each { IfOk result (λ files. vec_len files ≡ length paths.now) }
-    ensures working { IfOk result (λ files. AreWorking (map ⟦<In<R::File> as Source>⟧.has_failed files.items)) }
+    ensures opened { IfOk result (λ files. AllZip (λ path file. O.gives rt.now path.now (⟦<In<O::File> as Source>⟧.remaining file)) paths.now files.items) }
+    ensures working { IfOk result (λ files. AreWorking (map ⟦<In<O::File> as Source>⟧.has_failed files.items)) }
 {
     let mut files = Vec::new(rt.alloc());
     for path in paths {
-        files.push(In::new(open(rt, path)?))?;
+        files.push(In::new(rt.open(path)?))?;
     }
     Ok(files)
 }
