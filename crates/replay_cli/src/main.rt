@@ -25,132 +25,134 @@ use std::io::{self, BufWriter, ErrorKind, Write};
 use std::process::ExitCode;
 
 fn main(rt: HostRuntime) -> ExitCode {
-    let words = match cli_support::words(&rt) {
-        Ok(words) => words,
-        Err(stop) => return stop_at(&rt, &stop),
-    };
-    match job(rt.alloc(), words.as_slice()) {
-        Ok(job) => run(&rt, &job),
+    match cli_support::words(&rt) {
+        Ok(words) => run(&rt, words.as_slice()),
         Err(stop) => stop_at(&rt, &stop),
     }
 }
 
-fn run(rt: &HostRuntime, job: &Job) -> ExitCode {
-    match job {
-        Job::Text { files } => run_text(rt, files.as_slice()),
-        Job::Replay(job) => run_replay(rt, job),
-        Job::Caret(job) => run_caret(rt, job),
-        Job::Type(job) => run_type(rt, job),
-        Job::Dump { file } => run_over_one(rt, file, Engine::Dump),
-        Job::Migrate { file } => run_over_one(rt, file, Engine::Migrate),
-        Job::Pack { listing } => run_over_one(rt, listing, Engine::Pack),
+/// Does what the words of the command line ask for. What a run owns is made by a function each, and lent: each way out of a
+/// function proves again that what it owns may be dropped.
+fn run(rt: &HostRuntime, words: &[String]) -> ExitCode {
+    match job(rt.alloc(), words) {
+        Ok(job) => run_job(rt, &job),
+        Err(stop) => stop_at(rt, &stop),
     }
 }
 
-fn run_text(rt: &HostRuntime, paths: &[&str]) -> ExitCode {
+fn run_job(rt: &HostRuntime, job: &Job) -> ExitCode {
+    match BufWriter::new(rt.alloc(), io::writer(rt)) {
+        Ok(mut buffered) => run_into(rt, job, &mut buffered),
+        Err(_) => refuse(rt, &RunFault::Memory, ""),
+    }
+}
+
+fn run_into<W: Write>(rt: &HostRuntime, job: &Job, out: &mut W) -> ExitCode {
+    match job {
+        Job::Text { files } => run_text(rt, files.as_slice(), out),
+        Job::Replay(job) => run_replay(rt, job, out),
+        Job::Caret(job) => run_caret(rt, job, out),
+        Job::Type(job) => run_type(rt, job, out),
+        Job::Dump { file } => run_over_one(rt, file, Engine::Dump, out),
+        Job::Migrate { file } => run_over_one(rt, file, Engine::Migrate, out),
+        Job::Pack { listing } => run_over_one(rt, listing, Engine::Pack, out),
+    }
+}
+
+fn run_text<W: Write>(rt: &HostRuntime, paths: &[&str], out: &mut W) -> ExitCode {
     match open_all(rt, paths) {
-        Ok(mut files) => text_over(rt, paths, &mut files),
+        Ok(mut files) => {
+            let done = text_from(
+                rt.alloc(),
+                draw_key(rt),
+                &mut files,
+                &mut Out::new(&mut *out),
+            );
+            finish(rt, done, paths, out)
+        }
         Err(unread) => lose(rt, &unread),
     }
 }
 
-fn text_over<R: Source>(rt: &HostRuntime, paths: &[&str], files: &mut [R]) -> ExitCode
-    requires { AreWorking (each R.has_failed files.old) }
-{
-    let Ok(mut buffered) = BufWriter::new(rt.alloc(), io::writer(rt)) else {
-        return refuse(rt, &RunFault::Memory, "");
-    };
-    let key = draw_key(rt);
-    let done = text_from(rt.alloc(), key, files, &mut Out::new(&mut buffered));
-    finish(rt, done, paths, &mut buffered)
-}
-
-fn run_replay(rt: &HostRuntime, job: &Replay) -> ExitCode {
+fn run_replay<W: Write>(rt: &HostRuntime, job: &Replay, out: &mut W) -> ExitCode {
     match data_of(rt, job.folder) {
-        Ok(data) => replay_files(rt, job, &data.ucd(job.wide_ambiguous)),
+        Ok(data) => replay_by(rt, job, &data.ucd(job.wide_ambiguous), out),
         Err(status) => status,
     }
 }
 
-fn replay_files(rt: &HostRuntime, job: &Replay, ucd: &Ucd) -> ExitCode {
-    let mut files = match open_all(rt, job.files.as_slice()) {
-        Ok(files) => files,
-        Err(unread) => return lose(rt, &unread),
-    };
-    let schedule = match schedule_of(rt, job.schedule) {
-        Ok(schedule) => schedule,
-        Err(unread) => return lose(rt, &unread),
-    };
-    replay_over(rt, job, ucd, &mut files, schedule.as_deref())
+fn replay_by<W: Write>(rt: &HostRuntime, job: &Replay, ucd: &Ucd, out: &mut W) -> ExitCode {
+    match open_all(rt, job.files.as_slice()) {
+        Ok(mut files) => replay_files(rt, job, ucd, &mut files, out),
+        Err(unread) => lose(rt, &unread),
+    }
 }
 
-fn replay_over<R: Source>(
+fn replay_files<R: Source, W: Write>(
     rt: &HostRuntime,
     job: &Replay,
     ucd: &Ucd,
     files: &mut [R],
-    schedule: Option<&[u8]>,
+    out: &mut W,
 ) -> ExitCode
     requires count { length files.old ≡ vec_len job.now.files }
     requires working { AreWorking (each R.has_failed files.old) }
 {
-    let Ok(mut buffered) = BufWriter::new(rt.alloc(), io::writer(rt)) else {
-        return refuse(rt, &RunFault::Memory, "");
-    };
-    let done = replay_from(
-        rt.alloc(),
-        draw_key(rt),
-        ucd,
-        job.width,
-        job.base,
-        files,
-        schedule,
-        &mut Out::new(&mut buffered),
-    );
-    finish(rt, done, job.files.as_slice(), &mut buffered)
-}
-
-fn run_caret(rt: &HostRuntime, job: &Walk) -> ExitCode {
-    match data_of(rt, job.folder) {
-        Ok(data) => walk_files(rt, job, &data.ucd(job.wide_ambiguous)),
-        Err(status) => status,
-    }
-}
-
-fn walk_files(rt: &HostRuntime, job: &Walk, ucd: &Ucd) -> ExitCode {
-    match open_all(rt, job.files.as_slice()) {
-        Ok(mut files) => walk_over(rt, job, ucd, &mut files),
+    match schedule_of(rt, job.schedule) {
+        Ok(schedule) => {
+            let done = replay_from(
+                rt.alloc(),
+                draw_key(rt),
+                ucd,
+                job.width,
+                job.base,
+                files,
+                schedule.as_deref(),
+                &mut Out::new(&mut *out),
+            );
+            finish(rt, done, job.files.as_slice(), out)
+        }
         Err(unread) => lose(rt, &unread),
     }
 }
 
-fn walk_over<R: Source>(rt: &HostRuntime, job: &Walk, ucd: &Ucd, files: &mut [R]) -> ExitCode
-    requires { AreWorking (each R.has_failed files.old) }
-{
-    let Ok(mut buffered) = BufWriter::new(rt.alloc(), io::writer(rt)) else {
-        return refuse(rt, &RunFault::Memory, "");
-    };
-    let done = carets_from(
-        rt.alloc(),
-        draw_key(rt),
-        ucd,
-        job.width,
-        job.base,
-        files,
-        job.place,
-        job.moves.as_slice(),
-        &mut Out::new(&mut buffered),
-    );
-    finish(rt, done, job.files.as_slice(), &mut buffered)
+fn run_caret<W: Write>(rt: &HostRuntime, job: &Walk, out: &mut W) -> ExitCode {
+    match data_of(rt, job.folder) {
+        Ok(data) => walk_by(rt, job, &data.ucd(job.wide_ambiguous), out),
+        Err(status) => status,
+    }
+}
+
+fn walk_by<W: Write>(rt: &HostRuntime, job: &Walk, ucd: &Ucd, out: &mut W) -> ExitCode {
+    match open_all(rt, job.files.as_slice()) {
+        Ok(mut files) => {
+            let done = carets_from(
+                rt.alloc(),
+                draw_key(rt),
+                ucd,
+                job.width,
+                job.base,
+                &mut files,
+                job.place,
+                job.moves.as_slice(),
+                &mut Out::new(&mut *out),
+            );
+            finish(rt, done, job.files.as_slice(), out)
+        }
+        Err(unread) => lose(rt, &unread),
+    }
 }
 
 /// The data files of the folder that is asked for, or the status of a run that ends without them.
 fn data_of(rt: &HostRuntime, folder: Option<&str>) -> Result<Data, ExitCode> {
-    let folder = match folder_of(rt, folder) {
-        Ok(folder) => folder,
-        Err(stop) => return Err(stop_at(rt, &stop)),
-    };
-    match read_data(rt, folder.as_str()) {
+    match folder_of(rt, folder) {
+        Ok(folder) => data_in(rt, folder.as_str()),
+        Err(stop) => Err(stop_at(rt, &stop)),
+    }
+}
+
+fn data_in(rt: &HostRuntime, folder: &str) -> Result<Data, ExitCode> {
+    match read_data(rt, folder) {
         Ok(data) => Ok(data),
         Err(unread) => Err(lose(rt, &unread)),
     }
@@ -164,38 +166,34 @@ fn schedule_of(rt: &HostRuntime, path: Option<&str>) -> Result<Option<Vec<u8>>, 
     }
 }
 
-fn run_type(rt: &HostRuntime, job: &Typing) -> ExitCode {
-    let text = match typed_bytes(rt, job.text) {
-        Ok(bytes) => bytes,
-        Err(unread) => return lose(rt, &unread),
-    };
-    match open_all(rt, job.files.as_slice()) {
-        Ok(mut files) => type_over(rt, job, &mut files, text.as_slice()),
+fn run_type<W: Write>(rt: &HostRuntime, job: &Typing, out: &mut W) -> ExitCode {
+    match typed_bytes(rt, job.text) {
+        Ok(text) => type_bytes(rt, job, text.as_slice(), out),
         Err(unread) => lose(rt, &unread),
     }
 }
 
-fn type_over<R: Source>(rt: &HostRuntime, job: &Typing, files: &mut [R], text: &[u8]) -> ExitCode
-    requires { AreWorking (each R.has_failed files.old) }
-{
-    let Ok(mut buffered) = BufWriter::new(rt.alloc(), io::writer(rt)) else {
-        return refuse(rt, &RunFault::Memory, "");
-    };
-    let change = Change {
-        site: job.site,
-        place: job.place,
-        erased: job.erased,
-    };
-    let done = typed(
-        rt.alloc(),
-        draw_key(rt),
-        files,
-        &change,
-        text,
-        job.version,
-        &mut Out::new(&mut buffered),
-    );
-    finish_typing(rt, done, job.files.as_slice(), &mut buffered)
+fn type_bytes<W: Write>(rt: &HostRuntime, job: &Typing, text: &[u8], out: &mut W) -> ExitCode {
+    match open_all(rt, job.files.as_slice()) {
+        Ok(mut files) => {
+            let change = Change {
+                site: job.site,
+                place: job.place,
+                erased: job.erased,
+            };
+            let done = typed(
+                rt.alloc(),
+                draw_key(rt),
+                &mut files,
+                &change,
+                text,
+                job.version,
+                &mut Out::new(&mut *out),
+            );
+            finish_typing(rt, done, job.files.as_slice(), out)
+        }
+        Err(unread) => lose(rt, &unread),
+    }
 }
 
 /// Ends a run that typed: a fault of its own comes before anything is written.
@@ -241,16 +239,14 @@ fn read_input(rt: &HostRuntime) -> Result<Vec<u8>, Unread> {
 }
 
 /// Runs `dump`, `migrate` or `pack` over the one file that it asks for.
-fn run_over_one(rt: &HostRuntime, path: &str, engine: Engine) -> ExitCode {
-    let bytes = match read_one(rt, path) {
-        Ok(bytes) => bytes,
-        Err(unread) => return lose(rt, &unread),
-    };
-    let Ok(mut buffered) = BufWriter::new(rt.alloc(), io::writer(rt)) else {
-        return refuse(rt, &RunFault::Memory, "");
-    };
-    let done = engine.run(rt.alloc(), bytes.as_slice(), &mut Out::new(&mut buffered));
-    finish(rt, done, &[], &mut buffered)
+fn run_over_one<W: Write>(rt: &HostRuntime, path: &str, engine: Engine, out: &mut W) -> ExitCode {
+    match read_one(rt, path) {
+        Ok(bytes) => {
+            let done = engine.run(rt.alloc(), bytes.as_slice(), &mut Out::new(&mut *out));
+            finish(rt, done, &[], out)
+        }
+        Err(unread) => lose(rt, &unread),
+    }
 }
 
 /// The engines over one file.
