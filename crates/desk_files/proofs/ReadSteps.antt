@@ -1,12 +1,14 @@
 -- Reading the lines of a schedule one after the other.
-use Rattle.std.proofs.Common.{◌≡◌, ℕ, ◌+◌, List, [], ◌∷◌, ◌++◌, length, refl, sym, ap, subst, ◌∙◌, append_assoc, arith}
+use Rattle.std.proofs.Common.{◌≡◌, ℕ, ◌+◌, List, [], ◌∷◌, ◌++◌, length, Option, None, Result, refl, sym, ap, subst, ◌∙◌, append_assoc, arith}
 use Rattle.std.specs.List.{AllByRecursion}
 use Rattle.std.specs.Str.Lines.{lines}
 use Rattle.std.proofs.lemmas.List.{append-nil}
 use Rattle.bg_types.specs.declared.op.OpView.{OpView}
 use Rattle.op_listing.specs.FirstFault.{AreFaultless, AreRead}
 use Rattle.desk_files.specs.declared.schedule.step.Numbered.{Numbered}
-use Rattle.desk_files.specs.Schedule.{line_says, fault_in, step_said, with_line, steps_from, IsStepOf, Schedules}
+use Rattle.desk_files.specs.declared.schedule_fault.ScheduleFault.{ScheduleFault}
+use Rattle.desk_files.specs.declared.schedule.step.Step.{Step}
+use Rattle.desk_files.specs.Schedule.{line_says, fault_in, fault_said, step_said, with_line, steps_from, IsStepOf, Schedules}
 
 module _ (files : List (List OpView)) where
   -- the lines before the rest are read: this many, none faulty, and they say these steps
@@ -26,15 +28,16 @@ module _ (files : List (List OpView)) where
       ∙ sym (append_assoc (with_line n (step_said (line_says files y))) (steps_from files (n + 1) xs) (with_line (n + length (y ∷ xs)) (step_said (line_says files x))))
 
   -- one more line is read, and may say a step
-  pub one_step_read : (text rest after line : List ℕ) (number : ℕ) (steps more : List Numbered) (h : AreStepsRead text rest number steps) → AreRead (fault_in files) text after (number + 1) (h.done ++ line ∷ [])
-      → with_line (number + 1) (step_said (line_says files line)) ≡ more → AreStepsRead text after (number + 1) (steps ++ more)
-  one_step_read text rest after line number steps more h next said = record {
+  pub line_read : {text rest after line : List ℕ} {number : ℕ} {steps : List Numbered} {said : Option (Result Step ScheduleFault)}
+      → (more : (text rest after line : List ℕ) (number : ℕ) (done : List (List ℕ)) → AreRead (fault_in files) text rest number done → lines rest ≡ line ∷ lines after → fault_in files line ≡ None → AreRead (fault_in files) text after (number + 1) (done ++ line ∷ []))
+      → AreStepsRead text rest number steps → lines rest ≡ line ∷ lines after → said ≡ line_says files line → fault_said said ≡ None → AreStepsRead text after (number + 1) (steps ++ with_line (number + 1) (step_said said))
+  line_read {text} {rest} {after} {line} {number} {steps} {said} more h first is right = record {
     done = h.done ++ line ∷ [];
-    lines_are = next;
+    lines_are = more text rest after line number h.done h.lines_are first (ap fault_said (sym is) ∙ right);
     said =
         let so_far = h.lines_are.count in
         let number_is : number + 1 ≡ 1 + length h.done = omega (arith, so_far) in
-        (λ i. h.said i ++ sym said i) ∙ ap (λ k. steps_from files 1 h.done ++ with_line k (step_said (line_says files line))) number_is ∙ sym (steps_push 1 h.done line);
+        (λ i. h.said i ++ with_line (number + 1) (step_said (is i))) ∙ ap (λ k. steps_from files 1 h.done ++ with_line k (step_said (line_says files line))) number_is ∙ sym (steps_push 1 h.done line);
   }
 
   pub all_steps_read : (text rest : List ℕ) (number : ℕ) (steps : List Numbered) (h : AreStepsRead text rest number steps) → h.done ≡ lines text → Schedules files text steps

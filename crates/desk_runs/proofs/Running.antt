@@ -1,6 +1,6 @@
 -- Steps that are done one after the other, and what ends them.
 use Rattle.std.proofs.Common.{◌≡◌, ℕ, zero, suc, ◌+◌, ◌<◌, arith, get_or, drop, List, [], ◌∷◌, ◌++◌, length, inl, inr, Option, Result, Ok, Err, ◌⊎◌, refl, sym, ap, subst, ◌∙◌, append_assoc}
-use Rattle.std.specs.Prelude.{Bool, false, OnOk, IfErr, take}
+use Rattle.std.specs.Prelude.{Bool, false, OnOk, IfErr, IsErrAnd, take}
 use Rattle.std.proofs.lemmas.List.{append-nil}
 use Rattle.std.proofs.Math.Seq.{take-append-add}
 use Rattle.std.specs.Io.KnownBytes.{Appends}
@@ -16,7 +16,13 @@ use Rattle.desk_files.specs.declared.schedule.step.Numbered.{Numbered}
 use Rattle.desk_runs.specs.Steps.{sets_after_step, sets_after, IsStepRefused, NoneRefused, desk_of}
 use Rattle.desk_runs.specs.Shows.{shown, shows, Ran, IsStepsEnd, IsStepsOutcome, IsShowOutcome}
 use Rattle.desk_runs.specs.Cause.{answer_of}
-use Rattle.desk_files.proofs.Interface.{take-push, split-at}
+use Rattle.ucd_files.specs.Tables.{TableValues}
+use Rattle.view_cache.specs.Drawings.{KeptView}
+use Rattle.desk_replica.specs.Desk.{Desk}
+use Rattle.desk_replica.specs.DeskSets.{sets_of}
+use Rattle.desk_runs.specs.declared.engine.replay.setting.Setting.{Setting}
+use Rattle.desk_runs.specs.Setting.{print_in, files_in, IsStepsOutcomeIn}
+use Rattle.desk_files.proofs.Interface.{answer_handed, take-push, split-at}
 
 module _ (print : List ℕ → List ℕ) (files : List (List OpView)) where
   -- ---- steps after steps
@@ -214,6 +220,49 @@ module _ (print : List ℕ → List ℕ) (files : List (List OpView)) where
   shown_is sets at old new failed bytes (Err (run.TooLong file)) accepted same is h = h
   shown_is sets at old new failed bytes (Err run.Memory) accepted same is h = (h.0, record { before = []; later = at ∷ []; in_order = refl; none_refused = tt; written = h.1 })
 
+-- ---- a run of many steps
+
+-- the steps are these and others after them
+pub record IsBeginning (xs ys : List Numbered) : Type 0 where
+  pub rest : List Numbered
+  pub is : xs ++ rest ≡ ys
+
+-- a run has done these steps, and may go on
+pub record HasDone (setting : Setting) (first : List Desk) (steps : List Numbered) (view : KeptView) (desks : List Desk) (old now : Option (List ℕ)) (failed : Bool) : Type 0 where
+  pub ran : Ran (print_in setting) (files_in setting) (sets_of first) steps (sets_of desks) old now
+  pub tables : view.tables ≡ setting.tables.now
+  pub working : failed ≡ false
+
+-- the tables are those of before
+pub kept_tables : {new mid old tables : TableValues} → new ≡ mid → mid ≡ tables → old ≡ tables → new ≡ old
+kept_tables same is was = same ∙ is ∙ sym was
+
+-- the same steps, said in another way
+pub done_too : {setting : Setting} {first : List Desk} {xs ys : List Numbered} {view : KeptView} {desks : List Desk} {old now : Option (List ℕ)} {failed : Bool}
+    → HasDone setting first xs view desks old now failed → xs ≡ ys → HasDone setting first ys view desks old now failed
+done_too {setting} {first} {xs} {ys} {view} {desks} {old} {now} {failed} h is = subst (λ steps. HasDone setting first steps view desks old now failed) is h
+
+-- one step more
+pub step_done : {setting : Setting} {first : List Desk} {xs ys : List Numbered} {view next_view : KeptView} {desks after : List Desk} {old now new : Option (List ℕ)} {failed new_failed : Bool} (at : Numbered) (done : Unit {0})
+    → HasDone setting first xs view desks old now failed → xs ++ at ∷ [] ≡ ys → IsStepsOutcomeIn setting desks (at ∷ []) after now new new_failed (Ok done) → next_view.tables ≡ view.tables
+    → HasDone setting first ys next_view after old new new_failed
+step_done {setting} {first} {xs} {ys} {view} {next_view} {desks} {after} {old} {now} {new} {failed} {new_failed} at done h next outcome kept = record {
+  ran = subst (λ steps. Ran (print_in setting) (files_in setting) (sets_of first) steps (sets_of after) old new) next
+      (ran_then (print_in setting) (files_in setting) (sets_of first) (sets_of desks) xs old now h.ran (at ∷ []) (sets_of after) new outcome.1);
+  tables = kept ∙ h.tables;
+  working = outcome.0;
+}
+
+-- one step more ended early, and so all that would have followed
+pub step_ended : {setting : Setting} {first : List Desk} {xs ys all : List Numbered} {view : KeptView} {desks : List Desk} {old now : Option (List ℕ)} {failed : Bool} (at : Numbered) → HasDone setting first xs view desks old now failed
+    → xs ++ at ∷ [] ≡ ys → IsBeginning ys all → (after last : List Desk) (new : Option (List ℕ)) (new_failed : Bool) (r : Result (Unit {0}) RunFault) (fault : RunFault) → IsErrAnd r (λ e. e ≡ fault)
+    → IsStepsOutcomeIn setting desks (at ∷ []) after now new new_failed (Err fault) → IsStepsOutcomeIn setting first all last old new new_failed r
+step_ended {setting} {first} {xs} {ys} {all} {view} {desks} {old} {now} {failed} at h next begins after last new new_failed r fault handed outcome =
+    answer_handed (IsStepsOutcomeIn setting first all last old new new_failed) r fault handed
+    (subst (λ steps. IsStepsEnd (print_in setting) (files_in setting) (sets_of first) steps old new new_failed fault) (ap (λ steps. steps ++ begins.rest) next ∙ begins.is)
+    (end_before (print_in setting) (files_in setting) (sets_of first) (xs ++ at ∷ []) begins.rest old new new_failed fault
+    (end_then (print_in setting) (files_in setting) (sets_of first) (sets_of desks) xs old now h.ran (at ∷ []) new new_failed fault outcome)))
+
 -- ---- a list of steps, gone through one by one
 
 default_free : {A : Type 0} (xs : List A) (i : ℕ) (d e : A) → i < length xs → get_or xs i d ≡ get_or xs i e
@@ -221,21 +270,13 @@ default_free [] i d e lt = absurd (omega arith)
 default_free (x ∷ xs) zero d e lt = refl
 default_free (x ∷ xs) (suc i) d e lt = default_free xs i d e (omega (arith, lt))
 
-module _ (print : List ℕ → List ℕ) (files : List (List OpView)) (sets mid : List OperationSet) (steps : List Numbered) (i : ℕ) (d : Numbered) (old now : Option (List ℕ))
-    (lt : i < length steps) (first : Ran print files sets (take i steps) mid old now) where
-  at : Numbered
-  at = get_or steps i d
+module _ (steps : List Numbered) (i : ℕ) (d : Numbered) (lt : i < length steps) where
+  pub step-next : take i steps ++ get_or steps i d ∷ [] ≡ take (i + 1) steps
+  step-next = sym (take-push steps i (get_or steps i d) lt (default_free steps i d (get_or steps i d) lt))
 
-  at_is : at ≡ get_or steps i at
-  unfolding at
-  at_is = default_free steps i d (get_or steps i d) lt
-
-  pub next_ran : (after : List OperationSet) (new : Option (List ℕ)) → Ran print files mid (get_or steps i d ∷ []) after now new → Ran print files sets (take (i + 1) steps) after old new
-  unfolding at
-  next_ran after new h = subst (λ (l : List Numbered). Ran print files sets l after old new) (sym (take-push steps i at lt at_is)) (ran_then print files sets mid (take i steps) old now first (at ∷ []) after new h)
-
-  pub next_end : (new : Option (List ℕ)) (failed : Bool) (fault : RunFault) → IsStepsEnd print files mid (get_or steps i d ∷ []) now new failed fault → IsStepsEnd print files sets steps old new failed fault
-  unfolding at
-  next_end new failed fault h =
-      subst (λ (l : List Numbered). IsStepsEnd print files sets l old new failed fault) (append_assoc (take i steps) (at ∷ []) (drop (i + 1) steps) ∙ sym (split-at steps i at lt at_is))
-      (end_before print files sets (take i steps ++ at ∷ []) (drop (i + 1) steps) old new failed fault (end_then print files sets mid (take i steps) old now first (at ∷ []) new failed fault h))
+  pub step-begins : IsBeginning (take (i + 1) steps) steps
+  step-begins = record {
+    rest = drop (i + 1) steps;
+    is = ap (λ l. l ++ drop (i + 1) steps) (sym step-next) ∙ append_assoc (take i steps) (get_or steps i d ∷ []) (drop (i + 1) steps)
+        ∙ sym (split-at steps i (get_or steps i d) lt (default_free steps i d (get_or steps i d) lt));
+  }

@@ -1,5 +1,5 @@
 -- What the answers of desks say of a step.
-use Rattle.std.proofs.Common.{◌≡◌, ◌≤◌, ◌-◌, ℕ, List, Some, length, get_or, Result, ◌⊎◌, refl, sym, ap, subst, ◌∙◌, arith, []}
+use Rattle.std.proofs.Common.{◌≡◌, ◌≤◌, ◌-◌, ℕ, List, Some, length, get_or, Result, ◌⊎◌, refl, sym, ap, subst, ◌∙◌, arith, [], vec_len}
 use Rattle.std.specs.Prelude.{OnOk, IfErr}
 use Rattle.std.specs.Global.{Vec}
 use Rattle.std.proofs.lemmas.List.{get_or-map}
@@ -17,6 +17,13 @@ use Rattle.desk_runs.specs.Steps.{operation_at, desk_step, sets_after_done, sets
 
 pub file_there : (files : List (Vec OpView)) (file : ℕ) (v : Vec OpView) → 1 ≤ file → file ≤ length files → file_at (lists_of files) file ≡ (get_or files (file - 1) v).items
 file_there files file v some within = get_or-map (λ (f : Vec OpView). f.items) files (file - 1) v [] (omega (arith, some, within))
+
+-- as many operations as the file has were counted
+pub count_there : (files : List (Vec OpView)) (file n : ℕ) (v : Vec OpView) → 1 ≤ file → file ≤ length files → n ≡ vec_len (get_or files (file - 1) v) → n ≡ length (file_at (lists_of files) file)
+count_there files file n v some within len =
+    let there = ap (λ (ops : List OpView). length ops) (file_there files file v some within) in
+    let counted = (get_or files (file - 1) v).ok in
+    omega (arith, there, len, counted)
 
 -- an operation that was read from a file
 pub operation_there : (files : List (Vec OpView)) (file op : ℕ) (v : Vec OpView) (x : OpView) → 1 ≤ file → file ≤ length files → 1 ≤ op → op ≤ length (file_at (lists_of files) file)

@@ -1,10 +1,8 @@
 //! A run without a schedule.
 
-ghost use Rattle.std.specs.Prelude.{◌≡◌, ◌≤◌, ◌<◌, ◌^◌, false, length};
-ghost use Rattle.desk_replica.specs.DeskSets.{sets_of};
-ghost use Rattle.desk_runs.specs.Setting.{print_in, files_in};
-ghost use Rattle.desk_runs.specs.Round.{file_takes, files_takes, nth_turn, turn, all_takes, all_shows, round};
-ghost use Rattle.desk_runs.specs.Shows.{IsStepsOutcome};
+ghost use Rattle.std.specs.Prelude.{◌≡◌, ◌≤◌, ◌<◌, ◌^◌};
+ghost use Rattle.desk_runs.specs.Setting.{files_in, MayDoSteps, IsStepsOutcomeIn};
+ghost use Rattle.desk_runs.specs.Round.{nth_turn, round};
 
 use super::setting::Setting;
 use super::steps::run_step;
@@ -19,59 +17,24 @@ pub fn run_round<S: Sink>(
     desks: &mut [Desk],
     out: &mut S,
 ) -> Result<(), RunFault>
-    requires desks { length desks.old ≡ length setting.now.files.now }
-    requires tables { view.old.tables ≡ setting.now.tables.now }
-    requires working { S.has_failed out.old ≡ false }
-    ensures outcome { IsStepsOutcome (print_in setting.now) (files_in setting.now) (sets_of desks.old) (round (files_in setting.now))
-        (sets_of desks.new) (S.written out.old) (S.written out.new) (S.has_failed out.new) result }
-    ensures tables { view.new.tables ≡ view.old.tables }
-{
-    take_everywhere(setting, view, desks, out)?;
-    show_all(setting, view, desks, out)
-}
-
-/// Each desk takes all files, one desk after the other.
-fn take_everywhere<S: Sink>(
-    setting: &Setting,
-    view: &mut View,
-    desks: &mut [Desk],
-    out: &mut S,
-) -> Result<(), RunFault>
-    requires desks { length desks.old ≡ length setting.now.files.now }
-    requires tables { view.old.tables ≡ setting.now.tables.now }
-    requires working { S.has_failed out.old ≡ false }
-    ensures outcome { IsStepsOutcome (print_in setting.now) (files_in setting.now) (sets_of desks.old) (all_takes (files_in setting.now))
-        (sets_of desks.new) (S.written out.old) (S.written out.new) (S.has_failed out.new) result }
-    ensures tables { view.new.tables ≡ view.old.tables }
-{
-    for desk in 1..setting.files.len() + 1 {
-        take_files(setting, view, desks, desk, out)?;
-    }
-    Ok(())
-}
-
-/// A desk takes all files, from that of its own number on, wrapping round.
-fn take_files<S: Sink>(
-    setting: &Setting,
-    view: &mut View,
-    desks: &mut [Desk],
-    desk: usize,
-    out: &mut S,
-) -> Result<(), RunFault>
-    requires first { 1 ≤ desk }
-    requires desk { desk ≤ length setting.now.files.now }
-    requires desks { length desks.old ≡ length setting.now.files.now }
-    requires tables { view.old.tables ≡ setting.now.tables.now }
-    requires working { S.has_failed out.old ≡ false }
-    ensures outcome { IsStepsOutcome (print_in setting.now) (files_in setting.now) (sets_of desks.old)
-        (files_takes (files_in setting.now) desk (turn (length (files_in setting.now)) desk))
-        (sets_of desks.new) (S.written out.old) (S.written out.new) (S.has_failed out.new) result }
+    requires { MayDoSteps setting.now view.old desks.old (S.has_failed out.old) }
+    ensures outcome { IsStepsOutcomeIn setting.now desks.old (round (files_in setting.now)) desks.new
+        (S.written out.old) (S.written out.new) (S.has_failed out.new) result }
     ensures tables { view.new.tables ≡ view.old.tables }
 {
     let count = setting.files.len();
-    for behind in 0..count {
-        let file = nth_turn(count, desk, behind);
-        take_file(setting, view, desks, desk, file, out)?;
+    for desk in 1..count + 1 {
+        for behind in 0..count {
+            let file = nth_turn(count, desk, behind);
+            for op in 1..setting.files[file - 1].len() + 1 {
+                let step = Step::Take { desk, file, op };
+                run_step(setting, view, desks, &Numbered { line: 0, step }, out)?;
+            }
+        }
+    }
+    for shown in 1..count + 1 {
+        let step = Step::Show { desk: shown };
+        run_step(setting, view, desks, &Numbered { line: 0, step }, out)?;
     }
     Ok(())
 }
@@ -87,52 +50,4 @@ fn nth_turn(count: usize, desk: usize, behind: usize) -> usize
     ensures at_most { result ≤ count }
 {
     (desk - 1 + behind) % count + 1
-}
-
-/// A desk takes all operations of a file, in order.
-fn take_file<S: Sink>(
-    setting: &Setting,
-    view: &mut View,
-    desks: &mut [Desk],
-    desk: usize,
-    file: usize,
-    out: &mut S,
-) -> Result<(), RunFault>
-    requires first { 1 ≤ desk }
-    requires desk { desk ≤ length setting.now.files.now }
-    requires first_file { 1 ≤ file }
-    requires file { file ≤ length setting.now.files.now }
-    requires desks { length desks.old ≡ length setting.now.files.now }
-    requires tables { view.old.tables ≡ setting.now.tables.now }
-    requires working { S.has_failed out.old ≡ false }
-    ensures outcome { IsStepsOutcome (print_in setting.now) (files_in setting.now) (sets_of desks.old) (file_takes (files_in setting.now) desk file)
-        (sets_of desks.new) (S.written out.old) (S.written out.new) (S.has_failed out.new) result }
-    ensures tables { view.new.tables ≡ view.old.tables }
-{
-    for op in 1..setting.files[file - 1].len() + 1 {
-        let step = Step::Take { desk, file, op };
-        run_step(setting, view, desks, &Numbered { line: 0, step }, out)?;
-    }
-    Ok(())
-}
-
-/// Each desk is shown.
-fn show_all<S: Sink>(
-    setting: &Setting,
-    view: &mut View,
-    desks: &mut [Desk],
-    out: &mut S,
-) -> Result<(), RunFault>
-    requires desks { length desks.old ≡ length setting.now.files.now }
-    requires tables { view.old.tables ≡ setting.now.tables.now }
-    requires working { S.has_failed out.old ≡ false }
-    ensures outcome { IsStepsOutcome (print_in setting.now) (files_in setting.now) (sets_of desks.old) (all_shows (files_in setting.now))
-        (sets_of desks.new) (S.written out.old) (S.written out.new) (S.has_failed out.new) result }
-    ensures tables { view.new.tables ≡ view.old.tables }
-{
-    for desk in 1..setting.files.len() + 1 {
-        let step = Step::Show { desk };
-        run_step(setting, view, desks, &Numbered { line: 0, step }, out)?;
-    }
-    Ok(())
 }

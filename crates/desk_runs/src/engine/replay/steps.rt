@@ -1,11 +1,9 @@
 //! The steps of a run, done one after the other.
 
-ghost use Rattle.std.specs.Prelude.{◌≡◌, ◌∷◌, [], false, length};
+ghost use Rattle.std.specs.Prelude.{◌≡◌, ◌∷◌, []};
 ghost use Rattle.std.specs.List.{AllByRecursion};
-ghost use Rattle.desk_replica.specs.DeskSets.{sets_of};
-ghost use Rattle.desk_runs.specs.Setting.{print_in, files_in};
+ghost use Rattle.desk_runs.specs.Setting.{files_in, MayDoSteps, IsStepsOutcomeIn};
 ghost use Rattle.desk_files.specs.Schedule.{IsStepOf};
-ghost use Rattle.desk_runs.specs.Shows.{IsStepsOutcome};
 ghost use Rattle.desk_runs.specs.Cause.{answer_of};
 
 use super::setting::Setting;
@@ -23,12 +21,10 @@ pub fn run_steps<S: Sink>(
     steps: &[Numbered],
     out: &mut S,
 ) -> Result<(), RunFault>
-    requires desks { length desks.old ≡ length setting.now.files.now }
+    requires ready { MayDoSteps setting.now view.old desks.old (S.has_failed out.old) }
     requires steps { AllByRecursion (λ s. IsStepOf (files_in setting.now) s.step) steps.now }
-    requires tables { view.old.tables ≡ setting.now.tables.now }
-    requires working { S.has_failed out.old ≡ false }
-    ensures outcome { IsStepsOutcome (print_in setting.now) (files_in setting.now) (sets_of desks.old) steps.now
-        (sets_of desks.new) (S.written out.old) (S.written out.new) (S.has_failed out.new) result }
+    ensures outcome { IsStepsOutcomeIn setting.now desks.old steps.now desks.new
+        (S.written out.old) (S.written out.new) (S.has_failed out.new) result }
     ensures tables { view.new.tables ≡ view.old.tables }
 {
     for at in steps {
@@ -45,12 +41,10 @@ pub fn run_step<S: Sink>(
     at: &Numbered,
     out: &mut S,
 ) -> Result<(), RunFault>
-    requires desks { length desks.old ≡ length setting.now.files.now }
+    requires ready { MayDoSteps setting.now view.old desks.old (S.has_failed out.old) }
     requires step { IsStepOf (files_in setting.now) at.now.step }
-    requires tables { view.old.tables ≡ setting.now.tables.now }
-    requires working { S.has_failed out.old ≡ false }
-    ensures outcome { IsStepsOutcome (print_in setting.now) (files_in setting.now) (sets_of desks.old) (at.now ∷ [])
-        (sets_of desks.new) (S.written out.old) (S.written out.new) (S.has_failed out.new) result }
+    ensures outcome { IsStepsOutcomeIn setting.now desks.old (at.now ∷ []) desks.new
+        (S.written out.old) (S.written out.new) (S.has_failed out.new) result }
     ensures tables { view.new.tables ≡ view.old.tables }
 {
     match at.step {

@@ -31,5 +31,9 @@ returns g c =
     steps_of_plan (print_in c.args.setting.now) files None (g.S.Sink.written c.args.out.now) (round files) (sets_of c.deref_mut.result.now) (sets_of c.run_round.new.desks) (g.S.Sink.written c.run_round.new.out)
     (g.S.Sink.has_failed c.run_round.new.out) c.run_round.result refl empty c.run_round.ensures.outcome
 
-pub run_round-requires-clause-desks : goal.run_round-requires-clause-desks
-run_round-requires-clause-desks g c = ap (λ (l : List Desk). length l) (c.deref_mut.ensures.value ∙ c.in_ok-desks.ensures) ∙ fresh-count (length c.args.setting.now.files.now)
+pub run_round-requires : goal.run_round-requires
+run_round-requires g c = record {
+  count = ap (λ (l : List Desk). length l) (c.deref_mut.ensures.value ∙ c.in_ok-desks.ensures) ∙ fresh-count (length c.args.setting.now.files.now);
+  tables = c.requires.tables;
+  working = c.requires.working;
+}

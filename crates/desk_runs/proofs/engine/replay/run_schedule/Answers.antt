@@ -50,5 +50,9 @@ returns g c =
     steps_of_plan print files (Some c.args.schedule.now) old c.in_ok-steps.steps.items sets after new failed r c.in_ok-steps.ensures.ok empty
     (subst (λ (steps : List Numbered). IsStepsOutcome print files sets steps after old new failed r) c.deref.ensures.value c.run_steps.ensures.outcome)
 
-pub run_steps-requires-clause-desks : goal.run_steps-requires-clause-desks
-run_steps-requires-clause-desks g c = ap (λ (l : List Desk). length l) (c.deref_mut.ensures.value ∙ c.in_ok-desks.ensures) ∙ fresh-count (length c.args.setting.now.files.now)
+pub run_steps-requires-clause-ready : goal.run_steps-requires-clause-ready
+run_steps-requires-clause-ready g c = record {
+  count = ap (λ (l : List Desk). length l) (c.deref_mut.ensures.value ∙ c.in_ok-desks.ensures) ∙ fresh-count (length c.args.setting.now.files.now);
+  tables = c.requires.tables;
+  working = c.requires.working;
+}

@@ -35,7 +35,7 @@ returns-in-Take-clause-outcome g c =
     let r = c.take_at-taken.result in
     let done = takes (desk - 1) c.index.result.now in
     subst (IsStepsOutcome print files sets (at ∷ []) after old old failed) (sym c.answer.ensures)
-    (answered print files sets after at old failed desk r c.requires.working (sym (ap desk_of c.in-Take.is)) (ap (shown print sets) c.in-Take.is)
+    (answered print files sets after at old failed desk r c.requires.ready.working (sym (ap desk_of c.in-Take.is)) (ap (shown print sets) c.in-Take.is)
     (done-ok files sets after r at.step done step c.take_at-taken.ensures.ok) (done-accepted files sets after r at.step done step c.take_at-taken.ensures.accepted)
     (done-fault files sets after r at.step done step c.take_at-taken.ensures.fault))
 
@@ -52,7 +52,7 @@ returns-in-Merge-clause-outcome g c =
     let done = merges (c.in-Merge.desk - 1) (c.in-Merge.from - 1) in
     let step = ap (desk_step files) c.in-Merge.is in
     subst (IsStepsOutcome print files sets (at ∷ []) after old old failed) (sym c.answer-in-Merge.ensures)
-    (answered print files sets after at old failed c.in-Merge.desk r c.requires.working (sym (ap desk_of c.in-Merge.is)) (ap (shown print sets) c.in-Merge.is)
+    (answered print files sets after at old failed c.in-Merge.desk r c.requires.ready.working (sym (ap desk_of c.in-Merge.is)) (ap (shown print sets) c.in-Merge.is)
     (done-ok files sets after r at.step done step c.merge_at-merged.ensures.ok) (done-accepted files sets after r at.step done step c.merge_at-merged.ensures.accepted)
     (done-fault files sets after r at.step done step c.merge_at-merged.ensures.fault))
 
@@ -67,9 +67,72 @@ returns-in-Show-clause-outcome g c =
     let d = c.index-desks-desk.result in
     let within = subst (IsStepOf files) c.in-Show.is c.requires.step in
     let many = length-map c.args.setting.now.files.now (λ (f : Vec OpView). f.items) in
-    let long = c.requires.desks in
+    let long = c.requires.ready.count in
     let lt : desk - 1 < length desks = omega (arith, many, long, within.0, within.1) in
     let here : set_at sets (desk - 1) ≡ (get_or desks (desk - 1) d).set = get_or-map (λ (x : Desk). x.set) desks (desk - 1) d no_operations lt in
     let is : print (text (get_or desks (desk - 1) d).set) ≡ shown print sets at.step = ap (λ (s : OperationSet). print (text s)) (sym here) ∙ sym (ap (shown print sets) c.in-Show.is) in
     shown_is print files sets at (g.S.Sink.written c.args.out.now) (g.S.Sink.written c.show.new.out) (g.S.Sink.has_failed c.show.new.out) (print (text (get_or desks (desk - 1) d).set)) c.show.result
     (show_accepted files sets at.step desk c.in-Show.is) (sym (ap (sets_after_step files sets) c.in-Show.is)) is c.show.ensures.shown
+
+-- ---- what is done there may be done
+
+pub overflow_sub-desk : goal.overflow_sub-desk
+overflow_sub-desk g c = let within = subst (IsStepOf (files_in c.args.setting.now)) c.in-Take.is c.requires.step in omega (arith, within.0)
+
+pub overflow_sub-file : goal.overflow_sub-file
+overflow_sub-file g c = let within = subst (IsStepOf (files_in c.args.setting.now)) c.in-Take.is c.requires.step in omega (arith, within.2)
+
+pub overflow_sub-op : goal.overflow_sub-op
+overflow_sub-op g c = let within = subst (IsStepOf (files_in c.args.setting.now)) c.in-Take.is c.requires.step in omega (arith, within.4)
+
+pub bounds-setting-file : goal.bounds-setting-file
+bounds-setting-file g c =
+    let within = subst (IsStepOf (files_in c.args.setting.now)) c.in-Take.is c.requires.step in
+    let many = length-map c.args.setting.now.files.now (λ (f : Vec OpView). f.items) in
+    omega (arith, many, within.2, within.3)
+
+pub take_at-taken-requires : goal.take_at-taken-requires
+take_at-taken-requires g c =
+    let within = subst (IsStepOf (files_in c.args.setting.now)) c.in-Take.is c.requires.step in
+    let many = length-map c.args.setting.now.files.now (λ (f : Vec OpView). f.items) in
+    let long = c.requires.ready.count in
+    omega (arith, many, long, within.0, within.1)
+
+pub overflow_sub-desk-in-Merge : goal.overflow_sub-desk-in-Merge
+overflow_sub-desk-in-Merge g c = let within = subst (IsStepOf (files_in c.args.setting.now)) c.in-Merge.is c.requires.step in omega (arith, within.0)
+
+pub overflow_sub-from : goal.overflow_sub-from
+overflow_sub-from g c = let within = subst (IsStepOf (files_in c.args.setting.now)) c.in-Merge.is c.requires.step in omega (arith, within.2)
+
+pub merge_at-merged-requires-clause-desk : goal.merge_at-merged-requires-clause-desk
+merge_at-merged-requires-clause-desk g c =
+    let within = subst (IsStepOf (files_in c.args.setting.now)) c.in-Merge.is c.requires.step in
+    let many = length-map c.args.setting.now.files.now (λ (f : Vec OpView). f.items) in
+    let long = c.requires.ready.count in
+    omega (arith, many, long, within.0, within.1)
+
+pub merge_at-merged-requires-clause-from : goal.merge_at-merged-requires-clause-from
+merge_at-merged-requires-clause-from g c =
+    let within = subst (IsStepOf (files_in c.args.setting.now)) c.in-Merge.is c.requires.step in
+    let many = length-map c.args.setting.now.files.now (λ (f : Vec OpView). f.items) in
+    let long = c.requires.ready.count in
+    omega (arith, many, long, within.2, within.3)
+
+pub overflow_sub-desk-in-Show : goal.overflow_sub-desk-in-Show
+overflow_sub-desk-in-Show g c = let within = subst (IsStepOf (files_in c.args.setting.now)) c.in-Show.is c.requires.step in omega (arith, within.0)
+
+pub bounds-desks-desk : goal.bounds-desks-desk
+bounds-desks-desk g c =
+    let within = subst (IsStepOf (files_in c.args.setting.now)) c.in-Show.is c.requires.step in
+    let many = length-map c.args.setting.now.files.now (λ (f : Vec OpView). f.items) in
+    let long = c.requires.ready.count in
+    omega (arith, many, long, within.0, within.1)
+
+pub show-requires-clause-tables : goal.show-requires-clause-tables
+show-requires-clause-tables g c = c.requires.ready.tables
+
+pub show-requires-clause-working : goal.show-requires-clause-working
+show-requires-clause-working g c = c.requires.ready.working
+
+pub returns-in-Show-clause-tables : goal.returns-in-Show-clause-tables
+returns-in-Show-clause-tables g c = c.show.ensures.tables
