@@ -6,5 +6,5 @@ mod engine;
 pub mod laws;
 
 pub use desk_files::{Desk, RunFault, ScheduleFault, TakeFault, status, text, text_from};
-pub use engine::replay::{replay, replay_from};
+pub use engine::{replay, replay_from};
 pub use ucd_files::Ucd;

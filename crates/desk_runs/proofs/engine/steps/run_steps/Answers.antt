@@ -6,7 +6,7 @@ use Rattle.desk_runs.specs.Setting.{print_in, files_in}
 use Rattle.desk_files.specs.declared.schedule.step.Step.TheVariants.{Take}
 use Rattle.desk_files.specs.declared.schedule.step.Numbered.{Numbered}
 use Rattle.desk_runs.proofs.Running.{ran_nothing, kept_tables, done_too, step_done, step_ended, step-next, step-begins}
-use Rattle.desk_runs.proofs.engine.replay.steps.run_steps.Goals as goal
+use Rattle.desk_runs.proofs.engine.steps.run_steps.Goals as goal
 
 abbrev none : Numbered
 none = record { line = 0; step = Take 0 0 0 }

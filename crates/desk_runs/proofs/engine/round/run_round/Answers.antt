@@ -11,7 +11,7 @@ use Rattle.desk_runs.specs.Round.{unnumbered, nth_turn}
 use Rattle.desk_runs.proofs.StepAnswers.{count_there}
 use Rattle.desk_runs.proofs.Running.{ran_nothing, kept_tables, done_too, step_done, step_ended}
 use Rattle.desk_runs.proofs.Rounds.{file-first, file-last, op-first, op-next, op-last, op-begins, show-first, show-next, show-last, show-begins}
-use Rattle.desk_runs.proofs.engine.replay.round.run_round.Goals as goal
+use Rattle.desk_runs.proofs.engine.round.run_round.Goals as goal
 
 -- ---- the takes
 

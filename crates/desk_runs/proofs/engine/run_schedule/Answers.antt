@@ -13,7 +13,7 @@ use Rattle.desk_runs.specs.ReplayOutcome.{IsPlanOutcome}
 use Rattle.desk_runs.proofs.FreshDesks.{fresh-empty, fresh-count}
 use Rattle.desk_runs.proofs.Plans.{plan_unread, steps_of_plan, unscheduled}
 use Rattle.desk_files.proofs.Interface.{answer_handed}
-use Rattle.desk_runs.proofs.engine.replay.run_schedule.Goals as goal
+use Rattle.desk_runs.proofs.engine.run_schedule.Goals as goal
 
 pub returns-in_err-steps : goal.returns-in_err-steps
 returns-in_err-steps g c =

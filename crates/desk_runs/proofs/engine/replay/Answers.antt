@@ -8,7 +8,7 @@ use Rattle.desk_files.specs.declared.run_fault.RunFault.TheVariants as run
 use Rattle.desk_files.specs.Files.{bytes_of}
 use Rattle.desk_runs.specs.ReplayOutcome.{given, IsReplayOutcome}
 use Rattle.desk_files.proofs.Interface.{answer_handed, never_failed, over_memory, as_many}
-use Rattle.desk_runs.proofs.engine.replay.replay.Goals as goal
+use Rattle.desk_runs.proofs.engine.replay.Goals as goal
 
 pub returns-in_err-readers : goal.returns-in_err-readers
 returns-in_err-readers g c =

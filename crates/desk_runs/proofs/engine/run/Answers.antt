@@ -5,7 +5,7 @@ use Rattle.desk_runs.specs.Setting.{print_in, files_in}
 use Rattle.desk_runs.specs.ReplayOutcome.{IsPlanOutcome}
 use Rattle.desk_runs.proofs.Plans.{plan_unread}
 use Rattle.desk_files.proofs.Interface.{answer_handed}
-use Rattle.desk_runs.proofs.engine.replay.run.Goals as goal
+use Rattle.desk_runs.proofs.engine.run.Goals as goal
 
 pub returns-in_err-view : goal.returns-in_err-view
 returns-in_err-view g c =

@@ -2,7 +2,7 @@
 use Rattle.desk_runs.specs.Setting.{files_in}
 use Rattle.desk_runs.proofs.Running.{HasDone}
 use Rattle.desk_runs.proofs.Rounds.{before_desk, before_file, before_op, before_show}
-use Rattle.desk_runs.proofs.engine.replay.round.run_round.Given as goal
+use Rattle.desk_runs.proofs.engine.round.run_round.Given as goal
 
 abbrev pub invariant-loop-desk : goal.invariant-loop-desk
 invariant-loop-desk g l = HasDone l.setting l.fn.desks (before_desk (files_in l.setting) l.desk) l.view l.desks (g.S.Sink.written l.fn.out) (g.S.Sink.written l.out) (g.S.Sink.has_failed l.out)

@@ -12,7 +12,7 @@ use Rattle.desk_runs.specs.ReplayOutcome.{IsPlanOutcome}
 use Rattle.desk_runs.proofs.FreshDesks.{fresh-empty, fresh-count}
 use Rattle.desk_runs.proofs.Plans.{plan_unread, steps_of_plan}
 use Rattle.desk_files.proofs.Interface.{answer_handed}
-use Rattle.desk_runs.proofs.engine.replay.run_files.Goals as goal
+use Rattle.desk_runs.proofs.engine.run_files.Goals as goal
 
 pub returns-in_err-desks : goal.returns-in_err-desks
 returns-in_err-desks g c =

@@ -10,7 +10,7 @@ use Rattle.desk_files.specs.declared.run_fault.RunFault.TheVariants as run
 use Rattle.desk_runs.specs.Setting.{print_in}
 use Rattle.desk_runs.specs.Shows.{IsShowOutcome}
 use Rattle.desk_files.proofs.Interface.{answer_handed}
-use Rattle.desk_runs.proofs.engine.replay.show.show.Goals as goal
+use Rattle.desk_runs.proofs.engine.show.show.Goals as goal
 
 pub returns-in_err-text-clause-shown : goal.returns-in_err-text-clause-shown
 returns-in_err-text-clause-shown g c =

@@ -7,7 +7,7 @@ use Rattle.std.proofs.lemmas.List.Sums.{sum_by_more}
 use Rattle.bg_types.specs.declared.op.OpView.{OpView}
 use Rattle.desk_runs.specs.Room.{separators}
 use Rattle.desk_runs.proofs.Rooms.{stopped_product}
-use Rattle.desk_runs.proofs.engine.replay.room.room.Goals as goal
+use Rattle.desk_runs.proofs.engine.room.room.Goals as goal
 
 pub loop-ops-preserved : goal.loop-ops-preserved
 loop-ops-preserved c =

@@ -14,7 +14,7 @@ use Rattle.desk_runs.specs.Steps.{desk_step, desk_of, sets_after_step}
 use Rattle.desk_runs.specs.Shows.{shown, IsStepsOutcome}
 use Rattle.desk_runs.proofs.Running.{answered, shown_is}
 use Rattle.desk_runs.proofs.StepAnswers.{operation_there, done-ok, done-accepted, done-fault, show_accepted}
-use Rattle.desk_runs.proofs.engine.replay.steps.run_step.Goals as goal
+use Rattle.desk_runs.proofs.engine.steps.run_step.Goals as goal
 
 pub returns-in-Take-clause-outcome : goal.returns-in-Take-clause-outcome
 returns-in-Take-clause-outcome g c =

@@ -13,7 +13,7 @@ use Rattle.desk_files.specs.Cause.{IsTablesCaused, IsReadCaused}
 use Rattle.desk_runs.specs.ReplayOutcome.{Given, given, print_of, IsPlanOutcome, IsReplayOutcome, IsReplayOutcomeOver}
 use Rattle.desk_runs.proofs.Plans.{ended_by_tables, ended_by_files, plan_of_run}
 use Rattle.desk_files.proofs.Interface.{answer_handed, ends_unread, run_ended, run_told}
-use Rattle.desk_runs.proofs.engine.replay.replay_from.Goals as goal
+use Rattle.desk_runs.proofs.engine.replay_from.Goals as goal
 
 pub returns-in_err-tables : goal.returns-in_err-tables
 returns-in_err-tables g c =
