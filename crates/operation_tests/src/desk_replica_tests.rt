@@ -6,12 +6,15 @@
 ghost use Rattle.std.specs.Prelude.{◌<◌};
 
 use crate::ops::{OpRow, op};
+use crate::reading_tests;
+use crate::rows::assert_none;
 use OpRow::{Erase, Insert};
 use bg_types::{Memory, Op};
 use desk_replica::{Replica, TakeFault, Taken, TypeFault};
 use rga_sequence::Blocks;
 use rga_tree::{Fresh, Plain};
 use std::alloc::Global;
+use std::process::Abort;
 
 /// What taking a row is to answer.
 type Answer = Result<Taken, TakeFault>;
@@ -162,7 +165,7 @@ fn takes_each<S: Fresh>(desk: &mut Desk<S>, rows: &[(OpRow, Answer)]) -> bool {
 
 /// What a case tries on fresh desks of the sites 1 and 2.
 #[derive(Clone, Copy)]
-enum Case {
+pub(crate) enum Case {
     /// The first desk gives each row its answer, and reads as this text then.
     Plays(&'static [(OpRow, Answer)], &'static str),
     /// What is paid for is taken at the first try.
@@ -177,6 +180,8 @@ enum Case {
     Counts,
     /// 1,000,000 early deletions leave no place for more.
     Fills,
+    /// The first desk finds places, and tells each operation.
+    Reads,
 }
 
 /// What merging a desk into another one answers, and what is read and how many operations are kept then.
@@ -203,6 +208,7 @@ fn comes_out_on<S: Fresh>(one: &mut Desk<S>, two: &mut Desk<S>, case: Case) -> b
         Case::Spends => spends(one),
         Case::Counts => counts(one),
         Case::Fills => fills(one),
+        Case::Reads => reading_tests::reads(&mut one.desk),
     }
 }
 
@@ -409,30 +415,34 @@ fn fills<S: Fresh>(desk: &mut Desk<S>) -> bool {
     desk.reads("") && held && full && known && typed
 }
 
+/// Compares what cases come to over both sequences.
+pub(crate) fn assert_cases(rt: &(impl Abort + AllocGlobal), cases: &[Case]) {
+    assert_none(rt, "the cases", first_wrong(rt.alloc(), cases));
+}
+
 #[test]
 fn answers_and_reads(rt: HostRuntime) {
-    assert_eq!(rt; first_wrong(rt.alloc(), &ANSWERS), None);
+    assert_cases(&rt, &ANSWERS);
 }
 
 #[test]
 fn takes_what_is_paid_for(rt: HostRuntime) {
-    let cases = [Case::PlaysPaid, Case::MergesPaid];
-    assert_eq!(rt; first_wrong(rt.alloc(), &cases), None);
+    assert_cases(&rt, &[Case::PlaysPaid, Case::MergesPaid]);
 }
 
 #[test]
 fn merges_and_counts(rt: HostRuntime) {
-    assert_eq!(rt; first_wrong(rt.alloc(), &MERGES), None);
+    assert_cases(&rt, &MERGES);
 }
 
 #[test]
 fn types_and_erases(rt: HostRuntime) {
-    assert_eq!(rt; first_wrong(rt.alloc(), &[Case::Types, Case::Spends]), None);
+    assert_cases(&rt, &[Case::Types, Case::Spends]);
 }
 
 #[test]
 fn a_refused_take_leaves_the_next_counter(rt: HostRuntime) {
-    assert_eq!(rt; first_wrong(rt.alloc(), &[Case::Counts]), None);
+    assert_cases(&rt, &[Case::Counts]);
 }
 
 #[test]

@@ -55,7 +55,7 @@ fn stands<S: Sequence>(seq: &S, place: &Place) -> bool
 #[derive(Drop)]
 pub struct Tried<S: Fresh> {
     pub seq: S,
-    alloc: Global,
+    pub alloc: Global,
 }
 
 impl<S: Fresh> Tried<S> {
@@ -169,6 +169,14 @@ impl<S: Fresh> Tried<S> {
         self.nth(j) == Some(row) && self.has(row.0) && self.told(row.0) == Some(row)
     }
 
+    /// Whether the element at place j is told by every call that shows it.
+    pub fn is_told_at(&self, j: usize) -> bool {
+        match self.nth(j) {
+            Some(row) => self.stands_at(j, row),
+            None => false,
+        }
+    }
+
     fn shows_all(&self, rows: &[Row]) -> bool {
         let mut right = self.seq.placed() == rows.len();
         for (j, row) in rows.iter().enumerate() {
@@ -210,54 +218,69 @@ const B_AT_ROOT: Row = ((1, 2), (0, 0), 'b', false);
 
 const ORPHAN: Row = ((9, 1), (8, 1), 'z', false);
 
+/// What is tried on an empty sequence.
+pub trait Trial<S: Fresh> {
+    /// Whether it comes out.
+    fn comes_out(&self, seq: &mut Tried<S>) -> bool;
+}
+
+/// Whether a trial comes out. Sequences are made and dropped here alone, which is dear to prove.
+fn is_right<S: Fresh, T: Trial<S>>(alloc: Global, trial: &T) -> bool {
+    let mut seq = Tried::new(alloc);
+    trial.comes_out(&mut seq)
+}
+
+/// The first trial that does not come out.
+pub fn first_wrong<S: Fresh, T: Trial<S>>(alloc: Global, trials: &[T]) -> Option<usize> {
+    for (n, trial) in trials.iter().enumerate() {
+        if !is_right::<S, T>(alloc, trial) {
+            return Some(n);
+        }
+    }
+    None
+}
+
 /// The elements as they are placed, the identifiers hidden after that, the elements as they
 /// stand afterwards, and the text. An element may be hidden as it is placed.
-type Line = (
+pub struct Line(
     &'static [Row],
     &'static [Name],
     &'static [Row],
     &'static str,
 );
 
-static LINES: [Line; 11] = [
-    (&[A, B], &[], &[A, B], "ab"),
-    (&[A, B_AT_ROOT], &[], &[B_AT_ROOT, A], "ba"),
-    (&[B_AT_ROOT, A], &[], &[B_AT_ROOT, A], "ba"),
-    (&[A, X, Y, B], &[], &[A, X, Y, B], "axyb"),
-    (&[A, X, B, Y], &[], &[A, X, Y, B], "axyb"),
-    (&[A, B, X, Y], &[], &[A, X, Y, B], "axyb"),
-    (&[A, X_HIDDEN, Y, B], &[], &[A, X_HIDDEN, Y, B], "ayb"),
-    (&[A, B, X, Y], &[(2, 2)], &[A, X_HIDDEN, Y, B], "ayb"),
-    (
+pub const LINES: &[Line] = &[
+    Line(&[A, B], &[], &[A, B], "ab"),
+    Line(&[A, B_AT_ROOT], &[], &[B_AT_ROOT, A], "ba"),
+    Line(&[B_AT_ROOT, A], &[], &[B_AT_ROOT, A], "ba"),
+    Line(&[A, X, Y, B], &[], &[A, X, Y, B], "axyb"),
+    Line(&[A, X, B, Y], &[], &[A, X, Y, B], "axyb"),
+    Line(&[A, B, X, Y], &[], &[A, X, Y, B], "axyb"),
+    Line(&[A, X_HIDDEN, Y, B], &[], &[A, X_HIDDEN, Y, B], "ayb"),
+    Line(&[A, B, X, Y], &[(2, 2)], &[A, X_HIDDEN, Y, B], "ayb"),
+    Line(
         &[A, B, X, Y],
         &[(1, 1), (2, 1)],
         &[A_HIDDEN, X, Y, B_HIDDEN],
         "xy",
     ),
-    (&[A, B], &[(2, 1), (2, 1)], &[A, B_HIDDEN], "a"),
-    (&[A_HIDDEN, B], &[(2, 1), (1, 1)], &[A_HIDDEN, B_HIDDEN], ""),
+    Line(&[A, B], &[(2, 1), (2, 1)], &[A, B_HIDDEN], "a"),
+    Line(&[A_HIDDEN, B], &[(2, 1), (1, 1)], &[A_HIDDEN, B_HIDDEN], ""),
 ];
 
-/// Whether the elements end up as a line says. One that is there already and one whose parent is
-/// missing change nothing.
-fn keeps_line<S: Fresh>(alloc: Global, line: Line) -> bool {
-    let (placed, erased, standing, text) = line;
-    let mut seq: Tried<S> = Tried::new(alloc);
-    let mut right = seq.put_all(placed);
-    for name in erased {
-        right = seq.erase(*name) && right;
+/// The elements end up as a line says. One that is there already and one whose parent is missing
+/// change nothing.
+impl<S: Fresh> Trial<S> for Line {
+    fn comes_out(&self, seq: &mut Tried<S>) -> bool {
+        let Line(placed, erased, standing, text) = self;
+        let mut right = seq.put_all(placed);
+        for name in *erased {
+            right = seq.erase(*name) && right;
+        }
+        right = seq.shows(standing, text) && right;
+        let refused = !seq.put(A) && !seq.put(ORPHAN) && !seq.erase(ORPHAN.1);
+        right && refused && seq.shows(standing, text)
     }
-    right = seq.shows(standing, text) && right;
-    let refused = !seq.put(A) && !seq.put(ORPHAN) && !seq.erase(ORPHAN.1);
-    right && refused && seq.shows(standing, text)
-}
-
-pub fn keeps_every_line<S: Fresh>(alloc: Global) -> bool {
-    let mut right = true;
-    for line in &LINES {
-        right = keeps_line::<S>(alloc, *line) && right;
-    }
-    right
 }
 
 /// The counters from 1 to 1,000, rising or falling.
@@ -269,36 +292,61 @@ fn counter_of(k: u32, rising: bool) -> u32 {
     }
 }
 
-/// Whether 1,000 elements placed in this order of counters stand in the order of the walk. In a
+/// 1,000 elements that are placed in this order of counters stand in the order of the walk. In a
 /// chain each is after the one before, otherwise all are after the root.
-fn keeps_thousand<S: Fresh>(alloc: Global, chain: bool, rising: bool) -> bool {
-    let mut seq: Tried<S> = Tried::new(alloc);
-    let mut right = true;
-    for k in 0..1000 {
-        let counter = counter_of(k, rising);
-        let above = if chain { counter.saturating_sub(1) } else { 0 };
-        let parent = if above == 0 { (0, 0) } else { (above, 1) };
-        right = seq.put(((counter, 1), parent, '\u{5D0}', false)) && right;
-    }
-    for k in 0..1000 {
-        let counter = counter_of(k, chain);
-        right = seq.counter_at(k as usize) == counter && right;
-    }
-    right
+pub struct Thousand {
+    chain: bool,
+    rising: bool,
 }
 
-pub fn keeps_long_rows<S: Fresh>(alloc: Global) -> bool {
-    keeps_thousand::<S>(alloc, true, true)
-        && keeps_thousand::<S>(alloc, false, true)
-        && keeps_thousand::<S>(alloc, false, false)
+pub const THOUSANDS: &[Thousand] = &[
+    Thousand {
+        chain: true,
+        rising: true,
+    },
+    Thousand {
+        chain: false,
+        rising: true,
+    },
+    Thousand {
+        chain: false,
+        rising: false,
+    },
+];
+
+impl<S: Fresh> Trial<S> for Thousand {
+    fn comes_out(&self, seq: &mut Tried<S>) -> bool {
+        let mut right = true;
+        for k in 0..1000 {
+            let counter = counter_of(k, self.rising);
+            let above = if self.chain {
+                counter.saturating_sub(1)
+            } else {
+                0
+            };
+            let parent = if above == 0 { (0, 0) } else { (above, 1) };
+            right = seq.put(((counter, 1), parent, '\u{5D0}', false)) && right;
+        }
+        for k in 0..1000 {
+            let counter = counter_of(k, self.chain);
+            right = seq.counter_at(k as usize) == counter && right;
+        }
+        right
+    }
 }
 
-/// With ample memory there is room afterwards. Where a growth is refused, everything is as it was.
-pub fn keeps_all_where_room_is_refused<S: Fresh>(alloc: Global) -> bool {
-    let mut seq: Tried<S> = Tried::new(alloc);
-    let mut right = seq.put_all(&[A, B]);
-    for n in [0, 1, 300, 100_000, 100_001] {
-        right = seq.reserve(n) && seq.shows(&[A, B], "ab") && right;
+/// With ample memory there is room for so many, one after the other. Where a growth is refused,
+/// everything is as it was.
+pub struct Rooms(&'static [usize]);
+
+pub const ROOMS: &[Rooms] = &[Rooms(&[0, 1, 300, 100_000, 100_001])];
+
+impl<S: Fresh> Trial<S> for Rooms {
+    fn comes_out(&self, seq: &mut Tried<S>) -> bool {
+        let mut right = seq.put_all(&[A, B]);
+        for n in self.0 {
+            right = seq.reserve(*n) && seq.shows(&[A, B], "ab") && right;
+        }
+        right
     }
-    right
 }

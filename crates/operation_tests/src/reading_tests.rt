@@ -1,13 +1,9 @@
 //! What no clause says: that the calls answer for real desks.
 
-ghost use Rattle.std.specs.Prelude.{◌≡◌};
-ghost use Rattle.bg_types.specs.OperationSet.{no_operations};
-
+use crate::desk_replica_tests::{Case, assert_cases};
 use bg_types::{Id, Op, Place};
 use desk_replica::{Replica, TakeFault};
-use rga_sequence::Blocks;
-use rga_tree::{Plain, Sequence};
-use std::alloc::Global;
+use rga_tree::Sequence;
 
 /// Counter and site.
 type Name = (u32, u16);
@@ -74,20 +70,12 @@ fn lists<S: Sequence>(desk: &Replica<S>) -> Option<bool> {
     Some(right)
 }
 
-/// Whether a desk over an empty sequence that took them finds the places, and tells each operation.
-fn reads<S: Sequence + Drop>(alloc: Global, seq: S) -> [Option<bool>; 2]
-    requires { S.content seq ≡ no_operations }
-{
-    let mut desk = Replica::new(alloc, 1, seq, 7);
-    match takes_all(&mut desk) {
-        Some(()) => [places(&desk), lists(&desk)],
-        None => [None; 2],
-    }
+/// Whether an empty desk that takes them finds the places, and tells each operation.
+pub(crate) fn reads<S: Sequence>(desk: &mut Replica<S>) -> bool {
+    takes_all(desk).is_some() && places(desk) == Some(true) && lists(desk) == Some(true)
 }
 
 #[test]
 fn finds_places_and_tells_each_operation(rt: HostRuntime) {
-    let alloc = rt.alloc();
-    assert_eq!(rt; reads(alloc, Blocks::new(alloc)), [Some(true); 2]);
-    assert_eq!(rt; reads(alloc, Plain::new(alloc)), [Some(true); 2]);
+    assert_cases(&rt, &[Case::Reads]);
 }

@@ -1,42 +1,65 @@
+//! What no clause says: texts, blocks, and where elements stand, over both sequences.
+
 use crate::every_sequence::*;
+use crate::rows::assert_none;
 use rga_sequence::*;
 use rga_tree::{Plain, Sequence};
 use std::alloc::Global;
+use std::process::Abort;
+
+/// Tries both sequences.
+fn assert_both<T: Trial<Blocks> + Trial<Plain>>(rt: &(impl Abort + AllocGlobal), trials: &[T]) {
+    assert_none(
+        rt,
+        "the blocks",
+        first_wrong::<Blocks, T>(rt.alloc(), trials),
+    );
+    assert_none(
+        rt,
+        "the plain row",
+        first_wrong::<Plain, T>(rt.alloc(), trials),
+    );
+}
+
+/// Tries blocks alone.
+fn assert_blocks<T: Trial<Blocks>>(rt: &(impl Abort + AllocGlobal), trials: &[T]) {
+    assert_none(
+        rt,
+        "the blocks",
+        first_wrong::<Blocks, T>(rt.alloc(), trials),
+    );
+}
 
 #[test]
 fn both_keep_every_line(rt: HostRuntime) {
-    assert!(rt; keeps_every_line::<Blocks>(rt.alloc()));
-    assert!(rt; keeps_every_line::<Plain>(rt.alloc()));
+    assert_both(&rt, LINES);
 }
 
 #[test]
 fn both_keep_long_rows(rt: HostRuntime) {
-    assert!(rt; keeps_long_rows::<Blocks>(rt.alloc()));
-    assert!(rt; keeps_long_rows::<Plain>(rt.alloc()));
+    assert_both(&rt, THOUSANDS);
 }
 
 #[test]
 fn both_keep_all_where_room_is_refused(rt: HostRuntime) {
-    assert!(rt; keeps_all_where_room_is_refused::<Blocks>(rt.alloc()));
-    assert!(rt; keeps_all_where_room_is_refused::<Plain>(rt.alloc()));
+    assert_both(&rt, ROOMS);
 }
 
 fn letter(counter: u32) -> char {
     (b'a' + (counter % 26) as u8) as char
 }
 
-/// (1,1) after the root, and then each after the one before.
-fn chain(alloc: Global, count: u32) -> Option<Tried<Blocks>> {
-    let mut seq = Tried::new(alloc);
+/// Puts (1,1) after the root, and then each after the one before.
+fn put_chain(seq: &mut Tried<Blocks>, count: u32) -> bool {
     let mut above = (0, 0);
     for counter in 1..=count {
         let name = (counter, 1);
         if !seq.put((name, above, letter(counter), false)) {
-            return None;
+            return false;
         }
         above = name;
     }
-    Some(seq)
+    true
 }
 
 /// Whether both calls find this element at visible place k, each with this many looks.
@@ -51,7 +74,7 @@ fn is_found(seq: &mut Tried<Blocks>, k: usize, name: Name, looks: u64) -> bool {
 /// How many elements a chain has, which of them are erased, what is then placed, how many blocks
 /// there are, how many elements are visible, and some visible places: which element is there, and how
 /// many looks find it.
-type Split = (
+struct Split(
     u32,
     &'static [u32],
     &'static [Row],
@@ -60,8 +83,8 @@ type Split = (
     &'static [(usize, Name, u64)],
 );
 
-static SPLITS: [Split; 4] = [
-    (
+const SPLITS: &[Split] = &[
+    Split(
         512,
         &[],
         &[],
@@ -70,7 +93,7 @@ static SPLITS: [Split; 4] = [
         &[(0, (1, 1), 2), (511, (512, 1), 513)],
     ),
     // A full block is split for one more.
-    (
+    Split(
         512,
         &[],
         &[((513, 1), (512, 1), 'z', false)],
@@ -79,7 +102,7 @@ static SPLITS: [Split; 4] = [
         &[(0, (1, 1), 2), (512, (513, 1), 259)],
     ),
     // After the last of a block, even where all that follow are less.
-    (
+    Split(
         513,
         &[],
         &[((600, 2), (256, 1), 'z', false)],
@@ -88,7 +111,7 @@ static SPLITS: [Split; 4] = [
         &[(256, (600, 2), 258), (257, (257, 1), 3)],
     ),
     // Erased ones stay erased across a split.
-    (
+    Split(
         512,
         &[1, 256, 257, 512],
         &[((513, 1), (512, 1), 'z', true)],
@@ -103,68 +126,62 @@ static SPLITS: [Split; 4] = [
     ),
 ];
 
-fn keeps_split(alloc: Global, split: Split) -> Option<bool> {
-    let (count, erased, more, blocks, visible, finds) = split;
-    let mut seq = chain(alloc, count)?;
-    let mut right = true;
-    for counter in erased {
-        right = seq.erase((*counter, 1)) && right;
+impl Trial<Blocks> for Split {
+    fn comes_out(&self, seq: &mut Tried<Blocks>) -> bool {
+        let Split(count, erased, more, blocks, visible, finds) = self;
+        let mut right = put_chain(seq, *count);
+        for counter in *erased {
+            right = seq.erase((*counter, 1)) && right;
+        }
+        right = seq.put_all(more) && right;
+        right = seq.seq.blocks() == *blocks && seq.seq.len() == *visible && right;
+        for (k, name, looks) in *finds {
+            right = is_found(seq, *k, *name, *looks) && right;
+        }
+        right
     }
-    right = seq.put_all(more) && right;
-    right = seq.seq.blocks() == blocks && seq.seq.len() == visible && right;
-    for (k, name, looks) in finds {
-        right = is_found(&mut seq, *k, *name, *looks) && right;
-    }
-    Some(right)
 }
 
 #[test]
 fn a_full_block_is_split_for_one_more(rt: HostRuntime) {
-    let mut right = true;
-    for split in &SPLITS {
-        right = keeps_split(rt.alloc(), *split) == Some(true) && right;
-    }
-    assert!(rt; right);
+    assert_blocks(&rt, SPLITS);
 }
 
-/// Whether (600,2), put after this parent into a chain of 512, stands at this place then.
-fn is_split_at(alloc: Global, parent: Name, place: usize) -> Option<bool> {
-    let mut seq = chain(alloc, 512)?;
-    let mut right = seq.put(((600, 2), parent, 'z', false)) && seq.seq.blocks() == 2;
-    for j in 0..513usize {
-        let before = if j < place { j + 1 } else { j };
-        let counter = if j == place { 600 } else { before };
-        let row = seq.nth(j)?;
-        right = row.0.0 as usize == counter && seq.stands_at(j, row) && right;
+/// A parent, and the place at which (600,2) stands once it was put after that into a chain of 512.
+struct At(Name, usize);
+
+impl Trial<Blocks> for At {
+    fn comes_out(&self, seq: &mut Tried<Blocks>) -> bool {
+        let At(parent, place) = *self;
+        let mut right = put_chain(seq, 512);
+        right = seq.put(((600, 2), parent, 'z', false)) && seq.seq.blocks() == 2 && right;
+        for j in 0..513usize {
+            let before = if j < place { j + 1 } else { j };
+            let counter = if j == place { 600 } else { before };
+            right = seq.counter_at(j) as usize == counter && seq.is_told_at(j) && right;
+        }
+        right
     }
-    Some(right)
 }
+
+const PLACES: &[At] = &[
+    At((0, 0), 0),
+    At((1, 1), 1),
+    At((255, 1), 255),
+    At((256, 1), 256),
+    At((257, 1), 257),
+    At((512, 1), 512),
+];
 
 #[test]
 fn a_block_is_split_at_any_place(rt: HostRuntime) {
-    let lines = [
-        (0, 0),
-        (1, 1),
-        (255, 255),
-        (256, 256),
-        (257, 257),
-        (512, 512),
-    ];
-    let mut right = true;
-    for (counter, place) in lines {
-        let site = if counter == 0 { 0 } else { 1 };
-        right = is_split_at(rt.alloc(), (counter, site), place) == Some(true) && right;
-    }
-    assert!(rt; right);
+    assert_blocks(&rt, PLACES);
 }
 
-/// Whether the text is the character of (1,1), and then those of 1,300 down to 2.
-fn is_falling(seq: &Tried<Blocks>) -> bool {
-    let Ok(text) = seq.text() else {
-        return false;
-    };
+/// Whether a text is the character of (1,1), and then those of 1,300 down to 2.
+fn is_falling(text: &str) -> bool {
     let mut right = text.len() == 1300;
-    for (k, ch) in text.as_str().chars().enumerate() {
+    for (k, ch) in text.chars().enumerate() {
         let counter = if k == 0 {
             1
         } else {
@@ -175,24 +192,31 @@ fn is_falling(seq: &Tried<Blocks>) -> bool {
     right
 }
 
-/// Whether 1,299 children of (1,1), placed in this order, stand in falling order.
-fn puts_children(alloc: Global, falling: bool) -> Option<bool> {
-    let mut seq = chain(alloc, 1)?;
-    let mut right = true;
-    for k in 0..1299u32 {
-        let counter = if falling { 1300 - k } else { 2 + k };
-        right = seq.put(((counter, 2), (1, 1), letter(counter), false)) && right;
+/// 1,299 children of (1,1), placed in falling order or not, stand in falling order.
+struct Children {
+    falling: bool,
+}
+
+impl Trial<Blocks> for Children {
+    fn comes_out(&self, seq: &mut Tried<Blocks>) -> bool {
+        let mut right = put_chain(seq, 1);
+        for k in 0..1299u32 {
+            let counter = if self.falling { 1300 - k } else { 2 + k };
+            right = seq.put(((counter, 2), (1, 1), letter(counter), false)) && right;
+        }
+        right = seq.text().is_ok_and(|text| is_falling(text.as_str())) && right;
+        right = seq.put(((2, 1), (1, 1), 'z', false)) && right;
+        right = seq.seq.placed() == 1301 && seq.seq.blocks() <= 6 && right;
+        seq.nth(1300).is_some_and(|row| row.0 == (2, 1)) && right
     }
-    right = is_falling(&seq) && right;
-    right = seq.put(((2, 1), (1, 1), 'z', false)) && right;
-    right = seq.seq.placed() == 1301 && seq.seq.blocks() <= 6 && right;
-    Some(seq.nth(1300)?.0 == (2, 1) && right)
 }
 
 #[test]
 fn many_children_stand_in_falling_order(rt: HostRuntime) {
-    assert!(rt; puts_children(rt.alloc(), false) == Some(true));
-    assert!(rt; puts_children(rt.alloc(), true) == Some(true));
+    assert_blocks(
+        &rt,
+        &[Children { falling: false }, Children { falling: true }],
+    );
 }
 
 /// A number that looks random, made from the one before.
@@ -244,11 +268,24 @@ fn show_the_same(blocks: &mut Tried<Blocks>, plain: &mut Tried<Plain>) -> bool {
     same
 }
 
+/// Changes that look random are made to blocks and to a plain row alike.
+struct Random;
+
+impl Trial<Blocks> for Random {
+    fn comes_out(&self, blocks: &mut Tried<Blocks>) -> bool {
+        let mut plain = Tried::new(blocks.alloc);
+        stand_alike(blocks, &mut plain)
+    }
+}
+
+fn stand_alike(blocks: &mut Tried<Blocks>, plain: &mut Tried<Plain>) -> bool {
+    change_both(blocks, plain)
+        && 2_000 < blocks.seq.placed()
+        && 5 < blocks.seq.blocks()
+        && show_the_same(blocks, plain)
+}
+
 #[test]
 fn blocks_stand_as_the_plain_row(rt: HostRuntime) {
-    let mut plain = Tried::new(rt.alloc());
-    let mut blocks = Tried::new(rt.alloc());
-    assert!(rt; change_both(&mut blocks, &mut plain));
-    assert!(rt; 2_000 < blocks.seq.placed() && 5 < blocks.seq.blocks());
-    assert!(rt; show_the_same(&mut blocks, &mut plain));
+    assert_blocks(&rt, &[Random]);
 }

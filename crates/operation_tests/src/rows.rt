@@ -10,7 +10,7 @@ pub trait Row {
 }
 
 /// Whether a row comes out, on a second try where memory was refused.
-fn is_right<R: Row>(alloc: Global, row: &R) -> bool {
+pub fn is_right<R: Row>(alloc: Global, row: &R) -> bool {
     match row.comes_out(alloc) {
         Err(Memory) => row.comes_out(alloc) == Ok(true),
         answer => answer == Ok(true),

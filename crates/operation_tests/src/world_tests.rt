@@ -3,75 +3,121 @@
 //! A world that memory was refused to is made again: so each test also passes with any one
 //! allocation refused (`rt try --test --fail-alloc N`).
 
+use crate::rows::{Row, assert_none, assert_rows, is_right};
 use Reply::{Done, NoSuch};
 use Step::{Deliver, Erase, Merge, Typed};
 use bg_types::{Id, Memory, Op, Place};
-use desk_replica::{Reply, Step, World, WorldFault, run_world};
+use desk_replica::{Replica, Reply, Step, World, WorldFault, run_world};
 use rga_sequence::Blocks;
-use std::alloc::Global;
+use rga_tree::{Fresh, Sequence};
+use std::alloc::{AllocError, Global};
 
 /// A step, its reply, and the text of each desk then.
-type Row<'a> = (Step, Reply, &'a [&'a str]);
+type Line = (Step, Reply, &'static [&'static str]);
 
-/// How many rows a table has at most.
-const ROWS: usize = 16;
-
-/// Steps done at fresh desks.
-fn world(alloc: Global, sites: &[u16], steps: &[Step]) -> Result<World<Blocks>, WorldFault> {
-    match run_world(alloc, 0x5eed, sites, steps) {
-        Err(WorldFault::Memory) => run_world(alloc, 0x5eed, sites, steps),
-        made => made,
-    }
+/// What is wanted of a world.
+#[derive(Clone, Copy)]
+enum Wanted<'a> {
+    /// The last reply, and the text of each desk.
+    Ends(Reply, &'a [&'a str]),
+    /// The operations that are made.
+    Makes(&'a [Op]),
+    /// No desk, operation or reply.
+    Nothing,
+    /// That there is none, as the sites are bad.
+    BadSites,
 }
 
 /// Whether a desk reads as this text.
-fn reads(read: Result<String, Memory>, text: &str) -> bool {
-    read.is_ok_and(|read| read.as_str() == text)
+fn reads<S: Sequence>(desk: &Replica<S>, text: &str) -> Result<bool, Memory> {
+    let read = desk.text()?;
+    Ok(read.as_str() == text)
 }
 
 /// Whether the desks read as these texts.
-fn shows(world: &World<Blocks>, texts: &[&str]) -> bool {
-    let mut right = world.desks.len() == texts.len();
-    for (desk, text) in world.desks.iter().zip(texts) {
-        let shown = match desk.text() {
-            Err(Memory) => reads(desk.text(), text),
-            read => reads(read, text),
+fn read<S: Sequence>(desks: &[Replica<S>], texts: &[&str]) -> Result<bool, Memory> {
+    let mut right = desks.len() == texts.len();
+    for (desk, text) in desks.iter().zip(texts) {
+        right = reads(desk, text)? && right;
+    }
+    Ok(right)
+}
+
+/// Whether a world is as is wanted.
+fn is_wanted<S: Fresh>(world: &World<S>, wanted: &Wanted) -> Result<bool, Memory> {
+    match wanted {
+        Wanted::Ends(reply, texts) => {
+            Ok(world.replies.last() == Some(reply) && read(&world.desks, texts)?)
+        }
+        Wanted::Makes(ops) => Ok(world.made.as_slice() == *ops),
+        Wanted::Nothing => {
+            Ok(world.desks.is_empty() && world.made.is_empty() && world.replies.is_empty())
+        }
+        Wanted::BadSites => Ok(false),
+    }
+}
+
+/// Whether what steps made is as is wanted.
+fn is_made<S: Fresh>(made: &Result<World<S>, WorldFault>, wanted: &Wanted) -> Result<bool, Memory> {
+    match made {
+        Ok(world) => is_wanted(world, wanted),
+        Err(WorldFault::Memory) => Err(Memory),
+        Err(WorldFault::BadSites) => Ok(matches!(wanted, Wanted::BadSites)),
+    }
+}
+
+/// Whether steps done at fresh desks make what is wanted.
+fn makes<S: Fresh>(
+    alloc: Global,
+    sites: &[u16],
+    steps: &[Step],
+    wanted: &Wanted,
+) -> Result<bool, Memory> {
+    let made = run_world::<S>(alloc, 0x5eed, sites, steps);
+    is_made(&made, wanted)
+}
+
+/// The steps of lines.
+fn steps_of(alloc: Global, lines: &[Line]) -> Result<Vec<Step>, AllocError> {
+    let mut steps = Vec::new(alloc);
+    for line in lines {
+        steps.push(line.0)?;
+    }
+    Ok(steps)
+}
+
+/// What is played, the sites of its desks, and its lines.
+struct Played(&'static str, &'static [u16], &'static [Line]);
+
+/// The lines up to this one.
+#[derive(Clone, Copy)]
+struct UpTo<'a>(&'a Played, usize);
+
+impl Row for UpTo<'_> {
+    fn comes_out(&self, alloc: Global) -> Result<bool, Memory> {
+        let UpTo(played, n) = self;
+        let Some((_, reply, texts)) = played.2.get(*n) else {
+            return Ok(false);
         };
-        right = shown && right;
-    }
-    right
-}
-
-/// Whether the last of the steps has this row's reply, and the desks then have its texts.
-fn ends(alloc: Global, sites: &[u16], steps: &[Step], row: &Row<'_>) -> bool {
-    let (_, reply, texts) = row;
-    match world(alloc, sites, steps) {
-        Ok(world) => world.replies.last() == Some(reply) && shows(&world, texts),
-        Err(_) => false,
+        let steps = steps_of(alloc, &played.2[..=*n])?;
+        makes::<Blocks>(alloc, played.1, &steps, &Wanted::Ends(*reply, texts))
     }
 }
 
-/// The steps of a table, and others that fill the array.
-fn steps_of(rows: &[Row<'_>]) -> [Step; ROWS] {
-    let mut steps = [Merge { desk: 0, from: 0 }; ROWS];
-    for (step, row) in steps.iter_mut().zip(rows) {
-        *step = row.0;
+impl Played {
+    /// The first line that does not come out.
+    fn wrong(&self, alloc: Global) -> Option<usize> {
+        for n in 0..self.2.len() {
+            if !is_right(alloc, &UpTo(self, n)) {
+                return Some(n);
+            }
+        }
+        None
     }
-    steps
-}
-
-/// Whether each row of a table comes out, where the steps up to it are done.
-fn plays(alloc: Global, sites: &[u16], rows: &[Row<'_>]) -> bool {
-    let steps = steps_of(rows);
-    let mut right = rows.len() <= ROWS;
-    for n in 0..rows.len().min(ROWS) {
-        right = ends(alloc, sites, &steps[..n + 1], &rows[n]) && right;
-    }
-    right
 }
 
 /// What two desks make, take and merge.
-const TWO: [Row<'static>; 12] = [
+const TWO: &[Line] = &[
     (
         Typed {
             desk: 0,
@@ -130,16 +176,22 @@ fn made_by_two() -> Option<[Op; 4]> {
     ])
 }
 
-/// Whether `TWO` makes its operations.
-fn makes_two(alloc: Global) -> Option<bool> {
-    let made = made_by_two()?;
-    let world = world(alloc, &[1, 2], &steps_of(&TWO)[..TWO.len()]).ok()?;
-    Some(world.made.as_slice() == &made[..])
+/// What `TWO` makes.
+struct MadeByTwo;
+
+impl Row for MadeByTwo {
+    fn comes_out(&self, alloc: Global) -> Result<bool, Memory> {
+        let Some(made) = made_by_two() else {
+            return Ok(false);
+        };
+        let steps = steps_of(alloc, TWO)?;
+        makes::<Blocks>(alloc, &[1, 2], &steps, &Wanted::Makes(&made))
+    }
 }
 
 /// What reaches three desks: `b` before its parent and twice, the erasure of `a` before it, and `b`
 /// after its parent was erased.
-const THREE: [Row<'static>; 13] = [
+const THREE: &[Line] = &[
     (
         Typed {
             desk: 0,
@@ -188,7 +240,7 @@ const THREE: [Row<'static>; 13] = [
 ];
 
 /// What three desks type at one place.
-const ONE_PLACE: [Row<'static>; 11] = [
+const ONE_PLACE: &[Line] = &[
     (
         Typed {
             desk: 0,
@@ -243,7 +295,7 @@ const ONE_PLACE: [Row<'static>; 11] = [
 ];
 
 /// Steps that name a desk, an operation or a place that is not there.
-const NOT_THERE: [Row<'static>; 9] = [
+const NOT_THERE: &[Line] = &[
     (
         Typed {
             desk: 1,
@@ -279,33 +331,48 @@ const NOT_THERE: [Row<'static>; 9] = [
     (Erase { desk: 0, place: 1 }, NoSuch, &["a"]),
 ];
 
-/// Whether these sites are refused.
-fn refuses(alloc: Global, sites: &[u16]) -> bool {
-    world(alloc, sites, &[]).err() == Some(WorldFault::BadSites)
-}
-
-/// Whether no sites and no steps are a world without desks.
-fn is_empty(alloc: Global) -> bool {
-    match world(alloc, &[], &[]) {
-        Ok(world) => { world.desks.is_empty() && world.made.is_empty() && world.replies.is_empty() }
-        Err(_) => false,
-    }
-}
+const PLAYED: &[Played] = &[
+    Played("the steps of two desks", &[1, 2], TWO),
+    Played("the steps of three desks", &[1, 2, 3], THREE),
+    Played("the steps at one place", &[3, 1, 2], ONE_PLACE),
+    Played(
+        "the steps that name what is not there",
+        &[65_535],
+        NOT_THERE,
+    ),
+];
 
 #[test]
 fn tables_come_out(rt: HostRuntime) {
-    assert!(rt; plays(rt.alloc(), &[1, 2], &TWO));
-    assert!(rt; makes_two(rt.alloc()) == Some(true));
-    assert!(rt; plays(rt.alloc(), &[1, 2, 3], &THREE));
-    assert!(rt; plays(rt.alloc(), &[3, 1, 2], &ONE_PLACE));
-    assert!(rt; plays(rt.alloc(), &[65_535], &NOT_THERE));
+    for played in PLAYED {
+        assert_none(&rt, played.0, played.wrong(rt.alloc()));
+    }
+    assert_rows(&rt, &[MadeByTwo]);
 }
+
+/// Sites, and whether they are those of a world without desks, or else are refused.
+struct Sites(&'static [u16], bool);
+
+impl Row for Sites {
+    fn comes_out(&self, alloc: Global) -> Result<bool, Memory> {
+        let wanted = if self.1 {
+            Wanted::Nothing
+        } else {
+            Wanted::BadSites
+        };
+        makes::<Blocks>(alloc, self.0, &[], &wanted)
+    }
+}
+
+const SITES: &[Sites] = &[
+    Sites(&[1, 1], false),
+    Sites(&[0], false),
+    Sites(&[1, 0, 2], false),
+    Sites(&[5, 7, 9, 7], false),
+    Sites(&[], true),
+];
 
 #[test]
 fn bad_sites_are_refused(rt: HostRuntime) {
-    assert!(rt; refuses(rt.alloc(), &[1, 1]));
-    assert!(rt; refuses(rt.alloc(), &[0]));
-    assert!(rt; refuses(rt.alloc(), &[1, 0, 2]));
-    assert!(rt; refuses(rt.alloc(), &[5, 7, 9, 7]));
-    assert!(rt; is_empty(rt.alloc()));
+    assert_rows(&rt, SITES);
 }
