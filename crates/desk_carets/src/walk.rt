@@ -33,7 +33,12 @@ fn push_line(caret: Caret, lines: &mut String) -> Result<(), AllocError>
 }
 
 /// The lines of a walk: one for the caret, and one after each move.
-pub fn walk_lines(alloc: Global, grid: &Grid, start: Caret, moves: &[Move]) -> Result<String, Memory>
+pub fn walk_lines(
+    alloc: Global,
+    grid: &Grid,
+    start: Caret,
+    moves: &[Move],
+) -> Result<String, Memory>
     requires { IsCaretOf grid.now.rows start }
     ensures { IfOk result (λ lines. string_bytes lines ≡ flat_map caret_line (walk grid.now.rows start moves.now)) }
 {

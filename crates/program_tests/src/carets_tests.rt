@@ -10,9 +10,8 @@ use desk_files::RunFault;
 use op_codec::{Cause, CodecFault};
 use std::alloc::{AllocError, Global};
 use std::slice::from_ref;
-use ucd_files::Ucd;
 use ucd_files::vectors::SMALL;
-use ucd_files::{UcdFault, UcdFile};
+use ucd_files::{Ucd, UcdFault, UcdFile};
 
 /// The width of a walk, its place and its moves.
 type Walk<'a> = (u16, u32, &'a [Move]);
