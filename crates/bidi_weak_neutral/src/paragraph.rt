@@ -134,6 +134,8 @@ fn are_plain(classes: &[Bidi]) -> bool
 }
 
 /// What `levels` answers for a paragraph of this level, 0 or 1, of these code points, which have these classes.
+/// Never inlined: as a part of its caller its passes would have fewer registers.
+#[inline(never)]
 pub fn levels_at(
     alloc: Global,
     tables: &Tables,
