@@ -1,0 +1,145 @@
+//! Keystrokes in a long text, each of which is shown.
+
+ghost use Rattle.std.specs.Prelude.{◌≡◌, length};
+ghost use Rattle.std.specs.Str.{chars};
+
+use crate::chance::Chance;
+use crate::digest::Digest;
+use crate::draw::LONGEST;
+use crate::prose::MIXED;
+use anyhow::{Result, bail};
+use bg_types::{Base, Id, Op, Place};
+use caret::{Caret, at_place, down, left, right, up};
+use cell_grid::{Cell, Grid, Row};
+use desk_replica::Replica;
+use rga_sequence::Blocks;
+use std::alloc::Global;
+use ucd_files::vectors::SMALL;
+use view_cache::View;
+
+type Desk = Replica<Blocks>;
+
+const KEY: u128 = 0x5eed;
+
+const WIDTH: u16 = 80;
+
+/// How many rows a window shows.
+const ROWS: usize = 24;
+
+/// The bytes of the text, and how many paragraphs the view keeps.
+const BYTES: usize = 1_000_000;
+
+const ROOM: usize = 10_000;
+
+/// How many keys are pressed.
+const KEYS: usize = 80;
+
+/// A user types and erases in a text of a megabyte, and the window around the caret is shown after each key.
+pub fn edit(alloc: Global, seed: u32, share: usize, digest: &mut Digest) -> Result<()> {
+    let mut desk = Replica::new(alloc, 1, Blocks::keyed(alloc, KEY), KEY);
+    type_and_show(alloc, seed, share, &mut desk, digest)
+}
+
+fn type_and_show(
+    alloc: Global,
+    seed: u32,
+    share: usize,
+    desk: &mut Desk,
+    digest: &mut Digest,
+) -> Result<()> {
+    let tables = SMALL.load(alloc)?;
+    let mut view = View::with_room(alloc, &tables, ROOM)?;
+    let mut chance = Chance::new(seed, 9);
+    let text = MIXED.text(alloc, &mut chance, BYTES / share.max(1))?;
+    import(desk, text.as_str())?;
+    let mut place = chance.below(desk.len());
+    for _ in 0..KEYS {
+        if chance.one_in(10) {
+            place = chance.below(desk.len());
+        }
+        place = press(desk, place, chance.below(8))?;
+        show(&mut view, desk, place, digest)?;
+    }
+    Ok(())
+}
+
+/// Lets a desk take what another one typed.
+fn import(desk: &mut Desk, text: &str) -> Result<()> {
+    let mut before = Place::Root;
+    let mut counter = 0u32;
+    for ch in text.chars() {
+        counter = counter.saturating_add(1);
+        let Some(id) = Id::new(counter, 2) else {
+            bail!("no identifier");
+        };
+        if let Some(op) = Op::insert(id, before, ch) {
+            desk.take(&op)?;
+        }
+        before = Place::After(id);
+    }
+    Ok(())
+}
+
+/// Types a character at a place of the text or erases the one before, as the key says. Returns the place after.
+fn press(desk: &mut Desk, place: usize, key: usize) -> Result<usize> {
+    let place = place.min(desk.len());
+    if key == 0 && place > 0 {
+        desk.erase_at(place - 1)?;
+        return Ok(place - 1);
+    }
+    let ch = match key {
+        1 => '\n',
+        2 => ' ',
+        3 => 'ש',
+        4 => '(',
+        5 => '7',
+        _ => 'e',
+    };
+    desk.type_char(place, ch)?;
+    Ok(place.saturating_add(1))
+}
+
+/// Shows the rows around the caret, and moves it about.
+fn show(view: &mut View, desk: &Desk, place: usize, digest: &mut Digest) -> Result<()> {
+    let text = desk.text()?;
+    if text.len() > LONGEST || code_points(text.as_str()) < place {
+        bail!("too large");
+    }
+    let grid = view.draw(WIDTH, Base::Auto, text.as_str())?;
+    let caret = at_place(&grid, place);
+    tell_window(&grid, caret.row, digest);
+    tell_caret(down(&grid, right(&grid, caret)), digest);
+    tell_caret(left(&grid, up(&grid, caret)), digest);
+    Ok(())
+}
+
+/// How many code points a text has.
+fn code_points(text: &str) -> usize
+    ensures { result ≡ length (chars text.now) }
+{
+    text.chars().count()
+}
+
+/// Takes in the rows of a window whose middle this row is.
+fn tell_window(grid: &Grid, row: usize, digest: &mut Digest) {
+    let first = row.saturating_sub(ROWS / 2);
+    for row in grid.rows().iter().skip(first).take(ROWS) {
+        tell_row(row, digest);
+    }
+}
+
+fn tell_row(row: &Row, digest: &mut Digest) {
+    for cell in row.cells() {
+        if let Cell::Head(number) = cell {
+            if let Some(entry) = row.entries().get(number as usize) {
+                digest.add_number(entry.span.first_place as usize);
+            }
+        }
+    }
+}
+
+fn tell_caret(caret: Caret, digest: &mut Digest) {
+    digest.add_number(caret.row);
+    digest.add_number(caret.gap);
+    digest.add_number(caret.place);
+}

@@ -1,0 +1,138 @@
+//! Texts of words.
+
+use crate::chance::Chance;
+use std::alloc::{AllocError, Global};
+
+/// Words, and how they make a text.
+#[derive(Clone, Copy)]
+pub struct Prose {
+    /// The words, each as likely as any other.
+    pub words: &'static [&'static str],
+    /// Of so many words one ends its paragraph; 0 where none does.
+    pub paragraph: usize,
+}
+
+/// Hebrew, Arabic and Latin in one text, with numbers, brackets and marks.
+pub const MIXED: Prose = Prose {
+    words: &[
+        "the",
+        "fox",
+        "jumps",
+        "over",
+        "dog,",
+        "peace",
+        "120",
+        "(x)",
+        "שלום",
+        "עולם",
+        "לכם",
+        "ולכל",
+        "הבאים",
+        "מחר.",
+        "(יום)",
+        "העיר",
+        "أهلا",
+        "العدد",
+        "كلمة",
+        "في",
+        "٣٤",
+        "世界",
+        "e\u{301}",
+        "naïve",
+        "1,250.5",
+        "well-known",
+    ],
+    paragraph: 40,
+};
+
+/// Latin alone, as in a letter or a program.
+pub const LATIN: Prose = Prose {
+    words: &[
+        "the", "quick", "brown", "fox", "jumps", "over", "a", "lazy", "dog,", "and", "sleeps",
+        "on;", "fn", "main()", "{", "}", "let", "x", "=", "1;", "return", "words", "of", "length",
+    ],
+    paragraph: 12,
+};
+
+/// Hebrew with its points and numbers.
+pub const HEBREW: Prose = Prose {
+    words: &[
+        "שלום",
+        "עולם,",
+        "לכם",
+        "ולכל",
+        "הבאים",
+        "אחריכם",
+        "ומחר",
+        "(יום)",
+        "שָׁלוֹם",
+        "בְּרֵאשִׁית",
+        "בָּרָא",
+        "120",
+        "15:30",
+        "עיר",
+        "בית־ספר",
+        "אל",
+        "לא",
+    ],
+    paragraph: 60,
+};
+
+/// What makes a layout work: isolates, embeddings, overrides, brackets in brackets, numbers with their
+/// signs, joined emoji and flags, in paragraphs that do not end.
+pub const KNOTTED: Prose = Prose {
+    words: &[
+        "\u{2067}שלום",
+        "a\u{2069}",
+        "\u{2066}x",
+        "\u{2068}كلمة\u{2069}",
+        "\u{202b}אבג",
+        "\u{202c}",
+        "\u{202e}abc\u{202c}",
+        "([{<",
+        ">}])",
+        "(a[ב]",
+        "ج)",
+        "٣٤,٥",
+        "-12%",
+        "$3",
+        "+٣",
+        "1/2",
+        "a\u{301}\u{308}\u{323}",
+        "בָ",
+        "👩\u{200d}👩\u{200d}👧",
+        "🇮🇱🇪🇬",
+        "\u{200f}!",
+        "\t",
+        "世界、",
+        "\u{ad}",
+        "—",
+        "«ג»",
+        "\u{2028}",
+    ],
+    paragraph: 0,
+};
+
+impl Prose {
+    /// A text of words with a space between, which ends with the word that reaches this many bytes.
+    pub fn text(
+        &self,
+        alloc: Global,
+        chance: &mut Chance,
+        bytes: usize,
+    ) -> Result<String, AllocError> {
+        let mut text = String::new(alloc);
+        for _ in 0..bytes {
+            if text.len() >= bytes {
+                break;
+            }
+            match self.words.get(chance.below(self.words.len())) {
+                Some(word) => text.push_str(word)?,
+                None => return Ok(text),
+            }
+            let ends = self.paragraph > 0 && chance.one_in(self.paragraph);
+            text.push(if ends { '\n' } else { ' ' })?;
+        }
+        Ok(text)
+    }
+}
