@@ -1,13 +1,13 @@
 //! Which block each identifier is in, and where blocks stand.
 
-ghost use Rattle.std.specs.Prelude.{◌≡◌, ◌+◌, ◌*◌, ◌-◌, ◌%◌, ◌^◌, ◌<◌, ◌≤◌, ℕ, length, get_or, slice_get, IsSome, None, OnOk, if◌then◌else◌, Some};
+ghost use Rattle.std.specs.Prelude.{◌≡◌, ◌+◌, ◌*◌, ◌-◌, ◌%◌, ◌^◌, ◌<◌, ◌≤◌, ℕ, length, get_or, slice_get, IsSome, None, option_map, OnOk, if◌then◌else◌, Some};
 ghost use Rattle.std.specs.List.{AllByRecursion};
 ghost use Rattle.std.specs.HashMap.{get, hash_map_len, hasher_of};
 ghost use Rattle.bg_types.specs.Identifier.{Identifier, same_id};
 ghost use Rattle.rga_sequence.specs.BlockRows.{has, numbers_of};
 ghost use Rattle.rga_sequence.specs.Grouped.{group_of, home_in, IsGrouped, HasIndexRoom};
 
-use crate::block::Block;
+use crate::block::{Block, FULL};
 use bg_types::{Id, Keyed, Memory};
 use rga_tree::Element;
 use std::alloc::Global;
@@ -23,6 +23,9 @@ pub struct Index {
     pub groups: HashMap<Id, usize, Keyed>,
     /// For each identifier of each group 1 more than its block's number, or 0 where it does not stand.
     pub numbers: Vec<u32>,
+    /// Where each identifier stood in its block when that was written down, or 0. What came before it since then has
+    /// moved it on, so it is sought from there. Nothing depends on it but the time of that search.
+    pub hints: Vec<u16>,
     /// The group that was written last, and its place. The next identifier is often of it too.
     pub recent: Option<(Id, usize)>,
 }
@@ -37,6 +40,7 @@ pub fn empty(alloc: Global, hasher: Keyed) -> Index
     Index {
         groups: HashMap::with_hasher(alloc, hasher),
         numbers: Vec::new(alloc),
+        hints: Vec::new(alloc),
         recent: None,
     }
 }
@@ -52,6 +56,7 @@ pub fn reserve(index: &mut Index, n: usize) -> Result<(), Memory>
 {
     index.groups.reserve(n)?;
     index.numbers.reserve(GROUP * n)?;
+    index.hints.reserve(GROUP * n)?;
     Ok(())
 }
 
@@ -67,8 +72,29 @@ pub fn home(index: &Index, id: Id) -> Option<usize>
     }
 }
 
-/// Writes down the block of an identifier.
-pub fn put(index: &mut Index, id: Id, number: usize)
+/// The number of the block of an identifier, and from where on it may stand there.
+pub fn home_and_hint(index: &Index, id: Id) -> Option<(usize, usize)>
+    requires { IsGrouped ⟦<Id as Eq>⟧.eq index.now }
+    ensures { option_map (λ found. found.0) result ≡ home_in ⟦<Id as Eq>⟧.eq index.now id }
+{
+    let place = find(index, group(id))?;
+    let slot = slot(place, id);
+    match index.numbers[slot] {
+        0 => None,
+        number => Some((number as usize - 1, hint(&index.hints, slot))),
+    }
+}
+
+/// Where the identifier of a slot may stand in its block.
+fn hint(hints: &[u16], slot: usize) -> usize {
+    match hints.get(slot) {
+        Some(at) => usize::from(*at),
+        None => 0,
+    }
+}
+
+/// Writes down the block of an identifier, and its place there.
+pub fn put(index: &mut Index, id: Id, number: usize, at: usize)
     requires grouped { IsGrouped ⟦<Id as Eq>⟧.eq index.old }
     requires few { number + 1 < 2 ^ 32 }
     requires room { HasIndexRoom index.old 1 }
@@ -78,10 +104,10 @@ pub fn put(index: &mut Index, id: Id, number: usize)
     ensures room { (n : ℕ) → HasIndexRoom index.old (n + 1) → HasIndexRoom index.new n }
 {
     let place = find_or_add(index, group(id));
-    write(index, place, id, number);
+    write(index, place, id, number, at);
 }
 
-/// The elements stand in another block now.
+/// The elements are all of another block now, from its front.
 pub fn rehome(index: &mut Index, moved: &[Element], number: usize)
     requires grouped { IsGrouped ⟦<Id as Eq>⟧.eq index.old }
     requires few { number + 1 < 2 ^ 32 }
@@ -91,9 +117,11 @@ pub fn rehome(index: &mut Index, moved: &[Element], number: usize)
     ensures grouped { IsGrouped ⟦<Id as Eq>⟧.eq index.new }
     ensures room { (n : ℕ) → HasIndexRoom index.old n → HasIndexRoom index.new n }
 {
+    let mut at = 0usize;
     for e in moved {
         let place = find(index, group(e.id)).unwrap();
-        write(index, place, e.id, number);
+        write(index, place, e.id, number, at);
+        at = at.wrapping_add(1);
     }
 }
 
@@ -162,11 +190,26 @@ fn add(index: &mut Index, group: Id) -> usize
     let kept: Result<_, _> = index.groups.insert(group, place);
     kept.unwrap();
     index.numbers.extend_from_slice(&[0; GROUP]).unwrap();
+    add_hints(&mut index.hints);
     place
 }
 
-/// Writes down the block of an identifier, whose group stands at this place.
-fn write(index: &mut Index, place: usize, id: Id, number: usize)
+/// Adds the hints of a group. They have memory wherever the group's numbers have.
+fn add_hints(hints: &mut Vec<u16>) {
+    if hints.capacity() - hints.len() >= GROUP {
+        hints.extend_from_slice(&[0; GROUP]).unwrap();
+    }
+}
+
+/// Writes down where the identifier of a slot stands in its block.
+fn write_hint(hints: &mut [u16], slot: usize, at: usize) {
+    if let Some(hint) = hints.get_mut(slot) {
+        *hint = (at % FULL) as u16;
+    }
+}
+
+/// Writes down the block of an identifier, whose group stands at this place, and its place in the block.
+fn write(index: &mut Index, place: usize, id: Id, number: usize, at: usize)
     requires grouped { IsGrouped ⟦<Id as Eq>⟧.eq index.old }
     requires place { get ⟦<Id as Eq>⟧.eq index.old.groups (group_of id) ≡ Some place }
     requires few { number + 1 < 2 ^ 32 }
@@ -175,7 +218,9 @@ fn write(index: &mut Index, place: usize, id: Id, number: usize)
     ensures grouped { IsGrouped ⟦<Id as Eq>⟧.eq index.new }
     ensures room { (n : ℕ) → HasIndexRoom index.old n → HasIndexRoom index.new n }
 {
-    index.numbers[slot(place, id)] = (number + 1) as u32;
+    let slot = slot(place, id);
+    index.numbers[slot] = (number + 1) as u32;
+    write_hint(&mut index.hints, slot, at);
     index.recent = Some((group(id), place));
 }
 

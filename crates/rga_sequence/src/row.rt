@@ -12,7 +12,7 @@ ghost use Rattle.rga_sequence.specs.Indexed.{blocks_in, elements_in, IsIndexed, 
 
 use crate::block::{Block, FULL, HALF, Spare};
 use crate::bounds::{self, NEIGHBOURS};
-use crate::index::{self, Index, home, rehome, renumber};
+use crate::index::{self, Index, home, home_and_hint, rehome, renumber};
 use crate::order::{count_in, hide_at, put_at, split_at};
 use crate::skip::place_from;
 use bg_types::{Id, Memory, Place};
@@ -74,12 +74,12 @@ fn indexed_spot(row: &Row, id: Id) -> Option<(usize, usize)>
     ensures place { IfSome result (λ s. offset (blocks_in row.now) s.0 s.1
         ≡ prefix_len (λ e. not (same_id id e.id)) (elements_in row.now)) }
 {
-    match home(&row.index, id) {
+    match home_and_hint(&row.index, id) {
         None => None,
-        Some(number) => {
+        Some((number, hint)) => {
             let p = row.places[number];
             let block = &row.blocks[p];
-            Some((p, before(&block.elements, block.recent, id)))
+            Some((p, before(&block.elements, hint, id)))
         }
     }
 }
@@ -113,15 +113,22 @@ fn recent(row: &Row) -> Option<(usize, usize, Element)>
     Some((p, at, *last))
 }
 
-/// How many elements stand before the one with this identifier. Looks at a likely place first.
-fn before(row: &[Element], likely: usize, id: Id) -> usize
+/// How many elements stand before the one with this identifier. It is sought from the hint on first.
+fn before(row: &[Element], hint: usize, id: Id) -> usize
     requires { is_distinct (ids_of row.now) ≡ true }
     ensures { result ≡ prefix_len (λ e. not (same_id id e.id)) row.now }
 {
+    let likely = sought_from(row, hint, id);
     if likely < row.len() && id == row[likely].id {
         return likely;
     }
     row.iter().take_while(|e| id != e.id).count()
+}
+
+/// Where the first element from the hint on stands that has this identifier, or the end.
+fn sought_from(row: &[Element], hint: usize, id: Id) -> usize {
+    let from = hint.min(row.len());
+    from + row[from..].iter().take_while(|e| id != e.id).count()
 }
 
 /// Puts in a new element: after its parent, and after all greater ones that directly follow it.
@@ -162,7 +169,7 @@ fn put_first(row: &mut Row, id: Id, parent: Place, ch: char, hidden: bool)
     row.blocks.push(block).unwrap();
     row.places.push(0).unwrap();
     row.bounds.clear();
-    index::put(&mut row.index, id, 0);
+    index::put(&mut row.index, id, 0, 0);
     row.recent = 0;
 }
 
@@ -314,7 +321,7 @@ fn put_into(row: &mut Row, q: usize, at: usize, id: Id, parent: Place, ch: char,
     put_at(&mut row.blocks, q, at, id, parent, ch, hidden);
     bounds::lower(&mut row.bounds, q, id);
     let number = row.blocks[q].number;
-    index::put(&mut row.index, id, number);
+    index::put(&mut row.index, id, number, at);
     row.recent = q;
 }
 

@@ -18,5 +18,5 @@ returns-clause-homes c = λ q.
     let few = mod-lt id.counter {m = 8} (omega arith) in
     let within : 8 * place + id.counter % 8 < length ns = omega (arith, before, few, c.requires.grouped.sized) in
     let more : c.args.number + 1 ≡ suc c.args.number = omega arith in
-    (λ i. home_at (set ns (c.slot.ensures i) (more i)) q (groups (group_of q)))
+    (λ i. home_at (set ns (c.slot-slot.ensures i) (more i)) q (groups (group_of q)))
     ∙ home_at-written ns q id place c.args.number groups within c.requires.place c.requires.grouped.apart

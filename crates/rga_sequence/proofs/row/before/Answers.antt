@@ -9,5 +9,5 @@ pub returns-then-eq : goal.returns-then-eq
 returns-then-eq c =
     let e = c.index-row-likely.result in
     let same : same_id c.args.id e.id ≡ true = search rules in
-    sym (until-there c.args.id c.args.row.now c.args.likely e c.requires c.if-likely-row.true
+    sym (until-there c.args.id c.args.row.now c.sought_from-likely.result e c.requires c.if-likely-row.true
     (ap (λ (x : Element). same_id c.args.id x.id) (sym c.index-row-likely.is) ∙ same))
