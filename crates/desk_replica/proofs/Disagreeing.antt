@@ -5,10 +5,10 @@ use Rattle.std.proofs.lemmas.List.Elements.{All-get_or, Contains-append_left, Co
 use Rattle.std.proofs.lemmas.Option.{get_or_from_slice_get, slice_get-get_or, slice_get_within}
 use Rattle.std.specs.FinMap as map
 use Rattle.bg_types.specs.WellFormed.{MayFollow}
-use Rattle.bg_types.specs.OperationSet.{OperationSet, AllWellFormed, Agree, Holds, MayJoin, ReusesIdentifier, size}
+use Rattle.bg_types.specs.OperationSet.{OperationSet, AllWellFormed, Agree, Holds, MayJoin, ReusesIdentifier, size, union}
 use Rattle.bg_types.specs.declared.op.OpView.{OpView}
 use Rattle.bg_types.specs.declared.op.OpView.TheVariants.{Insert}
-use Rattle.bg_types.proofs.Interface.{get-union}
+use Rattle.bg_types.proofs.Interface.{get-union, unwrap_first}
 use Rattle.rga_tree.specs.declared.element.Element.{Element}
 use Rattle.rga_tree.specs.Elements.{elements, element_of}
 use Rattle.rga_tree.proofs.Interface.{IsAttached-tree, listed-attached}
@@ -48,6 +48,12 @@ disagree_placed s t h =
     let at = h.1 in
     let x = element_at t at.0 e (slice_get-get_or (elements t) at.0 e at.1 ∙ ap (λ (y : Element). Some y) at.2) in
     disagree_of s t (insertion_of e) h.2 (subst (λ (y : Element). Holds t (insertion_of y)) x.1.1 x.1.0)
+
+-- what made an element of the tree is kept, whatever waits
+pub placed_kept : (t h : OperationSet) (e : Element) → Contains (elements t) e → Holds (union t h) (insertion_of e)
+placed_kept t h e at =
+    let x = element_at t at.0 e (slice_get-get_or (elements t) at.0 e at.1 ∙ ap (λ (y : Element). Some y) at.2) in
+    subst (λ (y : Element). Holds (union t h) (insertion_of y)) x.1.1 (get-union t h x.0.0 ∙ ap (λ o. unwrap_first o (map.get h.ins x.0.0)) x.1.0)
 
 pub agree_placed : (s t : OperationSet) → IsContent t → All (λ e. MayJoin s (insertion_of e)) (elements t) → Agree s t
 agree_placed s t c all id a b in_s in_t =

@@ -2,6 +2,7 @@
 #![tactic(auto)]
 
 mod answer;
+mod cursor;
 pub mod laws;
 mod placing;
 mod reading;

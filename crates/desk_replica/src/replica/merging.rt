@@ -1,8 +1,8 @@
 //! Taking all operations of another desk.
 
-ghost use Rattle.std.specs.Prelude.{◌≡◌, ◌≤◌, ◌<◌, ◌+◌, OnOk, IfOk, IfErr, IsOk, All, length};
+ghost use Rattle.std.specs.Prelude.{◌≡◌, ◌≤◌, ◌<◌, ◌+◌, OnOk, OnErr, IfOk, IfErr, IsOk, All, length};
 ghost use Rattle.std.specs.Bool.{OnTrue, OnFalse};
-ghost use Rattle.bg_types.specs.OperationSet.{Holds, Agree, MayJoin, ReusesIdentifier, union, size};
+ghost use Rattle.bg_types.specs.OperationSet.{Holds, Agree, MayJoin, ReusesIdentifier, union, size, with_operation};
 ghost use Rattle.bg_types.specs.WellFormed.{MayFollow};
 ghost use Rattle.bg_types.specs.declared.op.OpView.{OpView};
 ghost use Rattle.rga_tree.specs.Elements.{elements};
@@ -11,10 +11,12 @@ ghost use Rattle.desk_replica.specs.declared.answer.TakeFault.{TakeFault as Faul
 ghost use Rattle.desk_replica.specs.Desk.{insertion_of as made_by};
 ghost use Rattle.desk_replica.specs.Told.{told, insertions_in, deletions_in};
 ghost use Rattle.desk_replica.specs.Placement.{waiting_in};
+ghost use Rattle.desk_replica.specs.Reply.{IsRefused};
 ghost use Rattle.desk_replica.specs.Merging.{Disagree, IsMergeRefusal, IsMergeRefused, IsStopped, ReusesIn, with_operations};
 
 use super::Replica;
 use crate::answer::TakeFault;
+use crate::cursor::Cursor;
 use crate::placing::{Standing, count_waiting, look_up};
 use crate::reading::insertion_of;
 use bg_types::Op;
@@ -60,25 +62,53 @@ impl<S: Sequence> Replica<S> {
         ensures yes { OnTrue result (Disagree self.now.set (S.content seq.now)) }
         ensures no { OnFalse result (Agree self.now.set (S.content seq.now)) }
     {
+        let mut cursor = Cursor::front();
         for p in 0..seq.part_count() {
-            if self.disagrees_row(seq.part(p)) {
+            if self.disagrees_row(seq.part(p), &mut cursor) {
                 return true;
             }
         }
         false
     }
 
-    fn disagrees_row(&self, row: &[Element]) -> bool
+    /// Whether an element of a row reuses an identifier. The first is awaited at the cursor.
+    fn disagrees_row(&self, row: &[Element], cursor: &mut Cursor) -> bool
         requires { All (λ e. MayFollow e.parent e.id) row.now }
         ensures yes { OnTrue result (ReusesIn self.now.set row.now) }
         ensures no { OnFalse result (All (λ e. MayJoin self.now.set (made_by e)) row.now) }
     {
         for e in row {
-            if self.reuses(&insertion_of(e)) {
+            if self.reuses_at(e, cursor) {
                 return true;
             }
         }
         false
+    }
+
+    /// Whether the insertion of an element reuses an identifier. What stands at the cursor is known without a look-up.
+    fn reuses_at(&self, e: &Element, cursor: &mut Cursor) -> bool
+        requires { MayFollow e.now.parent e.now.id }
+        ensures yes { OnTrue result (ReusesIdentifier self.now.set (made_by e.now)) }
+        ensures no { OnFalse result (MayJoin self.now.set (made_by e.now)) }
+    {
+        if self.knows(e, cursor) {
+            cursor.step(&self.seq);
+            return false;
+        }
+        if self.seq.has(e.id) {
+            cursor.seek(&self.seq, e.id);
+        }
+        self.reuses(&insertion_of(e))
+    }
+
+    /// Whether an element stands at the cursor: then what made it is known.
+    fn knows(&self, e: &Element, cursor: &Cursor) -> bool
+        ensures { OnTrue result (Holds self.now.set (made_by e.now)) }
+    {
+        match cursor.read(&self.seq) {
+            Some(own) => is_made_alike(&own, e),
+            None => false,
+        }
     }
 
     fn disagrees_waiting(&self, held: &Held) -> bool
@@ -127,14 +157,15 @@ impl<S: Sequence> Replica<S> {
         ensures spare { size self.old.set + self.old.spare ≤ size self.new.set + self.new.spare }
         ensures unpaid { IfErr result (λ fault. fault ≡ TakeFault.Memory → self.new.spare ≡ 0) }
     {
+        let mut cursor = Cursor::front();
         for p in 0..seq.part_count() {
-            self.insert_row(seq.part(p))?;
+            self.insert_row(seq.part(p), &mut cursor)?;
         }
         Ok(())
     }
 
-    /// Takes the insertions that made the elements of a row.
-    fn insert_row(&mut self, row: &[Element]) -> Result<(), TakeFault>
+    /// Takes the insertions that made the elements of a row. The first is awaited at the cursor.
+    fn insert_row(&mut self, row: &[Element], cursor: &mut Cursor) -> Result<(), TakeFault>
         requires { All (λ e. MayFollow e.parent e.id) row.now }
         ensures ok { OnOk result (self.new.set ≡ with_operations self.old.set (insertions_in row.now)) }
         ensures fault { IfErr result (IsStopped self.old.set (insertions_in row.now) self.new.set) }
@@ -143,7 +174,28 @@ impl<S: Sequence> Replica<S> {
         ensures unpaid { IfErr result (λ fault. fault ≡ TakeFault.Memory → self.new.spare ≡ 0) }
     {
         for e in row {
-            self.take(&insertion_of(e))?;
+            self.take_at(e, cursor)?;
+        }
+        Ok(())
+    }
+
+    /// Takes the insertion that made an element. What stands at the cursor is known without a look-up.
+    fn take_at(&mut self, e: &Element, cursor: &mut Cursor) -> Result<(), TakeFault>
+        requires { MayFollow e.now.parent e.now.id }
+        ensures ok { OnOk result (self.new.set ≡ with_operation self.old.set (made_by e.now)) }
+        ensures err { OnErr result (self.new ≡ self.old) }
+        ensures fault { IfErr result (IsRefused self.old.set (made_by e.now)) }
+        ensures site { self.new.site ≡ self.old.site }
+        ensures spare { size self.old.set + self.old.spare ≤ size self.new.set + self.new.spare }
+        ensures unpaid { IfErr result (λ fault. fault ≡ TakeFault.Memory → self.old.spare ≡ 0) }
+    {
+        if self.knows(e, cursor) {
+            cursor.step(&self.seq);
+            return Ok(());
+        }
+        self.take(&insertion_of(e))?;
+        if self.seq.has(e.id) {
+            cursor.seek(&self.seq, e.id);
         }
         Ok(())
     }
@@ -191,4 +243,17 @@ impl<S: Sequence> Replica<S> {
         }
         Ok(())
     }
+}
+
+/// Whether one insertion made both elements.
+fn is_made_alike(one: &Element, other: &Element) -> bool
+    ensures { OnTrue result (made_by one.now ≡ made_by other.now) }
+{
+    if one.id != other.id {
+        return false;
+    }
+    if one.parent != other.parent {
+        return false;
+    }
+    one.ch == other.ch
 }
