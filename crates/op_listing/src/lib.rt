@@ -13,6 +13,7 @@ mod listing;
 mod listing_fault;
 mod number;
 mod words;
+mod written;
 
 pub use engine::dump::dump;
 pub use engine::migrate::migrate;

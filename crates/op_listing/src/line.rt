@@ -1,7 +1,6 @@
-//! One line of a listing, written and read.
+//! One line of a listing, read.
 
-ghost use Rattle.std.specs.Prelude.{◌≡◌, [], ◌∷◌, ◌++◌, Some, None, codes, string_bytes, option_to_list, not, is_some, OnOk, IfOk, IfSome, MatchResult};
-ghost use Rattle.op_listing.specs.Listing.{line_of, identifier_word, parent_word, scalar_word};
+ghost use Rattle.std.specs.Prelude.{◌≡◌, Some, None, option_to_list, not, is_some, IfOk, IfSome, MatchResult};
 ghost use Rattle.op_listing.specs.Words.{words};
 ghost use Rattle.op_listing.specs.Line.{operation_in, insertion_in, erasure_in, parent_has_zero, operation_fault, written_fault, line_fault};
 ghost use Rattle.op_listing.specs.Listed.{line_operations};
@@ -11,49 +10,6 @@ use crate::field::{Numbers, Parent, read_numbers, read_parent, read_scalar};
 use crate::line_fault::LineFault;
 use crate::words::{next_word, one_word, three_words};
 use bg_types::{Id, Op, OpView, Place};
-use std::alloc::AllocError;
-
-/// Appends an operation's line.
-pub fn push_line(op: &Op, text: &mut String) -> Result<(), AllocError>
-    ensures { OnOk result (string_bytes text.new ≡ string_bytes text.old ++ line_of op.now) }
-{
-    match op.view() {
-        OpView::Insert { id, parent, ch } => push_insertion(id, &parent, ch, text),
-        OpView::Erase { target } => { writeln!(text, "e {}.{}", target.counter(), target.site()) }
-    }
-}
-
-fn push_insertion(id: Id, parent: &Place, ch: char, text: &mut String) -> Result<(), AllocError>
-    ensures { OnOk result (string_bytes text.new ≡ string_bytes text.old ++ line_of (OpView.Insert id parent.now ch)) }
-{
-    push_start(id, text)?;
-    push_parent(parent, text)?;
-    push_scalar(ch, text)?;
-    text.push_str("\n")
-}
-
-/// Appends an insertion's verb and its identifier.
-fn push_start(id: Id, text: &mut String) -> Result<(), AllocError>
-    ensures { OnOk result (string_bytes text.new ≡ string_bytes text.old ++ (codes "i " ++ identifier_word id)) }
-{
-    write!(text, "i {}.{}", id.counter(), id.site())
-}
-
-/// Appends a parent's word, between two spaces.
-fn push_parent(parent: &Place, text: &mut String) -> Result<(), AllocError>
-    ensures { OnOk result (string_bytes text.new ≡ string_bytes text.old ++ 32 ∷ (parent_word parent.now ++ 32 ∷ [])) }
-{
-    match parent {
-        Place::Root => text.push_str(" root "),
-        Place::After(id) => write!(text, " {}.{} ", id.counter(), id.site()),
-    }
-}
-
-fn push_scalar(ch: char, text: &mut String) -> Result<(), AllocError>
-    ensures { OnOk result (string_bytes text.new ≡ string_bytes text.old ++ scalar_word ch) }
-{
-    write!(text, "{:04X}", u32::from(ch))
-}
 
 /// The operation of a line, none where the line has no words, or the line's first fault.
 pub fn read_line(line: &[u8]) -> Result<Option<Op>, LineFault>

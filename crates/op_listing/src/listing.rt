@@ -1,27 +1,25 @@
 //! Whole listings, written and read.
 
-ghost use Rattle.std.specs.Prelude.{◌≡◌, string_bytes, IfOk, IfErr};
+ghost use Rattle.std.specs.Prelude.{◌≡◌, IfOk, IfErr};
 ghost use Rattle.op_listing.specs.Listing.{listing_of};
 ghost use Rattle.op_listing.specs.Listed.{Lists};
 ghost use Rattle.op_listing.specs.Outcome.{TellsLine};
 
-use crate::line::{push_line, read_line};
+use crate::line::read_line;
 use crate::lines::split_line;
 use crate::listing_fault::ListingFault;
+use crate::written::{LONGEST_LINE, push_line};
 use bg_types::{Memory, Op};
 use std::alloc::Global;
-
-/// How many bytes the longest line has: `i 4294967295.65535 4294967294.65535 10FFFF` and its LF.
-const LONGEST_LINE: usize = 43;
 
 /// How many bytes the shortest line of an insertion has: `i 1.1 root 0061` and its LF.
 const INSERTION_LINE: usize = 16;
 
 /// The listing of the operations. Memory is taken once.
-pub fn write_listing(alloc: Global, ops: &[Op]) -> Result<String, Memory>
-    ensures { IfOk result (λ text. string_bytes text ≡ listing_of ops.now) }
+pub fn write_listing(alloc: Global, ops: &[Op]) -> Result<Vec<u8>, Memory>
+    ensures { IfOk result (λ text. text.items ≡ listing_of ops.now) }
 {
-    let mut text = String::with_capacity(alloc, ops.len().saturating_mul(LONGEST_LINE))?;
+    let mut text = Vec::with_capacity(alloc, ops.len().saturating_mul(LONGEST_LINE))?;
     for op in ops {
         push_line(op, &mut text)?;
     }

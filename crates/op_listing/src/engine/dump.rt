@@ -17,6 +17,6 @@ pub fn dump<S: Sink>(alloc: Global, file: &[u8], out: &mut S) -> Result<(), File
 {
     let ops = decode_file(alloc, file)?;
     let listing = write_listing(alloc, &ops)?;
-    put_all(out, listing.as_bytes())?;
+    put_all(out, &listing)?;
     Ok(())
 }
