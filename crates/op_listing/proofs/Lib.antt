@@ -1,6 +1,7 @@
 -- The modules of this crate's proofs.
 pub mod Parting
 pub mod Numerals
+pub mod Leading
 pub mod Shapes
 pub mod Padding
 pub mod FirstFault

@@ -28,7 +28,7 @@ pub is_digits-from : (base : ℕ) (word : List ℕ) → AllDigits base word → 
 is_digits-from base [] h = refl
 is_digits-from base (c ∷ cs) h = λ i. lt-ltb (digit_value c) base h.0 i && is_digits-from base cs h.1 i
 
-all_at : (base : ℕ) (word : List ℕ) (i : ℕ) → AllDigits base word → i < length word → digit_value (get_or word i 0) < base
+pub all_at : (base : ℕ) (word : List ℕ) (i : ℕ) → AllDigits base word → i < length word → digit_value (get_or word i 0) < base
 all_at base [] i h lt = absurd (omega (arith, lt))
 all_at base (c ∷ cs) zero h lt = h.0
 all_at base (c ∷ cs) (suc i) h lt = all_at base cs i h.1 (omega (arith, lt))

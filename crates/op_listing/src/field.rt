@@ -1,11 +1,11 @@
 //! What the words of a listing's line say.
 
-ghost use Rattle.std.specs.Prelude.{◌≡◌, option_map};
+ghost use Rattle.std.specs.Prelude.{◌≡◌, ◌<◌, ◌==◌, Some, None, length, option_map, MatchOption};
+ghost use Rattle.std.specs.List.{before_first, position_or_len};
 ghost use Rattle.op_listing.specs.Line.{counter_in, site_in, scalar_in, identifier_in, parent_in};
 ghost use Rattle.op_listing.specs.Field.{identifier_of, parent_place};
 
-use crate::number::read_number;
-use crate::words::first_place;
+use crate::number::{leading_number, read_number};
 
 /// The most digits of a counter or a site, leading zeros included.
 const DECIMAL_DIGITS: usize = 10;
@@ -33,11 +33,7 @@ pub enum Parent {
 pub fn read_numbers(word: &[u8]) -> Option<Numbers>
     ensures { option_map identifier_of result ≡ identifier_in word.now }
 {
-    let point = first_place(word, b'.');
-    if point == word.len() {
-        return None;
-    }
-    let counter = read_counter(&word[..point])?;
+    let (counter, point) = leading_counter(word)?;
     let site = read_site(&word[point + 1..])?;
     Some(Numbers { counter, site })
 }
@@ -60,6 +56,22 @@ pub fn read_scalar(word: &[u8]) -> Option<u32>
         return None;
     }
     read_number(word, 16)
+}
+
+/// The counter before a word's first point, and where that point is.
+fn leading_counter(word: &[u8]) -> Option<(u32, usize)>
+    ensures { MatchOption result (identifier_in word.now ≡ None)
+        (λ found. (found.1 < length word.now) × (found.1 ≡ position_or_len (λ b. b == 46) word.now)
+        × (counter_in (before_first (λ b. b == 46) word.now) ≡ Some found.0)) }
+{
+    let (counter, point) = leading_number(word);
+    if point == word.len() || word[point] != b'.' {
+        return None;
+    }
+    if point == 0 || point > DECIMAL_DIGITS {
+        return None;
+    }
+    Some((u32::try_from(counter).ok()?, point))
 }
 
 fn read_site(word: &[u8]) -> Option<u16>

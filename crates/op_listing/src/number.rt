@@ -1,6 +1,7 @@
 //! The number that a word writes.
 
-ghost use Rattle.std.specs.Prelude.{◌≡◌, ◌<◌, ◌≤◌, ◌^◌, SomeIff};
+ghost use Rattle.std.specs.Prelude.{◌≡◌, ◌<◌, ◌≤◌, ◌^◌, length, take, get_or, SomeIff};
+ghost use Rattle.std.specs.Char.{digit_value};
 ghost use Rattle.std.specs.Str.Parse.{AllDigits, digits_value};
 ghost use Rattle.op_listing.specs.Number.{number_in};
 
@@ -29,4 +30,22 @@ pub fn read_number(word: &[u8], base: u32) -> Option<u32>
         value = value.checked_mul(base)?.checked_add(digit)?;
     }
     Some(value)
+}
+
+/// The number that the decimal digits at the front of a word write, and how many they are: of the
+/// first eleven bytes, since no number has as many digits.
+pub fn leading_number(word: &[u8]) -> (u64, usize)
+    ensures within { (result.1 ≤ length word.now) × (result.1 ≤ 11) }
+    ensures digits { AllDigits 10 (take result.1 word.now) }
+    ensures value { result.0 ≡ digits_value 10 (take result.1 word.now) }
+    ensures stop { result.1 < 11 → result.1 < length word.now → 10 ≤ digit_value (get_or word.now result.1 0) }
+{
+    let end = word.len().min(11);
+    let mut value: u64 = 0;
+    let mut count = 0;
+    while count < end && word[count] >= b'0' && word[count] <= b'9' {
+        value = value * 10 + u64::from(word[count] - b'0');
+        count += 1;
+    }
+    (value, count)
 }
