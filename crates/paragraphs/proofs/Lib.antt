@@ -9,3 +9,4 @@ pub mod Following
 pub mod Plain
 pub mod Afresh
 pub mod Gathered
+pub mod CommonBytes

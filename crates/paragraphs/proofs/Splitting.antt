@@ -1,14 +1,15 @@
 -- A text that is split up to a place.
-use Rattle.std.proofs.Common.{◌≡◌, ℕ, ◌+◌, ◌-◌, ◌≤◌, true, false, List, [], ◌∷◌, ◌++◌, length, take, drop, slice_range, refl, sym, ap, ap₂, subst, ◌∙◌, arith}
-use Rattle.std.proofs.lemmas.List.{append_assoc, drop_at, take_rest, nil_from_length}
-use Rattle.std.proofs.lemmas.List.Elements.{All-same}
-use Rattle.std.proofs.lemmas.Str.{chars-nil, chars_past_char, encodes-chars, length-le-encodes, IsUtf8-past_char}
+use Rattle.std.proofs.Common.{◌≡◌, ℕ, ◌+◌, ◌-◌, ◌≤◌, true, false, List, [], ◌∷◌, ◌++◌, length, take, drop, slice_range, refl, sym, ap, ap₂, subst, ◌∙◌, ◌&&◌, ◌==◌, not, arith}
+use Rattle.std.proofs.lemmas.List.{append_assoc, drop_at, length-append, length-drop, take_rest, nil_from_length}
+use Rattle.std.proofs.lemmas.List.Elements.{All-same, All-head, All-tail}
+use Rattle.std.proofs.lemmas.Str.{chars-nil, chars_past_char, encodes-chars, length-le-encodes, IsUtf8-past_char, IsCharBoundary-at_seam}
 use Rattle.std.specs.List.{All}
 use Rattle.std.specs.Prelude.{encode_utf8, encode_utf8_all}
 use Rattle.std.specs.Str.{IsUtf8, IsCharBoundary}
 use Rattle.unicode_tables.specs.Tables.{TableValues, bidi_of}
 use Rattle.paragraphs.specs.Text.{code_points}
-use Rattle.paragraphs.specs.Paragraphs.{Paragraph, ends_paragraph, paragraph_between, pieces, paragraphs, StandsIn}
+use Rattle.paragraphs.specs.Common.{is_common, HasNoCommonSeparator, IsFront}
+use Rattle.paragraphs.specs.Paragraphs.{Paragraph, begins_with_line_feed, ends_paragraph, paragraph_between, pieces, paragraphs, StandsIn}
 use Rattle.paragraphs.proofs.Cutting.{cuts_from, cuts-is, drop-step, step-le}
 use Rattle.paragraphs.proofs.Slices.{byte_of, byte_of-slice, text-split, length-byte_of, slice_range-byte_of, IsCharBoundary-byte_of}
 use Rattle.paragraphs.proofs.Pieces.{joined, pieces-cut, pieces-no_cut, joined-pieces, pieces-stand}
@@ -140,6 +141,38 @@ module _ (tables : TableValues) (text rest : List ℕ) (done : List Paragraph) (
               ∙ ap (λ t. done ++ t) (sym (pieces-cut (bidi_of tables) (code_points text) first_place place c (code_points after) (sym ends)))
               ∙ ap (λ cs. done ++ pieces (code_points text) first_place (cuts_from (bidi_of tables) place cs)) (sym head) ∙ s.so_far;
         }
+
+-- characters that end no paragraph passed over
+pub IsSplitTo-over : (tables : TableValues) (text : List ℕ) (done : List Paragraph) (first_byte first_place : ℕ) → IsUtf8 text → HasNoCommonSeparator tables
+    → (cs after rest : List ℕ) (place : ℕ) → All (λ c. is_common c ≡ true) cs → rest ≡ encode_utf8_all cs ++ after
+    → IsSplitTo tables text rest done first_byte first_place place → IsSplitTo tables text after done first_byte first_place (place + length cs)
+IsSplitTo-over tables text done first_byte first_place u h [] after rest place common e s =
+    let same : place ≡ place + 0 = omega arith in
+    subst (λ n. IsSplitTo tables text after done first_byte first_place n) same (subst (λ r. IsSplitTo tables text r done first_byte first_place place) e s)
+IsSplitTo-over tables text done first_byte first_place u h (c ∷ cs) after rest place common e s =
+    let later = encode_utf8_all cs ++ after in
+    let stays = sym (ap (λ b. b && not (c == 0xD && begins_with_line_feed (bidi_of tables) (code_points later))) (h.each c (All-head (λ x. is_common x ≡ true) c cs common))) in
+    let step = IsSplitTo-on tables text rest done first_byte first_place place u s c later (e ∙ append_assoc (encode_utf8 c) (encode_utf8_all cs) after) stays in
+    let same : place + 1 + length cs ≡ place + length (c ∷ cs) = omega arith in
+    subst (λ n. IsSplitTo tables text after done first_byte first_place n) same
+    (IsSplitTo-over tables text done first_byte first_place u h cs after later (place + 1) (All-tail (λ x. is_common x ≡ true) c cs common) refl step)
+
+module _ (tables : TableValues) (text rest : List ℕ) (done : List Paragraph) (first_byte first_place place : ℕ) (u : IsUtf8 text)
+    (h : HasNoCommonSeparator tables) (bytes places : ℕ) (f : IsFront rest bytes places) (s : IsSplitTo tables text rest done first_byte first_place place) where
+  pub IsSplitTo-front : IsSplitTo tables text (drop bytes rest) done first_byte first_place (place + places)
+  IsSplitTo-front =
+      subst (λ n. IsSplitTo tables text (drop bytes rest) done first_byte first_place (place + n)) f.count
+      (IsSplitTo-over tables text done first_byte first_place u h f.chars (drop bytes rest) rest place f.common f.split s)
+
+  pub front-place : place + places ≤ length text
+  front-place = let w = IsSplitTo-front.within in let n = length-code_points text u in omega arith
+
+  pub front-boundary : IsCharBoundary rest bytes
+  front-boundary =
+      let all = ap length f.split ∙ length-append (encode_utf8_all f.chars) (drop bytes rest) in
+      let within = f.within in
+      let same : length (encode_utf8_all f.chars) ≡ bytes = omega (arith, length-drop bytes rest) in
+      subst (IsCharBoundary rest) same (IsCharBoundary-at_seam rest (encode_utf8_all f.chars) (drop bytes rest) f.split IsSplitTo-front.utf8)
 
 -- what all paragraphs are
 pub joined-paragraphs : (tables : TableValues) (text : List ℕ) → IsUtf8 text → joined (paragraphs tables text) ≡ text

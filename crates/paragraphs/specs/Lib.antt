@@ -5,3 +5,4 @@ pub mod Paragraphs
 pub mod Clusters
 pub mod Spans
 pub mod Columns
+pub mod Common

@@ -7,6 +7,7 @@ ghost use Rattle.paragraphs.specs.Text.{code_points};
 ghost use Rattle.paragraphs.specs.Paragraphs.{begins_with_line_feed, ends_paragraph, paragraphs, StandsIn};
 
 use crate::class::is_separator;
+use crate::common::{begins_common, common_front, may_pass_over};
 use crate::para::Para;
 use bg_types::Memory;
 use std::alloc::Global;
@@ -38,6 +39,7 @@ pub fn split<'a>(alloc: Global, tables: &Tables, text: &'a str) -> Result<Vec<Pa
     ensures joined { IfOk result (λ v. concat (map (λ p. p.text) v.items) ≡ text.now) }
     ensures slices { IfOk result (λ v. All (StandsIn text.now) v.items) }
 {
+    let passes = may_pass_over(tables, text);
     let mut paragraphs = Vec::new(alloc);
     let mut first_byte = 0;
     let mut first_place = 0;
@@ -51,6 +53,10 @@ pub fn split<'a>(alloc: Global, tables: &Tables, text: &'a str) -> Result<Vec<Pa
             paragraphs.push(Para::new(&text[first_byte..end], first_byte, first_place))?;
             first_byte = end;
             first_place = place;
+        } else if passes && begins_common(rest) {
+            let front = common_front(rest);
+            place += front.places;
+            chars = rest[front.bytes..].chars();
         }
     }
     paragraphs.push(Para::new(&text[first_byte..], first_byte, first_place))?;

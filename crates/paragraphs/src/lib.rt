@@ -3,6 +3,7 @@
 
 mod class;
 mod cluster;
+mod common;
 mod cuts;
 pub mod laws;
 mod para;
