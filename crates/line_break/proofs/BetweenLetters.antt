@@ -1,7 +1,6 @@
 -- Between letters the table gives no break.
 use Rattle.std.proofs.Common.{◌≡◌, refl, ap, sym, ◌∙◌, List, [], ◌∷◌, ◌++◌, Bool, true, false, not, ◌&&◌, ◌||◌}
 use Rattle.std.specs.List.{list_any}
-use Rattle.bg_types.specs.declared.class.Lb.{Lb}
 use Rattle.bg_types.specs.declared.class.Lb.TheVariants.{Al, Bk, Cb, Cr, Hl, Lf, Nl, Sp, Zw}
 use Rattle.bg_types.specs.contracts.class.Lb.{the_type}
 use denote.Enum.Bare.{sameb}

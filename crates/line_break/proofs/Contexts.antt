@@ -1,5 +1,5 @@
 -- What stands before a boundary, one code point further.
-use Rattle.std.proofs.Common.{◌≡◌, refl, ap, sym, ◌∙◌, List, [], ◌∷◌, ◌++◌, Bool, true, false, ◌&&◌, fold}
+use Rattle.std.proofs.Common.{◌≡◌, refl, ap, sym, ◌∙◌, List, [], ◌∷◌, ◌++◌, true, false, ◌&&◌, fold}
 use Rattle.bg_types.specs.declared.class.Lb.TheVariants.{Sp}
 use Rattle.line_break.specs.declared.item.Item.{Item}
 use Rattle.line_break.specs.declared.context.Before.{Before}

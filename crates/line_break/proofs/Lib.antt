@@ -14,3 +14,4 @@ pub mod Measuring
 pub mod Outlining
 pub mod Following
 pub mod Fitting
+pub mod LetterRuns

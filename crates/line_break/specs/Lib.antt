@@ -9,3 +9,4 @@ pub mod Measures
 pub mod Lines
 pub mod Open
 pub mod Ranges
+pub mod LetterRuns

@@ -41,10 +41,11 @@ impl Measure {
         ensures measured { result ≡ measure_of tables.now (c ∷ []) }
         ensures points { code_points (encode_utf8 c) ≡ c ∷ [] }
     {
+        let class = tables.lb(c);
         Measure {
             size: 1,
             columns: columns_of_one(tables, c),
-            is_space: is_one_of(tables.lb(c), &[Lb::Sp]),
+            is_space: is_one_of(class, &[Lb::Sp]),
         }
     }
 

@@ -1,11 +1,13 @@
 //! The columns of a cluster.
 
-ghost use Rattle.std.specs.Prelude.{◌≡◌, ◌<◌, length, [], ◌∷◌};
+ghost use Rattle.std.specs.Prelude.{◌≡◌, ◌<◌, ◌||◌, length, [], ◌∷◌};
 ghost use Rattle.std.specs.List.{list_all, list_any};
+ghost use Rattle.paragraphs.specs.Classes.{is_separator, is_removed, is_isolate_control};
 ghost use Rattle.paragraphs.specs.Text.{code_points};
 ghost use Rattle.paragraphs.specs.Columns.{ends_line, begins_with_end, is_direction_mark, is_invisible, takes_two, takes_two_by_choice, columns_by_choice, columns_of};
 
 use crate::class::{is_ambiguous, is_line_end, is_removed, is_separator, is_wide};
+use bg_types::Bidi;
 use unicode_tables::Tables;
 
 /// The columns of a cluster, 0 to 2. It has none if it begins with what ends a line or a
@@ -28,13 +30,36 @@ pub fn columns(tables: &Tables, cluster: &str) -> u8
 pub fn columns_of_one(tables: &Tables, c: char) -> u8
     ensures { result ≡ columns_of tables.now (c ∷ []) }
 {
-    if ends_line(tables, c) || is_invisible(tables, c) {
+    let class = tables.bidi(c);
+    if has_no_columns(class) || is_line_end(tables.lb(c)) || is_direction_mark(c) {
         0
     } else if is_wide(tables.ea(c)) || takes_two_by_choice(tables, c) {
         2
     } else {
         1
     }
+}
+
+/// Whether a character of this class has no columns where it stands alone.
+#[inline]
+#[tactic(auto, unfolding(crate::specs::Classes::is_separator, bg_types::specs::Classes::is_removed, bg_types::specs::Classes::is_isolate_control))]
+fn has_no_columns(class: Bidi) -> bool
+    ensures { result ≡ (is_separator class || (is_removed class || is_isolate_control class)) }
+{
+    matches!(
+        class,
+        Bidi::B
+            | Bidi::Rle
+            | Bidi::Lre
+            | Bidi::Rlo
+            | Bidi::Lro
+            | Bidi::Pdf
+            | Bidi::Bn
+            | Bidi::Lri
+            | Bidi::Rli
+            | Bidi::Fsi
+            | Bidi::Pdi
+    )
 }
 
 /// The columns of a cluster of any number of code points.

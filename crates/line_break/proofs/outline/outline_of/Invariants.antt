@@ -1,5 +1,5 @@
 -- The clusters so far are outlined and measured, and there is room for those that are left.
-use Rattle.std.proofs.Common.{◌≤◌, length, vec_len, vec_capacity}
+use Rattle.std.proofs.Common.{length, vec_len, vec_capacity}
 use Rattle.line_break.proofs.Measuring.{IsMeasuredTo}
 use Rattle.line_break.proofs.Outlining.{IsOutlinedTo, HasRoom}
 use Rattle.line_break.proofs.outline.outline_of.Given as goal
