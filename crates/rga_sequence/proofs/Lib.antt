@@ -6,6 +6,7 @@ pub mod Joined
 pub mod Least
 pub mod Falling
 pub mod Neighbours
+pub mod Nth
 pub mod Seen
 pub mod Split
 pub mod Passing

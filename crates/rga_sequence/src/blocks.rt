@@ -15,8 +15,9 @@ ghost use Rattle.rga_sequence.specs.Indexed.{blocks_in, elements_in, IsIndexed, 
 
 use crate::block::{HALF, weight};
 use crate::index::empty;
-use crate::look::{Look, find};
+use crate::look::Look;
 use crate::row::{Row, block_at, hide, make_memory, put, spot, stands};
+use crate::visible::{block_of, place_in};
 use bg_types::{Hashed, Id, Keyed, Memory, Place};
 use rga_tree::{Element, Fresh, Sequence};
 use std::alloc::Global;
@@ -83,7 +84,7 @@ impl Blocks {
         self.row.blocks.len()
     }
 
-    /// Visible element k, with the looks counted from 0.
+    /// Visible element k. The number of looks is that which `find` takes.
     fn shown(&mut self, k: usize) -> Element
         requires { k < length (visible (⟦<Blocks as Sequence>⟧.content self.old)) }
         ensures id { slice_get (visible_ids (⟦<Blocks as Sequence>⟧.content self.old)) k ≡ Some result.id }
@@ -92,8 +93,11 @@ impl Blocks {
         ensures room { ⟦<Blocks as Sequence>⟧.free self.new ≡ ⟦<Blocks as Sequence>⟧.free self.old }
         ensures looks { FindsBy (⟦<Blocks as Look>⟧.blocks self.old) k result (⟦<Blocks as Look>⟧.looked self.new) }
     {
-        self.looks = 0;
-        find(self, k)
+        let (b, left) = block_of(&self.row.blocks, k);
+        let block = &self.row.blocks[b];
+        let j = place_in(block, left);
+        self.looks = (b + 1 + (j + 1)) as u64;
+        block.elements[j]
     }
 }
 

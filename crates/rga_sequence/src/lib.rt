@@ -10,6 +10,7 @@ mod look;
 mod order;
 mod row;
 mod skip;
+mod visible;
 
 pub use blocks::Blocks;
 pub use look::{Look, find};

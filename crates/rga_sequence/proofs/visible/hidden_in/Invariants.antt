@@ -1,0 +1,7 @@
+-- What stays true in the loop of `hidden_in`.
+use Rattle.std.proofs.Common.{◌≡◌, ◌+◌, take}
+use Rattle.rga_sequence.specs.Blocks.{seen}
+use Rattle.rga_sequence.proofs.visible.hidden_in.Given as goal
+
+abbrev pub invariant-loop-e : goal.invariant-loop-e
+invariant-loop-e l = l.hidden + seen (take l.e-index l.row) ≡ l.e-index

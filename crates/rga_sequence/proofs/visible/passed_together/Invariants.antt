@@ -1,0 +1,14 @@
+-- What stays true in the loop of `passed_together`.
+use Rattle.std.proofs.Common.{◌≡◌, ◌<◌, ◌+◌, ◌-◌, take, length}
+use Rattle.rga_sequence.specs.Blocks.{seen_all}
+use Rattle.rga_sequence.specs.BlockRows.{items_of}
+use Rattle.rga_sequence.proofs.visible.passed_together.Given as goal
+
+abbrev pub invariant-loop-b : goal.invariant-loop-b
+invariant-loop-b l = record {
+  there : l.b < length l.blocks;
+  before : seen_all (take l.b (items_of l.blocks)) + l.left ≡ l.k;
+}
+
+abbrev pub decreases-loop-b : goal.decreases-loop-b
+decreases-loop-b l = length l.blocks - l.b
