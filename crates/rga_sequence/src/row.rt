@@ -22,6 +22,9 @@ use std::alloc::Global;
 /// How many blocks there are at most: more than any memory holds. So the index has a block's number in 32 bits.
 const MOST: usize = 4_294_967_295;
 
+/// How many elements are compared before the end of a block is looked for.
+const COMPARED: usize = 8;
+
 /// Blocks in order, memory for more, the number of the block of each identifier, and the place of
 /// the block of each number.
 #[derive(Drop)]
@@ -127,8 +130,26 @@ fn before(row: &[Element], hint: usize, id: Id) -> usize
 
 /// Where the first element from the hint on stands that has this identifier, or the end.
 fn sought_from(row: &[Element], hint: usize, id: Id) -> usize {
-    let from = hint.min(row.len());
+    let from = past_eights(row, hint.min(row.len()), id);
     from + row[from..].iter().take_while(|e| id != e.id).count()
+}
+
+/// As far from one place on as eight elements at a time lack this identifier.
+fn past_eights(row: &[Element], from: usize, id: Id) -> usize
+    requires { from ≤ length row.now }
+    ensures { result ≤ length row.now }
+{
+    let mut at = from;
+    while row.len() - at >= COMPARED && !is_among(&row[at..at + COMPARED], id) {
+        at += COMPARED;
+    }
+    at
+}
+
+/// Whether an element has this identifier.
+#[inline(always)]
+fn is_among(row: &[Element], id: Id) -> bool {
+    row.iter().any(|e| id == e.id)
 }
 
 /// Puts in a new element: after its parent, and after all greater ones that directly follow it.
