@@ -9,3 +9,4 @@ pub mod ReadLines
 pub mod Listings
 pub mod Outcomes
 pub mod ListedAgain
+pub mod PlainLines

@@ -31,21 +31,21 @@ use Rattle.op_listing.proofs.Parting.{more_lines}
 use Rattle.op_listing.proofs.Padding.{length-hexadecimal}
 
 -- each byte is above m
-abbrev AllAbove : ℕ → List ℕ → Type 0
+abbrev pub AllAbove : ℕ → List ℕ → Type 0
 AllAbove m bytes = AllByRecursion (λ b. m < b) bytes
 
-above-append : (m : ℕ) (xs ys : List ℕ) → AllAbove m xs → AllAbove m ys → AllAbove m (xs ++ ys)
+pub above-append : (m : ℕ) (xs ys : List ℕ) → AllAbove m xs → AllAbove m ys → AllAbove m (xs ++ ys)
 above-append m [] ys h k = k
 above-append m (x ∷ xs) ys h k = (h.0, above-append m xs ys h.1 k)
 
-above-less : (m n : ℕ) (xs : List ℕ) → n ≤ m → AllAbove m xs → AllAbove n xs
+pub above-less : (m n : ℕ) (xs : List ℕ) → n ≤ m → AllAbove m xs → AllAbove n xs
 above-less m n [] le h = tt
 above-less m n (x ∷ xs) le h = (let first = h.0 in omega (arith, first, le), above-less m n xs le h.1)
 
 -- ---- cutting at a byte that does not occur before
 
 module _ (c m : ℕ) (low : c ≤ m) where
-  split_before : (w ys : List ℕ) → AllAbove m w → slice_split (λ b. b == c) (w ++ c ∷ ys) ≡ w ∷ slice_split (λ b. b == c) ys
+  pub split_before : (w ys : List ℕ) → AllAbove m w → slice_split (λ b. b == c) (w ++ c ∷ ys) ≡ w ∷ slice_split (λ b. b == c) ys
   split_before [] ys h = slice_split-cons_yes (λ b. b == c) c ys (eq-eqb c c refl)
   split_before (b ∷ w) ys h =
       let first = h.0 in
@@ -73,10 +73,10 @@ drop_behind w c ys = rw add-one (behind w) where
 -- ---- words
 
 -- a word is not empty, and holds no space, CR or LF
-abbrev IsProper : List ℕ → Type 0
+abbrev pub IsProper : List ℕ → Type 0
 IsProper w = (is_word w ≡ true) × AllAbove 32 w
 
-words_again : (ws : List (List ℕ)) → AllByRecursion IsProper ws → words (join_with_byte 32 ws) ≡ ws
+pub words_again : (ws : List (List ℕ)) → AllByRecursion IsProper ws → words (join_with_byte 32 ws) ≡ ws
 words_again [] h = refl
 words_again (w ∷ []) h =
     ap (filter is_word) (split_whole 32 32 (omega arith) w h.0.1) ∙ ap (λ t. cond t (w ∷ []) []) h.0.0
@@ -85,7 +85,7 @@ words_again (w ∷ v ∷ ws) h =
     ∙ ap (λ t. cond t (w ∷ words (join_with_byte 32 (v ∷ ws))) (words (join_with_byte 32 (v ∷ ws)))) h.0.0
     ∙ ap (λ (vs : List (List ℕ)). w ∷ vs) (words_again (v ∷ ws) h.1)
 
-joined_above : (ws : List (List ℕ)) → AllByRecursion IsProper ws → AllAbove 13 (join_with_byte 32 ws)
+pub joined_above : (ws : List (List ℕ)) → AllByRecursion IsProper ws → AllAbove 13 (join_with_byte 32 ws)
 joined_above [] h = tt
 joined_above (w ∷ []) h = above-less 32 13 w (omega arith) h.0.1
 joined_above (w ∷ v ∷ ws) h = above-append 13 w (32 ∷ join_with_byte 32 (v ∷ ws)) (above-less 32 13 w (omega arith) h.0.1) (omega arith, joined_above (v ∷ ws) h.1)
@@ -98,11 +98,11 @@ digit_above base c low h = elim (cases_lt c 48) [
   | inr le ↦ omega (arith, le)
 ]
 
-digits_above : (base : ℕ) (ds : List ℕ) → base ≤ 16 → AllDigits base ds → AllAbove 47 ds
+pub digits_above : (base : ℕ) (ds : List ℕ) → base ≤ 16 → AllDigits base ds → AllAbove 47 ds
 digits_above base [] low h = tt
 digits_above base (c ∷ cs) low h = (digit_above base c low h.0, digits_above base cs low h.1)
 
-some_word : (ds : List ℕ) → 0 < length ds → is_word ds ≡ true
+pub some_word : (ds : List ℕ) → 0 < length ds → is_word ds ≡ true
 some_word [] h = absurd (omega (arith, h))
 some_word (c ∷ cs) h = refl
 
@@ -146,19 +146,24 @@ identifier_proper id ok =
     let c = is_decimal id.counter ok.counter_fits in
     (some_word-append (decimal id.counter) (46 ∷ decimal id.site) c.some, identifier_above id ok)
 
+-- `C.S` in digits
+pub identifier_in-digits : (cs ss : List ℕ) (counter site : ℕ) → AllDigits 10 cs → counter_in cs ≡ Some counter → site_in ss ≡ Some site → identifier_in (cs ++ 46 ∷ ss) ≡ Some (record { counter = counter; site = site })
+identifier_in-digits cs ss counter site all c s =
+    let at = position_behind 46 46 (omega arith) cs ss (above-less 47 46 cs (omega arith) (digits_above 10 cs (omega arith) all)) in
+    let before : before_first (λ b. b == 46) (cs ++ 46 ∷ ss) ≡ cs = ap (λ (k : ℕ). take k (cs ++ 46 ∷ ss)) at ∙ take-append_seam cs (46 ∷ ss) in
+    let after : after_first (λ b. b == 46) (cs ++ 46 ∷ ss) ≡ ss = ap (λ (k : ℕ). drop (k + 1) (cs ++ 46 ∷ ss)) at ∙ drop_behind cs 46 ss in
+    (λ i. identifier_from (counter_in (before i)) (site_in (after i))) ∙ (λ i. identifier_from (c i) (s i))
+
 identifier_again : (id : Identifier) → IsIdentifier id → identifier_in (identifier_word id) ≡ Some id
 identifier_again id ok =
     let cs = decimal id.counter in
     let ss = decimal id.site in
     let c = is_decimal id.counter ok.counter_fits in
-    let at = position_behind 46 46 (omega arith) cs ss (above-less 47 46 cs (omega arith) (digits_above 10 cs (omega arith) c.digits)) in
-    let before : before_first (λ b. b == 46) (cs ++ 46 ∷ ss) ≡ cs = ap (λ (k : ℕ). take k (cs ++ 46 ∷ ss)) at ∙ take-append_seam cs (46 ∷ ss) in
-    let after : after_first (λ b. b == 46) (cs ++ 46 ∷ ss) ≡ ss = ap (λ (k : ℕ). drop (k + 1) (cs ++ 46 ∷ ss)) at ∙ drop_behind cs 46 ss in
     let counter : counter_in cs ≡ Some id.counter =
     ap (up_to 4_294_967_295) (decimal_again id.counter ok.counter_fits) ∙ up_to-some 4_294_967_295 id.counter (let small = ok.counter_fits in omega (arith, small)) in
     let site : site_in ss ≡ Some id.site =
     let small = ok.site_fits in ap (up_to 65_535) (decimal_again id.site (omega (arith, small))) ∙ up_to-some 65_535 id.site (omega (arith, small)) in
-    (λ i. identifier_from (counter_in (before i)) (site_in (after i))) ∙ (λ i. identifier_from (counter i) (site i))
+    identifier_in-digits cs ss id.counter id.site c.digits counter site
 
 -- ---- parents
 
@@ -255,7 +260,7 @@ before : (parent : Place) (id : Identifier) → MayFollow parent id → is_befor
 before Root id ok = refl
 before (After p) id ok = lt-ltb p.counter id.counter ok.1
 
-no_fault : (op : OpView) → IsWellFormed op → operation_fault op ≡ None
+pub no_fault : (op : OpView) → IsWellFormed op → operation_fault op ≡ None
 no_fault (Insert id parent ch) ok = rw (no_zero id ok.0, parent_no_zero parent id ok.1, before parent id ok.1, ok.2) refl
 no_fault (Erase target) ok = rw (no_zero target ok) refl
 
@@ -263,7 +268,7 @@ no_fault (Erase target) ok = rw (no_zero target ok) refl
 text_of : OpView → List ℕ
 text_of op = join_with_byte 32 (line_words op)
 
-faultless_words : (ws : List (List ℕ)) (op : OpView) → operation_in ws ≡ Some op → operation_fault op ≡ None → words_fault ws ≡ None
+pub faultless_words : (ws : List (List ℕ)) (op : OpView) → operation_in ws ≡ Some op → operation_fault op ≡ None → words_fault ws ≡ None
 faultless_words [] op is none = refl
 faultless_words (verb ∷ fields) op is none = ap written_fault is ∙ none
 
@@ -286,7 +291,7 @@ no_return (b ∷ l) h =
     let last = above_at (b ∷ l) (length (b ∷ l) - 1) h (omega arith) in
     ap (λ t. cond t (take (length (b ∷ l) - 1) (b ∷ l)) (b ∷ l)) (ne_eqb (get_or (b ∷ l) (length (b ∷ l) - 1) 0) 13 (λ e. omega (arith, e, last)))
 
-lines-cons : (line rest : List ℕ) → AllAbove 13 line → lines (line ++ 10 ∷ rest) ≡ line ∷ lines rest
+pub lines-cons : (line rest : List ℕ) → AllAbove 13 line → lines (line ++ 10 ∷ rest) ≡ line ∷ lines rest
 lines-cons line rest h =
     let some = length-slice_split (λ b. b == 10) rest in
     ap lines_of_parts (split_before 10 13 (omega arith) line rest h) ∙ more_lines line (slice_split (λ b. b == 10) rest) (omega (arith, some))

@@ -6,5 +6,6 @@ pub mod Listing
 pub mod Line
 pub mod Listed
 pub mod Field
+pub mod Plain
 pub mod Code
 pub mod Outcome

@@ -11,9 +11,9 @@ use crate::number::{leading_number, read_number};
 const DECIMAL_DIGITS: usize = 10;
 
 /// The fewest and the most digits of a character's code, leading zeros included.
-const FEWEST_DIGITS: usize = 4;
+pub const FEWEST_DIGITS: usize = 4;
 
-const MOST_DIGITS: usize = 6;
+pub const MOST_DIGITS: usize = 6;
 
 /// A counter and a site as a line writes them: each may be 0.
 #[derive(Clone, Copy)]

@@ -12,6 +12,7 @@ mod lines;
 mod listing;
 mod listing_fault;
 mod number;
+mod plain;
 mod words;
 mod written;
 

@@ -29,3 +29,14 @@ loop-rest-preserved c =
           (one_line_read c.args.listing.now c.loop-rest.rest.now c.split_line.result.1.now c.split_line.result.0.now c.loop-rest.number c.loop-rest.ops.items [] kept.read first c.in-Ok-None.ensures.fault written);
       within = let before = kept.within in omega (arith, before, shorter);
     }
+
+pub loop-rest-preserved-in-Some : goal.loop-rest-preserved-in-Some
+loop-rest-preserved-in-Some c =
+    let kept = c.loop-rest.invariant in
+    let taken = rw c.in-Some.is at c.read_plain.ensures in
+    let pushed = c.in_ok-push.ensures.items in
+    record {
+      read = subst (λ (items : List OpView). IsReadTo c.args.listing.now c.in-Some.after.now (c.loop-rest.number + 1) items) (sym pushed)
+          (one_line_read c.args.listing.now c.loop-rest.rest.now c.in-Some.after.now taken.line c.loop-rest.number c.loop-rest.ops.items (c.in-Some.op ∷ []) kept.read taken.first taken.faultless taken.written);
+      within = let before = kept.within in let shorter = taken.shorter in omega (arith, before, shorter);
+    }
