@@ -1,5 +1,6 @@
 -- The modules of this crate's proofs.
 pub mod WalkAmong
+mod Encoding
 pub mod Entries
 pub mod Preorder
 pub mod Depth

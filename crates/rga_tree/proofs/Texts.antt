@@ -66,7 +66,7 @@ shown-append (x ∷ xs) ys =
       | false ↦ ap (λ t. x.ch ∷ t) (shown-append xs ys)
     ]
 
-bytes-append : (xs ys : List Element) → bytes_of (xs ++ ys) ≡ bytes_of xs ++ bytes_of ys
+pub bytes-append : (xs ys : List Element) → bytes_of (xs ++ ys) ≡ bytes_of xs ++ bytes_of ys
 bytes-append xs ys = ap encode_utf8_all (shown-append xs ys) ∙ encode-append (shown_of xs) (shown_of ys)
 
 -- the elements of all parts

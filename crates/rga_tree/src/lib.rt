@@ -5,6 +5,7 @@ mod element;
 pub mod laws;
 mod plain;
 mod sequence;
+mod shown;
 
 pub use element::{Element, greater_in_front};
 pub use plain::Plain;

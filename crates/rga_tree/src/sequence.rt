@@ -10,11 +10,11 @@ ghost use Rattle.bg_types.specs.declared.op.OpView.{OpView};
 ghost use Rattle.bg_types.specs.declared.op.OpView.TheVariants.{Erase};
 ghost use Rattle.rga_tree.specs.declared.element.Element.{Element};
 ghost use Rattle.rga_tree.specs.TextOf.{visible, visible_ids, text};
-ghost use Rattle.rga_tree.specs.Row.{shown_of};
 ghost use Rattle.rga_tree.specs.Tree.{stands_in, IsTree, OnlyErasesPlaced};
 ghost use Rattle.rga_tree.specs.Elements.{elements, element_of, with_element};
 
 use crate::element::Element;
+use crate::shown::{PIECE_BYTES, push_shown};
 use bg_types::{Id, Memory, Place};
 use std::alloc::Global;
 
@@ -139,20 +139,9 @@ pub fn text_of<S: Sequence>(alloc: Global, seq: &S) -> Result<String, Memory>
     ensures { IfOk result (λ t. string_bytes t ≡ encode_utf8_all (text (S.content seq.now))) }
 {
     let mut read = String::with_capacity(alloc, seq.placed())?;
+    let mut bytes = [0; PIECE_BYTES];
     for p in 0..seq.part_count() {
-        push_shown(&mut read, seq.part(p))?;
+        push_shown(&mut read, &mut bytes, seq.part(p))?;
     }
     Ok(read)
-}
-
-/// Appends the characters of the visible elements.
-fn push_shown(read: &mut String, row: &[Element]) -> Result<(), Memory>
-    ensures { OnOk result (string_bytes read.new ≡ string_bytes read.old ++ encode_utf8_all (shown_of row.now)) }
-{
-    for element in row {
-        if !element.hidden {
-            read.push(element.ch)?;
-        }
-    }
-    Ok(())
 }

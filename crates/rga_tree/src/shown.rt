@@ -1,0 +1,101 @@
+//! The characters of visible elements, in UTF-8. They are encoded a piece at a time, and a piece is added to the text as one.
+
+ghost use Rattle.std.specs.Prelude.{◌≡◌, ◌*◌, ◌+◌, ◌<◌, ◌≤◌, ◌++◌, ◌∷◌, [], length, take, string_bytes, encode_utf8, encode_utf8_all, OnOk};
+ghost use Rattle.std.specs.Str.{IsUtf8};
+ghost use Rattle.rga_tree.specs.Row.{shown_of};
+
+use crate::element::Element;
+use bg_types::Memory;
+use std::str::from_utf8_unchecked;
+
+/// How many elements are encoded at once.
+const PIECE: usize = 512;
+
+/// The bytes that their characters take at most.
+pub const PIECE_BYTES: usize = 4 * PIECE;
+
+/// Appends the characters of the visible elements. The bytes are lent for the work.
+pub fn push_shown(read: &mut String, bytes: &mut [u8], row: &[Element]) -> Result<(), Memory>
+    requires { length bytes.old ≡ 2_048 }
+    ensures { OnOk result (string_bytes read.new ≡ string_bytes read.old ++ encode_utf8_all (shown_of row.now)) }
+{
+    let mut rest = row;
+    while !rest.is_empty() {
+        let (piece, after) = rest.split_at(rest.len().min(PIECE));
+        push_piece(read, bytes, piece)?;
+        rest = after;
+    }
+    Ok(())
+}
+
+/// Appends the characters of the visible elements of a piece.
+fn push_piece(read: &mut String, bytes: &mut [u8], piece: &[Element]) -> Result<(), Memory>
+    requires { 4 * length piece.now ≤ length bytes.old }
+    ensures { OnOk result (string_bytes read.new ≡ string_bytes read.old ++ encode_utf8_all (shown_of piece.now)) }
+{
+    let end = encode_shown(piece, bytes);
+    // That they are UTF-8 is proved: this call's `requires` asks for it, as any other call's.
+    let text = unsafe { from_utf8_unchecked(&bytes[..end]) };
+    read.push_str(text)?;
+    Ok(())
+}
+
+/// Puts the characters of the visible elements to the front of these bytes, and answers where they end.
+fn encode_shown(row: &[Element], bytes: &mut [u8]) -> usize
+    requires { 4 * length row.now ≤ length bytes.old }
+    ensures within { result ≤ length bytes.new }
+    ensures bytes { take result bytes.new ≡ encode_utf8_all (shown_of row.now) }
+    ensures utf8 { IsUtf8 (take result bytes.new) }
+{
+    let mut end = 0;
+    for element in row {
+        if !element.hidden {
+            end = put_char(element.ch, bytes, end);
+        }
+    }
+    end
+}
+
+/// Puts a character at a place, and answers where it ends. Most take one byte or two.
+#[inline(always)]
+fn put_char(ch: char, bytes: &mut [u8], at: usize) -> usize
+    requires { at + 4 ≤ length bytes.old }
+    ensures end { result ≤ at + 4 }
+    ensures bytes { take result bytes.new ≡ take at bytes.old ++ encode_utf8 ch }
+    ensures utf8 { IsUtf8 (encode_utf8 ch) }
+{
+    let code = u32::from(ch);
+    if code < 0x80 {
+        return put_byte(code as u8, bytes, at);
+    }
+    if code < 0x800 {
+        let second = put_byte((0xC0 + code / 0x40) as u8, bytes, at);
+        return put_byte((0x80 + code % 0x40) as u8, bytes, second);
+    }
+    put_long(ch, bytes, at)
+}
+
+/// The same for any character. Not inlined, so that the loop over elements stays short.
+#[inline(never)]
+fn put_long(ch: char, bytes: &mut [u8], at: usize) -> usize
+    requires { at + 4 ≤ length bytes.old }
+    ensures end { result ≤ at + 4 }
+    ensures bytes { take result bytes.new ≡ take at bytes.old ++ encode_utf8 ch }
+{
+    let mut four = [0; 4];
+    let encoded = ch.encode_utf8(&mut four).as_bytes();
+    let end = at + encoded.len();
+    bytes[at..end].copy_from_slice(encoded);
+    end
+}
+
+/// Puts a byte at a place, and answers where it ends.
+#[inline(always)]
+fn put_byte(byte: u8, bytes: &mut [u8], at: usize) -> usize
+    requires { at < length bytes.old }
+    ensures end { result ≡ at + 1 }
+    ensures bytes { take result bytes.new ≡ take at bytes.old ++ byte ∷ [] }
+{
+    bytes[at] = byte;
+    at + 1
+}
