@@ -55,6 +55,7 @@ fn read_erasure(fields: &[u8]) -> Result<Op, LineFault>
 }
 
 /// The insertion of these parts, or what keeps it from being well formed.
+#[inline(always)]
 pub fn insertion(id: Numbers, parent: &Parent, code: u32) -> Result<Op, LineFault>
     ensures ok { IfOk result (λ op. op ≡ OpView.Insert (identifier_of id) (parent_place parent.now) code) }
     ensures fault { MatchResult result (λ _. operation_fault (OpView.Insert (identifier_of id) (parent_place parent.now) code) ≡ None)

@@ -87,6 +87,7 @@ fn leading_numbers(bytes: &[u8]) -> Option<(Numbers, &[u8])>
 }
 
 /// The character's code that stands at the front, and what follows it.
+#[inline(always)]
 fn leading_scalar(bytes: &[u8]) -> Option<(u32, &[u8])>
     requires { 7 ≤ length bytes.now }
     ensures { IfSome result (λ found. TakesField (λ word. scalar_in word ≡ Some found.0) bytes.now found.1.now) }
@@ -99,6 +100,7 @@ fn leading_scalar(bytes: &[u8]) -> Option<(u32, &[u8])>
 }
 
 /// The number that the decimal digits at the front write, and how many they are: of the first nine bytes.
+#[inline(always)]
 fn leading_digits(bytes: &[u8]) -> (u32, usize)
     requires { 9 < length bytes.now }
     ensures within { result.1 ≤ 9 }
