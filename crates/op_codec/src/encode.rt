@@ -16,6 +16,7 @@ use std::alloc::Global;
 
 /// Appends an operation's frame (docs/FORMATS.md): 19 bytes for an insertion, 9 for a
 /// deletion. `Memory` leaves `out` as it was.
+#[inline(always)]
 pub fn encode_op(op: &Op, out: &mut Vec<u8>) -> Result<(), Memory>
     ensures ok { OnOk result (out.new.items ≡ out.old.items ++ frame op.now) }
     ensures err { OnErr result (out.new.items ≡ out.old.items) }

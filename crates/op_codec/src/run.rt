@@ -97,6 +97,7 @@ fn are_scalars(bytes: &[u8]) -> bool
 
 /// Appends the operations of a frame, and moves the position after it. Where memory
 /// is refused, the operations have only grown.
+#[inline(always)]
 pub fn push_frame(
     ops: &mut Vec<Op>,
     at: &mut Position,
@@ -129,6 +130,7 @@ fn lone_tip(version: Version, op: &Op) -> Option<Id>
 }
 
 /// The same for any frame, in one growth.
+#[inline(never)]
 fn push_run(ops: &mut Vec<Op>, at: &mut Position, first: &Op, further: &[u8]) -> Result<(), Memory>
     requires is_frame { IsFrame (most_insertions at.old.version) (record { first = first.now; further = characters_in further.now }) }
     requires counted { at.old.frames < 2 ^ 64 - 1 }
