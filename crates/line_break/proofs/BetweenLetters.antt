@@ -1,4 +1,4 @@
--- Between letters the table gives no break.
+-- Between letters, and before a space, the table gives no break.
 use Rattle.std.proofs.Common.{◌≡◌, refl, ap, sym, ◌∙◌, List, [], ◌∷◌, ◌++◌, Bool, true, false, not, ◌&&◌, ◌||◌}
 use Rattle.std.specs.List.{list_any}
 use Rattle.bg_types.specs.declared.class.Lb.TheVariants.{Al, Bk, Cb, Cr, Hl, Lf, Nl, Sp, Zw}
@@ -74,6 +74,17 @@ module _ (b : Before) (a : After) where
       (past-left _ _ no_zw
       (no-rule _ _ refl
       (no-rule _ _ refl (item-no before after))))))))
+
+  -- LB4 to LB7
+  pub before-space-no : one_of (Bk ∷ []) b.point ≡ false → one_of (Cr ∷ Lf ∷ Nl ∷ []) b.point ≡ false → one_of (Sp ∷ Zw ∷ []) a.point ≡ true
+      → No ≡ first_rule rules May b a
+  unfolding rules point_rules mandatory explicit
+  before-space-no no_bk no_end space =
+      past-left _ _ no_bk
+      (no-rule _ _ refl
+      (past-left _ _ no_end
+      (no-rule _ _ refl
+      (at_rule b a No May _ _ refl (sym space)))))
 
   -- between letters there is no break
   pub between-letters-no : true ≡ between_letters b a → No ≡ first_rule rules May b a

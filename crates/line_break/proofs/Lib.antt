@@ -3,6 +3,7 @@ pub mod Letters
 pub mod Contexts
 pub mod RuleTable
 pub mod BetweenLetters
+pub mod BehindSpaces
 pub mod Marking
 pub mod Tails
 pub mod Greatest
@@ -14,4 +15,4 @@ pub mod Measuring
 pub mod Outlining
 pub mod Following
 pub mod Fitting
-pub mod LetterRuns
+pub mod Words

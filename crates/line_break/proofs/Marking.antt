@@ -1,4 +1,4 @@
--- A text whose statuses are known up to a place.
+-- The statuses of a text, one code point further.
 use Rattle.std.proofs.Common.{◌≡◌, ℕ, ◌+◌, ◌<◌, List, [], ◌∷◌, ◌++◌, map, length, sym, ap, ◌∙◌, arith, length-append}
 use Rattle.std.proofs.lemmas.List.{append_assoc, nil_from_length}
 use Rattle.std.proofs.lemmas.Str.{chars-nil, chars_past_char, IsUtf8-past_char, length-le-encodes}
@@ -7,13 +7,13 @@ use Rattle.std.specs.Str.{IsUtf8}
 use Rattle.unicode_tables.specs.Tables.{TableValues}
 use Rattle.paragraphs.specs.Text.{code_points}
 use Rattle.line_break.specs.declared.context.Before.{Before}
-use Rattle.line_break.specs.declared.item.Item.{Item}
 use Rattle.line_break.specs.declared.status.Break.{Break}
 use Rattle.line_break.specs.declared.status.Break.TheVariants.{May, Must}
 use Rattle.line_break.specs.Items.{point_of}
 use Rattle.line_break.specs.Context.{before, after}
 use Rattle.line_break.specs.Rules.{first_rule, rules}
-use Rattle.line_break.specs.Statuses.{status, statuses_behind, breaks}
+use Rattle.line_break.specs.Statuses.{statuses_behind, breaks}
+use Rattle.line_break.specs.Marked.{points, statuses_from, IsMarkedTo}
 
 -- a character takes a byte at least
 pub past_char-shorter : (bytes rest : List ℕ) (c : ℕ) → bytes ≡ encode_utf8 c ++ rest → length rest < length bytes
@@ -22,20 +22,6 @@ past_char-shorter bytes rest c e =
     let one : length (encodes (c ∷ [])) ≡ length (encode_utf8 c) + 0 = length-append (encode_utf8 c) [] in
     let all = ap length e ∙ length-append (encode_utf8 c) rest in
     omega arith
-
-pub points : TableValues → List ℕ → List Item
-points tables text = map (point_of tables) (code_points text)
-
--- the statuses right after `front` and after each later code point
-pub statuses_from : List Item → List Item → List Break
-statuses_from front later = status front later ∷ statuses_behind front later
-
--- `done` are the statuses before the boundary at which `rest` begins, and `b` is what stands before it
-pub record IsMarkedTo (tables : TableValues) (text rest : List ℕ) (done : List Break) (b : Before) : Type 0 where
-  pub front : List Item
-  pub utf8 : IsUtf8 rest
-  pub before_is : b ≡ before front
-  pub so_far : done ++ statuses_from front (points tables rest) ≡ breaks tables text
 
 module _ (tables : TableValues) (text : List ℕ) where
   pub breaks-nil : length text ≡ 0 → [] ≡ breaks tables text

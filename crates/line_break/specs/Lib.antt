@@ -9,4 +9,5 @@ pub mod Measures
 pub mod Lines
 pub mod Open
 pub mod Ranges
-pub mod LetterRuns
+pub mod Marked
+pub mod Words

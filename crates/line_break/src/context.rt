@@ -28,6 +28,7 @@ impl Before {
     ghost use Rattle.line_break.specs.declared.item.Item.{Item};
     ghost use Rattle.line_break.specs.Items.{is_mark, takes_marks};
     ghost use Rattle.line_break.specs.Context.{before, before_by};
+    ghost use Rattle.line_break.specs.Words.{behind_word};
 
     /// What stands before a text's first character: nothing.
     #[tactic(auto, unfolding(crate::specs::Context::before, crate::specs::Items::items))]
@@ -69,6 +70,21 @@ impl Before {
             item: letter.class,
             wide: letter.wide,
             spaced: letter.class,
+            odd_regional: false,
+            hebrew_hyphen: false,
+        }
+    }
+
+    /// What stands before a boundary behind a letter of this class and any spaces, the last of these characters `last`.
+    #[inline]
+    pub(crate) fn behind_word(letter: Lb, last: Item) -> Before
+        ensures { result ≡ behind_word letter last }
+    {
+        Before {
+            point: last.class,
+            item: last.class,
+            wide: last.wide,
+            spaced: letter,
             odd_regional: false,
             hebrew_hyphen: false,
         }

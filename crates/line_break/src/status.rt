@@ -1,10 +1,12 @@
 //! The statuses of a paragraph's boundaries.
 
-ghost use Rattle.std.specs.Prelude.{◌≡◌, ◌+◌, ◌<◌, true, [], ◌∷◌, length, vec_capacity, vec_len, IfOk};
+ghost use Rattle.std.specs.Prelude.{◌≡◌, ◌+◌, ◌<◌, ◌≤◌, ℕ, List, true, [], ◌∷◌, length, vec_capacity, vec_len, IfOk, if◌then◌else◌};
 ghost use Rattle.bg_types.specs.declared.class.Lb.TheVariants.{Al, Hl};
 ghost use Rattle.line_break.specs.Classes.{one_of};
 ghost use Rattle.line_break.specs.Items.{point_of};
-ghost use Rattle.line_break.specs.LetterRuns.{IsLetterRun};
+ghost use Rattle.line_break.specs.Marked.{IsMarkedTo};
+ghost use Rattle.line_break.specs.Words.{behind_word};
+ghost use Rattle.line_break.specs.declared.status.Break.TheVariants.{May, No};
 ghost use Rattle.line_break.specs.Statuses.{breaks};
 ghost use Rattle.line_break.specs.Lines.{is_must, is_break};
 
@@ -61,9 +63,9 @@ pub fn opportunities(alloc: Global, tables: &Tables, para: &Para) -> Result<Vec<
         let point = Item::point(tables, c);
         statuses.push_reserved(status(before, After::of(point)));
         if is_letter(point) {
-            let passed = pass_letters(tables, c, chars.as_str(), &mut statuses);
-            before = Before::behind_letter(Item::point(tables, passed.last));
-            chars = passed.rest.chars();
+            let words = pass_words(tables, c, chars.as_str(), &mut statuses);
+            before = Before::behind_word(words.letter, Item::point(tables, words.last));
+            chars = words.rest.chars();
         } else {
             before = before.next(point);
         }
@@ -80,39 +82,76 @@ fn is_letter(point: Item) -> bool
     is_one_of(point.class, &[Lb::Al, Lb::Hl])
 }
 
-/// Where letters end: the last one, and what follows.
+/// Letters and spaces in a row, the first one a letter.
 #[derive(Clone, Copy)]
-struct Letters<'a> {
+struct Words<'a> {
+    /// The class of the last letter.
+    letter: Lb,
+    /// Whether spaces stand behind it.
+    spaced: bool,
+    /// The last character: that letter, or a space.
     last: char,
+    /// What follows.
     rest: &'a str,
 }
 
-/// Adds the statuses before the letters that a text begins with, which stand behind this one: no break.
-fn pass_letters<'a>(
+impl<'a> Words<'a> {
+    /// Words up to this text.
+    #[inline]
+    fn to(letter: Lb, spaced: bool, last: char, rest: &'a str) -> Words<'a>
+        ensures letter { result.letter ≡ letter }
+        ensures spaced { result.spaced ≡ spaced }
+        ensures last { result.last ≡ last }
+        ensures rest { result.rest.now ≡ rest.now }
+    {
+        Words {
+            letter,
+            spaced,
+            last,
+            rest,
+        }
+    }
+}
+
+/// The status before a letter behind a letter, or behind spaces behind one.
+#[inline]
+fn before_letter(spaced: bool) -> Break
+    ensures { result ≡ (if spaced then May else No) }
+{
+    if spaced { Break::May } else { Break::No }
+}
+
+/// Adds the statuses before the letters and spaces that a text begins with, which stands behind this letter.
+fn pass_words<'a>(
     tables: &Tables,
     letter: char,
     text: &'a str,
     statuses: &mut Vec<Break>,
-) -> Letters<'a>
+) -> Words<'a>
     requires letter { one_of (Al ∷ Hl ∷ []) (point_of tables.now letter).class ≡ true }
     requires room { vec_len statuses.old + length text.now < vec_capacity statuses.old }
-    ensures run { IsLetterRun tables.now letter text.now statuses.old.items result.last result.rest.now statuses.new.items }
+    // What is known of a whole text up to this one is known up to the rest.
+    ensures marked { (whole : List ℕ)
+        → IsMarkedTo tables.now whole text.now statuses.old.items
+        (behind_word (point_of tables.now letter).class (point_of tables.now letter))
+        → IsMarkedTo tables.now whole result.rest.now statuses.new.items
+        (behind_word result.letter (point_of tables.now result.last)) }
+    ensures rest { length result.rest.now ≤ length text.now }
     ensures room { vec_len statuses.new + length result.rest.now < vec_capacity statuses.new }
 {
-    let mut letters = Letters {
-        last: letter,
-        rest: text,
-    };
+    let mut words = Words::to(Item::point(tables, letter).class, false, letter, text);
     let mut chars = text.chars();
     while let Some(c) = chars.next() {
-        if !is_letter(Item::point(tables, c)) {
-            return letters;
+        let point = Item::point(tables, c);
+        if is_letter(point) {
+            statuses.push_reserved(before_letter(words.spaced));
+            words = Words::to(point.class, false, c, chars.as_str());
+        } else if is_one_of(point.class, &[Lb::Sp]) {
+            statuses.push_reserved(Break::No);
+            words = Words::to(words.letter, true, c, chars.as_str());
+        } else {
+            return words;
         }
-        statuses.push_reserved(Break::No);
-        letters = Letters {
-            last: c,
-            rest: chars.as_str(),
-        };
     }
-    letters
+    words
 }

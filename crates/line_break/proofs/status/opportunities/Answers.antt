@@ -1,15 +1,17 @@
 -- Each step over a character adds the status before it.
 use Rattle.std.proofs.Common.{[], ◌∷◌, ◌++◌, length, sym, ap, subst, ◌∙◌, arith}
+use Rattle.std.specs.Prelude.{encode_utf8}
 use Rattle.std.specs.Str.{IsUtf8}
 use Rattle.line_break.specs.declared.status.Break.TheVariants.{May}
 use Rattle.bg_types.specs.declared.class.Lb.TheVariants.{Al, Hl}
 use Rattle.line_break.specs.declared.item.Item.{Item}
 use Rattle.line_break.specs.Classes.{one_of}
 use Rattle.line_break.specs.Items.{point_of}
-use Rattle.line_break.specs.Context.{before, before_by, after}
+use Rattle.line_break.specs.Context.{before, after}
+use Rattle.line_break.specs.Words.{behind_word}
 use Rattle.line_break.specs.Rules.{first_rule, rules}
 use Rattle.line_break.proofs.Marking.{past_char-shorter, breaks-nil, IsMarkedTo-start, IsMarkedTo-on, breaks-end}
-use Rattle.line_break.proofs.LetterRuns.{behind, behind-is, last-letter, IsMarkedTo-letters}
+use Rattle.line_break.proofs.Words.{letter-before}
 use Rattle.line_break.proofs.status.opportunities.Goals as goal
 
 pub loop-c-init : goal.loop-c-init
@@ -47,8 +49,8 @@ loop-c-preserved c =
           omega arith;
     }
 
-pub pass_letters-passed-requires-clause-room : goal.pass_letters-passed-requires-clause-room
-pass_letters-passed-requires-clause-room c =
+pub pass_words-words-requires-clause-room : goal.pass_words-words-requires-clause-room
+pass_words-words-requires-clause-room c =
     let shorter = past_char-shorter _ _ c.in-Some-next.c c.in-Some-next.ensures.steps.0 in
     let rest = ap length c.as_str.ensures in
     let one = c.push_reserved.ensures.len in
@@ -56,34 +58,39 @@ pass_letters-passed-requires-clause-room c =
     let room = c.loop-c.invariant.room in
     omega arith
 
-pub behind_letter-before-requires : goal.behind_letter-before-requires
-behind_letter-before-requires c =
-    let is = ap (λ (p : Item). one_of (Al ∷ Hl ∷ []) p.class) (sym c.point-point.ensures) ∙ sym c.is_letter.ensures ∙ c.if-is_letter.true in
-    let run = c.pass_letters-passed.ensures.run in
-    ap (λ (p : Item). one_of (Al ∷ Hl ∷ []) p.class) (c.point-then-is_letter.ensures ∙ ap (point_of c.args.tables.now) run.end)
-    ∙ last-letter c.args.tables.now c.in-Some-next.c run.letters is run.are
+pub pass_words-words-requires-clause-letter : goal.pass_words-words-requires-clause-letter
+pass_words-words-requires-clause-letter c =
+    ap (λ (p : Item). one_of (Al ∷ Hl ∷ []) p.class) (sym c.point-point.ensures) ∙ sym c.is_letter.ensures ∙ c.if-is_letter.true
 
 pub loop-c-preserved-then-is_letter : goal.loop-c-preserved-then-is_letter
 loop-c-preserved-then-is_letter c =
-    let tables = c.args.tables.now in
+    let t = c.args.tables.now in
+    let text = c.args.para.now.text in
     let m = c.loop-c.invariant.marked in
     let is = ap (λ (p : Item). one_of (Al ∷ Hl ∷ []) p.class) (sym c.point-point.ensures) ∙ sym c.is_letter.ensures ∙ c.if-is_letter.true in
-    let run = c.pass_letters-passed.ensures.run in
+    let letter = point_of t c.in-Some-next.c in
     let step =
-    IsMarkedTo-on tables c.args.para.now.text _ _ c.loop-c.before m c.in-Some-next.c _ c.status.result _ (behind tables c.in-Some-next.c)
-    c.in-Some-next.ensures.steps.0
+    IsMarkedTo-on t text _ _ c.loop-c.before m c.in-Some-next.c _ c.status.result _ (behind_word letter.class letter)
+    (c.in-Some-next.ensures.steps.0 ∙ ap (λ x. encode_utf8 c.in-Some-next.c ++ x) (sym c.as_str.ensures))
     (c.status.ensures ∙ ap (first_rule rules May c.loop-c.before) (c.of.ensures ∙ ap after c.point-point.ensures))
-    c.push_reserved.ensures.items (behind-is tables c.in-Some-next.c m.front is) in
+    c.push_reserved.ensures.items (letter-before m.front letter is) in
     record {
       marked =
-          rw c.chars-chars-then-is_letter.ensures.rest
-          (IsMarkedTo-letters tables c.args.para.now.text run.letters c.in-Some-next.c _ _ _ _ _ step is run.are (sym c.as_str.ensures ∙ run.split) run.put
-          (c.behind_letter-before.ensures [] ∙ ap (λ (p : Item). before_by p.class (p ∷ [])) c.point-then-is_letter.ensures ∙ ap (behind tables) run.end));
+          rw (c.chars-chars-then-is_letter.ensures.rest, c.behind_word-before.ensures, c.point-then-is_letter.ensures)
+          (c.pass_words-words.ensures.marked text step);
       room =
           let rest = ap length c.chars-chars-then-is_letter.ensures.rest in
-          let room = c.pass_letters-passed.ensures.room in
+          let room = c.pass_words-words.ensures.room in
           omega arith;
     }
+
+pub loop-c-smaller-then-is_letter : goal.loop-c-smaller-then-is_letter
+loop-c-smaller-then-is_letter c =
+    let shorter = past_char-shorter _ _ c.in-Some-next.c c.in-Some-next.ensures.steps.0 in
+    let rest = ap length c.chars-chars-then-is_letter.ensures.rest in
+    let text = ap length c.as_str.ensures in
+    let left = c.pass_words-words.ensures.rest in
+    omega arith
 
 pub returns-in_default : goal.returns-in_default
 returns-in_default c =
