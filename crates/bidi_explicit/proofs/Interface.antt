@@ -1,2 +1,3 @@
 -- What the proofs of crates above may import from this crate's proofs, and nothing else.
 pub use Rattle.bidi_explicit.proofs.Chains.{kept_at-is, is_kept-within}
+pub use Rattle.bidi_explicit.proofs.Uniformity.{embedding-uniform}

@@ -17,3 +17,4 @@ pub use embedded::{Embedded, Sequence};
 pub use kept::Kept;
 pub use level::paragraph_level;
 pub use paragraph::{explicit, explicit_at};
+pub use uniform::has_controls;

@@ -33,8 +33,8 @@ pub(crate) fn is_control(class: Bidi) -> bool
     )
 }
 
-/// Whether one of these classes is such a class.
-pub(crate) fn has_controls(classes: &[Bidi]) -> bool
+/// Whether X9 removes a character of one of these classes, or one is an isolate control.
+pub fn has_controls(classes: &[Bidi]) -> bool
     ensures { result ≡ list_any is_control classes.now }
 {
     classes.iter().any(|class| is_control(*class))

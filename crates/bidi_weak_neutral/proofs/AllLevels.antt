@@ -45,7 +45,7 @@ module _ (P : ℕ → Type 0) where
       (filled-all e.level e.places put h (put_back-all tables points e.places start e.sequences (All-replicate P (length points) e.level h) all))
 
 -- one level a code point
-length-levels_at : (levels places new : List ℕ) → length (levels_at levels places new) ≡ length levels
+pub length-levels_at : (levels places new : List ℕ) → length (levels_at levels places new) ≡ length levels
 length-levels_at levels [] new = refl
 length-levels_at levels (i ∷ is) [] = refl
 length-levels_at levels (i ∷ is) (l ∷ ls) = length-levels_at (slice_set levels i l) is ls ∙ length-set levels i l

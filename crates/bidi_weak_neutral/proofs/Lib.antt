@@ -8,6 +8,7 @@ pub mod Filling
 pub mod PuttingBack
 pub mod AllLevels
 pub mod Bounds
+pub mod UniformLevels
 pub mod Rows
 pub mod PlainRules
 pub mod PlainParagraph

@@ -1,5 +1,5 @@
 -- W1 to W7 in one pass.
-use Rattle.std.proofs.Common.{ℕ, ◌+◌, ◌<◌, ◌≡◌, refl, ap, ap₂, sym, ◌∙◌, List, [], ◌∷◌, ◌++◌, take, drop, set, length, get_or, zero, suc, Bool, true, false, arith}
+use Rattle.std.proofs.Common.{ℕ, ◌+◌, ◌<◌, ◌≡◌, refl, ap, sym, ◌∙◌, List, [], ◌∷◌, ◌++◌, take, drop, set, length, get_or, zero, suc, Bool, true, false, arith}
 use Rattle.std.specs.Prelude.{not, ◌&&◌, ◌||◌, if◌then◌else◌}
 use Rattle.std.proofs.Math.Bool.{and-false}
 use Rattle.std.proofs.lemmas.Bool.{false≢true}
@@ -9,7 +9,7 @@ use Rattle.bg_types.specs.declared.class.Bidi.TheVariants.{L, R, Al, En, Es, Et,
 use Rattle.bg_types.specs.Classes.{is_isolate_control}
 use Rattle.bidi_weak_neutral.specs.Classes.{is, is_strong}
 use Rattle.bidi_weak_neutral.specs.Context.{nearest}
-use Rattle.bidi_weak_neutral.specs.Weak.{mark_type, first_type, is_joined, past_terminators, w1, w2, w3, w4, w5, w6, w7, weak_types}
+use Rattle.bidi_weak_neutral.specs.Weak.{first_type, is_joined, past_terminators, w1, w2, w3, w4, w5, w6, w7, weak_types}
 use Rattle.bidi_weak_neutral.specs.Pass.{marked, unmarked, strong_behind, lettered, joined, terminated, unterminated, separated, settled, is_past_terminators, is_weak}
 use Rattle.bidi_weak_neutral.proofs.Scan.{scan}
 use Rattle.bidi_weak_neutral.proofs.WeakScans.{w1_at, w2_at, w4_at, w4_step, w5_at, w7_at, w1-is, w2-is, w4-is, w5-is, w7-is}

@@ -2,7 +2,7 @@
 use Rattle.std.proofs.Common.{◌≡◌, refl, List, []}
 use Rattle.std.specs.Prelude.{not}
 use Rattle.bg_types.specs.declared.class.Bidi.{Bidi}
-use Rattle.bg_types.specs.declared.class.Bidi.TheVariants.{L, Al, En, An, Nsm, On}
+use Rattle.bg_types.specs.declared.class.Bidi.TheVariants.{Al, En, An, Nsm, On}
 use Rattle.std.specs.Prelude.{◌&&◌, if◌then◌else◌}
 use Rattle.bidi_weak_neutral.specs.Classes.{is, is_strong}
 use Rattle.bidi_weak_neutral.specs.Context.{nearest}

@@ -5,3 +5,4 @@ pub mod Weak
 pub mod Pass
 pub mod Neutral
 pub mod Levels
+pub mod Uniform

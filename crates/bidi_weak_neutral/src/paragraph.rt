@@ -1,18 +1,23 @@
 //! The resolved levels of a paragraph.
 
-ghost use Rattle.std.specs.Prelude.{◌≡◌, ◌<◌, ◌≤◌, IfOk, OnOk, All, Some, None, length, map, replicate, if◌then◌else◌};
+ghost use Rattle.std.specs.Prelude.{◌≡◌, ◌<◌, ◌≤◌, IfOk, OnOk, All, Some, None, false, length, map, replicate, if◌then◌else◌};
 ghost use Rattle.unicode_tables.specs.Tables.{bidi_of};
-ghost use Rattle.std.specs.List.{list_all};
+ghost use Rattle.std.specs.List.{list_all, list_any};
 ghost use Rattle.paragraphs.specs.Text.{code_points};
 ghost use Rattle.bidi_explicit.specs.Embedding.{embedding_at};
+ghost use Rattle.bidi_explicit.specs.Sequences.{below};
+ghost use Rattle.bidi_explicit.specs.Uniform.{is_control};
 ghost use Rattle.bidi_weak_neutral.specs.Classes.{is_plain};
 ghost use Rattle.bidi_weak_neutral.specs.Levels.{kept_levels, filled_levels, types_before, characters_of, types_after_n0, put_back, resolved_levels, levels_of, is_plain_text};
+ghost use Rattle.bidi_weak_neutral.specs.Uniform.{uniform_levels};
 
-use crate::class::is_plain;
+use crate::class::{embedding_direction, is_plain};
 use crate::neutral::put_levels;
 use crate::sequence::{gather, resolve_types};
+use crate::weak::resolve_weak;
 use bg_types::{Base, Bidi, Memory};
-use bidi_explicit::{Embedded, Kept, Sequence, explicit_at, paragraph_level};
+use bidi_explicit::{Embedded, Kept, Sequence, explicit_at, has_controls, paragraph_level};
+use bracket_pairs::resolve;
 use paragraphs::{Para, code_points_of};
 use std::alloc::Global;
 use unicode_tables::Tables;
@@ -126,6 +131,77 @@ fn resolve_levels(
     Ok(())
 }
 
+/// The places of a paragraph of this many code points.
+fn all_places(alloc: Global, count: usize) -> Result<Vec<usize>, Memory>
+    ensures { IfOk result (λ places. places.items ≡ below count) }
+{
+    Ok((0..count).collect(alloc)?)
+}
+
+/// Resolves the levels of a paragraph without controls, whose places are one sequence, in a list that holds the
+/// paragraph level throughout.
+fn resolve_uniform(
+    alloc: Global,
+    tables: &Tables,
+    level: u8,
+    points: &[char],
+    classes: &[Bidi],
+    levels: &mut [u8],
+) -> Result<(), Memory>
+    requires level { level ≤ 125 }
+    requires classes { length classes.now ≡ length points.now }
+    requires levels { levels.old ≡ replicate (length points.now) level }
+    ensures { OnOk result (levels.new ≡ uniform_levels tables.now level points.now classes.now) }
+{
+    let direction = embedding_direction(level);
+    let places = all_places(alloc, classes.len())?;
+    let mut types = vec![in alloc; Bidi::On; classes.len()]?;
+    resolve_weak(classes, &mut types, direction);
+    resolve(alloc, tables, level, direction, points, classes, &mut types)?;
+    put_levels(levels, &places, &types, level, direction, direction);
+    Ok(())
+}
+
+/// The levels of a paragraph of this level without controls.
+fn uniform_levels(
+    alloc: Global,
+    tables: &Tables,
+    level: u8,
+    points: &[char],
+    classes: &[Bidi],
+) -> Result<Vec<u8>, Memory>
+    requires level { level ≤ 1 }
+    requires classes { length classes.now ≡ length points.now }
+    requires uniform { list_any is_control classes.now ≡ false }
+    ensures levels { IfOk result (λ levels. levels.items ≡ resolved_levels tables.now points.now (embedding_at level classes.now)) }
+    ensures one_each { IfOk result (λ levels. length levels.items ≡ length points.now) }
+    ensures bound { IfOk result (λ levels. All (λ level. level ≤ 126) levels.items) }
+{
+    let mut levels = vec![in alloc; level; points.len()]?;
+    resolve_uniform(alloc, tables, level, points, classes, &mut levels)?;
+    Ok(levels)
+}
+
+/// The levels of a paragraph of this level, whatever its classes.
+fn levels_by_controls(
+    alloc: Global,
+    tables: &Tables,
+    level: u8,
+    points: &[char],
+    classes: &[Bidi],
+) -> Result<Vec<u8>, Memory>
+    requires level { level ≤ 1 }
+    requires classes { length classes.now ≡ length points.now }
+    ensures levels { IfOk result (λ levels. levels.items ≡ resolved_levels tables.now points.now (embedding_at level classes.now)) }
+    ensures one_each { IfOk result (λ levels. length levels.items ≡ length points.now) }
+    ensures bound { IfOk result (λ levels. All (λ level. level ≤ 126) levels.items) }
+{
+    let embedded = explicit_at(alloc, level, classes)?;
+    let mut levels = vec![in alloc; embedded.level(); points.len()]?;
+    resolve_levels(alloc, tables, points, &embedded, &mut levels)?;
+    Ok(levels)
+}
+
 /// Whether all classes are plain.
 fn are_plain(classes: &[Bidi]) -> bool
     ensures { result ≡ list_all is_plain classes.now }
@@ -152,10 +228,11 @@ pub fn levels_at(
     if level == 0 && are_plain(classes) {
         return Ok(vec![in alloc; 0; points.len()]?);
     }
-    let embedded = explicit_at(alloc, level, classes)?;
-    let mut levels = vec![in alloc; embedded.level(); points.len()]?;
-    resolve_levels(alloc, tables, points, &embedded, &mut levels)?;
-    Ok(levels)
+    if has_controls(classes) {
+        levels_by_controls(alloc, tables, level, points, classes)
+    } else {
+        uniform_levels(alloc, tables, level, points, classes)
+    }
 }
 
 /// The resolved levels of any paragraph.

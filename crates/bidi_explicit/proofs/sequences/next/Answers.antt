@@ -1,6 +1,6 @@
 -- The next kept place, or the PDI.
-use Rattle.std.proofs.Common.{◌≡◌, ◌∙◌, ◌<◌, ℕ, Option, None, Some, IfSome, false, true, not, length, ap, sym, subst}
-use Rattle.bidi_explicit.specs.Sequences.{is_kept, has_level_of, kept_after, over_isolate}
+use Rattle.std.proofs.Common.{◌≡◌, ◌∙◌, ◌<◌, ℕ, Option, None, Some, IfSome, false, not, length, ap, sym, subst}
+use Rattle.bidi_explicit.specs.Sequences.{has_level_of, kept_after, over_isolate}
 use Rattle.bidi_explicit.proofs.Chains.{is_kept-is, next-out, next-after, next-over}
 use Rattle.bidi_explicit.proofs.sequences.next.Goals as goal
 use Rattle.bidi_explicit.proofs.sequences.next.Goals.{in-Some+else-has_level_of, in_default}

@@ -1,10 +1,6 @@
 -- The goals of `levels_of_any` that are answered by hand.
-use Rattle.std.proofs.Common.{arith, ◌∙◌, ◌≡◌, ◌≤◌, All, ap, ap₂, subst, sym, map, length}
-use Rattle.std.proofs.lemmas.List.Elements.{All-same}
-use Rattle.paragraphs.specs.Text.{code_points}
+use Rattle.std.proofs.Common.{◌∙◌, ap, sym, map}
 use Rattle.unicode_tables.specs.Tables.{bidi_of}
-use Rattle.bidi_explicit.specs.Embedding.{embedding_at, classes_of}
-use Rattle.bidi_weak_neutral.specs.Levels.{resolved_levels}
 use Rattle.bidi_weak_neutral.proofs.paragraph.levels_of_any.Goals as goal
 
 pub levels_at-requires-clause-classes : goal.levels_at-requires-clause-classes

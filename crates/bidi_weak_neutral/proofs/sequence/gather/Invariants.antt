@@ -1,5 +1,5 @@
 -- What stays true in the loop of `gather`.
-use Rattle.std.proofs.Common.{◌≡◌, map, take, length, slice_index}
+use Rattle.std.proofs.Common.{◌≡◌, map, take, slice_index}
 use Rattle.bidi_explicit.specs.Sequences.{kept_at}
 use Rattle.bidi_weak_neutral.specs.Levels.{type_of}
 use Rattle.bidi_weak_neutral.proofs.sequence.gather.Given as goal
