@@ -1,13 +1,14 @@
 -- Where two desks keep an identifier with another parent or character.
-use Rattle.std.proofs.Common.{◌≡◌, ◌<◌, ◌++◌, ℕ, List, [], length, take, get_or, Some, sym, ap, subst, ◌∙◌, is_some}
-use Rattle.std.specs.Prelude.{All, Contains, slice_get}
+use Rattle.std.proofs.Common.{◌≡◌, ◌<◌, ◌++◌, ℕ, List, [], length, take, get_or, true, Some, sym, ap, subst, ◌∙◌, is_some}
+use Rattle.std.specs.Prelude.{◌||◌, All, Contains, slice_get}
 use Rattle.std.proofs.lemmas.List.Elements.{All-get_or, Contains-append_left, Contains-append_right, Contains-get_or}
 use Rattle.std.proofs.lemmas.Option.{get_or_from_slice_get, slice_get-get_or, slice_get_within}
 use Rattle.std.specs.FinMap as map
+use Rattle.std.specs.FinSet as set
 use Rattle.bg_types.specs.WellFormed.{MayFollow}
 use Rattle.bg_types.specs.OperationSet.{OperationSet, AllWellFormed, Agree, Holds, MayJoin, ReusesIdentifier, size, union}
 use Rattle.bg_types.specs.declared.op.OpView.{OpView}
-use Rattle.bg_types.specs.declared.op.OpView.TheVariants.{Insert}
+use Rattle.bg_types.specs.declared.op.OpView.TheVariants.{Insert, Erase}
 use Rattle.bg_types.proofs.Interface.{get-union, unwrap_first}
 use Rattle.rga_tree.specs.declared.element.Element.{Element}
 use Rattle.rga_tree.specs.Elements.{elements, element_of}
@@ -16,7 +17,7 @@ use Rattle.pending_ops.specs.Waiting.{Waiting, ListsOnce}
 use Rattle.desk_replica.specs.Desk.{insertion_of}
 use Rattle.desk_replica.specs.Placement.{IsSettled, waiting_in, whole}
 use Rattle.desk_replica.specs.Merging.{Disagree, ReusesIn}
-use Rattle.desk_replica.proofs.Whole.{which}
+use Rattle.desk_replica.proofs.Whole.{contains-union, which}
 use Rattle.desk_replica.proofs.Settled.{in_whole}
 use Rattle.desk_replica.proofs.Admitting.{IsContent}
 use Rattle.desk_replica.proofs.ElementPlaces.{element_at, element_for, follows_parent}
@@ -54,6 +55,13 @@ pub placed_kept : (t h : OperationSet) (e : Element) → Contains (elements t) e
 placed_kept t h e at =
     let x = element_at t at.0 e (slice_get-get_or (elements t) at.0 e at.1 ∙ ap (λ (y : Element). Some y) at.2) in
     subst (λ (y : Element). Holds (union t h) (insertion_of y)) x.1.1 (get-union t h x.0.0 ∙ ap (λ o. unwrap_first o (map.get h.ins x.0.0)) x.1.0)
+
+-- and the deletion that hides it
+pub hidden_kept : (t h : OperationSet) (e : Element) → Contains (elements t) e → e.hidden ≡ true → Holds (union t h) (Erase e.id)
+hidden_kept t h e at hidden =
+    let x = element_at t at.0 e (slice_get-get_or (elements t) at.0 e at.1 ∙ ap (λ (y : Element). Some y) at.2) in
+    let erased : set.contains t.del x.0.0 ≡ true = ap (λ (y : Element). y.hidden) x.1.1 ∙ hidden in
+    subst (λ (y : Element). Holds (union t h) (Erase y.id)) x.1.1 (contains-union t h x.0.0 ∙ ap (λ b. b || set.contains h.del x.0.0) erased)
 
 pub agree_placed : (s t : OperationSet) → IsContent t → All (λ e. MayJoin s (insertion_of e)) (elements t) → Agree s t
 agree_placed s t c all id a b in_s in_t =

@@ -45,16 +45,23 @@ impl Cursor {
         }
     }
 
-    /// Moves behind the element with this identifier, if that stands here or later.
-    pub fn seek<S: Sequence>(&mut self, seq: &S, id: Id) {
+    /// Moves to the element with this identifier, if that stands here or later, and tells whether it does.
+    pub fn find<S: Sequence>(&mut self, seq: &S, id: Id) -> bool {
         let mut from = self.at;
         for part in self.part..seq.part_count() {
             if let Some(at) = place_in(seq.part(part), from, id) {
                 *self = Cursor { part, at };
-                self.step(seq);
-                return;
+                return true;
             }
             from = 0;
+        }
+        false
+    }
+
+    /// Moves behind the element with this identifier, if that stands here or later.
+    pub fn seek<S: Sequence>(&mut self, seq: &S, id: Id) {
+        if self.find(seq, id) {
+            self.step(seq);
         }
     }
 }

@@ -1,10 +1,11 @@
 //! Taking all operations of another desk.
 
-ghost use Rattle.std.specs.Prelude.{◌≡◌, ◌≤◌, ◌<◌, ◌+◌, OnOk, OnErr, IfOk, IfErr, IsOk, All, length};
+ghost use Rattle.std.specs.Prelude.{◌≡◌, ◌≤◌, ◌<◌, ◌+◌, true, OnOk, OnErr, IfOk, IfErr, IsOk, All, length};
 ghost use Rattle.std.specs.Bool.{OnTrue, OnFalse};
 ghost use Rattle.bg_types.specs.OperationSet.{Holds, Agree, MayJoin, ReusesIdentifier, union, size, with_operation};
 ghost use Rattle.bg_types.specs.WellFormed.{MayFollow};
 ghost use Rattle.bg_types.specs.declared.op.OpView.{OpView};
+ghost use Rattle.bg_types.specs.declared.op.OpView.TheVariants.{Erase};
 ghost use Rattle.rga_tree.specs.Elements.{elements};
 ghost use Rattle.pending_ops.specs.Waiting.{ListsOnce};
 ghost use Rattle.desk_replica.specs.declared.answer.TakeFault.{TakeFault as Fault};
@@ -19,7 +20,7 @@ use crate::answer::TakeFault;
 use crate::cursor::Cursor;
 use crate::placing::{Standing, count_waiting, look_up};
 use crate::reading::insertion_of;
-use bg_types::Op;
+use bg_types::{Id, Op};
 use pending_ops::Held;
 use rga_tree::{Element, Sequence};
 
@@ -207,14 +208,15 @@ impl<S: Sequence> Replica<S> {
         ensures spare { size self.old.set + self.old.spare ≤ size self.new.set + self.new.spare }
         ensures unpaid { IfErr result (λ fault. fault ≡ TakeFault.Memory → self.new.spare ≡ 0) }
     {
+        let mut cursor = Cursor::front();
         for p in 0..seq.part_count() {
-            self.erase_row(seq.part(p))?;
+            self.erase_row(seq.part(p), &mut cursor)?;
         }
         Ok(())
     }
 
-    /// Takes the deletions of the hidden elements of a row.
-    fn erase_row(&mut self, row: &[Element]) -> Result<(), TakeFault>
+    /// Takes the deletions of the hidden elements of a row. The own elements stand at the cursor or behind it.
+    fn erase_row(&mut self, row: &[Element], cursor: &mut Cursor) -> Result<(), TakeFault>
         ensures ok { OnOk result (self.new.set ≡ with_operations self.old.set (deletions_in row.now)) }
         ensures fault { IfErr result (IsStopped self.old.set (deletions_in row.now) self.new.set) }
         ensures site { self.new.site ≡ self.old.site }
@@ -223,10 +225,37 @@ impl<S: Sequence> Replica<S> {
     {
         for e in row {
             if e.hidden {
-                self.take(&Op::erase(e.id))?;
+                self.take_deletion(e.id, cursor)?;
             }
         }
         Ok(())
+    }
+
+    /// Takes a deletion. Where the own element is hidden, it is known without a look-up.
+    fn take_deletion(&mut self, id: Id, cursor: &mut Cursor) -> Result<(), TakeFault>
+        ensures ok { OnOk result (self.new.set ≡ with_operation self.old.set (Erase id)) }
+        ensures err { OnErr result (self.new ≡ self.old) }
+        ensures fault { IfErr result (IsRefused self.old.set (Erase id)) }
+        ensures site { self.new.site ≡ self.old.site }
+        ensures spare { size self.old.set + self.old.spare ≤ size self.new.set + self.new.spare }
+        ensures unpaid { IfErr result (λ fault. fault ≡ TakeFault.Memory → self.old.spare ≡ 0) }
+    {
+        cursor.find(&self.seq, id);
+        if self.hides(id, cursor) {
+            return Ok(());
+        }
+        self.take(&Op::erase(id))?;
+        Ok(())
+    }
+
+    /// Whether the element with this identifier stands at the cursor, hidden: then its deletion is known.
+    fn hides(&self, id: Id, cursor: &Cursor) -> bool
+        ensures { OnTrue result (Holds self.now.set (Erase id)) }
+    {
+        match cursor.read(&self.seq) {
+            Some(own) => is_hidden(&own, id),
+            None => false,
+        }
     }
 
     /// Takes the operations that wait in a store of this many.
@@ -256,4 +285,15 @@ fn is_made_alike(one: &Element, other: &Element) -> bool
         return false;
     }
     one.ch == other.ch
+}
+
+/// Whether an element has this identifier and is hidden.
+fn is_hidden(own: &Element, id: Id) -> bool
+    ensures id { OnTrue result (own.now.id ≡ id) }
+    ensures hidden { OnTrue result (own.now.hidden ≡ true) }
+{
+    if own.id != id {
+        return false;
+    }
+    own.hidden
 }
