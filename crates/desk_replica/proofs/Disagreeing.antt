@@ -1,7 +1,7 @@
 -- Where two desks keep an identifier with another parent or character.
-use Rattle.std.proofs.Common.{◌≡◌, ◌<◌, ◌++◌, ℕ, List, [], length, take, get_or, true, Some, sym, ap, subst, ◌∙◌, is_some}
+use Rattle.std.proofs.Common.{◌≡◌, ◌<◌, ◌++◌, ◌+◌, ℕ, List, [], ◌∷◌, length, take, get_or, true, Some, sym, ap, subst, ◌∙◌, is_some}
 use Rattle.std.specs.Prelude.{◌||◌, All, Contains, slice_get}
-use Rattle.std.proofs.lemmas.List.Elements.{All-get_or, Contains-append_left, Contains-append_right, Contains-get_or}
+use Rattle.std.proofs.lemmas.List.Elements.{All-append, All-cons, All-get_or, All-head, All-nil, All-tail, Contains-append_left, Contains-append_right, Contains-get_or}
 use Rattle.std.proofs.lemmas.Option.{get_or_from_slice_get, slice_get-get_or, slice_get_within}
 use Rattle.std.specs.FinMap as map
 use Rattle.std.specs.FinSet as set
@@ -9,7 +9,7 @@ use Rattle.bg_types.specs.WellFormed.{MayFollow}
 use Rattle.bg_types.specs.OperationSet.{OperationSet, AllWellFormed, Agree, Holds, MayJoin, ReusesIdentifier, size, union}
 use Rattle.bg_types.specs.declared.op.OpView.{OpView}
 use Rattle.bg_types.specs.declared.op.OpView.TheVariants.{Insert, Erase}
-use Rattle.bg_types.proofs.Interface.{get-union, unwrap_first}
+use Rattle.bg_types.proofs.Interface.{Holds-may_join, get-union, unwrap_first}
 use Rattle.rga_tree.specs.declared.element.Element.{Element}
 use Rattle.rga_tree.specs.Elements.{elements, element_of}
 use Rattle.rga_tree.proofs.Interface.{IsAttached-tree, listed-attached}
@@ -21,8 +21,9 @@ use Rattle.desk_replica.proofs.Whole.{contains-union, which}
 use Rattle.desk_replica.proofs.Settled.{in_whole}
 use Rattle.desk_replica.proofs.Admitting.{IsContent}
 use Rattle.desk_replica.proofs.ElementPlaces.{element_at, element_for, follows_parent}
-use Rattle.desk_replica.proofs.InTurn.{joined, joined_split}
+use Rattle.desk_replica.proofs.InTurn.{joined, joined_split, rest_from, take_behind}
 use Rattle.desk_replica.proofs.Lists.{slice_get-take}
+use Rattle.desk_replica.specs.Told.{insertions_in}
 use Rattle.desk_replica.proofs.Told.{late_kept}
 use Rattle.desk_replica.proofs.Merges.{agree_of, disagree_of}
 
@@ -69,6 +70,20 @@ agree_placed s t c all id a b in_s in_t =
     let f = element_for t id b (listed-attached t id c.well (IsAttached-tree t id c.well c.tree (ap is_some in_t))) in_t in
     let at = All-get_or (λ (x : Element). MayJoin s (insertion_of x)) (elements t) f.0 e (slice_get_within (elements t) f.0 e f.1) all in
     subst (λ (x : Element). MayJoin s (insertion_of x)) (get_or_from_slice_get (elements t) f.0 e e f.1) at a in_s
+
+-- ---- a row
+
+-- insertions that are known may join, behind those that may
+pub known_join : (s : OperationSet) (row : List Element) (j n : ℕ) → All (λ e. MayJoin s (insertion_of e)) (take j row) → All (Holds s) (insertions_in (take n (rest_from row j)))
+    → All (λ e. MayJoin s (insertion_of e)) (take (j + n) row)
+known_join s row j n front known =
+    let may = λ (e : Element). MayJoin s (insertion_of e) in
+    subst (All may) (sym (take_behind row j n)) (All-append may (take j row) _ front (each_joins (take n (rest_from row j)) known))
+  where
+    each_joins : (xs : List Element) → All (Holds s) (insertions_in xs) → All (λ e. MayJoin s (insertion_of e)) xs
+    each_joins [] all = All-nil (λ (e : Element). MayJoin s (insertion_of e))
+    each_joins (e ∷ xs) all = All-cons (λ (x : Element). MayJoin s (insertion_of x)) e xs (Holds-may_join s (insertion_of e) (All-head (Holds s) (insertion_of e) (insertions_in xs) all))
+        (each_joins xs (All-tail (Holds s) (insertion_of e) (insertions_in xs) all))
 
 -- ---- what waits
 

@@ -1,9 +1,13 @@
 -- Operations that are taken one after the other, as rows of elements or a store tell them.
 use Rattle.std.proofs.Common.{◌≡◌, ◌≤◌, ◌<◌, ◌+◌, ◌++◌, ℕ, List, [], ◌∷◌, length, take, drop, get_or, refl, sym, ap, subst, ◌∙◌, append_assoc}
-use Rattle.std.proofs.lemmas.List.{append-nil, take_more, take-append-drop, drop_more}
+use Rattle.std.proofs.lemmas.List.{append-nil, take_more, take-append-drop, take_rest, drop_more}
+use Rattle.std.proofs.lemmas.List.Elements.{All-head, All-tail}
+use Rattle.std.proofs.Math.Seq.{take-add}
+use Rattle.std.specs.Prelude.{All, slice_range}
 use Rattle.std.specs.List.{flat_map}
 use Rattle.std.proofs.lemmas.List.Concat.{flat_map-append}
-use Rattle.bg_types.specs.OperationSet.{OperationSet, with_operation}
+use Rattle.bg_types.specs.OperationSet.{OperationSet, Holds, with_operation}
+use Rattle.bg_types.proofs.Interface.{with_operation-known}
 use Rattle.bg_types.specs.declared.op.OpView.{OpView}
 use Rattle.rga_tree.specs.declared.element.Element.{Element}
 use Rattle.desk_replica.specs.declared.answer.TakeFault.{TakeFault}
@@ -19,6 +23,12 @@ module _ {X : Type 0} where
 
   pub take_push : (xs : List X) (j : ℕ) (x : X) → j < length xs → x ≡ get_or xs j x → take (j + 1) xs ≡ take j xs ++ x ∷ []
   take_push xs j x within is = take_more xs j x within ∙ ap (λ y. take j xs ++ y ∷ []) (sym is)
+
+  abbrev pub rest_from : List X → ℕ → List X
+  rest_from xs j = slice_range xs j (length xs)
+
+  pub take_behind : (xs : List X) (j n : ℕ) → take (j + n) xs ≡ take j xs ++ take n (rest_from xs j)
+  take_behind xs j n = take-add j n xs ∙ ap (λ l. take j xs ++ take n l) (sym (take_rest xs j))
 
 -- the elements of all parts
 abbrev pub joined : List (List Element) → List Element
@@ -69,6 +79,12 @@ stopped_second s t u xs ys fault first h = record {
   refused = h.refused;
 }
 
+-- operations that are known change nothing
+pub with-known : (s : OperationSet) (ops : List OpView) → All (Holds s) ops → with_operations s ops ≡ s
+with-known s [] all = refl
+with-known s (op ∷ ops) all =
+    ap (λ r. with_operations r ops) (with_operation-known s op (All-head (Holds s) op ops all)) ∙ with-known s ops (All-tail (Holds s) op ops all)
+
 -- one more operation of a list
 module _ (s u : OperationSet) (ops : List OpView) (j : ℕ) (op : OpView) (within : j < length ops) (is : op ≡ get_or ops j op) (taken : u ≡ with_operations s (take j ops)) where
   pub taken_next : (v : OperationSet) → v ≡ with_operation u op → v ≡ with_operations s (take (j + 1) ops)
@@ -80,6 +96,13 @@ module _ (s u : OperationSet) (ops : List OpView) (j : ℕ) (op : OpView) (withi
 -- ---- what rows tell: of two rows the one after the other
 
 module _ (tell : List Element → List OpView) (tell-append : (xs ys : List Element) → tell (xs ++ ys) ≡ tell xs ++ tell ys) (s : OperationSet) where
+  -- more elements, whose operations are known
+  pub row_passed : (u : OperationSet) (row : List Element) (j n : ℕ) → u ≡ with_operations s (tell (take j row)) → All (Holds u) (tell (take n (rest_from row j))) → u ≡ with_operations s (tell (take (j + n) row))
+  row_passed u row j n taken known =
+      let behind = take n (rest_from row j) in
+      taken_both s u u (tell (take j row)) (tell behind) taken (sym (with-known u (tell behind) known))
+      ∙ ap (with_operations s) (sym (tell-append (take j row) behind) ∙ ap tell (sym (take_behind row j n)))
+
   -- one more element
   module _ (u : OperationSet) (row : List Element) (j : ℕ) (e : Element) (within : j < length row) (is : e ≡ get_or row j e) (taken : u ≡ with_operations s (tell (take j row))) where
     pub row_next : (v : OperationSet) → v ≡ with_operations u (tell (e ∷ [])) → v ≡ with_operations s (tell (take (j + 1) row))

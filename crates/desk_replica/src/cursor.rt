@@ -1,6 +1,6 @@
 //! Where the next element of another desk is awaited among a desk's own.
 
-ghost use Rattle.std.specs.Prelude.{IfSome, Contains};
+ghost use Rattle.std.specs.Prelude.{IfSome, All, Contains};
 ghost use Rattle.rga_tree.specs.Elements.{elements};
 
 use bg_types::Id;
@@ -34,9 +34,22 @@ impl Cursor {
         Some(row[self.at])
     }
 
-    /// Moves behind the element that stands there.
-    pub fn step<S: Sequence>(&mut self, seq: &S) {
-        let next = self.at.saturating_add(1);
+    /// The elements from the one that stands there to the end of its part.
+    pub fn ahead<'a, S: Sequence>(&self, seq: &'a S) -> &'a [Element]
+        ensures { All (Contains (elements (S.content seq.now))) result.now }
+    {
+        if self.part >= seq.part_count() {
+            return &[];
+        }
+        match seq.part(self.part).get(self.at..) {
+            Some(rest) => rest,
+            None => &[],
+        }
+    }
+
+    /// Moves behind this many elements of the part.
+    pub fn skip<S: Sequence>(&mut self, seq: &S, count: usize) {
+        let next = self.at.saturating_add(count);
         if self.part < seq.part_count() && next < seq.part(self.part).len() {
             self.at = next;
         } else {
@@ -61,7 +74,7 @@ impl Cursor {
     /// Moves behind the element with this identifier, if that stands here or later.
     pub fn seek<S: Sequence>(&mut self, seq: &S, id: Id) {
         if self.find(seq, id) {
-            self.step(seq);
+            self.skip(seq, 1);
         }
     }
 }

@@ -1,6 +1,6 @@
 //! Taking all operations of another desk.
 
-ghost use Rattle.std.specs.Prelude.{◌≡◌, ◌≤◌, ◌<◌, ◌+◌, true, OnOk, OnErr, IfOk, IfErr, IsOk, All, length};
+ghost use Rattle.std.specs.Prelude.{◌≡◌, ◌≤◌, ◌<◌, ◌+◌, true, OnOk, OnErr, IfOk, IfErr, IsOk, All, length, take};
 ghost use Rattle.std.specs.Bool.{OnTrue, OnFalse};
 ghost use Rattle.bg_types.specs.OperationSet.{Holds, Agree, MayJoin, ReusesIdentifier, union, size, with_operation};
 ghost use Rattle.bg_types.specs.WellFormed.{MayFollow};
@@ -78,38 +78,41 @@ impl<S: Sequence> Replica<S> {
         ensures yes { OnTrue result (ReusesIn self.now.set row.now) }
         ensures no { OnFalse result (All (λ e. MayJoin self.now.set (made_by e)) row.now) }
     {
-        for e in row {
-            if self.reuses_at(e, cursor) {
+        let mut at = 0;
+        while at < row.len() {
+            let known = self.known_in_front(&row[at..], cursor);
+            if known > 0 {
+                at += known;
+            } else if self.reuses_at(&row[at], cursor) {
                 return true;
+            } else {
+                at += 1;
             }
         }
         false
     }
 
-    /// Whether the insertion of an element reuses an identifier. What stands at the cursor is known without a look-up.
+    /// Whether the insertion of an element reuses an identifier. If it stands at the cursor or later, that moves behind it.
     fn reuses_at(&self, e: &Element, cursor: &mut Cursor) -> bool
         requires { MayFollow e.now.parent e.now.id }
         ensures yes { OnTrue result (ReusesIdentifier self.now.set (made_by e.now)) }
         ensures no { OnFalse result (MayJoin self.now.set (made_by e.now)) }
     {
-        if self.knows(e, cursor) {
-            cursor.step(&self.seq);
-            return false;
-        }
         if self.seq.has(e.id) {
             cursor.seek(&self.seq, e.id);
         }
         self.reuses(&insertion_of(e))
     }
 
-    /// Whether an element stands at the cursor: then what made it is known.
-    fn knows(&self, e: &Element, cursor: &Cursor) -> bool
-        ensures { OnTrue result (Holds self.now.set (made_by e.now)) }
+    /// How many elements in front of a row stand at the cursor, one behind the other: what made them is known without a
+    /// look-up. The cursor moves behind them.
+    fn known_in_front(&self, row: &[Element], cursor: &mut Cursor) -> usize
+        ensures within { result ≤ length row.now }
+        ensures known { All (Holds self.now.set) (insertions_in (take result row.now)) }
     {
-        match cursor.read(&self.seq) {
-            Some(own) => is_made_alike(&own, e),
-            None => false,
-        }
+        let known = alike_in_front(cursor.ahead(&self.seq), row);
+        cursor.skip(&self.seq, known);
+        known
     }
 
     fn disagrees_waiting(&self, held: &Held) -> bool
@@ -174,13 +177,20 @@ impl<S: Sequence> Replica<S> {
         ensures spare { size self.old.set + self.old.spare ≤ size self.new.set + self.new.spare }
         ensures unpaid { IfErr result (λ fault. fault ≡ TakeFault.Memory → self.new.spare ≡ 0) }
     {
-        for e in row {
-            self.take_at(e, cursor)?;
+        let mut at = 0;
+        while at < row.len() {
+            let known = self.known_in_front(&row[at..], cursor);
+            if known > 0 {
+                at += known;
+            } else {
+                self.take_at(&row[at], cursor)?;
+                at += 1;
+            }
         }
         Ok(())
     }
 
-    /// Takes the insertion that made an element. What stands at the cursor is known without a look-up.
+    /// Takes the insertion that made an element. If it stands at the cursor or later, that moves behind it.
     fn take_at(&mut self, e: &Element, cursor: &mut Cursor) -> Result<(), TakeFault>
         requires { MayFollow e.now.parent e.now.id }
         ensures ok { OnOk result (self.new.set ≡ with_operation self.old.set (made_by e.now)) }
@@ -190,10 +200,6 @@ impl<S: Sequence> Replica<S> {
         ensures spare { size self.old.set + self.old.spare ≤ size self.new.set + self.new.spare }
         ensures unpaid { IfErr result (λ fault. fault ≡ TakeFault.Memory → self.old.spare ≡ 0) }
     {
-        if self.knows(e, cursor) {
-            cursor.step(&self.seq);
-            return Ok(());
-        }
         self.take(&insertion_of(e))?;
         if self.seq.has(e.id) {
             cursor.seek(&self.seq, e.id);
@@ -272,6 +278,20 @@ impl<S: Sequence> Replica<S> {
         }
         Ok(())
     }
+}
+
+/// How many elements in front of both rows were made by the same insertions.
+fn alike_in_front(one: &[Element], other: &[Element]) -> usize
+    ensures within { result ≤ length other.now }
+    ensures alike { insertions_in (take result one.now) ≡ insertions_in (take result other.now) }
+{
+    let most = one.len().min(other.len());
+    for at in 0..most {
+        if !is_made_alike(&one[at], &other[at]) {
+            return at;
+        }
+    }
+    most
 }
 
 /// Whether one insertion made both elements.

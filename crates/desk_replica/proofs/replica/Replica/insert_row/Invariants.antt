@@ -1,13 +1,17 @@
 -- What stays true in the loop of `insert_row`.
-use Rattle.std.proofs.Common.{◌≡◌, ◌≤◌, ◌+◌, take}
+use Rattle.std.proofs.Common.{◌≡◌, ◌≤◌, ◌-◌, ◌+◌, length, take}
 use Rattle.bg_types.specs.OperationSet.{size}
 use Rattle.desk_replica.specs.Told.{insertions_in}
 use Rattle.desk_replica.specs.Merging.{with_operations}
 use Rattle.desk_replica.proofs.replica.Replica.insert_row.Given as goal
 
-abbrev pub invariant-loop-e : goal.invariant-loop-e
-invariant-loop-e g l = record {
-  taken : l.self.set ≡ with_operations l.fn.self.set (insertions_in (take l.e-index l.row));
+abbrev pub invariant-loop-at : goal.invariant-loop-at
+invariant-loop-at g l = record {
+  within : l.at ≤ length l.row;
+  taken : l.self.set ≡ with_operations l.fn.self.set (insertions_in (take l.at l.row));
   site : l.self.site ≡ l.fn.self.site;
   spare : size l.fn.self.set + l.fn.self.spare ≤ size l.self.set + l.self.spare;
 }
+
+abbrev pub decreases-loop-at : goal.decreases-loop-at
+decreases-loop-at g l = length l.row - l.at
