@@ -1,13 +1,14 @@
 //! Where the next element of another desk is awaited among a desk's own.
 
-ghost use Rattle.std.specs.Prelude.{IfSome, All, Contains};
+ghost use Rattle.std.specs.Prelude.{All, Contains};
 ghost use Rattle.rga_tree.specs.Elements.{elements};
 
 use bg_types::Id;
 use rga_tree::{Element, Sequence};
 
 /// Where the next element of another desk is awaited: a part of the own sequence, and a place there. Two desks have the
-/// elements that both know in one order, so it only moves on. Still it is a guess: what stands there is compared.
+/// elements that both know in one order, so it only moves on. It may stand at a part's end, since what is placed next may
+/// stand there. Still it is a guess: what stands ahead is compared.
 #[derive(Clone, Copy)]
 pub struct Cursor {
     part: usize,
@@ -20,42 +21,26 @@ impl Cursor {
         Cursor { part: 0, at: 0 }
     }
 
-    /// The element that stands there.
-    pub fn read<S: Sequence>(&self, seq: &S) -> Option<Element>
-        ensures { IfSome result (Contains (elements (S.content seq.now))) }
-    {
-        if self.part >= seq.part_count() {
-            return None;
-        }
-        let row = seq.part(self.part);
-        if self.at >= row.len() {
-            return None;
-        }
-        Some(row[self.at])
-    }
-
-    /// The elements from the one that stands there to the end of its part.
+    /// The elements ahead: the rest of the part, or at its end the next part.
     pub fn ahead<'a, S: Sequence>(&self, seq: &'a S) -> &'a [Element]
         ensures { All (Contains (elements (S.content seq.now))) result.now }
     {
-        if self.part >= seq.part_count() {
-            return &[];
+        let rest = rest_of(seq, self.part, self.at);
+        if rest.is_empty() {
+            return rest_of(seq, self.part.saturating_add(1), 0);
         }
-        match seq.part(self.part).get(self.at..) {
-            Some(rest) => rest,
-            None => &[],
-        }
+        rest
     }
 
-    /// Moves behind this many elements of the part.
+    /// Moves behind this many of the elements ahead.
     pub fn skip<S: Sequence>(&mut self, seq: &S, count: usize) {
-        let next = self.at.saturating_add(count);
-        if self.part < seq.part_count() && next < seq.part(self.part).len() {
-            self.at = next;
-        } else {
-            self.part = self.part.saturating_add(1);
-            self.at = 0;
+        if count > 0 && rest_of(seq, self.part, self.at).is_empty() {
+            *self = Cursor {
+                part: self.part.saturating_add(1),
+                at: 0,
+            };
         }
+        self.at = self.at.saturating_add(count);
     }
 
     /// Moves to the element with this identifier, if that stands here or later, and tells whether it does.
@@ -74,8 +59,21 @@ impl Cursor {
     /// Moves behind the element with this identifier, if that stands here or later.
     pub fn seek<S: Sequence>(&mut self, seq: &S, id: Id) {
         if self.find(seq, id) {
-            self.skip(seq, 1);
+            self.at = self.at.saturating_add(1);
         }
+    }
+}
+
+/// The elements of a part from a place on, if there are any.
+fn rest_of<S: Sequence>(seq: &S, part: usize, at: usize) -> &[Element]
+    ensures { All (Contains (elements (S.content seq.now))) result.now }
+{
+    if part >= seq.part_count() {
+        return &[];
+    }
+    match seq.part(part).get(at..) {
+        Some(rest) => rest,
+        None => &[],
     }
 }
 

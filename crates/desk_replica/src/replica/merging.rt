@@ -16,7 +16,7 @@ ghost use Rattle.desk_replica.specs.Reply.{IsRefused};
 ghost use Rattle.desk_replica.specs.Merging.{Disagree, IsMergeRefusal, IsMergeRefused, IsStopped, ReusesIn, with_operations};
 
 use super::Replica;
-use crate::answer::TakeFault;
+use crate::answer::{TakeFault, Taken};
 use crate::cursor::Cursor;
 use crate::placing::{Standing, count_waiting, look_up};
 use crate::reading::insertion_of;
@@ -98,10 +98,12 @@ impl<S: Sequence> Replica<S> {
         ensures yes { OnTrue result (ReusesIdentifier self.now.set (made_by e.now)) }
         ensures no { OnFalse result (MayJoin self.now.set (made_by e.now)) }
     {
-        if self.seq.has(e.id) {
-            cursor.seek(&self.seq, e.id);
+        match look_up(&self.seq, &self.held, self.greatest, &insertion_of(e)) {
+            Standing::Reused => return true,
+            Standing::Known if self.seq.has(e.id) => cursor.seek(&self.seq, e.id),
+            _ => {}
         }
-        self.reuses(&insertion_of(e))
+        false
     }
 
     /// How many elements in front of a row stand at the cursor, one behind the other: what made them is known without a
@@ -200,8 +202,8 @@ impl<S: Sequence> Replica<S> {
         ensures spare { size self.old.set + self.old.spare ≤ size self.new.set + self.new.spare }
         ensures unpaid { IfErr result (λ fault. fault ≡ TakeFault.Memory → self.old.spare ≡ 0) }
     {
-        self.take(&insertion_of(e))?;
-        if self.seq.has(e.id) {
+        let taken = self.take(&insertion_of(e))?;
+        if taken != Taken::Held && self.seq.has(e.id) {
             cursor.seek(&self.seq, e.id);
         }
         Ok(())
@@ -258,8 +260,8 @@ impl<S: Sequence> Replica<S> {
     fn hides(&self, id: Id, cursor: &Cursor) -> bool
         ensures { OnTrue result (Holds self.now.set (Erase id)) }
     {
-        match cursor.read(&self.seq) {
-            Some(own) => is_hidden(&own, id),
+        match cursor.ahead(&self.seq).first() {
+            Some(own) => is_hidden(own, id),
             None => false,
         }
     }
