@@ -1,5 +1,5 @@
 -- Where the visible elements of a row stand.
-use Rattle.std.proofs.Common.{◌≡◌, ℕ, zero, suc, ◌<◌, ◌≤◌, ◌+◌, ◌*◌, Bool, true, false, cond, List, [], ◌∷◌, ◌++◌, length, take, drop, get_or, refl, sym, ap, ◌∙◌, zero-add, length-drop, arith}
+use Rattle.std.proofs.Common.{◌≡◌, ℕ, zero, suc, ◌<◌, ◌≤◌, ◌+◌, ◌*◌, ◌/◌, Bool, true, false, cond, List, [], ◌∷◌, ◌++◌, length, take, drop, get_or, refl, sym, ap, ◌∙◌, zero-add, length-drop, arith}
 use Rattle.std.proofs.Math.Seq.{take-add}
 use Rattle.std.proofs.lemmas.List.{drop-map, length-take-le, take-append-drop, take-map}
 use Rattle.rga_tree.specs.declared.element.Element.{Element}
@@ -7,8 +7,9 @@ use Rattle.rga_sequence.specs.declared.block.Block.{Block}
 use Rattle.rga_sequence.specs.BlockRows.{items_of}
 use Rattle.rga_sequence.specs.Blocks.{seen, seen_all, IsVisiblePlace}
 use Rattle.rga_sequence.proofs.Grown.{seen_le}
+use Rattle.rga_sequence.proofs.Numbers.{length-items}
 use Rattle.rga_sequence.proofs.Passing.{items_there}
-use Rattle.rga_sequence.proofs.Seen.{seen-more}
+use Rattle.rga_sequence.proofs.Seen.{block_more, not_all, seen-more}
 use Rattle.rga_sequence.proofs.Spots.{seen-append}
 use Rattle.rga_sequence.proofs.Whole.{any_default, element_is, slice_get_is}
 
@@ -41,6 +42,17 @@ seen_few [] (suc n) = omega arith
 seen_few (x ∷ bs) zero = omega arith
 seen_few (x ∷ bs) (suc n) = omega (arith, seen_few bs n, seen_le x.elements.items, x.few, x.elements.ok)
 
+pub seen_most : (bs : List Block) → seen_all (items_of bs) ≤ 512 * length bs
+seen_most [] = omega arith
+seen_most (x ∷ bs) = omega (arith, seen_most bs, seen_le x.elements.items, x.few, x.elements.ok)
+
+-- for each 512 visible ones that are left there is one more block
+pub blocks_behind : (bs : List Block) (b left : ℕ) → seen_all (take b (items_of bs)) + left < seen_all (items_of bs) → b + left / 512 < length bs
+blocks_behind [] zero left few = absurd (omega arith)
+blocks_behind [] (suc b) left few = absurd (omega arith)
+blocks_behind (x ∷ bs) zero left few = omega (arith, seen_most (x ∷ bs))
+blocks_behind (x ∷ bs) (suc b) left few = omega (arith, blocks_behind bs b left (omega arith))
+
 seen_all-append : (xs ys : List (List Element)) → seen_all (xs ++ ys) ≡ seen_all xs + seen_all ys
 seen_all-append [] ys = sym (zero-add (seen_all ys))
 seen_all-append (x ∷ xs) ys = omega (arith, seen_all-append xs ys)
@@ -51,6 +63,27 @@ seen_all-add bs b n =
     let f = λ (x : Block). x.elements.items in
     ap seen_all (take-add b n (items_of bs) ∙ ap (λ r. take b (items_of bs) ++ r) (ap (take n) (drop-map f b bs) ∙ take-map f n (drop b bs)))
     ∙ seen_all-append (take b (items_of bs)) (items_of (take n (drop b bs)))
+
+-- 512 visible ones a block at most, in any row of them
+pub seen_part : (bs : List Block) (b n : ℕ) → seen_all (items_of (take n (drop b bs))) ≤ 512 * n
+seen_part bs b n = omega (arith, seen_few (drop b bs) n, ap seen_all (take-map (λ (x : Block). x.elements.items) n (drop b bs)))
+
+-- one more hidden element
+pub hidden-next : (es : List Element) (j : ℕ) (d : Element) → j < length es → ((x : Element) → (get_or es j x).hidden ≡ true) → seen (take (j + 1) es) ≡ seen (take j es)
+hidden-next es j d within hidden =
+    let e = get_or es j d in
+    omega (arith, seen-more es j e (slice_get_is es j e within (any_default es j d within)), ap {B = ℕ} (λ h. cond h 0 1) (hidden d))
+
+-- where visible ones are left behind a hidden one there is a further element
+pub further-there : (es : List Element) (at from : ℕ) (d : Element) → at < length es → ((x : Element) → (get_or es at x).hidden ≡ true)
+    → seen (take at es) ≡ seen (take from es) → seen (take from es) < seen es → at + 1 < length es
+further-there es at from d within hidden same few = not_all es (at + 1) (omega (arith, hidden-next es at d within hidden, same, few))
+
+-- where visible ones are left behind a block there is a further block
+pub block-there : (bs : List Block) (b left k visible : ℕ) → b < length bs → visible ≡ seen (get_or (items_of bs) b []) → seen_all (take b (items_of bs)) + left ≡ k
+    → k < seen_all (items_of bs) → visible ≤ left → b + 1 < length bs
+block-there bs b left k visible there is before few past =
+    omega (arith, block_more (items_of bs) b left (omega (arith, there, length-items bs)) (omega (arith, before, few)) (omega (arith, is, past)), length-items bs)
 
 pub some_blocks : (bs : List Block) → 0 < seen_all (items_of bs) → 0 < length bs
 some_blocks [] some = some

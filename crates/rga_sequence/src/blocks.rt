@@ -84,7 +84,7 @@ impl Blocks {
         self.row.blocks.len()
     }
 
-    /// Visible element k. The number of looks is that which `find` takes.
+    /// Visible element k, with the looks counted from 0. They are as many as `find` takes.
     fn shown(&mut self, k: usize) -> Element
         requires { k < length (visible (⟦<Blocks as Sequence>⟧.content self.old)) }
         ensures id { slice_get (visible_ids (⟦<Blocks as Sequence>⟧.content self.old)) k ≡ Some result.id }
@@ -93,10 +93,10 @@ impl Blocks {
         ensures room { ⟦<Blocks as Sequence>⟧.free self.new ≡ ⟦<Blocks as Sequence>⟧.free self.old }
         ensures looks { FindsBy (⟦<Blocks as Look>⟧.blocks self.old) k result (⟦<Blocks as Look>⟧.looked self.new) }
     {
-        let (b, left) = block_of(&self.row.blocks, k);
+        self.looks = 0;
+        let (b, left) = block_of(&self.row.blocks, k, &mut self.looks);
         let block = &self.row.blocks[b];
-        let j = place_in(block, left);
-        self.looks = (b + 1 + (j + 1)) as u64;
+        let j = place_in(block, left, &mut self.looks);
         block.elements[j]
     }
 }

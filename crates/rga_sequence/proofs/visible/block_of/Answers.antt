@@ -1,20 +1,34 @@
 -- The goals of `block_of` that are answered by hand.
-use Rattle.std.proofs.Common.{◌≤◌, [], get_or, arith}
+use Rattle.std.proofs.Common.{◌+◌, ◌∙◌, sym, ap, arith}
 use Rattle.rga_sequence.specs.Blocks.{seen}
 use Rattle.rga_sequence.specs.BlockRows.{items_of}
-use Rattle.rga_sequence.proofs.Nth.{visible_there}
-use Rattle.rga_sequence.proofs.Numbers.{length-items}
-use Rattle.rga_sequence.proofs.Seen.{block_more, seen_all-more}
+use Rattle.rga_sequence.specs.declared.block.Block.{Block}
+use Rattle.rga_sequence.proofs.Nth.{block-there}
+use Rattle.rga_sequence.proofs.Passing.{items_there}
+use Rattle.rga_sequence.proofs.Seen.{seen_all-more}
 use Rattle.rga_sequence.proofs.visible.block_of.Goals as goal
 
-pub loop-b-preserved : goal.loop-b-preserved
-loop-b-preserved c =
+pub bounds-blocks-b-in-loop-visible : goal.bounds-blocks-b-in-loop-visible
+bounds-blocks-b-in-loop-visible c =
+    let l = c.loop-visible in
+    block-there c.args.blocks.now l.b l.left c.args.k l.visible l.invariant.there l.invariant.visible l.invariant.before c.requires.there c.loop-visible-test.true
+
+pub header-visible-requires-in-loop-visible : goal.header-visible-requires-in-loop-visible
+header-visible-requires-in-loop-visible c =
+    let l = c.loop-visible in
+    let there = block-there c.args.blocks.now l.b l.left c.args.k l.visible l.invariant.there l.invariant.visible l.invariant.before c.requires.there c.loop-visible-test.true in
+    record { room = omega (arith, l.invariant.looks, c.requires.room, there) }
+
+pub loop-visible-preserved : goal.loop-visible-preserved
+loop-visible-preserved c =
     let bs = c.args.blocks.now in
-    let xs = items_of bs in
-    let i = c.loop-b.invariant in
-    let b = c.loop-b.b in
-    let first = visible_there bs b c.index-blocks-b.result i.there in
-    let again = visible_there bs b c.index-blocks-b-in-loop-b.result i.there in
-    let past : seen (get_or xs b []) ≤ c.loop-b.left = omega (arith, first, c.loop-b-test.true) in
-    let more = block_more xs b c.loop-b.left (omega (arith, i.there, length-items bs)) (omega (arith, i.before, c.requires)) past in
-    record { there = omega (arith, more, length-items bs); before = omega (arith, seen_all-more xs b, i.before, again, past) }
+    let l = c.loop-visible in
+    let there = block-there bs l.b l.left c.args.k l.visible l.invariant.there l.invariant.visible l.invariant.before c.requires.there c.loop-visible-test.true in
+    let read = c.index-blocks-b-in-loop-visible in
+    let look = c.header-visible-in-loop-visible.ensures in
+    record {
+      there = there;
+      visible = look.visible ∙ ap (λ (x : Block). seen x.elements.items) read.is ∙ ap seen (sym (items_there bs (l.b + 1) read.result there));
+      before = omega (arith, seen_all-more (items_of bs) l.b, l.invariant.before, l.invariant.visible, c.loop-visible-test.true);
+      looks = omega (arith, look.looks, l.invariant.looks);
+    }

@@ -4,4 +4,7 @@ use Rattle.rga_sequence.specs.Blocks.{seen}
 use Rattle.rga_sequence.proofs.visible.hidden_in.Given as goal
 
 abbrev pub invariant-loop-e : goal.invariant-loop-e
-invariant-loop-e l = l.hidden + seen (take l.e-index l.row) ≡ l.e-index
+invariant-loop-e l = record {
+  hidden : l.hidden + seen (take l.e-index l.row) ≡ l.e-index;
+  read : l.read ≡ l.e-index;
+}

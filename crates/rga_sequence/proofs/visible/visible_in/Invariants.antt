@@ -5,4 +5,7 @@ use Rattle.rga_sequence.specs.BlockRows.{items_of}
 use Rattle.rga_sequence.proofs.visible.visible_in.Given as goal
 
 abbrev pub invariant-loop-block : goal.invariant-loop-block
-invariant-loop-block l = l.visible ≡ seen_all (take l.block-index (items_of l.blocks))
+invariant-loop-block l = record {
+  visible : l.visible ≡ seen_all (take l.block-index (items_of l.blocks));
+  read : l.read ≡ l.block-index;
+}

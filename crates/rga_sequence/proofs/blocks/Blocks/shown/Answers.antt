@@ -1,5 +1,5 @@
 -- The goals of `shown` that are answered by hand.
-use Rattle.std.proofs.Common.{◌≡◌, ◌<◌, ◌+◌, refl, ap, length, take, arith}
+use Rattle.std.proofs.Common.{◌≡◌, ◌<◌, ◌+◌, ap, length, take, arith}
 use Rattle.rga_tree.proofs.Interface.{seen_at, visible_row}
 use Rattle.rga_sequence.specs.Blocks.{seen_all}
 use Rattle.rga_sequence.specs.BlockRows.{items_of}
@@ -25,7 +25,7 @@ returns-clause-looks c =
     let before : seen_all (take b (items_of bs)) + c.block_of-b.result.1 ≡ c.args.k = omega (arith, c.block_of-b.ensures.before, ap (λ xs. seen_all (take b (items_of xs))) same) in
     let inside = c.place_in-j.ensures in
     let place = found_there bs c.args.k b c.block_of-b.result.1 j c.index-block.result.now c.index.result.now some before c.index-block.ensures inside.there inside.visible inside.before c.index.ensures in
-    (b, j, place, refl)
+    (b, j, place, omega (arith, inside.looks, c.block_of-b.ensures.looks))
 
 pub returns-clause-id : goal.returns-clause-id
 returns-clause-id c =
