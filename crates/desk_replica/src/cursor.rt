@@ -1,24 +1,43 @@
 //! Where the next element of another desk is awaited among a desk's own.
 
-ghost use Rattle.std.specs.Prelude.{All, Contains};
+ghost use Rattle.std.specs.Prelude.{◌+◌, ◌≤◌, All, Contains};
 ghost use Rattle.rga_tree.specs.Elements.{elements};
 
 use bg_types::Id;
 use rga_tree::{Element, Sequence};
 
+/// How many own elements may be read for each of the other desk.
+const READ_FOR_ONE: usize = 8;
+
 /// Where the next element of another desk is awaited: a part of the own sequence, and a place there. Two desks have the
 /// elements that both know in one order, so it only moves on. It may stand at a part's end, since what is placed next may
 /// stand there. Still it is a guess: what stands ahead is compared.
+///
+/// The other desk's elements pay for the own ones that it passes: a merge takes no longer because a desk has many own
+/// ones. Where it has not been paid enough it stays behind, and what is awaited is looked up.
 #[derive(Clone, Copy)]
 pub struct Cursor {
     part: usize,
     at: usize,
+    paid: usize,
+    /// Behind this element it should stand, where that was not sought yet: of many in a row only the last one is.
+    met: Option<Id>,
 }
 
 impl Cursor {
-    /// Before all elements.
+    /// Before all elements, and not paid.
     pub fn front() -> Cursor {
-        Cursor { part: 0, at: 0 }
+        Cursor {
+            part: 0,
+            at: 0,
+            paid: 0,
+            met: None,
+        }
+    }
+
+    /// Is paid by so many elements of the other desk.
+    pub fn pay(&mut self, count: usize) {
+        self.paid = self.paid.saturating_add(count.saturating_mul(READ_FOR_ONE));
     }
 
     /// The elements ahead: the rest of the part, or at its end the next part.
@@ -35,31 +54,57 @@ impl Cursor {
     /// Moves behind this many of the elements ahead.
     pub fn skip<S: Sequence>(&mut self, seq: &S, count: usize) {
         if count > 0 && rest_of(seq, self.part, self.at).is_empty() {
-            *self = Cursor {
-                part: self.part.saturating_add(1),
-                at: 0,
-            };
+            self.go_on();
         }
         self.at = self.at.saturating_add(count);
     }
 
-    /// Moves to the element with this identifier, if that stands here or later, and tells whether it does.
+    /// Moves to the element with this identifier, if that stands here or later and what stands before it is paid for, and
+    /// tells whether it does. Else it moves as far as is paid for.
     pub fn find<S: Sequence>(&mut self, seq: &S, id: Id) -> bool {
-        let mut from = self.at;
-        for part in self.part..seq.part_count() {
-            if let Some(at) = place_in(seq.part(part), from, id) {
-                *self = Cursor { part, at };
+        for _ in self.part..seq.part_count() {
+            if self.find_in(rest_of(seq, self.part, self.at), id) {
                 return true;
             }
-            from = 0;
+            if self.paid == 0 {
+                return false;
+            }
+            self.go_on();
         }
         false
     }
 
-    /// Moves behind the element with this identifier, if that stands here or later.
-    pub fn seek<S: Sequence>(&mut self, seq: &S, id: Id) {
-        if self.find(seq, id) {
-            self.at = self.at.saturating_add(1);
+    /// Moves to the element with this identifier among those that are left of a part, or as far as is paid for.
+    fn find_in(&mut self, rest: &[Element], id: Id) -> bool
+        ensures paid { self.new.at + self.new.paid ≤ self.old.at + self.old.paid }
+    {
+        let most = rest.len().min(self.paid);
+        let found = rest[..most].iter().position(|e| e.id == id);
+        let passed = found.unwrap_or(most);
+        self.at = self.at.saturating_add(passed);
+        self.paid = self.paid.saturating_sub(passed);
+        found.is_some()
+    }
+
+    /// Moves to the next part, which is paid for as an element is.
+    fn go_on(&mut self) {
+        self.part = self.part.saturating_add(1);
+        self.at = 0;
+        self.paid = self.paid.saturating_sub(1);
+    }
+
+    /// Shall stand behind the element with this identifier.
+    pub fn meet(&mut self, id: Id) {
+        self.met = Some(id);
+    }
+
+    /// Moves behind the element that was met last, if that is found.
+    pub fn catch_up<S: Sequence>(&mut self, seq: &S) {
+        if let Some(id) = self.met {
+            self.met = None;
+            if self.find(seq, id) {
+                self.at = self.at.saturating_add(1);
+            }
         }
     }
 }
@@ -75,11 +120,4 @@ fn rest_of<S: Sequence>(seq: &S, part: usize, at: usize) -> &[Element]
         Some(rest) => rest,
         None => &[],
     }
-}
-
-/// The place of the element with this identifier, from this one on.
-fn place_in(row: &[Element], from: usize, id: Id) -> Option<usize> {
-    let rest = row.get(from..)?;
-    let further = rest.iter().position(|e| e.id == id)?;
-    Some(from.saturating_add(further))
 }

@@ -16,7 +16,7 @@ ghost use Rattle.desk_replica.specs.Reply.{IsRefused};
 ghost use Rattle.desk_replica.specs.Merging.{Disagree, IsMergeRefusal, IsMergeRefused, IsStopped, ReusesIn, with_operations};
 
 use super::Replica;
-use crate::answer::{TakeFault, Taken};
+use crate::answer::TakeFault;
 use crate::cursor::Cursor;
 use crate::placing::{Standing, count_waiting, look_up};
 use crate::reading::insertion_of;
@@ -78,6 +78,7 @@ impl<S: Sequence> Replica<S> {
         ensures yes { OnTrue result (ReusesIn self.now.set row.now) }
         ensures no { OnFalse result (All (λ e. MayJoin self.now.set (made_by e)) row.now) }
     {
+        cursor.pay(row.len());
         let mut at = 0;
         while at < row.len() {
             let known = self.known_in_front(&row[at..], cursor);
@@ -92,15 +93,18 @@ impl<S: Sequence> Replica<S> {
         false
     }
 
-    /// Whether the insertion of an element reuses an identifier. If it stands at the cursor or later, that moves behind it.
+    /// Whether the insertion of an element reuses an identifier. If that stands, the cursor goes on behind it.
     fn reuses_at(&self, e: &Element, cursor: &mut Cursor) -> bool
         requires { MayFollow e.now.parent e.now.id }
         ensures yes { OnTrue result (ReusesIdentifier self.now.set (made_by e.now)) }
         ensures no { OnFalse result (MayJoin self.now.set (made_by e.now)) }
     {
+        if self.is_newest(e) {
+            return false;
+        }
         match look_up(&self.seq, &self.held, self.greatest, &insertion_of(e)) {
             Standing::Reused => return true,
-            Standing::Known if self.seq.has(e.id) => cursor.seek(&self.seq, e.id),
+            Standing::Known if self.seq.has(e.id) => cursor.meet(e.id),
             _ => {}
         }
         false
@@ -112,9 +116,22 @@ impl<S: Sequence> Replica<S> {
         ensures within { result ≤ length row.now }
         ensures known { All (Holds self.now.set) (insertions_in (take result row.now)) }
     {
+        match row.first() {
+            Some(first) if !self.is_newest(first) => {}
+            _ => return 0,
+        }
+        cursor.catch_up(&self.seq);
         let known = alike_in_front(cursor.ahead(&self.seq), row);
         cursor.skip(&self.seq, known);
         known
+    }
+
+    /// Whether an element's counter is above all that are named, so that nothing is known of it.
+    #[inline(always)]
+    fn is_newest(&self, e: &Element) -> bool
+        ensures { OnTrue result (MayJoin self.now.set (made_by e.now)) }
+    {
+        e.id.counter() > self.greatest
     }
 
     fn disagrees_waiting(&self, held: &Held) -> bool
@@ -179,6 +196,7 @@ impl<S: Sequence> Replica<S> {
         ensures spare { size self.old.set + self.old.spare ≤ size self.new.set + self.new.spare }
         ensures unpaid { IfErr result (λ fault. fault ≡ TakeFault.Memory → self.new.spare ≡ 0) }
     {
+        cursor.pay(row.len());
         let mut at = 0;
         while at < row.len() {
             let known = self.known_in_front(&row[at..], cursor);
@@ -192,7 +210,7 @@ impl<S: Sequence> Replica<S> {
         Ok(())
     }
 
-    /// Takes the insertion that made an element. If it stands at the cursor or later, that moves behind it.
+    /// Takes the insertion that made an element. The cursor goes on behind it.
     fn take_at(&mut self, e: &Element, cursor: &mut Cursor) -> Result<(), TakeFault>
         requires { MayFollow e.now.parent e.now.id }
         ensures ok { OnOk result (self.new.set ≡ with_operation self.old.set (made_by e.now)) }
@@ -202,10 +220,9 @@ impl<S: Sequence> Replica<S> {
         ensures spare { size self.old.set + self.old.spare ≤ size self.new.set + self.new.spare }
         ensures unpaid { IfErr result (λ fault. fault ≡ TakeFault.Memory → self.old.spare ≡ 0) }
     {
-        let taken = self.take(&insertion_of(e))?;
-        if taken != Taken::Held && self.seq.has(e.id) {
-            cursor.seek(&self.seq, e.id);
-        }
+        self.take(&insertion_of(e))?;
+        // Its parent was taken before it, so it stands now.
+        cursor.meet(e.id);
         Ok(())
     }
 
@@ -231,6 +248,7 @@ impl<S: Sequence> Replica<S> {
         ensures spare { size self.old.set + self.old.spare ≤ size self.new.set + self.new.spare }
         ensures unpaid { IfErr result (λ fault. fault ≡ TakeFault.Memory → self.new.spare ≡ 0) }
     {
+        cursor.pay(row.len());
         for e in row {
             if e.hidden {
                 self.take_deletion(e.id, cursor)?;
