@@ -3,7 +3,6 @@ pub mod Steps
 pub mod Hung
 pub mod Entries
 pub mod Writing
-pub mod Pieces
 pub mod Extents
 pub mod Standing
 pub mod Sides

@@ -1,13 +1,12 @@
 //! The print of a grid.
 
-ghost use Rattle.std.specs.Prelude.{◌≡◌, ◌≤◌, ◌++◌, ℕ, List, false, replicate, slice_range, is_err, OnOk, OnErr, IfOk, Some};
-ghost use Rattle.std.specs.Bool.{OnTrue};
+ghost use Rattle.std.specs.Prelude.{◌≡◌, false, replicate, is_err, OnOk, OnErr, Some};
 ghost use Rattle.std.specs.List.{All, flat_map};
 ghost use Rattle.std.specs.Io.KnownBytes.{Appends};
 ghost use Rattle.bg_types.specs.Sink.{AppendsBeginning};
 ghost use Rattle.paragraphs.specs.Text.{code_points};
 ghost use Rattle.cell_grid.specs.Print.{is_segment_separator, begins_with_tab, mirrored_text, entry_text, own_text, row_text, printed};
-ghost use Rattle.cell_grid.specs.Printable.{IsSlice, IsPiece};
+ghost use Rattle.cell_grid.specs.Printable.{IsSlice};
 
 use crate::entry::Entry;
 use crate::grid::Grid;
@@ -16,9 +15,6 @@ use crate::row::Row;
 use bg_types::{Bidi, Device, Sink, put_all};
 use reorder::mirrored;
 use unicode_tables::Tables;
-
-/// Spaces that are put at once.
-const SPACES: [u8; 64] = [b' '; 64];
 
 /// Writes a grid: the text of each cell, and one LF after each row. Takes no memory.
 ///
@@ -63,77 +59,10 @@ fn print_entries<W: Sink>(
     ensures err { OnErr result (AppendsBeginning (W.written sink.old) (W.written sink.new) (flat_map (own_text tables.now text.now) entries.now)) }
     ensures failed { W.has_failed sink.new ≡ is_err result }
 {
-    let mut kept = Kept { from: 0, to: 0 };
     for entry in entries {
-        kept = print_on(tables, text, *entry, kept, sink)?;
+        print_cells(tables, text, *entry, sink)?;
     }
-    put_kept(text, kept, sink)
-}
-
-/// Bytes of a text that are still to be written. Clusters that are shown as they are and follow each other are put as one.
-#[derive(Clone, Copy)]
-struct Kept {
-    from: usize,
-    to: usize,
-}
-
-fn put_kept<W: Sink>(text: &str, kept: Kept, sink: &mut W) -> Result<(), Device>
-    requires working { W.has_failed sink.old ≡ false }
-    requires piece { IsPiece text.now kept.from kept.to }
-    ensures ok { OnOk result (Appends (W.written sink.old) (W.written sink.new) (slice_range text.now kept.from kept.to)) }
-    ensures err { OnErr result (AppendsBeginning (W.written sink.old) (W.written sink.new) (slice_range text.now kept.from kept.to)) }
-    ensures failed { W.has_failed sink.new ≡ is_err result }
-{
-    put_all(sink, text[kept.from..kept.to].as_bytes())
-}
-
-/// Writes what is kept and the cells of an entry, all but what is kept then.
-fn print_on<W: Sink>(
-    tables: &Tables,
-    text: &str,
-    entry: Entry,
-    kept: Kept,
-    sink: &mut W,
-) -> Result<Kept, Device>
-    requires working { W.has_failed sink.old ≡ false }
-    requires entry { IsSlice text.now entry.span }
-    requires piece { IsPiece text.now kept.from kept.to }
-    ensures ok { IfOk result (λ left. (put : List ℕ) × Appends (W.written sink.old) (W.written sink.new) put
-        × (put ++ slice_range text.now left.from left.to ≡ slice_range text.now kept.from kept.to ++ own_text tables.now text.now entry)) }
-    ensures piece { IfOk result (λ left. IsPiece text.now left.from left.to) }
-    ensures err { OnErr result (AppendsBeginning (W.written sink.old) (W.written sink.new)
-        (slice_range text.now kept.from kept.to ++ own_text tables.now text.now entry)) }
-    ensures failed { W.has_failed sink.new ≡ is_err result }
-{
-    let from = entry.span.first_byte as usize;
-    let to = entry.span.end_byte as usize;
-    let plain = is_plain(tables, text, entry);
-    if plain && from == kept.to {
-        return Ok(Kept {
-            from: kept.from,
-            to,
-        });
-    }
-    put_kept(text, kept, sink)?;
-    if plain {
-        return Ok(Kept { from, to });
-    }
-    print_cells(tables, text, entry, sink)?;
-    Ok(Kept { from: to, to })
-}
-
-/// Whether an entry has cells and its cluster is shown in them as it is.
-fn is_plain(tables: &Tables, text: &str, entry: Entry) -> bool
-    requires { IsSlice text.now entry.span }
-    ensures { OnTrue result (own_text tables.now text.now entry ≡ slice_range text.now entry.span.first_byte entry.span.end_byte) }
-{
-    if entry.columns == 0 || entry.level % 2 != 0 {
-        return false;
-    }
-    !begins_with_tab(
-        tables,
-        &text[entry.span.first_byte as usize..entry.span.end_byte as usize],
-    )
+    Ok(())
 }
 
 /// Writes the cells of an entry, if it has any.
@@ -200,18 +129,10 @@ fn print_spaces<W: Sink>(columns: u16, sink: &mut W) -> Result<(), Device>
     ensures err { OnErr result (AppendsBeginning (W.written sink.old) (W.written sink.new) (replicate columns 32)) }
     ensures failed { W.has_failed sink.new ≡ is_err result }
 {
-    for _ in 0..columns / 64 {
-        put_all(sink, spaces(64))?;
+    for _ in 0..columns {
+        put_all(sink, b" ")?;
     }
-    put_all(sink, spaces(usize::from(columns % 64)))
-}
-
-/// This many spaces.
-fn spaces(count: usize) -> &'static [u8]
-    requires { count ≤ 64 }
-    ensures { result.now ≡ replicate count 32 }
-{
-    &SPACES[..count]
+    Ok(())
 }
 
 /// Writes a cluster as it is shown at a level (L4).

@@ -1,12 +1,15 @@
 -- An entry of no columns prints nothing.
-use Rattle.std.proofs.Common.{Some, sym, ap, subst, arith}
+use Rattle.std.proofs.Common.{◌≡◌, ◌<◌, ℕ, zero, suc, List, Some, refl, sym, ap, subst, arith}
 use Rattle.std.proofs.KnownBytes.{Appends-nil}
 use Rattle.std.specs.Io.KnownBytes.{Appends}
 use Rattle.bg_types.specs.Sink.{AppendsBeginning}
 use Rattle.cell_grid.specs.Print.{entry_text, text_over}
 use Rattle.cell_grid.proofs.Writing.{on_err_by, on_ok_by}
-use Rattle.cell_grid.proofs.Pieces.{text_over-some}
 use Rattle.cell_grid.proofs.printed.print_cells.Goals as goal
+
+text_over-some : (columns : ℕ) (shown : List ℕ) → 0 < columns → shown ≡ text_over columns shown
+text_over-some zero shown some = absurd (omega arith)
+text_over-some (suc n) shown some = refl
 
 pub returns-then-entry-eq0-clause-ok : goal.returns-then-entry-eq0-clause-ok
 returns-then-entry-eq0-clause-ok g c =
