@@ -8,7 +8,7 @@ use crate::class::is_separator;
 use unicode_tables::Tables;
 
 /// From how many bytes on a text pays for a look at the tables before it is read.
-const LONG: usize = 4_096;
+const LONG: usize = 65_536;
 
 /// How many bytes are looked at together.
 const BLOCK: usize = 16;
@@ -47,15 +47,6 @@ fn is_common(c: char) -> bool
     ensures { result ≡ is_common c }
 {
     matches!(c, '\u{20}'..='\u{7F}' | '\u{C0}'..='\u{7FF}')
-}
-
-/// Whether a text begins with a common byte.
-#[inline]
-pub(crate) fn begins_common(text: &str) -> bool {
-    match text.as_bytes().first() {
-        Some(byte) => is_common_byte(*byte),
-        None => false,
-    }
 }
 
 /// The common characters that a text begins with.

@@ -2,9 +2,9 @@
 use Rattle.std.proofs.Common.{◌∷◌, [], ◌++◌, ap, ◌∙◌, arith}
 use Rattle.paragraphs.specs.Paragraphs.{StandsIn}
 use Rattle.paragraphs.proofs.Pieces.{joined}
-use Rattle.paragraphs.proofs.Splitting.{first_boundary, next_place, after_fits, first-le-end, end_boundary, IsSplitTo-start, IsSplitTo-on, IsSplitTo-cut, IsSplitTo-front, front-place, front-boundary, paragraphs-end, joined-paragraphs, paragraphs-stand}
+use Rattle.paragraphs.proofs.Splitting.{first_boundary, next_place, after_fits, first-le-end, end_boundary, IsSplitTo-start, IsSplitTo-on, IsSplitTo-cut, paragraphs-end, joined-paragraphs, paragraphs-stand}
 use Rattle.std.proofs.lemmas.List.Elements.{All-same}
-use Rattle.paragraphs.proofs.cuts.split.Goals as goal
+use Rattle.paragraphs.proofs.cuts.split_short.Goals as goal
 
 pub loop-c-init : goal.loop-c-init
 loop-c-init c = rw (c.chars-chars.ensures.rest, c.new-paragraphs.ensures.items) (IsSplitTo-start c.args.tables.now c.args.text.now c.utf8.text)
@@ -39,12 +39,12 @@ pub loop-c-preserved : goal.loop-c-preserved
 loop-c-preserved c =
     IsSplitTo-on _ _ _ _ _ _ _ c.utf8.text c.loop-c.invariant c.in-Some.c _ c.in-Some.ensures.steps.0 (rw c.as_str-rest.ensures at c.if-ends_paragraph.ensures)
 
-pub range_from-requires-2 : goal.range_from-requires-2
-range_from-requires-2 c = λ _. first_boundary _ _ _ _ _ _ _ c.utf8.text c.loop-c.invariant
+pub range_from-requires : goal.range_from-requires
+range_from-requires c = λ _. first_boundary _ _ _ _ _ _ _ c.utf8.text c.loop-c.invariant
 
 pub returns-clause-ok : goal.returns-clause-ok
 returns-clause-ok c =
-    paragraphs-end _ _ _ _ _ _ _ c.utf8.text c.loop-c.invariant c.range_from-2.result.now _ c.in_default.ensures.steps.0.0 c.range_from-2.ensures.value
+    paragraphs-end _ _ _ _ _ _ _ c.utf8.text c.loop-c.invariant c.range_from.result.now _ c.in_default.ensures.steps.0.0 c.range_from.ensures.value
     (c.in_ok-push-2.ensures.items ∙ ap (λ p. c.loop-c.paragraphs.items ++ p ∷ []) c.new-2.ensures)
 
 pub returns-clause-joined : goal.returns-clause-joined
@@ -53,26 +53,3 @@ returns-clause-joined c = ap joined (returns-clause-ok c) ∙ joined-paragraphs 
 pub returns-clause-slices : goal.returns-clause-slices
 returns-clause-slices c =
     All-same (StandsIn c.args.text.now) _ _ (returns-clause-ok c) (paragraphs-stand c.args.tables.now c.args.text.now c.utf8.text)
-
-pub overflow_add-place-then-begins_common : goal.overflow_add-place-then-begins_common
-overflow_add-place-then-begins_common c =
-    let s =
-    IsSplitTo-on _ _ _ _ _ _ _ c.utf8.text c.loop-c.invariant c.in-Some.c _ c.in-Some.ensures.steps.0 (rw c.as_str-rest.ensures at c.if-ends_paragraph.ensures) in
-    let f = rw c.as_str-rest.ensures at c.common_front-front.ensures in
-    let n = front-place _ _ _ _ _ _ _ c.utf8.text (c.may_pass_over-passes.ensures c.if-passes.true) _ _ f s in
-    omega arith
-
-pub range_from-requires : goal.range_from-requires
-range_from-requires c =
-    let s =
-    IsSplitTo-on _ _ _ _ _ _ _ c.utf8.text c.loop-c.invariant c.in-Some.c _ c.in-Some.ensures.steps.0 (rw c.as_str-rest.ensures at c.if-ends_paragraph.ensures) in
-    let f = rw c.as_str-rest.ensures at c.common_front-front.ensures in
-    λ _. rw c.as_str-rest.ensures (front-boundary _ _ _ _ _ _ _ c.utf8.text (c.may_pass_over-passes.ensures c.if-passes.true) _ _ f s)
-
-pub loop-c-preserved-then-begins_common : goal.loop-c-preserved-then-begins_common
-loop-c-preserved-then-begins_common c =
-    let s =
-    IsSplitTo-on _ _ _ _ _ _ _ c.utf8.text c.loop-c.invariant c.in-Some.c _ c.in-Some.ensures.steps.0 (rw c.as_str-rest.ensures at c.if-ends_paragraph.ensures) in
-    let f = rw c.as_str-rest.ensures at c.common_front-front.ensures in
-    rw (c.chars-chars-then-begins_common.ensures.rest, c.range_from.ensures.value, c.as_str-rest.ensures)
-    (IsSplitTo-front _ _ _ _ _ _ _ c.utf8.text (c.may_pass_over-passes.ensures c.if-passes.true) _ _ f s)
