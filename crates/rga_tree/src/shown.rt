@@ -9,14 +9,14 @@ use bg_types::Memory;
 use std::str::from_utf8_unchecked;
 
 /// How many elements are encoded at once.
-const PIECE: usize = 512;
+const PIECE: usize = 64;
 
 /// The bytes that their characters take at most.
 pub const PIECE_BYTES: usize = 4 * PIECE;
 
 /// Appends the characters of the visible elements. The bytes are lent for the work.
 pub fn push_shown(read: &mut String, bytes: &mut [u8], row: &[Element]) -> Result<(), Memory>
-    requires { length bytes.old ≡ 2_048 }
+    requires { length bytes.old ≡ 256 }
     ensures { OnOk result (string_bytes read.new ≡ string_bytes read.old ++ encode_utf8_all (shown_of row.now)) }
 {
     let mut rest = row;
