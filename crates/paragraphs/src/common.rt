@@ -13,6 +13,9 @@ const LONG: usize = 65_536;
 /// How many bytes are looked at together.
 const BLOCK: usize = 16;
 
+/// How many blocks at a text's front tell what it is like.
+const SAMPLE: usize = 256;
+
 /// How many bytes and characters a text begins with that are passed over.
 #[derive(Clone, Copy)]
 pub(crate) struct Front {
@@ -24,7 +27,19 @@ pub(crate) struct Front {
 pub(crate) fn may_pass_over(tables: &Tables, text: &str) -> bool
     ensures { result ≡ true → HasNoCommonSeparator tables.now }
 {
-    text.len() >= LONG && has_no_common_separator(tables)
+    text.len() >= LONG && begins_in_blocks(text.as_bytes()) && has_no_common_separator(tables)
+}
+
+/// Whether half of the first blocks are common throughout. In short lines and in other scripts few are, and trying would
+/// cost more than it saves.
+fn begins_in_blocks(bytes: &[u8]) -> bool {
+    let mut common = 0usize;
+    for k in 0..SAMPLE {
+        if let Some(block) = bytes.get(k * BLOCK..k * BLOCK + BLOCK) {
+            common = common.saturating_add(usize::from(all_common(block)));
+        }
+    }
+    common >= SAMPLE / 2
 }
 
 /// Whether no common character has class B, so that none ends a paragraph.

@@ -25,7 +25,7 @@ fn begins_with_line_feed(tables: &Tables, text: &str) -> bool
     }
 }
 
-/// So many bytes of common characters in a row make it likely that more follow behind the next one.
+/// How many bytes that are passed over together pay for a try behind the next character.
 const MANY: usize = 16;
 
 /// Whether a character, directly before `rest`, ends a paragraph.
@@ -129,21 +129,22 @@ impl<'a> Passed<'a> {
 }
 
 /// Passes over the characters of a text up to the first that ends a paragraph: over common ones many at once, as long as
-/// many stand in a row.
+/// what was passed so pays for the tries.
 #[inline(never)]
 fn pass_over<'a>(tables: &Tables, text: &'a str) -> Passed<'a>
     requires { HasNoCommonSeparator tables.now }
     ensures { IsPassed tables.now text.now result.rest.now result.places }
 {
     let mut passed = pass_front(tables, text);
-    let mut in_a_row = text.len().saturating_sub(passed.rest.len());
+    let mut credit = text.len().saturating_sub(passed.rest.len());
     while let Some(one) = pass_one(tables, passed.rest) {
         passed = passed.then(one);
-        if in_a_row < MANY {
+        if credit < MANY {
             return passed.then(pass_singly(tables, passed.rest));
         }
         let front = pass_front(tables, passed.rest);
-        in_a_row = passed.rest.len().saturating_sub(front.rest.len());
+        let more = passed.rest.len().saturating_sub(front.rest.len());
+        credit = (credit - MANY).saturating_add(more);
         passed = passed.then(front);
     }
     passed

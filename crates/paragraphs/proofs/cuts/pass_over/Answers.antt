@@ -16,8 +16,8 @@ then-requires c =
     let few = passed-few _ _ _ _ (IsPassed-then _ _ _ _ _ _ one c.pass_singly.ensures) in
     omega arith
 
-pub returns-then-in_a_row-lt-MANY : goal.returns-then-in_a_row-lt-MANY
-returns-then-in_a_row-lt-MANY c =
+pub returns-then-credit-lt-MANY : goal.returns-then-credit-lt-MANY
+returns-then-credit-lt-MANY c =
     let one : IsPassed c.args.tables.now c.args.text.now c.then-passed.result.rest.now c.then-passed.result.places =
     rw (c.then-passed.ensures.places, c.then-passed.ensures.rest) (IsPassed-then _ _ _ _ _ _ c.loop-one.invariant c.in-Some.ensures.0) in
     rw (c.then.ensures.places, c.then.ensures.rest) (IsPassed-then _ _ _ _ _ _ one c.pass_singly.ensures)
