@@ -242,26 +242,26 @@ pub done_too : {setting : Setting} {first : List Desk} {xs ys : List Numbered} {
     → HasDone setting first xs view desks old now failed → xs ≡ ys → HasDone setting first ys view desks old now failed
 done_too {setting} {first} {xs} {ys} {view} {desks} {old} {now} {failed} h is = subst (λ steps. HasDone setting first steps view desks old now failed) is h
 
--- one step more
-pub step_done : {setting : Setting} {first : List Desk} {xs ys : List Numbered} {view next_view : KeptView} {desks after : List Desk} {old now new : Option (List ℕ)} {failed new_failed : Bool} (at : Numbered) (done : Unit {0})
-    → HasDone setting first xs view desks old now failed → xs ++ at ∷ [] ≡ ys → IsStepsOutcomeIn setting desks (at ∷ []) after now new new_failed (Ok done) → next_view.tables ≡ view.tables
+-- more steps are done
+pub steps_done : {setting : Setting} {first : List Desk} {xs ys : List Numbered} {view next_view : KeptView} {desks after : List Desk} {old now new : Option (List ℕ)} {failed new_failed : Bool} (more : List Numbered) (done : Unit {0})
+    → HasDone setting first xs view desks old now failed → xs ++ more ≡ ys → IsStepsOutcomeIn setting desks more after now new new_failed (Ok done) → next_view.tables ≡ view.tables
     → HasDone setting first ys next_view after old new new_failed
-step_done {setting} {first} {xs} {ys} {view} {next_view} {desks} {after} {old} {now} {new} {failed} {new_failed} at done h next outcome kept = record {
+steps_done {setting} {first} {xs} {ys} {view} {next_view} {desks} {after} {old} {now} {new} {failed} {new_failed} more done h next outcome kept = record {
   ran = subst (λ steps. Ran (print_in setting) (files_in setting) (sets_of first) steps (sets_of after) old new) next
-      (ran_then (print_in setting) (files_in setting) (sets_of first) (sets_of desks) xs old now h.ran (at ∷ []) (sets_of after) new outcome.1);
+      (ran_then (print_in setting) (files_in setting) (sets_of first) (sets_of desks) xs old now h.ran more (sets_of after) new outcome.1);
   tables = kept ∙ h.tables;
   working = outcome.0;
 }
 
--- one step more ended early, and so all that would have followed
-pub step_ended : {setting : Setting} {first : List Desk} {xs ys all : List Numbered} {view : KeptView} {desks : List Desk} {old now : Option (List ℕ)} {failed : Bool} (at : Numbered) → HasDone setting first xs view desks old now failed
-    → xs ++ at ∷ [] ≡ ys → IsBeginning ys all → (after last : List Desk) (new : Option (List ℕ)) (new_failed : Bool) (r : Result (Unit {0}) RunFault) (fault : RunFault) → IsErrAnd r (λ e. e ≡ fault)
-    → IsStepsOutcomeIn setting desks (at ∷ []) after now new new_failed (Err fault) → IsStepsOutcomeIn setting first all last old new new_failed r
-step_ended {setting} {first} {xs} {ys} {all} {view} {desks} {old} {now} {failed} at h next begins after last new new_failed r fault handed outcome =
+-- more steps ended early, and so all that would have followed
+pub steps_ended : {setting : Setting} {first : List Desk} {xs ys all : List Numbered} {view : KeptView} {desks : List Desk} {old now : Option (List ℕ)} {failed : Bool} (more : List Numbered) → HasDone setting first xs view desks old now failed
+    → xs ++ more ≡ ys → IsBeginning ys all → (after last : List Desk) (new : Option (List ℕ)) (new_failed : Bool) (r : Result (Unit {0}) RunFault) (fault : RunFault) → IsErrAnd r (λ e. e ≡ fault)
+    → IsStepsOutcomeIn setting desks more after now new new_failed (Err fault) → IsStepsOutcomeIn setting first all last old new new_failed r
+steps_ended {setting} {first} {xs} {ys} {all} {view} {desks} {old} {now} {failed} more h next begins after last new new_failed r fault handed outcome =
     answer_handed (IsStepsOutcomeIn setting first all last old new new_failed) r fault handed
     (subst (λ steps. IsStepsEnd (print_in setting) (files_in setting) (sets_of first) steps old new new_failed fault) (ap (λ steps. steps ++ begins.rest) next ∙ begins.is)
-    (end_before (print_in setting) (files_in setting) (sets_of first) (xs ++ at ∷ []) begins.rest old new new_failed fault
-    (end_then (print_in setting) (files_in setting) (sets_of first) (sets_of desks) xs old now h.ran (at ∷ []) new new_failed fault outcome)))
+    (end_before (print_in setting) (files_in setting) (sets_of first) (xs ++ more) begins.rest old new new_failed fault
+    (end_then (print_in setting) (files_in setting) (sets_of first) (sets_of desks) xs old now h.ran more new new_failed fault outcome)))
 
 -- ---- a list of steps, gone through one by one
 

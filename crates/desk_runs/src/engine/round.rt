@@ -1,8 +1,8 @@
 //! A run without a schedule.
 
-ghost use Rattle.std.specs.Prelude.{◌≡◌, ◌≤◌, ◌<◌, ◌^◌};
+ghost use Rattle.std.specs.Prelude.{◌≡◌, ◌≤◌, ◌<◌, ◌^◌, length};
 ghost use Rattle.desk_runs.specs.Setting.{files_in, MayDoSteps, IsStepsOutcomeIn};
-ghost use Rattle.desk_runs.specs.Round.{nth_turn, round};
+ghost use Rattle.desk_runs.specs.Round.{nth_turn, turn, file_takes, files_takes, all_takes, all_shows, round};
 
 use super::setting::Setting;
 use super::steps::run_step;
@@ -22,18 +22,91 @@ pub fn run_round<S: Sink>(
         (S.written out.old) (S.written out.new) (S.has_failed out.new) result }
     ensures tables { view.new.tables ≡ view.old.tables }
 {
-    let count = setting.files.len();
-    for desk in 1..count + 1 {
-        for behind in 0..count {
-            let file = nth_turn(count, desk, behind);
-            for op in 1..setting.files[file - 1].len() + 1 {
-                let step = Step::Take { desk, file, op };
-                run_step(setting, view, desks, &Numbered { line: 0, step }, out)?;
-            }
-        }
+    take_all(setting, view, desks, out)?;
+    show_all(setting, view, desks, out)
+}
+
+/// Each desk takes all files, one desk after the other.
+fn take_all<S: Sink>(
+    setting: &Setting,
+    view: &mut View,
+    desks: &mut [Desk],
+    out: &mut S,
+) -> Result<(), RunFault>
+    requires { MayDoSteps setting.now view.old desks.old (S.has_failed out.old) }
+    ensures outcome { IsStepsOutcomeIn setting.now desks.old (all_takes (files_in setting.now)) desks.new
+        (S.written out.old) (S.written out.new) (S.has_failed out.new) result }
+    ensures tables { view.new.tables ≡ view.old.tables }
+{
+    for desk in 1..setting.files.len() + 1 {
+        take_files(setting, view, desks, desk, out)?;
     }
-    for shown in 1..count + 1 {
-        let step = Step::Show { desk: shown };
+    Ok(())
+}
+
+/// A desk takes all files, beginning with that of its own number.
+fn take_files<S: Sink>(
+    setting: &Setting,
+    view: &mut View,
+    desks: &mut [Desk],
+    desk: usize,
+    out: &mut S,
+) -> Result<(), RunFault>
+    requires ready { MayDoSteps setting.now view.old desks.old (S.has_failed out.old) }
+    requires at_least { 1 ≤ desk }
+    requires at_most { desk ≤ length setting.now.files.now }
+    ensures outcome { IsStepsOutcomeIn setting.now desks.old
+        (files_takes (files_in setting.now) desk (turn (length (files_in setting.now)) desk)) desks.new
+        (S.written out.old) (S.written out.new) (S.has_failed out.new) result }
+    ensures tables { view.new.tables ≡ view.old.tables }
+{
+    let count = setting.files.len();
+    for behind in 0..count {
+        let file = nth_turn(count, desk, behind);
+        take_file(setting, view, desks, desk, file, out)?;
+    }
+    Ok(())
+}
+
+/// A desk takes all operations of a file, in order.
+fn take_file<S: Sink>(
+    setting: &Setting,
+    view: &mut View,
+    desks: &mut [Desk],
+    desk: usize,
+    file: usize,
+    out: &mut S,
+) -> Result<(), RunFault>
+    requires ready { MayDoSteps setting.now view.old desks.old (S.has_failed out.old) }
+    requires desk_at_least { 1 ≤ desk }
+    requires desk_at_most { desk ≤ length setting.now.files.now }
+    requires file_at_least { 1 ≤ file }
+    requires file_at_most { file ≤ length setting.now.files.now }
+    ensures outcome { IsStepsOutcomeIn setting.now desks.old (file_takes (files_in setting.now) desk file) desks.new
+        (S.written out.old) (S.written out.new) (S.has_failed out.new) result }
+    ensures tables { view.new.tables ≡ view.old.tables }
+{
+    for op in 1..setting.files[file - 1].len() + 1 {
+        let step = Step::Take { desk, file, op };
+        run_step(setting, view, desks, &Numbered { line: 0, step }, out)?;
+    }
+    Ok(())
+}
+
+/// Each desk is shown.
+fn show_all<S: Sink>(
+    setting: &Setting,
+    view: &mut View,
+    desks: &mut [Desk],
+    out: &mut S,
+) -> Result<(), RunFault>
+    requires { MayDoSteps setting.now view.old desks.old (S.has_failed out.old) }
+    ensures outcome { IsStepsOutcomeIn setting.now desks.old (all_shows (files_in setting.now)) desks.new
+        (S.written out.old) (S.written out.new) (S.has_failed out.new) result }
+    ensures tables { view.new.tables ≡ view.old.tables }
+{
+    for desk in 1..setting.files.len() + 1 {
+        let step = Step::Show { desk };
         run_step(setting, view, desks, &Numbered { line: 0, step }, out)?;
     }
     Ok(())

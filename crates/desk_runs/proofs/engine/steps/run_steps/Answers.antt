@@ -1,11 +1,11 @@
 -- The goals of `run_steps` that are answered by hand.
-use Rattle.std.proofs.Common.{get_or, refl, arith}
+use Rattle.std.proofs.Common.{get_or, refl, arith, ◌∷◌, []}
 use Rattle.std.proofs.lemmas.List.{take_all}
 use Rattle.desk_replica.specs.DeskSets.{sets_of}
 use Rattle.desk_runs.specs.Setting.{print_in, files_in}
 use Rattle.desk_files.specs.declared.schedule.step.Step.TheVariants.{Take}
 use Rattle.desk_files.specs.declared.schedule.step.Numbered.{Numbered}
-use Rattle.desk_runs.proofs.Running.{ran_nothing, kept_tables, done_too, step_done, step_ended, step-next, step-begins}
+use Rattle.desk_runs.proofs.Running.{ran_nothing, kept_tables, done_too, steps_done, steps_ended, step-next, step-begins}
 use Rattle.desk_runs.proofs.engine.steps.run_steps.Goals as goal
 
 abbrev none : Numbered
@@ -15,7 +15,7 @@ pub loop-at-preserved : goal.loop-at-preserved
 loop-at-preserved g c =
     let steps = c.args.steps.now in
     let i = c.loop-at.at-index in
-    step_done (get_or steps i none) c.in_ok-run_step.field-0 c.loop-at.invariant (step-next steps i none c.loop-at-test.true) c.in_ok-run_step.ensures.outcome c.in_ok-run_step.ensures.tables
+    steps_done (get_or steps i none ∷ []) c.in_ok-run_step.field-0 c.loop-at.invariant (step-next steps i none c.loop-at-test.true) c.in_ok-run_step.ensures.outcome c.in_ok-run_step.ensures.tables
 
 pub returns-in_err-run_step-clause-outcome : goal.returns-in_err-run_step-clause-outcome
 returns-in_err-run_step-clause-outcome g c =
@@ -23,7 +23,7 @@ returns-in_err-run_step-clause-outcome g c =
     let i = c.loop-at.at-index in
     let new = g.S.Sink.written c.run_step.new.out in
     let failed = g.S.Sink.has_failed c.run_step.new.out in
-    step_ended (get_or steps i none) c.loop-at.invariant (step-next steps i none c.loop-at-test.true) (step-begins steps i none c.loop-at-test.true) c.run_step.new.desks c.run_step.new.desks new failed
+    steps_ended (get_or steps i none ∷ []) c.loop-at.invariant (step-next steps i none c.loop-at-test.true) (step-begins steps i none c.loop-at-test.true) c.run_step.new.desks c.run_step.new.desks new failed
     c.from_residual.result c.in_err-run_step.field-0.0 c.from_residual.ensures.1 c.in_err-run_step.ensures.outcome
 
 pub loop-at-init : goal.loop-at-init
