@@ -2,7 +2,7 @@
 use Rattle.std.proofs.Common.{ℕ, zero, suc, ◌≡◌, ◌≤◌, ◌<◌, ◌+◌, ◌==◌, ◌||◌, inl, inr, refl, ap, ap₂, sym, subst, ◌∙◌, List, [], ◌∷◌, map, filter, length, drop, slice_range, Option, Some, None, Bool, true, false, if◌then◌else◌, zero-add, arith}
 use Rattle.std.specs.Prelude.{is_some, not, ◌&&◌, slice_get, IfSome}
 use Rattle.std.specs.List.{All, list_any, range_with_len}
-use Rattle.std.proofs.Math.Bool.{or-true}
+use Rattle.std.proofs.Math.Bool.{and-false, or-true}
 use Rattle.std.proofs.lemmas.Bool.Decides.{eqb_tells}
 use Rattle.std.proofs.lemmas.Bool.{false≢true, cases_lt, or_parts}
 use Rattle.std.proofs.lemmas.List.{length-map}
@@ -116,10 +116,6 @@ other m n lt = elim (eqb_tells m n) [ inl h ↦ absurd (let e = h.1 in omega ari
 either : (o : Option ℕ) (b : Bool) → (if b then o else o) ≡ o
 either o true = refl
 either o false = refl
-
-and-false : (b : Bool) → (b && false) ≡ false
-and-false true = refl
-and-false false = refl
 
 list_any-none : (q : ℕ → Bool) → ((j : ℕ) → q j ≡ false) → (xs : List ℕ) → list_any q xs ≡ false
 list_any-none q h [] = refl

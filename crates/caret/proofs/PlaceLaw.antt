@@ -5,7 +5,8 @@ use Rattle.std.specs.Option.{option_map_or}
 use Rattle.std.specs.List.{All}
 use Rattle.std.specs.Str.{chars}
 use Rattle.std.proofs.lemmas.Bool.{leb-true, ltb-true, le-leb, lt-ltb, eq-eqb, eqb-true, and_parts, and_from, cases_lt}
-use Rattle.std.proofs.lemmas.Option.{slice_get-get_or, slice_get_within, get_or_from_slice_get}
+use Rattle.std.proofs.lemmas.Option.{slice_get-get_or}
+use Rattle.cell_grid.proofs.Interface.{all_at}
 use Rattle.cell_grid.specs.declared.entry.Entry.{Entry}
 use Rattle.cell_grid.specs.Rows.{DrawnRow}
 use Rattle.cell_grid.specs.Grids.{DrawnGrid}
@@ -17,10 +18,6 @@ use Rattle.caret.proofs.LastBelow.{last_below-within}
 use Rattle.caret.proofs.RowOrder.{first_place-row_at, last_place-row_at, row_at-end, last_place-at_end, first_place-last_place}
 use Rattle.caret.proofs.CaretAt.{caret_at-end, caret_at-cluster}
 use Rattle.caret.proofs.Finding.{Found, found}
-
--- what holds of each element holds of the one at a place
-all_at : {A : Type 0} (P : A → Type 0) (xs : List A) (k : ℕ) (x : A) → All P xs → slice_get xs k ≡ Some x → P x
-all_at P xs k x all is = subst P (get_or_from_slice_get xs k x x is) (all k x (slice_get_within xs k x is))
 
 -- the element of a number below theirs
 an_element : {A P : Type 0} (xs : List A) (k : ℕ) → k < length xs → ((x : A) → slice_get xs k ≡ Some x → P) → P

@@ -1,5 +1,6 @@
 -- Each place of clusters that follow one another lies in exactly one of them.
 use Rattle.std.proofs.Common.{◌≡◌, ℕ, suc, ◌+◌, ◌<◌, ◌≤◌, ◌&&◌, Bool, true, false, List, [], ◌∷◌, map, length, leb, IsPermutation, refl, sym, ap, ◌∙◌, arith, inl, inr}
+use Rattle.std.proofs.Math.Bool.{and-false}
 use Rattle.std.proofs.lemmas.Bool.{le-leb, lt-leb, leb-true, and_parts}
 use Rattle.std.proofs.lemmas.Bool.Decides.{leb_tells}
 use Rattle.std.proofs.lemmas.List.Elements.{All-nil, All-cons, All-head, All-tail, All-weaker}
@@ -25,12 +26,8 @@ holds-true place s low high = ap (λ b. b && leb (suc place) s.end_place) (le-le
 holds-early : (place : ℕ) (s : Span) → place < s.first_place → holds place s ≡ false
 holds-early place s lt = ap (λ b. b && leb (suc place) s.end_place) (lt-leb s.first_place place lt)
 
-and_false : (b : Bool) → (b && false) ≡ false
-and_false true = refl
-and_false false = refl
-
 holds-late : (place : ℕ) (s : Span) → s.end_place ≤ place → holds place s ≡ false
-holds-late place s le = ap (λ b. leb s.first_place place && b) (lt-leb (suc place) s.end_place (omega arith)) ∙ and_false (leb s.first_place place)
+holds-late place s le = ap (λ b. leb s.first_place place && b) (lt-leb (suc place) s.end_place (omega arith)) ∙ and-false (leb s.first_place place)
 
 holds-tells : (place : ℕ) (s : Span) → holds place s ≡ true → (s.first_place ≤ place) × (place < s.end_place)
 holds-tells place s h =

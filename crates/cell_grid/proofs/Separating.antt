@@ -1,10 +1,8 @@
 -- A paragraph that is its separator alone has one row.
-use Rattle.std.proofs.Common.{◌≡◌, ℕ, zero, suc, ◌+◌, ◌-◌, ◌<◌, ◌≤◌, true, false, cond, List, [], ◌∷◌, ◌++◌, map, length, replicate, slice_range, Some, refl, inl, inr, sym, ap, subst, ◌∙◌, arith, append-nil}
-use Rattle.std.proofs.lemmas.Bool.Decides.{eqb_tells}
-use Rattle.std.proofs.lemmas.List.{nil_from_length}
+use Rattle.std.proofs.Common.{◌≡◌, ℕ, zero, suc, ◌+◌, ◌-◌, ◌<◌, ◌≤◌, true, false, cond, List, [], ◌∷◌, ◌++◌, map, length, replicate, slice_range, Some, refl, sym, ap, subst, ◌∙◌, arith, append-nil}
 use Rattle.std.proofs.lemmas.List.Elements.{All-head, All-tail}
 use Rattle.std.specs.List.{All, concat, list_all, list_any}
-use Rattle.std.specs.Prelude.{◌==◌, ◌||◌, nat_le}
+use Rattle.std.specs.Prelude.{◌||◌, nat_le}
 use Rattle.std.specs.Str.{IsUtf8}
 use Rattle.bg_types.specs.declared.class.Base.{Base}
 use Rattle.bg_types.specs.declared.class.Bidi.TheVariants.{B}
@@ -39,10 +37,6 @@ use Rattle.cell_grid.proofs.LineBounds.{bounds-follow}
 use Rattle.cell_grid.proofs.LinesOf.{IsLine-lines, hung-columns}
 use Rattle.cell_grid.proofs.Standing.{points, points-concat, span_of}
 use Rattle.cell_grid.proofs.Steps.{take-whole}
-
--- what is empty by its length
-pub nil-from-test : (bytes : List ℕ) → true ≡ (length bytes == 0) → bytes ≡ []
-nil-from-test bytes h = elim (eqb_tells (length bytes) 0) [ inl e ↦ nil_from_length bytes e.1 | inr e ↦ absurd (let f = h ∙ e.0 in cc) ]
 
 -- ---- its place among others
 

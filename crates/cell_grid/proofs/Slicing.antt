@@ -3,9 +3,10 @@ use Rattle.std.proofs.Common.{◌≡◌, ℕ, ◌+◌, ◌<◌, ◌≤◌, List,
 use Rattle.std.proofs.lemmas.List.{length-map, get_or-map}
 use Rattle.std.proofs.lemmas.List.Folds.{drop_split}
 use Rattle.std.proofs.lemmas.List.Elements.{All-nil, All-cons, All-head, All-tail, All-append, All-weaker}
-use Rattle.std.proofs.lemmas.Str.{length-le-encodes, encodes-chars, IsUtf8-append, IsUtf8-drop, IsUtf8-take, IsUtf8-between, IsCharBoundary-at_seam}
+use Rattle.std.proofs.lemmas.Str.{IsUtf8-append, IsUtf8-drop, IsUtf8-take, IsUtf8-between, IsCharBoundary-at_seam}
 use Rattle.std.specs.List.{All, concat}
 use Rattle.std.specs.Str.{IsUtf8, IsCharBoundary}
+use Rattle.paragraphs.proofs.Interface.{points-fit}
 use Rattle.paragraphs.specs.Text.{code_points}
 use Rattle.paragraphs.specs.Clusters.{clusters}
 use Rattle.paragraphs.specs.Paragraphs.{Paragraph, StandsIn}
@@ -15,10 +16,6 @@ use Rattle.cell_grid.specs.Spans.{span_at, spans_from, spans, shifted_span}
 use Rattle.cell_grid.specs.Grids.{IsDrawable}
 use Rattle.cell_grid.specs.Printable.{IsSlice}
 use Rattle.cell_grid.proofs.Standing.{bytes, points, bytes-append, points-append, same_spans, start-boundary, end-boundary, points-all}
-
--- a text has no more code points than bytes
-pub points-fit : (c : List ℕ) → IsUtf8 c → length (code_points c) ≤ length c
-points-fit c u = let a = length-le-encodes (code_points c) in let b = ap length (encodes-chars c u) in omega arith
 
 -- a slice of a text, with its code points
 pub record IsSpan (text : List ℕ) (s : Span) : Type 0 where

@@ -1,5 +1,6 @@
 -- Where the first line of some clusters ends, by what stands before it in the paragraph.
 use Rattle.std.proofs.Common.{◌≡◌, ◌≢◌, ℕ, zero, suc, ◌+◌, ◌-◌, ◌<◌, ◌≤◌, Bool, true, false, not, ◌&&◌, ◌||◌, ◌==◌, List, [], ◌∷◌, ◌++◌, map, length, take, drop, get_or, unwrap_or, refl, sym, ap, subst, ◌∙◌, inl, inr, arith}
+use Rattle.std.proofs.Math.Bool.{and-false, or-true}
 use Rattle.std.proofs.lemmas.Bool.{le-leb, eq-eqb}
 use Rattle.std.proofs.lemmas.Bool.Decides.{leb_tells, eqb_tells}
 use Rattle.std.proofs.lemmas.List.{length-drop, take_all}
@@ -50,11 +51,7 @@ not_free [] (suc n) i l w h = absurd (omega arith)
 not_free (c ∷ cl) (suc n) zero l w h = ap (λ b. not (is_must b) && list_all is_free (take n cl)) h
 not_free (c ∷ cl) (suc n) (suc i) l w h =
     let later = not_free cl n i (omega arith) (omega arith) h in
-    ap (λ b. is_free c && b) later ∙ and_false (is_free c)
-  where
-    and_false : (b : Bool) → (b && false) ≡ false
-    and_false true = refl
-    and_false false = refl
+    ap (λ b. is_free c && b) later ∙ and-false (is_free c)
 
 module _ (cl : List Cluster) (w : ℕ) where
   -- the columns outside the tail of a stretch, by those of all that stands before its end
@@ -101,11 +98,7 @@ module _ (cl : List Cluster) (w : ℕ) where
         let not_all : list_all is_free (take (e - 1) (drop s cl)) ≡ false =
         not_free (drop s cl) (e - 1) (k - s - 1) (omega arith) (omega arith)
         (status_of-drop cl s (k - s - 1) ∙ ap (λ n. status_of cl n) at ∙ must) in
-        ap (λ b. fits w (take e (drop s cl)) && b) not_all ∙ and_false (fits w (take e (drop s cl)))
-      where
-        and_false : (b : Bool) → (b && false) ≡ false
-        and_false true = refl
-        and_false false = refl
+        ap (λ b. fits w (take e (drop s cl)) && b) not_all ∙ and-false (fits w (take e (drop s cl)))
 
     status-stretch : (e : ℕ) → 1 ≤ e → status_at (drop s cl) e ≡ status_at cl (s + e)
     unfolding status_of
@@ -123,11 +116,7 @@ module _ (cl : List Cluster) (w : ℕ) where
     opportunity-end e end =
         let len = length-drop s cl in
         ap (λ b. is_break (status_at (drop s cl) e) || b) (eq-eqb e (length (drop s cl)) (omega arith))
-        ∙ or_true (is_break (status_at (drop s cl) e))
-      where
-        or_true : (b : Bool) → (b || true) ≡ true
-        or_true true = refl
-        or_true false = refl
+        ∙ or-true (is_break (status_at (drop s cl) e))
 
     opportunity-false : (e : ℕ) → 1 ≤ e → s + e < length cl → status_at cl (s + e) ≡ No → is_opportunity (drop s cl) e ≡ false
     unfolding is_opportunity

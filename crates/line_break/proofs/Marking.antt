@@ -1,8 +1,8 @@
 -- The statuses of a text, one code point further.
-use Rattle.std.proofs.Common.{◌≡◌, ℕ, ◌+◌, ◌<◌, List, [], ◌∷◌, ◌++◌, map, length, sym, ap, ◌∙◌, arith, length-append}
+use Rattle.std.proofs.Common.{◌≡◌, ℕ, List, [], ◌∷◌, ◌++◌, map, length, sym, ap, ◌∙◌}
 use Rattle.std.proofs.lemmas.List.{append_assoc, nil_from_length}
-use Rattle.std.proofs.lemmas.Str.{chars-nil, chars_past_char, IsUtf8-past_char, length-le-encodes}
-use Rattle.std.specs.Prelude.{encode_utf8, encode_utf8_all as encodes}
+use Rattle.std.proofs.lemmas.Str.{chars-nil, chars_past_char, IsUtf8-past_char}
+use Rattle.std.specs.Prelude.{encode_utf8}
 use Rattle.std.specs.Str.{IsUtf8}
 use Rattle.unicode_tables.specs.Tables.{TableValues}
 use Rattle.paragraphs.specs.Text.{code_points}
@@ -14,14 +14,6 @@ use Rattle.line_break.specs.Context.{before, after}
 use Rattle.line_break.specs.Rules.{first_rule, rules}
 use Rattle.line_break.specs.Statuses.{statuses_behind, breaks}
 use Rattle.line_break.specs.Marked.{points, statuses_from, IsMarkedTo}
-
--- a character takes a byte at least
-pub past_char-shorter : (bytes rest : List ℕ) (c : ℕ) → bytes ≡ encode_utf8 c ++ rest → length rest < length bytes
-past_char-shorter bytes rest c e =
-    let some = length-le-encodes (c ∷ []) in
-    let one : length (encodes (c ∷ [])) ≡ length (encode_utf8 c) + 0 = length-append (encode_utf8 c) [] in
-    let all = ap length e ∙ length-append (encode_utf8 c) rest in
-    omega arith
 
 module _ (tables : TableValues) (text : List ℕ) where
   pub breaks-nil : length text ≡ 0 → [] ≡ breaks tables text

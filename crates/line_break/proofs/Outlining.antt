@@ -1,9 +1,10 @@
 -- The clusters of a paragraph, outlined up to one of them.
 use Rattle.std.proofs.Common.{◌≡◌, ℕ, ◌+◌, ◌-◌, ◌<◌, ◌≤◌, List, [], ◌∷◌, ◌++◌, map, length, sym, ap, subst, ◌∙◌, arith, append-nil, append_assoc, length-append}
 use Rattle.std.proofs.lemmas.List.Elements.{All-head, All-tail}
-use Rattle.std.proofs.lemmas.Str.{IsUtf8-nil, IsUtf8-append, length-le-encodes, encodes-chars}
+use Rattle.std.proofs.lemmas.Str.{IsUtf8-nil, IsUtf8-append}
 use Rattle.std.specs.List.{All, concat}
 use Rattle.std.specs.Str.{IsUtf8}
+use Rattle.paragraphs.proofs.Interface.{points-fit}
 use Rattle.paragraphs.specs.Text.{code_points}
 use Rattle.paragraphs.specs.Clusters.{clusters, cluster_sizes}
 use Rattle.paragraphs.specs.declared.span.Span.{Span}
@@ -34,10 +35,6 @@ HasRoom-on count place entries capacity size more same h some one e =
     let filled = h.filled in
     let room = h.room in
     record { filled = omega arith; room = omega arith }
-
--- a text has no more code points than bytes
-pub points-fit : (c : List ℕ) → IsUtf8 c → length (code_points c) ≤ length c
-points-fit c u = let a = length-le-encodes (code_points c) in let b = ap length (encodes-chars c u) in omega arith
 
 module _ (text : List ℕ) where
   pub IsOutlinedTo-start : (left : List (List ℕ)) (done : List Span) (sizes : List ℕ) → left ≡ clusters text → All IsUtf8 left → All (λ (cluster : List ℕ). 0 < length cluster) left

@@ -1,5 +1,6 @@
 -- The columns of a stretch outside its tail.
-use Rattle.std.proofs.Common.{◌≡◌, ℕ, ◌+◌, ◌-◌, ◌≤◌, Bool, true, false, ◌&&◌, cond, List, [], ◌∷◌, ◌++◌, refl, sym, ap, ◌∙◌, arith}
+use Rattle.std.proofs.Common.{◌≡◌, ℕ, ◌+◌, ◌-◌, ◌≤◌, true, false, ◌&&◌, cond, List, [], ◌∷◌, ◌++◌, refl, sym, ap, ◌∙◌, arith}
+use Rattle.std.proofs.Math.Bool.{and-false, and-true}
 use Rattle.std.proofs.lemmas.List.Sums.{sum_by-cons, sum_by-append}
 use Rattle.std.specs.List.{list_all}
 use Rattle.line_break.specs.declared.cluster.Cluster.{Cluster}
@@ -33,14 +34,6 @@ solid-le (c ∷ xs) =
     (λ h. let e = solid-hangs (c ∷ xs) h in omega arith)
     (λ h. let e = solid-stands c xs h in omega arith)
 
-and_true : (b : Bool) → (b && true) ≡ b
-and_true true = refl
-and_true false = refl
-
-and_false : (b : Bool) → (b && false) ≡ false
-and_false true = refl
-and_false false = refl
-
 all-append : (xs ys : List Cluster) → list_all hangs (xs ++ ys) ≡ (list_all hangs xs && list_all hangs ys)
 all-append [] ys = refl
 all-append (c ∷ xs) ys = two_cases (hangs c) (λ h. rw h (all-append xs ys)) (λ h. rw h refl)
@@ -50,7 +43,7 @@ pub solid-append-hangs : (xs ys : List Cluster) → list_all hangs ys ≡ true �
 solid-append-hangs [] ys h = solid-hangs ys h
 solid-append-hangs (c ∷ xs) ys h =
     let same : list_all hangs (c ∷ (xs ++ ys)) ≡ list_all hangs (c ∷ xs) =
-    all-append (c ∷ xs) ys ∙ ap (λ b. list_all hangs (c ∷ xs) && b) h ∙ and_true (list_all hangs (c ∷ xs)) in
+    all-append (c ∷ xs) ys ∙ ap (λ b. list_all hangs (c ∷ xs) && b) h ∙ and-true (list_all hangs (c ∷ xs)) in
     two_cases (list_all hangs (c ∷ xs))
     (λ a. solid-hangs (c ∷ (xs ++ ys)) (same ∙ a) ∙ sym (solid-hangs (c ∷ xs) a))
     (λ a. solid-stands c (xs ++ ys) (same ∙ a) ∙ ap (λ n. c.columns + n) (solid-append-hangs xs ys h) ∙ sym (solid-stands c xs a))
@@ -60,7 +53,7 @@ pub solid-append-stands : (xs ys : List Cluster) → list_all hangs ys ≡ false
 solid-append-stands [] ys h = omega arith
 solid-append-stands (c ∷ xs) ys h =
     let none : list_all hangs (c ∷ (xs ++ ys)) ≡ false =
-    all-append (c ∷ xs) ys ∙ ap (λ b. list_all hangs (c ∷ xs) && b) h ∙ and_false (list_all hangs (c ∷ xs)) in
+    all-append (c ∷ xs) ys ∙ ap (λ b. list_all hangs (c ∷ xs) && b) h ∙ and-false (list_all hangs (c ∷ xs)) in
     let later = solid-append-stands xs ys h in
     let more = columns-cons c xs in
     let e = solid-stands c (xs ++ ys) none in

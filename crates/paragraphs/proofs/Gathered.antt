@@ -1,7 +1,7 @@
 -- The code points of a text, gathered one by one.
-use Rattle.std.proofs.Common.{◌≡◌, ℕ, ◌+◌, ◌<◌, List, [], ◌∷◌, ◌++◌, length, sym, ap, ◌∙◌, arith}
+use Rattle.std.proofs.Common.{◌≡◌, ℕ, ◌+◌, ◌<◌, ◌≤◌, List, [], ◌∷◌, ◌++◌, length, sym, ap, ◌∙◌, arith}
 use Rattle.std.proofs.lemmas.List.{append-nil, append_assoc, length-append, nil_from_length}
-use Rattle.std.proofs.lemmas.Str.{chars-nil, chars_past_char, length-le-encodes}
+use Rattle.std.proofs.lemmas.Str.{chars-nil, chars_past_char, length-le-encodes, encodes-chars}
 use Rattle.std.specs.Prelude.{encode_utf8, encode_utf8_all as encodes}
 use Rattle.std.specs.Str.{IsUtf8}
 use Rattle.paragraphs.specs.Text.{code_points}
@@ -13,6 +13,10 @@ past_char-shorter bytes rest c e =
     let one : length (encodes (c ∷ [])) ≡ length (encode_utf8 c) + 0 = length-append (encode_utf8 c) [] in
     let all = ap length e ∙ length-append (encode_utf8 c) rest in
     omega arith
+
+-- a text has no more code points than bytes
+pub points-fit : (c : List ℕ) → IsUtf8 c → length (code_points c) ≤ length c
+points-fit c u = let a = length-le-encodes (code_points c) in let b = ap length (encodes-chars c u) in omega arith
 
 pub points-start : (text rest done : List ℕ) → done ≡ [] → rest ≡ text → done ++ code_points rest ≡ code_points text
 points-start text rest done none all = ap (λ l. l ++ code_points rest) none ∙ ap code_points all

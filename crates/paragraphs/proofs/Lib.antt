@@ -10,3 +10,4 @@ pub mod Plain
 pub mod Afresh
 pub mod Gathered
 pub mod CommonBytes
+pub mod Interface

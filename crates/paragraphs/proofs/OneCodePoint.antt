@@ -7,7 +7,8 @@ use Rattle.std.specs.Prelude.{encode_utf8}
 use Rattle.std.specs.Str.{IsUtf8}
 use Rattle.paragraphs.specs.Text.{code_points}
 
-nil-from-test : (bytes : List ℕ) → true ≡ (length bytes == 0) → bytes ≡ []
+-- what is empty by its length
+pub nil-from-test : (bytes : List ℕ) → true ≡ (length bytes == 0) → bytes ≡ []
 nil-from-test bytes h = elim (eqb_tells (length bytes) 0) [ inl e ↦ nil_from_length bytes e.1 | inr e ↦ absurd (let f = h ∙ e.0 in cc) ]
 
 -- after its first code point nothing is left

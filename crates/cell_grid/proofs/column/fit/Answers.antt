@@ -1,5 +1,5 @@
 -- Clusters fit as long as there is room.
-use Rattle.std.proofs.Common.{ℕ, ◌≡◌, ◌+◌, ◌<◌, ◌≤◌, get_or, sum, take, length, arith, sym, ap}
+use Rattle.std.proofs.Common.{ℕ, sum, arith, sym, ap}
 use Rattle.std.proofs.lemmas.Bool.{le-leb, lt-leb}
 use Rattle.std.proofs.lemmas.List.{take_all}
 use Rattle.std.proofs.lemmas.List.Sums.{sum_by_more, sum_by_more_le}

@@ -1,5 +1,6 @@
 -- The classes of a line are a part of the paragraph's.
-use Rattle.std.proofs.Common.{◌≡◌, ℕ, List, map, chars, slice_range, sym, ap, ap₂, ◌∙◌}
+use Rattle.std.proofs.Common.{ℕ, List, map, slice_range, sym, ap, ap₂, ◌∙◌}
+use Rattle.std.proofs.lemmas.Result.{IfOk-weaker}
 use Rattle.bg_types.specs.declared.class.Bidi.{Bidi}
 use Rattle.unicode_tables.specs.Tables.{bidi_of}
 use Rattle.paragraphs.specs.Text.{code_points}
@@ -8,7 +9,6 @@ use Rattle.bidi_explicit.specs.Embedding.{classes_of}
 use Rattle.reorder.specs.LineLevels.{group_firsts, levels_after_l1}
 use Rattle.cell_grid.specs.Spans.{extent}
 use Rattle.cell_grid.proofs.Parts.{slice-map}
-use Rattle.cell_grid.proofs.Counting.{if_ok}
 use Rattle.cell_grid.proofs.paragraph.levels_in_line.Goals as goal
 
 pub returns : goal.returns
@@ -25,6 +25,6 @@ returns c =
     ∙ ap (map (bidi_of tables)) (sym c.requires.stand.points) in
     let kept = ap (λ (l : List ℕ). slice_range l first end) c.deref-2.ensures.value
     ∙ ap (λ (s : Span). slice_range levels s.first_place s.end_place) c.extent-whole.ensures in
-    if_ok c.line_levels_at.result
+    IfOk-weaker c.line_levels_at.result _ _
     (λ found e. e ∙ ap₂ (λ (cs : List Bidi) (ls : List ℕ). group_firsts c.args.sizes.now (levels_after_l1 c.args.material.now.para_level cs ls)) classes kept)
     c.line_levels_at.ensures

@@ -1,6 +1,7 @@
 -- The row of a line that fits.
-use Rattle.std.proofs.Common.{◌≤◌, ℕ, List, map, sum, length, slice_range, sym, ap, subst, ◌∙◌, arith}
+use Rattle.std.proofs.Common.{ℕ, List, length, slice_range, sym, ap, subst, ◌∙◌, arith}
 use Rattle.std.proofs.lemmas.List.{length-map}
+use Rattle.std.proofs.lemmas.Result.{IfOk-weaker}
 use Rattle.paragraphs.specs.Clusters.{cluster_sizes}
 use Rattle.line_break.specs.declared.cluster.Cluster.{Cluster}
 use Rattle.line_break.specs.LineClusters.{line_clusters}
@@ -11,7 +12,7 @@ use Rattle.cell_grid.specs.Rows.{row_with, levels_in_line}
 use Rattle.cell_grid.specs.Outline.{own_columns, StandIn}
 use Rattle.cell_grid.proofs.Parts.{length-slice}
 use Rattle.cell_grid.proofs.LinesOf.{hung-columns, length-levels}
-use Rattle.cell_grid.proofs.Counting.{if_ok, length-spans_of, length-sizes_of}
+use Rattle.cell_grid.proofs.Counting.{length-spans_of, length-sizes_of}
 use Rattle.cell_grid.proofs.paragraph.row_of.Goals as goal
 
 pub part-spans-requires-clause-within : goal.part-spans-requires-clause-within
@@ -94,7 +95,7 @@ returns c =
     ∙ ap (λ (l : List ℕ). levels_in_line tables text levels para (slice_range (spans text) line.start line.end) l) sz in
     let hg = ap (hung width) (c.part-columns.ensures ∙ ap (λ (l : List ℕ). slice_range l line.start line.end) (c.deref-3.ensures.value ∙ c.requires.columns))
     ∙ hung-columns tables width text line c.requires.line in
-    if_ok c.of_line.result
+    IfOk-weaker c.of_line.result _ _
     (λ row e. e ∙ ap (λ (l : List Span). row_with width para l c.deref-4.result.now (hung width c.part-columns.result.now)) sp
     ∙ ap (λ (l : List ℕ). row_with width para (slice_range (spans text) line.start line.end) l (hung width c.part-columns.result.now)) lv
     ∙ ap (λ (l : List ℕ). row_with width para (slice_range (spans text) line.start line.end) (levels_in_line tables text levels para (slice_range (spans text) line.start line.end) (slice_range (cluster_sizes text) line.start line.end)) l) hg)

@@ -1,5 +1,6 @@
 -- A row for each line.
 use Rattle.std.proofs.Common.{◌≡◌, ℕ, ◌∷◌, [], List, length, map, sym, ap, subst, ◌∙◌}
+use Rattle.std.proofs.lemmas.Result.{IfOk-weaker}
 use Rattle.std.specs.List.{All}
 use Rattle.std.specs.Str.{IsUtf8}
 use Rattle.bg_types.specs.declared.class.Bidi.{Bidi}
@@ -15,7 +16,6 @@ use Rattle.cell_grid.specs.Rows.{DrawnRow, row_of, rows_of}
 use Rattle.cell_grid.specs.Outline.{own_columns}
 use Rattle.cell_grid.specs.Separators.{IsSeparatorAlone, separator_row}
 use Rattle.cell_grid.specs.Shifting.{MayShiftRow}
-use Rattle.cell_grid.proofs.Counting.{if_ok}
 use Rattle.cell_grid.proofs.Drawn.{rows-shift}
 use Rattle.cell_grid.proofs.Separating.{separator-rows}
 use Rattle.cell_grid.proofs.paragraph.rows.Goals as goal
@@ -46,7 +46,7 @@ returns-then-is_separator_alone-clause-rows c =
     let t = c.args.tables.now in
     let text = c.text-text.ensures in
     let is = subst (IsSeparatorAlone t) text (c.is_separator_alone.ensures c.if-is_separator_alone.true) in
-    if_ok c.separator_rows.result
+    IfOk-weaker c.separator_rows.result _ _
     (λ rows made. made
     ∙ ap (λ n. separator_row c.args.width n (length c.text-text.result.now) ∷ []) c.paragraph_level-para_level.ensures.level
     ∙ ap (λ (x : List ℕ). separator_row c.args.width (paragraph_level c.args.base (classes_of t c.args.para.now.text)) (length x) ∷ []) text
@@ -55,7 +55,7 @@ returns-then-is_separator_alone-clause-rows c =
 
 pub returns-then-is_separator_alone-clause-may_shift : goal.returns-then-is_separator_alone-clause-may_shift
 returns-then-is_separator_alone-clause-may_shift c =
-    if_ok c.separator_rows.result
+    IfOk-weaker c.separator_rows.result _ _
     (λ rows made. λ bytes places fit_bytes fit_places.
     subst (All (MayShiftRow bytes places)) (sym made)
     (rows-shift c.laws_below.ensures c.args.tables.now c.args.width c.requires.at_least c.args.base c.args.para.now.text (subst IsUtf8 c.text-text.ensures c.text-text.utf8)
@@ -90,13 +90,13 @@ returns-clause-rows c =
     let level = c.paragraph_level-para_level.ensures.level in
     let own = levels-are tables text c.args.base _ _ _ _ c.in_ok-levels.ensures.levels (c.deref-2.ensures.value ∙ c.in_ok-points.ensures ∙ ap code_points c.text-text.ensures)
     (points-lent tables _ _ _ _ c.deref-3.ensures.value c.in_ok-classes.ensures (c.deref.ensures.value ∙ sym c.deref-2.ensures.value)) level in
-    if_ok c.rows_in.result
+    IfOk-weaker c.rows_in.result _ _
     (λ rows made. rows-are tables c.args.width c.args.base text c.text-text.result.now c.paragraph_level-para_level.result c.in_ok-levels.levels.items rows.items made level c.text-text.ensures own)
     c.rows_in.ensures
 
 pub returns-clause-may_shift : goal.returns-clause-may_shift
 returns-clause-may_shift c =
-    if_ok c.rows_in.result
+    IfOk-weaker c.rows_in.result _ _
     (λ rows made. λ bytes places fit_bytes fit_places.
     subst (All (MayShiftRow bytes places)) (sym made)
     (rows-shift c.laws_below.ensures c.args.tables.now c.args.width c.requires.at_least c.args.base c.args.para.now.text (subst IsUtf8 c.text-text.ensures c.text-text.utf8)

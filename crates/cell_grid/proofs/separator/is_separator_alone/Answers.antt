@@ -1,8 +1,8 @@
 -- After its one code point nothing is left.
 use Rattle.std.proofs.Common.{◌∷◌, sym, ap, ◌∙◌}
 use Rattle.std.proofs.lemmas.Str.{chars-nil, chars_past_char}
+use Rattle.paragraphs.proofs.Interface.{nil-from-test}
 use Rattle.paragraphs.specs.Text.{code_points}
-use Rattle.cell_grid.proofs.Separating.{nil-from-test}
 use Rattle.cell_grid.proofs.separator.is_separator_alone.Goals as goal
 
 pub returns-in-B : goal.returns-in-B

@@ -1,8 +1,8 @@
 -- The lines of the measured clusters.
-use Rattle.std.proofs.Common.{◌≤◌, Result, Ok, Err, slice_range, ap, ◌∙◌}
+use Rattle.std.proofs.Common.{◌≤◌, slice_range, ap, ◌∙◌}
 use Rattle.std.proofs.lemmas.List.Elements.{All-same}
+use Rattle.std.proofs.lemmas.Result.{IfOk-weaker}
 use Rattle.std.specs.List.{flat_map}
-use Rattle.std.specs.Result.{IfOk}
 use Rattle.paragraphs.specs.Clusters.{clusters}
 use Rattle.line_break.specs.declared.cluster.Cluster.{Cluster}
 use Rattle.line_break.specs.declared.line.Line.{Line}
@@ -14,15 +14,10 @@ pub lines_of-requires-clause-columns : goal.lines_of-requires-clause-columns
 lines_of-requires-clause-columns c =
     All-same (λ (x : Cluster). x.columns ≤ 2) _ _ c.deref.ensures.value c.in_ok-outline.ensures.columns
 
--- what follows for the value in an `Ok`
-if_ok : {T E : Type 0} {P Q : T → Type 0} (r : Result T E) → ((v : T) → P v → Q v) → IfOk r P → IfOk r Q
-if_ok (Ok v) f h = f v h
-if_ok (Err e) f h = h
-
 pub returns-clause-joined : goal.returns-clause-joined
 returns-clause-joined c =
     let part = λ (line : Line). slice_range (clusters c.args.para.now.text) line.start line.end in
-    if_ok c.lines_of.result
+    IfOk-weaker c.lines_of.result _ _
     (λ v e. ap (flat_map part) (e ∙ ap (lines_of c.args.width) (c.deref.ensures.value ∙ c.in_ok-outline.ensures.clusters))
     ∙ joined-lines c.args.tables.now c.args.para.now.text c.args.width)
     c.lines_of.ensures

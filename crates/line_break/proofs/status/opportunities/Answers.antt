@@ -2,6 +2,7 @@
 use Rattle.std.proofs.Common.{[], ◌∷◌, ◌++◌, length, sym, ap, subst, ◌∙◌, arith}
 use Rattle.std.specs.Prelude.{encode_utf8}
 use Rattle.std.specs.Str.{IsUtf8}
+use Rattle.paragraphs.proofs.Interface.{past_char-shorter}
 use Rattle.line_break.specs.declared.status.Break.TheVariants.{May}
 use Rattle.bg_types.specs.declared.class.Lb.TheVariants.{Al, Hl}
 use Rattle.line_break.specs.declared.item.Item.{Item}
@@ -10,7 +11,7 @@ use Rattle.line_break.specs.Items.{point_of}
 use Rattle.line_break.specs.Context.{before, after}
 use Rattle.line_break.specs.Words.{behind_word}
 use Rattle.line_break.specs.Rules.{first_rule, rules}
-use Rattle.line_break.proofs.Marking.{past_char-shorter, breaks-nil, IsMarkedTo-start, IsMarkedTo-on, breaks-end}
+use Rattle.line_break.proofs.Marking.{breaks-nil, IsMarkedTo-start, IsMarkedTo-on, breaks-end}
 use Rattle.line_break.proofs.Words.{letter-before}
 use Rattle.line_break.proofs.status.opportunities.Goals as goal
 

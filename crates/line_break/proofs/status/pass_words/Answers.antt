@@ -2,12 +2,12 @@
 use Rattle.std.proofs.Common.{◌≡◌, ◌++◌, true, [], ◌∷◌, sym, ap, subst, ◌∙◌, arith}
 use Rattle.std.specs.Prelude.{encode_utf8}
 use Rattle.bg_types.specs.declared.class.Lb.TheVariants.{Al, Hl}
+use Rattle.paragraphs.proofs.Interface.{past_char-shorter}
 use Rattle.line_break.specs.declared.item.Item.{Item}
 use Rattle.line_break.specs.Classes.{one_of}
 use Rattle.line_break.specs.Items.{point_of}
 use Rattle.line_break.specs.Marked.{IsMarkedTo}
 use Rattle.line_break.specs.Words.{behind_word}
-use Rattle.line_break.proofs.Marking.{past_char-shorter}
 use Rattle.line_break.proofs.Words.{IsMarkedTo-letter, IsMarkedTo-space, IsWord-letter, IsWord-space, space-is}
 use Rattle.line_break.proofs.status.pass_words.Goals as goal
 

@@ -1,11 +1,10 @@
 -- Where all clusters fit, none hangs.
-use Rattle.std.proofs.Common.{◌≡◌, ◌≤◌, ℕ, List, sum, length, sym, ap, subst, ◌∙◌, arith}
+use Rattle.std.proofs.Common.{◌≤◌, ℕ, List, sum, length, sym, ap, subst, ◌∙◌}
 use Rattle.std.proofs.lemmas.Bool.{leb-true}
-use Rattle.cell_grid.specs.Hanging.{hung}
+use Rattle.std.proofs.lemmas.Result.{IfOk-weaker}
 use Rattle.cell_grid.specs.Rows.{row_with}
 use Rattle.cell_grid.proofs.Hung.{hung-all}
 use Rattle.cell_grid.proofs.Sides.{length-hung, sum-hung}
-use Rattle.cell_grid.proofs.Counting.{if_ok}
 use Rattle.cell_grid.proofs.row.Row.of_line.Goals as goal
 
 pub with-requires-clause-room : goal.with-requires-clause-room
@@ -13,7 +12,7 @@ with-requires-clause-room c = leb-true (sum c.args.own.now) c.args.width (sym c.
 
 pub returns-then-fit : goal.returns-then-fit
 returns-then-fit c =
-    if_ok c.with.result
+    IfOk-weaker c.with.result _ _
     (λ row e. e ∙ ap (row_with c.args.width c.args.para_level c.args.spans.now c.args.levels.now)
     (sym (hung-all c.args.width c.args.own.now (leb-true (sum c.args.own.now) c.args.width (sym c.fit.ensures ∙ c.if-fit.true)))))
     c.with.ensures
@@ -28,6 +27,6 @@ with-requires-2-clause-room c =
 
 pub returns : goal.returns
 returns c =
-    if_ok c.with-2.result
+    IfOk-weaker c.with-2.result _ _
     (λ row e. e ∙ ap (row_with c.args.width c.args.para_level c.args.spans.now c.args.levels.now) (c.deref.ensures.value ∙ c.in_ok-columns.ensures))
     c.with-2.ensures
