@@ -22,7 +22,7 @@ use view_cache::View;
 /// Writes the caret at a place of the text of all operations of the files, which one desk takes,
 /// and the caret after each move: a line `row gap place` each, over the grid of the text at a
 /// width in columns. All data is read and the place is tested before anything is written. The place
-/// counts code points. Where the key is secret, nobody can write files that make the run slow.
+/// counts code points. Where the key is secret, it is hard to write files that make the run slow.
 ///
 /// Which answer the data has is `laws::carets_are_decided`.
 pub fn carets<S: Sink>(

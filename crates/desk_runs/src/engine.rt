@@ -28,7 +28,7 @@ use view_cache::View;
 /// Does the steps of a schedule, or without one lets each desk take all files and shows it. There
 /// are as many desks as files, and desk k has site k. For each show, in order, the print of the
 /// grid of the desk's text is written, at a width in columns. All data is read before the first
-/// step is taken. Where the key is secret, nobody can write files that make the run slow.
+/// step is taken. Where the key is secret, it is hard to write files that make the run slow.
 ///
 /// Which answer the data has is `laws::replay_is_decided`.
 pub fn replay<S: Sink>(

@@ -2,8 +2,8 @@
 
 use std::hash::{BuildHasher, FoldHasher, Hasher};
 
-/// Hashes texts from a start that a key decides. Without knowing the key, nobody can choose paragraphs
-/// that share a slot.
+/// Hashes texts from a start that a key decides, so that it is hard to choose paragraphs that share a
+/// slot without knowing the key. The hash is not cryptographic, and no bound is proved.
 #[derive(Clone, Copy)]
 pub struct KeyedText {
     start: FoldHasher,

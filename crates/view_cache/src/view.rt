@@ -73,8 +73,8 @@ impl<'a> View<'a> {
         View::keyed(alloc, 0, tables, room)
     }
 
-    /// The same, its table hashed with this key. Without knowing the key, nobody can choose paragraphs
-    /// that make the draws slow.
+    /// The same, its table hashed with this key. Without knowing the key, it is hard to choose paragraphs
+    /// that make the draws slow; no bound is proved.
     pub fn keyed(
         alloc: Global,
         key: u128,
