@@ -3,7 +3,7 @@ use Rattle.std.proofs.Common.{◌∙◌, ◌-◌, refl, ap, sym, arith}
 use Rattle.caret.specs.declared.caret.Caret.{Caret}
 use Rattle.caret.proofs.CaretAt.{IsCaretOf-in_row}
 use Rattle.caret.proofs.CaretRows.{element_read, row_within, backwards-row}
-use Rattle.caret.proofs.moves.backwards.Goals as goal
+use Rattle.caret.proofs.among.backwards.Goals as goal
 
 pub returns-clause-caret : goal.returns-clause-caret
 returns-clause-caret c =

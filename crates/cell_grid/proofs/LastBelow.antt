@@ -1,7 +1,7 @@
 -- The last number that passes.
-use Rattle.std.proofs.Common.{◌≡◌, ℕ, zero, suc, ◌<◌, ◌≤◌, Bool, true, false, cond, inl, inr, ap, sym, subst, ◌∙◌, arith}
-use Rattle.std.proofs.lemmas.Bool.{cases_lt}
-use Rattle.caret.specs.Lists.{last_below}
+use Rattle.std.proofs.Common.{◌≡◌, ℕ, zero, suc, ◌+◌, ◌<◌, ◌≤◌, Bool, true, false, cond, inl, inr, ap, sym, subst, ◌∙◌, arith}
+use Rattle.std.proofs.lemmas.Bool.{cases_lt, both_ways}
+use Rattle.cell_grid.specs.Windows.{last_below}
 use Rattle.bg_types.proofs.Interface.{two_cases}
 
 module _ (passes : ℕ → Bool) where
@@ -54,3 +54,29 @@ module _ (passes : ℕ → Bool) where
           two_cases (passes m)
           (λ here. omega (arith, last_below-here m here))
           (λ other. omega (arith, last_below-before m other, at_most m))
+
+  -- numbers from `a` on that don't pass change nothing
+  pub last_below-past : (a n : ℕ) → a ≤ n → ((k : ℕ) → a ≤ k → k < n → passes k ≡ false) → last_below passes n ≡ last_below passes a
+  last_below-past a zero le past = let e : a ≡ 0 = omega arith in sym (ap (last_below passes) e)
+  last_below-past a (suc n) le past =
+      elim (cases_lt n a) [
+        | inl whole ↦ let e : a ≡ suc n = omega arith in sym (ap (last_below passes) e)
+        | inr less ↦ last_below-before n (past n less (omega arith)) ∙ last_below-past a n less (λ k from to. past k from (omega arith))
+      ]
+
+-- numbers from `a` on, the first of which passes
+pub last_below-behind : (passes later : ℕ → Bool) (a n : ℕ) → ((k : ℕ) → k < n → passes (a + k) ≡ later k) → 0 < n → later 0 ≡ true → last_below passes (a + n) ≡ a + last_below later n
+last_below-behind passes later a zero same some first = absurd (omega arith)
+last_below-behind passes later a (suc n) same some first =
+    let next : a + suc n ≡ suc (a + n) = omega arith in
+    let here = same n (omega arith) in
+    ap (last_below passes) next
+    ∙ two_cases (later n)
+    (λ t. last_below-here passes (a + n) (here ∙ t) ∙ sym (ap (λ m. a + m) (last_below-here later n t)))
+    (λ f.
+    last_below-before passes (a + n) (here ∙ f)
+    ∙ elim (cases_lt 0 n) [
+      | inl more ↦ last_below-behind passes later a n (λ k within. same k (omega arith)) more first
+      | inr none ↦ let e : n ≡ 0 = omega arith in absurd (both_ways (later 0) (ap later (sym e) ∙ f) first)
+    ]
+    ∙ sym (ap (λ m. a + m) (last_below-before later n f)))
