@@ -1,8 +1,8 @@
 -- Nothing is kept, and there is the room that was asked for.
 use Rattle.std.proofs.Common.{◌∙◌, arith}
 use Rattle.view_cache.proofs.Kept.{resized-empty}
-use Rattle.view_cache.proofs.view.empty_cache.Goals as goal
-use Rattle.view_cache.proofs.view.empty_cache.Goals.{in-Some, in_default}
+use Rattle.view_cache.proofs.kept_rows.empty_cache.Goals as goal
+use Rattle.view_cache.proofs.kept_rows.empty_cache.Goals.{in-Some, in_default}
 
 pub returns : goal.returns
 returns c =
