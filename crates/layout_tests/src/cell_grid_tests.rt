@@ -431,4 +431,7 @@ fn the_laws_are_called() {
     laws::rows_follow();
     laws::places_once();
     laws::rows_may_shift();
+    laws::first_places_rise();
+    laws::windows_in_stretches();
+    laws::rows_of_paragraphs();
 }
