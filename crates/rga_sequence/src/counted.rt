@@ -7,9 +7,6 @@ ghost use Rattle.rga_sequence.specs.Blocks.{seen, seen_all};
 use crate::block::Block;
 use rga_tree::Element;
 
-/// How many elements are counted together: as many as a byte can count.
-const COUNTED: usize = 255;
-
 /// How many elements of a block are visible. This is one look.
 #[inline(always)]
 pub fn header(block: &Block, looks: &mut u64) -> usize
@@ -41,6 +38,7 @@ pub fn headers(blocks: &[Block], looks: &mut u64) -> usize
 /// step, which is as many looks.
 pub fn visible_in(row: &[Element], all: bool, looks: &mut u64) -> usize
     requires all { all ≡ true → seen row.now ≡ length row.now }
+    requires few { length row.now ≤ 255 }
     requires room { looks.old + length row.now < 2 ^ 64 }
     ensures visible { result ≡ seen row.now }
     ensures looks { looks.new ≡ looks.old + length row.now }
@@ -49,24 +47,8 @@ pub fn visible_in(row: &[Element], all: bool, looks: &mut u64) -> usize
         *looks += row.len() as u64;
         row.len()
     } else {
-        seen_in(row, looks)
+        row.len() - usize::from(hidden_in(row, looks))
     }
-}
-
-/// How many of these elements are visible. Each is looked at.
-fn seen_in(row: &[Element], looks: &mut u64) -> usize
-    requires room { looks.old + length row.now < 2 ^ 64 }
-    ensures visible { result ≡ seen row.now }
-    ensures looks { looks.new ≡ looks.old + length row.now }
-{
-    let mut seen = 0;
-    let mut at = 0;
-    while at < row.len() {
-        let end = at + COUNTED.min(row.len() - at);
-        seen += end - at - usize::from(hidden_in(&row[at..end], looks));
-        at = end;
-    }
-    seen
 }
 
 /// How many of these elements are hidden. Each is looked at, and no branch depends on one.

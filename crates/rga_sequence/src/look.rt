@@ -7,6 +7,9 @@ ghost use Rattle.rga_sequence.specs.Blocks.{seen, seen_all, joined, FindsBy};
 use crate::block::FULL;
 use rga_tree::Element;
 
+/// How many elements are counted together: as many as a byte can count.
+const COUNTED: usize = 255;
+
 /// A row of blocks of at most 512 elements each, which counts how often it is looked at. Blocks,
 /// and elements of a block, are counted from 0.
 pub trait Look {
@@ -48,12 +51,13 @@ pub trait Look {
         ensures content { blocks self.new ≡ blocks self.old }
         ensures aside { aside self.new ≡ aside self.old };
 
-    /// How many of the elements of block b from one up to another, which is left out, are visible, where
-    /// its header says how many of all are. This is a look at each.
+    /// How many of at most 255 elements of block b, from one up to another, which is left out, are
+    /// visible, where its header says how many of all are. This is a look at each.
     fn visible_in(&mut self, b: usize, visible: usize, from: usize, to: usize) -> usize
         requires block { b < length (blocks self.old) }
         requires order { from ≤ to }
         requires there { to ≤ length (get_or (blocks self.old) b []) }
+        requires few { to ≤ from + 255 }
         requires visible { visible ≡ seen (get_or (blocks self.old) b []) }
         requires room { looked self.old + (to - from) < 2 ^ 64 }
         ensures value { result ≡ seen (take (to - from) (drop from (get_or (blocks self.old) b []))) }
@@ -129,7 +133,7 @@ fn passed_together<L: Look>(row: &mut L, k: usize) -> (usize, usize)
 }
 
 /// The place of a visible element in its block, and the element. As many elements as visible ones are left before it are
-/// passed at once.
+/// passed at once, or as many as can be counted.
 fn element_of<L: Look>(row: &mut L, b: usize, visible: usize, k: usize) -> (usize, Element)
     requires block { b < length (L.blocks row.old) }
     requires visible { visible ≡ seen (get_or (L.blocks row.old) b []) }
@@ -146,7 +150,7 @@ fn element_of<L: Look>(row: &mut L, b: usize, visible: usize, k: usize) -> (usiz
     let mut at = 0;
     let mut left = k;
     while left > 0 {
-        let end = at + left;
+        let end = at + left.min(COUNTED);
         left -= row.visible_in(b, visible, at, end);
         at = end;
     }
