@@ -29,6 +29,9 @@ ghost use Rattle.desk_replica.specs.DeskSets.{set_at};
 ghost use Rattle.desk_replica.specs.WorldStep.{WorldState, WorldStep, next_identifier};
 ghost use Rattle.desk_replica.specs.WorldRun.{WorldRun, IsWorld, IsLater, all_made};
 
+// The *sub-walk* and *unbroken-stretch* laws speak of walks alone, and stand where the walk is.
+pub use rga_tree::laws::{sub_walk, unbroken_stretch};
+
 /// The union of sets of operations, where it is defined, is commutative, associative and
 /// idempotent.
 pub fn union_law()
