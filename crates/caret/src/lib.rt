@@ -2,11 +2,14 @@
 #![tactic(auto)]
 
 mod caret;
+mod column;
 mod gaps;
 pub mod laws;
 mod moves;
 mod place;
 
 pub use caret::Caret;
+pub use column::at_column;
+pub use gaps::gap_column;
 pub use moves::{Move, down, left, right, up};
 pub use place::at_place;
