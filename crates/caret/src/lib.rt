@@ -3,6 +3,7 @@
 
 mod among;
 mod caret;
+mod column;
 mod gaps;
 pub mod laws;
 mod moves;
@@ -11,6 +12,8 @@ mod position;
 
 pub use among::{at_place_among, down_among, left_among, right_among, up_among};
 pub use caret::Caret;
+pub use column::at_column;
+pub use gaps::gap_column;
 pub use moves::{Move, down, left, right, up};
 pub use place::at_place;
 pub use position::Position;

@@ -1,0 +1,7 @@
+-- The modules of this crate's definitions.
+pub mod Bases
+pub mod Copying
+pub mod Drawing
+pub mod Faults
+pub mod Numbers
+pub mod Rows
