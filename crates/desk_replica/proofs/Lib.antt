@@ -19,7 +19,6 @@ pub mod Counters
 pub mod Typed
 pub mod Typing
 pub mod Erasing
-pub mod Counts
 pub mod Rows
 pub mod OnceEach
 pub mod Told

@@ -98,11 +98,13 @@ count_seen s (suc n) (e ∷ es) =
     ∙ ap (λ k. one + k) (count_seen s n es)
     ∙ sym (sum_by-cons (λ (x : Entry). cond (not (is_erased s x.0)) 1 0) e (take n es))
 
--- a row counts them as its walk does
+-- elements count them as the walk does
+pub before_elements : (s : OperationSet) (id : Identifier) → count_by (λ e. not e.hidden) (take (prefix_len (λ e. not (same_id id e.id)) (elements s)) (elements s)) ≡ visible_before s id
+before_elements s id =
+    ap (λ n. count_by (λ (e : Element). not e.hidden) (take n (elements s))) (prefix_seen s id (walk s Root))
+    ∙ count_seen s (prefix_len (λ (e : Entry). not (same_id id e.0)) (walk s Root)) (walk s Root)
+
 pub before_row : (row : List Element) (id : Identifier) → row ≡ elements (operations_of row)
     → count_by (λ e. not e.hidden) (take (prefix_len (λ e. not (same_id id e.id)) row) row) ≡ visible_before (operations_of row) id
 before_row row id in_order =
-    let s = operations_of row in
-    ap (λ r. count_by (λ (e : Element). not e.hidden) (take (prefix_len (λ (e : Element). not (same_id id e.id)) r) r)) in_order
-    ∙ ap (λ n. count_by (λ (e : Element). not e.hidden) (take n (elements s))) (prefix_seen s id (walk s Root))
-    ∙ count_seen s (prefix_len (λ (e : Entry). not (same_id id e.0)) (walk s Root)) (walk s Root)
+    ap (λ r. count_by (λ (e : Element). not e.hidden) (take (prefix_len (λ (e : Element). not (same_id id e.id)) r) r)) in_order ∙ before_elements (operations_of row) id
