@@ -31,3 +31,5 @@ pub mod Worlds
 pub mod WorldRuns
 pub mod WorldLaws
 pub mod WorldTyped
+pub mod Stretches
+pub mod Ranges

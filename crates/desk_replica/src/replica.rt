@@ -14,6 +14,7 @@ ghost use Rattle.desk_replica.specs.declared.answer.TypeFault.{TypeFault as Unty
 ghost use Rattle.desk_replica.specs.Typing.{typed, insertion, parent_at, IsTypedAt, IsTypeRefusal, IsTypeRefused, IsErasedAt};
 
 mod merging;
+mod stretch;
 
 use crate::answer::{TakeFault, Taken, TypeFault};
 use crate::placing::{Standing, admit, count_waiting, counter_of, look_up, make_room};
