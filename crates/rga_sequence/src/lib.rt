@@ -5,13 +5,13 @@ mod before;
 mod block;
 mod blocks;
 mod bounds;
+mod counted;
 mod index;
 pub mod laws;
 mod look;
 mod order;
 mod row;
 mod skip;
-mod visible;
 
 pub use blocks::Blocks;
 pub use look::{Look, find};

@@ -1,8 +1,8 @@
--- What stays true in the loop of `visible_in`.
+-- What stays true in the loop of `headers`.
 use Rattle.std.proofs.Common.{◌≡◌, take}
 use Rattle.rga_sequence.specs.Blocks.{seen_all}
 use Rattle.rga_sequence.specs.BlockRows.{items_of}
-use Rattle.rga_sequence.proofs.visible.visible_in.Given as goal
+use Rattle.rga_sequence.proofs.counted.headers.Given as goal
 
 abbrev pub invariant-loop-block : goal.invariant-loop-block
 invariant-loop-block l = record {

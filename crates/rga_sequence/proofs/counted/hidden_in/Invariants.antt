@@ -1,7 +1,7 @@
 -- What stays true in the loop of `hidden_in`.
 use Rattle.std.proofs.Common.{◌≡◌, ◌+◌, take}
 use Rattle.rga_sequence.specs.Blocks.{seen}
-use Rattle.rga_sequence.proofs.visible.hidden_in.Given as goal
+use Rattle.rga_sequence.proofs.counted.hidden_in.Given as goal
 
 abbrev pub invariant-loop-e : goal.invariant-loop-e
 invariant-loop-e l = record {
