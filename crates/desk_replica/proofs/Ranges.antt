@@ -43,6 +43,15 @@ drop-at (y ∷ xs) (suc k) x h = drop-at xs k x h
 
 -- ---- a stretch that is erased
 
+within-at : {X : Type 0} (xs : List X) (k : ℕ) (x : X) → slice_get xs k ≡ Some x → k < length xs
+within-at [] zero x h = absurd (let e : None ≡ Some x = h in cc)
+within-at [] (suc k) x h = absurd (let e : None ≡ Some x = h in cc)
+within-at (y ∷ xs) zero x h = omega arith
+within-at (y ∷ xs) (suc k) x h = omega (arith, within-at xs k x h)
+
+pub visible_at : (s : OperationSet) (k : ℕ) (x : Identifier) → slice_get (visible_ids s) k ≡ Some x → k < length (visible s)
+visible_at s k x at = omega (arith, within-at (visible_ids s) k x at, length-each (λ (e : Entry). e.0) (visible s))
+
 module _ (k : ℕ) where
   pub erased_then : (n : ℕ) (s : OperationSet) (x : Identifier) → AllWellFormed s → k < length (visible s) → slice_get (visible_ids s) k ≡ Some x → deletions s k (suc n) ≡ Erase x ∷ deletions (with_operation s (Erase x)) k n
   erased_then n s x well lt at =

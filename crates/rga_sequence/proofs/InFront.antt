@@ -1,7 +1,7 @@
 -- How many visible elements stand before one of the row, by its blocks.
 use Rattle.std.proofs.Common.{◌≡◌, ℕ, zero, suc, ◌<◌, ◌≤◌, ◌+◌, ◌-◌, not, List, [], ◌∷◌, ◌++◌, length, take, drop, get_or, sym, ap, ◌∙◌, zero-add, length-append, length-drop, arith}
 use Rattle.std.proofs.Math.Seq.{take-append-add}
-use Rattle.std.proofs.lemmas.List.{take-append-le, take-append-drop, take-map, drop-map, take_all}
+use Rattle.std.proofs.lemmas.List.{take-append-le, take-append-drop, take-map, drop-map, take_all, length-take-le}
 use Rattle.std.proofs.lemmas.List.Sums.{length-filter}
 use Rattle.std.specs.Prelude.{count_by}
 use Rattle.bg_types.specs.Identifier.{Identifier}
@@ -9,7 +9,9 @@ use Rattle.rga_tree.specs.declared.element.Element.{Element}
 use Rattle.rga_sequence.specs.declared.block.Block.{Block}
 use Rattle.rga_sequence.specs.BlockRows.{items_of}
 use Rattle.rga_sequence.specs.Blocks.{seen, seen_all, joined, offset}
+use Rattle.rga_sequence.proofs.Grown.{seen_le}
 use Rattle.rga_sequence.proofs.Members.{until}
+use Rattle.rga_sequence.proofs.Nth.{seen-rest}
 use Rattle.rga_sequence.proofs.Seen.{seen_all-more}
 use Rattle.rga_sequence.proofs.Spots.{seen-append}
 
@@ -27,6 +29,10 @@ pub before_spot : (xs : List (List Element)) (b at : ℕ) (q : Identifier) → b
 before_spot xs b at q there within place =
     sym (seen-offset xs b at there within) ∙ ap (λ n. seen (take n (joined xs))) place ∙ length-filter (λ (e : Element). not e.hidden) (take (until q (joined xs)) (joined xs))
 
+-- in a row that shows all
+pub all_before : (es : List Element) (k : ℕ) → seen es ≡ length es → k ≤ length es → seen (take k es) ≡ k
+all_before es k all within = omega (arith, all, seen-rest es k, seen_le (take k es), seen_le (drop k es), length-drop k es, length-take-le k es within)
+
 -- ---- parts of all blocks
 
 seen_all-append : (xs ys : List (List Element)) → seen_all (xs ++ ys) ≡ seen_all xs + seen_all ys
@@ -39,11 +45,8 @@ seen_all-parted xs b = sym (seen_all-append (take b xs) (drop b xs)) ∙ ap seen
 pub seen_all-within : (xs : List (List Element)) (b : ℕ) → seen_all (take b xs) ≤ seen_all xs
 seen_all-within xs b = omega (arith, seen_all-parted xs b)
 
-seen-within : (es : List Element) (at : ℕ) → seen (take at es) ≤ seen es
-seen-within es at = omega (arith, sym (seen-append (take at es) (drop at es)) ∙ ap seen (take-append-drop at es))
-
 pub before_within : (xs : List (List Element)) (b at : ℕ) → seen_all (take b xs) + seen (take at (get_or xs b [])) ≤ seen_all xs
-before_within xs b at = omega (arith, seen_all-more xs b, seen_all-within xs (b + 1), seen-within (get_or xs b []) at)
+before_within xs b at = omega (arith, seen_all-more xs b, seen_all-within xs (b + 1), seen-rest (get_or xs b []) at)
 
 -- the blocks before a place, and those from it on, as they are read
 pub front_seen : (bs : List Block) (b : ℕ) → seen_all (items_of (take b bs)) ≡ seen_all (take b (items_of bs))

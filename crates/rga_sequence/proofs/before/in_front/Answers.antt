@@ -1,7 +1,7 @@
 -- The goals of `in_front` that are answered by hand.
 use Rattle.std.proofs.Common.{◌≡◌, sym, length, arith}
 use Rattle.rga_sequence.specs.Blocks.{seen}
-use Rattle.rga_sequence.proofs.Nth.{all_before}
+use Rattle.rga_sequence.proofs.InFront.{all_before}
 use Rattle.rga_sequence.proofs.before.in_front.Goals as goal
 
 pub returns-then-block-len : goal.returns-then-block-len
