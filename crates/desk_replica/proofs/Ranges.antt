@@ -1,9 +1,9 @@
 -- Visible characters from a place on are erased, one after the other.
 use Rattle.std.proofs.Common.{◌≡◌, ◌≤◌, ◌<◌, ◌+◌, ℕ, zero, suc, List, [], ◌∷◌, ◌++◌, length, take, drop, Some, None, refl, sym, ap, ◌∙◌, append_assoc, arith}
 use Rattle.std.specs.Prelude.{slice_get, remove, map as each}
-use Rattle.std.proofs.lemmas.List.{append-nil, take-append-drop}
+use Rattle.std.proofs.lemmas.List.{append-nil, take-append-drop, map-append, take-map, drop-map}
 use Rattle.bg_types.specs.Identifier.{Identifier}
-use Rattle.bg_types.specs.OperationSet.{OperationSet, AllWellFormed, size, with_operation}
+use Rattle.bg_types.specs.OperationSet.{OperationSet, AllWellFormed, next, size, with_operation}
 use Rattle.bg_types.specs.declared.op.OpView.{OpView}
 use Rattle.bg_types.specs.declared.op.OpView.TheVariants.{Erase}
 use Rattle.bg_types.proofs.Interface.{size-with_operation}
@@ -12,6 +12,7 @@ use Rattle.rga_tree.proofs.Interface.{Entry}
 use Rattle.desk_replica.specs.Desk.{Desk}
 use Rattle.desk_replica.specs.Stretch.{deletions}
 use Rattle.desk_replica.specs.Merging.{with_operations}
+use Rattle.desk_replica.proofs.Erasing.{next_erased}
 use Rattle.desk_replica.proofs.Lists.{length-each}
 use Rattle.desk_replica.proofs.Typed.{each-remove}
 use Rattle.desk_replica.proofs.Typing.{visible_erased, erasure_new}
@@ -65,8 +66,10 @@ module _ (k : ℕ) where
 pub record IsErasing (d e : Desk) (k : ℕ) (made told : List OpView) (all left : ℕ) : Type 0 where
   pub told_is : told ++ deletions e.set k left ≡ made ++ deletions d.set k all
   pub set_is : with_operations e.set (deletions e.set k left) ≡ with_operations d.set (deletions d.set k all)
-  pub text_is : take k (text e.set) ++ drop (k + left) (text e.set) ≡ take k (text d.set) ++ drop (k + all) (text d.set)
+  pub visible_is : take k (visible e.set) ++ drop (k + left) (visible e.set) ≡ take k (visible d.set) ++ drop (k + all) (visible d.set)
+  pub next_is : next e.set ≡ next d.set
   pub within : k + left ≤ length (visible e.set)
+  pub size_is : size e.set + left ≡ size d.set + all
   pub room : size e.set + left ≤ 1_000_000
   pub site : e.site ≡ d.site
   pub spare : size d.set + d.spare ≤ size e.set + e.spare
@@ -78,12 +81,6 @@ module _ (d e f : Desk) (k : ℕ) (made told more : List OpView) (all left : ℕ
 
   seen : visible f.set ≡ remove (visible e.set) k
   seen = ap visible set_is ∙ visible_erased e.set k x well at
-
-  read : text f.set ≡ remove (text e.set) k
-  read = ap (each (λ (y : Entry). y.1.ch)) seen ∙ each-remove (λ (y : Entry). y.1.ch) (visible e.set) k
-
-  within_text : k < length (text e.set)
-  within_text = omega (arith, length-each (λ (y : Entry). y.1.ch) (visible e.set), there)
 
   split : deletions e.set k (suc left) ≡ Erase x ∷ deletions f.set k left
   split = erased_then k left e.set x well there at ∙ ap (λ s. Erase x ∷ deletions s k left) (sym set_is)
@@ -98,10 +95,12 @@ module _ (d e f : Desk) (k : ℕ) (made told more : List OpView) (all left : ℕ
       record {
         told_is = ap (λ t. t ++ later) told_is ∙ append_assoc told (Erase x ∷ []) later ∙ ap (λ t. told ++ t) (sym split) ∙ now.told_is;
         set_is = ap (λ s. with_operations s later) set_is ∙ ap (with_operations e.set) (sym split) ∙ now.set_is;
-        text_is = (λ i. take k (read i) ++ drop (k + left) (read i))
-            ∙ (λ i. take-remove (text e.set) k i ++ drop-remove (text e.set) k (k + left) within_text (omega arith) i)
-            ∙ ap (λ m. take k (text e.set) ++ drop m (text e.set)) up ∙ now.text_is;
+        visible_is = (λ i. take k (seen i) ++ drop (k + left) (seen i))
+            ∙ (λ i. take-remove (visible e.set) k i ++ drop-remove (visible e.set) k (k + left) there (omega arith) i)
+            ∙ ap (λ m. take k (visible e.set) ++ drop m (visible e.set)) up ∙ now.visible_is;
+        next_is = ap next set_is ∙ next_erased e.set k x at ∙ now.next_is;
         within = let fewer = length-remove (visible e.set) k there in let shorter = ap length seen in omega (arith, fewer, shorter, now.within);
+        size_is = omega (arith, size_is, now.size_is);
         room = omega (arith, size_is, now.room);
         site = site ∙ now.site;
         spare = omega (arith, spare, now.spare);
@@ -114,15 +113,23 @@ module _ (d e : Desk) (k : ℕ) (made told : List OpView) (all : ℕ) (now : IsE
   pub all_erased_set : e.set ≡ with_operations d.set (deletions d.set k all)
   all_erased_set = now.set_is
 
-  pub all_erased_text : text e.set ≡ take k (text d.set) ++ drop (k + all) (text d.set)
-  all_erased_text = let same : k + 0 ≡ k = omega arith in sym (ap (λ m. take k (text e.set) ++ drop m (text e.set)) same ∙ take-append-drop k (text e.set)) ∙ now.text_is
+  pub all_erased_visible : visible e.set ≡ take k (visible d.set) ++ drop (k + all) (visible d.set)
+  all_erased_visible = let same : k + 0 ≡ k = omega arith in sym (ap (λ m. take k (visible e.set) ++ drop m (visible e.set)) same ∙ take-append-drop k (visible e.set)) ∙ now.visible_is
+
+-- what is visible, cut, has the text cut
+pub text_cut : (s t : OperationSet) (from to : ℕ) → visible t ≡ take from (visible s) ++ drop to (visible s) → text t ≡ take from (text s) ++ drop to (text s)
+text_cut s t from to seen =
+    ap (each (λ (e : Entry). e.1.ch)) seen ∙ map-append (λ (e : Entry). e.1.ch) (take from (visible s)) (drop to (visible s))
+    ∙ (λ i. sym (take-map (λ (e : Entry). e.1.ch) from (visible s)) i ++ sym (drop-map (λ (e : Entry). e.1.ch) to (visible s)) i)
 
 pub starts_erasing : (d : Desk) (k : ℕ) (made : List OpView) (all left : ℕ) → left ≡ all → k + all ≤ length (visible d.set) → size d.set + all ≤ 1_000_000 → IsErasing d d k made made all left
 starts_erasing d k made all left same within room = record {
   told_is = ap (λ n. made ++ deletions d.set k n) same;
   set_is = ap (λ n. with_operations d.set (deletions d.set k n)) same;
-  text_is = ap (λ n. take k (text d.set) ++ drop (k + n) (text d.set)) same;
+  visible_is = ap (λ n. take k (visible d.set) ++ drop (k + n) (visible d.set)) same;
+  next_is = refl;
   within = omega (arith, same, within);
+  size_is = omega (arith, same);
   room = omega (arith, same, room);
   site = refl;
   spare = omega arith;

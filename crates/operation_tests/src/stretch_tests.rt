@@ -92,7 +92,7 @@ impl Row for Case {
     }
 }
 
-fn writer<S: Fresh>(alloc: Global) -> Writer<S> {
+fn fresh_writer<S: Fresh>(alloc: Global) -> Writer<S> {
     Writer {
         desk: Replica::new(alloc, 1, S::fresh(alloc, 7), 7),
         made: Vec::new(alloc),
@@ -100,7 +100,7 @@ fn writer<S: Fresh>(alloc: Global) -> Writer<S> {
 }
 
 fn comes_out<S: Fresh>(alloc: Global, case: &Case) -> Result<bool, Memory> {
-    let mut writer: Writer<S> = writer(alloc);
+    let mut writer: Writer<S> = fresh_writer(alloc);
     let (edits, text, told) = *case;
     let mut right = true;
     for (edit, answer) in edits {
@@ -210,7 +210,7 @@ fn stretches_are_typed_and_erased(rt: HostRuntime) {
 
 /// Whether a desk that paid for four types four at the first try, into a list with room.
 fn types_paid<S: Fresh>(alloc: Global) -> Result<bool, Memory> {
-    let mut writer: Writer<S> = writer(alloc);
+    let mut writer: Writer<S> = fresh_writer(alloc);
     writer.made.reserve(6)?;
     writer.desk.reserve(4)?;
     let typed = writer.types(0, "abcd");

@@ -130,6 +130,9 @@ impl<S: Sequence> Replica<S> {
         ensures made { OnOk result (made.new.items ≡ made.old.items ++ deletions self.old.set from (to - from)) }
         ensures ok { OnOk result (self.new.set ≡ with_operations self.old.set (deletions self.old.set from (to - from))) }
         ensures erased { OnOk result (text self.new.set ≡ take from (text self.old.set) ++ drop to (text self.old.set)) }
+        ensures visible { OnOk result (visible self.new.set ≡ take from (visible self.old.set) ++ drop to (visible self.old.set)) }
+        ensures counter { OnOk result (next self.new.set ≡ next self.old.set) }
+        ensures size { OnOk result (size self.new.set ≡ size self.old.set + (to - from)) }
         ensures accepted { OnOk result (size self.old.set + (to - from) ≤ 1_000_000) }
         ensures fault { IfErr result (IsRangeRefused self.old.set (to - from)) }
         ensures err { OnErr result (self.new ≡ self.old) }
@@ -156,7 +159,9 @@ impl<S: Sequence> Replica<S> {
         requires listed { vec_len made.old + count ≤ vec_capacity made.old }
         ensures made { made.new.items ≡ made.old.items ++ deletions self.old.set from count }
         ensures set { self.new.set ≡ with_operations self.old.set (deletions self.old.set from count) }
-        ensures erased { text self.new.set ≡ take from (text self.old.set) ++ drop (from + count) (text self.old.set) }
+        ensures visible { visible self.new.set ≡ take from (visible self.old.set) ++ drop (from + count) (visible self.old.set) }
+        ensures counter { next self.new.set ≡ next self.old.set }
+        ensures size { size self.new.set ≡ size self.old.set + count }
         ensures site { self.new.site ≡ self.old.site }
         ensures spare { size self.old.set + self.old.spare ≤ size self.new.set + self.new.spare }
     {

@@ -2,7 +2,7 @@
 use Rattle.std.proofs.Common.{◌≡◌, ◌-◌, ◌+◌, ◌++◌, [], ◌∷◌, suc, ap, sym, subst, ◌∙◌, arith}
 use Rattle.bg_types.specs.OperationSet.{with_operation}
 use Rattle.desk_replica.specs.Desk.{Desk}
-use Rattle.desk_replica.proofs.Ranges.{IsErasing, starts_erasing, erasing, all_erased_told, all_erased_set, all_erased_text}
+use Rattle.desk_replica.proofs.Ranges.{IsErasing, starts_erasing, erasing, all_erased_told, all_erased_set, all_erased_visible}
 use Rattle.desk_replica.proofs.replica.Replica.erase_on.Goals as goal
 
 pub loop-init : goal.loop-init
@@ -26,3 +26,14 @@ loop-preserved g c =
           (c.push_reserved.ensures.items ∙ ap (λ o. c.loop.made.items ++ o ∷ []) op.op_is) (op.set_is ∙ ap (with_operation e.set) op.op_is) c.in-Ok.ensures.site c.in-Ok.ensures.spare;
       listed = omega (arith, one, c.loop.invariant.listed, c.push_reserved.ensures.len, c.push_reserved.ensures.capacity);
     }
+
+pub returns-clause-visible : goal.returns-clause-visible
+returns-clause-visible g c =
+    let d : Desk = c.args.self.now in
+    let e : Desk = c.loop.self in
+    let none : c.args.count - c.loop.counter ≡ 0 = omega (arith, c.loop-test.false) in
+    all_erased_visible d e c.args.from c.args.made.now.items c.loop.made.items c.args.count
+    (subst (λ n. IsErasing d e c.args.from c.args.made.now.items c.loop.made.items c.args.count n) none c.loop.invariant.erasing)
+
+pub returns-clause-size : goal.returns-clause-size
+returns-clause-size g c = omega (arith, c.loop.invariant.erasing.size_is, c.loop-test.false)
