@@ -14,7 +14,7 @@ use Rattle.rga_sequence.proofs.Spots.{seen-append}
 pub seen-add : (es : List Element) (at n : ℕ) → seen (take (at + n) es) ≡ seen (take at es) + seen (take n (drop at es))
 seen-add es at n = ap seen (take-add at n es) ∙ seen-append (take at es) (take n (drop at es))
 
-seen-rest : (es : List Element) (at : ℕ) → seen (take at es) + seen (drop at es) ≡ seen es
+pub seen-rest : (es : List Element) (at : ℕ) → seen (take at es) + seen (drop at es) ≡ seen es
 seen-rest es at = sym (seen-append (take at es) (drop at es)) ∙ ap seen (take-append-drop at es)
 
 -- as many elements stand behind as visible ones are left

@@ -13,6 +13,7 @@ ghost use Rattle.rga_sequence.specs.Blocks.{seen, FindsBy};
 ghost use Rattle.rga_sequence.specs.Few.{few_items};
 ghost use Rattle.rga_sequence.specs.Indexed.{blocks_in, elements_in, IsIndexed, IsIndexed-prop, HasRoom, HasRoom-prop};
 
+use crate::before::count_before;
 use crate::block::{HALF, weight};
 use crate::counted;
 use crate::index::empty;
@@ -200,6 +201,11 @@ impl Sequence for Blocks {
         ensures looks { (e : Element) × FindsBy (⟦<Blocks as Look>⟧.blocks self.old) k e (⟦<Blocks as Look>⟧.looked self.new) }
     {
         self.shown(k).ch
+    }
+
+    fn visible_before(&self, id: Id) -> usize {
+        let (b, at) = spot(&self.row, id).unwrap();
+        count_before(&self.row.blocks, b, at, self.visible)
     }
 
     fn placed(&self) -> usize {

@@ -1,6 +1,7 @@
 //! A sequence in blocks, whose places are found by their blocks.
 #![tactic(auto)]
 
+mod before;
 mod block;
 mod blocks;
 mod bounds;
