@@ -18,6 +18,8 @@ pub mod Leaf
 pub mod Counters
 pub mod Typed
 pub mod Typing
+pub mod Shown
+pub mod Tellings
 pub mod Erasing
 pub mod Rows
 pub mod OnceEach

@@ -8,6 +8,8 @@ pub mod Typing
 pub mod Stretch
 pub mod Merging
 pub mod Told
+pub mod Telling
+pub mod Listening
 pub mod SetOf
 pub mod Refusal
 pub mod DeskSets

@@ -15,11 +15,13 @@ ghost use Rattle.desk_replica.specs.Typing.{typed, insertion, parent_at, IsTyped
 
 mod merging;
 mod stretch;
+mod telling;
 
 use crate::answer::{TakeFault, Taken, TypeFault};
-use crate::placing::{Standing, admit, count_waiting, counter_of, look_up, make_room};
+use crate::listener::Nobody;
+use crate::placing::{count_waiting, make_room};
 use crate::reading::{hidden_at, insertion_of};
-use bg_types::{Id, Memory, Op, OpView, Place};
+use bg_types::{Id, Memory, Op, Place};
 use pending_ops::Held;
 use rga_tree::{Sequence, text_of};
 use std::alloc::Global;
@@ -116,22 +118,7 @@ impl<S: Sequence> Replica<S> {
         ensures spare { size self.old.set + self.old.spare ≤ size self.new.set + self.new.spare }
         ensures unpaid { IfErr result (λ fault. fault ≡ TakeFault.Memory → self.old.spare ≡ 0) }
     {
-        match look_up(&self.seq, &self.held, self.greatest, op) {
-            Standing::Known => return Ok(Taken::Known),
-            Standing::Reused => return Err(TakeFault::IdentifierReused),
-            Standing::New => {}
-        }
-        if self.kept >= LIMIT {
-            return Err(TakeFault::Full);
-        }
-        match admit(&mut self.seq, &mut self.held, &mut self.spare, op) {
-            Ok(taken) => {
-                self.kept += 1;
-                self.greatest = self.greatest.max(counter_of(op));
-                Ok(taken)
-            }
-            Err(Memory) => Err(TakeFault::Memory),
-        }
+        self.take_to(op, &mut Nobody)
     }
 
     /// Types a character at a place: makes the insertion, takes it, and returns it. A fault changes
