@@ -24,4 +24,7 @@ pub mod Following
 pub mod CellsOnce
 pub mod Holding
 pub mod PlacesOnce
+pub mod LastBelow
+pub mod Windows
+pub mod Rising
 pub mod Interface

@@ -19,7 +19,6 @@ pub mod Counters
 pub mod Typed
 pub mod Typing
 pub mod Erasing
-pub mod Counts
 pub mod Rows
 pub mod OnceEach
 pub mod Told
@@ -32,3 +31,5 @@ pub mod Worlds
 pub mod WorldRuns
 pub mod WorldLaws
 pub mod WorldTyped
+pub mod Stretches
+pub mod Ranges

@@ -5,6 +5,7 @@ pub mod Desk
 pub mod Placement
 pub mod Standing
 pub mod Typing
+pub mod Stretch
 pub mod Merging
 pub mod Told
 pub mod SetOf

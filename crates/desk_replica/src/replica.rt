@@ -4,20 +4,21 @@ ghost use Rattle.std.specs.Prelude.{◌≡◌, ◌≤◌, ◌<◌, ◌+◌, ◌�
 ghost use Rattle.bg_types.specs.OperationSet.{no_operations, with_operation, size, next, AllWellFormed};
 ghost use Rattle.bg_types.specs.WellFormed.{IsWellFormed};
 ghost use Rattle.rga_tree.specs.Attached.{IsAttached};
-ghost use Rattle.rga_tree.specs.TextOf.{text, visible, visible_ids};
+ghost use Rattle.rga_tree.specs.TextOf.{text, visible, visible_before, visible_ids};
 ghost use Rattle.pending_ops.specs.Waiting.{ListsOnce};
 ghost use Rattle.desk_replica.specs.Desk.{fresh};
 ghost use Rattle.desk_replica.specs.Reply.{IsTaken, IsRefused, IsRefusal};
 ghost use Rattle.desk_replica.specs.declared.answer.TakeFault.{TakeFault as Fault};
-ghost use Rattle.desk_replica.specs.Told.{told, visible_before};
+ghost use Rattle.desk_replica.specs.Told.{told};
 ghost use Rattle.desk_replica.specs.declared.answer.TypeFault.{TypeFault as Untyped};
 ghost use Rattle.desk_replica.specs.Typing.{typed, insertion, parent_at, IsTypedAt, IsTypeRefusal, IsTypeRefused, IsErasedAt};
 
 mod merging;
+mod stretch;
 
 use crate::answer::{TakeFault, Taken, TypeFault};
 use crate::placing::{Standing, admit, count_waiting, counter_of, look_up, make_room};
-use crate::reading::{count_before, hidden_at, insertion_of};
+use crate::reading::{hidden_at, insertion_of};
 use bg_types::{Id, Memory, Op, OpView, Place};
 use pending_ops::Held;
 use rga_tree::{Sequence, text_of};
@@ -239,8 +240,7 @@ impl<S: Sequence> Replica<S> {
         self.seq.id_at(place)
     }
 
-    /// How many visible characters stand before that of this identifier, or `None` where it is not
-    /// placed. Goes over the elements up to it.
+    /// How many visible characters stand before that of this identifier, or `None` where it is not placed.
     pub fn place_of(&self, id: Id) -> Option<usize>
         ensures placed { IsSome result ↔ IsAttached self.now.set.ins id }
         ensures value { IfSome result (λ place. place ≡ visible_before self.now.set id) }
@@ -248,7 +248,7 @@ impl<S: Sequence> Replica<S> {
         if !self.seq.has(id) {
             return None;
         }
-        Some(count_before(&self.seq, id))
+        Some(self.seq.visible_before(id))
     }
 
     /// How many operations are kept, at most 1,000,000.

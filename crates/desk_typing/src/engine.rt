@@ -4,7 +4,7 @@ ghost use Rattle.std.specs.Prelude.{◌≡◌, ◌<◌, ◌⊎◌, false, map as
 ghost use Rattle.std.specs.Str.{chars};
 ghost use Rattle.bg_types.specs.OperationSet.{no_operations};
 ghost use Rattle.op_codec.specs.Spelling.{SpellsIn};
-ghost use Rattle.desk_files.specs.Readers.{AreWorking, AreTold};
+ghost use Rattle.desk_files.specs.Readers.{AreWorking, AreAsked, AreTold};
 ghost use Rattle.desk_files.specs.declared.run_fault.RunFault.TheVariants.{Memory as run_memory};
 ghost use Rattle.desk_typing.specs.declared.typing_fault.TypingFault.TheVariants.{Run as typing_run};
 ghost use Rattle.desk_typing.specs.Changing.{operations_of, Fits, IsUnfit};
@@ -38,7 +38,8 @@ pub fn typed<R: Source, S: Sink>(
     requires site { 0 < change.now.site }
     requires readers { AreWorking (each R.has_failed files.old) }
     requires working { S.has_failed out.old ≡ false }
-    ensures { IsTypedOutcome version (each R.remaining files.old) (each R.has_failed files.new) change.now text.now
+    ensures asked { AreAsked (each R.remaining files.old) (each R.remaining files.new) }
+    ensures outcome { IsTypedOutcome version (each R.remaining files.old) (each R.remaining files.new) (each R.has_failed files.new) change.now text.now
         (S.written out.old) (S.written out.new) (S.has_failed out.new) result }
 {
     let file = typed_file(alloc, key, files, change, text, version)?;
@@ -59,7 +60,8 @@ fn typed_file<R: Source>(
     requires readers { AreWorking (each R.has_failed files.old) }
     ensures ok { IfOk result (λ file. AreTold (each R.remaining files.old) (each R.has_failed files.new)
         (λ told. IsTypedFile version told change.now text.now file.items)) }
-    ensures fault { IfErr result (IsUntyped (each R.remaining files.old) (each R.has_failed files.new) change.now text.now) }
+    ensures asked { AreAsked (each R.remaining files.old) (each R.remaining files.new) }
+    ensures fault { IfErr result (IsUntyped (each R.remaining files.old) (each R.remaining files.new) (each R.has_failed files.new) change.now text.now) }
 {
     let text = match std::str::from_utf8(text) {
         Ok(text) => text,
@@ -85,7 +87,8 @@ fn file_with<R: Source>(
     requires empty { desk.old.set ≡ no_operations }
     ensures ok { IfOk result (λ file. AreTold (each R.remaining files.old) (each R.has_failed files.new)
         (λ told. IsTypedFile version told change.now text.now file.items)) }
-    ensures fault { IfErr result (IsUntyped (each R.remaining files.old) (each R.has_failed files.new) change.now text.now) }
+    ensures asked { AreAsked (each R.remaining files.old) (each R.remaining files.new) }
+    ensures fault { IfErr result (IsUntyped (each R.remaining files.old) (each R.remaining files.new) (each R.has_failed files.new) change.now text.now) }
 {
     match take_files(alloc, files, desk) {
         Ok(()) => file_at(alloc, desk, change, text, version),

@@ -26,4 +26,6 @@ mod rga_sequence_tests;
 #[cfg(test)]
 mod rows;
 #[cfg(test)]
+mod stretch_tests;
+#[cfg(test)]
 mod world_tests;

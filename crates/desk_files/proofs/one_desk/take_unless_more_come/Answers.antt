@@ -4,8 +4,8 @@ use Rattle.bg_types.specs.declared.op.OpView.{OpView}
 use Rattle.desk_files.specs.Taking.{HasTaken}
 use Rattle.desk_files.proofs.one_desk.take_unless_more_come.Goals as goal
 
-pub returns : goal.returns
-returns c =
+pub returns-clause-taken : goal.returns-clause-taken
+returns-clause-taken c =
     λ ops h. (
       ops,
       sym (ap (λ (l : List OpView). ops ++ l) c.clear.ensures.items ∙ append-nil ops),
