@@ -3,13 +3,14 @@
  *
  * bidigrid_tables    what Unicode says of each character
  * bidigrid_picture   a text laid out in rows of cells: what a chat tool or a terminal shows
+ * bidigrid_desk      one copy of a text that several write
  *
  * Handles. A handle begins as { 0 }, BIDIGRID_NONE, and is passed by its address. `new` fills it, `free` empties it;
  * a handle that is empty may be freed again, and one that is full may be made anew, which frees what it held. Don't
  * copy a handle, and don't touch what `held` points to.
  *
  * Answers. Each call but `free` answers 0, BIDIGRID_OK, or the number of a fault. After a fault each handle holds what
- * it held before.
+ * it held before, where the call doesn't say more.
  *
  * Buffers. A call that writes bytes is given a buffer and its length, and tells in `*size` how many bytes there are.
  * Where the buffer is too short nothing is written, and the answer is BIDIGRID_SHORT_BUFFER; so ask with NULL and 0
@@ -43,22 +44,40 @@ extern "C" {
 /* What the calls answer. */
 enum {
     BIDIGRID_OK = 0,
-    BIDIGRID_MEMORY = 9,           /* malloc or realloc answered NULL */
-    BIDIGRID_EMPTY_HANDLE = 101,   /* a handle holds nothing */
-    BIDIGRID_SHORT_BUFFER = 102,   /* the buffer is too short; *size tells what is wanted */
-    BIDIGRID_NOT_UTF8 = 103,       /* the text's bytes are not UTF-8 */
-    BIDIGRID_TEXT_TOO_LONG = 104,  /* the text has more than BIDIGRID_MOST_BYTES */
-    BIDIGRID_BAD_WIDTH = 105,      /* the width is less than BIDIGRID_LEAST_WIDTH or more than BIDIGRID_MOST_WIDTH */
-    BIDIGRID_BAD_BASE = 106,       /* the base is none of the three */
-    BIDIGRID_BAD_PLACE = 107,      /* the place lies behind the text's end */
-    BIDIGRID_BAD_ROW = 108,        /* there is no such row */
-    BIDIGRID_BAD_ENTRY = 109,      /* the row has no such entry */
-    BIDIGRID_BAD_CARET = 110,      /* the picture has no such row, or the row no such gap */
-    BIDIGRID_BAD_UTF8 = 401,       /* a data file: bytes that are not UTF-8 */
-    BIDIGRID_BAD_CODE = 402,       /* a code that is none */
-    BIDIGRID_BAD_RANGE = 403,      /* a range whose first code is above its last */
-    BIDIGRID_MISSING_FIELD = 404,  /* a field is missing or empty */
-    BIDIGRID_UNKNOWN_VALUE = 405   /* a value that the file may not have */
+    BIDIGRID_MEMORY = 9,               /* malloc or realloc answered NULL */
+    BIDIGRID_EMPTY_HANDLE = 101,       /* a handle holds nothing */
+    BIDIGRID_SHORT_BUFFER = 102,       /* the buffer is too short; *size tells what is wanted */
+    BIDIGRID_NOT_UTF8 = 103,           /* the text's bytes are not UTF-8 */
+    BIDIGRID_TEXT_TOO_LONG = 104,      /* the text has more than BIDIGRID_MOST_BYTES */
+    BIDIGRID_BAD_WIDTH = 105,          /* the width is not BIDIGRID_LEAST_WIDTH to BIDIGRID_MOST_WIDTH */
+    BIDIGRID_BAD_BASE = 106,           /* the base is none of the three */
+    BIDIGRID_BAD_PLACE = 107,          /* the place lies behind the text's end */
+    BIDIGRID_BAD_ROW = 108,            /* there is no such row */
+    BIDIGRID_BAD_ENTRY = 109,          /* the row has no such entry */
+    BIDIGRID_BAD_CARET = 110,          /* the picture has no such row, or the row no such gap */
+    BIDIGRID_BAD_CHARACTER = 111,      /* the character is no Unicode scalar */
+    BIDIGRID_BAD_SITE = 112,           /* the site is 0 */
+    BIDIGRID_BAD_IDENTIFIER = 113,     /* the identifier's counter or site is 0 */
+    BIDIGRID_NOT_PLACED = 114,         /* the desk has no such character yet */
+    BIDIGRID_TOO_MANY = 115,           /* more than BIDIGRID_MOST_OPERATIONS */
+    BIDIGRID_IDENTIFIER_REUSED = 201,  /* an operation: its identifier is kept with another parent or character */
+    BIDIGRID_FULL = 202,               /* BIDIGRID_MOST_OPERATIONS are kept */
+    BIDIGRID_COUNTER_SPENT = 203,      /* the next counter is above 4294967295 */
+    BIDIGRID_BAD_MAGIC = 301,          /* a message: it begins with other bytes than BGOP */
+    BIDIGRID_BAD_VERSION = 302,        /* a version other than 1 and 2 */
+    BIDIGRID_TRUNCATED = 303,          /* a byte is missing */
+    BIDIGRID_UNKNOWN_KIND = 304,       /* a frame of another kind */
+    BIDIGRID_BAD_LENGTH = 305,         /* a length that isn't that of its kind */
+    BIDIGRID_ZERO_FIELD = 306,         /* a counter or a site is 0 */
+    BIDIGRID_PARENT_NOT_BEFORE = 307,  /* the parent's counter isn't below the insertion's */
+    BIDIGRID_NOT_A_SCALAR = 308,       /* a character that is no Unicode scalar */
+    BIDIGRID_COUNTER_OVERFLOW = 310,   /* the last counter of a run is above 4294967295 */
+    BIDIGRID_NOT_JOINED = 311,         /* an insertion that belongs to the run before it */
+    BIDIGRID_BAD_UTF8 = 401,           /* a data file: bytes that are not UTF-8 */
+    BIDIGRID_BAD_CODE = 402,           /* a code that is none */
+    BIDIGRID_BAD_RANGE = 403,          /* a range whose first code is above its last */
+    BIDIGRID_MISSING_FIELD = 404,      /* a field is missing or empty */
+    BIDIGRID_UNKNOWN_VALUE = 405       /* a value that the file may not have */
 };
 
 /* The version: 10000 * major + 100 * minor + patch. */
@@ -163,6 +182,72 @@ uint32_t bidigrid_picture_right(bidigrid_picture *picture, bidigrid_caret *caret
 uint32_t bidigrid_picture_left(bidigrid_picture *picture, bidigrid_caret *caret);
 uint32_t bidigrid_picture_up(bidigrid_picture *picture, bidigrid_caret *caret);
 uint32_t bidigrid_picture_down(bidigrid_picture *picture, bidigrid_caret *caret);
+
+/* ---- Desks ---- */
+
+/* A desk is one copy of a text that several write: a set of operations, each the insertion or the deletion of one
+ * character. Desks that hold the same operations show the same text, in whatever order and however often these came.
+ * A message has operations of a desk for the others; how it travels is up to you. */
+typedef struct bidigrid_desk {
+    struct bidigrid_opaque *held;
+} bidigrid_desk;
+
+/* The most operations that a desk keeps. */
+#define BIDIGRID_MOST_OPERATIONS 1000000
+
+/* A desk without operations. No two desks of a text may have the same site, 1 to 65535. The key, 16 bytes, is that of
+ * its hash tables: where others choose what is taken, draw it at random. */
+uint32_t bidigrid_desk_new(bidigrid_desk *out, uint16_t site, uint64_t key_high, uint64_t key_low);
+void bidigrid_desk_free(bidigrid_desk *desk);
+
+/* How many bytes the message of one character has. */
+#define BIDIGRID_TYPED_SIZE 24
+#define BIDIGRID_ERASED_SIZE 14
+
+/* Types a character, a Unicode scalar, at a place, 0 to the text's length, and writes the message to send. After
+ * BIDIGRID_SHORT_BUFFER nothing was typed. */
+uint32_t bidigrid_desk_type(bidigrid_desk *desk, size_t place, uint32_t character, uint8_t *message, size_t room,
+                            size_t *size);
+
+/* Erases the character at a place, and writes the message to send. */
+uint32_t bidigrid_desk_erase(bidigrid_desk *desk, size_t place, uint8_t *message, size_t room, size_t *size);
+
+/* What became of a message: how many operations it has, and how many of them were taken; or its faulty frame, counted
+ * from 1, or 0 for its header. */
+typedef struct bidigrid_taken {
+    size_t operations;
+    size_t taken;
+    size_t frame;
+} bidigrid_taken;
+
+/* Takes a message, an operation file of any version (docs/FORMATS.md). Its bytes are read whole first: a fault in them,
+ * 301 to 311, changes nothing. Then its operations are taken in order; the first that is refused ends it, and those
+ * before it stand. A message may come again, and before those that it builds on. */
+uint32_t bidigrid_desk_take(bidigrid_desk *desk, const uint8_t *message, size_t message_size, bidigrid_taken *told);
+
+/* Takes all that another desk holds. After BIDIGRID_IDENTIFIER_REUSED nothing has changed; after BIDIGRID_FULL and
+ * BIDIGRID_MEMORY some of it is taken. */
+uint32_t bidigrid_desk_merge(bidigrid_desk *desk, bidigrid_desk *other);
+
+/* Pays in advance for new operations, at most BIDIGRID_MOST_OPERATIONS. While one is spare, typing, erasing and taking
+ * one need no memory but that of the message. */
+uint32_t bidigrid_desk_reserve(bidigrid_desk *desk, size_t operations);
+
+/* The text in UTF-8, and how many characters it has. */
+uint32_t bidigrid_desk_text(bidigrid_desk *desk, uint8_t *out, size_t room, size_t *size);
+uint32_t bidigrid_desk_length(bidigrid_desk *desk, size_t *places);
+
+/* An identifier names one character for good, at every desk: a place changes when something is typed before it, its
+ * identifier doesn't. */
+typedef struct bidigrid_id {
+    uint32_t counter;
+    uint16_t site;
+} bidigrid_id;
+
+uint32_t bidigrid_desk_id_at(bidigrid_desk *desk, size_t place, bidigrid_id *out);
+
+/* The place of a character by its identifier; where it was erased, the place where it stood. */
+uint32_t bidigrid_desk_place_of(bidigrid_desk *desk, const bidigrid_id *id, size_t *place);
 
 #ifdef __cplusplus
 }

@@ -277,6 +277,15 @@ static void tries_names(void)
     CHECK(is_named(BIDIGRID_BAD_WIDTH, "BadWidth") && is_named(BIDIGRID_BAD_BASE, "BadBase"));
     CHECK(is_named(BIDIGRID_BAD_PLACE, "BadPlace") && is_named(BIDIGRID_BAD_ROW, "BadRow"));
     CHECK(is_named(BIDIGRID_BAD_ENTRY, "BadEntry") && is_named(BIDIGRID_BAD_CARET, "BadCaret"));
+    CHECK(is_named(BIDIGRID_BAD_CHARACTER, "BadCharacter") && is_named(BIDIGRID_BAD_SITE, "BadSite"));
+    CHECK(is_named(BIDIGRID_BAD_IDENTIFIER, "BadIdentifier") && is_named(BIDIGRID_NOT_PLACED, "NotPlaced"));
+    CHECK(is_named(BIDIGRID_TOO_MANY, "TooMany") && is_named(BIDIGRID_IDENTIFIER_REUSED, "IdentifierReused"));
+    CHECK(is_named(BIDIGRID_FULL, "Full") && is_named(BIDIGRID_COUNTER_SPENT, "CounterSpent"));
+    CHECK(is_named(BIDIGRID_BAD_MAGIC, "BadMagic") && is_named(BIDIGRID_BAD_VERSION, "BadVersion"));
+    CHECK(is_named(BIDIGRID_TRUNCATED, "Truncated") && is_named(BIDIGRID_UNKNOWN_KIND, "UnknownKind"));
+    CHECK(is_named(BIDIGRID_BAD_LENGTH, "BadLength") && is_named(BIDIGRID_ZERO_FIELD, "ZeroField"));
+    CHECK(is_named(BIDIGRID_PARENT_NOT_BEFORE, "ParentNotBefore") && is_named(BIDIGRID_NOT_A_SCALAR, "NotAScalar"));
+    CHECK(is_named(BIDIGRID_COUNTER_OVERFLOW, "CounterOverflow") && is_named(BIDIGRID_NOT_JOINED, "NotJoined"));
     CHECK(is_named(BIDIGRID_BAD_UTF8, "BadUtf8") && is_named(BIDIGRID_BAD_CODE, "BadCode"));
     CHECK(is_named(BIDIGRID_BAD_RANGE, "BadRange") && is_named(BIDIGRID_MISSING_FIELD, "MissingField"));
     CHECK(is_named(BIDIGRID_UNKNOWN_VALUE, "UnknownValue") && is_named(12345, "Unknown"));

@@ -1,8 +1,10 @@
 //! What the calls answer: 0, or the number of a fault.
 
 ghost use Rattle.std.specs.Prelude.{◌≡◌, ◌<◌};
-ghost use Rattle.bidigrid_c.specs.Faults.{data_number};
+ghost use Rattle.bidigrid_c.specs.Faults.{data_number, message_number, take_number};
 
+use desk_replica::TakeFault;
+use op_codec::CodecFault;
 use ucd_files::UcdFault;
 
 /// It was done.
@@ -29,6 +31,24 @@ pub const BAD_ROW: u32 = 108;
 pub const BAD_ENTRY: u32 = 109;
 /// A caret's row or gap is none of the picture's.
 pub const BAD_CARET: u32 = 110;
+/// A character is above 10FFFF or a surrogate.
+pub const BAD_CHARACTER: u32 = 111;
+/// A site is 0.
+pub const BAD_SITE: u32 = 112;
+/// An identifier's counter or site is 0.
+pub const BAD_IDENTIFIER: u32 = 113;
+/// An identifier stands nowhere in the text's walk.
+pub const NOT_PLACED: u32 = 114;
+/// More than 1,000,000 operations are asked room for.
+pub const TOO_MANY: u32 = 115;
+/// An identifier is kept with another parent or character.
+pub const IDENTIFIER_REUSED: u32 = 201;
+/// 1,000,000 operations are kept.
+pub const FULL: u32 = 202;
+/// The next counter is above 4,294,967,295.
+pub const COUNTER_SPENT: u32 = 203;
+/// The first number of the faults of messages: their cause's is added.
+pub const MESSAGE: u32 = 300;
 /// The first number of the faults of data files: their cause's is added.
 pub const DATA: u32 = 400;
 
@@ -40,6 +60,29 @@ pub(crate) fn data_number(fault: UcdFault) -> u32
     match fault {
         UcdFault::Memory => MEMORY,
         UcdFault::At { cause, .. } => DATA + u32::from(cause.code()),
+    }
+}
+
+/// The number of a message's fault.
+pub(crate) fn message_number(fault: CodecFault) -> u32
+    ensures number { result ≡ message_number fault }
+    ensures some { 0 < result }
+{
+    match fault {
+        CodecFault::Memory => MEMORY,
+        CodecFault::Malformed { cause, .. } => MESSAGE + u32::from(cause.code()),
+    }
+}
+
+/// The number of why a desk took no operation.
+pub(crate) fn take_number(fault: TakeFault) -> u32
+    ensures number { result ≡ take_number fault }
+    ensures some { 0 < result }
+{
+    match fault {
+        TakeFault::IdentifierReused => IDENTIFIER_REUSED,
+        TakeFault::Full => FULL,
+        TakeFault::Memory => MEMORY,
     }
 }
 
@@ -58,6 +101,24 @@ pub(crate) fn name_of(number: u32) -> &'static str {
         BAD_ROW => "BadRow",
         BAD_ENTRY => "BadEntry",
         BAD_CARET => "BadCaret",
+        BAD_CHARACTER => "BadCharacter",
+        BAD_SITE => "BadSite",
+        BAD_IDENTIFIER => "BadIdentifier",
+        NOT_PLACED => "NotPlaced",
+        TOO_MANY => "TooMany",
+        IDENTIFIER_REUSED => "IdentifierReused",
+        FULL => "Full",
+        COUNTER_SPENT => "CounterSpent",
+        301 => "BadMagic",
+        302 => "BadVersion",
+        303 => "Truncated",
+        304 => "UnknownKind",
+        305 => "BadLength",
+        306 => "ZeroField",
+        307 => "ParentNotBefore",
+        308 => "NotAScalar",
+        310 => "CounterOverflow",
+        311 => "NotJoined",
         401 => "BadUtf8",
         402 => "BadCode",
         403 => "BadRange",

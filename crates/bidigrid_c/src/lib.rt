@@ -3,6 +3,8 @@
 
 mod about;
 mod copying;
+mod desk;
+mod desk_handle;
 mod fault;
 mod numbers;
 mod picture;
@@ -11,6 +13,8 @@ mod tables;
 mod tables_handle;
 
 pub use about::{bidigrid_fault_name, bidigrid_version};
-pub use numbers::{CaretNumbers, DataFault, EntryNumbers, RowNumbers};
+pub use desk::Desk;
+pub use desk_handle::DeskHandle;
+pub use numbers::{CaretNumbers, DataFault, EntryNumbers, IdentifierNumbers, RowNumbers, Taken};
 pub use picture_handle::PictureHandle;
 pub use tables_handle::TablesHandle;

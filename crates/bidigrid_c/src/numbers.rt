@@ -41,6 +41,23 @@ pub struct CaretNumbers {
     pub place: usize,
 }
 
+/// An identifier: `bidigrid_id` of the header.
+#[derive(Clone, Copy)]
+#[repr(C)]
+pub struct IdentifierNumbers {
+    pub counter: u32,
+    pub site: u16,
+}
+
+/// What became of a message: `bidigrid_taken` of the header.
+#[derive(Clone, Copy)]
+#[repr(C)]
+pub struct Taken {
+    pub operations: usize,
+    pub taken: usize,
+    pub frame: usize,
+}
+
 /// Where a data file is faulty: `bidigrid_data_fault` of the header.
 #[derive(Clone, Copy)]
 #[repr(C)]
