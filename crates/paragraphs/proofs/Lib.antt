@@ -6,6 +6,10 @@ pub mod Pieces
 pub mod ClusterPlaces
 pub mod Splitting
 pub mod Following
+pub mod Parts
+pub mod Halved
+pub mod Records
+pub mod Local
 pub mod Plain
 pub mod Afresh
 pub mod Gathered

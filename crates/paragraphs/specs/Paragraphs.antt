@@ -1,5 +1,5 @@
 -- UAX #9, P1: the cuts of a text, and its paragraphs between them.
-use Rattle.std.specs.Prelude.{◌≡◌, ℕ, Bool, false, ◌+◌, ◌-◌, ◌==◌, ◌&&◌, not, List, [], ◌∷◌, filter, length, take, drop, slice_index, slice_range, encode_utf8_all}
+use Rattle.std.specs.Prelude.{◌≡◌, ℕ, Bool, true, false, ◌+◌, ◌-◌, ◌==◌, ◌&&◌, not, List, [], ◌∷◌, filter, map, length, take, drop, slice_index, slice_range, encode_utf8_all}
 use Rattle.std.specs.List.{range_with_len}
 use Rattle.std.specs.Str.{IsCharBoundary}
 use Rattle.bg_types.specs.declared.class.Bidi.{Bidi}
@@ -26,6 +26,12 @@ ends_paragraph class c rest = is_separator (class c) && not (c == 0xD && begins_
 abbrev pub is_cut : (ℕ → Bidi) → List ℕ → ℕ → Bool
 is_cut class points n = ends_paragraph class (slice_index points (n - 1)) (drop n points)
 
+-- these code points are none, or the last of them ends a paragraph, directly before `rest`
+abbrev pub meets_at_cut : (ℕ → Bidi) → (points rest : List ℕ) → Bool
+meets_at_cut class [] rest = true
+meets_at_cut class (c ∷ []) rest = ends_paragraph class c rest
+meets_at_cut class (c ∷ d ∷ points) rest = meets_at_cut class (d ∷ points) rest
+
 -- the cuts of a text, among its places from 1 to its end
 abbrev pub cuts : (ℕ → Bidi) → List ℕ → List ℕ
 cuts class points = filter (is_cut class points) (range_with_len 1 (length points))
@@ -46,6 +52,10 @@ pieces points from (cut ∷ later) = paragraph_between points from cut ∷ piece
 -- Paragraphs
 abbrev pub paragraphs : TableValues → List ℕ → List Paragraph
 paragraphs tables text = pieces (code_points text) 0 (cuts (bidi_of tables) (code_points text))
+
+-- the code points of each paragraph of the text with these code points
+abbrev pub paragraph_points : TableValues → List ℕ → List (List ℕ)
+paragraph_points tables points = map (λ p. code_points p.text) (paragraphs tables (encode_utf8_all points))
 
 -- the paragraph is a slice of the text between characters, and stands where it says
 pub record StandsIn (text : List ℕ) (p : Paragraph) : Type 0 where

@@ -5,7 +5,7 @@ ghost use Rattle.std.specs.List.{All, concat};
 ghost use Rattle.unicode_tables.specs.Tables.{bidi_of};
 ghost use Rattle.paragraphs.specs.Text.{code_points};
 ghost use Rattle.paragraphs.specs.Common.{HasNoCommonSeparator, IsPassed};
-ghost use Rattle.paragraphs.specs.Paragraphs.{begins_with_line_feed, ends_paragraph, paragraphs, StandsIn};
+ghost use Rattle.paragraphs.specs.Paragraphs.{begins_with_line_feed, ends_paragraph, meets_at_cut, paragraphs, StandsIn};
 
 use crate::class::is_separator;
 use crate::common::{common_front, may_pass_over};
@@ -34,6 +34,19 @@ fn ends_paragraph(tables: &Tables, c: char, rest: &str) -> bool
     ensures { result ≡ ends_paragraph (bidi_of tables.now) c (code_points rest.now) }
 {
     is_separator(tables.bidi(c)) && !(c == '\r' && begins_with_line_feed(tables, rest))
+}
+
+/// Whether a text, where `rest` follows it, ends at a cut or is empty (P1).
+pub fn meets_at_cut(tables: &Tables, text: &str, rest: &str) -> bool
+    ensures { result ≡ meets_at_cut (bidi_of tables.now) (code_points text.now) (code_points rest.now) }
+{
+    let mut chars = text.chars();
+    let Some(c) = chars.next_back() else {
+        return true;
+    };
+    // What stands before the last character is a text, so that character is one too.
+    let _before = chars.as_str();
+    ends_paragraph(tables, c, rest)
 }
 
 /// The paragraphs of a text, in order (P1). The last one is empty where the text is empty or ends

@@ -12,7 +12,7 @@ mod span;
 mod width;
 
 pub use cluster::Clusters;
-pub use cuts::split;
+pub use cuts::{meets_at_cut, split};
 pub use para::Para;
 pub use points::code_points_of;
 pub use span::Span;

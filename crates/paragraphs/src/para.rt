@@ -25,8 +25,10 @@ impl<'a> Model for Para<'a> {
 }
 
 impl<'a> Para<'a> {
+    /// A paragraph that is kept apart from its text: its own text with its separator, and how many bytes and how many
+    /// code points stand before it.
     #[inline]
-    pub(crate) fn new(text: &'a str, first_byte: usize, first_place: usize) -> Para<'a>
+    pub fn new(text: &'a str, first_byte: usize, first_place: usize) -> Para<'a>
         ensures { result ≡ record { text = text.now; first_byte = first_byte; first_place = first_place } }
     {
         Para {
