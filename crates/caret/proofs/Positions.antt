@@ -1,5 +1,5 @@
 -- Positions and carets, and moves of positions among some of the rows.
-use Rattle.std.proofs.Common.{◌≡◌, ℕ, zero, suc, ◌+◌, ◌-◌, ◌<◌, ◌≤◌, ◌⊎◌, true, false, List, [], ◌∷◌, ◌++◌, length, get_or, Option, Some, None, inl, inr, refl, sym, ap, subst, ◌∙◌, arith}
+use Rattle.std.proofs.Common.{◌≡◌, ℕ, zero, suc, ◌+◌, ◌<◌, ◌≤◌, ◌⊎◌, List, [], ◌∷◌, ◌++◌, length, Option, Some, None, inl, inr, refl, sym, ap, subst, ◌∙◌, arith}
 use Rattle.std.specs.Prelude.{◌==◌, slice_get}
 use Rattle.std.specs.Option.{option_map_or, IsSomeAnd}
 use Rattle.std.proofs.lemmas.Bool.{le-leb, lt-leb}
@@ -12,7 +12,7 @@ use Rattle.caret.specs.declared.position.Position.{Position}
 use Rattle.caret.specs.Gaps.{IsCaretOf}
 use Rattle.caret.specs.Moves.{right_of, left_of, up_of, down_of}
 use Rattle.caret.specs.Places.{holds, ends_at, before_cluster, behind_cluster, gap_zero, entry_where, at_cluster, at_end, caret_in_row, caret_among}
-use Rattle.caret.specs.Positions.{position_of, position_at, caret_of, IsPositionOf, PositionsAreCarets, position_moved, MovesAlike, MovesInWindow}
+use Rattle.caret.specs.Positions.{position_of, position_at, caret_of, IsPositionOf, PositionsAreCarets, MovesAlike, MovesInWindow}
 use Rattle.caret.proofs.RowOrder.{rises-at, begins_by-at}
 use Rattle.caret.proofs.Neighbours.{lower, moved-along, chosen-along, stays, chosen-stays, right-same, left-same, up-same, down-same, right-stays, left-stays, up-stays, down-stays}
 

@@ -1,15 +1,15 @@
 -- A stretch of rows that has a window.
-use Rattle.std.proofs.Common.{◌≡◌, ℕ, zero, suc, ◌+◌, ◌-◌, ◌<◌, ◌≤◌, ◌⊎◌, min, Bool, true, false, List, [], ◌∷◌, ◌++◌, length, get_or, take, drop, slice_range, All, Some, inl, inr, refl, sym, ap, subst, ◌∙◌, arith, length-append}
+use Rattle.std.proofs.Common.{◌≡◌, ℕ, ◌+◌, ◌-◌, ◌<◌, ◌≤◌, ◌⊎◌, min, Bool, true, false, List, [], ◌∷◌, ◌++◌, length, get_or, take, drop, slice_range, All, Some, inl, inr, sym, ap, ◌∙◌, arith, length-append}
 use Rattle.std.specs.Prelude.{nat_le, slice_get}
 use Rattle.std.specs.Option.{option_map_or}
 use Rattle.std.proofs.lemmas.List.{length-drop, take-append-le, drop-append-le, get_or_append_left, get_or-append-add}
 use Rattle.std.proofs.lemmas.List.Elements.{All-nil, All-cons}
-use Rattle.std.proofs.lemmas.Bool.{cases_lt, lt-leb}
+use Rattle.std.proofs.lemmas.Bool.{lt-leb}
 use Rattle.std.proofs.lemmas.Option.{slice_get-get_or}
 use Rattle.std.proofs.Math.Seq.{drop-append-add}
 use Rattle.cell_grid.specs.Rows.{DrawnRow}
 use Rattle.cell_grid.specs.Laws.{RowsFollow}
-use Rattle.cell_grid.specs.Windows.{last_below, begins_by, row_at, DrawnWindow, window_of, HasWindow}
+use Rattle.cell_grid.specs.Windows.{begins_by, row_at, DrawnWindow, window_of, HasWindow}
 use Rattle.cell_grid.proofs.LastBelow.{last_below-past, last_below-behind, last_below-within}
 
 -- an element of a list of three parts, from the second and from the third

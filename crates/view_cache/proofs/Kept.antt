@@ -1,5 +1,5 @@
 -- What is kept stays right.
-use Rattle.std.proofs.Common.{◌≡◌, ◌≤◌, ◌<◌, ◌-◌, ◌^◌, [], ◌∷◌, ℕ, Bool, true, false, not, List, Option, Some, None, Vec, All, Contains, length, map, take, inl, inr, refl, sym, ap, subst, ◌∙◌, rules, arith}
+use Rattle.std.proofs.Common.{◌≡◌, ◌≤◌, ◌-◌, ◌^◌, [], ◌∷◌, ℕ, Bool, true, false, not, List, Some, None, Vec, All, Contains, length, map, take, inl, inr, refl, sym, ap, subst, ◌∙◌, rules, arith}
 use Rattle.std.proofs.lemmas.List.{length-map, length-take}
 use Rattle.std.proofs.lemmas.List.Elements.{All-nil, All-head, All-map, All-contains, All-contains_itself}
 use Rattle.std.specs.Prelude.{is_some, slice_get}

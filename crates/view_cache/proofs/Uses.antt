@@ -1,5 +1,5 @@
 -- Which keys are kept after uses, and how many uses find nothing.
-use Rattle.std.proofs.Common.{◌≡◌, ◌≤◌, ◌<◌, ◌+◌, ◌++◌, ◌∷◌, [], ℕ, zero, suc, Bool, true, false, List, length, take, refl, sym, ap, subst, ◌∙◌, rules, arith, append_assoc, length-append}
+use Rattle.std.proofs.Common.{◌≡◌, ◌≤◌, ◌<◌, ◌+◌, ◌++◌, ◌∷◌, [], ℕ, zero, suc, true, false, List, length, take, refl, sym, ap, subst, ◌∙◌, rules, arith, append_assoc, length-append}
 use Rattle.view_cache.specs.Keys.{ParagraphKey, same_key}
 use Rattle.view_cache.specs.Uses.{is_kept, without, used, all_used, laid_anew}
 use Rattle.bg_types.proofs.Interface.{two_cases}

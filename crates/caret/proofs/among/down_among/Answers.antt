@@ -1,5 +1,5 @@
 -- The goals of `down_among` that are answered by hand.
-use Rattle.std.proofs.Common.{◌∙◌, refl, ◌+◌, ap, sym, length, arith}
+use Rattle.std.proofs.Common.{◌∙◌, refl, ◌+◌, ap, sym, arith}
 use Rattle.caret.specs.declared.caret.Caret.{Caret}
 use Rattle.caret.specs.Moves.{caret_by}
 use Rattle.caret.proofs.CaretAt.{IsCaretOf-in_row}

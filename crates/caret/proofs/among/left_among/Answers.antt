@@ -4,7 +4,6 @@ use Rattle.std.specs.Prelude.{slice_get}
 use Rattle.std.proofs.lemmas.Option.{slice_get-get_or}
 use Rattle.reorder.specs.VisualList.{is_odd}
 use Rattle.cell_grid.specs.declared.entry.Entry.{Entry}
-use Rattle.caret.specs.Moves.{onwards, backwards}
 use Rattle.caret.proofs.Steps.{left_of-inside}
 use Rattle.caret.proofs.CaretRows.{row_read, gap_within, left_of-edge}
 use Rattle.caret.proofs.among.left_among.Goals as goal

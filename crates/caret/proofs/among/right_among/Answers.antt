@@ -1,7 +1,6 @@
 -- The goals of `right_among` that are answered by hand.
 use Rattle.std.proofs.Common.{◌∙◌, refl, ap, sym, true, false, length, arith}
 use Rattle.reorder.specs.VisualList.{is_odd}
-use Rattle.caret.specs.Moves.{onwards}
 use Rattle.caret.proofs.Steps.{right_of-inside}
 use Rattle.caret.proofs.CaretRows.{element_read, row_read, right_of-edge}
 use Rattle.caret.proofs.among.right_among.Goals as goal

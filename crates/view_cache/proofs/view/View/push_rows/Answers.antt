@@ -1,5 +1,5 @@
 -- A use of the paragraph's key, and copies of the rows under it.
-use Rattle.std.proofs.Common.{◌++◌, List, map, inl, inr, sym, ap, subst, ◌∙◌}
+use Rattle.std.proofs.Common.{◌++◌, map, inl, inr, sym, ap, subst, ◌∙◌}
 use Rattle.std.specs.List.{All}
 use Rattle.cell_grid.specs.Rows.{rows_of, shifted}
 use Rattle.cell_grid.specs.Shifting.{MayShiftRow}
