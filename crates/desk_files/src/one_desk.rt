@@ -84,6 +84,7 @@ pub fn take_files<R: Source>(
     requires empty { desk.old.set ≡ no_operations }
     ensures ok { OnOk result (AreTold (each R.remaining files.old) (each R.has_failed files.new) (λ told. IsSetOfFiles told desk.new.set)) }
     ensures limited { OnOk result (size desk.new.set ≤ 1_000_000) }
+    ensures site { desk.new.site ≡ desk.old.site }
     ensures asked { AreAsked (each R.remaining files.old) (each R.remaining files.new) }
     ensures fault { IfErr result (EndsOver (each R.remaining files.old) (each R.remaining files.new) (each R.has_failed files.new) IsTakingCaused) }
 {
@@ -111,6 +112,7 @@ fn take_file<R: Source>(
     ensures taken { (before : List Operation) → HasTaken before desk.old.set refused.old
         → OnOk result ((ops : List Operation) × IsToldFile (R.remaining reader.old) ops × HasTaken (before ++ ops) desk.new.set refused.new) }
     ensures working { OnOk result (R.has_failed reader.new ≡ false) }
+    ensures site { desk.new.site ≡ desk.old.site }
     ensures asked { IsAsked (R.remaining reader.old) (R.remaining reader.new) }
     ensures fault { IfErr result (IsUnreadFile number (R.remaining reader.old) (R.remaining reader.new) (R.has_failed reader.new)) }
 {
@@ -141,6 +143,7 @@ fn take_unless_more_come(
     ensures taken { (ops : List Operation) → HasTakenBut waiting.old.items ops desk.old.set refused.old
         → OnOk result (HasTakenBut waiting.new.items ops desk.new.set refused.new) }
     ensures few { OnOk result (length waiting.new.items < 1_000_000) }
+    ensures site { desk.new.site ≡ desk.old.site }
 {
     if waiting.len() < MOST && came_out_of_order(waiting) {
         return Ok(());
@@ -152,7 +155,8 @@ fn take_unless_more_come(
 
 /// Takes further operations, unless one before them was refused, and keeps the first refusal.
 fn take_more(desk: &mut Desk, refused: &mut Option<TakeFault>, ops: &mut [Op]) -> Result<(), Memory>
-    ensures { (before : List Operation) → HasTaken before desk.old.set refused.old → OnOk result (HasTaken (before ++ ops.old) desk.new.set refused.new) }
+    ensures taken { (before : List Operation) → HasTaken before desk.old.set refused.old → OnOk result (HasTaken (before ++ ops.old) desk.new.set refused.new) }
+    ensures site { desk.new.site ≡ desk.old.site }
 {
     sets::one_more_operation();
     desks::one_set();
@@ -237,6 +241,7 @@ fn named(op: &Op) -> Id {
 fn take_all(desk: &mut Desk, ops: &[Op]) -> Result<(), TakeFault>
     ensures ok { (before : List Operation) → IsSetOf before desk.old.set → OnOk result (IsSetOf (before ++ ops.now) desk.new.set) }
     ensures limited { size desk.old.set ≤ 1_000_000 → OnOk result (size desk.new.set ≤ 1_000_000) }
+    ensures site { desk.new.site ≡ desk.old.site }
     ensures fault { (before : List Operation) → IsSetOf before desk.old.set → size desk.old.set ≤ 1_000_000
         → IfErr result (λ fault. (fault ≡ TakeFault.Memory) ⊎ IsFirstRefusal (before ++ ops.now) fault) }
 {

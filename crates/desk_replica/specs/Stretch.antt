@@ -1,5 +1,5 @@
 -- What a desk makes where a number of characters are typed or erased at once.
-use Rattle.std.specs.Prelude.{◌+◌, ◌<◌, ◌≤◌, ◌^◌, ℕ, List, [], ◌∷◌, take, drop, map as each}
+use Rattle.std.specs.Prelude.{◌+◌, ◌-◌, ◌<◌, ◌≤◌, ◌^◌, ℕ, List, [], ◌∷◌, take, drop, map as each}
 use Rattle.bg_types.specs.Identifier.{Identifier}
 use Rattle.bg_types.specs.OperationSet.{OperationSet, next, size}
 use Rattle.bg_types.specs.declared.op.Place.{Place}
@@ -32,18 +32,18 @@ typed_text s site place chs = insertions (next_id s site) (parent_at (visible_id
 abbrev pub deletions : OperationSet → (place count : ℕ) → List OpView
 deletions s place count = each Erase (take count (drop place (visible_ids s)))
 
--- a desk that keeps S does not type n characters: the counters are spent before the last one, or else more than
--- 1,000,000 operations would be kept. Lack of memory is of no characters
+-- a desk that keeps S does not type n characters: fewer counters are left, or else more than 1,000,000 operations would
+-- be kept. Lack of memory is of no characters
 abbrev pub IsTextRefusal : OperationSet → ℕ → TypeFault → Type 0
-IsTextRefusal s n CounterSpent = 2 ^ 32 < next s + n
-IsTextRefusal s n Full = (next s + n ≤ 2 ^ 32) × (1_000_000 < size s + n)
+IsTextRefusal s n CounterSpent = 2 ^ 32 - next s < n
+IsTextRefusal s n Full = (n ≤ 2 ^ 32 - next s) × (1_000_000 < size s + n)
 IsTextRefusal s n Memory = ⊥
 
 -- the faults: those refusals, and lack of memory
 abbrev pub IsTextRefused : OperationSet → ℕ → TypeFault → Type 0
 IsTextRefused s n CounterSpent = IsTextRefusal s n CounterSpent
 IsTextRefused s n Full = IsTextRefusal s n Full
-IsTextRefused s n Memory = (next s + n ≤ 2 ^ 32) × (size s + n ≤ 1_000_000)
+IsTextRefused s n Memory = (n ≤ 2 ^ 32 - next s) × (size s + n ≤ 1_000_000)
 
 -- why a desk that keeps S does not erase n characters
 abbrev pub IsRangeRefused : OperationSet → ℕ → TypeFault → Type 0

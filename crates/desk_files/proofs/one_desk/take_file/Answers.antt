@@ -59,7 +59,7 @@ returns-then-given-eq0-clause-taken g c =
       ops,
       read_told start now l.stream l.left ops read (g.R.Source.remaining c.get.new.self) (take c.in-Some.given c.get.new.piece) nothing c.in-Some.ensures.given (c.in-Some.ensures.end c.if-given-eq0.true)
           (c.in_ok-finish.ensures.ok read.bytes ops read.stands (end_within start now l.stream l.left ops read)),
-      subst (λ (all : List OpView). HasTaken all c.take_more.new.desk.set c.take_more.new.refused) (ap (λ (w : List OpView). but.0 ++ w) c.deref_mut.ensures.value ∙ sym but.1) (c.in_ok-take_more.ensures but.0 but.2),
+      subst (λ (all : List OpView). HasTaken all c.take_more.new.desk.set c.take_more.new.refused) (ap (λ (w : List OpView). but.0 ++ w) c.deref_mut.ensures.value ∙ sym but.1) (c.in_ok-take_more.ensures.taken but.0 but.2),
     ))
 
 pub loop-given-init : goal.loop-given-init
@@ -68,6 +68,7 @@ loop-given-init g c =
       ops = [];
       read = read_none (g.R.Source.remaining c.args.reader.now) c.new-stream.result c.new-stream.ensures;
       taken = λ before h. (before, ap (λ (l : List OpView). before ++ l) (sym c.new-waiting.ensures.items), h);
+      site = refl;
       working = c.requires;
     }
 
@@ -91,6 +92,7 @@ loop-given-preserved g c =
           (fed.sound read.bytes l.invariant.ops read.stands read.so);
       taken = λ before h. c.in_ok-take_unless_more_come.ensures.taken (before ++ all)
           (subst (λ (ops : List OpView). HasTakenBut more ops l.desk.set l.refused) (append_assoc before l.invariant.ops (added waiting more)) (but-more waiting more (before ++ l.invariant.ops) l.desk.set l.refused fed.grown (l.invariant.taken before h)));
+      site = c.in_ok-take_unless_more_come.ensures.site ∙ c.loop-given.invariant.site;
       working = c.in-Some.ensures.failed;
     }
 

@@ -1,5 +1,5 @@
 -- The goals of `take_files` that are answered by hand.
-use Rattle.std.proofs.Common.{List, [], ◌∷◌, ◌++◌, None, inr, sym, subst, arith}
+use Rattle.std.proofs.Common.{List, [], ◌∷◌, ◌++◌, None, inr, refl, sym, subst, ◌∙◌, arith}
 use Rattle.std.specs.Prelude.{map as each, slice_set}
 use Rattle.std.specs.List.{AllZip}
 use Rattle.bg_types.specs.declared.op.OpView.{OpView}
@@ -16,7 +16,7 @@ use Rattle.desk_files.proofs.Readings.{none_read, asked_works, next_asked, next_
 use Rattle.desk_files.proofs.one_desk.take_files.Goals as goal
 
 pub loop-place-init : goal.loop-place-init
-loop-place-init g c = record { lists = []; read = none_read g.R.Source.remaining g.R.Source.has_failed c.args.files.now c.requires.working; taken = subst (λ s. HasTaken [] s None) (sym c.requires.empty) (nothing-taken c.nothing_held.ensures) }
+loop-place-init g c = record { lists = []; read = none_read g.R.Source.remaining g.R.Source.has_failed c.args.files.now c.requires.working; taken = subst (λ s. HasTaken [] s None) (sym c.requires.empty) (nothing-taken c.nothing_held.ensures); site = refl }
 
 pub take_file-requires : goal.take_file-requires
 take_file-requires g c =
@@ -45,6 +45,7 @@ loop-place-preserved g c =
       lists = lists ++ more.0 ∷ [];
       read = next_read g.R.Source.remaining g.R.Source.has_failed c.args.files.now l.files l.place lists l.invariant.read c.loop-place-test.true c.index-files-place.result c.take_file.new.reader c.index-files-place.is more.0 more.1
           c.take_file.ensures.asked c.in_ok-take_file.ensures.working;
+      site = c.in_ok-take_file.ensures.site ∙ l.invariant.site;
       taken = subst (λ (ops : List OpView). HasTaken ops c.take_file.new.desk.set c.take_file.new.refused) (sym (joined-push lists more.0)) more.2;
     }
 
