@@ -27,4 +27,5 @@ pub mod PlacesOnce
 pub mod LastBelow
 pub mod Windows
 pub mod Rising
+pub mod Moving
 pub mod Interface

@@ -1,6 +1,6 @@
 //! Laws of the definitions: each function's contract is the law, and its body does nothing.
 
-ghost use Rattle.std.specs.Prelude.{◌≡◌, ℕ, ◌+◌, ◌<◌, ◌≤◌, List, ◌++◌, length, sum_by, IsPermutation};
+ghost use Rattle.std.specs.Prelude.{◌≡◌, ℕ, ◌+◌, ◌<◌, ◌≤◌, List, ◌++◌, length, map, sum_by, IsPermutation};
 ghost use Rattle.std.specs.List.{All, flat_map};
 ghost use Rattle.std.specs.Str.{IsUtf8};
 ghost use Rattle.bg_types.specs.declared.class.Base.{Base};
@@ -8,8 +8,8 @@ ghost use Rattle.unicode_tables.specs.Tables.{TableValues};
 ghost use Rattle.paragraphs.specs.Text.{code_points};
 ghost use Rattle.paragraphs.specs.Paragraphs.{Paragraph, ParagraphsFollow};
 ghost use Rattle.cell_grid.specs.Grids.{DrawnGrid, IsDrawn, paragraph_rows};
-ghost use Rattle.cell_grid.specs.Rows.{DrawnRow, rows_of};
-ghost use Rattle.cell_grid.specs.Shifting.{MayShiftRow};
+ghost use Rattle.cell_grid.specs.Rows.{DrawnRow, rows_of, shifted};
+ghost use Rattle.cell_grid.specs.Shifting.{MayShiftRow, shifted_paragraph};
 ghost use Rattle.cell_grid.specs.Laws.{text_spans, entry_spans, RowsFollow, HoldsPlacesOnce, StandsAtItsEdge, CoversCellsOnce};
 ghost use Rattle.cell_grid.specs.Windows.{FirstPlacesRise, window_of, HasWindow};
 
@@ -87,3 +87,10 @@ pub fn rows_of_paragraphs()
 {
     laws_below();
 }
+
+/// The rows of paragraphs that stand later in a text are theirs, moved as far.
+pub fn rows_move_with_paragraphs()
+    ensures { (tables : TableValues) (width : ℕ) (base : Base) (bytes places : ℕ) (paras : List Paragraph)
+        → flat_map (paragraph_rows tables width base) (map (shifted_paragraph bytes places) paras)
+        ≡ map (shifted bytes places) (flat_map (paragraph_rows tables width base) paras) }
+{}

@@ -434,4 +434,5 @@ fn the_laws_are_called() {
     laws::first_places_rise();
     laws::windows_in_stretches();
     laws::rows_of_paragraphs();
+    laws::rows_move_with_paragraphs();
 }

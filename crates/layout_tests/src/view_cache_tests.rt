@@ -359,4 +359,5 @@ fn views_with_a_key_and_the_laws(rt: HostRuntime) {
     laws::edits_cost_what_they_put_in();
     laws::keys_compared();
     laws::kept_while_there_is_room();
+    laws::uses_cost_what_was_not_used();
 }
