@@ -6,7 +6,8 @@ CC ?= cc
 VERSION = 0.1.0
 
 LIB = build/lib
-SOURCES = crates.txt $(wildcard crates/*/src/*.rt crates/*/src/*/*.rt)
+SOURCES = crates.txt $(shell find crates -name out -prune -o -type f \( -name '*.rt' -o -name '*.antt' \) -print)
+PKG_CONFIG_FILE = sed -e 's|@PREFIX@|$(PREFIX)|; s|@VERSION@|$(VERSION)|' c/bidigrid.pc.in
 
 .PHONY: help lib check-c install deps clean
 
@@ -33,7 +34,7 @@ $(LIB)/libbidigrid.so: $(LIB)/libbidigrid.so.0
 
 $(LIB)/bidigrid.pc: c/bidigrid.pc.in Makefile
 	mkdir -p $(LIB)
-	sed -e 's|@PREFIX@|$(PREFIX)|; s|@VERSION@|$(VERSION)|' $< >$@
+	$(PKG_CONFIG_FILE) >$@
 
 check-c: lib
 	c/check
@@ -44,11 +45,12 @@ install: lib
 	install -m 644 $(LIB)/libbidigrid.a $(DESTDIR)$(PREFIX)/lib
 	install -m 755 $(LIB)/libbidigrid.so.0 $(DESTDIR)$(PREFIX)/lib
 	ln -sf libbidigrid.so.0 $(DESTDIR)$(PREFIX)/lib/libbidigrid.so
-	sed -e 's|@PREFIX@|$(PREFIX)|; s|@VERSION@|$(VERSION)|' c/bidigrid.pc.in \
-	    >$(DESTDIR)$(PREFIX)/lib/pkgconfig/bidigrid.pc
+	$(PKG_CONFIG_FILE) >$(DESTDIR)$(PREFIX)/lib/pkgconfig/bidigrid.pc
 
+# As Debian 12 names them.
 deps:
-	apt-get install -y --no-install-recommends binutils clang g++ gcc libc6-dev make pkg-config python3 valgrind
+	apt-get install -y --no-install-recommends binutils clang g++ gcc libc6-dev libclang-rt-14-dev make pkg-config \
+	    python3 valgrind
 
 clean:
 	rm -rf build

@@ -5,7 +5,7 @@ use Rattle.bg_types.specs.Identifier.{Identifier}
 use Rattle.bg_types.specs.OperationSet.{OperationSet, with_operation, union, size}
 use Rattle.bg_types.specs.declared.op.OpView.{OpView}
 use Rattle.rga_tree.specs.Attached.{IsAttached}
-use Rattle.rga_tree.specs.TextOf.{visible, visible_ids}
+use Rattle.rga_tree.specs.TextOf.{visible, visible_ids, visible_before}
 use Rattle.op_codec.specs.declared.fault.CodecFault.{CodecFault}
 use Rattle.op_codec.specs.Code.{frame_number}
 use Rattle.op_codec.specs.Fault.{TellsFault}
@@ -13,7 +13,6 @@ use Rattle.op_codec.specs.Spelling.{Spells, spelling}
 use Rattle.desk_replica.specs.Desk.{Desk}
 use Rattle.desk_replica.specs.Typing.{typed, insertion, IsTypedAt, IsErasedAt, IsTypeRefusal}
 use Rattle.desk_replica.specs.Merging.{with_operations, IsMergeRefused}
-use Rattle.desk_replica.specs.Told.{visible_before}
 use Rattle.desk_replica.specs.Reply.{IsRefused}
 use Rattle.desk_replica.specs.declared.answer.TakeFault.{TakeFault}
 use Rattle.desk_replica.specs.declared.answer.TypeFault.TheVariants.{CounterSpent, Full}

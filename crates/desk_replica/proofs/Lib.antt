@@ -35,3 +35,4 @@ pub mod WorldLaws
 pub mod WorldTyped
 pub mod Stretches
 pub mod Ranges
+pub mod Listing
