@@ -1,8 +1,8 @@
 -- Positions and carets, and moves of positions among some of the rows.
-use Rattle.std.proofs.Common.{◌≡◌, ℕ, zero, suc, ◌+◌, ◌<◌, ◌≤◌, ◌⊎◌, List, [], ◌∷◌, ◌++◌, length, Option, Some, None, inl, inr, refl, sym, ap, subst, ◌∙◌, arith}
+use Rattle.std.proofs.Common.{◌≡◌, ℕ, zero, suc, ◌+◌, ◌<◌, ◌≤◌, ◌⊎◌, List, [], ◌∷◌, ◌++◌, length, get_or, Option, Some, None, inl, inr, refl, sym, ap, subst, ◌∙◌, arith, true}
 use Rattle.std.specs.Prelude.{◌==◌, slice_get}
 use Rattle.std.specs.Option.{option_map_or, IsSomeAnd}
-use Rattle.std.proofs.lemmas.Bool.{le-leb, lt-leb}
+use Rattle.std.proofs.lemmas.Bool.{le-leb, lt-leb, cases_lt}
 use Rattle.std.proofs.lemmas.Option.{slice_get_within, get_or_from_slice_get}
 use Rattle.cell_grid.specs.Rows.{DrawnRow}
 use Rattle.cell_grid.specs.Windows.{begins_by, row_at, FirstPlacesRise, HasWindow}
@@ -48,7 +48,7 @@ none_within [] k at within = absurd (omega arith)
 none_within (x ∷ xs) zero at within = cc
 none_within (x ∷ xs) (suc k) at within = none_within xs k at (omega arith)
 
-abbrev first_or_0 : Option DrawnRow → ℕ
+abbrev pub first_or_0 : Option DrawnRow → ℕ
 first_or_0 o = option_map_or (λ (r : DrawnRow). r.first_place) o 0
 
 pub positions-carets : (rows : List DrawnRow) → FirstPlacesRise rows → PositionsAreCarets rows
@@ -65,6 +65,19 @@ positions-carets rows rises = record {
   to_caret = λ position stands. subst (λ o. IsSomeAnd o (λ (r : DrawnRow). position.gap ≤ length r.entries)) (sym stands.is) stands.gap;
   forth = λ position stands. ap (λ n. let p : Position = record { row = n; gap = position.gap; place = position.place } in p) (ap first_or_0 stands.is ∙ stands.first);
 }
+
+-- rows that rise begin by the place of a position of theirs
+pub begun-position : (rows : List DrawnRow) (position : Position) → FirstPlacesRise rows → IsPositionOf rows position → begins_by rows position.row 0 ≡ true
+begun-position rows position rises stands =
+    let k = row_at rows position.row in
+    let within = slice_get_within rows k stands.row stands.is in
+    let read = ap (λ (r : DrawnRow). r.first_place) (get_or_from_slice_get rows k stands.row stands.row stands.is) in
+    let first = stands.first in
+    begins_by-at rows position.row 0 stands.row (omega arith)
+    ∙ le-leb _ _ (elim (cases_lt 0 k) [
+      | inl later ↦ let less = rises-at rows 0 k stands.row rises later within in omega arith
+      | inr same ↦ let e : 0 ≡ k = omega arith in let f = ap (λ n. (get_or rows n stands.row).first_place) e in omega arith
+    ])
 
 -- ---- among some of the rows
 
