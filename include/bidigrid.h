@@ -237,6 +237,9 @@ uint32_t bidigrid_desk_reserve(bidigrid_desk *desk, size_t operations);
 uint32_t bidigrid_desk_text(bidigrid_desk *desk, uint8_t *out, size_t room, size_t *size);
 uint32_t bidigrid_desk_length(bidigrid_desk *desk, size_t *places);
 
+/* All that the desk holds, as a message: to save it, or for a desk that is new. */
+uint32_t bidigrid_desk_file(bidigrid_desk *desk, uint8_t *out, size_t room, size_t *size);
+
 /* An identifier names one character for good, at every desk: a place changes when something is typed before it, its
  * identifier doesn't. */
 typedef struct bidigrid_id {

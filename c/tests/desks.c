@@ -153,6 +153,32 @@ static void tries_identifiers(void)
     bidigrid_desk_free(&desk);
 }
 
+/* What a desk holds as one message: another desk that takes it is the same, with what waits and what was erased. */
+static void tries_saving(void)
+{
+    bidigrid_desk desk = made(4), newcomer = made(5), none = BIDIGRID_NONE;
+    uint8_t out[128], again[128];
+    size_t size, same;
+    bidigrid_taken told;
+    CHECK(bidigrid_desk_file(&desk, out, sizeof out, &size) == BIDIGRID_OK && is_text(out, size, "BGOP\x02"));
+    for (uint32_t i = 0; i < 5; i++)
+        CHECK(bidigrid_desk_type(&desk, i, 'a' + i, out, sizeof out, &size) == BIDIGRID_OK);
+    CHECK(bidigrid_desk_erase(&desk, 1, out, sizeof out, &size) == BIDIGRID_OK);
+    CHECK(TAKEN(&desk, HEADER B_AFTER_A, BIDIGRID_OK, 1, 1, 0) && has_text(&desk, "acde"));
+    CHECK(bidigrid_desk_file(&desk, NULL, 0, &size) == BIDIGRID_SHORT_BUFFER);
+    /* A run of five, a deletion, and the insertion that waits. */
+    CHECK(size == 5 + (19 + 4 * 4) + 9 + 19);
+    CHECK(bidigrid_desk_file(&desk, out, size, &size) == BIDIGRID_OK);
+    CHECK(bidigrid_desk_take(&newcomer, out, size, &told) == BIDIGRID_OK && told.operations == 7 && told.taken == 7);
+    CHECK(has_text(&newcomer, "acde"));
+    CHECK(bidigrid_desk_file(&newcomer, again, sizeof again, &same) == BIDIGRID_OK);
+    CHECK(same == size && !memcmp(out, again, size));
+    CHECK(TAKEN(&newcomer, HEADER A_AT_1, BIDIGRID_OK, 1, 1, 0) && has_text(&newcomer, "acdeab"));
+    CHECK(bidigrid_desk_file(&none, out, sizeof out, &size) == BIDIGRID_EMPTY_HANDLE);
+    bidigrid_desk_free(&desk);
+    bidigrid_desk_free(&newcomer);
+}
+
 static void tries_room(void)
 {
     bidigrid_desk desk = made(1);
@@ -203,6 +229,7 @@ int main(void)
     tries_messages();
     tries_merging();
     tries_identifiers();
+    tries_saving();
     tries_room();
     tries_the_last_counter();
     tries_empty_handles();

@@ -110,6 +110,20 @@ int main(int count, char **words)
         CHECK(same.size == text.size && !memcmp(same.at, text.at, text.size));
         free(same.at);
     }
+    /* What one desk holds, saved and taken by a new one. */
+    bidigrid_desk newcomer = BIDIGRID_NONE;
+    bytes saved = {NULL, 0};
+    bidigrid_taken told;
+    CHECK(bidigrid_desk_new(&newcomer, DESKS + 1, state, 7) == BIDIGRID_OK);
+    CHECK(bidigrid_desk_file(&desks[0], NULL, 0, &saved.size) == BIDIGRID_SHORT_BUFFER);
+    saved.at = malloc(saved.size);
+    CHECK(saved.at && bidigrid_desk_file(&desks[0], saved.at, saved.size, &saved.size) == BIDIGRID_OK);
+    CHECK(bidigrid_desk_take(&newcomer, saved.at, saved.size, &told) == BIDIGRID_OK && told.taken == told.operations);
+    bytes newcomers = text_of(&newcomer);
+    CHECK(newcomers.size == text.size && !memcmp(newcomers.at, text.at, text.size));
+    free(newcomers.at);
+    free(saved.at);
+    bidigrid_desk_free(&newcomer);
     write_file(words[3], utf8("BGOP\x01"), 5, false, text);
     write_file(words[4], NULL, 0, true, text);
     printf("seed %s: %zu edits at %d desks, one text of %zu bytes\n", words[1], edits, DESKS, text.size);

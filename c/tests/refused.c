@@ -77,6 +77,11 @@ static uint32_t reads(void)
     return bidigrid_desk_text(&desk, out, sizeof out, &size);
 }
 
+static uint32_t saves(void)
+{
+    return bidigrid_desk_file(&desk, out, sizeof out, &size);
+}
+
 /* How many characters a desk has; none where there is no desk. */
 static size_t length_of(bidigrid_desk *it)
 {
@@ -154,6 +159,7 @@ int main(void)
     CHECK(tried("bidigrid_desk_erase", a_letter, erases) > 0 && length_of(&desk) == 0);
     CHECK(tried("bidigrid_desk_reserve", a_fresh_desk, reserves) > 0);
     CHECK(tried("bidigrid_desk_text", a_letter, reads) > 0);
+    CHECK(tried("bidigrid_desk_file", a_letter, saves) > 0);
     CHECK(tried("bidigrid_desk_merge", a_letter_for_another, merges) > 0 && length_of(&other) == 1);
     bidigrid_desk_free(&desk);
     bidigrid_desk_free(&other);

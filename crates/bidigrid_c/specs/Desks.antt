@@ -9,11 +9,14 @@ use Rattle.rga_tree.specs.TextOf.{visible, visible_ids, visible_before}
 use Rattle.op_codec.specs.declared.fault.CodecFault.{CodecFault}
 use Rattle.op_codec.specs.Code.{frame_number}
 use Rattle.op_codec.specs.Fault.{TellsFault}
-use Rattle.op_codec.specs.Spelling.{Spells, spelling}
+use Rattle.op_codec.specs.declared.position.Version.TheVariants.{Two}
+use Rattle.op_codec.specs.Spelling.{Spells, SpellsIn, spelling}
+use Rattle.pending_ops.specs.Waiting.{ListsOnce}
 use Rattle.desk_replica.specs.Desk.{Desk}
 use Rattle.desk_replica.specs.Typing.{typed, insertion, IsTypedAt, IsErasedAt, IsTypeRefusal}
 use Rattle.desk_replica.specs.Merging.{with_operations, IsMergeRefused}
 use Rattle.desk_replica.specs.Reply.{IsRefused}
+use Rattle.desk_replica.specs.Told.{told as listed}
 use Rattle.desk_replica.specs.declared.answer.TakeFault.{TakeFault}
 use Rattle.desk_replica.specs.declared.answer.TypeFault.TheVariants.{CounterSpent, Full}
 use Rattle.bidigrid_c.specs.Copying.{IsCopied}
@@ -88,3 +91,9 @@ IsPlaceTold s id before after answer =
     ((answer ≡ 0) × IsAttached s.ins it × (after ≡ visible_before s it))
     ⊎ (((answer ≡ 114) × (¬ (IsAttached s.ins it)) × (after ≡ before))
     ⊎ ((answer ≡ 113) × (¬ ((0 < id.counter) × (0 < id.site))) × (after ≡ before)))
+
+-- the file written, in version 2, spells a list that has each operation of the desk once; or there was no memory to make it
+abbrev pub IsSaved : Desk → (before after : List ℕ) → (told answer : ℕ) → Type 0
+IsSaved desk before after told answer =
+    (ListsOnce desk.set (listed desk) × ((file : List ℕ) × SpellsIn Two file (listed desk) × IsCopied file before after told answer))
+    ⊎ ((answer ≡ 9) × (after ≡ before))

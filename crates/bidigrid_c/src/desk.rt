@@ -7,7 +7,7 @@ ghost use Rattle.rga_tree.specs.TextOf.{text, visible, visible_ids};
 ghost use Rattle.op_codec.specs.Spelling.{spelling};
 ghost use Rattle.desk_replica.specs.Desk.{fresh};
 ghost use Rattle.bidigrid_c.specs.Copying.{IsWritten};
-ghost use Rattle.bidigrid_c.specs.Desks.{IsTyped, IsErased, IsRefusedTyping, IsRefusedErasing, IsTakenUpTo, IsMessageTaken, IsMergedWith, IsIdentifierTold, IsPlaceTold};
+ghost use Rattle.bidigrid_c.specs.Desks.{IsTyped, IsErased, IsRefusedTyping, IsRefusedErasing, IsTakenUpTo, IsMessageTaken, IsMergedWith, IsIdentifierTold, IsPlaceTold, IsSaved};
 
 use crate::copying::copy_out;
 use crate::desk_handle::DeskHandle;
@@ -18,7 +18,7 @@ use crate::fault::{
 use crate::numbers::{IdentifierNumbers, Taken};
 use bg_types::{Id, Memory, Op};
 use desk_replica::{Replica, TypeFault};
-use op_codec::{decode_file, encode_file, encode_op};
+use op_codec::{decode_file, encode_file, encode_file_v2, encode_op};
 use rga_sequence::Blocks;
 use std::alloc::Global;
 
@@ -456,4 +456,36 @@ fn reserve_in(desk: &mut Desk, operations: usize) -> u32
         Ok(()) => OK,
         Err(Memory) => MEMORY,
     }
+}
+
+/// Writes all that a desk holds, as a message.
+#[unsafe(no_mangle)]
+pub extern "C" fn bidigrid_desk_file(
+    alloc: Global,
+    desk: &mut DeskHandle,
+    out: &mut [u8],
+    size: &mut usize,
+) -> u32
+    ensures told { IfSome desk.old.held (λ d. IsSaved d out.old out.new size.new result) }
+    ensures same { desk.new.held ≡ desk.old.held }
+    ensures empty { desk.old.held ≡ None → result ≡ 101 }
+{
+    let Some(held) = desk.take(alloc) else {
+        return EMPTY_HANDLE;
+    };
+    let answer = tell_file(alloc, &held, out, size);
+    desk.put(alloc, held);
+    answer
+}
+
+fn tell_file(alloc: Global, desk: &Desk, out: &mut [u8], size: &mut usize) -> u32
+    ensures { IsSaved desk.now out.old out.new size.new result }
+{
+    let Ok(ops) = desk.ops() else {
+        return MEMORY;
+    };
+    let Ok(file) = encode_file_v2(alloc, &ops) else {
+        return MEMORY;
+    };
+    copy_out(&file, out, size)
 }
