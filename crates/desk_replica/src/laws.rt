@@ -81,7 +81,7 @@ pub fn stretches()
     ensures typed { (s : OperationSet) (site place ch : ℕ) (chs : List ℕ) → AllWellFormed s → place ≤ length (visible s)
         → All IsWellFormed (typed_text s site place (ch ∷ chs))
         → typed_text s site place (ch ∷ chs) ≡ insertion (typed s site place ch)
-            ∷ typed_text (with_operation s (insertion (typed s site place ch))) site (place + 1) chs }
+        ∷ typed_text (with_operation s (insertion (typed s site place ch))) site (place + 1) chs }
     ensures erased { (s : OperationSet) (place count : ℕ) (target : Identifier) → AllWellFormed s
         → slice_get (visible_ids s) place ≡ Some target
         → deletions s place (count + 1) ≡ Erase target ∷ deletions (with_operation s (Erase target)) place count }
