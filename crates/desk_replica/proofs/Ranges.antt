@@ -1,7 +1,7 @@
 -- Visible characters from a place on are erased, one after the other.
 use Rattle.std.proofs.Common.{◌≡◌, ◌≤◌, ◌<◌, ◌+◌, ℕ, zero, suc, List, [], ◌∷◌, ◌++◌, length, take, drop, Some, None, refl, sym, ap, ◌∙◌, append_assoc, arith}
 use Rattle.std.specs.Prelude.{slice_get, remove, map as each}
-use Rattle.std.proofs.lemmas.List.{append-nil, take-append-drop, map-append, take-map, drop-map}
+use Rattle.std.proofs.lemmas.List.{take-append-drop, map-append, take-map, drop-map}
 use Rattle.bg_types.specs.Identifier.{Identifier}
 use Rattle.bg_types.specs.OperationSet.{OperationSet, AllWellFormed, next, size, with_operation}
 use Rattle.bg_types.specs.declared.op.OpView.{OpView}
@@ -107,12 +107,6 @@ module _ (d e f : Desk) (k : ℕ) (made told more : List OpView) (all left : ℕ
       }
 
 module _ (d e : Desk) (k : ℕ) (made told : List OpView) (all : ℕ) (now : IsErasing d e k made told all 0) where
-  pub all_erased_told : told ≡ made ++ deletions d.set k all
-  all_erased_told = sym (append-nil told) ∙ now.told_is
-
-  pub all_erased_set : e.set ≡ with_operations d.set (deletions d.set k all)
-  all_erased_set = now.set_is
-
   pub all_erased_visible : visible e.set ≡ take k (visible d.set) ++ drop (k + all) (visible d.set)
   all_erased_visible = let same : k + 0 ≡ k = omega arith in sym (ap (λ m. take k (visible e.set) ++ drop m (visible e.set)) same ∙ take-append-drop k (visible e.set)) ∙ now.visible_is
 

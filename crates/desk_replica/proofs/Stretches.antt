@@ -1,10 +1,9 @@
 -- Characters are typed, each behind the one before.
-use Rattle.std.proofs.Common.{◌≡◌, ◌≤◌, ◌<◌, ◌+◌, ◌^◌, ◌⊎◌, inl, inr, ℕ, zero, suc, List, [], ◌∷◌, ◌++◌, length, take, drop, Some, None, refl, sym, ap, subst, ◌∙◌, append_assoc, arith, length-append}
-use Rattle.std.specs.Prelude.{All, slice_get, insert, remove, map as each}
+use Rattle.std.proofs.Common.{◌≡◌, ◌≤◌, ◌<◌, ◌+◌, ◌^◌, ◌⊎◌, inl, inr, ℕ, zero, suc, List, [], ◌∷◌, ◌++◌, length, take, drop, Some, refl, sym, ap, subst, ◌∙◌, append_assoc, arith}
+use Rattle.std.specs.Prelude.{All, slice_get, insert, encode_utf8, map as each}
 use Rattle.std.specs.Option.{option_map_or}
 use Rattle.std.specs.List.{AllByRecursion}
 use Rattle.std.specs.Str.{chars, IsUtf8}
-use Rattle.std.specs.Prelude.{encode_utf8}
 use Rattle.std.proofs.lemmas.Str.{chars_past_char, chars-nil, IsUtf8-past_char}
 use Rattle.std.proofs.lemmas.List.{append-nil, take-append-drop}
 use Rattle.std.proofs.lemmas.List.Elements.{All-nil, All-cons, All-head}
@@ -14,7 +13,7 @@ use Rattle.bg_types.specs.OperationSet.{OperationSet, Holds, MayJoin, AllWellFor
 use Rattle.bg_types.specs.declared.op.Place.{Place}
 use Rattle.bg_types.specs.declared.op.Place.TheVariants.{Root, After}
 use Rattle.bg_types.specs.declared.op.OpView.{OpView}
-use Rattle.bg_types.specs.declared.op.OpView.TheVariants.{Insert, Erase}
+use Rattle.bg_types.specs.declared.op.OpView.TheVariants.{Insert}
 use Rattle.bg_types.proofs.Interface.{next-above, next-least, Holds-with_operation, size-with_operation}
 use Rattle.rga_tree.specs.TextOf.{text, visible, visible_ids}
 use Rattle.rga_tree.proofs.Interface.{Entry, AllWellFormed-with}
@@ -23,12 +22,12 @@ use Rattle.desk_replica.specs.declared.answer.TakeFault.{TakeFault}
 use Rattle.desk_replica.specs.declared.answer.TakeFault.TheVariants.{IdentifierReused, Full, Memory}
 use Rattle.desk_replica.specs.Reply.{IsRefused}
 use Rattle.desk_replica.specs.Typing.{parent_at}
-use Rattle.desk_replica.specs.Stretch.{next_id, id_after, insertions, typed_text, deletions}
+use Rattle.desk_replica.specs.Stretch.{next_id, insertions, typed_text}
 use Rattle.desk_replica.specs.Merging.{with_operations}
 use Rattle.desk_replica.proofs.Leaf.{length-put}
-use Rattle.desk_replica.proofs.Lists.{length-each, slice_get-within}
-use Rattle.desk_replica.proofs.Typed.{each-insert, each-remove}
-use Rattle.desk_replica.proofs.Typing.{new_ins, visible_erased, erasure_new}
+use Rattle.desk_replica.proofs.Lists.{length-each}
+use Rattle.desk_replica.proofs.Typed.{each-insert}
+use Rattle.desk_replica.proofs.Typing.{new_ins}
 use Rattle.desk_replica.proofs.Whole.{some_not}
 use Rattle.desk_replica.proofs.WorldTyped.{visible_typed}
 

@@ -1,5 +1,5 @@
 -- The identifiers of what is typed: counters in a row, from the next one on, each at the site of the change.
-use Rattle.std.proofs.Common.{◌≡◌, ◌<◌, ◌+◌, ℕ, zero, suc, List, [], ◌∷◌, ◌++◌, length, take, drop, None, Some, inl, inr, sym, ap, ◌∙◌, arith}
+use Rattle.std.proofs.Common.{◌≡◌, ◌<◌, ◌+◌, ℕ, zero, suc, List, [], ◌∷◌, ◌++◌, length, take, drop, None, Some, inl, inr, sym, ap, arith}
 use Rattle.std.specs.Prelude.{All, Contains, slice_get, map as each}
 use Rattle.std.proofs.lemmas.List.Elements.{All-head}
 use Rattle.bg_types.specs.Identifier.{Identifier}

@@ -53,12 +53,7 @@ pub fn operations(
 }
 
 /// Erases the visible characters from a place to an end, and adds the deletions.
-fn erase(
-    desk: &mut Desk,
-    place: usize,
-    end: usize,
-    ops: &mut Vec<Op>,
-) -> Result<(), TypingFault>
+fn erase(desk: &mut Desk, place: usize, end: usize, ops: &mut Vec<Op>) -> Result<(), TypingFault>
     requires order { place ≤ end }
     requires within { end ≤ length (visible desk.old.set) }
     requires room { size desk.old.set + (end - place) ≤ 1_000_000 }
@@ -77,12 +72,7 @@ fn erase(
 }
 
 /// Types characters at a place, and adds the insertions.
-fn insert(
-    desk: &mut Desk,
-    place: usize,
-    text: &str,
-    ops: &mut Vec<Op>,
-) -> Result<(), TypingFault>
+fn insert(desk: &mut Desk, place: usize, text: &str, ops: &mut Vec<Op>) -> Result<(), TypingFault>
     requires place { place ≤ length (visible desk.old.set) }
     requires room { size desk.old.set + length (chars text.now) ≤ 1_000_000 }
     ensures ok { OnOk result (ops.new.items ≡ ops.old.items ++ typed_text desk.old.set desk.old.site place (chars text.now)) }

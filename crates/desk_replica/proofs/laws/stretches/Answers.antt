@@ -3,7 +3,6 @@ use Rattle.std.proofs.Common.{◌≡◌, ◌+◌, ◌∷◌, suc, ap, ◌∙◌,
 use Rattle.std.proofs.lemmas.List.Elements.{recursion_from_All}
 use Rattle.bg_types.specs.WellFormed.{IsWellFormed}
 use Rattle.bg_types.specs.OperationSet.{with_operation}
-use Rattle.bg_types.specs.declared.op.OpView.TheVariants.{Erase}
 use Rattle.desk_replica.specs.Typing.{typed, insertion}
 use Rattle.desk_replica.specs.Stretch.{typed_text, deletions}
 use Rattle.desk_replica.proofs.Ranges.{erased_then, visible_at}

@@ -1,12 +1,12 @@
 -- The goals of `file_at` that are answered by hand.
-use Rattle.std.proofs.Common.{List, ℕ, refl, sym, ap, subst, ◌∙◌}
+use Rattle.std.proofs.Common.{List, refl, subst, ◌∙◌}
 use Rattle.std.specs.Str.{chars}
 use Rattle.bg_types.specs.declared.op.OpView.{OpView}
 use Rattle.op_codec.specs.Spelling.{SpellsIn}
 use Rattle.desk_files.specs.declared.run_fault.RunFault.TheVariants.{Memory}
 use Rattle.desk_files.proofs.Interface.{err_handed}
 use Rattle.desk_typing.specs.declared.typing_fault.TypingFault.TheVariants.{Run}
-use Rattle.desk_typing.specs.Changing.{operations_of, Fits, IsUnfit}
+use Rattle.desk_typing.specs.Changing.{IsUnfit}
 use Rattle.desk_typing.proofs.engine.file_at.Goals as goal
 
 pub returns-in_err-ops-clause-fault : goal.returns-in_err-ops-clause-fault

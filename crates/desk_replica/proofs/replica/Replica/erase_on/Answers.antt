@@ -1,8 +1,8 @@
 -- The goals of `erase_on` that are answered by hand.
-use Rattle.std.proofs.Common.{◌≡◌, ◌-◌, ◌+◌, ◌++◌, [], ◌∷◌, suc, ap, sym, subst, ◌∙◌, arith}
+use Rattle.std.proofs.Common.{◌≡◌, ◌-◌, ◌+◌, ◌++◌, [], ◌∷◌, suc, ap, subst, ◌∙◌, arith}
 use Rattle.bg_types.specs.OperationSet.{with_operation}
 use Rattle.desk_replica.specs.Desk.{Desk}
-use Rattle.desk_replica.proofs.Ranges.{IsErasing, starts_erasing, erasing, all_erased_told, all_erased_set, all_erased_visible}
+use Rattle.desk_replica.proofs.Ranges.{IsErasing, starts_erasing, erasing, all_erased_visible}
 use Rattle.desk_replica.proofs.replica.Replica.erase_on.Goals as goal
 
 pub loop-init : goal.loop-init

@@ -1,5 +1,5 @@
 -- The goals of `type_one` that are answered by hand.
-use Rattle.std.proofs.Common.{◌≡◌, ap, sym, subst, ◌∙◌, arith}
+use Rattle.std.proofs.Common.{◌≡◌, ap, subst, ◌∙◌, arith}
 use Rattle.bg_types.specs.Identifier.{Identifier}
 use Rattle.bg_types.specs.OperationSet.{next}
 use Rattle.bg_types.specs.declared.op.OpView.{OpView}

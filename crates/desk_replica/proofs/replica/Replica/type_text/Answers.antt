@@ -5,7 +5,6 @@ use Rattle.std.specs.Str.{chars}
 use Rattle.std.proofs.lemmas.List.Elements.{recursion_from_All}
 use Rattle.bg_types.specs.OperationSet.{OperationSet, AllWellFormed}
 use Rattle.bg_types.specs.WellFormed.{IsWellFormed, MayFollow}
-use Rattle.bg_types.specs.declared.op.OpView.{OpView}
 use Rattle.rga_tree.specs.TextOf.{text, visible, visible_ids}
 use Rattle.desk_replica.specs.Desk.{Desk}
 use Rattle.desk_replica.specs.Typing.{parent_at}

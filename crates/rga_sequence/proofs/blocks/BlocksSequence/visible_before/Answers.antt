@@ -1,5 +1,5 @@
 -- The goals of `visible_before` that are answered by hand.
-use Rattle.std.proofs.Common.{◌≡◌, ◌≤◌, ◌<◌, ◌∙◌, [], true, ap, sym, length, get_or, arith}
+use Rattle.std.proofs.Common.{◌≡◌, ◌<◌, ◌∙◌, [], true, ap, sym, length, get_or, arith}
 use Rattle.rga_tree.proofs.Interface.{before_row, has_row}
 use Rattle.rga_sequence.specs.Blocks.{seen_all, offset}
 use Rattle.rga_sequence.specs.BlockRows.{items_of, has}
