@@ -1,12 +1,13 @@
 //! Who is told what becomes of a desk's text.
 
-ghost use Rattle.std.specs.Prelude.{◌≡◌, ◌+◌, ◌-◌, ℕ, List, Option, ◌∷◌, [], None, Some, true, OnOk, OnErr, vec_len, vec_capacity};
+ghost use Rattle.std.specs.Prelude.{◌≡◌, ◌≤◌, ◌+◌, ◌-◌, ℕ, List, Option, ◌∷◌, [], None, Some, true, OnOk, OnErr, vec_len, vec_capacity};
 ghost use Rattle.std.specs.FinMap as map;
 ghost use Rattle.bg_types.specs.declared.change.Change.{Change as TextChange};
 ghost use Rattle.rga_tree.specs.TextOf.{visible_before};
 ghost use Rattle.desk_replica.specs.Listening.{extended, HasRoom, IsBounded};
 
 use bg_types::{Change, Id, Memory};
+use pending_ops::Held;
 use rga_tree::Sequence;
 
 /// Is told of changes of a text, one after the other.
@@ -17,10 +18,12 @@ pub trait Listener {
     /// For how many more there is room, or `None` where they take none.
     ghost room: { Self → Option ℕ };
 
-    /// Makes room for so many more. After `Memory` what was told is as it was.
-    fn make_room(&mut self, n: usize) -> Result<(), Memory>
+    /// Makes room for what one operation may tell while these wait: itself and each insertion of them. After `Memory` what
+    /// was told is as it was.
+    fn make_room(&mut self, held: &Held) -> Result<(), Memory>
+        requires few { map.len held.now.held.ins ≤ 1_000_000 }
         ensures told { told self.new ≡ told self.old }
-        ensures ok { OnOk result (HasRoom (room self.new) n) }
+        ensures ok { OnOk result (HasRoom (room self.new) (map.len held.now.held.ins + 1)) }
         ensures err { OnErr result (IsBounded (room self.new)) };
 
     /// Is told that an element was placed that is visible.
@@ -46,7 +49,7 @@ impl Listener for Nobody {
 
     ghost room = { λ _. None };
 
-    fn make_room(&mut self, _n: usize) -> Result<(), Memory> {
+    fn make_room(&mut self, _held: &Held) -> Result<(), Memory> {
         Ok(())
     }
 
@@ -61,8 +64,8 @@ impl Listener for Vec<Change> {
 
     ghost room = { λ v. Some (vec_capacity v - vec_len v) };
 
-    fn make_room(&mut self, n: usize) -> Result<(), Memory> {
-        self.reserve(n)?;
+    fn make_room(&mut self, held: &Held) -> Result<(), Memory> {
+        self.reserve(held.insertion_count() + 1)?;
         Ok(())
     }
 

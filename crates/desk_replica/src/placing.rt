@@ -106,15 +106,14 @@ pub fn make_room<S: Sequence>(seq: &mut S, held: &mut Held, n: usize) -> Result<
     held.reserve(n)
 }
 
-/// Takes one from the spare operations. Where there is none, one is paid for now, and some that may follow. First is paid
-/// for what so many placings tell.
+/// Takes one from the spare operations. Where there is none, one is paid for now, and some that may follow. What is told is
+/// paid for first.
 #[inline(always)]
 fn pay<S: Sequence, L: Listener>(
     seq: &mut S,
     held: &mut Held,
     spare: &mut usize,
     listener: &mut L,
-    placings: usize,
 ) -> Result<(), Memory>
     requires paid { IsPaid (S.free seq.old) held.old spare.old }
     requires few { map.len held.old.held.ins ≤ 1_000_000 }
@@ -128,9 +127,9 @@ fn pay<S: Sequence, L: Listener>(
     ensures err { OnErr result (held.new ≡ held.old) }
     ensures same { OnErr result (spare.new ≡ spare.old) }
     ensures told { L.told listener.new ≡ L.told listener.old }
-    ensures room { OnOk result (HasRoom (L.room listener.new) placings) }
+    ensures room { OnOk result (HasRoom (L.room listener.new) (map.len held.old.held.ins + 1)) }
 {
-    listener.make_room(placings)?;
+    listener.make_room(held)?;
     if *spare > 0 {
         *spare -= 1;
         return Ok(());
@@ -167,18 +166,17 @@ pub fn admit<S: Sequence, L: Listener>(
     ensures untold { OnErr result (L.told listener.new ≡ L.told listener.old) }
 {
     if !reaches(seq, op) {
-        pay(seq, held, spare, &mut Nobody, 0)?;
+        pay(seq, held, spare, &mut Nobody)?;
         keep_waiting(held, op);
         return Ok(Taken::Held);
     }
     match op.view() {
         OpView::Insert { .. } => {
-            let placings = held.insertion_count() + 1;
-            pay(seq, held, spare, listener, placings)?;
+            pay(seq, held, spare, listener)?;
             Ok(place_new(seq, held, op, listener))
         }
         OpView::Erase { target } => {
-            listener.make_room(1)?;
+            listener.make_room(held)?;
             hide(seq, target, listener);
             Ok(Taken::Hidden)
         }

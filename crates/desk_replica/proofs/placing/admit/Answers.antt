@@ -184,8 +184,8 @@ returns-in_ok-pay-in-Insert-clause-few g c = omega (arith, c.place_new.ensures.f
 pub place_new-requires-clause-told_room : goal.place_new-requires-clause-told_room
 place_new-requires-clause-told_room g c =
     let same = ap (λ (s : OperationSet). map.len s.ins) c.pay-in-Insert.ensures.held in
-    room_within (g.L.Listener.room c.pay-in-Insert.new.listener) (map.len c.pay-in-Insert.new.held.held.ins + 1) (c.insertion_count-placings.result + 1)
-    (omega (arith, same, c.insertion_count-placings.ensures)) c.in_ok-pay-in-Insert.ensures.room
+    room_within (g.L.Listener.room c.pay-in-Insert.new.listener) (map.len c.pay-in-Insert.new.held.held.ins + 1) (map.len c.args.held.now.held.ins + 1)
+    (omega (arith, same)) c.in_ok-pay-in-Insert.ensures.room
 
 pub returns-in_err-make_room-in-Erase-clause-told : goal.returns-in_err-make_room-in-Erase-clause-told
 returns-in_err-make_room-in-Erase-clause-told g c =
@@ -212,5 +212,8 @@ returns-in_ok-make_room-in-Erase-clause-few g c =
     let n = one_told false (Cut (visible_before (g.S.Sequence.content c.args.seq.now) c.in-Erase.target)) (g.L.Listener.told c.make_room.new.self) (g.L.Listener.told c.hide.new.listener) c.hide.ensures.told in
     omega (arith, n, ap told_count c.make_room.ensures.told)
 
-pub overflow_add-placings : goal.overflow_add-placings
-overflow_add-placings g c = omega (arith, held_within (g.S.Sequence.content c.args.seq.now) c.args.held.now.held, c.requires.admitted.room, c.insertion_count-placings.ensures)
+pub make_room-requires : goal.make_room-requires
+make_room-requires g c = omega (arith, held_within (g.S.Sequence.content c.args.seq.now) c.args.held.now.held, c.requires.admitted.room)
+
+pub hide-requires-clause-room : goal.hide-requires-clause-room
+hide-requires-clause-room g c = room_within (g.L.Listener.room c.make_room.new.self) 1 (map.len c.args.held.now.held.ins + 1) (omega arith) c.in_ok-make_room-in-Erase.ensures.ok
