@@ -198,7 +198,7 @@ fn comes_out_beside<S: Fresh>(alloc: Global, one: &mut Desk<S>, case: Case) -> b
     comes_out_on(one, &mut two, case)
 }
 
-fn comes_out_on<S: Fresh>(alloc: Global, one: &mut Desk<S>, two: &mut Desk<S>, case: Case) -> bool {
+fn comes_out_on<S: Fresh>(one: &mut Desk<S>, two: &mut Desk<S>, case: Case) -> bool {
     match case {
         Case::Plays(rows, text) => takes_each(one, rows) && one.reads(text),
         Case::PlaysPaid => plays_paid(one),

@@ -28,4 +28,6 @@ mod rows;
 #[cfg(test)]
 mod stretch_tests;
 #[cfg(test)]
+mod telling_tests;
+#[cfg(test)]
 mod world_tests;
