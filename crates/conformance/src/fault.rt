@@ -30,7 +30,7 @@ pub enum RunFault {
     #[error("cannot read")]
     ReadFailed,
     /// The test file has none of the three names.
-    #[error("not the name of a test file")]
+    #[error("not a name of Unicode's tests")]
     Name,
     /// A line of the test file, counted from 1, is faulty.
     #[error("line {0}: {1}")]
