@@ -1,6 +1,7 @@
-//! A program on the core: two desks write one text, which is drawn, walked through and pointed at.
+//! A program on the core: two desks write one text, which is drawn, walked through and pointed at; a third one follows.
 #![tactic(auto)]
 
+mod buffer;
 mod desks;
 mod fault;
 mod meeting;
@@ -9,6 +10,7 @@ mod picture;
 mod walk;
 
 use bg_types::Out;
+pub use buffer::{follow, follow_all, take_into};
 pub use desks::{Desk, meet, new_desk, read_text, take_all, type_words};
 pub use fault::Fault;
 pub use meeting::run;

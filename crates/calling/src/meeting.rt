@@ -3,17 +3,20 @@
 ghost use Rattle.std.specs.Prelude.{◌≡◌, false, OnOk, encode_utf8_all};
 ghost use Rattle.std.specs.Io.KnownBytes.{Appends};
 ghost use Rattle.cell_grid.specs.Print.{printed};
+ghost use Rattle.bg_types.specs.OperationSet.{no_operations};
 ghost use Rattle.rga_tree.specs.TextOf.{text};
 ghost use Rattle.calling.specs.Picture.{picture_of};
 
+use crate::buffer::take_into;
 use crate::desks::{Desk, meet, new_desk, read_text, take_all, type_words};
 use crate::fault::Fault;
 use crate::mouse::{caret_before, place_under};
 use crate::picture::{picture, show};
 use crate::walk::steps_right;
-use bg_types::{Sink, put_all};
+use bg_types::{Op, Sink, put_all};
 use caret::at_place;
 use cell_grid::Grid;
+use desk_replica::laws;
 use std::alloc::Global;
 use ucd_files::Tables;
 use ucd_files::vectors::SMALL;
@@ -34,33 +37,38 @@ pub fn run<S: Sink>(alloc: Global, key: u128, out: &mut S) -> Result<(), Fault>
     with_desks(alloc, key, &mut view, out)
 }
 
-/// Makes two desks, and lets them write and meet. There is one way out: each way out of a function
+/// Makes three desks, and lets two write and meet. There is one way out: each way out of a function
 /// that owns desks takes its own proof that they are freed.
 fn with_desks<S: Sink>(alloc: Global, key: u128, view: &mut View, out: &mut S) -> Result<(), Fault>
     requires { S.has_failed out.old ≡ false }
 {
     let mut one = new_desk(alloc, 1, key);
     let mut other = new_desk(alloc, 2, key);
-    write_and_meet(alloc, &mut one, &mut other, view, out)
+    let mut reader = new_desk(alloc, 3, key);
+    write_and_meet(alloc, &mut one, &mut other, &mut reader, view, out)
 }
 
-/// Lets two desks write apart and meet. Writes what each shows before, then what both show, and
-/// where the caret and the mouse are in it.
+/// Lets two desks write apart and meet. Writes what each shows before, then what both show,
+/// where the caret and the mouse are in it, and what a reader's buffer has.
 fn write_and_meet<S: Sink>(
     alloc: Global,
     one: &mut Desk,
     other: &mut Desk,
+    reader: &mut Desk,
     view: &mut View,
     out: &mut S,
 ) -> Result<(), Fault>
-    requires { S.has_failed out.old ≡ false }
+    requires working { S.has_failed out.old ≡ false }
+    requires fresh { reader.old.set ≡ no_operations }
 {
-    write_apart(alloc, one, other)?;
+    let mut made = Vec::new(alloc);
+    write_apart(one, other, &mut made)?;
     look(view, one, out)?;
     look(view, other, out)?;
     meet(one, other)?;
     look(view, other, out)?;
-    point(alloc, view, one, out)
+    point(alloc, view, one, out)?;
+    read_along(alloc, reader, &made, out)
 }
 
 /// The tables of the small data files that the tests use.
@@ -71,12 +79,33 @@ fn load_tables(alloc: Global) -> Result<Tables, Fault> {
 
 /// Two desks write at once: `other` has seen the first words of `one`, and neither has seen what the
 /// other writes after them.
-fn write_apart(alloc: Global, one: &mut Desk, other: &mut Desk) -> Result<(), Fault> {
-    let mut made = Vec::new(alloc);
-    type_words(one, "tea ", &mut made)?;
-    take_all(other, &made)?;
-    type_words(one, "!", &mut made)?;
-    type_words(other, "תה", &mut made)
+fn write_apart(one: &mut Desk, other: &mut Desk, made: &mut Vec<Op>) -> Result<(), Fault> {
+    type_words(one, "tea ", made)?;
+    take_all(other, made)?;
+    type_words(one, "!", made)?;
+    type_words(other, "תה", made)
+}
+
+/// A fresh desk takes what the others made, and its buffer follows. Writes what the buffer has.
+fn read_along<S: Sink>(
+    alloc: Global,
+    reader: &mut Desk,
+    made: &[Op],
+    out: &mut S,
+) -> Result<(), Fault>
+    requires working { S.has_failed out.old ≡ false }
+    requires fresh { reader.old.set ≡ no_operations }
+{
+    laws::told_changes();
+    let mut buffer = Vec::new(alloc);
+    take_into(alloc, reader, made, &mut buffer)?;
+    let mut line = String::new(alloc);
+    for ch in &buffer {
+        line.push(*ch)?;
+    }
+    line.push('\n')?;
+    put_all(out, line.as_bytes())?;
+    Ok(())
 }
 
 /// Draws a desk's text, and writes the picture, which follows from the operations that the desk holds and
@@ -95,6 +124,7 @@ fn look<S: Sink>(view: &mut View, desk: &Desk, out: &mut S) -> Result<(), Fault>
 /// Draws a desk's text, and tells of a caret and of the mouse.
 fn point<S: Sink>(alloc: Global, view: &mut View, desk: &Desk, out: &mut S) -> Result<(), Fault>
     requires { S.has_failed out.old ≡ false }
+    ensures { OnOk result (S.has_failed out.new ≡ false) }
 {
     let text = read_text(desk)?;
     let grid = picture(view, text.as_str())?;
