@@ -1,0 +1,6 @@
+-- The modules of this crate's proofs.
+pub mod Sums
+pub mod Joins
+pub mod Texts
+pub mod Splits
+pub mod Places

@@ -1,0 +1,91 @@
+-- How much stands before a block, in it and behind it.
+use Rattle.std.proofs.Common.{◌≡◌, ℕ, ◌+◌, ◌-◌, ◌<◌, ◌≤◌, List, [], ◌∷◌, ◌++◌, map, length, take, drop, get_or, refl, sym, ap, ap₂, subst, ◌∙◌, inl, inr, arith}
+use Rattle.std.proofs.lemmas.Bool.{cases_lt}
+use Rattle.std.proofs.lemmas.List.{append-nil, length-append, length-map, get_or-map, take_more, drop_all}
+use Rattle.std.specs.List.{concat}
+use Rattle.text_buffer.specs.declared.piece.Piece.{Piece}
+use Rattle.text_buffer.specs.declared.block.Block.{Block}
+use Rattle.text_buffer.specs.declared.find.Before.{Before}
+use Rattle.text_buffer.specs.Buffers.{bytes_in, Fits}
+use Rattle.text_buffer.specs.Pieces.{points_of, points_in}
+use Rattle.text_buffer.specs.Blocks.{rows_of, joined, kept_in}
+use Rattle.text_buffer.specs.Places.{StandsBefore}
+use Rattle.text_buffer.proofs.Sums.{places-append, bytes-append, places-few}
+use Rattle.text_buffer.proofs.Joins.{joined-append, joined-at}
+
+pub length-rows : (bs : List Block) → length (rows_of bs) ≡ length bs
+length-rows bs = length-map bs (λ (b : Block). points_in b.pieces.items)
+
+-- a block that was read is a row
+pub row-at : (bs : List Block) (q : ℕ) (b : Block) → q < length bs → b ≡ get_or bs q b → get_or (rows_of bs) q [] ≡ points_in b.pieces.items
+row-at bs q b within is =
+    get_or-map (λ (x : Block). points_in x.pieces.items) bs q b [] within ∙ ap (λ (x : Block). points_in x.pieces.items) (sym is)
+
+pub length-points : (ps : List Piece) → length (points_in ps) ≡ length ps
+length-points ps = length-map ps points_of
+
+joined-more : (rows : List (List (List ℕ))) (q : ℕ) → q < length rows → joined (take (q + 1) rows) ≡ joined (take q rows) ++ get_or rows q []
+joined-more rows q within =
+    ap joined (take_more rows q [] within) ∙ joined-append (take q rows) (get_or rows q [] ∷ []) ∙ ap (λ t. joined (take q rows) ++ t) (append-nil (get_or rows q []))
+
+-- what all blocks have is what stands before one, in it and behind it
+pub record HasParts (bs : List Block) (b : Before) : Type 0 where
+  pub paragraphs : length (kept_in bs) ≡ b.paragraphs + (length (get_or (rows_of bs) b.block []) + length (joined (drop (b.block + 1) (rows_of bs))))
+  pub bytes : bytes_in (concat (kept_in bs)) ≡ b.bytes + (bytes_in (concat (get_or (rows_of bs) b.block [])) + bytes_in (concat (joined (drop (b.block + 1) (rows_of bs)))))
+  pub places : length (concat (kept_in bs)) ≡ b.places + (length (concat (get_or (rows_of bs) b.block [])) + length (concat (joined (drop (b.block + 1) (rows_of bs)))))
+  pub last : length bs ≤ b.block + 1 → drop (b.block + 1) (rows_of bs) ≡ []
+
+module _ (bs : List Block) (b : Before) (s : StandsBefore bs b) where
+  pub parts-of : HasParts bs b
+  parts-of =
+      let rows = rows_of bs in
+      let a = joined (take b.block rows) in
+      let r = get_or rows b.block [] in
+      let c = joined (drop (b.block + 1) rows) in
+      let within : b.block < length rows = let w = s.within in omega (arith, length-rows bs) in
+      let all = joined-at rows b.block within in
+      record {
+        paragraphs = ap length all ∙ length-append a (r ++ c) ∙ ap₂ (λ m n. m + n) (sym s.paragraphs) (length-append r c);
+        bytes = ap (λ t. bytes_in (concat t)) all ∙ bytes-append a (r ++ c) ∙ ap₂ (λ m n. m + n) (sym s.bytes) (bytes-append r c);
+        places = ap (λ t. length (concat t)) all ∙ places-append a (r ++ c) ∙ ap₂ (λ m n. m + n) (sym s.places) (places-append r c);
+        last = λ h. drop_all (b.block + 1) rows (omega (arith, length-rows bs, h));
+      }
+
+  -- past a block
+  module _ (x : Block) (is : x ≡ get_or bs b.block x) (next : Before) (block : next.block ≡ b.block + 1) (paragraphs : next.paragraphs ≡ b.paragraphs + length x.pieces.items)
+      (bytes : next.bytes ≡ b.bytes + x.bytes) (places : next.places ≡ b.places + x.places) where
+    pub stands-next : b.block + 1 < length bs → StandsBefore bs next
+    stands-next more =
+        let rows = rows_of bs in
+        let a = joined (take b.block rows) in
+        let row = row-at bs b.block x s.within is in
+        let within : b.block < length rows = let w = s.within in omega (arith, length-rows bs) in
+        let all : joined (take next.block rows) ≡ a ++ points_in x.pieces.items =
+        ap (λ n. joined (take n rows)) block ∙ joined-more rows b.block within ∙ ap (λ t. a ++ t) row in
+        record {
+          within = omega (arith, block, more);
+          paragraphs = paragraphs ∙ ap₂ (λ m n. m + n) s.paragraphs (sym (length-points x.pieces.items)) ∙ sym (ap length all ∙ length-append a (points_in x.pieces.items));
+          bytes = bytes ∙ ap₂ (λ m n. m + n) s.bytes x.bytes_is ∙ sym (ap (λ t. bytes_in (concat t)) all ∙ bytes-append a (points_in x.pieces.items));
+          places = places ∙ ap₂ (λ m n. m + n) s.places x.places_is ∙ sym (ap (λ t. length (concat t)) all ∙ places-append a (points_in x.pieces.items));
+        }
+
+-- where a paragraph stands behind a block, a block does
+pub block-more : (bs : List Block) (b : Before) → StandsBefore bs b → (number : ℕ) → number < length (kept_in bs)
+    → b.paragraphs + length (get_or (rows_of bs) b.block []) ≤ number → b.block + 1 < length bs
+block-more bs b s number there passed =
+    let all = parts-of bs b s in
+    elim (cases_lt (b.block + 1) (length bs)) [
+      | inl more ↦ more
+      | inr last ↦ let none = ap (λ t. length (joined t)) (all.last last) in absurd (omega (arith, all.paragraphs, none, there, passed))
+    ]
+
+-- before the first block stands nothing
+pub stands-first : (bs : List Block) (b : Before) → 0 < length bs → b.block ≡ 0 → b.paragraphs ≡ 0 → b.bytes ≡ 0 → b.places ≡ 0 → StandsBefore bs b
+stands-first bs b some block paragraphs bytes places =
+    let none : joined (take b.block (rows_of bs)) ≡ [] = ap (λ n. joined (take n (rows_of bs))) block in
+    record {
+      within = omega (arith, block, some);
+      paragraphs = paragraphs ∙ sym (ap length none);
+      bytes = bytes ∙ sym (ap (λ t. bytes_in (concat t)) none);
+      places = places ∙ sym (ap (λ t. length (concat t)) none);
+    }

@@ -1,0 +1,77 @@
+-- Paragraphs of a text that gets others in the place of some.
+use Rattle.std.proofs.Common.{◌≡◌, ℕ, ◌+◌, ◌-◌, ◌<◌, ◌≤◌, List, [], ◌∷◌, ◌++◌, map, length, take, drop, refl, sym, ap, ap₂, subst, ◌∙◌, arith}
+use Rattle.std.proofs.lemmas.List.{append-nil, append_assoc, length-append, length-drop, map-append, take-append-drop, drop_all, take_all}
+use Rattle.std.proofs.lemmas.Str.{encodes-append, encodes-chars, IsUtf8-append, IsUtf8-nil, IsUtf8-string_bytes}
+use Rattle.std.specs.List.{concat}
+use Rattle.std.specs.Prelude.{encode_utf8_all, string_bytes}
+use Rattle.std.specs.Str.{IsUtf8}
+use Rattle.unicode_tables.specs.Tables.{TableValues, bidi_of}
+use Rattle.paragraphs.specs.Paragraphs.{meets_at_cut}
+use Rattle.paragraphs.proofs.Interface.{parts, front, concat-parts, IsHalved-from, parts-put, parts-put_last, concat-append, paragraph_points-parts}
+use Rattle.text_buffer.specs.declared.piece.Piece.{Piece}
+use Rattle.text_buffer.specs.declared.block.Block.{Block}
+use Rattle.text_buffer.specs.Buffers.{IsSplit}
+use Rattle.text_buffer.specs.Pieces.{points_of, points_in}
+use Rattle.text_buffer.specs.Blocks.{joined, rows_of, kept_in}
+use Rattle.text_buffer.specs.Stretches.{IsStretch}
+use Rattle.text_buffer.proofs.Joins.{joined-append}
+
+-- ---- what is kept is text
+
+utf8-joined : (x y : List ℕ) → IsUtf8 (encode_utf8_all x) → IsUtf8 (encode_utf8_all y) → IsUtf8 (encode_utf8_all (x ++ y))
+utf8-joined x y u v = subst IsUtf8 (sym (encodes-append x y)) (IsUtf8-append (encode_utf8_all x) (encode_utf8_all y) u v)
+
+utf8-piece : (p : Piece) → IsUtf8 (encode_utf8_all (points_of p))
+utf8-piece p = let u = IsUtf8-string_bytes p.text in subst IsUtf8 (sym (encodes-chars (string_bytes p.text) u)) u
+
+pub utf8-pieces : (ps : List Piece) → IsUtf8 (encode_utf8_all (concat (points_in ps)))
+utf8-pieces [] = IsUtf8-nil
+utf8-pieces (p ∷ ps) = utf8-joined (points_of p) (concat (points_in ps)) (utf8-piece p) (utf8-pieces ps)
+
+pub utf8-kept : (bs : List Block) → IsUtf8 (encode_utf8_all (concat (kept_in bs)))
+utf8-kept [] = IsUtf8-nil
+utf8-kept (b ∷ bs) =
+    let row = points_in b.pieces.items in
+    subst (λ t. IsUtf8 (encode_utf8_all t)) (sym (concat-append row (kept_in bs)))
+    (utf8-joined (concat row) (concat (kept_in bs)) (utf8-pieces b.pieces.items) (utf8-kept bs))
+
+-- ---- split, by the cuts from the front
+
+pub split-parts : (tables : TableValues) (kept : List (List ℕ)) → IsUtf8 (encode_utf8_all (concat kept)) → IsSplit tables kept → kept ≡ parts (bidi_of tables) (concat kept)
+split-parts tables kept u s = s ∙ paragraph_points-parts tables (concat kept) u
+
+pub parts-split : (tables : TableValues) (kept : List (List ℕ)) → IsUtf8 (encode_utf8_all (concat kept)) → kept ≡ parts (bidi_of tables) (concat kept) → IsSplit tables kept
+parts-split tables kept u is = is ∙ sym (paragraph_points-parts tables (concat kept) u)
+
+-- ---- others in the place of a stretch
+
+module _ (tables : TableValues) (kept : List (List ℕ)) (from to : ℕ) (points : List ℕ) (is : kept ≡ parts (bidi_of tables) (concat kept))
+    (s : IsStretch tables kept from to points) where
+  put-before_others : to < length kept → take from kept ++ (front (parts (bidi_of tables) points) ++ drop to kept)
+      ≡ parts (bidi_of tables) (concat (take from kept) ++ (points ++ concat (drop to kept)))
+  put-before_others more =
+      let class = bidi_of tables in
+      let low = IsHalved-from class kept (take from kept) (drop from kept) is (sym (take-append-drop from kept)) (let o = s.order in omega (arith, length-drop from kept)) in
+      let high = IsHalved-from class kept (take to kept) (drop to kept) is (sym (take-append-drop to kept)) (omega (arith, length-drop to kept)) in
+      parts-put class (take from kept) (drop to kept) points low.before high.after s.before (s.after more)
+
+  put-at_end : to ≡ length kept → take from kept ++ (parts (bidi_of tables) points ++ drop to kept)
+      ≡ parts (bidi_of tables) (concat (take from kept) ++ (points ++ concat (drop to kept)))
+  put-at_end all =
+      let class = bidi_of tables in
+      let none : drop to kept ≡ [] = drop_all to kept (omega (arith, all)) in
+      let low = IsHalved-from class kept (take from kept) (drop from kept) is (sym (take-append-drop from kept)) (let o = s.order in omega (arith, all, length-drop from kept)) in
+      let whole : points ++ concat (drop to kept) ≡ points = ap (λ t. points ++ concat t) none ∙ append-nil points in
+      ap (λ t. take from kept ++ (parts class points ++ t)) none
+      ∙ ap (λ t. take from kept ++ t) (append-nil (parts class points))
+      ∙ parts-put_last class (take from kept) points low.before (ap (meets_at_cut class (concat (take from kept))) (sym whole) ∙ s.before)
+      ∙ ap (λ t. parts class (concat (take from kept) ++ t)) (sym whole)
+
+  -- the text of what is kept then, and that it is split
+  pub stretch-text : (new : List (List ℕ)) → new ≡ parts (bidi_of tables) (concat (take from kept) ++ (points ++ concat (drop to kept)))
+      → concat new ≡ concat (take from kept) ++ (points ++ concat (drop to kept))
+  stretch-text new e = ap concat e ∙ concat-parts (bidi_of tables) (concat (take from kept) ++ (points ++ concat (drop to kept)))
+
+  pub stretch-split : (new : List (List ℕ)) → new ≡ parts (bidi_of tables) (concat (take from kept) ++ (points ++ concat (drop to kept)))
+      → new ≡ parts (bidi_of tables) (concat new)
+  stretch-split new e = e ∙ sym (ap (parts (bidi_of tables)) (stretch-text new e))
