@@ -113,7 +113,7 @@ const TYPED: &[Typed] = &[
     Typed("", &[(Put(0, 'a'), "a"), (Put(1, '\n'), "a\n"), (Cut(0), "\n"), (Cut(0), "")]),
     // CR and LF on both sides of each other.
     Typed("ab", &[(Put(1, '\r'), "a\rb"), (Put(2, '\n'), "a\r\nb"), (Cut(1), "a\nb"), (Put(1, '\r'), "a\r\nb"), (Cut(2), "a\rb"), (Cut(1), "ab")]),
-    Typed("ab", &[(Put(1, '\n'), "a\nb"), (Put(1, '\r'), "a\r\nb"), (Put(2, '\r'), "a\r\r\nb"), (Put(2, '\n'), "a\r\n\r\nb"), (Put(2, 'x'), "a\r\nx\r\nb")]),
+    Typed("ab", &[(Put(1, '\n'), "a\nb"), (Put(1, '\r'), "a\r\nb"), (Put(2, '\r'), "a\r\r\nb"), (Put(2, '\n'), "a\r\n\r\nb"), (Put(3, 'x'), "a\r\nx\r\nb")]),
     Typed("a\r\nb", &[(Put(2, 'x'), "a\rx\nb"), (Cut(2), "a\r\nb"), (Put(2, '\n'), "a\r\n\nb"), (Cut(1), "a\n\nb")]),
     Typed("\r\u{2029}\n", &[(Cut(1), "\r\n"), (Put(1, '\u{2029}'), "\r\u{2029}\n"), (Cut(0), "\u{2029}\n"), (Cut(0), "\n")]),
     Typed("\rx\nb", &[(Cut(1), "\r\nb"), (Cut(0), "\nb")]),

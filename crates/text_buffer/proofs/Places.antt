@@ -1,7 +1,9 @@
 -- How much stands before a block, in it and behind it.
 use Rattle.std.proofs.Common.{◌≡◌, ℕ, ◌+◌, ◌-◌, ◌<◌, ◌≤◌, List, [], ◌∷◌, ◌++◌, map, length, take, drop, get_or, refl, sym, ap, ap₂, subst, ◌∙◌, inl, inr, arith}
 use Rattle.std.proofs.lemmas.Bool.{cases_lt}
-use Rattle.std.proofs.lemmas.List.{append-nil, length-append, length-map, get_or-map, take_more, drop_all}
+use Rattle.std.proofs.lemmas.List.{append-nil, length-append, length-map, get_or-map, take_more, drop_all, take-append-le}
+use Rattle.std.proofs.lemmas.List.Concat.{get_or-flat_map}
+use Rattle.std.proofs.Math.Seq.{take-append-add}
 use Rattle.std.specs.List.{concat}
 use Rattle.text_buffer.specs.declared.piece.Piece.{Piece}
 use Rattle.text_buffer.specs.declared.block.Block.{Block}
@@ -68,6 +70,24 @@ module _ (bs : List Block) (b : Before) (s : StandsBefore bs b) where
           bytes = bytes ∙ ap₂ (λ m n. m + n) s.bytes x.bytes_is ∙ sym (ap (λ t. bytes_in (concat t)) all ∙ bytes-append a (points_in x.pieces.items));
           places = places ∙ ap₂ (λ m n. m + n) s.places x.places_is ∙ sym (ap (λ t. length (concat t)) all ∙ places-append a (points_in x.pieces.items));
         }
+
+-- a paragraph of a block among all, and those before it
+pub kept-at : (bs : List Block) (b : Before) → StandsBefore bs b → (j : ℕ) → j < length (get_or (rows_of bs) b.block [])
+    → get_or (kept_in bs) (b.paragraphs + j) [] ≡ get_or (get_or (rows_of bs) b.block []) j []
+kept-at bs b s j inside =
+    let rows = rows_of bs in
+    let within : b.block < length rows = let w = s.within in omega (arith, length-rows bs) in
+    ap (λ n. get_or (joined rows) (n + j) []) s.paragraphs ∙ get_or-flat_map (λ (r : List (List ℕ)). r) rows b.block j [] [] within inside
+
+pub take-at : (bs : List Block) (b : Before) → StandsBefore bs b → (j : ℕ) → j ≤ length (get_or (rows_of bs) b.block [])
+    → take (b.paragraphs + j) (kept_in bs) ≡ joined (take b.block (rows_of bs)) ++ take j (get_or (rows_of bs) b.block [])
+take-at bs b s j inside =
+    let rows = rows_of bs in
+    let a = joined (take b.block rows) in
+    let r = get_or rows b.block [] in
+    let c = joined (drop (b.block + 1) rows) in
+    let within : b.block < length rows = let w = s.within in omega (arith, length-rows bs) in
+    ap₂ (λ n t. take (n + j) t) s.paragraphs (joined-at rows b.block within) ∙ take-append-add a (r ++ c) j ∙ ap (λ t. a ++ t) (take-append-le j r c inside)
 
 -- where a paragraph stands behind a block, a block does
 pub block-more : (bs : List Block) (b : Before) → StandsBefore bs b → (number : ℕ) → number < length (kept_in bs)

@@ -128,9 +128,17 @@ fn spot_in(pieces: &[Piece], place: usize) -> Spot
 {
     let mut number = 0;
     let mut offset = place;
-    while number + 1 < pieces.len() && pieces[number].places <= offset {
-        offset -= pieces[number].places;
+    while number + 1 < pieces.len() && places_of(pieces, number) <= offset {
+        offset -= places_of(pieces, number);
         number += 1;
     }
     Spot { number, offset }
+}
+
+/// How many code points one of some paragraphs has.
+fn places_of(pieces: &[Piece], number: usize) -> usize
+    requires { number < length pieces.now }
+    ensures { result ≡ length (get_or (points_in pieces.now) number []) }
+{
+    pieces[number].places
 }

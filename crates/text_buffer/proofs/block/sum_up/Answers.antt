@@ -11,7 +11,7 @@ overflow_add-bytes c =
     let row = c.args.pieces.now in
     let i = c.loop-piece.piece-index in
     let more = bytes-more row i c.piece-item.result (omega (arith, c.loop-piece-test.true)) (sym c.piece-item.is) in
-    omega (arith, c.loop-piece.invariant.bytes, more, bytes-front row (i + 1), c.requires, ap length c.as_str.ensures)
+    omega (arith, c.loop-piece.invariant.bytes, more, bytes-front row (i + 1), c.requires, ap length c.as_str.ensures.value)
 
 pub overflow_add-places : goal.overflow_add-places
 overflow_add-places c =
@@ -27,6 +27,6 @@ loop-piece-preserved c =
     let bytes = bytes-more row i c.piece-item.result (omega (arith, c.loop-piece-test.true)) (sym c.piece-item.is) in
     let places = places-more row i c.piece-item.result (omega (arith, c.loop-piece-test.true)) (sym c.piece-item.is) in
     record {
-      bytes = omega (arith, c.loop-piece.invariant.bytes, bytes, ap length c.as_str.ensures);
+      bytes = omega (arith, c.loop-piece.invariant.bytes, bytes, ap length c.as_str.ensures.value);
       places = omega (arith, c.loop-piece.invariant.places, places);
     }
