@@ -23,6 +23,9 @@ pub row-at : (bs : List Block) (q : ℕ) (b : Block) → q < length bs → b ≡
 row-at bs q b within is =
     get_or-map (λ (x : Block). points_in x.pieces.items) bs q b [] within ∙ ap (λ (x : Block). points_in x.pieces.items) (sym is)
 
+pub row-get : (bs : List Block) (q : ℕ) (b : Block) → q < length bs → get_or (rows_of bs) q [] ≡ points_in (get_or bs q b).pieces.items
+row-get bs q b within = get_or-map (λ (x : Block). points_in x.pieces.items) bs q b [] within
+
 pub length-points : (ps : List Piece) → length (points_in ps) ≡ length ps
 length-points ps = length-map ps points_of
 

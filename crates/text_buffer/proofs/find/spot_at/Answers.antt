@@ -5,7 +5,7 @@ use Rattle.std.specs.List.{concat}
 use Rattle.text_buffer.specs.Pieces.{points_in}
 use Rattle.text_buffer.specs.Blocks.{joined, rows_of}
 use Rattle.text_buffer.proofs.Sums.{places-append}
-use Rattle.text_buffer.proofs.Places.{row-at, kept-at, take-at, parts-of, length-points}
+use Rattle.text_buffer.proofs.Places.{row-get, kept-at, take-at, parts-of, length-points}
 use Rattle.text_buffer.proofs.find.spot_at.Goals as goal
 
 pub overflow_add-result : goal.overflow_add-result
@@ -15,7 +15,7 @@ overflow_add-result c =
     let s = c.block_at-before.ensures.stands in
     let x = c.index-blocks-before.result in
     let ps = c.deref.result.now in
-    let row = row-at bs b.block x s.within c.index-blocks-before.is ∙ ap points_in (sym c.deref.ensures.value) in
+    let row = row-get bs b.block x s.within ∙ ap points_in (sym c.deref.ensures.value) in
     let n = c.spot_in-here.result.number in
     let size = ap length row ∙ length-points ps in
     let all = parts-of bs b s in
@@ -28,7 +28,7 @@ returns-clause-number c =
     let s = c.block_at-before.ensures.stands in
     let x = c.index-blocks-before.result in
     let ps = c.deref.result.now in
-    let row = row-at bs b.block x s.within c.index-blocks-before.is ∙ ap points_in (sym c.deref.ensures.value) in
+    let row = row-get bs b.block x s.within ∙ ap points_in (sym c.deref.ensures.value) in
     let n = c.spot_in-here.result.number in
     let size = ap length row ∙ length-points ps in
     let all = parts-of bs b s in
@@ -41,7 +41,7 @@ returns-clause-place c =
     let s = c.block_at-before.ensures.stands in
     let x = c.index-blocks-before.result in
     let ps = c.deref.result.now in
-    let row = row-at bs b.block x s.within c.index-blocks-before.is ∙ ap points_in (sym c.deref.ensures.value) in
+    let row = row-get bs b.block x s.within ∙ ap points_in (sym c.deref.ensures.value) in
     let n = c.spot_in-here.result.number in
     let size = ap length row ∙ length-points ps in
     let before = ap (λ t. length (concat t)) (take-at bs b s n (omega (arith, size, c.spot_in-here.ensures.number))) in
@@ -56,7 +56,7 @@ returns-clause-within c =
     let s = c.block_at-before.ensures.stands in
     let x = c.index-blocks-before.result in
     let ps = c.deref.result.now in
-    let row = row-at bs b.block x s.within c.index-blocks-before.is ∙ ap points_in (sym c.deref.ensures.value) in
+    let row = row-get bs b.block x s.within ∙ ap points_in (sym c.deref.ensures.value) in
     let n = c.spot_in-here.result.number in
     let size = ap length row ∙ length-points ps in
     let at = ap length (kept-at bs b s n (omega (arith, size, c.spot_in-here.ensures.number)) ∙ ap (λ t. get_or t n []) row) in
@@ -69,7 +69,7 @@ returns-clause-inside c = λ more.
     let s = c.block_at-before.ensures.stands in
     let x = c.index-blocks-before.result in
     let ps = c.deref.result.now in
-    let row = row-at bs b.block x s.within c.index-blocks-before.is ∙ ap points_in (sym c.deref.ensures.value) in
+    let row = row-get bs b.block x s.within ∙ ap points_in (sym c.deref.ensures.value) in
     let n = c.spot_in-here.result.number in
     let size = ap length row ∙ length-points ps in
     let all = parts-of bs b s in

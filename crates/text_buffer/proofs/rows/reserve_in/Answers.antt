@@ -1,5 +1,5 @@
 -- The paragraphs stay.
-use Rattle.std.proofs.Common.{sym, ap, ◌∙◌}
+use Rattle.std.proofs.Common.{ap}
 use Rattle.std.proofs.Math.Seq.{map-set_same}
 use Rattle.text_buffer.specs.declared.block.Block.{Block}
 use Rattle.text_buffer.specs.Pieces.{points_in}
@@ -8,5 +8,5 @@ use Rattle.text_buffer.proofs.rows.reserve_in.Goals as goal
 pub returns : goal.returns
 returns c = record {
   rows = map-set_same (λ (b : Block). points_in b.pieces.items) c.args.blocks.now c.args.q c.reserve.new.self c.index-blocks-q.result
-      (ap points_in c.reserve.ensures.pieces ∙ ap (λ (b : Block). points_in b.pieces.items) c.index-blocks-q.is);
+      (ap points_in c.reserve.ensures.pieces);
 }
