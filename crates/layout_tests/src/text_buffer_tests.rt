@@ -44,7 +44,9 @@ fn is_split(alloc: Global, tables: &Tables, buffer: &Buffer) -> Result<bool, Mem
         && text.len() == buffer.bytes()
         && text.chars().count() == buffer.len();
     for (number, para) in paras.iter().enumerate() {
-        right = number < buffer.paragraph_count() && is_same(&buffer.paragraph(number), para) && right;
+        right = number < buffer.paragraph_count()
+            && is_same(&buffer.paragraph(number), para)
+            && right;
     }
     let mut number = 0;
     for place in 0..=buffer.len() {
@@ -68,12 +70,7 @@ fn change(tables: &Tables, buffer: &mut Buffer, step: Step) -> Result<(), Buffer
 }
 
 /// Makes a change, once more where memory was refused and the text as it was.
-fn make(
-    alloc: Global,
-    tables: &Tables,
-    buffer: &mut Buffer,
-    step: Step,
-) -> Result<bool, Memory>
+fn make(alloc: Global, tables: &Tables, buffer: &mut Buffer, step: Step) -> Result<bool, Memory>
     requires { IsSplit tables.now buffer.old }
     ensures { IsSplit tables.now buffer.new }
 {
@@ -110,18 +107,92 @@ impl Row for Typed {
 
 const TYPED: &[Typed] = &[
     Typed("", &[]),
-    Typed("", &[(Put(0, 'a'), "a"), (Put(1, '\n'), "a\n"), (Cut(0), "\n"), (Cut(0), "")]),
+    Typed(
+        "",
+        &[
+            (Put(0, 'a'), "a"),
+            (Put(1, '\n'), "a\n"),
+            (Cut(0), "\n"),
+            (Cut(0), ""),
+        ],
+    ),
     // CR and LF on both sides of each other.
-    Typed("ab", &[(Put(1, '\r'), "a\rb"), (Put(2, '\n'), "a\r\nb"), (Cut(1), "a\nb"), (Put(1, '\r'), "a\r\nb"), (Cut(2), "a\rb"), (Cut(1), "ab")]),
-    Typed("ab", &[(Put(1, '\n'), "a\nb"), (Put(1, '\r'), "a\r\nb"), (Put(2, '\r'), "a\r\r\nb"), (Put(2, '\n'), "a\r\n\r\nb"), (Put(3, 'x'), "a\r\nx\r\nb")]),
-    Typed("a\r\nb", &[(Put(2, 'x'), "a\rx\nb"), (Cut(2), "a\r\nb"), (Put(2, '\n'), "a\r\n\nb"), (Cut(1), "a\n\nb")]),
-    Typed("\r\u{2029}\n", &[(Cut(1), "\r\n"), (Put(1, '\u{2029}'), "\r\u{2029}\n"), (Cut(0), "\u{2029}\n"), (Cut(0), "\n")]),
+    Typed(
+        "ab",
+        &[
+            (Put(1, '\r'), "a\rb"),
+            (Put(2, '\n'), "a\r\nb"),
+            (Cut(1), "a\nb"),
+            (Put(1, '\r'), "a\r\nb"),
+            (Cut(2), "a\rb"),
+            (Cut(1), "ab"),
+        ],
+    ),
+    Typed(
+        "ab",
+        &[
+            (Put(1, '\n'), "a\nb"),
+            (Put(1, '\r'), "a\r\nb"),
+            (Put(2, '\r'), "a\r\r\nb"),
+            (Put(2, '\n'), "a\r\n\r\nb"),
+            (Put(3, 'x'), "a\r\nx\r\nb"),
+        ],
+    ),
+    Typed(
+        "a\r\nb",
+        &[
+            (Put(2, 'x'), "a\rx\nb"),
+            (Cut(2), "a\r\nb"),
+            (Put(2, '\n'), "a\r\n\nb"),
+            (Cut(1), "a\n\nb"),
+        ],
+    ),
+    Typed(
+        "\r\u{2029}\n",
+        &[
+            (Cut(1), "\r\n"),
+            (Put(1, '\u{2029}'), "\r\u{2029}\n"),
+            (Cut(0), "\u{2029}\n"),
+            (Cut(0), "\n"),
+        ],
+    ),
     Typed("\rx\nb", &[(Cut(1), "\r\nb"), (Cut(0), "\nb")]),
     // Separators alone.
-    Typed("\n\n\n", &[(Cut(1), "\n\n"), (Put(1, '\r'), "\n\r\n"), (Cut(2), "\n\r"), (Put(0, '\r'), "\r\n\r"), (Put(3, '\n'), "\r\n\r\n")]),
-    Typed("\r\r\r", &[(Put(1, '\n'), "\r\n\r\r"), (Put(4, '\n'), "\r\n\r\r\n"), (Cut(3), "\r\n\r\n"), (Cut(1), "\r\r\n")]),
+    Typed(
+        "\n\n\n",
+        &[
+            (Cut(1), "\n\n"),
+            (Put(1, '\r'), "\n\r\n"),
+            (Cut(2), "\n\r"),
+            (Put(0, '\r'), "\r\n\r"),
+            (Put(3, '\n'), "\r\n\r\n"),
+        ],
+    ),
+    Typed(
+        "\r\r\r",
+        &[
+            (Put(1, '\n'), "\r\n\r\r"),
+            (Put(4, '\n'), "\r\n\r\r\n"),
+            (Cut(3), "\r\n\r\n"),
+            (Cut(1), "\r\r\n"),
+        ],
+    ),
     // Characters of one to four bytes, and the ends of paragraphs.
-    Typed("\u{5D0}b\n\u{20AC}\u{1F600}\n", &[(Put(3, '\u{1F600}'), "\u{5D0}b\n\u{1F600}\u{20AC}\u{1F600}\n"), (Cut(2), "\u{5D0}b\u{1F600}\u{20AC}\u{1F600}\n"), (Put(6, '\u{5D0}'), "\u{5D0}b\u{1F600}\u{20AC}\u{1F600}\n\u{5D0}"), (Cut(5), "\u{5D0}b\u{1F600}\u{20AC}\u{1F600}\u{5D0}")]),
+    Typed(
+        "\u{5D0}b\n\u{20AC}\u{1F600}\n",
+        &[
+            (
+                Put(3, '\u{1F600}'),
+                "\u{5D0}b\n\u{1F600}\u{20AC}\u{1F600}\n",
+            ),
+            (Cut(2), "\u{5D0}b\u{1F600}\u{20AC}\u{1F600}\n"),
+            (
+                Put(6, '\u{5D0}'),
+                "\u{5D0}b\u{1F600}\u{20AC}\u{1F600}\n\u{5D0}",
+            ),
+            (Cut(5), "\u{5D0}b\u{1F600}\u{20AC}\u{1F600}\u{5D0}"),
+        ],
+    ),
 ];
 
 #[test]
@@ -129,7 +200,18 @@ fn edits_come_out_as_split_of_the_whole(rt: HostRuntime) {
     assert_rows(&rt, TYPED);
 }
 
-const ALPHABET: &[char] = &['\r', '\n', 'a', '\u{5D0}', '\u{2029}', '\u{20AC}', '\u{1F600}', '\r', '\n', '\u{85}'];
+const ALPHABET: &[char] = &[
+    '\r',
+    '\n',
+    'a',
+    '\u{5D0}',
+    '\u{2029}',
+    '\u{20AC}',
+    '\u{1F600}',
+    '\r',
+    '\n',
+    '\u{85}',
+];
 
 /// So many edits by chance, from a seed.
 struct ByChance {
@@ -163,5 +245,17 @@ impl Row for ByChance {
 
 #[test]
 fn edits_by_chance_come_out_as_split_of_the_whole(rt: HostRuntime) {
-    assert_rows(&rt, &[ByChance { seed: 7, edits: 300 }, ByChance { seed: 11, edits: 300 }]);
+    assert_rows(
+        &rt,
+        &[
+            ByChance {
+                seed: 7,
+                edits: 300,
+            },
+            ByChance {
+                seed: 11,
+                edits: 300,
+            },
+        ],
+    );
 }

@@ -136,7 +136,12 @@ impl Buffer {
             return Err(BufferFault::TooLong);
         }
         let spot = spot_at(&self.blocks, place);
-        let text = with_char(self.alloc, text_of(&self.blocks, spot.number), spot.offset, ch)?;
+        let text = with_char(
+            self.alloc,
+            text_of(&self.blocks, spot.number),
+            spot.offset,
+            ch,
+        )?;
         self.paragraphs = change(
             self.alloc,
             tables,

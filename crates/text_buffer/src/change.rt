@@ -22,7 +22,12 @@ use unicode_tables::Tables;
 const FULL: usize = 512;
 
 /// The paragraphs of a text, all but the last one unless that is asked for.
-pub fn pieces_of(alloc: Global, tables: &Tables, text: &str, last: bool) -> Result<Vec<Piece>, Memory>
+pub fn pieces_of(
+    alloc: Global,
+    tables: &Tables,
+    text: &str,
+    last: bool,
+) -> Result<Vec<Piece>, Memory>
     ensures { let all = map (λ p. code_points p.text) (paragraphs tables.now text.now) in
         IfOk result (λ pieces. points_in pieces.items ≡ (if last then all else take (length all - 1) all)) }
 {

@@ -91,7 +91,7 @@ pub fn replace_at(
         bytes_in (concat (take from row ++ (points_in pieces.items ++ drop to row))) ≤ 4_000_000 }
     ensures ok { let row = get_or (rows_of blocks.old.items) q [] in
         OnOk result (kept_in blocks.new.items
-            ≡ joined (slice_set (rows_of blocks.old.items) q (take from row ++ (points_in pieces.items ++ drop to row)))) }
+        ≡ joined (slice_set (rows_of blocks.old.items) q (take from row ++ (points_in pieces.items ++ drop to row)))) }
     ensures err { OnErr result (kept_in blocks.new.items ≡ kept_in blocks.old.items) }
 {
     if pieces.is_empty() && to - from == count_in(blocks, q) {

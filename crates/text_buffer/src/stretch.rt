@@ -29,7 +29,9 @@ pub fn text_of(blocks: &[Block], number: usize) -> &str
     ensures { code_points result.now ≡ get_or (kept_in blocks.now) number [] }
 {
     let before = block_of(blocks, number);
-    blocks[before.block].pieces[number - before.paragraphs].text.as_str()
+    blocks[before.block].pieces[number - before.paragraphs]
+        .text
+        .as_str()
 }
 
 /// What is made anew where paragraph `number` gets another text: it, and those beside it that it no longer meets at a cut.
@@ -63,6 +65,7 @@ fn with_front(
     text: String,
 ) -> Result<Stretch, Memory>
     requires count { count ≡ length (kept_in blocks.now) }
+    requires fits { Fits (kept_in blocks.now) }
     requires there { number < length (kept_in blocks.now) }
 {
     let to = number + 1;
@@ -99,6 +102,7 @@ fn with_back(
     front: Stretch,
 ) -> Result<Stretch, Memory>
     requires count { count ≡ length (kept_in blocks.now) }
+    requires fits { Fits (kept_in blocks.now) }
 {
     let Stretch { from, to, mut text } = front;
     if to < count {

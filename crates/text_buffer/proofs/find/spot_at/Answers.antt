@@ -77,11 +77,11 @@ returns-clause-inside c = λ more.
     let places = ap (λ t. length (concat t)) row in
     elim (cases_lt (b.block + 1) (length bs)) [
       | inl later ↦
-        let less = c.block_at-before.ensures.inside later in
-        let near = c.spot_in-here.ensures.inside (omega (arith, less, places, c.block_at-before.ensures.reached)) in
-        omega (arith, at, near)
+          let less = c.block_at-before.ensures.inside later in
+          let near = c.spot_in-here.ensures.inside (omega (arith, less, places, c.block_at-before.ensures.reached)) in
+          omega (arith, at, near)
       | inr last ↦
-        let none = ap (λ t. length (joined t)) (all.last last) in
-        let near = c.spot_in-here.ensures.early (omega (arith, all.paragraphs, none, size, more)) in
-        omega (arith, at, near)
+          let none = ap (λ t. length (joined t)) (all.last last) in
+          let near = c.spot_in-here.ensures.early (omega (arith, all.paragraphs, none, size, more)) in
+          omega (arith, at, near)
     ]
