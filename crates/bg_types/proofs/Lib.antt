@@ -1,5 +1,6 @@
 -- The modules of this crate's proofs.
 pub mod Bools
+pub mod Edits
 pub mod Entries
 pub mod IdentifierOrder
 pub mod NextCounter

@@ -6,3 +6,4 @@ pub mod OperationSet
 pub mod Sink
 pub mod Classes
 pub mod Hashing
+pub mod Edit

@@ -1,11 +1,13 @@
 //! Laws of the definitions: each function's contract is the law, and its body is empty.
 
-ghost use Rattle.std.specs.Prelude.{◌≡◌, ◌<◌, ◌≤◌, ◌↔◌, ◌⊎◌, ◌+◌, ℕ, All};
+ghost use Rattle.std.specs.Prelude.{◌≡◌, ◌<◌, ◌≤◌, ◌↔◌, ◌⊎◌, ◌+◌, ◌++◌, ℕ, List, All};
 ghost use Rattle.std.specs.declared.cmp.Ordering.TheVariants.{Equal};
 ghost use Rattle.std.specs.Cmp.{IsTotalOrder};
 ghost use Rattle.bg_types.specs.Identifier.{Identifier, id_cmp};
 ghost use Rattle.bg_types.specs.OperationSet.{OperationSet, Holds, MayJoin, Agree, with_operation, union, no_operations, size, named_counters, next};
 ghost use Rattle.bg_types.specs.declared.op.OpView.{OpView};
+ghost use Rattle.bg_types.specs.declared.change.Change.{Change};
+ghost use Rattle.bg_types.specs.Edit.{IsEdit};
 
 /// The order of identifiers is total, and only equal identifiers tie.
 pub fn identifier_order()
@@ -39,4 +41,12 @@ pub fn united_operations()
 pub fn next_counter()
     ensures above { (s : OperationSet) (op : OpView) → Holds s op → All (λ c. c < next s) (named_counters op) }
     ensures least { (s : OperationSet) (n : ℕ) → 0 < n → ((op : OpView) → Holds s op → All (λ c. c < n) (named_counters op)) → next s ≤ n }
+{}
+
+/// Changes lead to one text, and those of two lists, one after the other, lead where the second leads from where the
+/// first leads.
+pub fn edits()
+    ensures one { (old a b : List ℕ) (changes : List Change) → IsEdit old changes a → IsEdit old changes b → a ≡ b }
+    ensures both { (old new : List ℕ) (one more : List Change) → IsEdit old (one ++ more) new
+        ↔ ((between : List ℕ) × (IsEdit old one between × IsEdit between more new)) }
 {}

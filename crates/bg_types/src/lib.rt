@@ -1,7 +1,8 @@
-//! Identifiers and operations of a replicated text, how tables hash them, character classes, and where
-//! bytes go.
+//! Identifiers and operations of a replicated text, how tables hash them, changes of a text, character classes, and
+//! where bytes go.
 #![tactic(auto)]
 
+mod change;
 mod class;
 mod fault;
 mod id;
@@ -12,6 +13,7 @@ mod out;
 mod sink;
 mod stops;
 
+pub use change::Change;
 pub use class::{Base, Bidi, Ea, Lb};
 pub use fault::{Device, Memory};
 pub use id::Id;

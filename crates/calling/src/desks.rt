@@ -6,6 +6,7 @@ ghost use Rattle.rga_tree.specs.TextOf.{text};
 ghost use Rattle.desk_replica.specs.Desk.{fresh};
 ghost use Rattle.desk_replica.specs.Merging.{with_operations};
 ghost use Rattle.bg_types.specs.OperationSet.{union};
+ghost use Rattle.calling.specs.Made.{Appended};
 
 use crate::fault::Fault;
 use bg_types::Op;
@@ -27,7 +28,8 @@ pub fn new_desk(alloc: Global, site: u16, key: u128) -> Desk
 /// Types words at the end of a desk's text, and appends the operations that this made to
 /// `made`, to be sent to the other desks.
 pub fn type_words(desk: &mut Desk, words: &str, made: &mut Vec<Op>) -> Result<(), Fault>
-    ensures { OnOk result (text desk.new.set ≡ text desk.old.set ++ chars words.now) }
+    ensures typed { OnOk result (text desk.new.set ≡ text desk.old.set ++ chars words.now) }
+    ensures made { OnOk result (Appended desk.old.set desk.new.set made.old.items made.new.items) }
 {
     for ch in words.chars() {
         let op = desk.type_char(desk.len(), ch)?;

@@ -1,8 +1,9 @@
 -- The modules of this crate's proofs.
-pub mod LastBelow
 pub mod RowOrder
 pub mod CaretAt
 pub mod Steps
 pub mod CaretRows
 pub mod Finding
 pub mod PlaceLaw
+pub mod Neighbours
+pub mod Positions

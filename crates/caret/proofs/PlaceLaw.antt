@@ -14,7 +14,7 @@ use Rattle.cell_grid.specs.Laws.{RowsFollow, Holds, IsWithin, HoldsPlacesOnce}
 use Rattle.caret.specs.declared.caret.Caret.{Caret}
 use Rattle.caret.specs.Places.{begins_by, row_at, holds, ends_at, entry_where, before_cluster, behind_cluster, gap_zero, at_cluster, at_end, caret_at}
 use Rattle.caret.specs.Laws.{StandsBeforeCluster, StandsBehindText}
-use Rattle.caret.proofs.LastBelow.{last_below-within}
+use Rattle.cell_grid.proofs.Interface.{last_below-within}
 use Rattle.caret.proofs.RowOrder.{first_place-row_at, last_place-row_at, row_at-end, last_place-at_end, first_place-last_place}
 use Rattle.caret.proofs.CaretAt.{caret_at-end, caret_at-cluster}
 use Rattle.caret.proofs.Finding.{Found, found}

@@ -4,29 +4,38 @@ use Rattle.std.specs.Prelude.{nat_le, slice_get}
 use Rattle.std.specs.Option.{option_map_or}
 use Rattle.std.specs.List.Sorted.{IsNonDecreasingBy, IsPartitionPoint}
 use Rattle.std.proofs.lemmas.Option.{slice_get-get_or, slice_get_within}
-use Rattle.std.proofs.lemmas.Bool.{leb-true, leb-false, le-leb, cases_lt}
+use Rattle.std.proofs.lemmas.Bool.{leb-true, leb-false, le-leb, both_ways, cases_lt}
 use Rattle.cell_grid.specs.Rows.{DrawnRow}
 use Rattle.cell_grid.specs.Laws.{RowsFollow}
+use Rattle.cell_grid.specs.Windows.{FirstPlacesRise}
 use Rattle.caret.specs.Places.{begins_by, row_at}
-use Rattle.caret.proofs.LastBelow.{last_below-is, last_below-later, last_below-passes}
+use Rattle.cell_grid.proofs.Interface.{last_below-is, last_below-later, last_below-passes}
 
--- a row of a grid begins where the rows begin, or later
-first_place-from : (from to : ℕ) (rows : List DrawnRow) (k : ℕ) (d : DrawnRow) → RowsFollow from rows to → k < length rows → from ≤ (get_or rows k d).first_place
-first_place-from from to [] k d follow within = absurd (omega arith)
-first_place-from from to (r ∷ later) zero d follow within = omega (arith, follow.0)
-first_place-from from to (r ∷ later) (suc k) d follow within =
-    let next : r.last_place ≤ (get_or later k d).first_place = first_place-from r.last_place to later k d follow.2 (omega arith) in
-    omega (arith, follow.0, follow.1)
+rises-first : (r : DrawnRow) (rows : List DrawnRow) (j : ℕ) (d : DrawnRow) → FirstPlacesRise (r ∷ rows) → j < length rows → r.first_place < (get_or rows j d).first_place
+rises-first r [] j d h within = absurd (omega arith)
+rises-first r (s ∷ later) zero d h within = h.0
+rises-first r (s ∷ later) (suc j) d h within =
+    let next = rises-first s later j d h.1 (omega arith) in
+    let here = h.0 in
+    omega arith
 
--- first places never fall
-pub first_place-rises : (from to : ℕ) (rows : List DrawnRow) → RowsFollow from rows to → IsNonDecreasingBy (λ (r : DrawnRow). r.first_place) rows
-first_place-rises from to [] follow i j d le within = absurd (omega arith)
-first_place-rises from to (r ∷ later) follow zero j d le within = omega (arith, follow.0, first_place-from from to (r ∷ later) j d follow within)
-first_place-rises from to (r ∷ later) follow (suc i) zero d le within = absurd (omega arith)
-first_place-rises from to (r ∷ later) follow (suc i) (suc j) d le within =
-    first_place-rises r.last_place to later follow.2 i j d (omega arith) (omega arith)
+-- a later row begins later
+pub rises-at : (rows : List DrawnRow) (i j : ℕ) (d : DrawnRow) → FirstPlacesRise rows → i < j → j < length rows → (get_or rows i d).first_place < (get_or rows j d).first_place
+rises-at [] i j d h lt within = absurd (omega arith)
+rises-at (r ∷ rows) i zero d h lt within = absurd (omega arith)
+rises-at (r ∷ rows) zero (suc j) d h lt within = rises-first r rows j d h (omega arith)
+rises-at (r ∷ []) (suc i) (suc j) d h lt within = absurd (omega arith)
+rises-at (r ∷ s ∷ later) (suc i) (suc j) d h lt within = rises-at (s ∷ later) i j d h.1 (omega arith) (omega arith)
 
-begins_by-at : (rows : List DrawnRow) (p k : ℕ) (d : DrawnRow) → k < length rows → begins_by rows p k ≡ nat_le (get_or rows k d).first_place p
+-- so first places never fall
+pub rises-ordered : (rows : List DrawnRow) → FirstPlacesRise rows → IsNonDecreasingBy (λ (r : DrawnRow). r.first_place) rows
+rises-ordered rows h i j d le within =
+    elim (cases_lt i j) [
+      | inl less ↦ let strict = rises-at rows i j d h less within in omega arith
+      | inr same ↦ let e : i ≡ j = omega arith in let f = ap (λ k. (get_or rows k d).first_place) e in omega arith
+    ]
+
+pub begins_by-at : (rows : List DrawnRow) (p k : ℕ) (d : DrawnRow) → k < length rows → begins_by rows p k ≡ nat_le (get_or rows k d).first_place p
 begins_by-at rows p k d within =
     ap (λ o. option_map_or (λ (row : DrawnRow). nat_le row.first_place p) o false) (slice_get-get_or rows k d within)
 
@@ -34,19 +43,19 @@ begins_by-at rows p k d within =
 abbrev pub Splits : List DrawnRow → ℕ → ℕ → Type 0
 Splits rows p i = IsPartitionPoint (λ (r : DrawnRow). nat_le r.first_place p ≡ true) (λ (r : DrawnRow). nat_le r.first_place p ≡ false) rows i
 
--- row 0 begins at place 0, so it is among those before
-pub some-splits : (to p i : ℕ) (rows : List DrawnRow) → RowsFollow 0 rows to → 0 < length rows → Splits rows p i → 0 < i
-some-splits to p i [] follow some splits = absurd (omega arith)
-some-splits to p zero (r ∷ later) follow some splits =
-    let past : p < r.first_place = leb-false r.first_place p (splits.1 0 r (omega arith) (omega arith)) in
-    absurd (omega (arith, follow.0))
-some-splits to p (suc i) (r ∷ later) follow some splits = omega arith
+-- row 0 is among those before, where it begins by p
+pub some-splits : (p i : ℕ) (rows : List DrawnRow) → begins_by rows p 0 ≡ true → Splits rows p i → 0 < i
+some-splits p i [] begun splits = cc
+some-splits p zero (r ∷ later) begun splits =
+    let past : nat_le r.first_place p ≡ false = splits.1 0 r (omega arith) (omega arith) in
+    absurd (both_ways (nat_le r.first_place p) past begun)
+some-splits p (suc i) (r ∷ later) begun splits = omega arith
 
 -- and the last of those before is the row of p
-pub row_at-splits : (to p i : ℕ) (rows : List DrawnRow) → RowsFollow 0 rows to → 0 < length rows → i ≤ length rows → Splits rows p i → row_at rows p ≡ i - 1
-row_at-splits to p i [] follow some within splits = absurd (omega arith)
-row_at-splits to p i (r ∷ later) follow some within splits =
-    let first : 0 < i = some-splits to p i (r ∷ later) follow some splits in
+pub row_at-splits : (p i : ℕ) (rows : List DrawnRow) → begins_by rows p 0 ≡ true → i ≤ length rows → Splits rows p i → row_at rows p ≡ i - 1
+row_at-splits p i [] begun within splits = cc
+row_at-splits p i (r ∷ later) begun within splits =
+    let first : 0 < i = some-splits p i (r ∷ later) begun splits in
     let rows = r ∷ later in
     last_below-is (begins_by rows p) (length rows) (i - 1) (omega arith)
     (begins_by-at rows p (i - 1) r (omega arith) ∙ splits.0 (i - 1) r (omega arith) (omega arith))
@@ -86,6 +95,11 @@ first_place-last_place from to [] k row follow is = absurd (cc)
 first_place-last_place from to (r ∷ later) zero row follow is =
     let same : r ≡ row = cc in subst (λ (x : DrawnRow). x.first_place ≤ x.last_place) same follow.1
 first_place-last_place from to (r ∷ later) (suc k) row follow is = first_place-last_place r.last_place to later k row follow.2 is
+
+-- row 0 of a grid begins by any place
+pub begun-follow : (to p : ℕ) (rows : List DrawnRow) → RowsFollow 0 rows to → 0 < length rows → begins_by rows p 0 ≡ true
+begun-follow to p [] follow some = absurd (omega arith)
+begun-follow to p (r ∷ rows) follow some = le-leb r.first_place p (omega (arith, follow.0))
 
 module _ (to p : ℕ) (rows : List DrawnRow) (row : DrawnRow) (follow : RowsFollow 0 rows to) (is : slice_get rows (row_at rows p) ≡ Some row) where
   -- the row of p is the last one, or the next one begins after p

@@ -3,4 +3,5 @@ pub mod Lists
 pub mod Gaps
 pub mod Moves
 pub mod Places
+pub mod Positions
 pub mod Laws

@@ -60,6 +60,10 @@ left_of rows caret = option_map_or (left_in rows caret) (slice_get rows caret.ro
 abbrev pub caret_by : ℕ → ℕ → DrawnRow → Caret
 caret_by column number row = record { row = number; gap = last_gap_by row column; place = gap_place row (last_gap_by row column) }
 
+-- `at_column`: the caret in the row with this number by this column
+abbrev pub caret_under : List DrawnRow → (row column : ℕ) → Caret
+caret_under rows row column = option_map_or (caret_by column row) (slice_get rows row) (record { row = row; gap = 0; place = 0 })
+
 -- the column of a caret's gap
 abbrev pub column_of : List DrawnRow → Caret → ℕ
 column_of rows caret = option_map_or (λ row. gap_column row caret.gap) (slice_get rows caret.row) 0

@@ -1,5 +1,5 @@
 -- *CaretMoves*: the caret at a place of the text.
-use Rattle.std.specs.Prelude.{ℕ, ◌+◌, Bool, false, ◌&&◌, ◌==◌, nat_le, nat_lt, List, length, Option, find, slice_get, if◌then◌else◌}
+use Rattle.std.specs.Prelude.{ℕ, ◌+◌, Bool, ◌&&◌, ◌==◌, nat_le, nat_lt, List, length, Option, find, slice_get, if◌then◌else◌}
 use Rattle.std.specs.List.{enumerate_from}
 use Rattle.std.specs.Option.{option_map_or}
 use Rattle.std.specs.Str.{chars}
@@ -8,15 +8,7 @@ use Rattle.cell_grid.specs.declared.entry.Entry.{Entry}
 use Rattle.cell_grid.specs.Rows.{DrawnRow}
 use Rattle.cell_grid.specs.Grids.{DrawnGrid}
 use Rattle.caret.specs.declared.caret.Caret.{Caret}
-use Rattle.caret.specs.Lists.{last_below}
-
--- the first place of the row with this number is at most p
-abbrev pub begins_by : List DrawnRow → ℕ → ℕ → Bool
-begins_by rows p number = option_map_or (λ (row : DrawnRow). nat_le row.first_place p) (slice_get rows number) false
-
--- the last row whose first place is at most p
-abbrev pub row_at : List DrawnRow → ℕ → ℕ
-row_at rows p = last_below (begins_by rows p) (length rows)
+pub use Rattle.cell_grid.specs.Windows.{begins_by, row_at}
 
 -- the entry's cluster holds place p
 abbrev pub holds : ℕ → Entry → Bool
@@ -57,3 +49,11 @@ caret_in code_points p number row = if p == code_points then at_end number row e
 -- `at_place`
 abbrev pub caret_at : DrawnGrid → ℕ → Caret
 caret_at grid p = option_map_or (caret_in (length (chars grid.text)) p (row_at grid.rows p)) (slice_get grid.rows (row_at grid.rows p)) (gap_zero 0 p)
+
+-- the caret at place p, in this row of some: at its end where p is its last place
+abbrev pub caret_in_row : ℕ → ℕ → DrawnRow → Caret
+caret_in_row p number row = if p == row.last_place then at_end number row else at_cluster p number row
+
+-- the caret at place p among rows
+abbrev pub caret_among : List DrawnRow → ℕ → Caret
+caret_among rows p = option_map_or (caret_in_row p (row_at rows p)) (slice_get rows (row_at rows p)) (gap_zero 0 p)

@@ -1,12 +1,12 @@
-//! Moves of a caret: right, left, up and down.
+//! Moves of a caret on a grid: right, left, up and down.
 
-ghost use Rattle.std.specs.Prelude.{◌≡◌, ◌<◌, ◌≤◌, length};
+ghost use Rattle.std.specs.Prelude.{◌≡◌};
 ghost use Rattle.caret.specs.Gaps.{IsCaretOf};
-ghost use Rattle.caret.specs.Moves.{logical_start, logical_end, onwards, backwards, right_of, left_of, up_of, down_of};
+ghost use Rattle.caret.specs.Moves.{right_of, left_of, up_of, down_of};
 
+use crate::among::{down_among, left_among, right_among, up_among};
 use crate::caret::Caret;
-use crate::gaps::{caret_by, gap_column, is_odd, left_side, right_side};
-use cell_grid::{Grid, Row};
+use cell_grid::Grid;
 
 /// A move of a caret.
 #[derive(Clone, Copy, Debug, PartialEq, Eq)]
@@ -15,60 +15,6 @@ pub enum Move {
     Right,
     Up,
     Down,
-}
-
-/// A row's logical start: its left edge in a paragraph of even level, its right edge in one of odd level.
-fn logical_start(row: &Row, number: usize) -> Caret
-    ensures caret { result ≡ logical_start number row.now }
-    ensures within { result.gap ≤ length row.now.entries }
-{
-    Caret {
-        row: number,
-        gap: if is_odd(row.para_level()) {
-            row.entries().len()
-        } else {
-            0
-        },
-        place: row.first_place(),
-    }
-}
-
-/// A row's logical end: the other edge.
-fn logical_end(row: &Row, number: usize) -> Caret
-    ensures caret { result ≡ logical_end number row.now }
-    ensures within { result.gap ≤ length row.now.entries }
-{
-    Caret {
-        row: number,
-        gap: if is_odd(row.para_level()) {
-            0
-        } else {
-            row.entries().len()
-        },
-        place: row.last_place(),
-    }
-}
-
-/// To the next row's logical start; in the last row the caret stays.
-fn onwards(rows: &[Row], caret: Caret) -> Caret
-    requires { IsCaretOf rows.now caret }
-    ensures caret { result ≡ onwards rows.now caret }
-    ensures within { IsCaretOf rows.now result }
-{
-    rows.get(caret.row + 1)
-        .map_or(caret, |row| logical_start(row, caret.row + 1))
-}
-
-/// To the logical end of the row before; in the first row the caret stays.
-fn backwards(rows: &[Row], caret: Caret) -> Caret
-    requires { IsCaretOf rows.now caret }
-    ensures caret { result ≡ backwards rows.now caret }
-    ensures within { IsCaretOf rows.now result }
-{
-    if caret.row == 0 {
-        return caret;
-    }
-    logical_end(&rows[caret.row - 1], caret.row - 1)
 }
 
 /// The caret after one step to the right.
@@ -81,17 +27,7 @@ pub fn right(grid: &Grid, caret: Caret) -> Caret
     ensures caret { result ≡ right_of grid.now.rows caret }
     ensures within { IsCaretOf grid.now.rows result }
 {
-    let rows = grid.rows();
-    let row = &rows[caret.row];
-    match row.entries().get(caret.gap) {
-        Some(entry) => Caret {
-            row: caret.row,
-            gap: caret.gap + 1,
-            place: right_side(entry),
-        },
-        None if is_odd(row.para_level()) => backwards(rows, caret),
-        None => onwards(rows, caret),
-    }
+    right_among(grid.rows(), caret)
 }
 
 /// The caret after one step to the left.
@@ -104,20 +40,7 @@ pub fn left(grid: &Grid, caret: Caret) -> Caret
     ensures caret { result ≡ left_of grid.now.rows caret }
     ensures within { IsCaretOf grid.now.rows result }
 {
-    let rows = grid.rows();
-    let row = &rows[caret.row];
-    if caret.gap > 0 {
-        return Caret {
-            row: caret.row,
-            gap: caret.gap - 1,
-            place: left_side(&row.entries()[caret.gap - 1]),
-        };
-    }
-    if is_odd(row.para_level()) {
-        onwards(rows, caret)
-    } else {
-        backwards(rows, caret)
-    }
+    left_among(grid.rows(), caret)
 }
 
 /// The caret one row higher: at that row's last gap whose column isn't greater than the caret's,
@@ -127,12 +50,7 @@ pub fn up(grid: &Grid, caret: Caret) -> Caret
     ensures caret { result ≡ up_of grid.now.rows caret }
     ensures within { IsCaretOf grid.now.rows result }
 {
-    let rows = grid.rows();
-    if caret.row == 0 {
-        return caret;
-    }
-    let column = gap_column(&rows[caret.row], caret.gap);
-    caret_by(&rows[caret.row - 1], caret.row - 1, column)
+    up_among(grid.rows(), caret)
 }
 
 /// The caret one row lower: at that row's last gap whose column isn't greater than the caret's,
@@ -142,12 +60,5 @@ pub fn down(grid: &Grid, caret: Caret) -> Caret
     ensures caret { result ≡ down_of grid.now.rows caret }
     ensures within { IsCaretOf grid.now.rows result }
 {
-    let rows = grid.rows();
-    match rows.get(caret.row + 1) {
-        Some(next) => {
-            let column = gap_column(&rows[caret.row], caret.gap);
-            caret_by(next, caret.row + 1, column)
-        }
-        None => caret,
-    }
+    down_among(grid.rows(), caret)
 }

@@ -1,11 +1,12 @@
 //! The caret at a place of the text.
 
-ghost use Rattle.std.specs.Prelude.{◌≡◌, ◌+◌, ◌<◌, ◌≤◌, length, IfSome};
+ghost use Rattle.std.specs.Prelude.{◌≡◌, ◌+◌, ◌<◌, ◌≤◌, true, length, IfSome};
 ghost use Rattle.std.specs.Str.{chars};
-ghost use Rattle.cell_grid.specs.Grids.{DrawnGrid};
+ghost use Rattle.cell_grid.specs.Windows.{FirstPlacesRise};
 ghost use Rattle.caret.specs.Gaps.{IsCaretOf};
-ghost use Rattle.caret.specs.Places.{holds, ends_at, entry_where, row_at, gap_zero, at_cluster, at_end, caret_at};
+ghost use Rattle.caret.specs.Places.{holds, ends_at, entry_where, begins_by, row_at, gap_zero, at_cluster, at_end, caret_at};
 
+use crate::among::at_place_among;
 use crate::caret::Caret;
 use crate::gaps::is_odd;
 use cell_grid::{Entry, Grid, Row, laws};
@@ -42,12 +43,12 @@ fn entry_up_to(entries: &[Entry], place: usize) -> Option<(usize, Entry)>
 }
 
 /// The last row whose first place is at most `place`, by binary search.
-fn row_at(grid: &Grid, place: usize) -> usize
-    ensures number { result ≡ row_at grid.now.rows place }
-    ensures within { result < length grid.now.rows }
+pub(crate) fn row_at(rows: &[Row], place: usize) -> usize
+    requires rises { FirstPlacesRise rows.now }
+    requires begun { begins_by rows.now place 0 ≡ true }
+    ensures number { result ≡ row_at rows.now place }
+    ensures within { result < length rows.now }
 {
-    laws::rows_follow();
-    let rows = grid.rows();
     let count = rows.partition_point(|row| row.first_place() <= place);
     count - 1
 }
@@ -65,7 +66,7 @@ fn gap_zero(number: usize, place: usize) -> Caret
 
 /// The caret at the start of a row's cluster that holds a place: the cluster's left gap at an even
 /// level, its right gap at an odd one.
-fn at_cluster(row: &Row, number: usize, place: usize) -> Caret
+pub(crate) fn at_cluster(row: &Row, number: usize, place: usize) -> Caret
     ensures caret { result ≡ at_cluster place number row.now }
     ensures row { result.row ≡ number }
     ensures within { result.gap ≤ length row.now.entries }
@@ -83,7 +84,7 @@ fn at_cluster(row: &Row, number: usize, place: usize) -> Caret
 
 /// The caret at the end of a row's logically last cluster: the cluster's right gap at an even level,
 /// its left gap at an odd one. In an empty row it is gap 0.
-fn at_end(row: &Row, number: usize) -> Caret
+pub(crate) fn at_end(row: &Row, number: usize) -> Caret
     ensures caret { result ≡ at_end number row.now }
     ensures row { result.row ≡ number }
     ensures within { result.gap ≤ length row.now.entries }
@@ -110,11 +111,6 @@ pub fn at_place(grid: &Grid, place: usize) -> Caret
     ensures within { IsCaretOf grid.now.rows result }
 {
     laws::rows_follow();
-    let number = row_at(grid, place);
-    let row = &grid.rows()[number];
-    if place == row.last_place() {
-        at_end(row, number)
-    } else {
-        at_cluster(row, number, place)
-    }
+    laws::first_places_rise();
+    at_place_among(grid.rows(), place)
 }

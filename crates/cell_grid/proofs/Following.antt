@@ -2,9 +2,11 @@
 use Rattle.std.proofs.Common.{◌≡◌, ℕ, ◌+◌, ◌<◌, ◌≤◌, List, [], ◌∷◌, ◌++◌, map, length, take, flat_map, refl, sym, ap, subst, ◌∙◌, arith, inl, inr, length-append}
 use Rattle.std.proofs.lemmas.List.{take_all, length-map}
 use Rattle.std.proofs.lemmas.List.Concat.{flat_map-cons}
+use Rattle.std.proofs.lemmas.List.Sums.{sum_by-cons}
 use Rattle.std.proofs.lemmas.List.Elements.{All-head, All-tail, All-map, All-weaker}
 use Rattle.std.proofs.lemmas.Bool.Decides.{leb_tells}
 use Rattle.std.specs.List.{All}
+use Rattle.std.specs.Prelude.{sum_by}
 use Rattle.std.specs.Str.{IsUtf8}
 use Rattle.bg_types.specs.declared.class.Base.{Base}
 use Rattle.unicode_tables.specs.Tables.{TableValues}
@@ -68,10 +70,10 @@ module _ (below : LawsBelow) (tables : TableValues) (width para : ℕ) (text lev
       let nothing : (k : ℕ) → k ≡ 0 → points (take k (clusters text)) ≡ 0 = λ k e. ap (λ n. points (take n (clusters text))) e in
       (first ∙ nothing line.start start, l.stand.places, last ∙ nothing line.end end)
 
-points-clusters : (below : LawsBelow) (text : List ℕ) → IsUtf8 text → points (clusters text) ≡ length (code_points text)
+pub points-clusters : (below : LawsBelow) (text : List ℕ) → IsUtf8 text → points (clusters text) ≡ length (code_points text)
 points-clusters below text u = sym (points-concat (clusters text) (below.clusters_utf8 text u)) ∙ ap (λ t. length (code_points t)) (below.clusters_join text u)
 
-points-none : (cs : List (List ℕ)) → length cs ≡ 0 → points cs ≡ 0
+pub points-none : (cs : List (List ℕ)) → length cs ≡ 0 → points cs ≡ 0
 points-none [] e = refl
 points-none (c ∷ cs) e = absurd (omega arith)
 
@@ -106,28 +108,46 @@ abbrev pub place_behind : ℕ → List Paragraph → ℕ
 place_behind place [] = place
 place_behind place (p ∷ ps) = place_behind (place + length (code_points p.text)) ps
 
-module _ (below : LawsBelow) (tables : TableValues) (width : ℕ) (wide : 2 ≤ width) (base : Base) (text : List ℕ) (u : IsUtf8 text) where
-  paras-follow : (byte place : ℕ) (ps : List Paragraph) → All (StandsIn text) ps → ParagraphsFollow byte place ps
+module _ (below : LawsBelow) (tables : TableValues) (width : ℕ) (wide : 2 ≤ width) (base : Base) where
+  paras-follow : (byte place : ℕ) (ps : List Paragraph) → All (λ (p : Paragraph). IsUtf8 p.text) ps → ParagraphsFollow byte place ps
       → RowsFollow place (flat_map (paragraph_rows tables width base) ps) (place_behind place ps)
-  paras-follow byte place [] stand h = refl
-  paras-follow byte place (p ∷ ps) stand h =
+  paras-follow byte place [] utf8 h = refl
+  paras-follow byte place (p ∷ ps) utf8 h =
       let rows = paragraph_rows tables width base in
-      let utf8 = paragraph-utf8 text u p (All-head (StandsIn text) p ps stand) in
-      let own = RowsFollow-shifted p.first_byte p.first_place (rows_of tables width base p.text) 0 (length (code_points p.text)) (paragraph-follows below tables width wide base p.text utf8) in
+      let u = All-head (λ (q : Paragraph). IsUtf8 q.text) p ps utf8 in
+      let own = RowsFollow-shifted p.first_byte p.first_place (rows_of tables width base p.text) 0 (length (code_points p.text)) (paragraph-follows below tables width wide base p.text u) in
       let place_is = h.1 in
       let from : 0 + p.first_place ≡ place = omega arith in
       let to : length (code_points p.text) + p.first_place ≡ place + length (code_points p.text) = omega arith in
       subst (λ l. RowsFollow place l (place_behind place (p ∷ ps))) (sym (flat_map-cons rows p ps))
       (RowsFollow-append (rows p) (flat_map rows ps) place (place + length (code_points p.text)) (place_behind place (p ∷ ps))
       (same_from (rows p) (0 + p.first_place) place (place + length (code_points p.text)) from (same_to (rows p) (0 + p.first_place) (length (code_points p.text) + p.first_place) (place + length (code_points p.text)) to own))
-      (paras-follow (byte + length p.text) (place + length (code_points p.text)) ps (All-tail (StandsIn text) p ps stand) h.2))
+      (paras-follow (byte + length p.text) (place + length (code_points p.text)) ps (All-tail (λ (q : Paragraph). IsUtf8 q.text) p ps utf8) h.2))
+
+  behind-sum : (place : ℕ) (ps : List Paragraph) → place_behind place ps ≡ place + sum_by (λ (p : Paragraph). length (code_points p.text)) ps
+  behind-sum place [] = omega arith
+  behind-sum place (p ∷ ps) =
+      let e = behind-sum (place + length (code_points p.text)) ps in
+      let whole = sum_by-cons (λ (q : Paragraph). length (code_points q.text)) p ps in
+      omega arith
+
+  -- the rows of paragraphs take up their places in order
+  pub paragraphs-follow : (byte place : ℕ) (ps : List Paragraph) → All (λ (p : Paragraph). IsUtf8 p.text) ps → ParagraphsFollow byte place ps
+      → RowsFollow place (flat_map (paragraph_rows tables width base) ps) (place + sum_by (λ (p : Paragraph). length (code_points p.text)) ps)
+  paragraphs-follow byte place ps utf8 h =
+      same_to (flat_map (paragraph_rows tables width base) ps) place (place_behind place ps) (place + sum_by (λ (p : Paragraph). length (code_points p.text)) ps) (behind-sum place ps)
+      (paras-follow byte place ps utf8 h)
+
+-- the paragraphs of a text are texts
+pub paragraphs-utf8 : (text : List ℕ) → IsUtf8 text → (ps : List Paragraph) → All (StandsIn text) ps → All (λ (p : Paragraph). IsUtf8 p.text) ps
+paragraphs-utf8 text u ps stand = All-weaker (StandsIn text) (λ (p : Paragraph). IsUtf8 p.text) (paragraph-utf8 text u) ps stand
 
 texts : List Paragraph → List (List ℕ)
 texts ps = map (λ (p : Paragraph). p.text) ps
 
 texts-utf8 : (text : List ℕ) → IsUtf8 text → (ps : List Paragraph) → All (StandsIn text) ps → All IsUtf8 (texts ps)
 unfolding texts
-texts-utf8 text u ps stand = All-map IsUtf8 (λ (p : Paragraph). p.text) ps (All-weaker (StandsIn text) (λ (p : Paragraph). IsUtf8 p.text) (paragraph-utf8 text u) ps stand)
+texts-utf8 text u ps stand = All-map IsUtf8 (λ (p : Paragraph). p.text) ps (paragraphs-utf8 text u ps stand)
 
 behind-points : (place : ℕ) (ps : List Paragraph) → place_behind place ps ≡ place + points (texts ps)
 unfolding texts
@@ -145,7 +165,7 @@ rows-follow below g d =
     let end : place_behind 0 ps ≡ length (code_points g.text) = omega arith in
     subst (λ rows. RowsFollow 0 rows (length (code_points g.text))) (sym d.rows)
     (same_to (grid_rows g.tables d.width d.base g.text) 0 (place_behind 0 ps) (length (code_points g.text)) end
-    (paras-follow below g.tables d.width d.at_least d.base g.text d.utf8 0 0 ps stand (below.paragraphs_follow g.tables g.text d.utf8)))
+    (paras-follow below g.tables d.width d.at_least d.base 0 0 ps (paragraphs-utf8 g.text d.utf8 ps stand) (below.paragraphs_follow g.tables g.text d.utf8)))
 
 -- ---- a grid has a row
 

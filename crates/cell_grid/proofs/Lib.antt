@@ -24,4 +24,8 @@ pub mod Following
 pub mod CellsOnce
 pub mod Holding
 pub mod PlacesOnce
+pub mod LastBelow
+pub mod Windows
+pub mod Rising
+pub mod Moving
 pub mod Interface

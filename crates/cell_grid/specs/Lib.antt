@@ -11,3 +11,4 @@ pub mod Grids
 pub mod Print
 pub mod Printable
 pub mod Laws
+pub mod Windows

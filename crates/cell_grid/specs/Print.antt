@@ -1,6 +1,7 @@
 -- Print of a grid: the cells' texts, each row ended by one LF.
 use Rattle.std.specs.Prelude.{ℕ, zero, suc, Bool, true, false, List, [], ◌∷◌, ◌++◌, map, replicate, slice_get, slice_range, Option, Some, None, encode_utf8_all, if◌then◌else◌}
 use Rattle.std.specs.List.{flat_map}
+use Rattle.std.specs.Option.{option_map_or}
 use Rattle.bg_types.specs.declared.class.Base.{Base}
 use Rattle.bg_types.specs.declared.class.Bidi.{Bidi}
 use Rattle.bg_types.specs.declared.class.Bidi.TheVariants.{S}
@@ -61,6 +62,10 @@ row_text tables text r = flat_map (cell_text tables text r.entries) r.cells ++ 1
 -- print of a grid
 abbrev pub printed : DrawnGrid → List ℕ
 printed g = flat_map (row_text g.tables g.text) g.rows
+
+-- print of the row with this number
+abbrev pub printed_row : DrawnGrid → (number : ℕ) → List ℕ
+printed_row g number = option_map_or (row_text g.tables g.text) (slice_get g.rows number) []
 
 -- print of the grid of a text at a width and a base
 abbrev pub shown : TableValues → (width : ℕ) → Base → List ℕ → List ℕ

@@ -66,6 +66,15 @@ impl<'a> Grid<'a> {
     {
         &self.rows
     }
+
+    /// Its rows by value, for an owner that keeps them without borrowing. `Grid::of` makes the grid
+    /// again.
+    #[inline]
+    pub fn into_rows(self) -> Vec<Row>
+        ensures { result.items ≡ self.entry.rows }
+    {
+        self.rows
+    }
 }
 
 /// Draws a text on a grid of a width in columns: a row for each line of each paragraph.

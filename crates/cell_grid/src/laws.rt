@@ -1,15 +1,17 @@
 //! Laws of the definitions: each function's contract is the law, and its body does nothing.
 
-ghost use Rattle.std.specs.Prelude.{ℕ, ◌+◌, ◌<◌, ◌≤◌, List, length, IsPermutation};
-ghost use Rattle.std.specs.List.{All};
+ghost use Rattle.std.specs.Prelude.{◌≡◌, ℕ, ◌+◌, ◌<◌, ◌≤◌, List, ◌++◌, length, map, sum_by, IsPermutation};
+ghost use Rattle.std.specs.List.{All, flat_map};
 ghost use Rattle.std.specs.Str.{IsUtf8};
 ghost use Rattle.bg_types.specs.declared.class.Base.{Base};
 ghost use Rattle.unicode_tables.specs.Tables.{TableValues};
 ghost use Rattle.paragraphs.specs.Text.{code_points};
-ghost use Rattle.cell_grid.specs.Grids.{DrawnGrid, IsDrawn};
-ghost use Rattle.cell_grid.specs.Rows.{rows_of};
-ghost use Rattle.cell_grid.specs.Shifting.{MayShiftRow};
+ghost use Rattle.paragraphs.specs.Paragraphs.{Paragraph, ParagraphsFollow};
+ghost use Rattle.cell_grid.specs.Grids.{DrawnGrid, IsDrawn, paragraph_rows};
+ghost use Rattle.cell_grid.specs.Rows.{DrawnRow, rows_of, shifted};
+ghost use Rattle.cell_grid.specs.Shifting.{MayShiftRow, shifted_paragraph};
 ghost use Rattle.cell_grid.specs.Laws.{text_spans, entry_spans, RowsFollow, HoldsPlacesOnce, StandsAtItsEdge, CoversCellsOnce};
+ghost use Rattle.cell_grid.specs.Windows.{FirstPlacesRise, window_of, HasWindow};
 
 use crate::laws_below::laws_below;
 
@@ -59,3 +61,36 @@ pub fn rows_may_shift()
 {
     laws_below();
 }
+
+/// No two rows of a grid have one first place: each row but the last begins before the next one.
+pub fn first_places_rise()
+    ensures { (g : DrawnGrid) → IsDrawn g → FirstPlacesRise g.rows }
+{
+    laws_below();
+}
+
+/// A stretch of rows that has the row of a place, and enough rows above and below it, has the window
+/// round it: that of all rows, before the stretch and after it too.
+pub fn windows_in_stretches()
+    ensures { (before rows after : List DrawnRow) (above below place : ℕ) → HasWindow before rows after above below place
+        → window_of above below place (before ++ (rows ++ after)) ≡ window_of above below place rows }
+{}
+
+/// The rows of paragraphs that follow one another take up their places in order. Those of paragraphs
+/// behind a place all begin behind it.
+pub fn rows_of_paragraphs()
+    ensures follow { (tables : TableValues) (width : ℕ) (base : Base) (byte place : ℕ) (paras : List Paragraph) → 2 ≤ width
+        → All (λ p. IsUtf8 p.text) paras → ParagraphsFollow byte place paras
+        → RowsFollow place (flat_map (paragraph_rows tables width base) paras) (place + sum_by (λ p. length (code_points p.text)) paras) }
+    ensures behind { (place from to : ℕ) (rows : List DrawnRow) → RowsFollow from rows to → place < from
+        → All (λ r. place < r.first_place) rows }
+{
+    laws_below();
+}
+
+/// The rows of paragraphs that stand later in a text are theirs, moved as far.
+pub fn rows_move_with_paragraphs()
+    ensures { (tables : TableValues) (width : ℕ) (base : Base) (bytes places : ℕ) (paras : List Paragraph)
+        → flat_map (paragraph_rows tables width base) (map (shifted_paragraph bytes places) paras)
+        ≡ map (shifted bytes places) (flat_map (paragraph_rows tables width base) paras) }
+{}

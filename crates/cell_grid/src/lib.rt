@@ -18,5 +18,5 @@ pub use entry::Entry;
 pub use grid::{Grid, draw};
 pub use paragraph::rows;
 pub use paragraphs::Span;
-pub use printed::print;
+pub use printed::{print, print_row_at};
 pub use row::Row;

@@ -1,11 +1,11 @@
 //! The print of a grid.
 
-ghost use Rattle.std.specs.Prelude.{◌≡◌, false, replicate, is_err, OnOk, OnErr, Some};
+ghost use Rattle.std.specs.Prelude.{◌≡◌, ◌<◌, false, length, replicate, is_err, OnOk, OnErr, Some};
 ghost use Rattle.std.specs.List.{All, flat_map};
 ghost use Rattle.std.specs.Io.KnownBytes.{Appends};
 ghost use Rattle.bg_types.specs.Sink.{AppendsBeginning};
 ghost use Rattle.paragraphs.specs.Text.{code_points};
-ghost use Rattle.cell_grid.specs.Print.{is_segment_separator, begins_with_tab, mirrored_text, entry_text, own_text, row_text, printed};
+ghost use Rattle.cell_grid.specs.Print.{is_segment_separator, begins_with_tab, mirrored_text, entry_text, own_text, row_text, printed, printed_row};
 ghost use Rattle.cell_grid.specs.Printable.{IsSlice};
 
 use crate::entry::Entry;
@@ -30,6 +30,20 @@ pub fn print<W: Sink>(grid: &Grid, sink: &mut W) -> Result<(), Device>
         print_row(grid.tables(), grid.text(), row, sink)?;
     }
     Ok(())
+}
+
+/// Writes the row with this number, counted from 0, as `print` does. Takes no memory.
+///
+/// After `Device` a beginning of it is written.
+pub fn print_row_at<W: Sink>(grid: &Grid, number: usize, sink: &mut W) -> Result<(), Device>
+    requires row { number < length grid.now.rows }
+    requires working { W.has_failed sink.old ≡ false }
+    ensures ok { OnOk result (Appends (W.written sink.old) (W.written sink.new) (printed_row grid.now number)) }
+    ensures err { OnErr result (AppendsBeginning (W.written sink.old) (W.written sink.new) (printed_row grid.now number)) }
+    ensures failed { W.has_failed sink.new ≡ is_err result }
+{
+    laws_below();
+    print_row(grid.tables(), grid.text(), &grid.rows()[number], sink)
 }
 
 fn print_row<W: Sink>(tables: &Tables, text: &str, row: &Row, sink: &mut W) -> Result<(), Device>

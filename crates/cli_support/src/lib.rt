@@ -11,6 +11,6 @@ mod unread;
 pub use command_line::{Stop, words};
 pub use data::{DATA_FILES, Data, read_data};
 pub use ending::{end, flush, tell};
-pub use opener::Opener;
+pub use opener::{HasInput, INPUT, Opened, Opener};
 pub use reading::{LIMIT, open, read, read_whole};
 pub use unread::{CannotRead, Unread};

@@ -28,7 +28,8 @@ pub fn read_whole<F: Read + Drop>(alloc: Global, file: F, limit: u64) -> io::Res
     Ok(Some(bytes))
 }
 
-/// The bytes of a file that can be opened and read, and is not longer than the limit.
+/// The bytes of a file that can be opened and read, and is not longer than the limit, or those of
+/// standard input at `-`.
 pub fn read<O: Opener + AllocGlobal>(rt: &O, path: &str) -> Result<Vec<u8>, Unread>
     ensures given { IfOk result (λ bytes. AreGiven (O.gives rt.now path.now) bytes.items) }
     ensures within { IfOk result (λ bytes. vec_len bytes ≤ LIMIT) }

@@ -4,8 +4,8 @@ ghost use Rattle.std.specs.Prelude.{◌≡◌};
 ghost use Rattle.cli_support.specs.declared.unread.Unread.TheVariants.{Memory as unread_memory};
 
 use std::alloc::{AllocError, AllocFailed};
-use std::error::Error;
 use std::fmt;
+use thiserror::Error;
 
 /// The path of a file that can't be read. It prints as `cannot read PATH`.
 #[derive(Clone, Copy)]
@@ -18,24 +18,15 @@ impl fmt::Display for CannotRead<'_> {
 }
 
 /// Why files could not be read.
-#[derive(Debug, Drop)]
+#[derive(Debug, Drop, Error)]
 pub enum Unread {
     /// The file at this path can't be opened or read, or is longer than the limit.
+    #[error("{}", CannotRead(.0.as_str()))]
     ReadFailed(String),
     /// A growth was refused.
+    #[error("memory")]
     Memory,
 }
-
-impl fmt::Display for Unread {
-    fn fmt<W: fmt::Write>(&self, f: &mut fmt::Formatter<W>) -> fmt::Result {
-        match self {
-            Unread::ReadFailed(path) => write!(f, "{}", CannotRead(path.as_str())),
-            Unread::Memory => write!(f, "memory"),
-        }
-    }
-}
-
-impl Error for Unread {}
 
 impl From<AllocError> for Unread {
     ghost from_gives = { λ _ e. e ≡ unread_memory };

@@ -89,11 +89,11 @@ pub const TYPE_AT_HELP: &str = "The place, in characters from 0; the text's end 
 
 pub const ERASE_HELP: &str = "How many characters are erased from the place on";
 
-pub const TYPED_HELP: &str = "What is typed; standard input if it is left out";
+pub const TYPED_HELP: &str = "What is typed; standard input if it is - or left out";
 
 pub const TYPED_VERSION_HELP: &str = "The version of the file that is written";
 
-pub const ANY_FILES_HELP: &str = "Operation files, at most 64 of them";
+pub const ANY_FILES_HELP: &str = "Operation files, at most 64 of them; - is standard input";
 
 pub const DUMP_ABOUT: &str = "Writes an operation file as a listing";
 
@@ -125,7 +125,7 @@ pub const PACK_LONG_ABOUT: &str = "Writes the operation file of a listing to sta
 
 pub const PACK_EXAMPLE: &str = "Example:\n  bidigrid pack examples/hello/hebrew.txt >hebrew.bgop";
 
-pub const FILE_HELP: &str = "Operation files, 1 to 64 of them";
+pub const FILE_HELP: &str = "Operation files, 1 to 64 of them; - is standard input";
 
 pub const DUMP_HELP: &str = "An operation file, or - for standard input";
 

@@ -77,7 +77,7 @@ pub struct Typing<'a> {
     pub place: Option<u32>,
     /// How many characters are erased.
     pub erased: u32,
-    /// What is typed: standard input if `None`.
+    /// What is typed, or `None` for standard input.
     pub text: Option<&'a str>,
     /// The version of the file that is written.
     pub version: Version,

@@ -7,9 +7,11 @@ use crate::request::{Job, Replay, Typing, Walk};
 use bg_types::Base;
 use caret::Move;
 use clap::ArgMatches;
-use cli_support::Stop;
+use cli_support::{INPUT, Stop};
 use op_codec::Version;
 use std::alloc::Global;
+
+const INPUT_TWICE: &str = "error: standard input can be read only once\n";
 
 /// Reads the words of a command line, the program's name among them.
 pub fn job<'a>(alloc: Global, words: &'a [String]) -> Result<Job<'a>, Stop> {
@@ -36,7 +38,7 @@ fn named_job<'a>(alloc: Global, name: &str, asked: &ArgMatches<'a>) -> Result<Jo
         "caret" => caret_job(alloc, asked),
         "type" => typing_job(alloc, asked),
         "text" => Ok(Job::Text {
-            files: files(alloc, asked, 1)?,
+            files: files(alloc, asked, 1, false)?,
         }),
         _ => Ok(file_job(name, asked.get_str("FILE").unwrap_or(""))),
     }
@@ -52,13 +54,14 @@ fn file_job<'a>(name: &str, file: &'a str) -> Job<'a> {
 }
 
 fn replay_job<'a>(alloc: Global, replay: &ArgMatches<'a>) -> Result<Job<'a>, Stop> {
+    let schedule = replay.get_str("SCHEDULE");
     Ok(Job::Replay(Replay {
         folder: replay.get_str("UCD"),
         width: width(alloc, replay)?,
         base: base(replay),
         wide_ambiguous: is_wide(replay),
-        schedule: replay.get_str("SCHEDULE"),
-        files: files(alloc, replay, 1)?,
+        schedule,
+        files: files(alloc, replay, 1, schedule == Some(INPUT))?,
     }))
 }
 
@@ -70,26 +73,33 @@ fn caret_job<'a>(alloc: Global, caret: &ArgMatches<'a>) -> Result<Job<'a>, Stop>
         wide_ambiguous: is_wide(caret),
         place: caret.get_one::<u32>("AT").unwrap_or(0),
         moves: moves(alloc, caret.get_str("MOVES").unwrap_or(""))?,
-        files: files(alloc, caret, 1)?,
+        files: files(alloc, caret, 1, false)?,
     }))
 }
 
 fn typing_job<'a>(alloc: Global, typing: &ArgMatches<'a>) -> Result<Job<'a>, Stop> {
+    let text = typing.get_str("TEXT").filter(|text| *text != INPUT);
     Ok(Job::Type(Typing {
         site: site(alloc, typing)?,
         place: typing.get_one::<u32>("AT"),
         erased: typing.get_one::<u32>("ERASE").unwrap_or(0),
-        text: typing.get_str("TEXT"),
+        text,
         version: match typing.get_str("VERSION") {
             Some("1") => Version::One,
             _ => Version::Two,
         },
-        files: files(alloc, typing, 0)?,
+        files: files(alloc, typing, 0, text.is_none())?,
     }))
 }
 
-/// The operation files, from a least number to 64 in all: options may stand between them.
-fn files<'a>(alloc: Global, matches: &ArgMatches<'a>, least: usize) -> Result<Vec<&'a str>, Stop>
+/// The operation files, from a least number to 64 in all: options may stand between them. Standard
+/// input is one of them at most once, and none where something else is read from it.
+fn files<'a>(
+    alloc: Global,
+    matches: &ArgMatches<'a>,
+    least: usize,
+    input_is_taken: bool,
+) -> Result<Vec<&'a str>, Stop>
     ensures some { IfOk result (λ files. least ≤ vec_len files) }
     ensures at_most { IfOk result (λ files. vec_len files ≤ 64) }
 {
@@ -100,7 +110,15 @@ fn files<'a>(alloc: Global, matches: &ArgMatches<'a>, least: usize) -> Result<Ve
             "error: {count} values for '[FILE]...': {least} to 64 are asked for\n"
         )?));
     }
+    if inputs(files) > usize::from(!input_is_taken) {
+        return Err(Stop::Usage(String::from_str(alloc, INPUT_TWICE)?));
+    }
     Ok(files.to_vec(alloc)?)
+}
+
+/// How many of the files are standard input.
+fn inputs(files: &[&str]) -> usize {
+    files.iter().filter(|file| **file == INPUT).count()
 }
 
 /// The site is one that an identifier can have.

@@ -2,12 +2,12 @@
 
 use bg_types::{Device, Memory};
 use std::alloc::{AllocError, AllocFailed};
-use std::error::Error;
 use std::fmt;
+use thiserror::Error;
 use ucd_files::UcdFault;
 
 /// What is wrong with a line of a test file. Each prints its bare name.
-#[derive(Clone, Copy, Debug, thiserror::Error)]
+#[derive(Clone, Copy, Debug, Error)]
 pub enum LineFault {
     /// The line is longer than 65,536 bytes.
     #[error("TooLong")]
@@ -21,39 +21,30 @@ pub enum LineFault {
 }
 
 /// Why a run ended early.
-#[derive(Clone, Copy, Debug)]
+#[derive(Clone, Copy, Debug, Error)]
 pub enum RunFault {
     /// A data file is faulty.
+    #[error("data: {0}")]
     Data(UcdFault),
     /// The test file can't be read.
+    #[error("cannot read")]
     ReadFailed,
     /// The test file has none of the three names.
+    #[error("not the name of a test file")]
     Name,
     /// A line of the test file, counted from 1, is faulty.
+    #[error("line {0}: {1}")]
     Line(u64, LineFault),
     /// There are more cases than can be counted.
+    #[error("too many cases")]
     TooMany,
     /// A write failed.
+    #[error("device")]
     Device,
     /// A growth was refused.
+    #[error("memory")]
     Memory,
 }
-
-impl fmt::Display for RunFault {
-    fn fmt<W: fmt::Write>(&self, f: &mut fmt::Formatter<W>) -> fmt::Result {
-        f.write_str(match self {
-            RunFault::Data(fault) => return write!(f, "data: {fault}"),
-            RunFault::Line(line, fault) => return write!(f, "line {line}: {fault}"),
-            RunFault::ReadFailed => "cannot read",
-            RunFault::Name => "not the name of a test file",
-            RunFault::TooMany => "too many cases",
-            RunFault::Device => "device",
-            RunFault::Memory => "memory",
-        })
-    }
-}
-
-impl Error for RunFault {}
 
 /// A fault of a run, with the file or the folder that it came at. It prints as `PATH: FAULT`.
 #[derive(Clone, Copy)]

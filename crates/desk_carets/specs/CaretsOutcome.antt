@@ -103,10 +103,14 @@ IsCaretsOutcome a old new failed (Ok done) = (failed ≡ false) × WritesLines a
 IsCaretsOutcome a old new failed (Err fault) =
     (IsWalkCaused a fault × IsSilent old new failed) ⊎ ((fault ≡ Device) × (failed ≡ true) × WritesLinesBeginning a old new)
 
--- the outcome of a run over readers, by what is still to come of each and which have failed, where the files that they tell are
--- asked in this way
-abbrev pub IsCaretsOutcomeOver : (readers : List (Option (List ℕ))) (lost : List Bool) → (List (List ℕ) → Asked) → (old new : Option (List ℕ)) (failed : Bool) → Result (Unit {0}) RunFault → Type 0
-IsCaretsOutcomeOver readers lost asks old new failed result = IsRunOver readers lost (IsSilent old new failed) (λ files. IsCaretsOutcome (asks files) old new failed) result
+-- nothing is written, and the data files are right, which come first, whatever the operation files are
+abbrev pub IsCut : (List (List ℕ) → Asked) → (old new : Option (List ℕ)) (failed : Bool) → Type 0
+IsCut asks old new failed = IsSilent old new failed × ((files : List (List ℕ)) → (asks files).fault ≡ None)
+
+-- the outcome of a run over readers, by what is still to come of each, what it has left, and which have failed, where the files
+-- that they tell are asked in this way
+abbrev pub IsCaretsOutcomeOver : (readers left : List (Option (List ℕ))) (lost : List Bool) → (List (List ℕ) → Asked) → (old new : Option (List ℕ)) (failed : Bool) → Result (Unit {0}) RunFault → Type 0
+IsCaretsOutcomeOver readers left lost asks old new failed result = IsRunOver readers left lost (IsCut asks old new failed) (λ files. IsCaretsOutcome (asks files) old new failed) result
 
 -- which answer the data has, unless memory runs out, or a write of the lines fails
 pub record IsCaretsDecided (a : Asked) (old new : Option (List ℕ)) (failed : Bool) (result : Result (Unit {0}) RunFault) : Type 0 where

@@ -1,11 +1,12 @@
 //! The engine `carets`: one desk takes the operations of all files, its text is drawn, and a caret
 //! walks over the grid.
 
-ghost use Rattle.std.specs.Prelude.{◌≡◌, ◌≤◌, false, length, string_bytes, map as each, OnOk, IfOk, IfErr};
+ghost use Rattle.std.specs.Prelude.{◌≡◌, ◌≤◌, ℕ, None, false, length, string_bytes, map as each, OnOk, IfOk, IfErr};
 ghost use Rattle.std.specs.Str.{chars};
+ghost use Rattle.ucd_files.specs.Ucd.{fault_of_ucd};
 ghost use Rattle.cell_grid.specs.Grids.{grid_of};
 ghost use Rattle.desk_files.specs.Files.{bytes_of};
-ghost use Rattle.desk_files.specs.Readers.{AreWorking, AreTold, EndsOver};
+ghost use Rattle.desk_files.specs.Readers.{AreWorking, AreAsked, AreTold, EndsOver};
 ghost use Rattle.desk_carets.specs.Cause.{IsUnwalked};
 ghost use Rattle.desk_carets.specs.Carets.{walk_lines};
 ghost use Rattle.desk_carets.specs.CaretsOutcome.{asked, IsWalked, IsWalkCaused, IsCaretsOutcome, IsCaretsOutcomeOver};
@@ -22,7 +23,7 @@ use view_cache::View;
 /// Writes the caret at a place of the text of all operations of the files, which one desk takes,
 /// and the caret after each move: a line `row gap place` each, over the grid of the text at a
 /// width in columns. All data is read and the place is tested before anything is written. The place
-/// counts code points. Where the key is secret, nobody can write files that make the run slow.
+/// counts code points. Where the key is secret, it is hard to write files that make the run slow.
 ///
 /// Which answer the data has is `laws::carets_are_decided`.
 pub fn carets<S: Sink>(
@@ -73,7 +74,8 @@ pub fn carets_from<R: Source, S: Sink>(
     requires wide { width ≤ 500 }
     requires readers { AreWorking (each R.has_failed files.old) }
     requires working { S.has_failed out.old ≡ false }
-    ensures { IsCaretsOutcomeOver (each R.remaining files.old) (each R.has_failed files.new)
+    ensures asked { AreAsked (each R.remaining files.old) (each R.remaining files.new) }
+    ensures outcome { IsCaretsOutcomeOver (each R.remaining files.old) (each R.remaining files.new) (each R.has_failed files.new)
         (λ told. asked ucd.now width base told place moves.now)
         (S.written out.old) (S.written out.new) (S.has_failed out.new) result }
 {
@@ -98,7 +100,9 @@ fn read_and_walk<R: Source>(
     requires readers { AreWorking (each R.has_failed files.old) }
     ensures ok { IfOk result (λ lines. AreTold (each R.remaining files.old) (each R.has_failed files.new)
         (λ told. IsWalked (asked ucd.now width base told place moves.now) (string_bytes lines))) }
-    ensures fault { IfErr result (EndsOver (each R.remaining files.old) (each R.has_failed files.new)
+    ensures asked { AreAsked (each R.remaining files.old) (each R.remaining files.new) }
+    ensures tables_first { (n : ℕ) → IfErr result (λ fault. fault ≡ RunFault.ReadFailed n → fault_of_ucd ucd.now ≡ None) }
+    ensures fault { IfErr result (EndsOver (each R.remaining files.old) (each R.remaining files.new) (each R.has_failed files.new)
         (λ told. IsWalkCaused (asked ucd.now width base told place moves.now))) }
 {
     let tables = read_tables(alloc, ucd)?;

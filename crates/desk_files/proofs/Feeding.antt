@@ -1,8 +1,8 @@
 -- One operation file that is fed in pieces, up to the limit.
 use Rattle.std.proofs.Common.{◌≡◌, ◌≢◌, ◌<◌, ◌≤◌, ◌⊎◌, ℕ, ◌+◌, ◌-◌, ◌^◌, true, false, Bool, List, [], ◌++◌, Option, Some, None, inl, inr, take, drop, length, refl, sym, ap, subst, ◌∙◌, arith, append_assoc, append-nil}
 use Rattle.std.specs.Prelude.{Result, Ok, Err, OnOk, IfErr, IfSome, min}
-use Rattle.std.specs.Io.KnownBytes.{Consumes, IsAtEnd}
-use Rattle.std.proofs.KnownBytes.{Consumes-nil, Consumes-trans}
+use Rattle.std.specs.Io.KnownBytes.{Consumes, Keeps, IsAtEnd}
+use Rattle.std.proofs.KnownBytes.{Consumes-nil, Consumes-trans, Consumes-kept}
 use Rattle.std.proofs.Math.Seq.{take-append-add}
 use Rattle.std.proofs.lemmas.List.{take_all, length-append, length-take, take-append-drop}
 use Rattle.bg_types.specs.declared.op.OpView.{OpView}
@@ -11,12 +11,13 @@ use Rattle.op_codec.specs.declared.fault.Cause.TheVariants.{Truncated}
 use Rattle.op_codec.specs.declared.fault.CodecFault.{CodecFault}
 use Rattle.op_codec.specs.declared.fault.CodecFault.TheVariants as codec
 use Rattle.op_codec.specs.declared.position.Position.{Position}
+use Rattle.op_codec.specs.Source.{greatest_piece}
 use Rattle.op_codec.specs.Fault.{IsFault, TellsFault}
 use Rattle.op_codec.specs.Feed.{IsSound, IsLasting, IsFed, IsFeedOutcome, Standing, StandsAfter, added}
 use Rattle.desk_files.specs.declared.run_fault.RunFault.{RunFault}
 use Rattle.desk_files.specs.declared.run_fault.RunFault.TheVariants.{Memory, ReadFailed}
 use Rattle.desk_files.specs.Reading.{limit, IsReadAs, IsSoundTo, Flaw, malformed, too_long, IsFlawed, IsFlawedBy, flaw_fault}
-use Rattle.desk_files.specs.Readers.{Tells, BeginsWith, IsToldFile, IsUnreadFile, is_flawed, is_broken, lacks_memory}
+use Rattle.desk_files.specs.Readers.{Tells, IsAsked, IsToldFile, IsUnreadFile, is_flawed, is_broken, lacks_memory}
 use Rattle.desk_files.specs.Cause.{file_fault_of}
 
 -- ---- what is fed
@@ -109,11 +110,6 @@ tells_some None b bs h = ([], tt)
 tells_some (Some xs) None bs h = absurd h
 tells_some (Some xs) (Some ys) bs h = (ys, sym h)
 
-begins_with : (a b : Option (List ℕ)) (bs : List ℕ) → Consumes a b bs → BeginsWith a bs
-begins_with None b bs h = tt
-begins_with (Some xs) None bs h = absurd h
-begins_with (Some xs) (Some ys) bs h = (ys, h)
-
 -- the reader gave these bytes so far
 module _ (start now : Option (List ℕ)) (given : List ℕ) (consumed : Consumes start now given) where
   -- and then its end
@@ -124,24 +120,24 @@ module _ (start now : Option (List ℕ)) (given : List ℕ) (consumed : Consumes
     pub told_file : (ops : List OpView) → IsReadAs given ops → IsToldFile start ops
     told_file ops read = record { file = given; told = told; read = read }
 
-    pub flawed_end : (n : ℕ) (failed : Bool) (fault : RunFault) → failed ≡ false → (flaw : Flaw) × (fault ≡ flaw_fault n flaw) × IsFlawed given flaw → IsUnreadFile n start failed fault
+    pub flawed_end : (n : ℕ) (failed : Bool) (fault : RunFault) → failed ≡ false → (flaw : Flaw) × (fault ≡ flaw_fault n flaw) × IsFlawed given flaw → IsUnreadFile n start end failed fault
     flawed_end n failed fault works h = is_flawed h.0 h.1 works (record { file = given; told = told; flawed = h.2 })
 
-    pub flawed_ends : {A : Type 0} (n : ℕ) (failed : Bool) (r : Result A RunFault) → failed ≡ false → IfErr r (λ fault. (flaw : Flaw) × (fault ≡ flaw_fault n flaw) × IsFlawed given flaw) → IfErr r (IsUnreadFile n start failed)
+    pub flawed_ends : {A : Type 0} (n : ℕ) (failed : Bool) (r : Result A RunFault) → failed ≡ false → IfErr r (λ fault. (flaw : Flaw) × (fault ≡ flaw_fault n flaw) × IsFlawed given flaw) → IfErr r (IsUnreadFile n start end failed)
     flawed_ends n failed (Ok ops) works h = tt
     flawed_ends n failed (Err fault) works h = flawed_end n failed fault works h
 
   -- and then a piece that is not fed
   pub flawed_piece : (then : Option (List ℕ)) (piece : List ℕ) (n : ℕ) (failed : Bool) (fault : RunFault) → failed ≡ false → Consumes now then piece → (fault ≡ Memory) ⊎ IsFlawedBy (given ++ piece) n fault
-      → IsUnreadFile n start failed fault
+      → IsUnreadFile n start then failed fault
   flawed_piece then piece n failed fault works more (inl lacks) = lacks_memory lacks works
   flawed_piece then piece n failed fault works more (inr h) =
       let some = tells_some start then (given ++ piece) (Consumes-trans start now then given piece consumed more) in
       is_flawed h.flaw h.is works (record { file = (given ++ piece) ++ some.0; told = some.1; flawed = h.whatever some.0 })
 
   -- and then it failed
-  pub broken : (n : ℕ) (failed : Bool) → failed ≡ true → length given ≤ limit → IsSound given → IsUnreadFile n start failed (ReadFailed n)
-  broken n failed broke within sound = is_broken refl broke (record { given = given; begins = begins_with start now given consumed; within = within; sound = sound })
+  pub broken : (end : Option (List ℕ)) (n : ℕ) (failed : Bool) → failed ≡ true → Keeps now end → length given ≤ limit → IsSound given → IsUnreadFile n start end failed (ReadFailed n)
+  broken end n failed broke nothing within sound = is_broken refl broke (record { given = given; consumed = Consumes-kept start now end given consumed nothing; within = within; faultless = sound })
 
 -- ---- a stream that reads the file of a reader
 
@@ -192,20 +188,31 @@ module _ (start now : Option (List ℕ)) (stream : Standing) (left : ℕ) (ops :
     pub read_told : IsReadAs h.bytes ops → IsToldFile start ops
     read_told = told_file start now h.bytes h.given end more nothing last at_end ops
 
-    pub read_flawed : (n : ℕ) (failed : Bool) (fault : RunFault) → failed ≡ false → (flaw : Flaw) × (fault ≡ flaw_fault n flaw) × IsFlawed h.bytes flaw → IsUnreadFile n start failed fault
+    pub read_flawed : (n : ℕ) (failed : Bool) (fault : RunFault) → failed ≡ false → (flaw : Flaw) × (fault ≡ flaw_fault n flaw) × IsFlawed h.bytes flaw → IsUnreadFile n start end failed fault
     read_flawed = flawed_end start now h.bytes h.given end more nothing last at_end
 
-    pub read_ended : {A : Type 0} (n : ℕ) (failed : Bool) (r : Result A RunFault) → failed ≡ false → IfErr r (λ fault. (flaw : Flaw) × (fault ≡ flaw_fault n flaw) × IsFlawed h.bytes flaw) → IfErr r (IsUnreadFile n start failed)
+    pub read_ended : {A : Type 0} (n : ℕ) (failed : Bool) (r : Result A RunFault) → failed ≡ false → IfErr r (λ fault. (flaw : Flaw) × (fault ≡ flaw_fault n flaw) × IsFlawed h.bytes flaw) → IfErr r (IsUnreadFile n start end failed)
     read_ended = flawed_ends start now h.bytes h.given end more nothing last at_end
 
   -- and then a piece is not fed
   pub read_stopped : (then : Option (List ℕ)) (piece : List ℕ) (n : ℕ) (failed : Bool) (fault : RunFault) → failed ≡ false → Consumes now then piece → (fault ≡ Memory) ⊎ IsFlawedBy (h.bytes ++ piece) n fault
-      → IsUnreadFile n start failed fault
+      → IsUnreadFile n start then failed fault
   read_stopped = flawed_piece start now h.bytes h.given
 
   -- and then the reader fails
-  pub read_lost : (n : ℕ) (failed : Bool) → failed ≡ true → IsUnreadFile n start failed (ReadFailed n)
-  read_lost n failed broke = broken start now h.bytes h.given n failed broke end_within h.so.sound
+  pub read_lost : (end : Option (List ℕ)) (n : ℕ) (failed : Bool) → failed ≡ true → Keeps now end → IsUnreadFile n start end failed (ReadFailed n)
+  read_lost end n failed broke nothing = broken start now h.bytes h.given end n failed broke nothing end_within h.so.sound
+
+  -- it was asked for one more piece, or for one that it did not give
+  pub read_asked : (then : Option (List ℕ)) (piece : List ℕ) → Consumes now then piece → length piece ≤ greatest_piece → IsAsked start then
+  read_asked then piece gave one = record { sound = h.bytes; piece = piece; given = Consumes-trans start now then h.bytes piece h.given gave; within = end_within; faultless = h.so.sound; one = one }
+
+  pub lost_asked : (end : Option (List ℕ)) → Keeps now end → IsAsked start end
+  lost_asked end nothing = read_asked end [] (Consumes-kept now now end [] (Consumes-nil now) nothing) (omega arith)
+
+-- a reader that was not asked
+pub none_asked : (reader : Option (List ℕ)) → IsAsked reader reader
+none_asked reader = record { sound = []; piece = []; given = Consumes-nil reader; within = omega arith; faultless = nothing_sound; one = omega arith }
 
 -- ---- what was written
 

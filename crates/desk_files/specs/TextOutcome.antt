@@ -45,9 +45,9 @@ IsTextOutcome files old new failed (Ok done) = (failed ≡ false) × WritesText 
 IsTextOutcome files old new failed (Err fault) =
     (IsTakingCaused files fault × IsSilent old new failed) ⊎ ((fault ≡ Device) × (failed ≡ true) × WritesTextBeginning files old new)
 
--- the outcome of a run over readers, by what is still to come of each and which have failed
-abbrev pub IsTextOutcomeOver : (readers : List (Option (List ℕ))) (lost : List Bool) (old new : Option (List ℕ)) (failed : Bool) → Result (Unit {0}) RunFault → Type 0
-IsTextOutcomeOver readers lost old new failed result = IsRunOver readers lost (IsSilent old new failed) (λ files. IsTextOutcome files old new failed) result
+-- the outcome of a run over readers, by what is still to come of each, what it has left, and which have failed
+abbrev pub IsTextOutcomeOver : (readers left : List (Option (List ℕ))) (lost : List Bool) (old new : Option (List ℕ)) (failed : Bool) → Result (Unit {0}) RunFault → Type 0
+IsTextOutcomeOver readers left lost old new failed result = IsRunOver readers left lost (IsSilent old new failed) (λ files. IsTextOutcome files old new failed) result
 
 -- which answer the files have, unless memory runs out, or a write of the text fails
 pub record IsTextDecided (files : List (List ℕ)) (old new : Option (List ℕ)) (failed : Bool) (result : Result (Unit {0}) RunFault) : Type 0 where

@@ -2,7 +2,7 @@
 
 ghost use Rattle.std.specs.Prelude.{◌≡◌, false, map as each};
 ghost use Rattle.desk_files.specs.Files.{bytes_of};
-ghost use Rattle.desk_files.specs.Readers.{AreWorking};
+ghost use Rattle.desk_files.specs.Readers.{AreWorking, AreAsked};
 ghost use Rattle.desk_files.specs.TextOutcome.{IsTextOutcome, IsTextOutcomeOver};
 
 use crate::in_memory::readers_of;
@@ -40,7 +40,8 @@ pub fn text_from<R: Source, S: Sink>(
 ) -> Result<(), RunFault>
     requires readers { AreWorking (each R.has_failed files.old) }
     requires working { S.has_failed out.old ≡ false }
-    ensures { IsTextOutcomeOver (each R.remaining files.old) (each R.has_failed files.new)
+    ensures asked { AreAsked (each R.remaining files.old) (each R.remaining files.new) }
+    ensures outcome { IsTextOutcomeOver (each R.remaining files.old) (each R.remaining files.new) (each R.has_failed files.new)
         (S.written out.old) (S.written out.new) (S.has_failed out.new) result }
 {
     let read = joined_text(alloc, key, files)?;

@@ -32,8 +32,8 @@ pub fn one_outcome()
 /// Where readers tell their bytes, a run over them has an outcome of a run over files of these bytes,
 /// or a reader has failed: number n, from 1, and no other.
 pub fn readers_tell_files()
-    ensures { (files : List (List ℕ)) (lost : List Bool) (old new : Option (List ℕ)) (failed : Bool) (result : Result (Unit {0}) RunFault)
-        → IsTextOutcomeOver (each Some files) lost old new failed result → IsFileOutcome lost (IsSilent old new failed) (IsTextOutcome files old new failed) result }
+    ensures { (files : List (List ℕ)) (left : List (Option (List ℕ))) (lost : List Bool) (old new : Option (List ℕ)) (failed : Bool) (result : Result (Unit {0}) RunFault)
+        → IsTextOutcomeOver (each Some files) left lost old new failed result → IsFileOutcome lost (IsSilent old new failed) (IsTextOutcome files old new failed) result }
 {}
 
 /// A run of `text` has the answer of its files, unless memory runs out or a write fails.

@@ -1,12 +1,12 @@
 //! One desk that takes the operations of all files.
 
-ghost use Rattle.std.specs.Prelude.{◌≡◌, ◌≢◌, ◌≤◌, ◌⊎◌, ◌++◌, false, List, Some, map as each, OnOk, IfOk, IfErr, length, string_bytes, encode_utf8_all};
+ghost use Rattle.std.specs.Prelude.{◌≡◌, ◌≢◌, ◌<◌, ◌≤◌, ◌⊎◌, ◌++◌, false, List, Some, map as each, OnOk, IfOk, IfErr, length, string_bytes, encode_utf8_all};
 ghost use Rattle.bg_types.specs.OperationSet.{no_operations, size};
 ghost use Rattle.bg_types.specs.declared.op.OpView.{OpView as Operation};
 ghost use Rattle.desk_replica.specs.SetOf.{IsSetOf};
 ghost use Rattle.desk_replica.specs.Refusal.{IsFirstRefusal};
 ghost use Rattle.rga_tree.specs.TextOf.{text};
-ghost use Rattle.desk_files.specs.Readers.{IsToldFile, IsUnreadFile, AreWorking, AreTold, EndsOver};
+ghost use Rattle.desk_files.specs.Readers.{IsAsked, IsToldFile, IsUnreadFile, AreWorking, AreAsked, AreTold, EndsOver};
 ghost use Rattle.desk_files.specs.Files.{IsSetOfFiles};
 ghost use Rattle.desk_files.specs.Taking.{HasTaken, HasTakenBut, IsReordered};
 ghost use Rattle.desk_files.specs.Cause.{IsTakingCaused, step_fault_of};
@@ -40,7 +40,8 @@ pub fn joined_text<R: Source>(alloc: Global, key: u128, files: &mut [R]) -> Resu
     ensures ok { IfOk result (λ text. AreTold (each R.remaining files.old) (each R.has_failed files.new)
         (λ told. IsTextOfFiles told (string_bytes text))) }
     ensures size { IfOk result (λ text. length (string_bytes text) ≤ 4_000_000) }
-    ensures fault { IfErr result (EndsOver (each R.remaining files.old) (each R.has_failed files.new) IsTakingCaused) }
+    ensures asked { AreAsked (each R.remaining files.old) (each R.remaining files.new) }
+    ensures fault { IfErr result (EndsOver (each R.remaining files.old) (each R.remaining files.new) (each R.has_failed files.new) IsTakingCaused) }
 {
     let mut desk = new_desk(alloc, SITE, key);
     let text = text_with(alloc, files, &mut desk);
@@ -55,7 +56,8 @@ fn text_with<R: Source>(alloc: Global, files: &mut [R], desk: &mut Desk) -> Resu
     ensures ok { IfOk result (λ text. AreTold (each R.remaining files.old) (each R.has_failed files.new)
         (λ told. IsTextOfFiles told (string_bytes text))) }
     ensures size { IfOk result (λ text. length (string_bytes text) ≤ 4_000_000) }
-    ensures fault { IfErr result (EndsOver (each R.remaining files.old) (each R.has_failed files.new) IsTakingCaused) }
+    ensures asked { AreAsked (each R.remaining files.old) (each R.remaining files.new) }
+    ensures fault { IfErr result (EndsOver (each R.remaining files.old) (each R.remaining files.new) (each R.has_failed files.new) IsTakingCaused) }
 {
     take_files(alloc, files, desk)?;
     text_of(desk)
@@ -82,7 +84,9 @@ pub fn take_files<R: Source>(
     requires empty { desk.old.set ≡ no_operations }
     ensures ok { OnOk result (AreTold (each R.remaining files.old) (each R.has_failed files.new) (λ told. IsSetOfFiles told desk.new.set)) }
     ensures limited { OnOk result (size desk.new.set ≤ 1_000_000) }
-    ensures fault { IfErr result (EndsOver (each R.remaining files.old) (each R.has_failed files.new) IsTakingCaused) }
+    ensures site { desk.new.site ≡ desk.old.site }
+    ensures asked { AreAsked (each R.remaining files.old) (each R.remaining files.new) }
+    ensures fault { IfErr result (EndsOver (each R.remaining files.old) (each R.remaining files.new) (each R.has_failed files.new) IsTakingCaused) }
 {
     sets::nothing_held();
     let mut refused = None;
@@ -108,7 +112,9 @@ fn take_file<R: Source>(
     ensures taken { (before : List Operation) → HasTaken before desk.old.set refused.old
         → OnOk result ((ops : List Operation) × IsToldFile (R.remaining reader.old) ops × HasTaken (before ++ ops) desk.new.set refused.new) }
     ensures working { OnOk result (R.has_failed reader.new ≡ false) }
-    ensures fault { IfErr result (IsUnreadFile number (R.remaining reader.old) (R.has_failed reader.new)) }
+    ensures site { desk.new.site ≡ desk.old.site }
+    ensures asked { IsAsked (R.remaining reader.old) (R.remaining reader.new) }
+    ensures fault { IfErr result (IsUnreadFile number (R.remaining reader.old) (R.remaining reader.new) (R.has_failed reader.new)) }
 {
     let mut waiting = Vec::new(alloc);
     let mut stream = Stream::new();
@@ -127,14 +133,17 @@ fn take_file<R: Source>(
     Err(RunFault::ReadFailed(number))
 }
 
-/// Takes what waits, unless it came out of order: then more is awaited, to be taken with it.
+/// Takes what waits, unless it came out of order: then more is awaited, to be taken with it, but never
+/// 1,000,000 operations or more.
 fn take_unless_more_come(
     desk: &mut Desk,
     refused: &mut Option<TakeFault>,
     waiting: &mut Vec<Op>,
 ) -> Result<(), Memory>
-    ensures { (ops : List Operation) → HasTakenBut waiting.old.items ops desk.old.set refused.old
+    ensures taken { (ops : List Operation) → HasTakenBut waiting.old.items ops desk.old.set refused.old
         → OnOk result (HasTakenBut waiting.new.items ops desk.new.set refused.new) }
+    ensures few { OnOk result (length waiting.new.items < 1_000_000) }
+    ensures site { desk.new.site ≡ desk.old.site }
 {
     if waiting.len() < MOST && came_out_of_order(waiting) {
         return Ok(());
@@ -146,7 +155,8 @@ fn take_unless_more_come(
 
 /// Takes further operations, unless one before them was refused, and keeps the first refusal.
 fn take_more(desk: &mut Desk, refused: &mut Option<TakeFault>, ops: &mut [Op]) -> Result<(), Memory>
-    ensures { (before : List Operation) → HasTaken before desk.old.set refused.old → OnOk result (HasTaken (before ++ ops.old) desk.new.set refused.new) }
+    ensures taken { (before : List Operation) → HasTaken before desk.old.set refused.old → OnOk result (HasTaken (before ++ ops.old) desk.new.set refused.new) }
+    ensures site { desk.new.site ≡ desk.old.site }
 {
     sets::one_more_operation();
     desks::one_set();
@@ -231,6 +241,7 @@ fn named(op: &Op) -> Id {
 fn take_all(desk: &mut Desk, ops: &[Op]) -> Result<(), TakeFault>
     ensures ok { (before : List Operation) → IsSetOf before desk.old.set → OnOk result (IsSetOf (before ++ ops.now) desk.new.set) }
     ensures limited { size desk.old.set ≤ 1_000_000 → OnOk result (size desk.new.set ≤ 1_000_000) }
+    ensures site { desk.new.site ≡ desk.old.site }
     ensures fault { (before : List Operation) → IsSetOf before desk.old.set → size desk.old.set ≤ 1_000_000
         → IfErr result (λ fault. (fault ≡ TakeFault.Memory) ⊎ IsFirstRefusal (before ++ ops.now) fault) }
 {

@@ -5,7 +5,7 @@ ghost use Rattle.std.specs.List.{AllZip, AllByRecursion};
 ghost use Rattle.bg_types.specs.declared.op.OpView.{OpView as Operation};
 ghost use Rattle.op_codec.specs.Feed.{IsSound, StandsAfter, added};
 ghost use Rattle.desk_files.specs.Reading.{limit, IsReadAs, IsSoundTo, Flaw, IsFlawed, IsFlawedBy, flaw_fault};
-ghost use Rattle.desk_files.specs.Readers.{IsToldFile, IsUnreadFile, AreWorking, AreTold, EndsOver};
+ghost use Rattle.desk_files.specs.Readers.{IsAsked, IsToldFile, IsUnreadFile, AreWorking, AreAsked, AreTold, EndsOver};
 ghost use Rattle.desk_files.specs.Files.{lists_of};
 ghost use Rattle.desk_files.specs.Cause.{IsReadCaused, file_fault_of};
 
@@ -27,7 +27,8 @@ pub fn read_all<R: Source>(alloc: Global, files: &mut [R]) -> Result<Vec<Vec<Op>
     ensures ok { IfOk result (λ all. AreTold (each R.remaining files.old) (each R.has_failed files.new)
         (λ told. AllZip IsReadAs told (lists_of all.items))) }
     ensures count { IfOk result (λ all. length all.items ≡ length files.old) }
-    ensures fault { IfErr result (EndsOver (each R.remaining files.old) (each R.has_failed files.new) IsReadCaused) }
+    ensures asked { AreAsked (each R.remaining files.old) (each R.remaining files.new) }
+    ensures fault { IfErr result (EndsOver (each R.remaining files.old) (each R.remaining files.new) (each R.has_failed files.new) IsReadCaused) }
 {
     let mut all = Vec::with_capacity(alloc, files.len())?;
     for place in 0..files.len() {
@@ -42,7 +43,8 @@ fn read_file<R: Source>(alloc: Global, number: usize, reader: &mut R) -> Result<
     requires { R.has_failed reader.old ≡ false }
     ensures ok { IfOk result (λ ops. IsToldFile (R.remaining reader.old) ops.items) }
     ensures working { OnOk result (R.has_failed reader.new ≡ false) }
-    ensures fault { IfErr result (IsUnreadFile number (R.remaining reader.old) (R.has_failed reader.new)) }
+    ensures asked { IsAsked (R.remaining reader.old) (R.remaining reader.new) }
+    ensures fault { IfErr result (IsUnreadFile number (R.remaining reader.old) (R.remaining reader.new) (R.has_failed reader.new)) }
 {
     let mut ops = Vec::new(alloc);
     let mut stream = Stream::new();

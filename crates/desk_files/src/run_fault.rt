@@ -10,55 +10,55 @@ use desk_replica::TakeFault;
 use op_codec::CodecFault;
 use op_listing::{FileFault, LineFault, ListingFault};
 use std::alloc::{AllocError, AllocFailed};
-use std::error::Error;
 use std::fmt;
+use thiserror::Error;
 use ucd_files::UcdFault;
 
 /// Why a run ended early. Files, frames, lines and desks are counted from 1; frame 0 is a file's
 /// header, and line 0 stands for no schedule. Each prints as in the line on standard error,
 /// without the program's name.
-#[derive(Clone, Copy, PartialEq, Eq)]
+#[derive(Clone, Copy, PartialEq, Eq, Error)]
 pub enum RunFault {
     /// A data file of Unicode is faulty: the first fault of the first faulty one.
+    #[error("ucd {0}")]
     Tables(UcdFault),
     /// An operation file is faulty: its number and its first fault.
+    #[error(fmt = tell_in_frame)]
     File(usize, CodecFault),
     /// A schedule is faulty: its first faulty line, and why.
+    #[error("schedule line {0}: {1}")]
     Schedule(usize, ScheduleFault),
     /// A step was refused: the line of the schedule, the desk, and why.
+    #[error("step line {0} desk {1}: {2}")]
     Step(usize, usize, TakeFault),
     /// A listing is faulty: its first faulty line, and why.
+    #[error("listing line {0}: {1}")]
     Listing(usize, LineFault),
     /// A place is past the text's end.
+    #[error("place {0}: PastEnd")]
     PastEnd(u32),
     /// A write failed.
+    #[error("device")]
     Device,
     /// A read of a file failed: its number, or 0 where the program reads it before the run.
+    #[error("cannot read file {0}")]
     ReadFailed(usize),
     /// A growth was refused.
+    #[error("memory")]
     Memory,
     /// An operation file has more than 67,108,864 bytes, and those show no other fault: its number.
+    #[error("file {0}: TooLong")]
     TooLong(usize),
 }
 
-impl fmt::Display for RunFault {
-    fn fmt<W: fmt::Write>(&self, f: &mut fmt::Formatter<W>) -> fmt::Result {
-        match self {
-            RunFault::Tables(fault) => write!(f, "ucd {fault}"),
-            RunFault::File(file, fault) => {
-                let frame = fault.frame().unwrap_or(0);
-                write!(f, "file {file} frame {frame}: {fault}")
-            }
-            RunFault::Schedule(line, fault) => write!(f, "schedule line {line}: {fault}"),
-            RunFault::Step(line, desk, fault) => write!(f, "step line {line} desk {desk}: {fault}"),
-            RunFault::Listing(line, fault) => write!(f, "listing line {line}: {fault}"),
-            RunFault::PastEnd(place) => write!(f, "place {place}: PastEnd"),
-            RunFault::Device => write!(f, "device"),
-            RunFault::ReadFailed(file) => write!(f, "cannot read file {file}"),
-            RunFault::Memory => write!(f, "memory"),
-            RunFault::TooLong(file) => write!(f, "file {file}: TooLong"),
-        }
-    }
+/// Tells the fault of a file with its frame.
+fn tell_in_frame<W: fmt::Write>(
+    file: &usize,
+    fault: &CodecFault,
+    f: &mut fmt::Formatter<W>,
+) -> fmt::Result {
+    let frame = fault.frame().unwrap_or(0);
+    write!(f, "file {file} frame {frame}: {fault}")
 }
 
 /// As it prints.
@@ -67,8 +67,6 @@ impl fmt::Debug for RunFault {
         fmt::Display::fmt(self, f)
     }
 }
-
-impl Error for RunFault {}
 
 impl RunFault {
     /// The number of this fault, 1 to 10.

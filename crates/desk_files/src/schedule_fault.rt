@@ -3,11 +3,11 @@
 ghost use Rattle.std.specs.Prelude.{◌≡◌};
 ghost use Rattle.desk_files.specs.Fault.{schedule_code};
 
-use std::error::Error;
-use std::fmt;
+use thiserror::Error;
 
 /// What is wrong with a line of a schedule. Each prints its bare name.
-#[derive(Clone, Copy, Debug, PartialEq, Eq)]
+#[derive(Clone, Copy, Debug, PartialEq, Eq, Error)]
+#[error("{:?}", self)]
 pub enum ScheduleFault {
     /// The first word is none of `take`, `merge` and `show`.
     UnknownStep,
@@ -22,15 +22,6 @@ pub enum ScheduleFault {
     /// The file has no operation of this number.
     NoSuchOperation,
 }
-
-/// Its bare name, as `Debug` writes it.
-impl fmt::Display for ScheduleFault {
-    fn fmt<W: fmt::Write>(&self, f: &mut fmt::Formatter<W>) -> fmt::Result {
-        fmt::Debug::fmt(self, f)
-    }
-}
-
-impl Error for ScheduleFault {}
 
 impl ScheduleFault {
     /// The number of this fault, 1 to 6.

@@ -11,7 +11,7 @@ use Rattle.bg_types.proofs.Interface.{with_operation-known}
 use Rattle.bg_types.specs.declared.op.OpView.{OpView}
 use Rattle.rga_tree.specs.declared.element.Element.{Element}
 use Rattle.desk_replica.specs.declared.answer.TakeFault.{TakeFault}
-use Rattle.desk_replica.specs.Reply.{IsRefused}
+use Rattle.desk_replica.specs.Telling.{IsUntaken}
 use Rattle.desk_replica.specs.Merging.{IsStopped, with_operations}
 use Rattle.desk_replica.proofs.Lists.{take_all}
 
@@ -90,7 +90,7 @@ module _ (s u : OperationSet) (ops : List OpView) (j : ℕ) (op : OpView) (withi
   pub taken_next : (v : OperationSet) → v ≡ with_operation u op → v ≡ with_operations s (take (j + 1) ops)
   taken_next v e = taken_both s u v (take j ops) (op ∷ []) taken e ∙ ap (with_operations s) (sym (take_push ops j op within is))
 
-  pub stopped_at : (fault : TakeFault) → IsRefused u op fault → IsStopped s ops u fault
+  pub stopped_at : (fault : TakeFault) → IsUntaken u op fault → IsStopped s ops u fault
   stopped_at fault refused = record { before = take j ops; op = op; after = drop (j + 1) ops; in_order = split_at ops j op within is; taken = taken; refused = refused }
 
 -- ---- what rows tell: of two rows the one after the other
@@ -110,7 +110,7 @@ module _ (tell : List Element → List OpView) (tell-append : (xs ys : List Elem
         taken_both s u v (tell (take j row)) (tell (e ∷ [])) taken more
         ∙ ap (with_operations s) (sym (tell-append (take j row) (e ∷ [])) ∙ ap tell (sym (take_push row j e within is)))
 
-    row_stopped : (op : OpView) (fault : TakeFault) → tell (e ∷ []) ≡ op ∷ [] → IsRefused u op fault → IsStopped s (tell row) u fault
+    row_stopped : (op : OpView) (fault : TakeFault) → tell (e ∷ []) ≡ op ∷ [] → IsUntaken u op fault → IsStopped s (tell row) u fault
     row_stopped op fault told refused =
         let rest = drop (j + 1) row in
         record {
@@ -123,7 +123,7 @@ module _ (tell : List Element → List OpView) (tell-append : (xs ys : List Elem
         }
 
     -- the refusal changed nothing
-    pub row_ended : (v : OperationSet) (op : OpView) (fault : TakeFault) → v ≡ u → tell (e ∷ []) ≡ op ∷ [] → IsRefused u op fault → IsStopped s (tell row) v fault
+    pub row_ended : (v : OperationSet) (op : OpView) (fault : TakeFault) → v ≡ u → tell (e ∷ []) ≡ op ∷ [] → IsUntaken u op fault → IsStopped s (tell row) v fault
     row_ended v op fault same told refused = subst (λ x. IsStopped s (tell row) x fault) (sym same) (row_stopped op fault told refused)
 
   -- one more part

@@ -18,8 +18,9 @@ pub mod Leaf
 pub mod Counters
 pub mod Typed
 pub mod Typing
+pub mod Shown
+pub mod Tellings
 pub mod Erasing
-pub mod Counts
 pub mod Rows
 pub mod OnceEach
 pub mod Told
@@ -32,3 +33,6 @@ pub mod Worlds
 pub mod WorldRuns
 pub mod WorldLaws
 pub mod WorldTyped
+pub mod Stretches
+pub mod Ranges
+pub mod Listing

@@ -11,7 +11,7 @@ use Rattle.bg_types.proofs.Interface.{id_cmp-total, Holds-union, Holds-with_oper
 use Rattle.desk_replica.specs.declared.answer.TakeFault.{TakeFault}
 use Rattle.desk_replica.specs.declared.answer.TakeFault.TheVariants.{IdentifierReused, Full, Memory}
 use Rattle.pending_ops.specs.Waiting.{ListsOnce}
-use Rattle.desk_replica.specs.Reply.{IsRefused}
+use Rattle.desk_replica.specs.Telling.{IsUntaken}
 use Rattle.desk_replica.specs.Merging.{Disagree, IsBetween, IsMergeRefusal, IsMergeRefused, IsStopped, with_operations}
 use Rattle.desk_replica.proofs.Sizes.{len_map-map, len_set-set}
 use Rattle.desk_replica.proofs.Lists.{slice_get-left, slice_get-right}
@@ -71,7 +71,7 @@ union_larger s t u op agree between h missing =
     let within = size_more (with_operation u op) (union s t) (λ x k. (Holds-union s t agree x).1 (more.0.of_both x k)) in
     omega (arith, grown, within)
 
-pub merge_refused : (s t u : OperationSet) (op : OpView) (fault : TakeFault) → Agree s t → IsBetween s t u → Holds t op → IsRefused u op fault → IsMergeRefused s t u fault
+pub merge_refused : (s t u : OperationSet) (op : OpView) (fault : TakeFault) → Agree s t → IsBetween s t u → Holds t op → IsUntaken u op fault → IsMergeRefused s t u fault
 merge_refused s t u op IdentifierReused agree between h r = absurd (reused op h r)
   where
     reused : (op : OpView) → Holds t op → ReusesIdentifier u op → ⊥
@@ -81,7 +81,7 @@ merge_refused s t u op Full agree between h r =
     let larger = union_larger s t u op agree between h r.1 in
     let full = r.2 in
     ((agree, omega (arith, larger, full)), between, r.2)
-merge_refused s t u op Memory agree between h r = (agree, between, r.0.room, (op, (h, r.0.is_new)))
+merge_refused s t u op Memory agree between h r = (agree, between, r.room, (op, (h, r.is_new)))
 
 pub united : (s t u : OperationSet) → Agree s t → IsBetween s t u → ((op : OpView) → Holds t op → Holds u op) → u ≡ union s t
 united s t u agree between all = same_operations u (union s t) (λ op.

@@ -53,7 +53,7 @@ module _ (t h : OperationSet) (wt : AllWellFormed t) (wh : AllWellFormed h) (tre
     (λ w. let k = there (map.get t.ins q) (attached_in q w.1) in k.1 ∙ sym (in_whole q k.0 k.1) ∙ w.0),
   )
 
-  whole_formed : AllWellFormed (union t h)
+  pub whole_formed : AllWellFormed (union t h)
   whole_formed = AllWellFormed-union t h wt wh
 
   pub walk-whole : walk (union t h) Root ≡ walk t Root

@@ -5,8 +5,11 @@ pub mod Desk
 pub mod Placement
 pub mod Standing
 pub mod Typing
+pub mod Stretch
 pub mod Merging
 pub mod Told
+pub mod Telling
+pub mod Listening
 pub mod SetOf
 pub mod Refusal
 pub mod DeskSets

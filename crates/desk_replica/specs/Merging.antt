@@ -6,7 +6,7 @@ use Rattle.bg_types.specs.OperationSet.{Node, OperationSet, Holds, Agree, Reuses
 use Rattle.bg_types.specs.declared.op.OpView.{OpView}
 use Rattle.rga_tree.specs.declared.element.Element.{Element}
 use Rattle.desk_replica.specs.Desk.{Desk, insertion_of}
-use Rattle.desk_replica.specs.Reply.{IsRefused}
+use Rattle.desk_replica.specs.Telling.{IsUntaken}
 use Rattle.desk_replica.specs.declared.answer.TakeFault.{TakeFault}
 use Rattle.desk_replica.specs.declared.answer.TakeFault.TheVariants.{IdentifierReused, Full, Memory}
 
@@ -22,7 +22,7 @@ pub record IsStopped (s : OperationSet) (ops : List OpView) (u : OperationSet) (
   pub after : List OpView
   pub in_order : ops ≡ before ++ op ∷ after
   pub taken : u ≡ with_operations s before
-  pub refused : IsRefused u op fault
+  pub refused : IsUntaken u op fault
 
 -- the insertion of an element reuses an identifier of S
 abbrev pub ReusesIn : OperationSet → List Element → Type 0

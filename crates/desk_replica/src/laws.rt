@@ -1,10 +1,12 @@
 //! Laws of the definitions: each function's contract is the law, and its body is empty.
 
-ghost use Rattle.std.specs.Prelude.{◌≡◌, ◌≤◌, ◌+◌, ◌↔◌, ℕ, List, ◌∷◌, Some, Contains, filter, insert, length, remove, slice_get};
+ghost use Rattle.std.specs.Prelude.{◌≡◌, ◌≤◌, ◌+◌, ◌↔◌, ℕ, List, [], ◌∷◌, Some, All, Contains, drop, filter, insert, length, remove, slice_get};
 ghost use Rattle.std.specs.declared.cmp.Ordering.TheVariants.{Less};
 ghost use Rattle.bg_types.specs.Identifier.{Identifier, id_cmp};
-ghost use Rattle.bg_types.specs.OperationSet.{OperationSet, Agree, AllWellFormed, Holds, next, size, union, with_operation};
+ghost use Rattle.bg_types.specs.OperationSet.{OperationSet, Agree, AllWellFormed, Holds, next, no_operations, size, union, with_operation};
 ghost use Rattle.bg_types.specs.WellFormed.{IsWellFormed};
+ghost use Rattle.bg_types.specs.declared.change.Change.{Change};
+ghost use Rattle.bg_types.specs.Edit.{IsEdit};
 ghost use Rattle.bg_types.specs.declared.op.Place.{Place};
 ghost use Rattle.bg_types.specs.declared.op.Place.TheVariants.{Root};
 ghost use Rattle.bg_types.specs.declared.op.OpView.{OpView};
@@ -22,12 +24,17 @@ ghost use Rattle.desk_replica.specs.declared.world.step.Reply.{Reply};
 ghost use Rattle.desk_replica.specs.declared.world.step.Reply.TheVariants.{Done, Refused};
 ghost use Rattle.desk_replica.specs.SetOf.{IsSetOf};
 ghost use Rattle.desk_replica.specs.Typing.{typed, insertion};
+ghost use Rattle.desk_replica.specs.Stretch.{typed_text, deletions};
+ghost use Rattle.desk_replica.specs.Telling.{IsTold};
 ghost use Rattle.desk_replica.specs.Reply.{IsRefusal};
 ghost use Rattle.desk_replica.specs.Refusal.{IsFirstRefusal};
 ghost use Rattle.desk_replica.specs.Merging.{IsMergeRefusal};
 ghost use Rattle.desk_replica.specs.DeskSets.{set_at};
 ghost use Rattle.desk_replica.specs.WorldStep.{WorldState, WorldStep, next_identifier};
 ghost use Rattle.desk_replica.specs.WorldRun.{WorldRun, IsWorld, IsLater, all_made};
+
+// The *sub-walk* and *unbroken-stretch* laws speak of walks alone, and stand where the walk is.
+pub use rga_tree::laws::{sub_walk, unbroken_stretch};
 
 /// The union of sets of operations, where it is defined, is commutative, associative and
 /// idempotent.
@@ -72,6 +79,27 @@ pub fn typed_and_erased()
         → visible (with_operation s (Erase target)) ≡ remove (visible s) place }
     ensures counter { (s : OperationSet) (place : ℕ) (target : Identifier) → slice_get (visible_ids s) place ≡ Some target
         → next (with_operation s (Erase target)) ≡ next s }
+{}
+
+/// Characters that are typed at once are typed one after the other, each behind the one before, and those that are
+/// erased at once are erased one after the other, each at the place of the first.
+pub fn stretches()
+    ensures typed { (s : OperationSet) (site place ch : ℕ) (chs : List ℕ) → AllWellFormed s → place ≤ length (visible s)
+        → All IsWellFormed (typed_text s site place (ch ∷ chs))
+        → typed_text s site place (ch ∷ chs) ≡ insertion (typed s site place ch)
+        ∷ typed_text (with_operation s (insertion (typed s site place ch))) site (place + 1) chs }
+    ensures erased { (s : OperationSet) (place count : ℕ) (target : Identifier) → AllWellFormed s
+        → slice_get (visible_ids s) place ≡ Some target
+        → deletions s place (count + 1) ≡ Erase target ∷ deletions (with_operation s (Erase target)) place count }
+{}
+
+/// Told changes are the change: made one after the other on the text before, they give the text after; so do those of
+/// calls in turn. What is told of a fresh desk from its first call on makes its text of nothing.
+pub fn told_changes()
+    ensures change { (s t : OperationSet) (old new : List Change) → IsTold s t old new
+        → IsEdit (text s) (drop (length old) new) (text t) }
+    ensures in_turn { (s t u : OperationSet) (a b c : List Change) → IsTold s t a b → IsTold t u b c → IsTold s u a c }
+    ensures fresh { (s : OperationSet) (told : List Change) → IsTold no_operations s [] told → IsEdit [] told (text s) }
 {}
 
 /// No two insertions made in a world have the same identifier.

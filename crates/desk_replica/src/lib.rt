@@ -4,6 +4,7 @@
 mod answer;
 mod cursor;
 pub mod laws;
+mod listener;
 mod placing;
 mod reading;
 mod replica;

@@ -1,6 +1,6 @@
 //! Where an operation goes: into the tree, or among those that wait.
 
-ghost use Rattle.std.specs.Prelude.{◌≡◌, ◌≤◌, ◌<◌, ◌+◌, ◌-◌, ℕ, Some, true, false, OnOk, OnErr, IfOk};
+ghost use Rattle.std.specs.Prelude.{◌≡◌, ◌≤◌, ◌<◌, ◌+◌, ◌-◌, ◌⊎◌, ◌∷◌, [], ℕ, Some, true, false, OnOk, OnErr, IfOk, if◌then◌else◌};
 ghost use Rattle.std.specs.Option.{option_map};
 ghost use Rattle.std.specs.FinMap as map;
 ghost use Rattle.std.specs.FinSet as set;
@@ -11,13 +11,17 @@ ghost use Rattle.bg_types.specs.declared.op.OpView.TheVariants.{Insert};
 ghost use Rattle.rga_tree.specs.Tree.{stands_in};
 ghost use Rattle.pending_ops.specs.Releasing.{subject};
 ghost use Rattle.pending_ops.specs.Waiting.{IsNew, ListsOnce, is_ready};
+ghost use Rattle.rga_tree.specs.TextOf.{visible_before, is_erased};
+ghost use Rattle.desk_replica.specs.Listening.{HasRoom, IsBounded, Tells, extended, told_count};
+ghost use Rattle.desk_replica.specs.Telling.{most_told};
 ghost use Rattle.desk_replica.specs.Placement.{IsParted, IsSettled, IsPaid, MayPlace, Places, reaches_in, waiting_in, whole};
 ghost use Rattle.desk_replica.specs.Reply.{IsAdmitted, IsTaken, IsHiding, attached_count};
 ghost use Rattle.desk_replica.specs.Standing.{IsStanding};
 
 use crate::answer::Taken;
+use crate::listener::{Listener, Nobody};
 use crate::reading::insertion_of;
-use bg_types::{Id, Memory, Op, OpView, Place};
+use bg_types::{Change, Id, Memory, Op, OpView, Place};
 use pending_ops::Held;
 use rga_tree::Sequence;
 
@@ -102,9 +106,15 @@ pub fn make_room<S: Sequence>(seq: &mut S, held: &mut Held, n: usize) -> Result<
     held.reserve(n)
 }
 
-/// Takes one from the spare operations. Where there is none, one is paid for now, and some that may follow.
+/// Takes one from the spare operations. Where there is none, one is paid for now, and some that may follow. What is told is
+/// paid for first.
 #[inline(always)]
-fn pay<S: Sequence>(seq: &mut S, held: &mut Held, spare: &mut usize) -> Result<(), Memory>
+fn pay<S: Sequence, L: Listener>(
+    seq: &mut S,
+    held: &mut Held,
+    spare: &mut usize,
+    listener: &mut L,
+) -> Result<(), Memory>
     requires paid { IsPaid (S.free seq.old) held.old spare.old }
     requires few { map.len held.old.held.ins ≤ 1_000_000 }
     ensures content { S.content seq.new ≡ S.content seq.old }
@@ -112,11 +122,14 @@ fn pay<S: Sequence>(seq: &mut S, held: &mut Held, spare: &mut usize) -> Result<(
     ensures released { held.new.released ≡ held.old.released }
     ensures paid { OnOk result (IsPaid (S.free seq.new) held.new (spare.new + 1)) }
     ensures spare { OnOk result (spare.new ≡ spare.old - 1) }
-    ensures unpaid { OnErr result (spare.old ≡ 0) }
+    ensures unpaid { OnErr result ((spare.old ≡ 0) ⊎ IsBounded (L.room listener.new)) }
     ensures kept { S.free seq.old ≤ S.free seq.new }
     ensures err { OnErr result (held.new ≡ held.old) }
     ensures same { OnErr result (spare.new ≡ spare.old) }
+    ensures told { L.told listener.new ≡ L.told listener.old }
+    ensures room { OnOk result (HasRoom (L.room listener.new) (map.len held.old.held.ins + 1)) }
 {
+    listener.make_room(held)?;
     if *spare > 0 {
         *spare -= 1;
         return Ok(());
@@ -127,12 +140,13 @@ fn pay<S: Sequence>(seq: &mut S, held: &mut Held, spare: &mut usize) -> Result<(
     make_room(seq, held, AHEAD)
 }
 
-/// Takes in a new operation. It is paid for before the first change, unless it hides an element.
-pub fn admit<S: Sequence>(
+/// Takes in a new operation. It is paid for before the first change: but for what is told, hiding an element takes nothing.
+pub fn admit<S: Sequence, L: Listener>(
     seq: &mut S,
     held: &mut Held,
     spare: &mut usize,
     op: &Op,
+    listener: &mut L,
 ) -> Result<Taken, Memory>
     requires settled { IsSettled (S.content seq.old) held.old }
     requires admitted { IsAdmitted (whole (S.content seq.old) held.old) op.now }
@@ -140,29 +154,47 @@ pub fn admit<S: Sequence>(
     ensures settled { IsSettled (S.content seq.new) held.new }
     ensures paid { IsPaid (S.free seq.new) held.new spare.new }
     ensures spare { spare.old ≤ spare.new + 1 }
-    ensures unpaid { OnErr result (spare.old ≡ 0) }
+    ensures unpaid { OnErr result ((spare.old ≡ 0) ⊎ IsBounded (L.room listener.new)) }
     ensures same { OnErr result (spare.new ≡ spare.old) }
     ensures ok { OnOk result (whole (S.content seq.new) held.new ≡ with_operation (whole (S.content seq.old) held.old) op.now) }
     ensures answer { IfOk result (IsTaken (whole (S.content seq.old) held.old) op.now) }
     ensures content { OnErr result (S.content seq.new ≡ S.content seq.old) }
     ensures held { OnErr result (held.new ≡ held.old) }
-    ensures memory { OnErr result (¬ (IsHiding (whole (S.content seq.old) held.old) op.now)) }
+    ensures memory { OnErr result ((¬ (IsHiding (whole (S.content seq.old) held.old) op.now)) ⊎ IsBounded (L.room listener.new)) }
+    ensures told { Tells (whole (S.content seq.old) held.old) (whole (S.content seq.new) held.new) (L.told listener.old) (L.told listener.new) }
+    ensures few { IfOk result (λ taken. told_count (L.told listener.new) ≤ told_count (L.told listener.old) + most_told taken) }
+    ensures untold { OnErr result (L.told listener.new ≡ L.told listener.old) }
 {
     if !reaches(seq, op) {
-        pay(seq, held, spare)?;
+        pay(seq, held, spare, &mut Nobody)?;
         keep_waiting(held, op);
         return Ok(Taken::Held);
     }
     match op.view() {
         OpView::Insert { .. } => {
-            pay(seq, held, spare)?;
-            Ok(place_new(seq, held, op))
+            pay(seq, held, spare, listener)?;
+            Ok(place_new(seq, held, op, listener))
         }
         OpView::Erase { target } => {
-            seq.hide(target);
+            listener.make_room(held)?;
+            hide(seq, target, listener);
             Ok(Taken::Hidden)
         }
     }
+}
+
+/// Hides a visible element, and tells that before.
+#[inline(always)]
+fn hide<S: Sequence, L: Listener>(seq: &mut S, target: Id, listener: &mut L)
+    requires placed { map.contains_key (S.content seq.old).ins target ≡ true }
+    requires visible { is_erased (S.content seq.old) target ≡ false }
+    requires room { HasRoom (L.room listener.old) 1 }
+    ensures content { S.content seq.new ≡ with_operation (S.content seq.old) (OpView.Erase target) }
+    ensures room { S.free seq.new ≡ S.free seq.old }
+    ensures told { L.told listener.new ≡ extended (L.told listener.old) (Change.Cut (visible_before (S.content seq.old) target) ∷ []) }
+{
+    listener.hear_cut(seq, target);
+    seq.hide(target);
 }
 
 /// Holds a new operation, which is paid for.
@@ -188,54 +220,86 @@ fn reaches<S: Sequence>(seq: &S, op: &Op) -> bool
 }
 
 /// Places a new insertion, and what waits for it.
-fn place_new<S: Sequence>(seq: &mut S, held: &mut Held, op: &Op) -> Taken
+fn place_new<S: Sequence, L: Listener>(
+    seq: &mut S,
+    held: &mut Held,
+    op: &Op,
+    listener: &mut L,
+) -> Taken
     requires settled { IsSettled (S.content seq.old) held.old }
     requires admitted { IsAdmitted (whole (S.content seq.old) held.old) op.now }
     requires may { MayPlace (S.content seq.old) op.now }
     requires room { map.len held.old.held.ins + 1 ≤ S.free seq.old }
+    requires told_room { HasRoom (L.room listener.old) (map.len held.old.held.ins + 1) }
     ensures settled { IsSettled (S.content seq.new) held.new }
     ensures whole { whole (S.content seq.new) held.new ≡ with_operation (whole (S.content seq.old) held.old) op.now }
     ensures answer { IsTaken (whole (S.content seq.old) held.old) op.now result }
     ensures paid { (n : ℕ) → IsPaid (S.free seq.old) held.old (n + 1) → IsPaid (S.free seq.new) held.new n }
+    ensures told { Tells (whole (S.content seq.old) held.old) (whole (S.content seq.new) held.new) (L.told listener.old) (L.told listener.new) }
+    ensures few { told_count (L.told listener.new) ≤ told_count (L.told listener.old) + most_told result }
 {
     let before = seq.placed();
-    place_one(seq, held, op);
-    place_ready(seq, held);
+    place_one(seq, held, op, listener);
+    place_ready(seq, held, listener);
     Taken::Placed(seq.placed() - before - 1)
 }
 
 /// Places ready insertions until none is ready.
-fn place_ready<S: Sequence>(seq: &mut S, held: &mut Held)
+fn place_ready<S: Sequence, L: Listener>(seq: &mut S, held: &mut Held, listener: &mut L)
     requires parted { IsParted (S.content seq.old) held.old.held (is_ready held.old) }
     requires formed { AllWellFormed held.old.held }
     requires room { map.len held.old.held.ins ≤ S.free seq.old }
+    requires told_room { HasRoom (L.room listener.old) (map.len held.old.held.ins) }
     ensures settled { IsSettled (S.content seq.new) held.new }
     ensures same { whole (S.content seq.new) held.new ≡ whole (S.content seq.old) held.old }
     ensures grows { attached_count (S.content seq.old) ≤ attached_count (S.content seq.new) }
     ensures paid { (n : ℕ) → IsPaid (S.free seq.old) held.old n → IsPaid (S.free seq.new) held.new n }
+    ensures told { Tells (S.content seq.old) (S.content seq.new) (L.told listener.old) (L.told listener.new) }
+    ensures few { told_count (L.told listener.new) + attached_count (S.content seq.old)
+        ≤ told_count (L.told listener.old) + attached_count (S.content seq.new) }
 {
     while let Some(op) = held.next_ready() {
-        place_one(seq, held, &op);
+        place_one(seq, held, &op, listener);
     }
 }
 
-/// Places an insertion that no longer waits, and makes those right after it ready.
+/// Places an insertion that no longer waits, tells of it where it is visible, and makes those right after it ready.
 #[inline(always)]
-fn place_one<S: Sequence>(seq: &mut S, held: &mut Held, op: &Op)
+fn place_one<S: Sequence, L: Listener>(seq: &mut S, held: &mut Held, op: &Op, listener: &mut L)
     requires may { MayPlace (S.content seq.old) op.now }
     requires room { 1 ≤ S.free seq.old }
+    requires told_room { HasRoom (L.room listener.old) 1 }
     ensures places { Places (S.content seq.old) held.old op.now (S.content seq.new) held.new }
     ensures room { S.free seq.new + 1 ≡ S.free seq.old }
     ensures grows { attached_count (S.content seq.new) ≡ attached_count (S.content seq.old) + 1 }
+    ensures told { Tells (S.content seq.old) (S.content seq.new) (L.told listener.old) (L.told listener.new) }
+    ensures few { told_count (L.told listener.new) ≤ told_count (L.told listener.old) + 1 }
+    ensures told_room { (n : ℕ) → HasRoom (L.room listener.old) (n + 1) → HasRoom (L.room listener.new) n }
 {
     match op.view() {
         OpView::Insert { id, parent, ch } => {
             let hidden = held.drop_erasure(id);
             seq.place(id, parent, ch, hidden);
+            tell_placed(seq, id, ch, hidden, listener);
             held.release_of(id);
         }
         OpView::Erase { .. } => unreachable!(),
     }
+}
+
+/// Tells that an element was placed, if it is visible.
+#[inline(always)]
+fn tell_placed<S: Sequence, L: Listener>(seq: &S, id: Id, ch: char, hidden: bool, listener: &mut L)
+    requires placed { map.contains_key (S.content seq.now).ins id ≡ true }
+    requires room { HasRoom (L.room listener.old) 1 }
+    ensures told { L.told listener.new ≡ extended (L.told listener.old)
+        (if hidden then [] else Change.Put (visible_before (S.content seq.now) id) ch ∷ []) }
+    ensures room { (n : ℕ) → HasRoom (L.room listener.old) (n + 1) → HasRoom (L.room listener.new) n }
+{
+    if hidden {
+        return;
+    }
+    listener.hear_put(seq, id, ch);
 }
 
 /// The greatest counter that an operation names.

@@ -4,21 +4,25 @@ ghost use Rattle.std.specs.Prelude.{◌≡◌, ◌≤◌, ◌<◌, ◌+◌, ◌�
 ghost use Rattle.bg_types.specs.OperationSet.{no_operations, with_operation, size, next, AllWellFormed};
 ghost use Rattle.bg_types.specs.WellFormed.{IsWellFormed};
 ghost use Rattle.rga_tree.specs.Attached.{IsAttached};
-ghost use Rattle.rga_tree.specs.TextOf.{text, visible, visible_ids};
+ghost use Rattle.rga_tree.specs.TextOf.{text, visible, visible_before, visible_ids};
 ghost use Rattle.pending_ops.specs.Waiting.{ListsOnce};
 ghost use Rattle.desk_replica.specs.Desk.{fresh};
 ghost use Rattle.desk_replica.specs.Reply.{IsTaken, IsRefused, IsRefusal};
 ghost use Rattle.desk_replica.specs.declared.answer.TakeFault.{TakeFault as Fault};
-ghost use Rattle.desk_replica.specs.Told.{told, visible_before};
+ghost use Rattle.desk_replica.specs.Told.{told};
 ghost use Rattle.desk_replica.specs.declared.answer.TypeFault.{TypeFault as Untyped};
 ghost use Rattle.desk_replica.specs.Typing.{typed, insertion, parent_at, IsTypedAt, IsTypeRefusal, IsTypeRefused, IsErasedAt};
 
+mod listing;
 mod merging;
+mod stretch;
+mod telling;
 
 use crate::answer::{TakeFault, Taken, TypeFault};
-use crate::placing::{Standing, admit, count_waiting, counter_of, look_up, make_room};
-use crate::reading::{count_before, hidden_at, insertion_of};
-use bg_types::{Id, Memory, Op, OpView, Place};
+use crate::listener::Nobody;
+use crate::placing::{count_waiting, make_room};
+use crate::reading::{hidden_at, insertion_of};
+use bg_types::{Id, Memory, Op, Place};
 use pending_ops::Held;
 use rga_tree::{Sequence, text_of};
 use std::alloc::Global;
@@ -115,22 +119,7 @@ impl<S: Sequence> Replica<S> {
         ensures spare { size self.old.set + self.old.spare ≤ size self.new.set + self.new.spare }
         ensures unpaid { IfErr result (λ fault. fault ≡ TakeFault.Memory → self.old.spare ≡ 0) }
     {
-        match look_up(&self.seq, &self.held, self.greatest, op) {
-            Standing::Known => return Ok(Taken::Known),
-            Standing::Reused => return Err(TakeFault::IdentifierReused),
-            Standing::New => {}
-        }
-        if self.kept >= LIMIT {
-            return Err(TakeFault::Full);
-        }
-        match admit(&mut self.seq, &mut self.held, &mut self.spare, op) {
-            Ok(taken) => {
-                self.kept += 1;
-                self.greatest = self.greatest.max(counter_of(op));
-                Ok(taken)
-            }
-            Err(Memory) => Err(TakeFault::Memory),
-        }
+        self.take_to(op, &mut Nobody)
     }
 
     /// Types a character at a place: makes the insertion, takes it, and returns it. A fault changes
@@ -239,8 +228,7 @@ impl<S: Sequence> Replica<S> {
         self.seq.id_at(place)
     }
 
-    /// How many visible characters stand before that of this identifier, or `None` where it is not
-    /// placed. Goes over the elements up to it.
+    /// How many visible characters stand before that of this identifier, or `None` where it is not placed.
     pub fn place_of(&self, id: Id) -> Option<usize>
         ensures placed { IsSome result ↔ IsAttached self.now.set.ins id }
         ensures value { IfSome result (λ place. place ≡ visible_before self.now.set id) }
@@ -248,7 +236,7 @@ impl<S: Sequence> Replica<S> {
         if !self.seq.has(id) {
             return None;
         }
-        Some(count_before(&self.seq, id))
+        Some(self.seq.visible_before(id))
     }
 
     /// How many operations are kept, at most 1,000,000.

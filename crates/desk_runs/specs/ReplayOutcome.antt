@@ -127,10 +127,14 @@ abbrev pub IsReplayOutcome : Given → (old new : Option (List ℕ)) (failed : B
 IsReplayOutcome g old new failed (Ok done) = (failed ≡ false) × WritesShows g old new
 IsReplayOutcome g old new failed (Err fault) = (IsUnread g fault × IsSilent old new failed) ⊎ EndsInSteps g old new failed fault
 
--- the outcome of a run over readers, by what is still to come of each and which have failed, where a run over the files that
--- they tell is given this
-abbrev pub IsReplayOutcomeOver : (readers : List (Option (List ℕ))) (lost : List Bool) → (List (List ℕ) → Given) → (old new : Option (List ℕ)) (failed : Bool) → Result (Unit {0}) RunFault → Type 0
-IsReplayOutcomeOver readers lost gives old new failed result = IsRunOver readers lost (IsSilent old new failed) (λ files. IsReplayOutcome (gives files) old new failed) result
+-- nothing is written, and the data files are right, which come first, whatever the operation files are
+abbrev pub IsCut : (List (List ℕ) → Given) → (old new : Option (List ℕ)) (failed : Bool) → Type 0
+IsCut gives old new failed = IsSilent old new failed × ((files : List (List ℕ)) → (gives files).fault ≡ None)
+
+-- the outcome of a run over readers, by what is still to come of each, what it has left, and which have failed, where a run over
+-- the files that they tell is given this
+abbrev pub IsReplayOutcomeOver : (readers left : List (Option (List ℕ))) (lost : List Bool) → (List (List ℕ) → Given) → (old new : Option (List ℕ)) (failed : Bool) → Result (Unit {0}) RunFault → Type 0
+IsReplayOutcomeOver readers left lost gives old new failed result = IsRunOver readers left lost (IsCut gives old new failed) (λ files. IsReplayOutcome (gives files) old new failed) result
 
 -- which answer the data has, unless memory runs out, or a write of a show before it fails
 pub record IsReplayDecided (g : Given) (old new : Option (List ℕ)) (failed : Bool) (result : Result (Unit {0}) RunFault) : Type 0 where

@@ -4,7 +4,7 @@ ghost use Rattle.std.specs.Prelude.{◌≡◌, ◌≤◌, Some, None, false, len
 ghost use Rattle.std.specs.Option.{option_copied};
 ghost use Rattle.desk_runs.specs.Setting.{print_in, files_in};
 ghost use Rattle.desk_files.specs.Files.{bytes_of};
-ghost use Rattle.desk_files.specs.Readers.{AreWorking};
+ghost use Rattle.desk_files.specs.Readers.{AreWorking, AreAsked};
 ghost use Rattle.desk_runs.specs.ReplayOutcome.{given, IsReplayOutcome, IsReplayOutcomeOver, IsPlanOutcome};
 
 mod room;
@@ -28,7 +28,7 @@ use view_cache::View;
 /// Does the steps of a schedule, or without one lets each desk take all files and shows it. There
 /// are as many desks as files, and desk k has site k. For each show, in order, the print of the
 /// grid of the desk's text is written, at a width in columns. All data is read before the first
-/// step is taken. Where the key is secret, nobody can write files that make the run slow.
+/// step is taken. Where the key is secret, it is hard to write files that make the run slow.
 ///
 /// Which answer the data has is `laws::replay_is_decided`.
 pub fn replay<S: Sink>(
@@ -71,7 +71,8 @@ pub fn replay_from<R: Source, S: Sink>(
     requires many { length files.old ≤ 64 }
     requires readers { AreWorking (each R.has_failed files.old) }
     requires working { S.has_failed out.old ≡ false }
-    ensures { IsReplayOutcomeOver (each R.remaining files.old) (each R.has_failed files.new)
+    ensures asked { AreAsked (each R.remaining files.old) (each R.remaining files.new) }
+    ensures outcome { IsReplayOutcomeOver (each R.remaining files.old) (each R.remaining files.new) (each R.has_failed files.new)
         (λ told. given ucd.now width base told (option_copied schedule.entry))
         (S.written out.old) (S.written out.new) (S.has_failed out.new) result }
 {

@@ -7,8 +7,7 @@ ghost use Rattle.desk_replica.specs.DeskSets.{sets_of, empty_desks};
 ghost use Rattle.desk_files.specs.declared.run_fault.RunFault.{RunFault};
 ghost use Rattle.desk_runs.specs.Desks.{fresh_desks};
 ghost use Rattle.desk_files.specs.Readers.{IsFileOutcome};
-ghost use Rattle.desk_files.specs.Written.{IsSilent};
-ghost use Rattle.desk_runs.specs.ReplayOutcome.{Given, IsReplayOutcome, IsReplayOutcomeOver, IsReplayDecided};
+ghost use Rattle.desk_runs.specs.ReplayOutcome.{Given, IsCut, IsReplayOutcome, IsReplayOutcomeOver, IsReplayDecided};
 
 use desk_files::laws as files;
 use desk_replica::laws as desks;
@@ -21,10 +20,10 @@ pub fn desks_of_a_run()
 {}
 
 /// Where readers tell their bytes, a run over them has an outcome of a run over files of these bytes,
-/// or a reader has failed: number n, from 1, and no other.
+/// or a reader has failed: number n, from 1, and no other, while the data files were right.
 pub fn readers_tell_files()
-    ensures { (files : List (List ℕ)) (lost : List Bool) (gives : List (List ℕ) → Given) (old new : Option (List ℕ)) (failed : Bool) (result : Result (Unit {0}) RunFault)
-        → IsReplayOutcomeOver (each Some files) lost gives old new failed result → IsFileOutcome lost (IsSilent old new failed) (IsReplayOutcome (gives files) old new failed) result }
+    ensures { (files : List (List ℕ)) (left : List (Option (List ℕ))) (lost : List Bool) (gives : List (List ℕ) → Given) (old new : Option (List ℕ)) (failed : Bool) (result : Result (Unit {0}) RunFault)
+        → IsReplayOutcomeOver (each Some files) left lost gives old new failed result → IsFileOutcome lost (IsCut gives old new failed) (IsReplayOutcome (gives files) old new failed) result }
 {}
 
 /// A run of `replay` has the answer of its data, unless memory runs out or a write fails.

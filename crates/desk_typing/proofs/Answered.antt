@@ -17,18 +17,18 @@ use Rattle.desk_typing.specs.Changing.{operations_of, Fits, IsUnfit}
 use Rattle.desk_typing.specs.TypedOutcome.{IsTypedFile, IsUnfitFor, IsUntyped}
 
 module _ (readers : List (Option (List ℕ))) (lost : List Bool) (change : Change) (text : List ℕ) (utf8 : IsUtf8 text) (s : OperationSet) (told : AreTold readers lost (λ files. IsSetOfFiles files s)) where
-  lacking : IsUntyped readers lost change text (Run Memory)
-  lacking = (utf8, inr (told_so readers lost (λ files. IsSetOfFiles files s) (λ files. IsTakingCaused files Memory) (λ files h. tt) told))
+  lacking : (left : List (Option (List ℕ))) → IsUntyped readers left lost change text (Run Memory)
+  lacking left = (utf8, inr (told_so readers lost (λ files. IsSetOfFiles files s) (λ files. IsTakingCaused files Memory) (λ files h. tt) told))
 
   unfit_for : (fault : TypingFault) → IsUnfit s change (chars text) fault → AreTold readers lost (λ files. IsUnfitFor files change text fault)
   unfit_for fault h = told_so readers lost (λ files. IsSetOfFiles files s) (λ files. IsUnfitFor files change text fault) (λ files of_files. record { set = s; of_files = of_files; utf8 = utf8; unfit = h }) told
 
-  unfit : (fault : TypingFault) → IsUnfit s change (chars text) fault → IsUntyped readers lost change text fault
-  unfit (NotUtf8 byte) h = absurd h
-  unfit (Run fault) h = subst (λ f. IsUntyped readers lost change text (Run f)) (sym h) lacking
-  unfit (PastEnd place erased) h = unfit_for (PastEnd place erased) h
-  unfit Full h = unfit_for Full h
-  unfit CounterSpent h = unfit_for CounterSpent h
+  unfit : (left : List (Option (List ℕ))) (fault : TypingFault) → IsUnfit s change (chars text) fault → IsUntyped readers left lost change text fault
+  unfit left (NotUtf8 byte) h = absurd h
+  unfit left (Run fault) h = subst (λ f. IsUntyped readers left lost change text (Run f)) (sym h) (lacking left)
+  unfit left (PastEnd place erased) h = unfit_for (PastEnd place erased) h
+  unfit left Full h = unfit_for Full h
+  unfit left CounterSpent h = unfit_for CounterSpent h
 
   pub made : {A : Type 0} (items : A → List ℕ) (version : Version) (r : Result A TypingFault) → OnOk r (Fits s change (chars text))
       → IfOk r (λ file. SpellsIn version (items file) (operations_of s change (chars text))) → IfOk r (λ file. AreTold readers lost (λ files. IsTypedFile version files change text (items file)))
@@ -36,9 +36,9 @@ module _ (readers : List (Option (List ℕ))) (lost : List Bool) (change : Chang
       told_so readers lost (λ files. IsSetOfFiles files s) (λ files. IsTypedFile version files change text (items file)) (λ files of_files. record { set = s; of_files = of_files; utf8 = utf8; fits = fits; spelled = spelled }) told
   made items version (Err fault) fits spelled = tt
 
-  pub not_made : {A : Type 0} (r : Result A TypingFault) → IfErr r (IsUnfit s change (chars text)) → IfErr r (IsUntyped readers lost change text)
-  not_made (Ok file) h = tt
-  not_made (Err fault) h = unfit fault h
+  pub not_made : {A : Type 0} (left : List (Option (List ℕ))) (r : Result A TypingFault) → IfErr r (IsUnfit s change (chars text)) → IfErr r (IsUntyped readers left lost change text)
+  not_made left (Ok file) h = tt
+  not_made left (Err fault) h = unfit left fault h
 
 -- ---- the bytes of a text are the text
 
@@ -46,5 +46,5 @@ module _ {A : Type 0} (readers : List (Option (List ℕ))) (lost : List Bool) (c
   pub made_of : (items : A → List ℕ) (version : Version) → IfOk r (λ file. AreTold readers lost (λ files. IsTypedFile version files change words (items file))) → IfOk r (λ file. AreTold readers lost (λ files. IsTypedFile version files change text (items file)))
   made_of items version h = subst (λ (t : List ℕ). IfOk r (λ file. AreTold readers lost (λ files. IsTypedFile version files change t (items file)))) same h
 
-  pub not_made_of : IfErr r (IsUntyped readers lost change words) → IfErr r (IsUntyped readers lost change text)
-  not_made_of h = subst (λ (t : List ℕ). IfErr r (IsUntyped readers lost change t)) same h
+  pub not_made_of : (left : List (Option (List ℕ))) → IfErr r (IsUntyped readers left lost change words) → IfErr r (IsUntyped readers left lost change text)
+  not_made_of left h = subst (λ (t : List ℕ). IfErr r (IsUntyped readers left lost change t)) same h

@@ -1,5 +1,5 @@
 -- The identifiers of what is typed: counters in a row, from the next one on, each at the site of the change.
-use Rattle.std.proofs.Common.{◌≡◌, ◌<◌, ◌+◌, ℕ, zero, suc, List, [], ◌∷◌, ◌++◌, length, take, drop, None, Some, inl, inr, sym, ap, ◌∙◌, arith}
+use Rattle.std.proofs.Common.{◌≡◌, ◌<◌, ◌+◌, ℕ, zero, suc, List, [], ◌∷◌, ◌++◌, length, take, drop, None, Some, inl, inr, sym, ap, arith}
 use Rattle.std.specs.Prelude.{All, Contains, slice_get, map as each}
 use Rattle.std.proofs.lemmas.List.Elements.{All-head}
 use Rattle.bg_types.specs.Identifier.{Identifier}
@@ -9,12 +9,11 @@ use Rattle.bg_types.specs.declared.op.Place.TheVariants.{After}
 use Rattle.bg_types.specs.declared.op.OpView.{OpView}
 use Rattle.bg_types.specs.declared.op.OpView.TheVariants.{Insert, Erase}
 use Rattle.bg_types.proofs.Interface.{next-above}
-use Rattle.op_codec.specs.Spelling.{next_of}
 use Rattle.rga_tree.specs.TextOf.{visible_ids}
 use Rattle.desk_replica.specs.Typing.{parent_at}
 use Rattle.desk_typing.specs.declared.change.Change.{Change}
-use Rattle.desk_typing.specs.Changing.{place_in, insertions, first_id, operations_of}
-use Rattle.desk_typing.proofs.Lists.{followers-are}
+use Rattle.desk_replica.specs.Stretch.{id_after, insertions}
+use Rattle.desk_typing.specs.Changing.{place_in, first_id, operations_of}
 use Rattle.desk_typing.proofs.Sets.{contains_none, contains_cases}
 
 index_of : {X : Type 0} (xs : List X) (x : X) → Contains xs x → (k : ℕ) × (slice_get xs k ≡ Some x)
@@ -37,7 +36,7 @@ number_of first parent (x ∷ typed) zero id p ch h =
     let counters = ap (λ (q : Identifier). q.counter) same in
     record { counter = omega (arith, counters); site = sym (ap (λ (q : Identifier). q.site) same) }
 number_of first parent (x ∷ typed) (suc i) id p ch h =
-    let rest = number_of (next_of first) (After first) typed i id p ch (ap (λ l. slice_get l i) (sym (followers-are first typed)) ∙ h) in
+    let rest = number_of (id_after first) (After first) typed i id p ch h in
     record { counter = omega (arith, rest.counter); site = rest.site }
 
 -- what is no deletion stands after the deletions

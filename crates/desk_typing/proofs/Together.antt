@@ -1,7 +1,6 @@
 -- The files and the file of the change read together.
-use Rattle.std.proofs.Common.{◌≡◌, ◌≤◌, ◌<◌, ◌+◌, inl, inr, ℕ, zero, suc, List, [], ◌∷◌, ◌++◌, length, take, drop, refl, sym, ap, subst, ◌∙◌, length-append, arith}
-use Rattle.std.specs.Prelude.{Contains, slice_get, map as each}
-use Rattle.std.specs.Option.{option_map_or}
+use Rattle.std.proofs.Common.{◌≡◌, ◌≤◌, ◌+◌, inl, inr, ℕ, suc, List, [], ◌∷◌, ◌++◌, length, take, drop, refl, sym, ap, subst, ◌∙◌, length-append, arith}
+use Rattle.std.specs.Prelude.{Contains, map as each}
 use Rattle.std.specs.List.{AllByRecursion, AllZip}
 use Rattle.std.specs.Str.{chars}
 use Rattle.std.proofs.lemmas.List.{length-map, map-append, length-take, take-map, drop-map}
@@ -9,47 +8,29 @@ use Rattle.std.proofs.lemmas.List.Elements.{All-contains, All-from_recursion, Co
 use Rattle.bg_types.specs.WellFormed.{IsWellFormed}
 use Rattle.bg_types.specs.OperationSet.{OperationSet, AllWellFormed, next, size}
 use Rattle.bg_types.specs.declared.op.Place.{Place}
-use Rattle.bg_types.specs.declared.op.Place.TheVariants.{Root, After}
+use Rattle.bg_types.specs.declared.op.Place.TheVariants.{After}
 use Rattle.bg_types.specs.declared.op.OpView.{OpView}
 use Rattle.bg_types.specs.declared.op.OpView.TheVariants.{Erase}
 use Rattle.op_codec.specs.declared.position.Version.{Version}
-use Rattle.op_codec.specs.Spelling.{Spells, SpellsIn, followers}
+use Rattle.op_codec.specs.Spelling.{Spells, SpellsIn}
 use Rattle.rga_tree.specs.TextOf.{text, visible, visible_ids}
 use Rattle.rga_tree.proofs.Interface.{Entry}
 use Rattle.desk_replica.specs.Typing.{parent_at}
 use Rattle.desk_replica.specs.Merging.{with_operations}
+use Rattle.desk_replica.specs.Stretch.{id_after, deletions, insertions}
 use Rattle.desk_replica.specs.SetOf.{IsSetOf}
 use Rattle.desk_files.specs.Reading.{limit, IsReadAs}
 use Rattle.desk_files.specs.Files.{joined}
 use Rattle.desk_typing.specs.declared.change.Change.{Change}
-use Rattle.desk_typing.specs.Changing.{replaced, place_in, deletions, insertions, operations_of, Fits}
+use Rattle.desk_typing.specs.Changing.{replaced, place_in, operations_of, Fits}
 use Rattle.desk_typing.specs.TypedOutcome.{IsTypedFile}
 use Rattle.desk_typing.specs.SameFiles.{HaveSameFiles, ReadAs}
+use Rattle.desk_typing.proofs.Lists.{take-front, drop-front, parent_cut, place_cut}
 use Rattle.desk_typing.proofs.Sets.{AllJoin, AllJoin-append, with_operations-append, Holds-with_operations, size-with_operations, contains_first, contains_one}
 use Rattle.desk_typing.proofs.Erased.{EditLaws, IsErased, erased_all}
 use Rattle.desk_typing.proofs.TypedRun.{IsTyped, typed_all}
 use Rattle.desk_typing.proofs.FileSize.{file_size}
 use Rattle.desk_typing.proofs.Held.{joined-of, joined-has, ops_of, file_of, lists_for}
-
--- ---- a list that was cut
-
-pub take-front : {X : Type 0} (xs ys : List X) (k : ℕ) → k ≤ length xs → take k (take k xs ++ ys) ≡ take k xs
-take-front [] ys zero h = refl
-take-front [] ys (suc k) h = absurd (omega arith)
-take-front (x ∷ xs) ys zero h = refl
-take-front (x ∷ xs) ys (suc k) h = ap (λ l. x ∷ l) (take-front xs ys k (omega arith))
-
-pub drop-front : {X : Type 0} (xs ys : List X) (k : ℕ) → k ≤ length xs → drop k (take k xs ++ ys) ≡ ys
-drop-front [] ys zero h = refl
-drop-front [] ys (suc k) h = absurd (omega arith)
-drop-front (x ∷ xs) ys zero h = refl
-drop-front (x ∷ xs) ys (suc k) h = drop-front xs ys k (omega arith)
-
-pub at-front : {X : Type 0} (xs ys : List X) (j k : ℕ) → j < k → k ≤ length xs → slice_get (take k xs ++ ys) j ≡ slice_get xs j
-at-front [] ys j k lt h = absurd (omega arith)
-at-front (x ∷ xs) ys j zero lt h = absurd (omega arith)
-at-front (x ∷ xs) ys zero (suc k) lt h = refl
-at-front (x ∷ xs) ys (suc j) (suc k) lt h = at-front xs ys j k (omega arith) (omega arith)
 
 append_inner : (xs ys : List OpView) → AllByRecursion IsWellFormed (xs ++ ys) → AllByRecursion IsWellFormed xs × AllByRecursion IsWellFormed ys
 append_inner [] ys h = (tt, h)
@@ -73,36 +54,21 @@ module _ (laws : EditLaws) (s : OperationSet) (change : Change) (typed : List �
   erased : IsErased s t (place_in s change) change.erased × AllJoin s out
   erased = erased_all laws (place_in s change) change.erased s well fits.within parts.0
 
-  ids_is : visible_ids t ≡ take (place_in s change) (visible_ids s) ++ drop (place_in s change + change.erased) (visible_ids s)
-  ids_is = ap (each (λ (e : Entry). e.0)) erased.0.visible_is ∙ map-append (λ (e : Entry). e.0) (take (place_in s change) (visible s)) (drop (place_in s change + change.erased) (visible s))
-      ∙ (λ i. sym (take-map (λ (e : Entry). e.0) (place_in s change) (visible s)) i ++ sym (drop-map (λ (e : Entry). e.0) (place_in s change + change.erased) (visible s)) i)
-
   text_cut : text t ≡ take (place_in s change) (text s) ++ drop (place_in s change + change.erased) (text s)
   text_cut = ap (each (λ (e : Entry). e.1.ch)) erased.0.visible_is ∙ map-append (λ (e : Entry). e.1.ch) (take (place_in s change) (visible s)) (drop (place_in s change + change.erased) (visible s))
       ∙ (λ i. sym (take-map (λ (e : Entry). e.1.ch) (place_in s change) (visible s)) i ++ sym (drop-map (λ (e : Entry). e.1.ch) (place_in s change + change.erased) (visible s)) i)
-
-  many_ids : length (visible_ids s) ≡ length (visible s)
-  many_ids = length-map (visible s) (λ (e : Entry). e.0)
 
   many_text : length (text s) ≡ length (visible s)
   many_text = length-map (visible s) (λ (e : Entry). e.1.ch)
 
   same_parent : parent_at (visible_ids t) (place_in s change) ≡ parent_at (visible_ids s) (place_in s change)
-  same_parent = ap (λ l. parent_at l (place_in s change)) ids_is ∙ by (place_in s change) (omega (arith, many_ids, fits.within))
-    where
-      by : (j : ℕ) → j ≤ length (visible_ids s) → parent_at (take j (visible_ids s) ++ drop (place_in s change + change.erased) (visible_ids s)) j ≡ parent_at (visible_ids s) j
-      by zero le = refl
-      by (suc j) le = ap (λ o. option_map_or After o Root) (at-front (visible_ids s) (drop (place_in s change + change.erased) (visible_ids s)) j (suc j) (omega arith) le)
+  same_parent = parent_cut s t (place_in s change) (place_in s change + change.erased) (omega (arith, fits.within)) erased.0.visible_is
 
   same_new : new ≡ insertions (record { counter = next t; site = change.site }) (parent_at (visible_ids t) (place_in s change)) typed
   same_new = λ i. insertions (record { counter = sym erased.0.next_is i; site = change.site }) (sym same_parent i) typed
 
   within_t : place_in s change ≤ length (visible t)
-  within_t =
-      let cut = ap length erased.0.visible_is in
-      let both = length-append (take (place_in s change) (visible s)) (drop (place_in s change + change.erased) (visible s)) in
-      let front = length-take (place_in s change) (visible s) in
-      omega (arith, cut, both, front, fits.within)
+  within_t = place_cut s t (place_in s change) (place_in s change + change.erased) (omega (arith, fits.within)) erased.0.visible_is
 
   typed_there : IsTyped t new (place_in s change) typed
   typed_there = subst (λ ops. IsTyped t ops (place_in s change) typed) (sym same_new)
@@ -124,13 +90,9 @@ module _ (laws : EditLaws) (s : OperationSet) (change : Change) (typed : List �
       let both = length-append out new in
       omega (arith, both, few, runs typed (record { counter = next s; site = change.site }) (parent_at (visible_ids s) (place_in s change)))
     where
-      follow : (xs : List ℕ) (id : _) → length (followers id xs) ≡ length xs
-      follow [] id = refl
-      follow (x ∷ xs) id = ap (λ m. suc m) (follow xs _)
-
       runs : (xs : List ℕ) (id : _) (p : Place) → length (insertions id p xs) ≡ length xs
       runs [] id p = refl
-      runs (x ∷ xs) id p = ap (λ m. suc m) (follow xs id)
+      runs (x ∷ xs) id p = ap (λ m. suc m) (runs xs (id_after id) (After id))
 
       few : length out ≤ change.erased
       few = let each_one = length-map (take change.erased (drop (place_in s change) (visible_ids s))) Erase in let most = length-take change.erased (drop (place_in s change) (visible_ids s)) in omega (arith, each_one, most)

@@ -13,13 +13,11 @@ use Rattle.bg_types.specs.declared.op.Place.TheVariants.{Root, After}
 use Rattle.bg_types.specs.declared.op.OpView.{OpView}
 use Rattle.bg_types.specs.declared.op.OpView.TheVariants.{Insert}
 use Rattle.bg_types.proofs.Interface.{next-above, next-least, Holds-with_operation}
-use Rattle.op_codec.specs.Spelling.{followers}
 use Rattle.rga_tree.specs.TextOf.{text, visible, visible_ids}
 use Rattle.rga_tree.proofs.Interface.{Entry, AllWellFormed-with}
 use Rattle.desk_replica.specs.Typing.{parent_at}
 use Rattle.desk_replica.specs.Merging.{with_operations}
-use Rattle.desk_typing.specs.Changing.{insertions}
-use Rattle.desk_typing.proofs.Lists.{followers-are}
+use Rattle.desk_replica.specs.Stretch.{id_after, insertions}
 use Rattle.desk_typing.proofs.Sets.{AllJoin}
 use Rattle.desk_typing.proofs.Erased.{EditLaws}
 
@@ -124,8 +122,8 @@ module _ (laws : EditLaws) (site : ℕ) where
     counter : next s + 1 ≡ next t
     counter = sym (next_typed s id refl parent ch formed.0.1)
 
-    on : followers id typed ≡ ops_at t (suc k) typed
-    on = followers-are id typed ∙ (λ i. insertions (record { counter = counter i; site = site }) (sym behind i) typed)
+    on : insertions (id_after id) (After id) typed ≡ ops_at t (suc k) typed
+    on = λ i. insertions (record { counter = counter i; site = site }) (sym behind i) typed
 
     within_t : suc k ≤ length (visible t)
     within_t = let one = length-insert (visible s) k (id, record { parent = parent; ch = ch }) le in let same = ap length seen in omega (arith, one, same, le)

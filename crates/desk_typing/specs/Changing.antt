@@ -1,13 +1,11 @@
 -- What a change makes of a text, and the operations by which a site makes it.
-use Rattle.std.specs.Prelude.{◌≡◌, ◌<◌, ◌≤◌, ◌+◌, ◌-◌, ◌^◌, ◌++◌, ℕ, List, [], ◌∷◌, length, take, drop, unwrap_or, map as each}
+use Rattle.std.specs.Prelude.{◌≡◌, ◌<◌, ◌≤◌, ◌+◌, ◌-◌, ◌^◌, ◌++◌, ℕ, List, length, take, drop, unwrap_or}
 use Rattle.bg_types.specs.Identifier.{Identifier}
 use Rattle.bg_types.specs.OperationSet.{OperationSet, next, size}
-use Rattle.bg_types.specs.declared.op.Place.{Place}
 use Rattle.bg_types.specs.declared.op.OpView.{OpView}
-use Rattle.bg_types.specs.declared.op.OpView.TheVariants.{Insert, Erase}
-use Rattle.op_codec.specs.Spelling.{followers}
 use Rattle.rga_tree.specs.TextOf.{visible, visible_ids}
 use Rattle.desk_replica.specs.Typing.{parent_at}
+use Rattle.desk_replica.specs.Stretch.{deletions, insertions}
 use Rattle.desk_files.specs.declared.run_fault.RunFault.TheVariants.{Memory}
 use Rattle.desk_typing.specs.declared.change.Change.{Change}
 use Rattle.desk_typing.specs.declared.typing_fault.TypingFault.{TypingFault}
@@ -20,15 +18,6 @@ replaced xs place count new = take place xs ++ (new ++ drop (place + count) xs)
 -- where the change is made in the text of S: at its end, if it names no place
 abbrev pub place_in : OperationSet → Change → ℕ
 place_in s change = unwrap_or change.place (length (visible s))
-
--- the deletions of a number of visible characters from a place on
-abbrev pub deletions : OperationSet → (place count : ℕ) → List OpView
-deletions s place count = each Erase (take count (drop place (visible_ids s)))
-
--- the insertions of characters: the first one after a parent, each further one after the one before
-abbrev pub insertions : (first : Identifier) → Place → List ℕ → List OpView
-insertions first parent [] = []
-insertions first parent (ch ∷ typed) = Insert first parent ch ∷ followers first typed
 
 -- the identifier of the first character that is typed
 abbrev pub first_id : OperationSet → Change → Identifier

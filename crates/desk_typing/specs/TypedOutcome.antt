@@ -32,14 +32,14 @@ pub record IsUnfitFor (files : List (List ℕ)) (change : Change) (text : List �
   pub utf8 : IsUtf8 text
   pub unfit : IsUnfit set change (chars text) fault
 
--- why there is no file, by what each reader still has to give and which have failed. The text is looked at first, then the
+-- why there is no file, by what each reader still has to give, what it has left and which have failed. The text is looked at first, then the
 -- files, then the change. Lack of memory has no cause
-abbrev pub IsUntyped : (readers : List (Option (List ℕ))) (lost : List Bool) → Change → (text : List ℕ) → TypingFault → Type 0
-IsUntyped readers lost change text (NotUtf8 byte) = AreWorking lost × (¬ (IsUtf8 text)) × (byte ≡ utf8_valid_len text)
-IsUntyped readers lost change text (Run fault) = IsUtf8 text × EndsOver readers lost IsTakingCaused fault
-IsUntyped readers lost change text (PastEnd place erased) = AreTold readers lost (λ files. IsUnfitFor files change text (PastEnd place erased))
-IsUntyped readers lost change text Full = AreTold readers lost (λ files. IsUnfitFor files change text Full)
-IsUntyped readers lost change text CounterSpent = AreTold readers lost (λ files. IsUnfitFor files change text CounterSpent)
+abbrev pub IsUntyped : (readers left : List (Option (List ℕ))) (lost : List Bool) → Change → (text : List ℕ) → TypingFault → Type 0
+IsUntyped readers left lost change text (NotUtf8 byte) = AreWorking lost × (¬ (IsUtf8 text)) × (byte ≡ utf8_valid_len text)
+IsUntyped readers left lost change text (Run fault) = IsUtf8 text × EndsOver readers left lost IsTakingCaused fault
+IsUntyped readers left lost change text (PastEnd place erased) = AreTold readers lost (λ files. IsUnfitFor files change text (PastEnd place erased))
+IsUntyped readers left lost change text Full = AreTold readers lost (λ files. IsUnfitFor files change text Full)
+IsUntyped readers left lost change text CounterSpent = AreTold readers lost (λ files. IsUnfitFor files change text CounterSpent)
 
 -- the written bytes grew by the file of the change
 pub record WritesTyped (version : Version) (files : List (List ℕ)) (change : Change) (text : List ℕ) (old new : Option (List ℕ)) : Type 0 where
@@ -55,8 +55,8 @@ pub record WritesTypedBeginning (version : Version) (files : List (List ℕ)) (c
 
 -- the outcome of a run over readers, by its answer: the file of the change is written; or nothing, where there is none; or a
 -- beginning of it, for a failed write
-abbrev pub IsTypedOutcome : Version → (readers : List (Option (List ℕ))) (lost : List Bool) → Change → (text : List ℕ) (old new : Option (List ℕ)) (failed : Bool) → Result (Unit {0}) TypingFault → Type 0
-IsTypedOutcome version readers lost change text old new failed (Ok done) = (failed ≡ false) × AreTold readers lost (λ files. WritesTyped version files change text old new)
-IsTypedOutcome version readers lost change text old new failed (Err fault) =
-    (IsUntyped readers lost change text fault × IsSilent old new failed)
+abbrev pub IsTypedOutcome : Version → (readers left : List (Option (List ℕ))) (lost : List Bool) → Change → (text : List ℕ) (old new : Option (List ℕ)) (failed : Bool) → Result (Unit {0}) TypingFault → Type 0
+IsTypedOutcome version readers left lost change text old new failed (Ok done) = (failed ≡ false) × AreTold readers lost (λ files. WritesTyped version files change text old new)
+IsTypedOutcome version readers left lost change text old new failed (Err fault) =
+    (IsUntyped readers left lost change text fault × IsSilent old new failed)
     ⊎ ((fault ≡ Run Device) × (failed ≡ true) × AreTold readers lost (λ files. WritesTypedBeginning version files change text old new))

@@ -4,9 +4,7 @@ ghost use Rattle.std.specs.Prelude.{◌≡◌, ◌<◌, ◌⊎◌, false, map as
 ghost use Rattle.std.specs.Str.{chars};
 ghost use Rattle.bg_types.specs.OperationSet.{no_operations};
 ghost use Rattle.op_codec.specs.Spelling.{SpellsIn};
-ghost use Rattle.desk_files.specs.Readers.{AreWorking, AreTold};
-ghost use Rattle.desk_files.specs.declared.run_fault.RunFault.TheVariants.{Memory as run_memory};
-ghost use Rattle.desk_typing.specs.declared.typing_fault.TypingFault.TheVariants.{Run as typing_run};
+ghost use Rattle.desk_files.specs.Readers.{AreWorking, AreAsked, AreTold};
 ghost use Rattle.desk_typing.specs.Changing.{operations_of, Fits, IsUnfit};
 ghost use Rattle.desk_typing.specs.TypedOutcome.{IsTypedFile, IsUntyped, IsTypedOutcome};
 
@@ -38,7 +36,8 @@ pub fn typed<R: Source, S: Sink>(
     requires site { 0 < change.now.site }
     requires readers { AreWorking (each R.has_failed files.old) }
     requires working { S.has_failed out.old ≡ false }
-    ensures { IsTypedOutcome version (each R.remaining files.old) (each R.has_failed files.new) change.now text.now
+    ensures asked { AreAsked (each R.remaining files.old) (each R.remaining files.new) }
+    ensures outcome { IsTypedOutcome version (each R.remaining files.old) (each R.remaining files.new) (each R.has_failed files.new) change.now text.now
         (S.written out.old) (S.written out.new) (S.has_failed out.new) result }
 {
     let file = typed_file(alloc, key, files, change, text, version)?;
@@ -59,7 +58,8 @@ fn typed_file<R: Source>(
     requires readers { AreWorking (each R.has_failed files.old) }
     ensures ok { IfOk result (λ file. AreTold (each R.remaining files.old) (each R.has_failed files.new)
         (λ told. IsTypedFile version told change.now text.now file.items)) }
-    ensures fault { IfErr result (IsUntyped (each R.remaining files.old) (each R.has_failed files.new) change.now text.now) }
+    ensures asked { AreAsked (each R.remaining files.old) (each R.remaining files.new) }
+    ensures fault { IfErr result (IsUntyped (each R.remaining files.old) (each R.remaining files.new) (each R.has_failed files.new) change.now text.now) }
 {
     let text = match std::str::from_utf8(text) {
         Ok(text) => text,
@@ -71,7 +71,7 @@ fn typed_file<R: Source>(
     file
 }
 
-/// The same by a desk without operations, which takes those of the files.
+/// The same by a desk of the site without operations, which takes those of the files.
 fn file_with<R: Source>(
     alloc: Global,
     files: &mut [R],
@@ -80,12 +80,13 @@ fn file_with<R: Source>(
     text: &str,
     version: Version,
 ) -> Result<Vec<u8>, TypingFault>
-    requires site { 0 < change.now.site }
     requires readers { AreWorking (each R.has_failed files.old) }
     requires empty { desk.old.set ≡ no_operations }
+    requires own { desk.old.site ≡ change.now.site }
     ensures ok { IfOk result (λ file. AreTold (each R.remaining files.old) (each R.has_failed files.new)
         (λ told. IsTypedFile version told change.now text.now file.items)) }
-    ensures fault { IfErr result (IsUntyped (each R.remaining files.old) (each R.has_failed files.new) change.now text.now) }
+    ensures asked { AreAsked (each R.remaining files.old) (each R.remaining files.new) }
+    ensures fault { IfErr result (IsUntyped (each R.remaining files.old) (each R.remaining files.new) (each R.has_failed files.new) change.now text.now) }
 {
     match take_files(alloc, files, desk) {
         Ok(()) => file_at(alloc, desk, change, text, version),
@@ -93,8 +94,7 @@ fn file_with<R: Source>(
     }
 }
 
-/// The operation file of the change at a site that holds what the desk holds. The desk may take one
-/// of its operations.
+/// The operation file of the change at the desk of its site, which makes it.
 fn file_at(
     alloc: Global,
     desk: &mut Desk,
@@ -102,13 +102,12 @@ fn file_at(
     text: &str,
     version: Version,
 ) -> Result<Vec<u8>, TypingFault>
-    requires { 0 < change.now.site }
+    requires { desk.old.site ≡ change.now.site }
     ensures fits { OnOk result (Fits desk.old.set change.now (chars text.now)) }
     ensures spelled { IfOk result (λ file. SpellsIn version file.items (operations_of desk.old.set change.now (chars text.now))) }
     ensures fault { IfErr result (IsUnfit desk.old.set change.now (chars text.now)) }
 {
-    let typed = code_points(alloc, text)?;
-    let ops = operations(alloc, desk, change, typed.as_slice())?;
+    let ops = operations(alloc, desk, change, text)?;
     let file = encoded(alloc, version, ops.as_slice())?;
     Ok(file)
 }
@@ -121,13 +120,4 @@ fn encoded(alloc: Global, version: Version, ops: &[Op]) -> Result<Vec<u8>, Memor
         Version::One => encode_file(alloc, ops),
         Version::Two => encode_file_v2(alloc, ops),
     }
-}
-
-/// The code points of a text.
-fn code_points(alloc: Global, text: &str) -> Result<Vec<char>, TypingFault>
-    ensures ok { IfOk result (λ typed. typed.items ≡ chars text.now) }
-    ensures fault { IfErr result (λ fault. fault ≡ typing_run run_memory) }
-{
-    let typed = text.chars().collect(alloc)?;
-    Ok(typed)
 }

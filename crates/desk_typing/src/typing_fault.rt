@@ -8,38 +8,29 @@ ghost use Rattle.desk_files.specs.declared.run_fault.RunFault.TheVariants.{Memor
 use bg_types::{Device, Memory};
 use desk_files::{RunFault, status};
 use std::alloc::{AllocError, AllocFailed};
-use std::error::Error;
 use std::fmt;
+use thiserror::Error;
 
 /// Why a change is not written. Each prints as in the line on standard error, without the
 /// program's name.
-#[derive(Clone, Copy, PartialEq, Eq)]
+#[derive(Clone, Copy, PartialEq, Eq, Error)]
 pub enum TypingFault {
     /// The text is not UTF-8: how many of its bytes come before the first wrong one.
+    #[error("text byte {0}: NotUtf8")]
     NotUtf8(usize),
     /// A run over the files ends like this: a file is faulty, a desk refuses what they hold, a read or a
     /// write failed, or a growth was refused.
+    #[error(transparent)]
     Run(RunFault),
     /// The place, or the end of the characters to be erased from it on, is past the text's end.
+    #[error("place {place} erase {erased}: PastEnd")]
     PastEnd { place: usize, erased: u32 },
     /// The files and the change together have more than 1,000,000 operations.
+    #[error("text: Full")]
     Full,
     /// A character would need a counter above 4,294,967,295.
+    #[error("text: CounterSpent")]
     CounterSpent,
-}
-
-impl fmt::Display for TypingFault {
-    fn fmt<W: fmt::Write>(&self, f: &mut fmt::Formatter<W>) -> fmt::Result {
-        match self {
-            TypingFault::NotUtf8(byte) => write!(f, "text byte {byte}: NotUtf8"),
-            TypingFault::Run(fault) => write!(f, "{fault}"),
-            TypingFault::PastEnd { place, erased } => {
-                write!(f, "place {place} erase {erased}: PastEnd")
-            }
-            TypingFault::Full => write!(f, "text: Full"),
-            TypingFault::CounterSpent => write!(f, "text: CounterSpent"),
-        }
-    }
 }
 
 /// As it prints.
@@ -48,8 +39,6 @@ impl fmt::Debug for TypingFault {
         fmt::Display::fmt(self, f)
     }
 }
-
-impl Error for TypingFault {}
 
 impl TypingFault {
     /// The number of this fault: that of the run's fault, 1 to 10; 6 for `PastEnd`; otherwise 11 to 13.

@@ -1,9 +1,11 @@
 //! What no clause says: rows of the standard and of worked examples, and calls that succeed.
 
-use crate::pieces::text_of;
+use crate::first_paragraph::{First, OfParagraph};
+use crate::pieces::{Pieces, text_of};
 use crate::rows::{Row, assert_rows};
 use bg_types::Base::{Auto, Left, Right};
 use bg_types::{Base, Memory};
+use bidi_explicit::paragraph_level;
 use bidi_weak_neutral::*;
 use paragraphs::{Para, split};
 use std::alloc::Global;
@@ -72,21 +74,44 @@ impl Row for Leveled {
     }
 }
 
+/// A paragraph's own level and those of its code points, a digit each.
+struct Resolved(u8, &'static str);
+
+impl OfParagraph for Resolved {
+    fn is_of(&self, alloc: Global, tables: &Tables, para: &Para) -> Result<bool, Memory> {
+        let mut digits = self.1.as_bytes().iter();
+        Ok(
+            has_next(alloc, tables, Auto, para, &mut digits)?
+                && digits.next().is_none()
+                && paragraph_level(tables, para, Auto) == self.0,
+        )
+    }
+}
+
+/// In the last row a body that takes pairs in order of closing gives both square brackets level 1.
+const RESOLVED: &[First<Resolved>] = &[
+    First("ab \u{5D0}\u{5D1}\u{5D2}", Resolved(0, "000111")),
+    First("\u{5D0}\u{5D1} 12", Resolved(1, "11122")),
+    First("\u{5D0}(b)", Resolved(1, "1121")),
+    First("a\u{2067}b!\u{2069}c", Resolved(0, "002100")),
+    First("\u{627}12", Resolved(1, "122")),
+    First("a\u{202E}b\u{202C}c", Resolved(0, "00110")),
+    First("a(\u{5D0})", Resolved(0, "0010")),
+    First("\u{2068}\u{5D0}\u{2069}a", Resolved(0, "0100")),
+    First("\u{627}1,2", Resolved(1, "1222")),
+    First("\u{5D0}$1", Resolved(1, "122")),
+    First("1+2", Resolved(0, "000")),
+    First("\u{5D0}a(b)\u{301}\u{5D0}", Resolved(1, "1222221")),
+    First("a\u{5D0}([\u{5D1}]c)", Resolved(0, "01001000")),
+];
+
+#[test]
+fn levels_of_worked_paragraphs(rt: HostRuntime) {
+    assert_rows(&rt, RESOLVED);
+}
+
 /// Paragraphs by their own direction, under the rules that they try.
 const OF_THEIR_OWN: &[Leveled] = &[
-    Leveled(Auto, "ab \u{5D0}\u{5D1}\u{5D2}", "000111"),
-    Leveled(Auto, "\u{5D0}\u{5D1} 12", "11122"),
-    Leveled(Auto, "\u{5D0}(b)", "1121"),
-    Leveled(Auto, "a\u{2067}b!\u{2069}c", "002100"),
-    Leveled(Auto, "\u{627}12", "122"),
-    Leveled(Auto, "a\u{202E}b\u{202C}c", "00110"),
-    Leveled(Auto, "a(\u{5D0})", "0010"),
-    Leveled(Auto, "\u{2068}\u{5D0}\u{2069}a", "0100"),
-    Leveled(Auto, "\u{627}1,2", "1222"),
-    Leveled(Auto, "\u{5D0}$1", "122"),
-    Leveled(Auto, "1+2", "000"),
-    Leveled(Auto, "\u{5D0}a(b)\u{301}\u{5D0}", "1222221"),
-    Leveled(Auto, "a\u{5D0}([\u{5D1}]c)", "01001000"),
     Leveled(Auto, "", ""),
     Leveled(Auto, "a, 1! (b)\r\n", "00000000000"),
     Leveled(Auto, "ab\n\u{5D0}\n12", "0001100"),
@@ -162,6 +187,55 @@ const UNDER_A_BASE: &[Leveled] = &[
 #[test]
 fn levels_under_a_base(rt: HostRuntime) {
     assert_rows(&rt, UNDER_A_BASE);
+}
+
+/// A text of pieces, and the digits of its levels, as pieces.
+struct Long(Pieces, Pieces);
+
+/// Whether the text of a row has these levels.
+fn long_has_levels(alloc: Global, tables: &Tables, row: &Long, text: &str) -> Result<bool, Memory> {
+    let digits = text_of(alloc, row.1)?;
+    has_levels(alloc, tables, Auto, text, digits.as_bytes())
+}
+
+impl Row for Long {
+    fn comes_out(&self, alloc: Global, tables: &Tables) -> Result<bool, Memory> {
+        let text = text_of(alloc, self.0)?;
+        long_has_levels(alloc, tables, self, &text)
+    }
+}
+
+/// 63 brackets wait for their partners; a push beyond ends the search, and the pairs found by then are kept.
+const BRACKETS: &[Long] = &[
+    Long(
+        &[
+            ("a", 1),
+            ("(", 63),
+            ("\u{5D0}", 1),
+            (")", 63),
+            ("\u{5D0}", 1),
+        ],
+        &[("0", 64), ("1", 1), ("0", 63), ("1", 1)],
+    ),
+    Long(
+        &[
+            ("a", 1),
+            ("(", 64),
+            ("\u{5D0}", 1),
+            (")", 64),
+            ("\u{5D0}", 1),
+        ],
+        &[("0", 65), ("1", 66)],
+    ),
+    Long(
+        &[("a(\u{5D0})\u{5D0}", 1), ("(", 64)],
+        &[("00101", 1), ("0", 64)],
+    ),
+];
+
+#[test]
+fn levels_of_many_brackets(rt: HostRuntime) {
+    assert_rows(&rt, BRACKETS);
 }
 
 /// 64 times U+202B, and then a letter.

@@ -304,4 +304,7 @@ fn the_laws_are_called() {
     laws::every_gap();
     laws::opposites();
     laws::each_place();
+    laws::positions_are_carets();
+    laws::moves_in_windows();
+    laws::places_in_windows();
 }

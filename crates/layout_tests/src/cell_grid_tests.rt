@@ -370,19 +370,22 @@ impl Shown for Cells {
     }
 }
 
-const CELLS: &[Drawn<Cells>] = &[Drawn(
-    Auto,
-    "\u{5D0}\u{4E16}\u{5D1}",
-    6,
-    Cells(&[
-        Cell::Blank,
-        Cell::Blank,
-        Cell::Head(0),
-        Cell::Head(1),
-        Cell::Tail(1),
-        Cell::Head(2),
-    ]),
-)];
+const CELLS: &[Drawn<Cells>] = &[
+    Drawn(
+        Auto,
+        "\u{5D0}\u{4E16}\u{5D1}",
+        6,
+        Cells(&[
+            Cell::Blank,
+            Cell::Blank,
+            Cell::Head(0),
+            Cell::Head(1),
+            Cell::Tail(1),
+            Cell::Head(2),
+        ]),
+    ),
+    Drawn(Auto, "e\u{301}", 2, Cells(&[Cell::Head(0), Cell::Blank])),
+];
 
 #[test]
 fn cells_are_heads_tails_and_blanks(rt: HostRuntime) {
@@ -428,4 +431,8 @@ fn the_laws_are_called() {
     laws::rows_follow();
     laws::places_once();
     laws::rows_may_shift();
+    laws::first_places_rise();
+    laws::windows_in_stretches();
+    laws::rows_of_paragraphs();
+    laws::rows_move_with_paragraphs();
 }

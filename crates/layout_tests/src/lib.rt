@@ -20,6 +20,8 @@ mod line_break_tests;
 #[cfg(test)]
 mod paragraphs_tests;
 #[cfg(test)]
+mod pictures_tests;
+#[cfg(test)]
 mod pieces;
 #[cfg(test)]
 mod reorder_tests;

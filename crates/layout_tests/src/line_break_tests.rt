@@ -399,6 +399,22 @@ fn ten_thousand_spaces_hang(rt: HostRuntime) {
     assert_rows(&rt, TEN_THOUSAND);
 }
 
+/// A wide space that is no SP takes its columns at a line's end.
+const UNHUNG: &[First<Lines>] = &[First("ab\u{3000}", Lines(2, &[(0, 2), (2, 3)]))];
+
+#[test]
+fn only_spaces_of_class_sp_hang(rt: HostRuntime) {
+    let files = Ucd {
+        bidi: b"3000;WS",
+        brackets: b"",
+        mirror: b"",
+        lb: b"0061;AL\n0062;AL\n3000;BA",
+        ea: b"3000;F",
+        wide_ambiguous: false,
+    };
+    assert_rows_by(&rt, &files, UNHUNG);
+}
+
 /// A cluster, and whether it is a space.
 struct Space(&'static str, bool);
 

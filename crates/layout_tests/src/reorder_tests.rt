@@ -3,7 +3,7 @@
 ghost use Rattle.std.specs.Prelude.{◌≡◌, ◌<◌, length, All, sum};
 ghost use Rattle.std.specs.Str.{chars};
 
-use crate::rows::{Row, assert_rows};
+use crate::rows::{ByClasses, Row, assert_rows};
 use bg_types::Memory;
 use reorder::*;
 use std::alloc::Global;
@@ -232,9 +232,16 @@ const L1: &[Reset] = &[
     Reset("\u{627}12", "122", 1, ONES, "122"),
 ];
 
+/// The class decides, whether a space hangs or not.
+const BY_CLASS: &[ByClasses<Reset>] = &[ByClasses(
+    b"3000;WS",
+    Reset("a\u{3000}", "11", 0, ONES, "10"),
+)];
+
 #[test]
 fn l1_resets_what_stands_before_a_separator_or_the_lines_end(rt: HostRuntime) {
     assert_rows(&rt, L1);
+    assert_rows(&rt, BY_CLASS);
 }
 
 const CLUSTERS: &[Reset] = &[

@@ -112,6 +112,11 @@ const BIDI_CLASSES: &[In] = &[
     ),
     In(b"#@missing:0590..05FF;R", '\u{5D0}', Class::Bidi(Bidi::R)),
     In(
+        b"#\t@missing:\t 0590..05FF\t;\tR",
+        '\u{5D0}',
+        Class::Bidi(Bidi::R),
+    ),
+    In(
         b"0041;L # @missing: 0590..05FF; R",
         '\u{5D0}',
         Class::Bidi(Bidi::R),

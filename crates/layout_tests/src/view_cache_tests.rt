@@ -5,6 +5,7 @@
 use crate::rows::{Row, assert_rows};
 use bg_types::{Base, Memory};
 use cell_grid::{Grid, Row as GridRow, draw};
+use paragraphs::split;
 use std::alloc::{AllocError, Global};
 use std::slice::from_ref;
 use ucd_files::Tables;
@@ -295,6 +296,50 @@ fn after_random_edits_a_view_draws_as_from_scratch(rt: HostRuntime) {
     assert_rows(&rt, &[Edits]);
 }
 
+/// A width, and for each paragraph of a text whether its use lays it out, and how many rows it has then.
+struct Uses(u16, &'static str, &'static [(bool, usize)]);
+
+impl Row for Uses {
+    fn comes_out(&self, alloc: Global, tables: &Tables) -> Result<bool, Memory> {
+        let Uses(width, text, wanted) = *self;
+        if width < 2 || width > 500 || text.len() > 4_000_000 {
+            return Ok(false);
+        }
+        let grid = draw(alloc, tables, width, Base::Left, text)?;
+        let count = grid.rows().len();
+        let rows = grid.into_rows();
+        let mut kept = KeptRows::keyed(alloc, 7, 2)?;
+        let paragraphs = split(alloc, tables, text)?;
+        let mut right = rows.len() == count && paragraphs.len() == wanted.len();
+        for (para, use_) in paragraphs.iter().zip(wanted) {
+            if para.text().len() > 4_000_000 {
+                return Ok(false);
+            }
+            let laid = kept.keep(alloc, tables, width, Base::Left, para)?;
+            right = (laid, kept.newest().len()) == *use_ && right;
+        }
+        Ok(right)
+    }
+}
+
+const USES: &[Uses] = &[Uses(
+    3,
+    "ab cd\na\nab cd\nb\na\n",
+    &[
+        (true, 2),
+        (true, 1),
+        (false, 2),
+        (true, 1),
+        (true, 1),
+        (true, 1),
+    ],
+)];
+
+#[test]
+fn kept_rows_tell_what_they_lay_out(rt: HostRuntime) {
+    assert_rows(&rt, USES);
+}
+
 /// A draw from a view with a key.
 struct Keyed(Draw<'static>);
 
@@ -314,4 +359,5 @@ fn views_with_a_key_and_the_laws(rt: HostRuntime) {
     laws::edits_cost_what_they_put_in();
     laws::keys_compared();
     laws::kept_while_there_is_room();
+    laws::uses_cost_what_was_not_used();
 }

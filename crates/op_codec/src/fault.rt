@@ -6,11 +6,12 @@ ghost use Rattle.op_codec.specs.Code.{cause_code, fault_code, frame_number};
 
 use bg_types::Memory;
 use std::alloc::{AllocError, AllocFailed};
-use std::error::Error;
 use std::fmt;
+use thiserror::Error;
 
 /// What is wrong with the header or with a frame. Each prints its bare name.
-#[derive(Clone, Copy, Debug, PartialEq, Eq)]
+#[derive(Clone, Copy, Debug, PartialEq, Eq, Error)]
+#[error("{:?}", self)]
 pub enum Cause {
     /// One of the four magic bytes differs.
     BadMagic,
@@ -34,15 +35,6 @@ pub enum Cause {
     NotJoined,
 }
 
-/// Its bare name, as `Debug` writes it.
-impl fmt::Display for Cause {
-    fn fmt<W: fmt::Write>(&self, f: &mut fmt::Formatter<W>) -> fmt::Result {
-        fmt::Debug::fmt(self, f)
-    }
-}
-
-impl Error for Cause {}
-
 impl Cause {
     /// The number of this cause: 1 to 8, 10 or 11.
     pub fn code(self) -> u8
@@ -64,7 +56,7 @@ impl Cause {
 }
 
 /// Why a file was not read. It prints the bare name of its cause, or `Memory`.
-#[derive(Clone, Copy, PartialEq, Eq, thiserror::Error)]
+#[derive(Clone, Copy, PartialEq, Eq, Error)]
 pub enum CodecFault {
     /// The bytes are faulty: this is their first cause. Frame 0 is the header, frames
     /// count from 1.

@@ -3,11 +3,11 @@
 ghost use Rattle.std.specs.Prelude.{◌≡◌};
 ghost use Rattle.op_listing.specs.Code.{line_code};
 
-use std::error::Error;
-use std::fmt;
+use thiserror::Error;
 
 /// What is wrong with a line of a listing. Each prints its bare name.
-#[derive(Clone, Copy, Debug, PartialEq, Eq)]
+#[derive(Clone, Copy, Debug, PartialEq, Eq, Error)]
+#[error("{:?}", self)]
 pub enum LineFault {
     /// The line hasn't the shape of an operation, or a counter is above 4,294,967,295 or a site above
     /// 65,535.
@@ -19,15 +19,6 @@ pub enum LineFault {
     /// The character is above 10FFFF or a surrogate.
     NotAScalar,
 }
-
-/// Its bare name, as `Debug` writes it.
-impl fmt::Display for LineFault {
-    fn fmt<W: fmt::Write>(&self, f: &mut fmt::Formatter<W>) -> fmt::Result {
-        fmt::Debug::fmt(self, f)
-    }
-}
-
-impl Error for LineFault {}
 
 impl LineFault {
     /// The number of this fault, 1 to 4.

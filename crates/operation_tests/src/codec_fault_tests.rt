@@ -1,53 +1,73 @@
 //! Operation files that are cut or faulty, in both versions, and what is told of a fault.
 
-use crate::op_codec_tests::{EMPTY, FOUR_MIGRATED, RUN, TWO, joined};
+use crate::feed_tests::LATE_PARENT;
+use crate::op_codec_tests::{EMPTY, FOUR, FOUR_MIGRATED, RUN, TWO, joined};
 use crate::rows::{Row, assert_none, assert_rows};
 use bg_types::Memory;
 use op_codec::*;
 use std::alloc::{AllocError, Global};
 use std::process::Abort;
 
-/// A file, and where its header and each frame end, with the operations until there.
-struct Ends(&'static [u8], &'static [(usize, usize)]);
+/// A file, where its header and each frame end, with the operations until there, and what is wrong with
+/// its last frame once that is whole.
+struct Ends(&'static [u8], &'static [(usize, usize)], Option<Cause>);
 
 const ENDS: &[Ends] = &[
-    Ends(&TWO, &[(5, 0), (24, 1), (43, 2)]),
-    Ends(&RUN, &[(5, 0), (28, 2)]),
-    Ends(&FOUR_MIGRATED, &[(5, 0), (24, 1), (47, 3), (66, 4)]),
+    Ends(&TWO, &[(5, 0), (24, 1), (43, 2)], None),
+    Ends(&FOUR, &[(5, 0), (24, 1), (43, 2), (62, 3), (81, 4)], None),
+    Ends(
+        &LATE_PARENT,
+        &[(5, 0), (24, 0)],
+        Some(Cause::ParentNotBefore),
+    ),
+    Ends(&RUN, &[(5, 0), (28, 2)], None),
+    Ends(&FOUR_MIGRATED, &[(5, 0), (24, 1), (47, 3), (66, 4)], None),
 ];
-
-/// What the first `k` bytes have: so many operations, or a cut in this frame.
-fn wanted_at(ends: &[(usize, usize)], k: usize) -> Result<usize, usize> {
-    for (frame, (end, count)) in ends.iter().enumerate() {
-        if k == *end {
-            return Ok(*count);
-        }
-        if k < *end {
-            return Err(frame);
-        }
-    }
-    Err(ends.len())
-}
 
 /// How many operations a file has.
 fn count(alloc: Global, file: &[u8]) -> Result<usize, CodecFault> {
     Ok(decode_file(alloc, file)?.len())
 }
 
-/// Whether reading a beginning of a file, and migrating it, answers so.
-fn is_cut(alloc: Global, front: &[u8], wanted: Result<usize, usize>) -> bool {
-    let cause = Cause::Truncated;
-    match wanted {
-        Ok(wanted) => count(alloc, front) == Ok(wanted),
-        Err(frame) => is_fault(alloc, front, CodecFault::Malformed { frame, cause }),
+/// The same of a file that is fed byte by byte.
+fn count_fed(alloc: Global, file: &[u8]) -> Result<usize, CodecFault> {
+    let mut feed = Feed::new(alloc);
+    for byte in file.chunks(1) {
+        feed.feed(byte)?;
     }
+    Ok(feed.finish()?.len())
+}
+
+/// Whether reading a beginning of a file, feeding it, and migrating it where it is faulty, answers so.
+fn is_cut(alloc: Global, front: &[u8], wanted: Result<usize, CodecFault>) -> bool {
+    let read = match wanted {
+        Ok(wanted) => count(alloc, front) == Ok(wanted),
+        Err(fault) => is_fault(alloc, front, fault),
+    };
+    read && count_fed(alloc, front) == wanted
 }
 
 impl Ends {
+    /// What the first `k` bytes have: so many operations, or what is wrong with a frame.
+    fn wanted_at(&self, k: usize) -> Result<usize, CodecFault> {
+        for (frame, (end, count)) in self.1.iter().enumerate() {
+            let is_whole = k == *end;
+            let cause = match self.2 {
+                Some(cause) if is_whole && k == self.0.len() => cause,
+                _ if is_whole => return Ok(*count),
+                _ => Cause::Truncated,
+            };
+            if k <= *end {
+                return Err(CodecFault::Malformed { frame, cause });
+            }
+        }
+        Ok(0)
+    }
+
     /// The first length at which the file is cut otherwise.
     fn wrong_length(&self, alloc: Global) -> Option<usize> {
         for k in 0..=self.0.len() {
-            if !is_cut(alloc, &self.0[..k], wanted_at(self.1, k)) {
+            if !is_cut(alloc, &self.0[..k], self.wanted_at(k)) {
                 return Some(k);
             }
         }

@@ -233,7 +233,7 @@ const EARLY: [(OpRow, Answer); 4] = [
     (B, PLACED),
 ];
 
-const ANSWERS: [Case; 9] = [
+const ANSWERS: [Case; 10] = [
     Case::Plays(&[(A, PLACED), (FRONT, PLACED)], "ba"),
     Case::Plays(&[(FRONT, PLACED), (A, PLACED)], "ba"),
     Case::Plays(
@@ -241,6 +241,24 @@ const ANSWERS: [Case; 9] = [
         "axyb",
     ),
     Case::Plays(&EARLY, "axyb"),
+    // Each three times.
+    Case::Plays(
+        &[
+            (A, PLACED),
+            (A, KNOWN),
+            (A, KNOWN),
+            (X, PLACED),
+            (X, KNOWN),
+            (X, KNOWN),
+            (Y, PLACED),
+            (Y, KNOWN),
+            (Y, KNOWN),
+            (B, PLACED),
+            (B, KNOWN),
+            (B, KNOWN),
+        ],
+        "axyb",
+    ),
     Case::Plays(
         &[(Y, HELD), (X, HELD), (B, HELD), (A, Ok(Taken::Placed(3)))],
         "axyb",

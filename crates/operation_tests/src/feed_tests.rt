@@ -11,7 +11,7 @@ use std::alloc::Global;
 use std::io::Cursor;
 
 /// (2,1) after (2,2), `b`: a parent of no smaller counter.
-const LATE_PARENT: [u8; 24] = [
+pub const LATE_PARENT: [u8; 24] = [
     0x42, 0x47, 0x4F, 0x50, 1, // BGOP, version 1
     0, 17, 1, 0, 0, 0, 2, 0, 1, 0, 0, 0, 2, 0, 2, 0, 0, 0, 0x62, // frame 1
 ];

@@ -26,4 +26,8 @@ mod rga_sequence_tests;
 #[cfg(test)]
 mod rows;
 #[cfg(test)]
+mod stretch_tests;
+#[cfg(test)]
+mod telling_tests;
+#[cfg(test)]
 mod world_tests;

@@ -131,56 +131,75 @@ pub(crate) fn joined(alloc: Global, front: &[u8], back: &[u8]) -> Result<Vec<u8>
     Ok(file)
 }
 
-/// An operation, and its frame.
-struct Framed(OpRow, &'static [u8]);
+/// The frames of operations, written one after the other on an empty vector.
+fn frames_of(alloc: Global, ops: &[Op]) -> Result<Vec<u8>, Memory> {
+    let mut written = Vec::new(alloc);
+    for op in ops {
+        encode_op(op, &mut written)?;
+    }
+    Ok(written)
+}
+
+/// Operations, and their frames.
+struct Framed(&'static [OpRow], &'static [u8]);
 
 impl Framed {
-    /// Whether the frame is that of these operations, alone and as this file.
-    fn is_of(&self, alloc: Global, ops: &[Op], file: &[u8]) -> Result<bool, CodecFault> {
-        let mut written = Vec::new(alloc);
-        for op in ops {
-            encode_op(op, &mut written)?;
-        }
-        Ok(ops.len() == 1 && written.as_slice() == self.1 && is_file_of(alloc, file, ops)?)
+    /// Whether the frames are those of these operations, alone and as this file.
+    fn are_of(&self, alloc: Global, ops: &[Op], file: &[u8]) -> Result<bool, CodecFault> {
+        let written = frames_of(alloc, ops)?;
+        let all = ops.len() == self.0.len() && written.as_slice() == self.1;
+        Ok(all && is_file_of(alloc, file, ops)?)
     }
 }
 
 impl Row for Framed {
     fn comes_out(&self, alloc: Global) -> Result<bool, Memory> {
-        let ops = ops_of(alloc, &[self.0])?;
+        let ops = ops_of(alloc, self.0)?;
         let file = joined(alloc, &EMPTY, self.1)?;
-        found(self.is_of(alloc, &ops, &file))
+        found(self.are_of(alloc, &ops, &file))
     }
 }
+
+/// The last 38 bytes of the file of `TWO_ROWS`.
+const TWO_FRAMES: [u8; 38] = [
+    0, 17, 1, 0, 0, 0, 1, 0, 1, 0, 0, 0, 0, 0, 0, 0, 0, 0, 0x61, // frame 1
+    0, 17, 1, 0, 0, 0, 2, 0, 1, 0, 0, 0, 1, 0, 1, 0, 0, 0, 0x62, // frame 2
+];
+
+#[test]
+fn frames_one_after_the_other(rt: HostRuntime) {
+    assert_rows(&rt, &[Framed(&TWO_ROWS, &TWO_FRAMES)]);
+}
+
 /// Operations with the greatest numbers and at the edges of the scalars.
 const FRAMES: &[Framed] = &[
     Framed(
-        Insert(
+        &[Insert(
             (4_294_967_295, 65_535),
             (4_294_967_294, 65_535),
             '\u{10FFFF}',
-        ),
+        )],
         &[
             0, 17, 1, 255, 255, 255, 255, 255, 255, 255, 255, 255, 254, 255, 255, 0, 0x10, 0xFF,
             0xFF,
         ],
     ),
     Framed(
-        Erase((4_294_967_295, 65_535)),
+        &[Erase((4_294_967_295, 65_535))],
         &[0, 7, 2, 255, 255, 255, 255, 255, 255],
     ),
     Framed(
-        Insert((258, 772), (0, 0), '\0'),
+        &[Insert((258, 772), (0, 0), '\0')],
         &[0, 17, 1, 0, 0, 1, 2, 3, 4, 0, 0, 0, 0, 0, 0, 0, 0, 0, 0],
     ),
     Framed(
-        Insert((2, 3), (1, 65_535), '\u{D7FF}'),
+        &[Insert((2, 3), (1, 65_535), '\u{D7FF}')],
         &[
             0, 17, 1, 0, 0, 0, 2, 0, 3, 0, 0, 0, 1, 255, 255, 0, 0, 0xD7, 0xFF,
         ],
     ),
     Framed(
-        Insert((2, 3), (1, 65_535), '\u{E000}'),
+        &[Insert((2, 3), (1, 65_535), '\u{E000}')],
         &[
             0, 17, 1, 0, 0, 0, 2, 0, 3, 0, 0, 0, 1, 255, 255, 0, 0, 0xE0, 0,
         ],
@@ -301,4 +320,25 @@ fn first_wrong_call(alloc: Global) -> Option<&'static str> {
 #[test]
 fn a_call_is_right_or_says_memory(rt: HostRuntime) {
     assert_eq!(rt; first_wrong_call(rt.alloc()), None);
+}
+
+/// The two frames under the header of version 2, where the second joins the first.
+struct Unjoined;
+
+impl Row for Unjoined {
+    fn comes_out(&self, alloc: Global) -> Result<bool, Memory> {
+        let file = joined(alloc, b"BGOP\x02", &TWO_FRAMES)?;
+        match decode_file(alloc, &file) {
+            Err(CodecFault::Malformed { frame, cause }) => {
+                Ok(frame == 2 && cause == Cause::NotJoined)
+            }
+            Err(CodecFault::Memory) => Err(Memory),
+            Ok(_) => Ok(false),
+        }
+    }
+}
+
+#[test]
+fn frames_that_are_not_joined(rt: HostRuntime) {
+    assert_rows(&rt, &[Unjoined]);
 }

@@ -245,6 +245,7 @@ const FAULTY_LINES: &[FaultyLine] = &[
     FaultyLine(b"i 2.1 1.0 0061", 1, ZeroField),
     FaultyLine(b"i 0.1 root 61", 1, BadLine),
     FaultyLine(b"i 0.1 5.1 D800", 1, ZeroField),
+    FaultyLine(b"i 2.1 2.2 0061", 1, ParentNotBefore),
     FaultyLine(b"i 2.1 2.2 D800", 1, ParentNotBefore),
     FaultyLine(b"i 1.1 root D800", 1, NotAScalar),
     FaultyLine(b"i 2.1 1.2 110000", 1, NotAScalar),

@@ -1,7 +1,7 @@
 //! What no clause says: that the calls answer for real desks.
 
 use crate::desk_replica_tests::{Case, assert_cases};
-use bg_types::{Id, Op, Place};
+use bg_types::{Id, Memory, Op, Place};
 use desk_replica::{Replica, TakeFault};
 use rga_tree::Sequence;
 
@@ -62,10 +62,15 @@ fn lists<S: Sequence>(desk: &Replica<S>) -> Option<bool> {
     let [gone, a, x, y, b, early, unplaced] = operations()?;
     let late = [early, unplaced];
     let told = [[a, a], [x, x], [y, y], [b, b], [gone, gone], late, late];
-    let mut right = desk.op_count() == told.len();
+    let ops = match desk.ops() {
+        Err(Memory) => desk.ops().ok()?,
+        Ok(ops) => ops,
+    };
+    let mut right = desk.op_count() == told.len() && ops.len() == told.len();
     for j in 0..desk.op_count() {
         let op = desk.op_at(j);
         right = told.get(j).is_some_and(|either| either.contains(&op)) && right;
+        right = ops.get(j) == Some(&op) && right;
     }
     Some(right)
 }

@@ -9,7 +9,7 @@ use Step::{Deliver, Erase, Merge, Typed};
 use bg_types::{Id, Memory, Op, Place};
 use desk_replica::{Replica, Reply, Step, World, WorldFault, run_world};
 use rga_sequence::Blocks;
-use rga_tree::{Fresh, Sequence};
+use rga_tree::{Fresh, Plain, Sequence};
 use std::alloc::{AllocError, Global};
 
 /// A step, its reply, and the text of each desk then.
@@ -77,6 +77,19 @@ fn makes<S: Fresh>(
     is_made(&made, wanted)
 }
 
+/// The same over both sequences.
+fn both_make(
+    alloc: Global,
+    sites: &[u16],
+    steps: &[Step],
+    wanted: &Wanted,
+) -> Result<bool, Memory> {
+    Ok(
+        makes::<Blocks>(alloc, sites, steps, wanted)?
+            && makes::<Plain>(alloc, sites, steps, wanted)?,
+    )
+}
+
 /// The steps of lines.
 fn steps_of(alloc: Global, lines: &[Line]) -> Result<Vec<Step>, AllocError> {
     let mut steps = Vec::new(alloc);
@@ -100,7 +113,8 @@ impl Row for UpTo<'_> {
             return Ok(false);
         };
         let steps = steps_of(alloc, &played.2[..=*n])?;
-        makes::<Blocks>(alloc, played.1, &steps, &Wanted::Ends(*reply, texts))
+        let wanted = Wanted::Ends(*reply, texts);
+        both_make(alloc, played.1, &steps, &wanted)
     }
 }
 
@@ -185,7 +199,7 @@ impl Row for MadeByTwo {
             return Ok(false);
         };
         let steps = steps_of(alloc, TWO)?;
-        makes::<Blocks>(alloc, &[1, 2], &steps, &Wanted::Makes(&made))
+        both_make(alloc, &[1, 2], &steps, &Wanted::Makes(&made))
     }
 }
 
@@ -360,7 +374,7 @@ impl Row for Sites {
         } else {
             Wanted::BadSites
         };
-        makes::<Blocks>(alloc, self.0, &[], &wanted)
+        both_make(alloc, self.0, &[], &wanted)
     }
 }
 

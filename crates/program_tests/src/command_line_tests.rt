@@ -4,10 +4,9 @@ use crate::files::assert_unread;
 use crate::given::Given;
 use crate::rows::{Row, assert_rows};
 use bg_types::{Base, Memory};
-use cli_support::{Stop, Unread};
+use cli_support::{Opener, Stop, Unread};
 use command_line::*;
 use std::alloc::{AllocError, Global};
-use std::rt::Files;
 use std::test::Fail;
 
 /// Appends words to a command line.
@@ -162,6 +161,39 @@ const JOBS: &[Asks] = &[
         &["type", "--site=7", "--version", "2"],
         "type 7 None 0 None Two []",
     ),
+    // Standard input, once.
+    Asks(&["text", "a", "-"], r#"text ["a", "-"]"#),
+    Asks(&["text", "-", "a", "-"], "usage"),
+    Asks(&["dump", "-"], "dump -"),
+    Asks(&["migrate", "-"], "migrate -"),
+    Asks(&["pack", "-"], "pack -"),
+    Asks(
+        &["replay", "--width=2", "--schedule=-", "a"],
+        r#"replay None 2 Auto false Some("-") ["a"]"#,
+    ),
+    Asks(
+        &["replay", "--width=2", "--schedule=s", "-"],
+        r#"replay None 2 Auto false Some("s") ["-"]"#,
+    ),
+    Asks(&["replay", "--width=2", "--schedule=-", "-"], "usage"),
+    Asks(
+        &["caret", "--width=2", "--at=0", "--moves=", "-"],
+        "caret None 2 Auto false 0 [] [\"-\"]",
+    ),
+    Asks(
+        &["caret", "--width=2", "--at=0", "--moves=", "-", "-"],
+        "usage",
+    ),
+    Asks(
+        &["type", "--site=7", "--text=-", "a"],
+        r#"type 7 None 0 None Two ["a"]"#,
+    ),
+    Asks(
+        &["type", "--site=7", "--text=x", "-"],
+        r#"type 7 None 0 Some("x") Two ["-"]"#,
+    ),
+    Asks(&["type", "--site=7", "--text=-", "-"], "usage"),
+    Asks(&["type", "--site=7", "-"], "usage"),
 ];
 
 #[test]
@@ -394,14 +426,14 @@ fn the_command_line_names_the_folder_or_the_environment(rt: HostRuntime) {
 }
 
 /// How many files were opened.
-fn opened(rt: &(impl Files + AllocGlobal), paths: &[&str]) -> Result<usize, Unread> {
+fn opened(rt: &(impl Opener + AllocGlobal), paths: &[&str]) -> Result<usize, Unread> {
     Ok(open_all(rt, paths)?.len())
 }
 
 #[test]
 fn files_are_opened_in_order(rt: HostRuntime) -> Result<(), Fail> {
-    let count = opened(&rt, &["/dev/null", "/dev/zero"])?;
-    assert_eq!(rt; count, 2);
+    let count = opened(&rt, &["/dev/null", "-", "/dev/zero"])?;
+    assert_eq!(rt; count, 3);
     let faulty = opened(&rt, &["/dev/null", "/nowhere/a", "/nowhere/b"]);
     assert_unread(&rt, faulty.err(), "/nowhere/a")?;
     Ok(())

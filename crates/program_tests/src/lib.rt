@@ -14,6 +14,8 @@ mod files;
 #[cfg(test)]
 mod given;
 #[cfg(test)]
+mod hostile_tests;
+#[cfg(test)]
 mod replay_tests;
 #[cfg(test)]
 mod rows;

@@ -2,11 +2,11 @@
 
 use crate::files::Given::{Bytes, Typed};
 use crate::files::*;
-use crate::rows::{Row, assert_none, assert_rows};
+use crate::rows::{Row, assert_rows};
 use bg_types::{Base, Memory, Out, Stops};
 use desk_replica::TakeFault;
-use desk_runs::{RunFault, ScheduleFault, Ucd, replay, replay_from};
-use op_codec::{CodecFault, In};
+use desk_runs::{RunFault, ScheduleFault, Ucd, replay};
+use op_codec::CodecFault;
 use std::alloc::{AllocError, Global};
 use ucd_files::vectors::SMALL;
 use ucd_files::{Cause, UcdFault, UcdFile};
@@ -112,68 +112,6 @@ a";
 #[test]
 fn texts_and_their_rows(rt: HostRuntime) {
     assert_rows(&rt, ROWS);
-}
-
-/// What a reader's file comes to at width 4.
-fn run_from(alloc: Global, file: &[u8], room: &mut [u8]) -> Result<(), RunFault> {
-    let mut readers = [In::new(file)];
-    replay_from(
-        alloc,
-        KEY,
-        &SMALL,
-        4,
-        Base::Auto,
-        &mut readers,
-        None,
-        &mut Out::new(room),
-    )
-}
-
-fn is_cut(alloc: Global, file: &[u8], wanted: Outcome) -> bool {
-    let mut room = [0; 16];
-    let answer = run_from(alloc, file, &mut room);
-    answer == wanted.0 && are_written(&room, wanted.1)
-}
-
-/// A file that is wrong in a frame, the only one of a run.
-fn malformed(frame: usize, cause: op_codec::Cause) -> Result<(), RunFault> {
-    Err(RunFault::File(1, CodecFault::Malformed { frame, cause }))
-}
-
-/// What the first `k` bytes of a file of frames of 19 bytes come to: the rows after their last frame, or a fault.
-fn wanted_at<'a>(k: usize, shown: &[&'a str]) -> Outcome<'a> {
-    let whole = k.saturating_sub(5) / 19;
-    let cut = if k < 5 { 0 } else { whole.saturating_add(1) };
-    match shown.get(whole) {
-        _ if k % 19 != 5 => (malformed(cut, op_codec::Cause::Truncated), b""),
-        Some(rows) => (Ok(()), rows.as_bytes()),
-        None => (malformed(whole, op_codec::Cause::ParentNotBefore), b""),
-    }
-}
-
-/// The first length around a frame at which a cut file does not come to what is wanted.
-fn wrong_cut(alloc: Global, file: &[u8], shown: &[&str]) -> Option<usize> {
-    for k in 0..=file.len() {
-        let around = 4 <= k % 19 && k % 19 <= 6;
-        if around && !is_cut(alloc, &file[..k], wanted_at(k, shown)) {
-            return Some(k);
-        }
-    }
-    None
-}
-
-/// Files, and the rows after each of their frames.
-const CUTS: &[(&[u8], &[&str])] = &[
-    (&TWO, &["    \n", "a   \n", "ab  \n"]),
-    (&FOUR, &["    \n", "a   \n", "ax  \n", "axy \n", "axyb\n"]),
-    (&LATE_PARENT, &["    \n"]),
-];
-
-#[test]
-fn files_cut_around_each_frame(rt: HostRuntime) {
-    for (file, shown) in CUTS {
-        assert_none(&rt, "the cuts", wrong_cut(rt.alloc(), file, shown));
-    }
 }
 
 /// Files, a width, a schedule over them, and what the run comes to.
@@ -436,35 +374,6 @@ const FIRST: &[First] = &[
 #[test]
 fn the_first_faulty_data_decides(rt: HostRuntime) {
     assert_rows(&rt, FIRST);
-}
-
-/// The first number of bytes after which a sink that stops does not keep a beginning of the shows.
-fn wrong_stop(alloc: Global, files: &[Vec<u8>]) -> Option<usize> {
-    let schedule = Some(b"show 1\ntake 1 1 1\ntake 1 1 2\nshow 1\n".as_slice());
-    let whole = b"    \nab  \n".as_slice();
-    for left in 0..12usize {
-        let answer = if left < 10 {
-            Err(RunFault::Device)
-        } else {
-            Ok(())
-        };
-        let given = Run {
-            schedule,
-            left,
-            ..plain(4)
-        };
-        if !comes_to(alloc, &given, files, (answer, &whole[..left.min(10)])) {
-            return Some(left);
-        }
-    }
-    None
-}
-
-#[test]
-fn a_sink_that_stops_keeps_a_beginning_of_the_shows(rt: HostRuntime) -> Result<(), AllocError> {
-    let files = files_of(rt.alloc(), AB)?;
-    assert_none(&rt, "the stops", wrong_stop(rt.alloc(), &files));
-    Ok(())
 }
 
 /// The room of three shows, of which the first ones are written.

@@ -9,7 +9,7 @@ ghost use Rattle.desk_files.specs.Readers.{AreWorking};
 
 use bg_types::{Device, Out, Sink};
 pub use cli_support::Stop;
-use cli_support::{Data, LIMIT, Unread, end, flush, read, read_data, read_whole, tell};
+use cli_support::{Data, INPUT, Unread, end, flush, read, read_data, tell};
 pub use command_line::{Job, Replay, Typing, Walk, job, report};
 use command_line::{PROGRAM, folder_of, open_all, path_of};
 pub use desk_carets::{Move, carets, carets_from};
@@ -21,7 +21,7 @@ use key::draw_key;
 use op_codec::Source;
 pub use op_listing::{LineFault, dump, migrate, pack};
 use std::alloc::Global;
-use std::io::{self, BufWriter, ErrorKind, Write};
+use std::io::{self, BufWriter, Write};
 use std::process::ExitCode;
 
 fn main(rt: HostRuntime) -> ExitCode {
@@ -161,7 +161,7 @@ fn data_in(rt: &HostRuntime, folder: &str) -> Result<Data, ExitCode> {
 /// The bytes of the schedule, if there is one.
 fn schedule_of(rt: &HostRuntime, path: Option<&str>) -> Result<Option<Vec<u8>>, Unread> {
     match path {
-        Some(path) => Ok(Some(read_one(rt, path)?)),
+        Some(path) => Ok(Some(read(rt, path)?)),
         None => Ok(None),
     }
 }
@@ -217,30 +217,13 @@ fn finish_typing<W: Write>(
 fn typed_bytes(rt: &HostRuntime, text: Option<&str>) -> Result<Vec<u8>, Unread> {
     match text {
         Some(text) => Ok(text.as_bytes().to_vec(rt.alloc())?),
-        None => read_input(rt),
-    }
-}
-
-/// The bytes of the file of a path, or of standard input at `-`.
-fn read_one(rt: &HostRuntime, path: &str) -> Result<Vec<u8>, Unread> {
-    if path == "-" {
-        return read_input(rt);
-    }
-    read(rt, path)
-}
-
-/// The bytes of standard input, up to the limit of files that are read whole.
-fn read_input(rt: &HostRuntime) -> Result<Vec<u8>, Unread> {
-    match read_whole(rt.alloc(), rt.stdin(), LIMIT) {
-        Ok(Some(bytes)) => Ok(bytes),
-        Err(error) if error.kind() == ErrorKind::OutOfMemory => Err(Unread::Memory),
-        _ => Err(Unread::ReadFailed(String::from_str(rt.alloc(), "-")?)),
+        None => read(rt, INPUT),
     }
 }
 
 /// Runs `dump`, `migrate` or `pack` over the one file that it asks for.
 fn run_over_one<W: Write>(rt: &HostRuntime, path: &str, engine: Engine, out: &mut W) -> ExitCode {
-    match read_one(rt, path) {
+    match read(rt, path) {
         Ok(bytes) => {
             let done = engine.run(rt.alloc(), bytes.as_slice(), &mut Out::new(&mut *out));
             finish(rt, done, &[], out)

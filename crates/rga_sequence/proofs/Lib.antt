@@ -18,3 +18,4 @@ pub mod Halves
 pub mod Put
 pub mod Spots
 pub mod Whole
+pub mod InFront

@@ -175,7 +175,8 @@ fn falling_with(row: &[Element], falling: usize, at: usize, id: Id) -> usize
     falling
 }
 
-fn count_visible(row: &[Element]) -> usize
+/// How many elements of a row are visible.
+pub fn count_visible(row: &[Element]) -> usize
     ensures { result ≡ seen row.now }
 {
     let mut visible = 0;

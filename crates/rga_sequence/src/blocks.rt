@@ -13,11 +13,12 @@ ghost use Rattle.rga_sequence.specs.Blocks.{seen, FindsBy};
 ghost use Rattle.rga_sequence.specs.Few.{few_items};
 ghost use Rattle.rga_sequence.specs.Indexed.{blocks_in, elements_in, IsIndexed, IsIndexed-prop, HasRoom, HasRoom-prop};
 
+use crate::before::count_before;
 use crate::block::{HALF, weight};
+use crate::counted;
 use crate::index::empty;
-use crate::look::Look;
+use crate::look::{Look, find};
 use crate::row::{Row, block_at, hide, make_memory, put, spot, stands};
-use crate::visible::{block_of, place_in};
 use bg_types::{Hashed, Id, Keyed, Memory, Place};
 use rga_tree::{Element, Fresh, Sequence};
 use std::alloc::Global;
@@ -84,7 +85,7 @@ impl Blocks {
         self.row.blocks.len()
     }
 
-    /// Visible element k, with the looks counted from 0. They are as many as `find` takes.
+    /// Visible element k, with the looks counted from 0.
     fn shown(&mut self, k: usize) -> Element
         requires { k < length (visible (⟦<Blocks as Sequence>⟧.content self.old)) }
         ensures id { slice_get (visible_ids (⟦<Blocks as Sequence>⟧.content self.old)) k ≡ Some result.id }
@@ -94,10 +95,7 @@ impl Blocks {
         ensures looks { FindsBy (⟦<Blocks as Look>⟧.blocks self.old) k result (⟦<Blocks as Look>⟧.looked self.new) }
     {
         self.looks = 0;
-        let (b, left) = block_of(&self.row.blocks, k, &mut self.looks);
-        let block = &self.row.blocks[b];
-        let j = place_in(block, left, &mut self.looks);
-        block.elements[j]
+        find(self, k)
     }
 }
 
@@ -119,13 +117,22 @@ impl Look for Blocks {
     ghost aside = { λ s. s.room };
 
     fn header(&mut self, b: usize) -> usize {
-        self.looks += 1;
-        self.row.blocks[b].visible
+        counted::header(&self.row.blocks[b], &mut self.looks)
+    }
+
+    fn headers(&mut self, from: usize, to: usize) -> usize {
+        counted::headers(&self.row.blocks[from..to], &mut self.looks)
     }
 
     fn element(&mut self, b: usize, j: usize) -> Element {
         self.looks += 1;
         self.row.blocks[b].elements[j]
+    }
+
+    fn visible_in(&mut self, b: usize, visible: usize, from: usize, to: usize) -> usize {
+        let row = &self.row.blocks[b].elements;
+        let all = visible == row.len();
+        counted::visible_in(&row[from..to], all, &mut self.looks)
     }
 
     fn looks(&self) -> u64 {
@@ -194,6 +201,11 @@ impl Sequence for Blocks {
         ensures looks { (e : Element) × FindsBy (⟦<Blocks as Look>⟧.blocks self.old) k e (⟦<Blocks as Look>⟧.looked self.new) }
     {
         self.shown(k).ch
+    }
+
+    fn visible_before(&self, id: Id) -> usize {
+        let (b, at) = spot(&self.row, id).unwrap();
+        count_before(&self.row.blocks, b, at, self.visible)
     }
 
     fn placed(&self) -> usize {

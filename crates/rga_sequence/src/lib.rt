@@ -1,16 +1,17 @@
 //! A sequence in blocks, whose places are found by their blocks.
 #![tactic(auto)]
 
+mod before;
 mod block;
 mod blocks;
 mod bounds;
+mod counted;
 mod index;
 pub mod laws;
 mod look;
 mod order;
 mod row;
 mod skip;
-mod visible;
 
 pub use blocks::Blocks;
 pub use look::{Look, find};

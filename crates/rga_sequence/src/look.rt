@@ -1,11 +1,14 @@
 //! Looking for a visible element block by block, with a count of the looks.
 
-ghost use Rattle.std.specs.Prelude.{◌≡◌, ◌+◌, ◌<◌, ◌≤◌, ◌^◌, ℕ, List, length, take, drop, filter, not, ◌||◌, nat_lt, false, slice_get, get_or, [], Some, IsSome};
+ghost use Rattle.std.specs.Prelude.{◌≡◌, ◌+◌, ◌-◌, ◌<◌, ◌≤◌, ◌^◌, ℕ, List, length, take, drop, filter, not, false, slice_get, get_or, [], Some};
 ghost use Rattle.rga_tree.specs.declared.element.Element.{Element};
 ghost use Rattle.rga_sequence.specs.Blocks.{seen, seen_all, joined, FindsBy};
 
-use crate::block::weight;
+use crate::block::FULL;
 use rga_tree::Element;
+
+/// How many elements are counted together: as many as a byte can count.
+const COUNTED: usize = 255;
 
 /// A row of blocks of at most 512 elements each, which counts how often it is looked at. Blocks,
 /// and elements of a block, are counted from 0.
@@ -28,12 +31,37 @@ pub trait Look {
         ensures content { blocks self.new ≡ blocks self.old }
         ensures aside { aside self.new ≡ aside self.old };
 
+    /// How many elements of the blocks from one up to another, which is left out, are visible. This is
+    /// a look at the header of each.
+    fn headers(&mut self, from: usize, to: usize) -> usize
+        requires order { from ≤ to }
+        requires there { to ≤ length (blocks self.old) }
+        requires room { looked self.old + (to - from) < 2 ^ 64 }
+        ensures value { result ≡ seen_all (take (to - from) (drop from (blocks self.old))) }
+        ensures looks { looked self.new ≡ looked self.old + (to - from) }
+        ensures content { blocks self.new ≡ blocks self.old }
+        ensures aside { aside self.new ≡ aside self.old };
+
     /// Element j of block b. This is one look.
     fn element(&mut self, b: usize, j: usize) -> Element
         requires there { j < length (get_or (blocks self.old) b []) }
         requires room { looked self.old + 1 < 2 ^ 64 }
         ensures value { slice_get (get_or (blocks self.old) b []) j ≡ Some result }
         ensures looks { looked self.new ≡ looked self.old + 1 }
+        ensures content { blocks self.new ≡ blocks self.old }
+        ensures aside { aside self.new ≡ aside self.old };
+
+    /// How many of at most 255 elements of block b, from one up to another, which is left out, are
+    /// visible, where its header says how many of all are. This is a look at each.
+    fn visible_in(&mut self, b: usize, visible: usize, from: usize, to: usize) -> usize
+        requires block { b < length (blocks self.old) }
+        requires order { from ≤ to }
+        requires there { to ≤ length (get_or (blocks self.old) b []) }
+        requires few { to ≤ from + 255 }
+        requires visible { visible ≡ seen (get_or (blocks self.old) b []) }
+        requires room { looked self.old + (to - from) < 2 ^ 64 }
+        ensures value { result ≡ seen (take (to - from) (drop from (get_or (blocks self.old) b []))) }
+        ensures looks { looked self.new ≡ looked self.old + (to - from) }
         ensures content { blocks self.new ≡ blocks self.old }
         ensures aside { aside self.new ≡ aside self.old };
 
@@ -57,35 +85,59 @@ pub fn find<L: Look>(row: &mut L, k: usize) -> Element
     ensures content { L.blocks row.new ≡ L.blocks row.old }
     ensures aside { L.aside row.new ≡ L.aside row.old }
 {
-    let (b, left) = block_of(row, k);
-    element_of(row, b, left).1
+    let (b, visible, left) = block_of(row, k);
+    element_of(row, b, visible, left).1
 }
 
-/// The block in which visible element k stands, and how many visible ones are before it there.
-fn block_of<L: Look>(row: &mut L, k: usize) -> (usize, usize)
+/// The block in which visible element k stands, how many visible ones it has, and how many of them are before it there.
+fn block_of<L: Look>(row: &mut L, k: usize) -> (usize, usize, usize)
     requires there { k < seen_all (L.blocks row.old) }
     requires room { L.looked row.old + length (L.blocks row.old) < 2 ^ 64 }
     ensures there { result.0 < length (L.blocks row.old) }
-    ensures left { result.1 < seen (get_or (L.blocks row.old) result.0 []) }
-    ensures before { seen_all (take result.0 (L.blocks row.old)) + result.1 ≡ k }
+    ensures visible { result.1 ≡ seen (get_or (L.blocks row.old) result.0 []) }
+    ensures left { result.2 < result.1 }
+    ensures before { seen_all (take result.0 (L.blocks row.old)) + result.2 ≡ k }
     ensures looks { L.looked row.new ≡ L.looked row.old + (result.0 + 1) }
     ensures content { L.blocks row.new ≡ L.blocks row.old }
     ensures aside { L.aside row.new ≡ L.aside row.old }
 {
-    let mut left = k;
-    let mut b = 0;
-    let mut visible = row.header(0);
+    let (mut b, mut left) = passed_together(row, k);
+    let mut visible = row.header(b);
     while visible <= left {
         left -= visible;
         b += 1;
         visible = row.header(b);
     }
+    (b, visible, left)
+}
+
+/// A block up to that one, and how many visible ones are left from its front on. A block has at most 512 visible ones,
+/// so for each 512 that are left one is passed, whatever its header says.
+fn passed_together<L: Look>(row: &mut L, k: usize) -> (usize, usize)
+    requires there { k < seen_all (L.blocks row.old) }
+    requires room { L.looked row.old + length (L.blocks row.old) < 2 ^ 64 }
+    ensures there { result.0 < length (L.blocks row.old) }
+    ensures before { seen_all (take result.0 (L.blocks row.old)) + result.1 ≡ k }
+    ensures looks { L.looked row.new ≡ L.looked row.old + result.0 }
+    ensures content { L.blocks row.new ≡ L.blocks row.old }
+    ensures aside { L.aside row.new ≡ L.aside row.old }
+{
+    let mut b = 0;
+    let mut left = k;
+    while left >= FULL {
+        let end = b + left / FULL;
+        left -= row.headers(b, end);
+        b = end;
+    }
     (b, left)
 }
 
-/// The place of a visible element in its block, and the element.
-fn element_of<L: Look>(row: &mut L, b: usize, k: usize) -> (usize, Element)
-    requires there { k < seen (get_or (L.blocks row.old) b []) }
+/// The place of a visible element in its block, and the element. As many elements as visible ones are left before it are
+/// passed at once, or as many as can be counted.
+fn element_of<L: Look>(row: &mut L, b: usize, visible: usize, k: usize) -> (usize, Element)
+    requires block { b < length (L.blocks row.old) }
+    requires visible { visible ≡ seen (get_or (L.blocks row.old) b []) }
+    requires there { k < visible }
     requires few { length (get_or (L.blocks row.old) b []) ≤ 512 }
     requires room { L.looked row.old + 512 < 2 ^ 64 }
     ensures there { slice_get (get_or (L.blocks row.old) b []) result.0 ≡ Some result.1 }
@@ -95,21 +147,32 @@ fn element_of<L: Look>(row: &mut L, b: usize, k: usize) -> (usize, Element)
     ensures content { L.blocks row.new ≡ L.blocks row.old }
     ensures aside { L.aside row.new ≡ L.aside row.old }
 {
+    let mut at = 0;
     let mut left = k;
-    let mut j = 0;
-    let mut element = row.element(b, 0);
-    while is_later(element.hidden, left) {
-        left -= weight(element.hidden);
-        j += 1;
-        element = row.element(b, j);
+    while left > 0 {
+        let end = at + left.min(COUNTED);
+        left -= row.visible_in(b, visible, at, end);
+        at = end;
     }
-    (j, element)
+    first_visible(row, b, at)
 }
 
-/// Whether the one that is looked for stands later: this one is hidden, or visible ones are left before it.
-#[inline(always)]
-fn is_later(hidden: bool, left: usize) -> bool
-    ensures { result ≡ (hidden || nat_lt 0 left) }
+/// The place of the first visible element of a block from one on, and the element.
+fn first_visible<L: Look>(row: &mut L, b: usize, from: usize) -> (usize, Element)
+    requires there { seen (take from (get_or (L.blocks row.old) b [])) < seen (get_or (L.blocks row.old) b []) }
+    requires room { L.looked row.old + (length (get_or (L.blocks row.old) b []) - from) < 2 ^ 64 }
+    ensures there { slice_get (get_or (L.blocks row.old) b []) result.0 ≡ Some result.1 }
+    ensures visible { result.1.hidden ≡ false }
+    ensures before { seen (take result.0 (get_or (L.blocks row.old) b [])) ≡ seen (take from (get_or (L.blocks row.old) b [])) }
+    ensures looks { L.looked row.new + from ≡ L.looked row.old + (result.0 + 1) }
+    ensures content { L.blocks row.new ≡ L.blocks row.old }
+    ensures aside { L.aside row.new ≡ L.aside row.old }
 {
-    hidden || left > 0
+    let mut at = from;
+    let mut element = row.element(b, at);
+    while element.hidden {
+        at += 1;
+        element = row.element(b, at);
+    }
+    (at, element)
 }

@@ -1,8 +1,9 @@
 -- What a row answers, by the walk that it is.
-use Rattle.std.proofs.Common.{◌≡◌, ℕ, zero, suc, ◌<◌, true, false, cond, not, List, [], ◌∷◌, length, Option, Some, None, refl, sym, ap, ◌∙◌, arith}
-use Rattle.std.specs.Prelude.{map as each, filter, slice_get, IsSome}
+use Rattle.std.proofs.Common.{◌≡◌, ℕ, zero, suc, ◌<◌, ◌+◌, true, false, cond, not, List, [], ◌∷◌, length, take, Option, Some, None, refl, sym, ap, ◌∙◌, arith}
+use Rattle.std.specs.Prelude.{map as each, filter, slice_get, IsSome, count_by}
+use Rattle.std.proofs.lemmas.List.Sums.{sum_by-cons}
 use Rattle.std.specs.Option.{option_map}
-use Rattle.std.specs.List.{find as find_in}
+use Rattle.std.specs.List.{find as find_in, prefix_len}
 use Rattle.std.specs.FinMap as map
 use Rattle.std.specs.FinMap.Entries.{find}
 use Rattle.bg_types.specs.Identifier.{Identifier, id_cmp, same_id}
@@ -11,7 +12,7 @@ use Rattle.bg_types.specs.declared.op.Place.TheVariants.{Root}
 use Rattle.bg_types.proofs.Interface.{same_id-is}
 use Rattle.rga_tree.specs.declared.element.Element.{Element}
 use Rattle.rga_tree.specs.Walk.{walk}
-use Rattle.rga_tree.specs.TextOf.{is_erased, visible, visible_ids, text}
+use Rattle.rga_tree.specs.TextOf.{is_erased, visible, visible_ids, visible_before, text}
 use Rattle.rga_tree.specs.Elements.{element_of, elements}
 use Rattle.rga_tree.specs.Row.{entry_of, operations_of}
 use Rattle.rga_tree.specs.KeepsWalk.{KeepsWalk}
@@ -81,3 +82,29 @@ slice_get-some (x ∷ xs) (suc k) h = slice_get-some xs k (omega arith)
 
 pub seen_some : (row : List Element) (k : ℕ) → row ≡ elements (operations_of row) → k < length (visible (operations_of row)) → IsSome (slice_get (filter (λ e. not e.hidden) row) k)
 seen_some row k in_order h = slice_get-some (filter (λ e. not e.hidden) row) k (omega (arith, visible_row row in_order))
+
+-- ---- how many visible ones stand before one
+
+prefix_seen : (s : OperationSet) (id : Identifier) (es : List Entry) → prefix_len (λ e. not (same_id id e.id)) (each (element_of s) es) ≡ prefix_len (λ e. not (same_id id e.0)) es
+prefix_seen s id [] = refl
+prefix_seen s id (e ∷ es) = ap (λ n. cond (not (same_id id e.0)) (1 + n) 0) (prefix_seen s id es)
+
+count_seen : (s : OperationSet) (n : ℕ) (es : List Entry) → count_by (λ e. not e.hidden) (take n (each (element_of s) es)) ≡ count_by (λ e. not (is_erased s e.0)) (take n es)
+count_seen s zero es = refl
+count_seen s (suc n) [] = refl
+count_seen s (suc n) (e ∷ es) =
+    let one = cond (not (is_erased s e.0)) 1 0 in
+    sum_by-cons (λ (x : Element). cond (not x.hidden) 1 0) (element_of s e) (take n (each (element_of s) es))
+    ∙ ap (λ k. one + k) (count_seen s n es)
+    ∙ sym (sum_by-cons (λ (x : Entry). cond (not (is_erased s x.0)) 1 0) e (take n es))
+
+-- elements count them as the walk does
+pub before_elements : (s : OperationSet) (id : Identifier) → count_by (λ e. not e.hidden) (take (prefix_len (λ e. not (same_id id e.id)) (elements s)) (elements s)) ≡ visible_before s id
+before_elements s id =
+    ap (λ n. count_by (λ (e : Element). not e.hidden) (take n (elements s))) (prefix_seen s id (walk s Root))
+    ∙ count_seen s (prefix_len (λ (e : Entry). not (same_id id e.0)) (walk s Root)) (walk s Root)
+
+pub before_row : (row : List Element) (id : Identifier) → row ≡ elements (operations_of row)
+    → count_by (λ e. not e.hidden) (take (prefix_len (λ e. not (same_id id e.id)) row) row) ≡ visible_before (operations_of row) id
+before_row row id in_order =
+    ap (λ r. count_by (λ (e : Element). not e.hidden) (take (prefix_len (λ (e : Element). not (same_id id e.id)) r) r)) in_order ∙ before_elements (operations_of row) id

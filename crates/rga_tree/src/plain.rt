@@ -1,6 +1,6 @@
 //! The plain sequence: one row, searched from the front.
 
-ghost use Rattle.std.specs.Prelude.{◌≡◌, ◌-◌, ◌+◌, ◌≤◌, ◌<◌, ◌∷◌, [], Some, not, length, filter, insert, slice_get, vec_len, vec_capacity};
+ghost use Rattle.std.specs.Prelude.{◌≡◌, ◌-◌, ◌+◌, ◌≤◌, ◌<◌, ◌∷◌, [], Some, not, length, filter, take, count_by, insert, slice_get, vec_len, vec_capacity};
 ghost use Rattle.std.proofs.Common.{◌∙◌};
 ghost use Rattle.std.proofs.lemmas.List.{append-nil};
 ghost use Rattle.std.specs.List.{find as find_in, prefix_len, list_any};
@@ -84,6 +84,10 @@ impl Sequence for Plain {
         self.shown(k).ch
     }
 
+    fn visible_before(&self, id: Id) -> usize {
+        count_before(&self.row, id)
+    }
+
     fn placed(&self) -> usize {
         self.row.len()
     }
@@ -162,6 +166,16 @@ fn before(row: &[Element], id: Id) -> usize
     ensures { result ≡ prefix_len (λ e. not (same_id id e.id)) row.now }
 {
     row.iter().take_while(|e| id != e.id).count()
+}
+
+/// How many visible elements stand before the one with this identifier.
+fn count_before(row: &[Element], id: Id) -> usize
+    ensures { result ≡ count_by (λ e. not e.hidden) (take (prefix_len (λ e. not (same_id id e.id)) row.now) row.now) }
+{
+    row.iter()
+        .take_while(|e| id != e.id)
+        .filter(|e| !e.hidden)
+        .count()
 }
 
 fn count_visible(row: &[Element]) -> usize

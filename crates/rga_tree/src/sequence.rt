@@ -9,7 +9,7 @@ ghost use Rattle.bg_types.specs.WellFormed.{MayFollow};
 ghost use Rattle.bg_types.specs.declared.op.OpView.{OpView};
 ghost use Rattle.bg_types.specs.declared.op.OpView.TheVariants.{Erase};
 ghost use Rattle.rga_tree.specs.declared.element.Element.{Element};
-ghost use Rattle.rga_tree.specs.TextOf.{visible, visible_ids, text};
+ghost use Rattle.rga_tree.specs.TextOf.{visible, visible_ids, visible_before, text};
 ghost use Rattle.rga_tree.specs.Tree.{stands_in, IsTree, OnlyErasesPlaced};
 ghost use Rattle.rga_tree.specs.Elements.{elements, element_of, with_element};
 
@@ -85,6 +85,12 @@ pub trait Sequence {
         ensures value { slice_get (text (content self.old)) k ≡ Some result }
         ensures content { content self.new ≡ content self.old }
         ensures room { free self.new ≡ free self.old };
+
+    /// How many visible elements stand before the one with this identifier, which is placed. Takes no memory, and
+    /// counts as no look.
+    fn visible_before(&self, id: Id) -> usize
+        requires { map.contains_key (content self.now).ins id ≡ true }
+        ensures { result ≡ visible_before (content self.now) id };
 
     /// How many elements are placed, hidden ones included.
     fn placed(&self) -> usize

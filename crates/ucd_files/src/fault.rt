@@ -5,36 +5,26 @@ ghost use Rattle.ucd_files.specs.declared.fault.UcdFault.TheVariants.{Memory as 
 ghost use Rattle.ucd_files.specs.FaultCode.{cause_code, fault_code};
 
 use std::alloc::AllocError;
-use std::error::Error;
-use std::fmt;
+use thiserror::Error;
 
-/// One of the five files.
-#[derive(Clone, Copy, Debug, PartialEq, Eq)]
+/// One of the five files. Each prints its name among the five arguments of a load.
+#[derive(Clone, Copy, Debug, PartialEq, Eq, Error)]
 pub enum UcdFile {
+    #[error("bidi")]
     Bidi,
+    #[error("brackets")]
     Brackets,
+    #[error("mirror")]
     Mirror,
+    #[error("lb")]
     Lb,
+    #[error("ea")]
     Ea,
 }
 
-/// Its name among the five arguments of a load.
-impl fmt::Display for UcdFile {
-    fn fmt<W: fmt::Write>(&self, f: &mut fmt::Formatter<W>) -> fmt::Result {
-        f.write_str(match self {
-            UcdFile::Bidi => "bidi",
-            UcdFile::Brackets => "brackets",
-            UcdFile::Mirror => "mirror",
-            UcdFile::Lb => "lb",
-            UcdFile::Ea => "ea",
-        })
-    }
-}
-
-impl Error for UcdFile {}
-
 /// What is wrong with a line. Each prints its bare name.
-#[derive(Clone, Copy, Debug, PartialEq, Eq)]
+#[derive(Clone, Copy, Debug, PartialEq, Eq, Error)]
+#[error("{:?}", self)]
 pub enum Cause {
     /// A byte is not part of UTF-8.
     BadUtf8,
@@ -49,17 +39,8 @@ pub enum Cause {
     UnknownValue,
 }
 
-/// Its bare name, as `Debug` writes it.
-impl fmt::Display for Cause {
-    fn fmt<W: fmt::Write>(&self, f: &mut fmt::Formatter<W>) -> fmt::Result {
-        fmt::Debug::fmt(self, f)
-    }
-}
-
-impl Error for Cause {}
-
 /// Why the files were not loaded.
-#[derive(Clone, Copy, Debug, PartialEq, Eq, thiserror::Error)]
+#[derive(Clone, Copy, Debug, PartialEq, Eq, Error)]
 pub enum UcdFault {
     /// A line, counted from 1, is faulty.
     #[error("{file} line {line}: {cause}")]

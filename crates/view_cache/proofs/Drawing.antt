@@ -1,10 +1,7 @@
 -- A draw, paragraph by paragraph.
-use Rattle.std.proofs.Common.{◌≡◌, ◌≤◌, ◌<◌, ◌++◌, ◌+◌, ◌∷◌, [], ℕ, zero, suc, Bool, true, false, not, if◌then◌else◌, List, Result, Ok, Err, Option, Some, None, length, take, get_or, flat_map, refl, sym, ap, subst, ◌∙◌, append_assoc, arith}
+use Rattle.std.proofs.Common.{◌≡◌, ◌≤◌, ◌<◌, ◌++◌, ◌+◌, ◌∷◌, [], ℕ, zero, suc, Bool, true, false, not, if◌then◌else◌, List, Result, Ok, Err, length, take, get_or, flat_map, refl, sym, ap, subst, ◌∙◌, append_assoc, arith}
 use Rattle.std.proofs.lemmas.List.{map-append}
-use Rattle.std.specs.Prelude.{is_some}
-use Rattle.std.specs.Option.{option_copied}
 use Rattle.std.specs.Str.{IsUtf8}
-use denote.Bor.{Bor}
 use Rattle.bg_types.specs.declared.class.Base.{Base}
 use Rattle.bg_types.specs.declared.fault.Memory.{Memory}
 use Rattle.paragraphs.specs.Paragraphs.{Paragraph, paragraphs}
@@ -16,11 +13,6 @@ use Rattle.view_cache.specs.Uses.{is_kept, all_used, laid_anew}
 use Rattle.view_cache.specs.Drawings.{KeptView, paragraph_keys, uses_of, IsDrawing}
 use Rattle.view_cache.proofs.Kept.{view_used}
 use Rattle.view_cache.proofs.Uses.{all_used-append, laid_anew-append}
-
--- a look-up whose answer is no entry finds nothing
-pub none-found : {V : Type 0} (o : Option (Bor V)) (found : Option V) → option_copied o ≡ found → ((x : Bor V) → o ≡ Some x → ⊥) → is_some found ≡ false
-none-found None found is none = ap is_some (sym is)
-none-found (Some x) found is none = absurd (none x refl)
 
 -- what a use adds to the count
 added : (kept : Bool) → ℕ
@@ -135,6 +127,7 @@ module _ (width : ℕ) (base : Base) where
             ∙ ap (λ (v : KeptView). let g : DrawnGrid = record { tables = v.tables; text = text; rows = grid_rows before.tables width base text } in g) is;
         tables = ap (λ v. v.tables) is;
         room = ap (λ v. v.room) is;
+        hash_key = ap (λ v. v.hash_key) is;
         keys = ap (λ v. v.keys) is ∙ ap (λ ps. all_used before.room (paragraph_keys width base ps) before.keys) all;
         laid = counted ∙ ap laid_so_far all;
         begun = tt;
@@ -148,6 +141,7 @@ module _ (width : ℕ) (base : Base) where
       grid = tt;
       tables = ap (λ v. v.tables) is;
       room = ap (λ v. v.room) is;
+      hash_key = ap (λ v. v.hash_key) is;
       keys = tt;
       laid = tt;
       begun = (n, ap (λ v. v.keys) is);

@@ -1,119 +1,217 @@
 -- What is kept stays right.
-use Rattle.std.proofs.Common.{◌≡◌, ◌≤◌, ◌-◌, ◌^◌, [], ◌∷◌, ℕ, true, List, Some, Vec, All, Contains, length, take, inl, inr, refl, sym, ap, subst, ◌∙◌, rules, arith}
+use Rattle.std.proofs.Common.{◌≡◌, ◌≤◌, ◌-◌, ◌^◌, [], ◌∷◌, ℕ, Bool, true, false, not, List, Some, None, Vec, All, Contains, length, map, take, inl, inr, refl, sym, ap, subst, ◌∙◌, rules, arith}
 use Rattle.std.proofs.lemmas.List.{length-map, length-take}
-use Rattle.std.proofs.lemmas.List.Elements.{All-nil, All-contains, All-contains_itself}
-use Rattle.std.specs.Prelude.{is_some}
+use Rattle.std.proofs.lemmas.List.Elements.{All-nil, All-head, All-map, All-contains, All-contains_itself}
+use Rattle.std.specs.Prelude.{is_some, slice_get}
 use Rattle.std.specs.Global.{Global}
 use Rattle.std.specs.Map.{lookup}
 use Rattle.lru.specs.LruCache.{LruCache, lru_cache, promoted, put_entries}
-use Rattle.lru.proofs.CallerLemmas.{Contains-lookup, Contains-promoted, Contains-put_entries}
+use Rattle.lru.proofs.CallerLemmas.{Contains-promoted, Contains-put_entries}
 use Rattle.unicode_tables.specs.Tables.{TableValues}
 use Rattle.cell_grid.specs.Rows.{DrawnRow, rows_of}
-use Rattle.cell_grid.proofs.Interface.{take-whole}
+use Rattle.cell_grid.proofs.Interface.{take-whole, All-unmap}
 use Rattle.view_cache.specs.declared.key.Key.{Key}
 use Rattle.view_cache.specs.Keys.{ParagraphKey, said}
 use Rattle.view_cache.specs.Uses.{is_kept, without, used}
-use Rattle.view_cache.specs.Drawings.{KeptView, empty_view}
-use Rattle.view_cache.specs.Kept.{IsLaid, IsKept}
+use Rattle.view_cache.specs.KeptParagraphs.{KeptParagraphs, kept_keys, nothing_kept, IsLaidBy, AreLaid, IsNewest, IsUse}
+use Rattle.view_cache.specs.Kept.{entry_said, IsHashedBy, IsKept}
+use Rattle.view_cache.specs.Drawings.{KeptView}
 use Rattle.view_cache.specs.contracts.key.KeyPartialEq.TheImpl as key_eq
-use Rattle.view_cache.proofs.Keys.{eq-said, keys, is_kept-lookup, keys-put, keys-promoted}
+use Rattle.view_cache.proofs.Keys.{eq-said, eq-hashed, keys, take-cons, is_kept-lookup, keys-put, keys-promoted, promoted-none}
 
 abbrev pub Cache : Type 0
 Cache = LruCache Key (Vec DrawnRow Global)
 
-all_from : (P : Key × Vec DrawnRow Global → Type 0) (xs : List (Key × Vec DrawnRow Global)) → ((x : Key × Vec DrawnRow Global) → Contains xs x → P x) → All P xs
+abbrev Entry : Type 0
+Entry = Key × Vec DrawnRow Global
+
+all_from : (P : Entry → Type 0) (xs : List Entry) → ((x : Entry) → Contains xs x → P x) → All P xs
 all_from P xs f = λ k d h. f _ (All-contains_itself xs k d h)
+
+-- what holds of all entries still does after a use that finds its key
+promoted-all : (P : Entry → Type 0) (k : Key) (es : List Entry) → All P es → All P (promoted ((key_eq.eq-value).it k) es)
+promoted-all P k es all = all_from P (promoted ((key_eq.eq-value).it k) es) (λ x c. All-contains P es x all (Contains-promoted ((key_eq.eq-value).it k) es x c))
+
+-- and after one that puts an entry, if it holds of a key equal to the new one with the new rows
+put-all : (P : Entry → Type 0) (c : Cache) (k : Key) (v : Vec DrawnRow Global) → All P c.entries
+    → ((x : Entry) → x.1 ≡ v → x.0 ≡ k → P x) → ((x : Entry) → x.1 ≡ v → (key_eq.eq-value).it k x.0 ≡ true → P x)
+    → All P (put_entries (key_eq.eq-value).it c k v)
+put-all P c k v all itself equal =
+    all_from P (put_entries (key_eq.eq-value).it c k v) (λ x h.
+    elim (Contains-put_entries (key_eq.eq-value).it c k v x h) [
+      | inl old ↦ All-contains P c.entries x all old
+      | inr p ↦ elim p.1 [
+        | inl same ↦ itself x p.0 same
+        | inr w ↦ equal x p.0 w.2
+      ]
+    ])
+
+put-hashed : (hash_key : ℕ) (c : Cache) (k : Key) (v : Vec DrawnRow Global) → k.hash_key ≡ hash_key → All (IsHashedBy hash_key) c.entries → All (IsHashedBy hash_key) (put_entries (key_eq.eq-value).it c k v)
+put-hashed hash_key c k v is all =
+    put-all (IsHashedBy hash_key) c k v all (λ x value same. ap (λ (j : Key). j.hash_key) same ∙ is) (λ x value same. sym (eq-hashed k x.0 same) ∙ is)
+
+used-fits : (cap : ℕ) (s : ParagraphKey) (ks : List ParagraphKey) (es : List Entry) → keys es ≡ used cap s ks → length es ≤ cap
+used-fits cap s ks es h =
+    let a : length (keys es) ≡ length es = search (rules, length-map) in
+    let b : length (keys es) ≡ length (take cap (s ∷ without s ks)) = ap length h in
+    let d = length-take cap (s ∷ without s ks) in
+    omega (arith, d)
 
 module _ (tables : TableValues) where
   -- the rows of a key
   abbrev rows_said : ParagraphKey → List DrawnRow
   rows_said s = rows_of tables s.width s.base s.text
 
-  -- what a look-up finds is right
-  pub found-laid : (c : Cache) (k : Key) (v : Vec DrawnRow Global) → IsKept tables c → lookup ((key_eq.eq-value).it k) c.entries ≡ Some v → v.items ≡ rows_of tables (said k).width (said k).base (said k).text
-  found-laid c k v kept h =
-      let found = Contains-lookup ((key_eq.eq-value).it k) c.entries v h in
-      All-contains (IsLaid tables) c.entries (found.0, v) kept.laid found.1 ∙ ap rows_said (sym (eq-said k found.0 found.2))
+  -- an entry's rows are those of its key
+  abbrev IsLaid : Entry → Type 0
+  IsLaid e = IsLaidBy tables (entry_said e)
 
-  promoted-laid : (k : Key) (es : List (Key × Vec DrawnRow Global)) → All (IsLaid tables) es → All (IsLaid tables) (promoted ((key_eq.eq-value).it k) es)
-  promoted-laid k es laid =
-      all_from (IsLaid tables) (promoted ((key_eq.eq-value).it k) es)
-      (λ x c. All-contains (IsLaid tables) es x laid (Contains-promoted ((key_eq.eq-value).it k) es x c))
-
-  put-laid : (c : Cache) (k : Key) (v : Vec DrawnRow Global) → All (IsLaid tables) c.entries → v.items ≡ rows_said (said k) → All (IsLaid tables) (put_entries (key_eq.eq-value).it c k v)
-  put-laid c k v laid new =
-      all_from (IsLaid tables) (put_entries (key_eq.eq-value).it c k v) (λ x h.
-      elim (Contains-put_entries (key_eq.eq-value).it c k v x h) [
-        | inl old ↦ All-contains (IsLaid tables) c.entries x laid old
-        | inr p ↦ elim p.1 [
-          | inl same ↦ ap (λ r. r.items) p.0 ∙ new ∙ ap (λ j. rows_said (said j)) (sym same)
-          | inr w ↦ ap (λ r. r.items) p.0 ∙ new ∙ ap rows_said (eq-said k x.0 w.2)
-        ]
-      ])
-
-  used-fits : (cap : ℕ) (s : ParagraphKey) (ks : List ParagraphKey) (es : List (Key × Vec DrawnRow Global)) → keys es ≡ used cap s ks → length es ≤ cap
-  used-fits cap s ks es h =
-      let a : length (keys es) ≡ length es = search (rules, length-map) in
-      let b : length (keys es) ≡ length (take cap (s ∷ without s ks)) = ap length h in
-      let d = length-take cap (s ∷ without s ks) in
-      omega (arith, d)
+  put-laid : (c : Cache) (k : Key) (v : Vec DrawnRow Global) → v.items ≡ rows_said (said k) → All IsLaid c.entries → All IsLaid (put_entries (key_eq.eq-value).it c k v)
+  put-laid c k v new all =
+      put-all IsLaid c k v all
+      (λ x value same. ap (λ r. r.items) value ∙ new ∙ ap (λ j. rows_said (said j)) (sym same))
+      (λ x value same. ap (λ r. r.items) value ∙ new ∙ ap rows_said (eq-said k x.0 same))
 
   -- what one use does to a cache
-  pub record IsUsed (c : Cache) (k : Key) (d : Cache) : Type 0 where
-    pub kept : IsKept tables d
+  pub record IsUsed (hash_key : ℕ) (c : Cache) (k : Key) (d : Cache) : Type 0 where
+    pub kept : IsKept hash_key d
     pub cap : d.cap ≡ c.cap
     pub keys : keys d.entries ≡ used c.cap (said k) (keys c.entries)
+    pub laid : All IsLaid c.entries → All IsLaid d.entries
 
-  is-used : (c : Cache) (k : Key) (es : List (Key × Vec DrawnRow Global)) → IsKept tables c → All (IsLaid tables) es → keys es ≡ used c.cap (said k) (keys c.entries) → IsUsed c k (lru_cache es c.cap)
-  is-used c k es kept laid ks = record {
-    kept = record { laid = laid; fits = used-fits c.cap (said k) (keys c.entries) es ks; some = kept.some };
-    cap = refl;
-    keys = ks;
-  }
+  module _ (hash_key : ℕ) (c d : Cache) (k : Key) (hashed : k.hash_key ≡ hash_key) (kept : IsKept hash_key c) where
+    alike : All (λ (e : Entry). e.0.hash_key ≡ k.hash_key) c.entries
+    alike = subst (λ h. All (λ (e : Entry). e.0.hash_key ≡ h) c.entries) (sym hashed) kept.hashed
 
-  pub used-promoted : (c d : Cache) (k : Key) → IsKept tables c → d ≡ lru_cache (promoted ((key_eq.eq-value).it k) c.entries) c.cap
-      → is_some (lookup ((key_eq.eq-value).it k) c.entries) ≡ true → IsUsed c k d
-  used-promoted c d k kept e there =
-      subst (IsUsed c k) (sym e)
-      (is-used c k (promoted ((key_eq.eq-value).it k) c.entries) kept (promoted-laid k c.entries kept.laid) (keys-promoted c k kept.some kept.fits there))
+    is-used : (es : List Entry) → All (IsHashedBy hash_key) es → (All IsLaid c.entries → All IsLaid es) → keys es ≡ used c.cap (said k) (keys c.entries) → IsUsed hash_key c k (lru_cache es c.cap)
+    is-used es all laid ks = record {
+      kept = record { hashed = all; fits = used-fits c.cap (said k) (keys c.entries) es ks; some = kept.some };
+      cap = refl;
+      keys = ks;
+      laid = laid;
+    }
 
-  pub used-put : (c d : Cache) (k : Key) (v : Vec DrawnRow Global) → IsKept tables c → d ≡ lru_cache (put_entries (key_eq.eq-value).it c k v) c.cap
-      → v.items ≡ rows_of tables (said k).width (said k).base (said k).text → IsUsed c k d
-  used-put c d k v kept e right =
-      subst (IsUsed c k) (sym e)
-      (is-used c k (put_entries (key_eq.eq-value).it c k v) kept (put-laid c k v kept.laid right) (keys-put c k v kept.some kept.fits))
+    pub used-promoted : d ≡ lru_cache (promoted ((key_eq.eq-value).it k) c.entries) c.cap → is_some (lookup ((key_eq.eq-value).it k) c.entries) ≡ true → IsUsed hash_key c k d
+    used-promoted e there =
+        subst (IsUsed hash_key c k) (sym e)
+        (is-used (promoted ((key_eq.eq-value).it k) c.entries) (promoted-all (IsHashedBy hash_key) k c.entries kept.hashed) (promoted-all IsLaid k c.entries)
+        (keys-promoted c k alike kept.some kept.fits there))
 
--- ---- a view of a cache
+    used-put : (v : Vec DrawnRow Global) → d ≡ lru_cache (put_entries (key_eq.eq-value).it c k v) c.cap → v.items ≡ rows_of tables (said k).width (said k).base (said k).text → IsUsed hash_key c k d
+    used-put v e right =
+        subst (IsUsed hash_key c k) (sym e)
+        (is-used (put_entries (key_eq.eq-value).it c k v) (put-hashed hash_key c k v hashed kept.hashed) (put-laid c k v right)
+        (keys-put c k v alike kept.some kept.fits))
 
--- a view with this cache
-abbrev pub view_of : TableValues → Cache → (laid : ℕ) → KeptView
-view_of tables c laid = record { tables = tables; room = c.cap; keys = keys c.entries; laid = laid }
+    -- a look-up that found nothing left all as it was
+    pub unmoved : (m : Cache) → m ≡ lru_cache (promoted ((key_eq.eq-value).it k) c.entries) c.cap → is_some (lookup ((key_eq.eq-value).it k) c.entries) ≡ false → m ≡ c
+    unmoved m e none = e ∙ ap (λ es. lru_cache es c.cap) (promoted-none ((key_eq.eq-value).it k) c.entries none)
 
--- an empty cache with some room is kept right, and its view has drawn nothing
-module _ (tables : TableValues) (c : Cache) (room : ℕ) (is : c ≡ lru_cache [] room) where
-  pub empty-kept : 1 ≤ room → IsKept tables c
-  empty-kept some = subst (IsKept tables) (sym is) (record { laid = All-nil (IsLaid tables); fits = omega arith; some = some })
+    pub used-missed : (m : Cache) (v : Vec DrawnRow Global) → m ≡ lru_cache (promoted ((key_eq.eq-value).it k) c.entries) c.cap → is_some (lookup ((key_eq.eq-value).it k) c.entries) ≡ false
+        → d ≡ lru_cache (put_entries (key_eq.eq-value).it m k v) m.cap → v.items ≡ rows_of tables (said k).width (said k).base (said k).text → IsUsed hash_key c k d
+    used-missed m v e none put right = used-put v (put ∙ ap (λ (n : Cache). lru_cache (put_entries (key_eq.eq-value).it n k v) n.cap) (unmoved m e none)) right
 
-  pub empty-view : view_of tables c 0 ≡ empty_view tables room
-  empty-view = ap (λ (d : Cache). view_of tables d 0) is
+-- ---- what a contract sees of a cache
+
+abbrev pub kept_of : (hash_key : ℕ) → Cache → KeptParagraphs
+kept_of hash_key c = record { room = c.cap; hash_key = hash_key; entries = map entry_said c.entries }
+
+keys-said : (es : List Entry) → map (λ (e : ParagraphKey × List DrawnRow). e.0) (map entry_said es) ≡ keys es
+keys-said [] = refl
+keys-said (e ∷ es) = ap (λ l. said e.0 ∷ l) (keys-said es)
+
+-- an empty cache with some room is kept right, and nothing is kept
+module _ (c : Cache) (room hash_key : ℕ) (is : c ≡ lru_cache [] room) where
+  pub empty-kept : 1 ≤ room → IsKept hash_key c
+  empty-kept some = subst (IsKept hash_key) (sym is) (record { hashed = All-nil (IsHashedBy hash_key); fits = omega arith; some = some })
+
+  pub empty-nothing : kept_of hash_key c ≡ nothing_kept room hash_key
+  empty-nothing = ap (kept_of hash_key) is
 
 -- an empty cache that is given this room
 pub resized-empty : (c d : Cache) (n room : ℕ) → c ≡ lru_cache [] (2 ^ 64 - 1) → d ≡ lru_cache (take n c.entries) n → n ≡ room → d ≡ lru_cache [] room
 resized-empty c d n room none resized is =
     resized ∙ ap (λ (e : Cache). lru_cache (take n e.entries) n) none ∙ ap (λ es. lru_cache es n) (take-whole [] n (omega arith)) ∙ ap (λ m. lru_cache [] m) is
 
+module _ (tables : TableValues) (hash_key : ℕ) (c d : Cache) (old : KeptParagraphs) (is : kept_of hash_key c ≡ old) (k : Key) (key : ParagraphKey) (says : said k ≡ key)
+    (hashed : k.hash_key ≡ hash_key) (kept : IsKept hash_key c) (u : IsUsed tables hash_key c k d) where
+  keys-used : kept_keys (kept_of hash_key d) ≡ used old.room key (kept_keys old)
+  keys-used =
+      keys-said d.entries ∙ u.keys
+      ∙ ap (λ s. used c.cap s (keys c.entries)) says
+      ∙ ap (used c.cap key) (sym (keys-said c.entries))
+      ∙ ap (λ (o : KeptParagraphs). used o.room key (kept_keys o)) is
+
+  -- whether the key is kept is what a look-up finds
+  kept-found : is_some (lookup ((key_eq.eq-value).it k) c.entries) ≡ is_kept key (kept_keys old)
+  kept-found =
+      is_kept-lookup k c.entries (alike tables hash_key c d k hashed kept)
+      ∙ ap (λ s. is_kept s (keys c.entries)) says
+      ∙ ap (is_kept key) (sym (keys-said c.entries))
+      ∙ ap (λ (o : KeptParagraphs). is_kept key (kept_keys o)) is
+
+  pub use-done : (found anew : Bool) → found ≡ is_some (lookup ((key_eq.eq-value).it k) c.entries) → anew ≡ not found → IsUse key old anew (kept_of hash_key d)
+  use-done found anew told is_anew = record {
+    room = u.cap ∙ ap (λ (o : KeptParagraphs). o.room) is;
+    hash_key = ap (λ (o : KeptParagraphs). o.hash_key) is;
+    keys = keys-used;
+    anew = is_anew ∙ ap not (told ∙ kept-found);
+  }
+
+  pub newest-done : IsNewest key (kept_of hash_key d)
+  newest-done =
+      let room = ap (λ (o : KeptParagraphs). o.room) is in
+      let some = kept.some in
+      record { earlier = take (old.room - 1) (without key (kept_keys old)); keys = keys-used ∙ take-cons old.room key (without key (kept_keys old)) (omega arith) }
+
+  pub laid-done : AreLaid tables old → AreLaid tables (kept_of hash_key d)
+  laid-done all =
+      All-map (IsLaidBy tables) entry_said d.entries
+      (u.laid (All-unmap (IsLaidBy tables) entry_said c.entries (subst (AreLaid tables) (sym is) all)))
+
+-- the rows under the newest key
+newest-of : (tables : TableValues) (es : List (ParagraphKey × List DrawnRow)) (e : ParagraphKey × List DrawnRow) (key : ParagraphKey) (earlier : List ParagraphKey)
+    → slice_get es 0 ≡ Some e → All (IsLaidBy tables) es → map (λ (f : ParagraphKey × List DrawnRow). f.0) es ≡ key ∷ earlier → e.1 ≡ rows_of tables key.width key.base key.text
+newest-of tables [] e key earlier at all first = cc
+newest-of tables (f ∷ es) e key earlier at all first =
+    let same : f ≡ e = cc in
+    let own : f.0 ≡ key = cc in
+    sym (ap (λ (g : ParagraphKey × List DrawnRow). g.1) same) ∙ All-head (IsLaidBy tables) f es all ∙ ap (rows_said tables) own
+
+module _ (hash_key : ℕ) (c : Cache) (now : KeptParagraphs) (is : kept_of hash_key c ≡ now) (tables : TableValues) (key : ParagraphKey) (laid : AreLaid tables now) (newest : IsNewest key now) where
+  pub newest-laid : (e : Entry) → slice_get c.entries 0 ≡ Some e → e.1.items ≡ rows_of tables key.width key.base key.text
+  newest-laid e at =
+      newest-of tables (map entry_said c.entries) (entry_said e) key newest.earlier (first c.entries at) (subst (AreLaid tables) (sym is) laid)
+      (ap (λ (o : KeptParagraphs). kept_keys o) is ∙ newest.keys)
+    where
+      first : (es : List Entry) → slice_get es 0 ≡ Some e → slice_get (map entry_said es) 0 ≡ Some (entry_said e)
+      first [] h = cc
+      first (f ∷ es) h = let same : f ≡ e = cc in ap (λ (g : Entry). Some (entry_said g)) same
+
+  pub newest-some : slice_get c.entries 0 ≡ None → ⊥
+  newest-some none = never c.entries none (ap (λ (o : KeptParagraphs). kept_keys o) is ∙ newest.keys)
+    where
+      never : (es : List Entry) → slice_get es 0 ≡ None → map (λ (f : ParagraphKey × List DrawnRow). f.0) (map entry_said es) ≡ key ∷ newest.earlier → ⊥
+      never [] h k = cc
+      never (f ∷ es) h k = cc
+
+-- ---- a view of kept rows
+
+-- a view with these kept rows
+abbrev pub view_of : TableValues → KeptParagraphs → (laid : ℕ) → KeptView
+view_of tables kept laid = record { tables = tables; room = kept.room; hash_key = kept.hash_key; keys = kept_keys kept; laid = laid }
+
 -- a view after a use of a key
 abbrev pub view_used : ParagraphKey → KeptView → KeptView
 view_used key v = record v { keys = used v.room key v.keys }
 
-module _ (tables : TableValues) (c : Cache) (laid : ℕ) (v : KeptView) (is : view_of tables c laid ≡ v) (k : Key) (key : ParagraphKey) (says : said k ≡ key) where
-  pub view-used : (d : Cache) → IsUsed tables c k d → view_of tables d laid ≡ view_used key v
-  view-used d u =
-      ap (λ r. record { tables = tables; room = r; keys = keys d.entries; laid = laid }) u.cap
-      ∙ ap (λ ks. record { tables = tables; room = c.cap; keys = ks; laid = laid }) u.keys
-      ∙ ap (λ s. record { tables = tables; room = c.cap; keys = used c.cap s (keys c.entries); laid = laid }) says
+module _ (tables : TableValues) (before after : KeptParagraphs) (laid : ℕ) (v : KeptView) (is : view_of tables before laid ≡ v) (key : ParagraphKey) (anew : Bool) (use_done : IsUse key before anew after) where
+  pub view-used : view_of tables after laid ≡ view_used key v
+  view-used =
+      ap (λ r. record { tables = tables; room = r; hash_key = after.hash_key; keys = kept_keys after; laid = laid }) use_done.room
+      ∙ ap (λ h. record { tables = tables; room = before.room; hash_key = h; keys = kept_keys after; laid = laid }) use_done.hash_key
+      ∙ ap (λ ks. record { tables = tables; room = before.room; hash_key = before.hash_key; keys = ks; laid = laid }) use_done.keys
       ∙ ap (view_used key) is
 
-  -- whether the key is kept is what a look-up finds
-  pub kept-found : is_some (lookup ((key_eq.eq-value).it k) c.entries) ≡ is_kept key v.keys
-  kept-found = is_kept-lookup k c.entries ∙ ap (λ s. is_kept s (keys c.entries)) says ∙ ap (λ w. is_kept key w.keys) is
+  pub anew-seen : anew ≡ not (is_kept key v.keys)
+  anew-seen = use_done.anew ∙ ap (λ (w : KeptView). not (is_kept key w.keys)) is

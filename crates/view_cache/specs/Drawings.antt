@@ -8,16 +8,17 @@ use Rattle.cell_grid.specs.Grids.{DrawnGrid, grid_of}
 use Rattle.view_cache.specs.Keys.{ParagraphKey, paragraph_key}
 use Rattle.view_cache.specs.Uses.{all_used, laid_anew}
 
--- a view: its tables, how many keys it has room for, the keys that it keeps, most recently used first, and how many paragraphs the last draw that answered Ok laid out
+-- a view: its tables, how many keys it has room for, the key that their hashes begin with, the keys that it keeps, most recently used first, and how many paragraphs the last draw that answered Ok laid out
 pub record KeptView : Type 0 where
   pub tables : TableValues
   pub room : ℕ
+  pub hash_key : ℕ
   pub keys : List ParagraphKey
   pub laid : ℕ
 
 -- a view that has drawn nothing
-abbrev pub empty_view : TableValues → (room : ℕ) → KeptView
-empty_view tables room = record { tables = tables; room = room; keys = []; laid = 0 }
+abbrev pub empty_view : TableValues → (room hash_key : ℕ) → KeptView
+empty_view tables room hash_key = record { tables = tables; room = room; hash_key = hash_key; keys = []; laid = 0 }
 
 -- the keys of paragraphs, in order
 abbrev pub paragraph_keys : (width : ℕ) → Base → List Paragraph → List ParagraphKey
@@ -33,6 +34,7 @@ pub record IsDrawing (before : KeptView) (width : ℕ) (base : Base) (text : Lis
   pub grid : IfOk answer (λ g. g ≡ grid_of before.tables width base text)
   pub tables : after.tables ≡ before.tables
   pub room : after.room ≡ before.room
+  pub hash_key : after.hash_key ≡ before.hash_key
   -- the keys are those after all uses
   pub keys : OnOk answer (after.keys ≡ all_used before.room (uses_of before.tables width base text) before.keys)
   -- each use that found nothing is counted

@@ -1,19 +1,22 @@
--- What holds of the rows that a view keeps.
-use Rattle.std.specs.Prelude.{◌≡◌, ◌<◌, ◌≤◌, length, Vec}
+-- What holds of the cache behind kept rows.
+use Rattle.std.specs.Prelude.{◌≡◌, ◌<◌, ◌≤◌, ℕ, List, length, Vec}
 use Rattle.std.specs.List.{All}
 use Rattle.std.specs.Global.{Global}
 use Rattle.lru.specs.LruCache.{LruCache}
-use Rattle.unicode_tables.specs.Tables.{TableValues}
-use Rattle.cell_grid.specs.Rows.{DrawnRow, rows_of}
+use Rattle.cell_grid.specs.Rows.{DrawnRow}
 use Rattle.view_cache.specs.declared.key.Key.{Key}
-use Rattle.view_cache.specs.Keys.{said}
+use Rattle.view_cache.specs.Keys.{ParagraphKey, said}
 
--- an entry's rows are those of its key, counted from the paragraph's start
-abbrev pub IsLaid : TableValues → Key × Vec DrawnRow Global → Type 0
-IsLaid tables e = e.1.items ≡ rows_of tables (said e.0).width (said e.0).base (said e.0).text
+-- what a contract sees of an entry
+abbrev pub entry_said : Key × Vec DrawnRow Global → ParagraphKey × List DrawnRow
+entry_said e = (said e.0, e.1.items)
 
--- each entry is right, and no more are kept than there is room for
-pub record IsKept (tables : TableValues) (kept : LruCache Key (Vec DrawnRow Global)) : Type 0 where
-  pub laid : All (IsLaid tables) kept.entries
+-- an entry's key begins with this one
+abbrev pub IsHashedBy : ℕ → Key × Vec DrawnRow Global → Type 0
+IsHashedBy hash_key e = e.0.hash_key ≡ hash_key
+
+-- each entry's hash begins with one key, and no more are kept than there is room for
+pub record IsKept (hash_key : ℕ) (kept : LruCache Key (Vec DrawnRow Global)) : Type 0 where
+  pub hashed : All (IsHashedBy hash_key) kept.entries
   pub fits : length kept.entries ≤ kept.cap
   pub some : 0 < kept.cap

@@ -1,11 +1,11 @@
 //! Laws of the definitions: each function's contract is the law, and its body does nothing.
 
-ghost use Rattle.std.specs.Prelude.{◌≡◌, ℕ, ◌<◌, ◌≤◌, ◌↔◌, true, List, length, Result, Ok, IfOk};
+ghost use Rattle.std.specs.Prelude.{◌≡◌, ℕ, ◌+◌, ◌<◌, ◌≤◌, ◌↔◌, true, List, length, Result, Ok, IfOk};
 ghost use Rattle.bg_types.specs.declared.class.Base.{Base};
 ghost use Rattle.bg_types.specs.declared.fault.Memory.{Memory};
 ghost use Rattle.cell_grid.specs.Grids.{DrawnGrid, grid_of};
 ghost use Rattle.view_cache.specs.Keys.{ParagraphKey, same_key};
-ghost use Rattle.view_cache.specs.Uses.{is_kept, used, all_used};
+ghost use Rattle.view_cache.specs.Uses.{is_kept, used, all_used, laid_anew, count_others};
 ghost use Rattle.view_cache.specs.Drawings.{KeptView, IsDrawing};
 ghost use Rattle.view_cache.specs.Laws.{Edit, IsEdited, Replaces, paragraph_texts};
 
@@ -37,4 +37,10 @@ pub fn keys_compared()
 pub fn kept_while_there_is_room()
     ensures { (room : ℕ) (key : ParagraphKey) (kept later : List ParagraphKey) → length later < room
         → is_kept key (all_used room later (used room key kept)) ≡ true }
+{}
+
+/// Later uses lay out only what earlier ones didn't use, as long as there is room for both.
+pub fn uses_cost_what_was_not_used()
+    ensures { (room : ℕ) (earlier later kept : List ParagraphKey) → length earlier + length later ≤ room
+        → laid_anew room later (all_used room earlier kept) ≤ count_others earlier later }
 {}

@@ -1,25 +1,21 @@
 //! A view that keeps the rows of paragraphs.
 
-ghost use Rattle.std.specs.Prelude.{◌≡◌, ◌++◌, ◌≤◌, ℕ, true, false, not, [], length, map, take, IfOk, OnOk, OnErr};
+ghost use Rattle.std.specs.Prelude.{◌≡◌, ◌++◌, ◌≤◌, ◌⊎◌, ℕ, not, length, map, take, IfOk, OnOk, OnErr};
 ghost use Rattle.std.specs.List.{All, flat_map};
-ghost use Rattle.lru.specs.LruCache.{lru_cache};
 ghost use Rattle.cell_grid.specs.Rows.{shifted};
 ghost use Rattle.cell_grid.specs.Grids.{IsDrawable, paragraph_rows};
 ghost use Rattle.cell_grid.specs.Shifting.{MayShiftRow};
-ghost use Rattle.view_cache.specs.Keys.{said, paragraph_key};
+ghost use Rattle.view_cache.specs.Keys.{paragraph_key};
 ghost use Rattle.view_cache.specs.Uses.{is_kept, used, all_used, laid_anew};
 ghost use Rattle.view_cache.specs.Drawings.{empty_view, paragraph_keys, IsDrawing};
 
-use crate::hasher::KeyedText;
-use crate::key::Key;
+use crate::kept_rows::KeptRows;
 use bg_types::{Base, Memory};
 use cell_grid::laws::rows_may_shift;
-use cell_grid::{Grid, Row, rows};
-use lru::LruCache;
+use cell_grid::{Grid, Row};
 use paragraphs::{Para, split};
 use std::alloc::Global;
 use std::marker::Model;
-use std::num::NonZeroUsize;
 use unicode_tables::Tables;
 
 /// How many paragraphs `View::new` has room for.
@@ -32,33 +28,32 @@ const ROOM: usize = 1_024;
 pub struct View<'a> {
     alloc: Global,
     tables: &'a Tables,
-    kept: LruCache<Key, Vec<Row>, KeyedText>,
+    kept: KeptRows,
     laid: usize,
 }
 
 impl<'a> Model for View<'a> {
-    ghost use Rattle.std.specs.Prelude.{map};
     ghost use Rattle.view_cache.specs.Drawings.{KeptView};
-    ghost use Rattle.view_cache.specs.Keys.{said};
-    ghost use Rattle.view_cache.specs.Kept.{IsKept};
+    ghost use Rattle.view_cache.specs.KeptParagraphs.{kept_keys, AreLaid};
 
     ghost Value = { KeptView };
 
     ghost view = { λ v. record {
       tables = v.tables.now;
-      room = v.kept.cap;
-      keys = map (λ e. said e.0) v.kept.entries;
+      room = v.kept.room;
+      hash_key = v.kept.hash_key;
+      keys = kept_keys v.kept;
       laid = v.laid;
     } };
 
-    ghost invariant = { λ v. IsKept v.tables.now v.kept };
+    ghost invariant = { λ v. AreLaid v.tables.now v.kept };
 }
 
 impl<'a> View<'a> {
     /// A view with room for 1,024 paragraphs. Its table is hashed with the key 0: for texts from
     /// strangers make the view by `keyed`.
     pub fn new(alloc: Global, tables: &'a Tables) -> Result<View<'a>, Memory>
-        ensures { IfOk result (λ view. view ≡ empty_view tables.now 1024) }
+        ensures { IfOk result (λ view. view ≡ empty_view tables.now 1024 0) }
     {
         View::with_room(alloc, tables, ROOM)
     }
@@ -68,13 +63,13 @@ impl<'a> View<'a> {
     pub fn with_room(alloc: Global, tables: &'a Tables, room: usize) -> Result<View<'a>, Memory>
         requires some { 1 ≤ room }
         requires most { room ≤ 1_000_000 }
-        ensures { IfOk result (λ view. view ≡ empty_view tables.now room) }
+        ensures { IfOk result (λ view. view ≡ empty_view tables.now room 0) }
     {
         View::keyed(alloc, 0, tables, room)
     }
 
-    /// The same, its table hashed with this key. Without knowing the key, nobody can choose paragraphs
-    /// that make the draws slow.
+    /// The same, its table hashed with this key. Without knowing the key, it is hard to choose paragraphs
+    /// that make the draws slow; no bound is proved.
     pub fn keyed(
         alloc: Global,
         key: u128,
@@ -83,9 +78,9 @@ impl<'a> View<'a> {
     ) -> Result<View<'a>, Memory>
         requires some { 1 ≤ room }
         requires most { room ≤ 1_000_000 }
-        ensures { IfOk result (λ view. view ≡ empty_view tables.now room) }
+        ensures { IfOk result (λ view. view ≡ empty_view tables.now room key) }
     {
-        let kept = empty_cache(alloc, key, room)?;
+        let kept = KeptRows::keyed(alloc, key, room)?;
         Ok(View {
             alloc,
             tables,
@@ -149,7 +144,7 @@ impl<'a> View<'a> {
     }
 
     /// Uses the key of a paragraph, and appends its rows, moved to where they stand in the text. Returns
-    /// whether they were laid out anew. After `Memory` the view is as it was.
+    /// whether they were laid out anew. After `Memory` the key was used or not.
     fn push_rows(
         &mut self,
         width: u16,
@@ -163,77 +158,14 @@ impl<'a> View<'a> {
         ensures rows { OnOk result (drawn.new.items ≡ drawn.old.items ++ paragraph_rows self.old.tables width base para.now) }
         ensures laid { IfOk result (λ laid. laid ≡ not (is_kept (paragraph_key para.now.text width base) self.old.keys)) }
         ensures view { OnOk result (self.new ≡ record self.old { keys = used self.old.room (paragraph_key para.now.text width base) self.old.keys }) }
-        ensures err { OnErr result (self.new ≡ self.old) }
-    {
-        let key = Key::of(self.alloc, para.text(), width, base)?;
-        if self.push_kept(&key, para, drawn)? {
-            return Ok(false);
-        }
-        self.push_laid(key, width, base, para, drawn)?;
-        Ok(true)
-    }
-
-    /// Appends the rows that are kept under a paragraph's key, and uses it. Returns whether there are any.
-    /// After `Memory` the view is as it was.
-    fn push_kept(&mut self, key: &Key, para: &Para, drawn: &mut Vec<Row>) -> Result<bool, Memory>
-        requires key { (said key.now).text ≡ para.now.text }
-        requires at_least { 2 ≤ (said key.now).width }
-        requires para { IsDrawable para.now }
-        ensures kept { IfOk result (λ kept. kept ≡ is_kept (said key.now) self.old.keys) }
-        ensures found_rows { IfOk result (λ kept. kept ≡ true
-            → drawn.new.items ≡ drawn.old.items ++ paragraph_rows self.old.tables (said key.now).width (said key.now).base para.now) }
-        ensures found_view { IfOk result (λ kept. kept ≡ true → self.new ≡ record self.old { keys = used self.old.room (said key.now) self.old.keys }) }
-        ensures absent_rows { IfOk result (λ kept. kept ≡ false → drawn.new ≡ drawn.old) }
-        ensures absent_view { IfOk result (λ kept. kept ≡ false → self.new ≡ self.old) }
-        ensures err { OnErr result (self.new ≡ self.old) }
+        ensures err { OnErr result ((self.new ≡ self.old)
+            ⊎ (self.new ≡ record self.old { keys = used self.old.room (paragraph_key para.now.text width base) self.old.keys })) }
     {
         rows_may_shift();
-        if let Some(rows) = self.kept.peek(key) {
-            push_shifted(self.alloc, rows, para, drawn)?;
-            self.kept.promote(key);
-            return Ok(true);
-        }
-        Ok(false)
+        let laid = self.kept.keep(self.alloc, self.tables, width, base, para)?;
+        push_shifted(self.alloc, self.kept.newest(), para, drawn)?;
+        Ok(laid)
     }
-
-    /// Lays a paragraph out, appends its rows and keeps them under its key. After `Memory` the view is as it was.
-    fn push_laid(
-        &mut self,
-        key: Key,
-        width: u16,
-        base: Base,
-        para: &Para,
-        drawn: &mut Vec<Row>,
-    ) -> Result<(), Memory>
-        requires key { said key ≡ paragraph_key para.now.text width base }
-        requires at_least { 2 ≤ width }
-        requires at_most { width ≤ 500 }
-        requires para { IsDrawable para.now }
-        ensures rows { OnOk result (drawn.new.items ≡ drawn.old.items ++ paragraph_rows self.old.tables width base para.now) }
-        ensures view { OnOk result (self.new ≡ record self.old { keys = used self.old.room (paragraph_key para.now.text width base) self.old.keys }) }
-        ensures err { OnErr result (self.new ≡ self.old) }
-    {
-        let rows = rows(self.alloc, self.tables, width, base, para)?;
-        push_shifted(self.alloc, &rows, para, drawn)?;
-        self.kept.put(key, rows)?;
-        Ok(())
-    }
-}
-
-/// An empty cache with room for this many paragraphs, its table hashed with this key.
-fn empty_cache(
-    alloc: Global,
-    key: u128,
-    room: usize,
-) -> Result<LruCache<Key, Vec<Row>, KeyedText>, Memory>
-    requires { 1 ≤ room }
-    ensures { IfOk result (λ cache. cache ≡ lru_cache [] room) }
-{
-    let mut cache = LruCache::unbounded_with_hasher(alloc, KeyedText::new(key))?;
-    if let Some(room) = NonZeroUsize::new(room) {
-        cache.resize(room);
-    }
-    Ok(cache)
 }
 
 /// Appends copies of a paragraph's rows, moved to where the paragraph stands in its text.

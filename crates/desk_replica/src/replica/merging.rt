@@ -1,6 +1,6 @@
 //! Taking all operations of another desk.
 
-ghost use Rattle.std.specs.Prelude.{◌≡◌, ◌≤◌, ◌<◌, ◌+◌, true, OnOk, OnErr, IfOk, IfErr, IsOk, All, length, take};
+ghost use Rattle.std.specs.Prelude.{◌≡◌, ◌≤◌, ◌<◌, ◌+◌, ◌⊎◌, true, OnOk, OnErr, IfOk, IfErr, IsOk, All, length, take};
 ghost use Rattle.std.specs.Bool.{OnTrue, OnFalse};
 ghost use Rattle.bg_types.specs.OperationSet.{Holds, Agree, MayJoin, ReusesIdentifier, union, size, with_operation};
 ghost use Rattle.bg_types.specs.WellFormed.{MayFollow};
@@ -12,12 +12,14 @@ ghost use Rattle.desk_replica.specs.declared.answer.TakeFault.{TakeFault as Faul
 ghost use Rattle.desk_replica.specs.Desk.{insertion_of as made_by};
 ghost use Rattle.desk_replica.specs.Told.{told, insertions_in, deletions_in};
 ghost use Rattle.desk_replica.specs.Placement.{waiting_in};
-ghost use Rattle.desk_replica.specs.Reply.{IsRefused};
+ghost use Rattle.desk_replica.specs.Listening.{IsBounded, Tells, told_count};
+ghost use Rattle.desk_replica.specs.Telling.{IsUntaken, seen_count};
 ghost use Rattle.desk_replica.specs.Merging.{Disagree, IsMergeRefusal, IsMergeRefused, IsStopped, ReusesIn, with_operations};
 
 use super::Replica;
 use crate::answer::TakeFault;
 use crate::cursor::Cursor;
+use crate::listener::{Listener, Nobody};
 use crate::placing::{Standing, count_waiting, look_up};
 use crate::reading::insertion_of;
 use bg_types::{Id, Op};
@@ -43,11 +45,35 @@ impl<S: Sequence> Replica<S> {
         ensures spare { size self.old.set + self.old.spare ≤ size self.new.set + self.new.spare }
         ensures unpaid { IfErr result (λ fault. fault ≡ TakeFault.Memory → self.old.spare < size other.now.set) }
     {
+        self.merge_to(other, &mut Nobody)
+    }
+
+    /// Takes all operations of another desk, and tells a listener how the text changed by them.
+    pub(super) fn merge_to<L: Listener>(
+        &mut self,
+        other: &Replica<S>,
+        listener: &mut L,
+    ) -> Result<u32, TakeFault>
+        ensures ok { OnOk result (self.new.set ≡ union self.old.set other.now.set) }
+        ensures agree { OnOk result (Agree self.old.set other.now.set) }
+        ensures accepted { OnOk result ((fault : Fault) → ¬ (IsMergeRefusal self.old.set other.now.set fault)) }
+        ensures count { IfOk result (λ n. size self.new.set ≡ size self.old.set + n) }
+        ensures limited { OnOk result (size self.new.set ≤ 1_000_000) }
+        ensures fault { IfErr result (IsMergeRefused self.old.set other.now.set self.new.set) }
+        ensures reused { IfErr result (λ fault. fault ≡ TakeFault.IdentifierReused → self.new ≡ self.old) }
+        ensures nothing_new { ((op : OpView) → Holds other.now.set op → Holds self.old.set op) → IsOk result }
+        ensures site { self.new.site ≡ self.old.site }
+        ensures spare { size self.old.set + self.old.spare ≤ size self.new.set + self.new.spare }
+        ensures unpaid { IfErr result (λ fault. fault ≡ TakeFault.Memory
+            → (self.old.spare < size other.now.set) ⊎ IsBounded (L.room listener.new)) }
+        ensures told { Tells self.old.set self.new.set (L.told listener.old) (L.told listener.new) }
+        ensures seen { told_count (L.told listener.new) + seen_count self.old.set ≤ told_count (L.told listener.old) + seen_count self.new.set }
+    {
         if self.disagrees(other) {
             return Err(TakeFault::IdentifierReused);
         }
         let before = self.kept;
-        self.take_told(other)?;
+        self.take_told(other, listener)?;
         Ok(self.kept - before)
     }
 
@@ -159,42 +185,57 @@ impl<S: Sequence> Replica<S> {
 
     /// Takes the operations of another desk in the order in which `op_at` tells them. The elements
     /// are read part after part, since `nth` of each may cost more than reading it.
-    fn take_told(&mut self, other: &Replica<S>) -> Result<(), TakeFault>
+    fn take_told<L: Listener>(
+        &mut self,
+        other: &Replica<S>,
+        listener: &mut L,
+    ) -> Result<(), TakeFault>
         ensures ok { OnOk result (self.new.set ≡ with_operations self.old.set (told other.now)) }
         ensures fault { IfErr result (IsStopped self.old.set (told other.now) self.new.set) }
         ensures all { ListsOnce other.now.set (told other.now) }
         ensures site { self.new.site ≡ self.old.site }
         ensures spare { size self.old.set + self.old.spare ≤ size self.new.set + self.new.spare }
-        ensures unpaid { IfErr result (λ fault. fault ≡ TakeFault.Memory → self.new.spare ≡ 0) }
+        ensures unpaid { IfErr result (λ fault. fault ≡ TakeFault.Memory → (self.new.spare ≡ 0) ⊎ IsBounded (L.room listener.new)) }
+        ensures told { Tells self.old.set self.new.set (L.told listener.old) (L.told listener.new) }
+        ensures seen { told_count (L.told listener.new) + seen_count self.old.set ≤ told_count (L.told listener.old) + seen_count self.new.set }
     {
         let waiting = count_waiting(&other.held);
-        self.take_insertions(&other.seq)?;
-        self.take_deletions(&other.seq)?;
-        self.take_waiting(&other.held, waiting)
+        self.take_insertions(&other.seq, listener)?;
+        self.take_deletions(&other.seq, listener)?;
+        self.take_waiting(&other.held, waiting, listener)
     }
 
-    fn take_insertions(&mut self, seq: &S) -> Result<(), TakeFault>
+    fn take_insertions<L: Listener>(&mut self, seq: &S, listener: &mut L) -> Result<(), TakeFault>
         ensures ok { OnOk result (self.new.set ≡ with_operations self.old.set (insertions_in (elements (S.content seq.now)))) }
         ensures fault { IfErr result (IsStopped self.old.set (insertions_in (elements (S.content seq.now))) self.new.set) }
         ensures site { self.new.site ≡ self.old.site }
         ensures spare { size self.old.set + self.old.spare ≤ size self.new.set + self.new.spare }
-        ensures unpaid { IfErr result (λ fault. fault ≡ TakeFault.Memory → self.new.spare ≡ 0) }
+        ensures unpaid { IfErr result (λ fault. fault ≡ TakeFault.Memory → (self.new.spare ≡ 0) ⊎ IsBounded (L.room listener.new)) }
+        ensures told { Tells self.old.set self.new.set (L.told listener.old) (L.told listener.new) }
+        ensures seen { told_count (L.told listener.new) + seen_count self.old.set ≤ told_count (L.told listener.old) + seen_count self.new.set }
     {
         let mut cursor = Cursor::front();
         for p in 0..seq.part_count() {
-            self.insert_row(seq.part(p), &mut cursor)?;
+            self.insert_row(seq.part(p), &mut cursor, listener)?;
         }
         Ok(())
     }
 
     /// Takes the insertions that made the elements of a row. The first is awaited at the cursor.
-    fn insert_row(&mut self, row: &[Element], cursor: &mut Cursor) -> Result<(), TakeFault>
+    fn insert_row<L: Listener>(
+        &mut self,
+        row: &[Element],
+        cursor: &mut Cursor,
+        listener: &mut L,
+    ) -> Result<(), TakeFault>
         requires { All (λ e. MayFollow e.parent e.id) row.now }
         ensures ok { OnOk result (self.new.set ≡ with_operations self.old.set (insertions_in row.now)) }
         ensures fault { IfErr result (IsStopped self.old.set (insertions_in row.now) self.new.set) }
         ensures site { self.new.site ≡ self.old.site }
         ensures spare { size self.old.set + self.old.spare ≤ size self.new.set + self.new.spare }
-        ensures unpaid { IfErr result (λ fault. fault ≡ TakeFault.Memory → self.new.spare ≡ 0) }
+        ensures unpaid { IfErr result (λ fault. fault ≡ TakeFault.Memory → (self.new.spare ≡ 0) ⊎ IsBounded (L.room listener.new)) }
+        ensures told { Tells self.old.set self.new.set (L.told listener.old) (L.told listener.new) }
+        ensures seen { told_count (L.told listener.new) + seen_count self.old.set ≤ told_count (L.told listener.old) + seen_count self.new.set }
     {
         cursor.pay(row.len());
         let mut at = 0;
@@ -203,7 +244,7 @@ impl<S: Sequence> Replica<S> {
             if known > 0 {
                 at += known;
             } else {
-                self.take_at(&row[at], cursor)?;
+                self.take_at(&row[at], cursor, listener)?;
                 at += 1;
             }
         }
@@ -211,66 +252,89 @@ impl<S: Sequence> Replica<S> {
     }
 
     /// Takes the insertion that made an element. The cursor goes on behind it.
-    fn take_at(&mut self, e: &Element, cursor: &mut Cursor) -> Result<(), TakeFault>
+    fn take_at<L: Listener>(
+        &mut self,
+        e: &Element,
+        cursor: &mut Cursor,
+        listener: &mut L,
+    ) -> Result<(), TakeFault>
         requires { MayFollow e.now.parent e.now.id }
         ensures ok { OnOk result (self.new.set ≡ with_operation self.old.set (made_by e.now)) }
         ensures err { OnErr result (self.new ≡ self.old) }
-        ensures fault { IfErr result (IsRefused self.old.set (made_by e.now)) }
+        ensures fault { IfErr result (IsUntaken self.old.set (made_by e.now)) }
         ensures site { self.new.site ≡ self.old.site }
         ensures spare { size self.old.set + self.old.spare ≤ size self.new.set + self.new.spare }
-        ensures unpaid { IfErr result (λ fault. fault ≡ TakeFault.Memory → self.old.spare ≡ 0) }
+        ensures unpaid { IfErr result (λ fault. fault ≡ TakeFault.Memory → (self.new.spare ≡ 0) ⊎ IsBounded (L.room listener.new)) }
+        ensures told { Tells self.old.set self.new.set (L.told listener.old) (L.told listener.new) }
+        ensures seen { told_count (L.told listener.new) + seen_count self.old.set ≤ told_count (L.told listener.old) + seen_count self.new.set }
     {
-        self.take(&insertion_of(e))?;
+        self.take_to(&insertion_of(e), listener)?;
         // Its parent was taken before it, so it stands now.
         cursor.meet(e.id);
         Ok(())
     }
 
-    fn take_deletions(&mut self, seq: &S) -> Result<(), TakeFault>
+    fn take_deletions<L: Listener>(&mut self, seq: &S, listener: &mut L) -> Result<(), TakeFault>
         ensures ok { OnOk result (self.new.set ≡ with_operations self.old.set (deletions_in (elements (S.content seq.now)))) }
         ensures fault { IfErr result (IsStopped self.old.set (deletions_in (elements (S.content seq.now))) self.new.set) }
         ensures site { self.new.site ≡ self.old.site }
         ensures spare { size self.old.set + self.old.spare ≤ size self.new.set + self.new.spare }
-        ensures unpaid { IfErr result (λ fault. fault ≡ TakeFault.Memory → self.new.spare ≡ 0) }
+        ensures unpaid { IfErr result (λ fault. fault ≡ TakeFault.Memory → (self.new.spare ≡ 0) ⊎ IsBounded (L.room listener.new)) }
+        ensures told { Tells self.old.set self.new.set (L.told listener.old) (L.told listener.new) }
+        ensures seen { told_count (L.told listener.new) + seen_count self.old.set ≤ told_count (L.told listener.old) + seen_count self.new.set }
     {
         let mut cursor = Cursor::front();
         for p in 0..seq.part_count() {
-            self.erase_row(seq.part(p), &mut cursor)?;
+            self.erase_row(seq.part(p), &mut cursor, listener)?;
         }
         Ok(())
     }
 
     /// Takes the deletions of the hidden elements of a row. The own elements stand at the cursor or behind it.
-    fn erase_row(&mut self, row: &[Element], cursor: &mut Cursor) -> Result<(), TakeFault>
+    fn erase_row<L: Listener>(
+        &mut self,
+        row: &[Element],
+        cursor: &mut Cursor,
+        listener: &mut L,
+    ) -> Result<(), TakeFault>
         ensures ok { OnOk result (self.new.set ≡ with_operations self.old.set (deletions_in row.now)) }
         ensures fault { IfErr result (IsStopped self.old.set (deletions_in row.now) self.new.set) }
         ensures site { self.new.site ≡ self.old.site }
         ensures spare { size self.old.set + self.old.spare ≤ size self.new.set + self.new.spare }
-        ensures unpaid { IfErr result (λ fault. fault ≡ TakeFault.Memory → self.new.spare ≡ 0) }
+        ensures unpaid { IfErr result (λ fault. fault ≡ TakeFault.Memory → (self.new.spare ≡ 0) ⊎ IsBounded (L.room listener.new)) }
+        ensures told { Tells self.old.set self.new.set (L.told listener.old) (L.told listener.new) }
+        ensures seen { told_count (L.told listener.new) + seen_count self.old.set ≤ told_count (L.told listener.old) + seen_count self.new.set }
     {
         cursor.pay(row.len());
         for e in row {
             if e.hidden {
-                self.take_deletion(e.id, cursor)?;
+                self.take_deletion(e.id, cursor, listener)?;
             }
         }
         Ok(())
     }
 
     /// Takes a deletion. Where the own element is hidden, it is known without a look-up.
-    fn take_deletion(&mut self, id: Id, cursor: &mut Cursor) -> Result<(), TakeFault>
+    fn take_deletion<L: Listener>(
+        &mut self,
+        id: Id,
+        cursor: &mut Cursor,
+        listener: &mut L,
+    ) -> Result<(), TakeFault>
         ensures ok { OnOk result (self.new.set ≡ with_operation self.old.set (Erase id)) }
         ensures err { OnErr result (self.new ≡ self.old) }
-        ensures fault { IfErr result (IsRefused self.old.set (Erase id)) }
+        ensures fault { IfErr result (IsUntaken self.old.set (Erase id)) }
         ensures site { self.new.site ≡ self.old.site }
         ensures spare { size self.old.set + self.old.spare ≤ size self.new.set + self.new.spare }
-        ensures unpaid { IfErr result (λ fault. fault ≡ TakeFault.Memory → self.old.spare ≡ 0) }
+        ensures unpaid { IfErr result (λ fault. fault ≡ TakeFault.Memory → (self.new.spare ≡ 0) ⊎ IsBounded (L.room listener.new)) }
+        ensures told { Tells self.old.set self.new.set (L.told listener.old) (L.told listener.new) }
+        ensures seen { told_count (L.told listener.new) + seen_count self.old.set ≤ told_count (L.told listener.old) + seen_count self.new.set }
     {
         cursor.find(&self.seq, id);
         if self.hides(id, cursor) {
             return Ok(());
         }
-        self.take(&Op::erase(id))?;
+        self.take_to(&Op::erase(id), listener)?;
         Ok(())
     }
 
@@ -285,16 +349,23 @@ impl<S: Sequence> Replica<S> {
     }
 
     /// Takes the operations that wait in a store of this many.
-    fn take_waiting(&mut self, held: &Held, count: usize) -> Result<(), TakeFault>
+    fn take_waiting<L: Listener>(
+        &mut self,
+        held: &Held,
+        count: usize,
+        listener: &mut L,
+    ) -> Result<(), TakeFault>
         requires { count ≡ size held.now.held }
         ensures ok { OnOk result (self.new.set ≡ with_operations self.old.set (waiting_in held.now)) }
         ensures fault { IfErr result (IsStopped self.old.set (waiting_in held.now) self.new.set) }
         ensures site { self.new.site ≡ self.old.site }
         ensures spare { size self.old.set + self.old.spare ≤ size self.new.set + self.new.spare }
-        ensures unpaid { IfErr result (λ fault. fault ≡ TakeFault.Memory → self.new.spare ≡ 0) }
+        ensures unpaid { IfErr result (λ fault. fault ≡ TakeFault.Memory → (self.new.spare ≡ 0) ⊎ IsBounded (L.room listener.new)) }
+        ensures told { Tells self.old.set self.new.set (L.told listener.old) (L.told listener.new) }
+        ensures seen { told_count (L.told listener.new) + seen_count self.old.set ≤ told_count (L.told listener.old) + seen_count self.new.set }
     {
         for j in 0..count {
-            self.take(&held.nth(j))?;
+            self.take_to(&held.nth(j), listener)?;
         }
         Ok(())
     }

@@ -9,10 +9,10 @@ use bg_types::{Bidi, Memory, Op, OpView};
 use ucd_files::Tables;
 use view_cache::View;
 
-/// An empty view with room for the paragraphs of all desks, up to 1,000,000. Without knowing the
-/// key, nobody can choose texts that make the shows slow.
+/// An empty view with room for the paragraphs of all desks, up to 1,000,000, its table hashed with
+/// this key.
 pub fn new_view<'a>(key: u128, setting: &Setting<'a>) -> Result<View<'a>, Memory>
-    ensures { IfOk result (λ view. view ≡ empty_view setting.now.tables.now (room_in setting.now)) }
+    ensures { IfOk result (λ view. view ≡ empty_view setting.now.tables.now (room_in setting.now) key) }
 {
     View::keyed(setting.alloc, key, setting.tables, room(setting))
 }

@@ -20,6 +20,6 @@ carets_from-requires-clause-readers g c = never_failed c.deref_mut.result.now
 
 pub returns : goal.returns
 returns g c =
-    over_memory _ (bytes_of c.args.files.now) c.carets_from.new.files (ap (each (λ m. Some m.bytes.now)) c.deref_mut.ensures.value ∙ c.in_ok-readers.ensures) _
+    over_memory _ (bytes_of c.args.files.now) c.carets_from.new.files (ap (each (λ m. Some m.bytes.now)) c.deref_mut.ensures.value ∙ c.in_ok-readers.ensures) _ _
     (λ files. IsCaretsOutcome (asked c.args.ucd.now c.args.width c.args.base files c.args.place c.args.moves.now) (g.S.Sink.written c.args.out.now) (g.S.Sink.written c.carets_from.new.out) (g.S.Sink.has_failed c.carets_from.new.out))
-    c.carets_from.result c.carets_from.ensures
+    c.carets_from.result c.carets_from.ensures.outcome

@@ -4,4 +4,4 @@ use Rattle.desk_carets.specs.CaretsOutcome.{IsCaretsOutcome}
 use Rattle.desk_carets.proofs.laws.readers_tell_files.Goals as goal
 
 pub returns : goal.returns
-returns c = λ files lost asks old new failed result. over_told files lost _ (λ told. IsCaretsOutcome (asks told) old new failed) result
+returns c = λ files left lost asks old new failed result. over_told files left lost _ (λ told. IsCaretsOutcome (asks told) old new failed) result

@@ -21,5 +21,5 @@ text_from-requires-clause-readers g c = never_failed c.deref_mut.result.now
 
 pub returns : goal.returns
 returns g c =
-    over_memory _ (bytes_of c.args.files.now) c.text_from.new.files (ap (each (λ m. Some m.bytes.now)) c.deref_mut.ensures.value ∙ c.in_ok-readers.ensures) _
-    (λ files. IsTextOutcome files (g.S.Sink.written c.args.out.now) (g.S.Sink.written c.text_from.new.out) (g.S.Sink.has_failed c.text_from.new.out)) c.text_from.result c.text_from.ensures
+    over_memory _ (bytes_of c.args.files.now) c.text_from.new.files (ap (each (λ m. Some m.bytes.now)) c.deref_mut.ensures.value ∙ c.in_ok-readers.ensures) _ _
+    (λ files. IsTextOutcome files (g.S.Sink.written c.args.out.now) (g.S.Sink.written c.text_from.new.out) (g.S.Sink.has_failed c.text_from.new.out)) c.text_from.result c.text_from.ensures.outcome

@@ -1,5 +1,5 @@
 -- The goals of `take_all` that are answered by hand.
-use Rattle.std.proofs.Common.{subst, ◌++◌}
+use Rattle.std.proofs.Common.{subst, ◌++◌, ◌∙◌}
 use Rattle.std.proofs.lemmas.List.{take_all}
 use Rattle.std.proofs.lemmas.Result.{err_from_is_err_and}
 use Rattle.desk_replica.specs.SetOf.{IsSetOf}
@@ -19,6 +19,7 @@ loop-op-preserved c =
     let op = c.op-item.result in
     record {
       taken = λ before h. IsSetOf-next c.one_more_operation.ensures.holds before c.args.ops.now c.loop-op.op-index op s t c.loop-op-test.true c.op-item.is (c.loop-op.invariant.taken before h) (joins s op c.in_ok-take.field-0 c.in_ok-take.ensures.answer) c.in_ok-take.ensures.ok;
+      site = c.in_ok-take.ensures.site ∙ c.loop-op.invariant.site;
       limited = λ small. c.in_ok-take.ensures.limited;
     }
 

@@ -7,7 +7,7 @@ use Rattle.desk_files.specs.declared.run_fault.RunFault.TheVariants as run
 use Rattle.desk_files.specs.Readers.{IsUnreadFile, lacks_memory}
 use Rattle.desk_files.specs.Taking.{HasTaken, HasTakenBut}
 use Rattle.desk_files.proofs.AnyOrder.{but-more}
-use Rattle.desk_files.proofs.Feeding.{read_none, end_few, read_few, end_within, read_more, read_told, read_flawed, read_stopped, read_lost}
+use Rattle.desk_files.proofs.Feeding.{read_none, end_few, read_few, end_within, read_more, read_told, read_flawed, read_stopped, read_lost, read_asked, lost_asked}
 use Rattle.desk_files.proofs.HandedOn.{err_handed}
 use Rattle.desk_files.proofs.one_desk.take_file.Goals as goal
 
@@ -19,7 +19,7 @@ returns-in_err-feed_piece-clause-fault g c =
     let read = l.invariant.read in
     let failed = g.R.Source.has_failed c.get.new.self in
     let fault = c.in_err-feed_piece.field-0.0 in
-    err_handed (IsUnreadFile c.args.number start failed) c.from_residual-in_err-feed_piece.result fault c.from_residual-in_err-feed_piece.ensures.1
+    err_handed (IsUnreadFile c.args.number start (g.R.Source.remaining c.get.new.self) failed) c.from_residual-in_err-feed_piece.result fault c.from_residual-in_err-feed_piece.ensures.1
     (read_stopped start (g.R.Source.remaining l.reader) l.stream l.left ops read (g.R.Source.remaining c.get.new.self) (take c.in-Some.given c.get.new.piece) c.args.number failed fault c.in-Some.ensures.failed c.in-Some.ensures.given
     (c.in_err-feed_piece.ensures.fault read.bytes ops read.stands read.so))
 
@@ -33,19 +33,19 @@ returns-in_err-finish-clause-fault g c =
     let failed = g.R.Source.has_failed c.get.new.self in
     let fault = c.in_err-finish.field-0.0 in
     let nothing = ap (λ (n : ℕ). take n c.get.new.piece) c.if-given-eq0.true in
-    err_handed (IsUnreadFile c.args.number start failed) c.from_residual.result fault c.from_residual.ensures.1
+    err_handed (IsUnreadFile c.args.number start (g.R.Source.remaining c.get.new.self) failed) c.from_residual.result fault c.from_residual.ensures.1
     (read_flawed start now l.stream l.left ops read (g.R.Source.remaining c.get.new.self) (take c.in-Some.given c.get.new.piece) nothing c.in-Some.ensures.given (c.in-Some.ensures.end c.if-given-eq0.true) c.args.number failed fault c.in-Some.ensures.failed
     (c.in_err-finish.ensures.fault read.bytes ops read.stands (end_within start now l.stream l.left ops read)))
 
 pub returns-in_err-take_more-clause-fault : goal.returns-in_err-take_more-clause-fault
 returns-in_err-take_more-clause-fault g c =
     let failed = g.R.Source.has_failed c.get.new.self in
-    err_handed (IsUnreadFile c.args.number (g.R.Source.remaining c.args.reader.now) failed) c.from_residual-in_err-take_more.result run.Memory c.from_residual-in_err-take_more.ensures.1 (lacks_memory refl c.in-Some.ensures.failed)
+    err_handed (IsUnreadFile c.args.number (g.R.Source.remaining c.args.reader.now) (g.R.Source.remaining c.get.new.self) failed) c.from_residual-in_err-take_more.result run.Memory c.from_residual-in_err-take_more.ensures.1 (lacks_memory refl c.in-Some.ensures.failed)
 
 pub returns-in_err-take_unless_more_come-clause-fault : goal.returns-in_err-take_unless_more_come-clause-fault
 returns-in_err-take_unless_more_come-clause-fault g c =
     let failed = g.R.Source.has_failed c.get.new.self in
-    err_handed (IsUnreadFile c.args.number (g.R.Source.remaining c.args.reader.now) failed) c.from_residual-in_err-take_unless_more_come.result run.Memory c.from_residual-in_err-take_unless_more_come.ensures.1 (lacks_memory refl c.in-Some.ensures.failed)
+    err_handed (IsUnreadFile c.args.number (g.R.Source.remaining c.args.reader.now) (g.R.Source.remaining c.get.new.self) failed) c.from_residual-in_err-take_unless_more_come.result run.Memory c.from_residual-in_err-take_unless_more_come.ensures.1 (lacks_memory refl c.in-Some.ensures.failed)
 
 pub returns-then-given-eq0-clause-taken : goal.returns-then-given-eq0-clause-taken
 returns-then-given-eq0-clause-taken g c =
@@ -59,7 +59,7 @@ returns-then-given-eq0-clause-taken g c =
       ops,
       read_told start now l.stream l.left ops read (g.R.Source.remaining c.get.new.self) (take c.in-Some.given c.get.new.piece) nothing c.in-Some.ensures.given (c.in-Some.ensures.end c.if-given-eq0.true)
           (c.in_ok-finish.ensures.ok read.bytes ops read.stands (end_within start now l.stream l.left ops read)),
-      subst (λ (all : List OpView). HasTaken all c.take_more.new.desk.set c.take_more.new.refused) (ap (λ (w : List OpView). but.0 ++ w) c.deref_mut.ensures.value ∙ sym but.1) (c.in_ok-take_more.ensures but.0 but.2),
+      subst (λ (all : List OpView). HasTaken all c.take_more.new.desk.set c.take_more.new.refused) (ap (λ (w : List OpView). but.0 ++ w) c.deref_mut.ensures.value ∙ sym but.1) (c.in_ok-take_more.ensures.taken but.0 but.2),
     ))
 
 pub loop-given-init : goal.loop-given-init
@@ -68,6 +68,7 @@ loop-given-init g c =
       ops = [];
       read = read_none (g.R.Source.remaining c.args.reader.now) c.new-stream.result c.new-stream.ensures;
       taken = λ before h. (before, ap (λ (l : List OpView). before ++ l) (sym c.new-waiting.ensures.items), h);
+      site = refl;
       working = c.requires;
     }
 
@@ -89,8 +90,9 @@ loop-given-preserved g c =
       ops = all;
       read = read_more start (g.R.Source.remaining l.reader) l.stream l.left l.invariant.ops read (g.R.Source.remaining c.get.new.self) c.feed_piece.new.stream piece (l.left - c.in-Some.given) all c.in-Some.ensures.given part (fed.fed read.bytes l.invariant.ops read.stands read.so)
           (fed.sound read.bytes l.invariant.ops read.stands read.so);
-      taken = λ before h. c.in_ok-take_unless_more_come.ensures (before ++ all)
+      taken = λ before h. c.in_ok-take_unless_more_come.ensures.taken (before ++ all)
           (subst (λ (ops : List OpView). HasTakenBut more ops l.desk.set l.refused) (append_assoc before l.invariant.ops (added waiting more)) (but-more waiting more (before ++ l.invariant.ops) l.desk.set l.refused fed.grown (l.invariant.taken before h)));
+      site = c.in_ok-take_unless_more_come.ensures.site ∙ c.loop-given.invariant.site;
       working = c.in-Some.ensures.failed;
     }
 
@@ -108,4 +110,39 @@ feed_piece-requires g c =
 pub returns-clause-fault : goal.returns-clause-fault
 returns-clause-fault g c =
     let l = c.loop-given in
-    read_lost (g.R.Source.remaining c.args.reader.now) (g.R.Source.remaining l.reader) l.stream l.left l.invariant.ops l.invariant.read c.args.number _ c.in_default.ensures.failed
+    read_lost (g.R.Source.remaining c.args.reader.now) (g.R.Source.remaining l.reader) l.stream l.left l.invariant.ops l.invariant.read (g.R.Source.remaining c.get.new.self) c.args.number _ c.in_default.ensures.failed c.in_default.ensures.lost
+
+pub returns-clause-asked : goal.returns-clause-asked
+returns-clause-asked g c =
+    let l = c.loop-given in
+    lost_asked (g.R.Source.remaining c.args.reader.now) (g.R.Source.remaining l.reader) l.stream l.left l.invariant.ops l.invariant.read (g.R.Source.remaining c.get.new.self) c.in_default.ensures.lost
+
+pub returns-in_err-finish-clause-asked : goal.returns-in_err-finish-clause-asked
+returns-in_err-finish-clause-asked g c =
+    let l = c.loop-given in
+    let size = length-take c.in-Some.given c.get.new.piece in
+    read_asked (g.R.Source.remaining c.args.reader.now) (g.R.Source.remaining l.reader) l.stream l.left l.invariant.ops l.invariant.read (g.R.Source.remaining c.get.new.self) (take c.in-Some.given c.get.new.piece) c.in-Some.ensures.given (omega (arith, size))
+
+pub returns-in_err-take_more-clause-asked : goal.returns-in_err-take_more-clause-asked
+returns-in_err-take_more-clause-asked g c =
+    let l = c.loop-given in
+    let size = length-take c.in-Some.given c.get.new.piece in
+    read_asked (g.R.Source.remaining c.args.reader.now) (g.R.Source.remaining l.reader) l.stream l.left l.invariant.ops l.invariant.read (g.R.Source.remaining c.get.new.self) (take c.in-Some.given c.get.new.piece) c.in-Some.ensures.given (omega (arith, size))
+
+pub returns-in_err-feed_piece-clause-asked : goal.returns-in_err-feed_piece-clause-asked
+returns-in_err-feed_piece-clause-asked g c =
+    let l = c.loop-given in
+    let size = length-take c.in-Some.given c.get.new.piece in
+    read_asked (g.R.Source.remaining c.args.reader.now) (g.R.Source.remaining l.reader) l.stream l.left l.invariant.ops l.invariant.read (g.R.Source.remaining c.get.new.self) (take c.in-Some.given c.get.new.piece) c.in-Some.ensures.given (omega (arith, size))
+
+pub returns-in_err-take_unless_more_come-clause-asked : goal.returns-in_err-take_unless_more_come-clause-asked
+returns-in_err-take_unless_more_come-clause-asked g c =
+    let l = c.loop-given in
+    let size = length-take c.in-Some.given c.get.new.piece in
+    read_asked (g.R.Source.remaining c.args.reader.now) (g.R.Source.remaining l.reader) l.stream l.left l.invariant.ops l.invariant.read (g.R.Source.remaining c.get.new.self) (take c.in-Some.given c.get.new.piece) c.in-Some.ensures.given (omega (arith, size))
+
+pub returns-then-given-eq0-clause-asked : goal.returns-then-given-eq0-clause-asked
+returns-then-given-eq0-clause-asked g c =
+    let l = c.loop-given in
+    let size = length-take c.in-Some.given c.get.new.piece in
+    read_asked (g.R.Source.remaining c.args.reader.now) (g.R.Source.remaining l.reader) l.stream l.left l.invariant.ops l.invariant.read (g.R.Source.remaining c.get.new.self) (take c.in-Some.given c.get.new.piece) c.in-Some.ensures.given (omega (arith, size))

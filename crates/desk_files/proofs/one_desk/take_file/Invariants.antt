@@ -10,6 +10,7 @@ invariant-loop-given g l = record {
   ops : List OpView;
   read : IsReadTo (g.R.Source.remaining l.fn.reader) (g.R.Source.remaining l.reader) l.stream l.left ops;
   taken : (before : List OpView) → HasTaken before l.fn.desk.set l.fn.refused → HasTakenBut l.waiting.items (before ++ ops) l.desk.set l.refused;
+  site : l.desk.site ≡ l.fn.desk.site;
   working : g.R.Source.has_failed l.reader ≡ false;
 }
 

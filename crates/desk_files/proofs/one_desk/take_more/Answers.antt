@@ -7,18 +7,18 @@ use Rattle.desk_files.proofs.AnyOrder.{taken-reordered, refused-more}
 use Rattle.desk_files.proofs.Taking.{taken-refused, taken-more}
 use Rattle.desk_files.proofs.one_desk.take_more.Goals as goal
 
-pub returns-then-is_some : goal.returns-then-is_some
-returns-then-is_some c = λ before h. taken-refused before c.args.ops.now c.args.desk.now.set c.args.refused.now (sym c.is_some.ensures ∙ c.if-is_some.true) h
+pub returns-then-is_some-clause-taken : goal.returns-then-is_some-clause-taken
+returns-then-is_some-clause-taken c = λ before h. taken-refused before c.args.ops.now c.args.desk.now.set c.args.refused.now (sym c.is_some.ensures ∙ c.if-is_some.true) h
 
-pub returns-in-Ok : goal.returns-in-Ok
-returns-in-Ok c =
+pub returns-in-Ok-clause-taken : goal.returns-in-Ok-clause-taken
+returns-in-Ok-clause-taken c =
     let s = c.args.desk.now.set in
     let t = c.take_all.new.desk.set in
     λ before h. taken-more before c.args.ops.now s t c.args.refused.now (sym c.is_some.ensures ∙ c.if-is_some.false)
     (λ old. taken-reordered s before c.args.ops.now c.put_in_order.new.ops t c.put_in_order.ensures (c.in-Ok.ensures.ok before old)) c.in-Ok.ensures.limited h
 
-pub returns-in-Err : goal.returns-in-Err
-returns-in-Err c =
+pub returns-in-Err-clause-taken : goal.returns-in-Err-clause-taken
+returns-in-Err-clause-taken c =
     let growth = c.one_more_operation.ensures in
     let s = c.args.desk.now.set in
     let t = c.take_all.new.desk.set in

@@ -10,7 +10,7 @@ use Rattle.desk_files.proofs.Readings.{err_over, ok_over}
 use Rattle.desk_files.proofs.one_desk.text_with.Goals as goal
 
 pub returns-in_err-take_files-clause-fault : goal.returns-in_err-take_files-clause-fault
-returns-in_err-take_files-clause-fault g c = err_handed (EndsOver _ _ IsTakingCaused) c.from_residual.result c.in_err-take_files.field-0.0 c.from_residual.ensures.1 c.in_err-take_files.ensures.fault
+returns-in_err-take_files-clause-fault g c = err_handed (EndsOver _ _ _ IsTakingCaused) c.from_residual.result c.in_err-take_files.field-0.0 c.from_residual.ensures.1 c.in_err-take_files.ensures.fault
 
 pub returns-clause-ok : goal.returns-clause-ok
 returns-clause-ok g c =
@@ -20,4 +20,4 @@ returns-clause-ok g c =
 
 pub returns-clause-fault : goal.returns-clause-fault
 returns-clause-fault g c =
-    err_over _ _ (λ told. IsSetOfFiles told c.take_files.new.desk.set) IsTakingCaused c.text_of.result c.in_ok-take_files.ensures.ok (λ told of_files. text-unread told c.text_of.result c.text_of.ensures.fault)
+    err_over _ _ _ (λ told. IsSetOfFiles told c.take_files.new.desk.set) IsTakingCaused c.text_of.result c.in_ok-take_files.ensures.ok (λ told of_files. text-unread told c.text_of.result c.text_of.ensures.fault)

@@ -1,10 +1,15 @@
 -- The goals of `admit` that are answered by hand.
-use Rattle.std.proofs.Common.{◌≡◌, true, false, sym, ap, subst, ◌∙◌, arith, rules}
-use Rattle.bg_types.specs.OperationSet.{with_operation}
+use Rattle.std.proofs.Common.{◌≡◌, ◌+◌, inl, inr, refl, false, true, sym, ap, subst, ◌∙◌, arith, rules}
+use Rattle.std.specs.FinMap as map
+use Rattle.bg_types.specs.OperationSet.{OperationSet, with_operation}
 use Rattle.desk_replica.specs.Placement.{MayPlace, reaches_in, whole}
 use Rattle.desk_replica.specs.Reply.{IsAdmitted, IsTaken}
 use Rattle.desk_replica.proofs.FirstTurn.{held_within}
 use Rattle.desk_replica.proofs.Admitting.{settled_as, still_paid, target_there, whole_as, held_paid, held_new, held_settled, held_whole, waits_answer, hidden_settled, hidden_whole, may_reach, hides, on_err}
+use Rattle.bg_types.specs.declared.change.Change.TheVariants.{Cut}
+use Rattle.rga_tree.specs.TextOf.{visible_before}
+use Rattle.desk_replica.specs.Listening.{told_count, HasRoom}
+use Rattle.desk_replica.proofs.Tellings.{room_within, tells_nothing, tells_more, tells_whole, tells_hidden, one_told, still_visible, no_hiding}
 use Rattle.desk_replica.proofs.placing.admit.Goals as goal
 
 pub pay-requires-clause-few : goal.pay-requires-clause-few
@@ -17,8 +22,8 @@ pub returns-in_err-pay-clause-memory : goal.returns-in_err-pay-clause-memory
 returns-in_err-pay-clause-memory g c =
     let t = g.S.Sequence.content c.args.seq.now in
     let no : c.reaches.result ≡ false = search rules in
-    on_err c.from_residual.result _ (waits_answer t c.args.held.now c.args.op.now (record { well = g.met.S.Sequence.well_formed c.args.seq.now; tree = g.met.S.Sequence.is_tree c.args.seq.now; only = g.met.S.Sequence.only_placed c.args.seq.now })
-    c.requires.settled c.requires.admitted c.reaches.ensures.well_formed (sym c.reaches.ensures.value ∙ no)).1
+    on_err c.from_residual.result _ (inl (waits_answer t c.args.held.now c.args.op.now (record { well = g.met.S.Sequence.well_formed c.args.seq.now; tree = g.met.S.Sequence.is_tree c.args.seq.now; only = g.met.S.Sequence.only_placed c.args.seq.now })
+    c.requires.settled c.requires.admitted c.reaches.ensures.well_formed (sym c.reaches.ensures.value ∙ no)).1)
 
 pub keep_waiting-requires-clause-room : goal.keep_waiting-requires-clause-room
 keep_waiting-requires-clause-room g c = omega (arith, c.in_ok-pay.ensures.paid.held)
@@ -72,16 +77,16 @@ place_new-requires-clause-may g c =
 pub returns-in_ok-pay-in-Insert-clause-paid : goal.returns-in_ok-pay-in-Insert-clause-paid
 returns-in_ok-pay-in-Insert-clause-paid g c = c.place_new.ensures.paid c.pay-in-Insert.new.spare c.in_ok-pay-in-Insert.ensures.paid
 
-pub returns-in-Erase-clause-settled : goal.returns-in-Erase-clause-settled
-returns-in-Erase-clause-settled g c = hidden_settled (g.S.Sequence.content c.args.seq.now) (g.S.Sequence.content c.hide.new.self) c.args.held.now c.in-Erase.target c.hide.ensures.content c.requires.settled
+pub returns-in_ok-make_room-in-Erase-clause-settled : goal.returns-in_ok-make_room-in-Erase-clause-settled
+returns-in_ok-make_room-in-Erase-clause-settled g c = hidden_settled (g.S.Sequence.content c.args.seq.now) (g.S.Sequence.content c.hide.new.seq) c.args.held.now c.in-Erase.target c.hide.ensures.content c.requires.settled
 
-pub returns-in-Erase-clause-ok : goal.returns-in-Erase-clause-ok
-returns-in-Erase-clause-ok g c =
+pub returns-in_ok-make_room-in-Erase-clause-ok : goal.returns-in_ok-make_room-in-Erase-clause-ok
+returns-in_ok-make_room-in-Erase-clause-ok g c =
     let t = g.S.Sequence.content c.args.seq.now in
-    hidden_whole t (g.S.Sequence.content c.hide.new.self) c.args.held.now c.in-Erase.target c.hide.ensures.content ∙ ap (with_operation (whole t c.args.held.now)) c.in-Erase.ensures.value
+    hidden_whole t (g.S.Sequence.content c.hide.new.seq) c.args.held.now c.in-Erase.target c.hide.ensures.content ∙ ap (with_operation (whole t c.args.held.now)) c.in-Erase.ensures.value
 
-pub returns-in-Erase-clause-answer : goal.returns-in-Erase-clause-answer
-returns-in-Erase-clause-answer g c =
+pub returns-in_ok-make_room-in-Erase-clause-answer : goal.returns-in_ok-make_room-in-Erase-clause-answer
+returns-in_ok-make_room-in-Erase-clause-answer g c =
     let t = g.S.Sequence.content c.args.seq.now in
     let yes : c.reaches.result ≡ true = search rules in (
       c.requires.admitted,
@@ -102,8 +107,8 @@ place_new-requires-clause-admitted g c =
 pub place_new-requires-clause-room : goal.place_new-requires-clause-room
 place_new-requires-clause-room g c = omega (arith, c.in_ok-pay-in-Insert.ensures.paid.placed)
 
-pub hide-requires : goal.hide-requires
-hide-requires g c =
+pub hide-requires-clause-placed : goal.hide-requires-clause-placed
+hide-requires-clause-placed g c =
     let yes : c.reaches.result ≡ true = search rules in
     target_there (g.S.Sequence.content c.args.seq.now) c.in-Erase.target c.args.op.now c.in-Erase.ensures.value (sym c.reaches.ensures.value ∙ yes)
 
@@ -134,3 +139,81 @@ pub returns-in_err-pay-in-Insert-clause-paid : goal.returns-in_err-pay-in-Insert
 returns-in_err-pay-in-Insert-clause-paid g c =
     still_paid (g.S.Sequence.free c.args.seq.now) (g.S.Sequence.free c.pay-in-Insert.new.seq) c.args.held.now c.pay-in-Insert.new.held c.args.spare.now c.pay-in-Insert.new.spare
     c.pay-in-Insert.ensures.kept c.in_err-pay-in-Insert.ensures.err c.in_err-pay-in-Insert.ensures.same c.requires.paid
+
+pub hide-requires-clause-visible : goal.hide-requires-clause-visible
+hide-requires-clause-visible g c = still_visible (g.S.Sequence.content c.args.seq.now) c.args.held.now c.in-Erase.target c.args.op.now c.in-Erase.ensures.value c.requires.admitted
+
+-- ---- what is told
+
+pub returns-in_err-pay-clause-told : goal.returns-in_err-pay-clause-told
+returns-in_err-pay-clause-told g c =
+    let told = g.L.Listener.told c.args.listener.now in
+    tells_nothing (whole (g.S.Sequence.content c.args.seq.now) c.args.held.now) (whole (g.S.Sequence.content c.pay.new.seq) c.pay.new.held) told told
+    (whole_as (g.S.Sequence.content c.args.seq.now) (g.S.Sequence.content c.pay.new.seq) c.args.held.now c.pay.new.held c.pay.ensures.content c.pay.ensures.held) refl
+
+pub returns-then-not-reaches-clause-told : goal.returns-then-not-reaches-clause-told
+returns-then-not-reaches-clause-told g c =
+    let t = g.S.Sequence.content c.args.seq.now in
+    let u = g.S.Sequence.content c.pay.new.seq in
+    let told = g.L.Listener.told c.args.listener.now in
+    tells_whole t u c.args.held.now c.keep_waiting.new.held told told (record { well = g.met.S.Sequence.well_formed c.args.seq.now; tree = g.met.S.Sequence.is_tree c.args.seq.now; only = g.met.S.Sequence.only_placed c.args.seq.now }) c.requires.settled
+    (record { well = g.met.S.Sequence.well_formed c.pay.new.seq; tree = g.met.S.Sequence.is_tree c.pay.new.seq; only = g.met.S.Sequence.only_placed c.pay.new.seq }) (returns-then-not-reaches-clause-settled g c)
+    (tells_nothing t u told told c.pay.ensures.content refl)
+
+pub returns-in_err-pay-in-Insert-clause-told : goal.returns-in_err-pay-in-Insert-clause-told
+returns-in_err-pay-in-Insert-clause-told g c =
+    tells_nothing (whole (g.S.Sequence.content c.args.seq.now) c.args.held.now) (whole (g.S.Sequence.content c.pay-in-Insert.new.seq) c.pay-in-Insert.new.held)
+    (g.L.Listener.told c.args.listener.now) (g.L.Listener.told c.pay-in-Insert.new.listener) (whole_as (g.S.Sequence.content c.args.seq.now) (g.S.Sequence.content c.pay-in-Insert.new.seq) c.args.held.now c.pay-in-Insert.new.held c.pay-in-Insert.ensures.content c.pay-in-Insert.ensures.held) c.pay-in-Insert.ensures.told
+
+pub returns-in_err-pay-in-Insert-clause-memory : goal.returns-in_err-pay-in-Insert-clause-memory
+returns-in_err-pay-in-Insert-clause-memory g c =
+    on_err c.from_residual-in_err-pay-in-Insert.result _ (inl (no_hiding (whole (g.S.Sequence.content c.args.seq.now) c.args.held.now) c.in-Insert.id c.in-Insert.parent c.in-Insert.ch c.args.op.now c.in-Insert.ensures.value))
+
+pub returns-in_ok-pay-in-Insert-clause-told : goal.returns-in_ok-pay-in-Insert-clause-told
+returns-in_ok-pay-in-Insert-clause-told g c =
+    let s = whole (g.S.Sequence.content c.args.seq.now) c.args.held.now in
+    let r = whole (g.S.Sequence.content c.pay-in-Insert.new.seq) c.pay-in-Insert.new.held in
+    let a = g.L.Listener.told c.args.listener.now in
+    let b = g.L.Listener.told c.pay-in-Insert.new.listener in
+    tells_more s r (whole (g.S.Sequence.content c.place_new.new.seq) c.place_new.new.held) a b (g.L.Listener.told c.place_new.new.listener)
+    (tells_nothing s r a b (whole_as (g.S.Sequence.content c.args.seq.now) (g.S.Sequence.content c.pay-in-Insert.new.seq) c.args.held.now c.pay-in-Insert.new.held c.pay-in-Insert.ensures.content c.pay-in-Insert.ensures.held) c.pay-in-Insert.ensures.told) c.place_new.ensures.told
+
+pub returns-in_ok-pay-in-Insert-clause-few : goal.returns-in_ok-pay-in-Insert-clause-few
+returns-in_ok-pay-in-Insert-clause-few g c = omega (arith, c.place_new.ensures.few, ap told_count c.pay-in-Insert.ensures.told)
+
+pub place_new-requires-clause-told_room : goal.place_new-requires-clause-told_room
+place_new-requires-clause-told_room g c =
+    let same = ap (λ (s : OperationSet). map.len s.ins) c.pay-in-Insert.ensures.held in
+    room_within (g.L.Listener.room c.pay-in-Insert.new.listener) (map.len c.pay-in-Insert.new.held.held.ins + 1) (map.len c.args.held.now.held.ins + 1)
+    (omega (arith, same)) c.in_ok-pay-in-Insert.ensures.room
+
+pub returns-in_err-make_room-in-Erase-clause-told : goal.returns-in_err-make_room-in-Erase-clause-told
+returns-in_err-make_room-in-Erase-clause-told g c =
+    let s = whole (g.S.Sequence.content c.args.seq.now) c.args.held.now in
+    tells_nothing s s (g.L.Listener.told c.args.listener.now) (g.L.Listener.told c.make_room.new.self) refl c.make_room.ensures.told
+
+pub returns-in_ok-make_room-in-Erase-clause-told : goal.returns-in_ok-make_room-in-Erase-clause-told
+returns-in_ok-make_room-in-Erase-clause-told g c =
+    let t = g.S.Sequence.content c.args.seq.now in
+    let u = g.S.Sequence.content c.hide.new.seq in
+    let w = c.args.held.now in
+    let a = g.L.Listener.told c.args.listener.now in
+    let b = g.L.Listener.told c.make_room.new.self in
+    let told = g.L.Listener.told c.hide.new.listener in
+    let yes : c.reaches.result ≡ true = search rules in
+    tells_whole t u w w a told (record { well = g.met.S.Sequence.well_formed c.args.seq.now; tree = g.met.S.Sequence.is_tree c.args.seq.now; only = g.met.S.Sequence.only_placed c.args.seq.now }) c.requires.settled
+    (record { well = g.met.S.Sequence.well_formed c.hide.new.seq; tree = g.met.S.Sequence.is_tree c.hide.new.seq; only = g.met.S.Sequence.only_placed c.hide.new.seq }) (hidden_settled t u w c.in-Erase.target c.hide.ensures.content c.requires.settled)
+    (tells_more t t u a b told (tells_nothing t t a b refl c.make_room.ensures.told)
+    (tells_hidden t c.in-Erase.target u b told (record { well = g.met.S.Sequence.well_formed c.args.seq.now; tree = g.met.S.Sequence.is_tree c.args.seq.now; only = g.met.S.Sequence.only_placed c.args.seq.now }) (target_there t c.in-Erase.target c.args.op.now c.in-Erase.ensures.value (sym c.reaches.ensures.value ∙ yes))
+    (still_visible t w c.in-Erase.target c.args.op.now c.in-Erase.ensures.value c.requires.admitted) c.hide.ensures.content c.hide.ensures.told))
+
+pub returns-in_ok-make_room-in-Erase-clause-few : goal.returns-in_ok-make_room-in-Erase-clause-few
+returns-in_ok-make_room-in-Erase-clause-few g c =
+    let n = one_told false (Cut (visible_before (g.S.Sequence.content c.args.seq.now) c.in-Erase.target)) (g.L.Listener.told c.make_room.new.self) (g.L.Listener.told c.hide.new.listener) c.hide.ensures.told in
+    omega (arith, n, ap told_count c.make_room.ensures.told)
+
+pub make_room-requires : goal.make_room-requires
+make_room-requires g c = omega (arith, held_within (g.S.Sequence.content c.args.seq.now) c.args.held.now.held, c.requires.admitted.room)
+
+pub hide-requires-clause-room : goal.hide-requires-clause-room
+hide-requires-clause-room g c = room_within (g.L.Listener.room c.make_room.new.self) 1 (map.len c.args.held.now.held.ins + 1) (omega arith) c.in_ok-make_room-in-Erase.ensures.ok

@@ -38,6 +38,6 @@ replay_from-requires-clause-many g c =
 
 pub returns : goal.returns
 returns g c =
-    over_memory _ (bytes_of c.args.files.now) c.replay_from.new.files (ap (each (λ m. Some m.bytes.now)) c.deref_mut.ensures.value ∙ c.in_ok-readers.ensures) _
+    over_memory _ (bytes_of c.args.files.now) c.replay_from.new.files (ap (each (λ m. Some m.bytes.now)) c.deref_mut.ensures.value ∙ c.in_ok-readers.ensures) _ _
     (λ files. IsReplayOutcome (given c.args.ucd.now c.args.width c.args.base files (option_copied c.args.schedule)) (g.S.Sink.written c.args.out.now) (g.S.Sink.written c.replay_from.new.out) (g.S.Sink.has_failed c.replay_from.new.out))
-    c.replay_from.result c.replay_from.ensures
+    c.replay_from.result c.replay_from.ensures.outcome

@@ -1,36 +1,25 @@
 -- The goals of `file_at` that are answered by hand.
-use Rattle.std.proofs.Common.{List, ℕ, refl, sym, ap, subst, ◌∙◌}
+use Rattle.std.proofs.Common.{List, refl, subst, ◌∙◌}
 use Rattle.std.specs.Str.{chars}
 use Rattle.bg_types.specs.declared.op.OpView.{OpView}
 use Rattle.op_codec.specs.Spelling.{SpellsIn}
 use Rattle.desk_files.specs.declared.run_fault.RunFault.TheVariants.{Memory}
 use Rattle.desk_files.proofs.Interface.{err_handed}
 use Rattle.desk_typing.specs.declared.typing_fault.TypingFault.TheVariants.{Run}
-use Rattle.desk_typing.specs.Changing.{operations_of, Fits, IsUnfit}
+use Rattle.desk_typing.specs.Changing.{IsUnfit}
 use Rattle.desk_typing.proofs.engine.file_at.Goals as goal
-
-pub returns-in_err-typed-clause-fault : goal.returns-in_err-typed-clause-fault
-returns-in_err-typed-clause-fault c =
-    let unfit = IsUnfit c.args.desk.now.set c.args.change.now (chars c.args.text.now) in
-    err_handed unfit c.from_residual.result c.in_err-typed.field-0.0 c.from_residual.ensures.1 (subst unfit (sym c.in_err-typed.ensures.fault) refl)
 
 pub returns-in_err-ops-clause-fault : goal.returns-in_err-ops-clause-fault
 returns-in_err-ops-clause-fault c =
     let s = c.args.desk.now.set in
     let change = c.args.change.now in
     let fault = c.in_err-ops.field-0.0 in
-    err_handed (IsUnfit s change (chars c.args.text.now)) c.from_residual-in_err-ops.result fault c.from_residual-in_err-ops.ensures.1
-    (subst (λ (typed : List ℕ). IsUnfit s change typed fault) (c.as_slice.ensures.value ∙ c.in_ok-typed.ensures.ok) c.in_err-ops.ensures.fault)
+    err_handed (IsUnfit s change (chars c.args.text.now)) c.from_residual.result fault c.from_residual.ensures.1 c.in_err-ops.ensures.fault
 
 pub returns-in_err-file-clause-fault : goal.returns-in_err-file-clause-fault
 returns-in_err-file-clause-fault c = err_handed (IsUnfit c.args.desk.now.set c.args.change.now (chars c.args.text.now)) c.from_residual-in_err-file.result (Run Memory) c.from_residual-in_err-file.ensures.1 refl
 
-pub returns-clause-fits : goal.returns-clause-fits
-returns-clause-fits c = subst (Fits c.args.desk.now.set c.args.change.now) (c.as_slice.ensures.value ∙ c.in_ok-typed.ensures.ok) c.in_ok-ops.ensures.fits
-
 pub returns-clause-spelled : goal.returns-clause-spelled
 returns-clause-spelled c =
-    let s = c.args.desk.now.set in
-    let change = c.args.change.now in
-    let made = c.as_slice-2.ensures.value ∙ c.in_ok-ops.ensures.ok ∙ ap (operations_of s change) (c.as_slice.ensures.value ∙ c.in_ok-typed.ensures.ok) in
+    let made = c.as_slice.ensures.value ∙ c.in_ok-ops.ensures.ok in
     subst (λ (ops : List OpView). SpellsIn c.args.version c.in_ok-file.file.items ops) made c.in_ok-file.ensures.spelled

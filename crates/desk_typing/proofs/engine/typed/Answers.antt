@@ -9,15 +9,15 @@ use Rattle.desk_typing.specs.declared.typing_fault.TypingFault.TheVariants.{Run}
 use Rattle.desk_typing.specs.TypedOutcome.{IsTypedFile, WritesTyped, WritesTypedBeginning, IsTypedOutcome}
 use Rattle.desk_typing.proofs.engine.typed.Goals as goal
 
-pub returns-in_err-file : goal.returns-in_err-file
-returns-in_err-file g c =
+pub returns-in_err-file-clause-outcome : goal.returns-in_err-file-clause-outcome
+returns-in_err-file-clause-outcome g c =
     let old = g.S.Sink.written c.args.out.now in
     let failed = g.S.Sink.has_failed c.args.out.now in
-    answer_handed (IsTypedOutcome c.args.version _ _ c.args.change.now c.args.text.now old old failed) c.from_residual.result c.in_err-file.field-0.0 c.from_residual.ensures.1
+    answer_handed (IsTypedOutcome c.args.version _ _ _ c.args.change.now c.args.text.now old old failed) c.from_residual.result c.in_err-file.field-0.0 c.from_residual.ensures.1
     (inl (c.in_err-file.ensures.fault, (c.requires.working, Keeps-refl old)))
 
-pub returns-in_err-put_all : goal.returns-in_err-put_all
-returns-in_err-put_all g c =
+pub returns-in_err-put_all-clause-outcome : goal.returns-in_err-put_all-clause-outcome
+returns-in_err-put_all-clause-outcome g c =
     let old = g.S.Sink.written c.args.out.now in
     let new = g.S.Sink.written c.put_all.new.sink in
     let failed = g.S.Sink.has_failed c.put_all.new.sink in
@@ -25,7 +25,7 @@ returns-in_err-put_all g c =
     let change = c.args.change.now in
     let text = c.args.text.now in
     let file = c.in_ok-file.file.items in
-    answer_handed (IsTypedOutcome version _ _ change text old new failed) c.from_residual-in_err-put_all.result (Run Device) c.from_residual-in_err-put_all.ensures.1
+    answer_handed (IsTypedOutcome version _ _ _ change text old new failed) c.from_residual-in_err-put_all.result (Run Device) c.from_residual-in_err-put_all.ensures.1
     (inr (
       refl,
       c.in_err-put_all.ensures.failed,
@@ -33,8 +33,8 @@ returns-in_err-put_all g c =
           (λ files typed. record { file = file; is_typed = typed; written = subst (AppendsBeginning old new) c.as_slice.ensures.value c.in_err-put_all.ensures.err }) c.in_ok-file.ensures.ok,
     ))
 
-pub returns : goal.returns
-returns g c =
+pub returns-clause-outcome : goal.returns-clause-outcome
+returns-clause-outcome g c =
     let old = g.S.Sink.written c.args.out.now in
     let new = g.S.Sink.written c.put_all.new.sink in
     let version = c.args.version in

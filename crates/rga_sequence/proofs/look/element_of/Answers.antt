@@ -1,70 +1,50 @@
 -- The goals of `element_of` that are answered by hand.
-use Rattle.std.proofs.Common.{◌+◌, ◌∙◌, sym, ap, get_or, [], zero-add, arith}
-use Rattle.std.specs.Prelude.{slice_get}
-use Rattle.rga_sequence.proofs.Seen.{passed, found_here, some_there}
+use Rattle.std.proofs.Common.{◌≡◌, ◌<◌, ◌≤◌, ◌+◌, ◌-◌, ◌∙◌, ap, get_or, [], length, take, drop, length-drop, arith}
+use Rattle.rga_sequence.specs.Blocks.{seen}
+use Rattle.rga_sequence.proofs.Nth.{room_behind, seen-add, seen-next}
 use Rattle.rga_sequence.proofs.look.element_of.Goals as goal
 
-pub element-element-requires-clause-there : goal.element-element-requires-clause-there
-element-element-requires-clause-there g c = some_there (get_or (g.L.Look.blocks c.args.row.now) c.args.b []) (omega (arith, c.requires.there))
+pub overflow_add-end : goal.overflow_add-end
+overflow_add-end g c =
+    let l = c.loop-left in
+    let es = get_or (g.L.Look.blocks c.args.row.now) c.args.b [] in
+    omega (arith, room_behind es l.at l.left (omega (arith, l.invariant.before, c.requires.there, c.requires.visible)), c.min.ensures, c.requires.few)
 
-pub element-element-requires-clause-room : goal.element-element-requires-clause-room
-element-element-requires-clause-room g c = omega (arith, c.requires.room)
+-- the elements that are passed are there
+pub visible_in-left-requires-clause-there : goal.visible_in-left-requires-clause-there
+visible_in-left-requires-clause-there g c =
+    let l = c.loop-left in
+    let es = get_or (g.L.Look.blocks c.args.row.now) c.args.b [] in
+    let there : l.at + c.min.result ≤ length es = omega (arith, room_behind es l.at l.left (omega (arith, l.invariant.before, c.requires.there, c.requires.visible)), c.min.ensures) in
+    rw l.invariant.same there
 
-pub loop-element-init : goal.loop-element-init
-loop-element-init g c =
-    let call = c.element-element.ensures in
-    record { same = call.content; aside = call.aside; there = call.value; before = zero-add c.args.k; looks = omega (arith, call.looks) }
-
-pub loop-element-smaller : goal.loop-element-smaller
-loop-element-smaller g c =
-    let i = c.loop-element.invariant in
-    let step = passed (get_or (g.L.Look.blocks c.args.row.now) c.args.b []) c.loop-element.j c.loop-element.left c.args.k c.weight-left.result c.loop-element.element i.there i.before c.requires.there
-    c.weight-left.ensures (sym c.is_later.ensures ∙ c.loop-element-test.true) in
-    omega (arith, step.more)
+pub visible_in-left-requires-clause-room : goal.visible_in-left-requires-clause-room
+visible_in-left-requires-clause-room g c =
+    let l = c.loop-left in
+    let es = get_or (g.L.Look.blocks c.args.row.now) c.args.b [] in
+    omega (arith, l.invariant.looks, c.requires.room, c.requires.few, c.min.ensures, room_behind es l.at l.left (omega (arith, l.invariant.before, c.requires.there, c.requires.visible)))
 
 pub overflow_sub-left : goal.overflow_sub-left
 overflow_sub-left g c =
-    let i = c.loop-element.invariant in
-    (passed (get_or (g.L.Look.blocks c.args.row.now) c.args.b []) c.loop-element.j c.loop-element.left c.args.k c.weight-left.result c.loop-element.element i.there i.before c.requires.there
-    c.weight-left.ensures (sym c.is_later.ensures ∙ c.loop-element-test.true)).weighs
+    let l = c.loop-left in
+    let m = c.min.result in
+    let es = get_or (g.L.Look.blocks c.args.row.now) c.args.b [] in
+    let there : l.at + m < length es + 1 = omega (arith, room_behind es l.at l.left (omega (arith, l.invariant.before, c.requires.there, c.requires.visible)), c.min.ensures) in
+    let same : l.at + m - l.at ≡ m = omega arith in
+    let read = c.visible_in-left.ensures.value ∙ ap (λ n. seen (take n (drop l.at (get_or (g.L.Look.blocks l.row) c.args.b [])))) same ∙ ap (λ x. seen (take m (drop l.at (get_or x c.args.b [])))) l.invariant.same in
+    omega (arith, read, seen-next es l.at m (omega (arith, length-drop l.at es, there)), c.min.ensures)
 
-pub element-element-requires-in-loop-element-clause-there : goal.element-element-requires-in-loop-element-clause-there
-element-element-requires-in-loop-element-clause-there g c =
-    let i = c.loop-element.invariant in
-    rw i.same
-    (passed (get_or (g.L.Look.blocks c.args.row.now) c.args.b []) c.loop-element.j c.loop-element.left c.args.k c.weight-left.result c.loop-element.element i.there i.before c.requires.there
-    c.weight-left.ensures (sym c.is_later.ensures ∙ c.loop-element-test.true)).more
-
-pub element-element-requires-in-loop-element-clause-room : goal.element-element-requires-in-loop-element-clause-room
-element-element-requires-in-loop-element-clause-room g c =
-    let i = c.loop-element.invariant in
-    let step = passed (get_or (g.L.Look.blocks c.args.row.now) c.args.b []) c.loop-element.j c.loop-element.left c.args.k c.weight-left.result c.loop-element.element i.there i.before c.requires.there
-    c.weight-left.ensures (sym c.is_later.ensures ∙ c.loop-element-test.true) in
-    omega (arith, i.looks, c.requires.room, c.requires.few, step.more)
-
-pub loop-element-preserved : goal.loop-element-preserved
-loop-element-preserved g c =
-    let i = c.loop-element.invariant in
-    let step = passed (get_or (g.L.Look.blocks c.args.row.now) c.args.b []) c.loop-element.j c.loop-element.left c.args.k c.weight-left.result c.loop-element.element i.there i.before c.requires.there
-    c.weight-left.ensures (sym c.is_later.ensures ∙ c.loop-element-test.true) in
-    let call = c.element-element-in-loop-element.ensures in
+pub loop-left-preserved : goal.loop-left-preserved
+loop-left-preserved g c =
+    let l = c.loop-left in
+    let m = c.min.result in
+    let es = get_or (g.L.Look.blocks c.args.row.now) c.args.b [] in
+    let call = c.visible_in-left.ensures in
+    let same : l.at + m - l.at ≡ m = omega arith in
+    let read = call.value ∙ ap (λ n. seen (take n (drop l.at (get_or (g.L.Look.blocks l.row) c.args.b [])))) same ∙ ap (λ x. seen (take m (drop l.at (get_or x c.args.b [])))) l.invariant.same in
     record {
-      same = call.content ∙ i.same;
-      aside = call.aside ∙ i.aside;
-      there = ap (λ x. slice_get (get_or x c.args.b []) (c.loop-element.j + 1)) (sym i.same) ∙ call.value;
-      before = step.before;
-      looks = omega (arith, call.looks, i.looks);
-    }
-
-pub returns : goal.returns
-returns g c =
-    let i = c.loop-element.invariant in
-    let here = found_here c.loop-element.element.hidden c.loop-element.left (sym c.is_later.ensures ∙ c.loop-element-test.false) in
-    record {
-      there = i.there;
-      visible = here.0;
-      before = omega (arith, i.before, here.1);
-      looks = i.looks;
-      content = i.same;
-      aside = i.aside;
+      same = call.content ∙ l.invariant.same;
+      aside = call.aside ∙ l.invariant.aside;
+      before = omega (arith, l.invariant.before, read, seen-add es l.at m, overflow_sub-left g c);
+      looks = omega (arith, call.looks, l.invariant.looks);
     }

@@ -7,13 +7,16 @@ use Rattle.bg_types.specs.declared.op.OpView.TheVariants.{Erase}
 use Rattle.desk_replica.specs.Desk.{Desk}
 use Rattle.desk_replica.specs.Told.{deletions_in}
 use Rattle.desk_replica.specs.Merging.{with_operations}
+use Rattle.desk_replica.specs.Listening.{told_count}
+use Rattle.desk_replica.specs.Telling.{seen_count}
 use Rattle.desk_replica.proofs.Rows.{deletions-append, hidden_one, hidden_none}
 use Rattle.desk_replica.proofs.InTurn.{row_next, row_ended}
+use Rattle.desk_replica.proofs.Tellings.{tells_nothing, tells_more}
 use Rattle.desk_replica.proofs.replica.Replica.erase_row.Goals as goal
 use Rattle.desk_replica.proofs.replica.Replica.erase_row.Goals.{then-e+in_ok-take_deletion, else-e}
 
 pub loop-e-init : goal.loop-e-init
-loop-e-init g c = record { taken = refl; site = refl; spare = omega arith }
+loop-e-init g c = record { taken = refl; site = refl; spare = omega arith; told = (let s = c.args.self.now.set in let a = g.L.Listener.told c.args.listener.now in tells_nothing s s a a refl refl); seen = omega arith }
 
 pub returns-in_err-take_deletion-clause-fault : goal.returns-in_err-take_deletion-clause-fault
 returns-in_err-take_deletion-clause-fault g c =
@@ -37,11 +40,15 @@ loop-e-preserved g c =
         taken = next (ap (λ (d : Desk). d.set) w.self-is ∙ w.in_ok-take_deletion.ensures.ok ∙ ap (with_operations u) (ap (each Erase) (sym (hidden_one e w.if-e.true))));
         site = ap (λ (d : Desk). d.site) w.self-is ∙ w.in_ok-take_deletion.ensures.site ∙ c.loop-e.invariant.site;
         spare = omega (arith, ap (λ (d : Desk). size d.set) w.self-is, ap (λ (d : Desk). d.spare) w.self-is, w.take_deletion.ensures.spare, c.loop-e.invariant.spare);
+        told = tells_more c.args.self.now.set u v (g.L.Listener.told c.args.listener.now) (g.L.Listener.told c.loop-e.listener) (g.L.Listener.told c.if-e.listener) c.loop-e.invariant.told (rw (w.self-is, w.listener-is) w.take_deletion.ensures.told);
+        seen = omega (arith, ap (λ (d : Desk). seen_count d.set) w.self-is, ap (λ l. told_count (g.L.Listener.told l)) w.listener-is, w.take_deletion.ensures.seen, c.loop-e.invariant.seen);
       }
       | else-e w ↦ record {
         taken = next (ap (λ (d : Desk). d.set) w.self-is ∙ ap (with_operations u) (ap (each Erase) (sym (hidden_none e w.if-e.false))));
         site = ap (λ (d : Desk). d.site) w.self-is ∙ c.loop-e.invariant.site;
         spare = omega (arith, ap (λ (d : Desk). size d.set) w.self-is, ap (λ (d : Desk). d.spare) w.self-is, c.loop-e.invariant.spare);
+        told = rw (w.self-is, w.listener-is) c.loop-e.invariant.told;
+        seen = omega (arith, ap (λ (d : Desk). seen_count d.set) w.self-is, ap (λ l. told_count (g.L.Listener.told l)) w.listener-is, c.loop-e.invariant.seen);
       }
     ]
 
@@ -50,3 +57,15 @@ returns-in_err-take_deletion-clause-spare g c = omega (arith, c.take_deletion.en
 
 pub returns-clause-spare : goal.returns-clause-spare
 returns-clause-spare g c = c.loop-e.invariant.spare
+
+pub returns-in_err-take_deletion-clause-told : goal.returns-in_err-take_deletion-clause-told
+returns-in_err-take_deletion-clause-told g c = tells_more c.args.self.now.set c.loop-e.self.set c.take_deletion.new.self.set (g.L.Listener.told c.args.listener.now) (g.L.Listener.told c.loop-e.listener) (g.L.Listener.told c.take_deletion.new.listener) c.loop-e.invariant.told c.take_deletion.ensures.told
+
+pub returns-in_err-take_deletion-clause-seen : goal.returns-in_err-take_deletion-clause-seen
+returns-in_err-take_deletion-clause-seen g c = omega (arith, c.take_deletion.ensures.seen, c.loop-e.invariant.seen)
+
+pub returns-clause-told : goal.returns-clause-told
+returns-clause-told g c = c.loop-e.invariant.told
+
+pub returns-clause-seen : goal.returns-clause-seen
+returns-clause-seen g c = c.loop-e.invariant.seen

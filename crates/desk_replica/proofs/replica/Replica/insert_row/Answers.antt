@@ -5,7 +5,11 @@ use Rattle.desk_replica.specs.Desk.{Desk, insertion_of}
 use Rattle.desk_replica.specs.Told.{insertions_in}
 use Rattle.desk_replica.proofs.Rows.{insertions-append}
 use Rattle.desk_replica.proofs.InTurn.{row_ended, row_next, row_passed}
+use Rattle.desk_replica.proofs.Tellings.{tells_nothing, tells_more}
 use Rattle.desk_replica.proofs.replica.Replica.insert_row.Goals as goal
+
+pub loop-at-init : goal.loop-at-init
+loop-at-init g c = record { within = omega arith; taken = refl; site = refl; spare = omega arith; told = (let s = c.args.self.now.set in let a = g.L.Listener.told c.args.listener.now in tells_nothing s s a a refl refl); seen = omega arith }
 
 pub loop-at-preserved-then-known-gt0 : goal.loop-at-preserved-then-known-gt0
 loop-at-preserved-then-known-gt0 g c = record {
@@ -13,6 +17,8 @@ loop-at-preserved-then-known-gt0 g c = record {
   taken = row_passed insertions_in insertions-append c.args.self.now.set c.loop-at.self.set c.args.row.now c.loop-at.at c.known_in_front-known.result c.loop-at.invariant.taken c.known_in_front-known.ensures.known;
   site = c.loop-at.invariant.site;
   spare = c.loop-at.invariant.spare;
+  told = c.loop-at.invariant.told;
+  seen = c.loop-at.invariant.seen;
 }
 
 pub returns-in_err-take_at-clause-fault : goal.returns-in_err-take_at-clause-fault
@@ -31,4 +37,12 @@ loop-at-preserved g c = record {
   taken = row_next insertions_in insertions-append c.args.self.now.set c.loop-at.self.set c.args.row.now c.loop-at.at c.index-row-at.result c.loop-at-test.true c.index-row-at.is c.loop-at.invariant.taken c.take_at.new.self.set c.in_ok-take_at.ensures.ok;
   site = c.in_ok-take_at.ensures.site ∙ c.loop-at.invariant.site;
   spare = omega (arith, c.take_at.ensures.spare, c.loop-at.invariant.spare);
+  told = tells_more c.args.self.now.set c.loop-at.self.set c.take_at.new.self.set (g.L.Listener.told c.args.listener.now) (g.L.Listener.told c.loop-at.listener) (g.L.Listener.told c.take_at.new.listener) c.loop-at.invariant.told c.take_at.ensures.told;
+  seen = omega (arith, c.take_at.ensures.seen, c.loop-at.invariant.seen);
 }
+
+pub returns-in_err-take_at-clause-told : goal.returns-in_err-take_at-clause-told
+returns-in_err-take_at-clause-told g c = tells_more c.args.self.now.set c.loop-at.self.set c.take_at.new.self.set (g.L.Listener.told c.args.listener.now) (g.L.Listener.told c.loop-at.listener) (g.L.Listener.told c.take_at.new.listener) c.loop-at.invariant.told c.take_at.ensures.told
+
+pub returns-in_err-take_at-clause-seen : goal.returns-in_err-take_at-clause-seen
+returns-in_err-take_at-clause-seen g c = omega (arith, c.take_at.ensures.seen, c.loop-at.invariant.seen)

@@ -4,6 +4,8 @@ use Rattle.bg_types.specs.OperationSet.{size}
 use Rattle.desk_replica.specs.Told.{deletions_in}
 use Rattle.desk_replica.specs.Merging.{with_operations}
 use Rattle.desk_replica.proofs.InTurn.{joined}
+use Rattle.desk_replica.specs.Listening.{Tells, told_count}
+use Rattle.desk_replica.specs.Telling.{seen_count}
 use Rattle.desk_replica.proofs.replica.Replica.take_deletions.Given as goal
 
 abbrev pub invariant-loop-p : goal.invariant-loop-p
@@ -11,4 +13,6 @@ invariant-loop-p g l = record {
   taken : l.self.set ≡ with_operations l.fn.self.set (deletions_in (joined (take l.p (g.S.Sequence.parts l.seq))));
   site : l.self.site ≡ l.fn.self.site;
   spare : size l.fn.self.set + l.fn.self.spare ≤ size l.self.set + l.self.spare;
+  told : Tells l.fn.self.set l.self.set (g.L.Listener.told l.fn.listener) (g.L.Listener.told l.listener);
+  seen : told_count (g.L.Listener.told l.listener) + seen_count l.fn.self.set ≤ told_count (g.L.Listener.told l.fn.listener) + seen_count l.self.set;
 }

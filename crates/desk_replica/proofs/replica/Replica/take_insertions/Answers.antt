@@ -6,10 +6,11 @@ use Rattle.desk_replica.specs.Told.{insertions_in}
 use Rattle.desk_replica.proofs.Rows.{insertions-append}
 use Rattle.desk_replica.proofs.Disagreeing.{part_follows}
 use Rattle.desk_replica.proofs.InTurn.{part_next, part_stopped, parts_done}
+use Rattle.desk_replica.proofs.Tellings.{tells_nothing, tells_more}
 use Rattle.desk_replica.proofs.replica.Replica.take_insertions.Goals as goal
 
 pub loop-p-init : goal.loop-p-init
-loop-p-init g c = record { taken = refl; site = refl; spare = omega arith }
+loop-p-init g c = record { taken = refl; site = refl; spare = omega arith; told = (let s = c.args.self.now.set in let a = g.L.Listener.told c.args.listener.now in tells_nothing s s a a refl refl); seen = omega arith }
 
 pub returns-in_err-insert_row-clause-fault : goal.returns-in_err-insert_row-clause-fault
 returns-in_err-insert_row-clause-fault g c =
@@ -25,6 +26,8 @@ loop-p-preserved g c = record {
       c.in_ok-insert_row.ensures.ok;
   site = c.in_ok-insert_row.ensures.site ∙ c.loop-p.invariant.site;
   spare = omega (arith, c.insert_row.ensures.spare, c.loop-p.invariant.spare);
+  told = tells_more c.args.self.now.set c.loop-p.self.set c.insert_row.new.self.set (g.L.Listener.told c.args.listener.now) (g.L.Listener.told c.loop-p.listener) (g.L.Listener.told c.insert_row.new.listener) c.loop-p.invariant.told c.insert_row.ensures.told;
+  seen = omega (arith, c.insert_row.ensures.seen, c.loop-p.invariant.seen);
 }
 
 pub returns-clause-ok : goal.returns-clause-ok
@@ -43,3 +46,15 @@ returns-in_err-insert_row-clause-spare g c = omega (arith, c.insert_row.ensures.
 
 pub returns-clause-spare : goal.returns-clause-spare
 returns-clause-spare g c = c.loop-p.invariant.spare
+
+pub returns-in_err-insert_row-clause-told : goal.returns-in_err-insert_row-clause-told
+returns-in_err-insert_row-clause-told g c = tells_more c.args.self.now.set c.loop-p.self.set c.insert_row.new.self.set (g.L.Listener.told c.args.listener.now) (g.L.Listener.told c.loop-p.listener) (g.L.Listener.told c.insert_row.new.listener) c.loop-p.invariant.told c.insert_row.ensures.told
+
+pub returns-in_err-insert_row-clause-seen : goal.returns-in_err-insert_row-clause-seen
+returns-in_err-insert_row-clause-seen g c = omega (arith, c.insert_row.ensures.seen, c.loop-p.invariant.seen)
+
+pub returns-clause-told : goal.returns-clause-told
+returns-clause-told g c = c.loop-p.invariant.told
+
+pub returns-clause-seen : goal.returns-clause-seen
+returns-clause-seen g c = c.loop-p.invariant.seen

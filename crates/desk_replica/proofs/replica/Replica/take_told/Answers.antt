@@ -1,5 +1,5 @@
 -- The goals of `take_told` that are answered by hand.
-use Rattle.std.proofs.Common.{◌++◌, ap, subst, ◌∙◌}
+use Rattle.std.proofs.Common.{◌++◌, ap, subst, ◌∙◌, arith}
 use Rattle.std.proofs.lemmas.Result.{err_from_is_err_and, on_ok_weaker, IfErr-weaker}
 use Rattle.rga_tree.specs.Elements.{elements}
 use Rattle.desk_replica.specs.Placement.{waiting_in}
@@ -7,6 +7,7 @@ use Rattle.desk_replica.specs.Told.{insertions_in, deletions_in}
 use Rattle.desk_replica.specs.Merging.{IsStopped, with_operations}
 use Rattle.desk_replica.proofs.InTurn.{stopped_first, stopped_second, taken_both}
 use Rattle.desk_replica.proofs.Told.{told_is, told_once}
+use Rattle.desk_replica.proofs.Tellings.{tells_more}
 use Rattle.desk_replica.proofs.replica.Replica.take_told.Goals as goal
 
 pub returns-in_err-take_insertions-clause-fault : goal.returns-in_err-take_insertions-clause-fault
@@ -58,3 +59,18 @@ returns-in_err-take_deletions-clause-all g c = told_once (g.S.Sequence.content c
 
 pub returns-clause-all : goal.returns-clause-all
 returns-clause-all g c = told_once (g.S.Sequence.content c.other.inside.seq) c.other.inside.held c.other.inside.site c.other.inside.spare c.args.other.now (record { well = g.met.S.Sequence.well_formed c.other.inside.seq; tree = g.met.S.Sequence.is_tree c.other.inside.seq; only = g.met.S.Sequence.only_placed c.other.inside.seq }) c.other.invariant.settled c.other.view_is c.count_waiting-waiting.ensures.each_once
+
+pub returns-in_err-take_deletions-clause-told : goal.returns-in_err-take_deletions-clause-told
+returns-in_err-take_deletions-clause-told g c = tells_more c.args.self.now.set c.take_insertions.new.self.set c.take_deletions.new.self.set (g.L.Listener.told c.args.listener.now) (g.L.Listener.told c.take_insertions.new.listener) (g.L.Listener.told c.take_deletions.new.listener) c.take_insertions.ensures.told c.take_deletions.ensures.told
+
+pub returns-in_err-take_deletions-clause-seen : goal.returns-in_err-take_deletions-clause-seen
+returns-in_err-take_deletions-clause-seen g c = omega (arith, c.take_insertions.ensures.seen, c.take_deletions.ensures.seen)
+
+pub returns-clause-told : goal.returns-clause-told
+returns-clause-told g c =
+    tells_more c.args.self.now.set c.take_deletions.new.self.set c.take_waiting.new.self.set (g.L.Listener.told c.args.listener.now) (g.L.Listener.told c.take_deletions.new.listener) (g.L.Listener.told c.take_waiting.new.listener)
+    (tells_more c.args.self.now.set c.take_insertions.new.self.set c.take_deletions.new.self.set (g.L.Listener.told c.args.listener.now) (g.L.Listener.told c.take_insertions.new.listener) (g.L.Listener.told c.take_deletions.new.listener) c.take_insertions.ensures.told c.take_deletions.ensures.told)
+    c.take_waiting.ensures.told
+
+pub returns-clause-seen : goal.returns-clause-seen
+returns-clause-seen g c = omega (arith, c.take_insertions.ensures.seen, c.take_deletions.ensures.seen, c.take_waiting.ensures.seen)

@@ -1,5 +1,5 @@
 -- Each paragraph's key is used in turn.
-use Rattle.std.proofs.Common.{◌++◌, append-nil, refl, sym, ap, subst, ◌∙◌, arith}
+use Rattle.std.proofs.Common.{◌+◌, ◌++◌, append-nil, inl, inr, refl, sym, ap, subst, ◌∙◌, arith}
 use Rattle.cell_grid.specs.Grids.{IsDrawable}
 use Rattle.cell_grid.proofs.Interface.{take-whole, on_err}
 use Rattle.view_cache.proofs.Drawing.{so_far, laid_so_far, rows_so_far, so_far-begun, next-view, next-rows, counted-then, counted-else, most-then, most-else}
@@ -23,8 +23,19 @@ push_rows-requires-clause-para c = subst IsDrawable (sym c.para-item.is) (c.requ
 
 pub returns-in_err-push_rows-clause-begun : goal.returns-in_err-push_rows-clause-begun
 returns-in_err-push_rows-clause-begun c =
+    let before = c.args.self.now in
+    let items = c.args.paragraphs.now in
+    let i = c.loop-para.para-index in
+    let p = c.para-item.result in
+    let view = c.loop-para.invariant.view in
     on_err c.from_residual-in_err-push_rows.result
-    (c.loop-para.para-index, c.in_err-push_rows.ensures.err ∙ c.loop-para.invariant.view ∙ so_far-begun c.args.width c.args.base c.args.self.now c.loop-para.para-index c.args.paragraphs.now)
+    (elim c.in_err-push_rows.ensures.err [
+      | inl same ↦ (i, same ∙ view ∙ so_far-begun c.args.width c.args.base before i items)
+      | inr used ↦ (
+        i + 1,
+        next-view c.args.width c.args.base before items i p p c.loop-para-test.true c.para-item.is c.loop-para.self view _ used ∙ so_far-begun c.args.width c.args.base before (i + 1) items,
+      )
+    ])
 
 pub loop-para-preserved : goal.loop-para-preserved
 loop-para-preserved c =

@@ -1,51 +1,51 @@
--- A use that finds the key's rows, and one that doesn't.
-use Rattle.std.proofs.Common.{◌≤◌, ◌++◌, not, List, Vec, sym, ap, subst, ◌∙◌}
-use Rattle.std.specs.Global.{Global}
-use Rattle.cell_grid.specs.Rows.{DrawnRow}
-use Rattle.cell_grid.specs.Grids.{paragraph_rows}
-use Rattle.view_cache.specs.Keys.{ParagraphKey, paragraph_key}
-use Rattle.view_cache.specs.Uses.{is_kept}
+-- A use of the paragraph's key, and copies of the rows under it.
+use Rattle.std.proofs.Common.{◌++◌, map, inl, inr, sym, ap, subst, ◌∙◌}
+use Rattle.std.specs.List.{All}
+use Rattle.cell_grid.specs.Rows.{rows_of, shifted}
+use Rattle.cell_grid.specs.Shifting.{MayShiftRow}
+use Rattle.cell_grid.proofs.Interface.{on_err}
+use Rattle.view_cache.specs.Keys.{paragraph_key}
 use Rattle.view_cache.specs.Drawings.{KeptView}
-use Rattle.view_cache.proofs.Kept.{view_used}
+use Rattle.view_cache.proofs.Kept.{view_of, view-used, anew-seen}
 use Rattle.view_cache.proofs.view.View.push_rows.Goals as goal
 
-pub push_kept-requires-clause-key : goal.push_kept-requires-clause-key
-push_kept-requires-clause-key c = ap (λ (k : ParagraphKey). k.text) c.in_ok-key.ensures ∙ c.text.ensures
+pub push_shifted-requires-clause-may : goal.push_shifted-requires-clause-may
+push_shifted-requires-clause-may c =
+    let p = c.args.para.now in
+    let tables = c.self.inside.tables.now in
+    let key = paragraph_key p.text c.args.width c.args.base in
+    let rows = c.newest.ensures tables key (c.in_ok-laid.ensures.laid c.self.invariant) c.in_ok-laid.ensures.newest in
+    subst (All (MayShiftRow p.first_byte p.first_place)) (sym rows)
+    (c.rows_may_shift.ensures tables c.args.width c.args.base p.text c.requires.at_least c.requires.para.utf8 p.first_byte p.first_place c.requires.para.bytes c.requires.para.places)
 
-pub push_kept-requires-clause-at_least : goal.push_kept-requires-clause-at_least
-push_kept-requires-clause-at_least c = subst (λ (k : ParagraphKey). 2 ≤ k.width) (sym c.in_ok-key.ensures) c.requires.at_least
+pub returns-in_err-laid-clause-err : goal.returns-in_err-laid-clause-err
+returns-in_err-laid-clause-err c =
+    on_err c.from_residual.result (inl (ap (λ k. view_of c.self.inside.tables.now k c.self.inside.laid) c.in_err-laid.ensures.err ∙ c.self.view_is))
 
-pub push_laid-requires-clause-key : goal.push_laid-requires-clause-key
-push_laid-requires-clause-key c = c.in_ok-key.ensures ∙ ap (λ t. paragraph_key t c.args.width c.args.base) c.text.ensures
-
-pub returns-then-branch-clause-rows : goal.returns-then-branch-clause-rows
-returns-then-branch-clause-rows c =
-    c.in_ok-push_kept.ensures.found_rows c.if-branch.true
-    ∙ ap (λ (k : ParagraphKey). c.args.drawn.now.items ++ paragraph_rows c.args.self.now.tables k.width k.base c.args.para.now) c.in_ok-key.ensures
-
-pub returns-then-branch-clause-laid : goal.returns-then-branch-clause-laid
-returns-then-branch-clause-laid c =
-    let key = c.in_ok-key.ensures ∙ ap (λ t. paragraph_key t c.args.width c.args.base) c.text.ensures in
-    ap not (sym c.if-branch.true ∙ c.in_ok-push_kept.ensures.kept ∙ ap (λ k. is_kept k c.args.self.now.keys) key)
-
-pub returns-then-branch-clause-view : goal.returns-then-branch-clause-view
-returns-then-branch-clause-view c =
-    let key = c.in_ok-key.ensures ∙ ap (λ t. paragraph_key t c.args.width c.args.base) c.text.ensures in
-    c.in_ok-push_kept.ensures.found_view c.if-branch.true ∙ ap (λ k. view_used k c.args.self.now) key
+pub returns-in_err-push_shifted-clause-err : goal.returns-in_err-push_shifted-clause-err
+returns-in_err-push_shifted-clause-err c =
+    let inside = c.self.inside in
+    let key = paragraph_key c.args.para.now.text c.args.width c.args.base in
+    on_err c.from_residual-in_err-push_shifted.result
+    (inr (view-used inside.tables.now inside.kept c.keep.new.self inside.laid c.args.self.now c.self.view_is key c.in_ok-laid.laid c.in_ok-laid.ensures.use_ok))
 
 pub returns-clause-rows : goal.returns-clause-rows
 returns-clause-rows c =
-    let rows_at : KeptView → List DrawnRow = λ v. paragraph_rows v.tables c.args.width c.args.base c.args.para.now in
-    c.in_ok-push_laid.ensures.rows
-    ∙ ap (λ (d : Vec DrawnRow Global). d.items ++ rows_at c.push_kept.new.self) (c.in_ok-push_kept.ensures.absent_rows c.if-branch.false)
-    ∙ ap (λ v. c.args.drawn.now.items ++ rows_at v) (c.in_ok-push_kept.ensures.absent_view c.if-branch.false)
+    let p = c.args.para.now in
+    let tables = c.self.inside.tables.now in
+    let key = paragraph_key p.text c.args.width c.args.base in
+    let rows = c.newest.ensures tables key (c.in_ok-laid.ensures.laid c.self.invariant) c.in_ok-laid.ensures.newest in
+    c.in_ok-push_shifted.ensures
+    ∙ ap (λ l. c.args.drawn.now.items ++ map (shifted p.first_byte p.first_place) l) (rows ∙ ap (λ (v : KeptView). rows_of v.tables c.args.width c.args.base p.text) c.self.view_is)
 
 pub returns-clause-laid : goal.returns-clause-laid
 returns-clause-laid c =
-    let key = c.in_ok-key.ensures ∙ ap (λ t. paragraph_key t c.args.width c.args.base) c.text.ensures in
-    ap not (sym c.if-branch.false ∙ c.in_ok-push_kept.ensures.kept ∙ ap (λ k. is_kept k c.args.self.now.keys) key)
+    let inside = c.self.inside in
+    let key = paragraph_key c.args.para.now.text c.args.width c.args.base in
+    anew-seen inside.tables.now inside.kept c.keep.new.self inside.laid c.args.self.now c.self.view_is key c.in_ok-laid.laid c.in_ok-laid.ensures.use_ok
 
 pub returns-clause-view : goal.returns-clause-view
 returns-clause-view c =
+    let inside = c.self.inside in
     let key = paragraph_key c.args.para.now.text c.args.width c.args.base in
-    c.in_ok-push_laid.ensures.view ∙ ap (view_used key) (c.in_ok-push_kept.ensures.absent_view c.if-branch.false)
+    view-used inside.tables.now inside.kept c.keep.new.self inside.laid c.args.self.now c.self.view_is key c.in_ok-laid.laid c.in_ok-laid.ensures.use_ok

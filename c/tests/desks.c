@@ -1,0 +1,238 @@
+/* Desks: each call with right and wrong arguments. */
+#include "check.h"
+
+static bidigrid_desk made(uint16_t site)
+{
+    bidigrid_desk desk = BIDIGRID_NONE;
+    CHECK(bidigrid_desk_new(&desk, site, 0x0123456789ABCDEF, site) == BIDIGRID_OK);
+    return desk;
+}
+
+static bool has_text(bidigrid_desk *desk, const char *text)
+{
+    uint8_t out[64];
+    size_t size = 0, places = 0, wanted = 0;
+    CHECK(bidigrid_desk_text(desk, out, sizeof out, &size) == BIDIGRID_OK);
+    CHECK(bidigrid_desk_length(desk, &places) == BIDIGRID_OK);
+    for (const char *at = text; *at; at++)
+        wanted += ((unsigned char)*at & 0xC0) != 0x80;
+    return is_text(out, size, text) && places == wanted;
+}
+
+/* Typing and erasing, with the messages that say so, byte by byte. */
+static void tries_typing(void)
+{
+    static const uint8_t FIRST[BIDIGRID_TYPED_SIZE] = {'B', 'G', 'O', 'P', 1, 0, 17, 1, 0, 0, 0, 1,
+                                                       0,   3,   0,   0,   0, 0, 0,  0, 0, 0, 0, 'a'};
+    static const uint8_t SECOND[BIDIGRID_TYPED_SIZE] = {'B', 'G', 'O', 'P', 1, 0, 17, 1, 0, 0, 0,    2,
+                                                        0,   3,   0,   0,   0, 1, 0,  3, 0, 0, 0x05, 0xD0};
+    static const uint8_t GONE[BIDIGRID_ERASED_SIZE] = {'B', 'G', 'O', 'P', 1, 0, 7, 2, 0, 0, 0, 1, 0, 3};
+    bidigrid_desk desk = made(3);
+    uint8_t out[32];
+    size_t size = 0;
+    CHECK(has_text(&desk, ""));
+    memset(out, '?', sizeof out);
+    CHECK(bidigrid_desk_type(&desk, 0, 'a', out, BIDIGRID_TYPED_SIZE - 1, &size) == BIDIGRID_SHORT_BUFFER);
+    CHECK(size == BIDIGRID_TYPED_SIZE && out[0] == '?' && has_text(&desk, ""));
+    CHECK(bidigrid_desk_type(&desk, 0, 'a', NULL, 0, &size) == BIDIGRID_SHORT_BUFFER);
+    CHECK(bidigrid_desk_type(&desk, 1, 'a', out, sizeof out, &size) == BIDIGRID_BAD_PLACE);
+    CHECK(bidigrid_desk_type(&desk, SIZE_MAX, 'a', out, sizeof out, &size) == BIDIGRID_BAD_PLACE);
+    CHECK(bidigrid_desk_type(&desk, 0, 0xD800, out, sizeof out, &size) == BIDIGRID_BAD_CHARACTER);
+    CHECK(bidigrid_desk_type(&desk, 0, 0x110000, out, sizeof out, &size) == BIDIGRID_BAD_CHARACTER);
+    CHECK(has_text(&desk, "") && out[0] == '?');
+    CHECK(bidigrid_desk_type(&desk, 0, 'a', out, sizeof out, &size) == BIDIGRID_OK && has_text(&desk, "a"));
+    CHECK(size == sizeof FIRST && !memcmp(out, FIRST, size) && out[size] == '?');
+    CHECK(bidigrid_desk_type(&desk, 1, 0x5D0, out, sizeof out, &size) == BIDIGRID_OK && has_text(&desk, "a\u05D0"));
+    CHECK(size == sizeof SECOND && !memcmp(out, SECOND, size));
+    memset(out, '?', sizeof out);
+    CHECK(bidigrid_desk_erase(&desk, 2, out, sizeof out, &size) == BIDIGRID_BAD_PLACE);
+    CHECK(bidigrid_desk_erase(&desk, 0, out, BIDIGRID_ERASED_SIZE - 1, &size) == BIDIGRID_SHORT_BUFFER);
+    CHECK(size == BIDIGRID_ERASED_SIZE && out[0] == '?' && has_text(&desk, "a\u05D0"));
+    CHECK(bidigrid_desk_erase(&desk, 0, out, sizeof out, &size) == BIDIGRID_OK && has_text(&desk, "\u05D0"));
+    CHECK(size == sizeof GONE && !memcmp(out, GONE, size) && out[size] == '?');
+    bidigrid_desk_free(&desk);
+}
+
+static void tries_sites(void)
+{
+    bidigrid_desk desk = made(65535);
+    void *held = desk.held;
+    CHECK(bidigrid_desk_new(&desk, 0, 0, 0) == BIDIGRID_BAD_SITE && desk.held == held);
+    CHECK(bidigrid_desk_new(&desk, 1, 0, 0) == BIDIGRID_OK);
+    bidigrid_desk_free(&desk);
+    bidigrid_desk_free(&desk);
+    CHECK(!desk.held);
+}
+
+/* What a desk answers to a message. */
+static bool is_taken(bidigrid_desk *desk, const char *message, size_t length, uint32_t answer, size_t operations,
+                     size_t taken, size_t frame)
+{
+    bidigrid_taken told = {77, 77, 77};
+    uint32_t given = bidigrid_desk_take(desk, utf8(message), length, &told);
+    return given == answer && told.operations == operations && told.taken == taken && told.frame == frame;
+}
+
+#define HEADER "BGOP\x01"
+#define A_AT_1 "\x00\x11\x01\x00\x00\x00\x01\x00\x01\x00\x00\x00\x00\x00\x00\x00\x00\x00" "a"
+#define B_AFTER_A "\x00\x11\x01\x00\x00\x00\x02\x00\x01\x00\x00\x00\x01\x00\x01\x00\x00\x00" "b"
+#define C_IN_ITS_PLACE "\x00\x11\x01\x00\x00\x00\x01\x00\x01\x00\x00\x00\x00\x00\x00\x00\x00\x00" "c"
+#define TAKEN(desk, message, answer, operations, taken, frame) \
+    is_taken(desk, message, sizeof(message) - 1, answer, operations, taken, frame)
+
+static void tries_messages(void)
+{
+    bidigrid_desk desk = made(2);
+    CHECK(TAKEN(&desk, HEADER, BIDIGRID_OK, 0, 0, 0));
+    /* What comes early waits, and comes to its place. */
+    CHECK(TAKEN(&desk, HEADER B_AFTER_A, BIDIGRID_OK, 1, 1, 0) && has_text(&desk, ""));
+    CHECK(TAKEN(&desk, HEADER A_AT_1, BIDIGRID_OK, 1, 1, 0) && has_text(&desk, "ab"));
+    CHECK(TAKEN(&desk, HEADER A_AT_1 B_AFTER_A, BIDIGRID_OK, 2, 2, 0) && has_text(&desk, "ab"));
+    /* An identifier that is reused ends it there. */
+    CHECK(TAKEN(&desk, HEADER A_AT_1 C_IN_ITS_PLACE B_AFTER_A, BIDIGRID_IDENTIFIER_REUSED, 3, 1, 0));
+    CHECK(has_text(&desk, "ab"));
+    /* Faulty bytes are told with their frame, and nothing of them is taken. */
+    bidigrid_desk empty = made(3);
+    CHECK(is_taken(&empty, NULL, 0, BIDIGRID_TRUNCATED, 0, 0, 0));
+    CHECK(TAKEN(&empty, "BGOQ\x01", BIDIGRID_BAD_MAGIC, 0, 0, 0));
+    CHECK(TAKEN(&empty, "BGOP\x03", BIDIGRID_BAD_VERSION, 0, 0, 0));
+    CHECK(is_taken(&empty, HEADER A_AT_1 B_AFTER_A, 42, BIDIGRID_TRUNCATED, 0, 0, 2));
+    CHECK(TAKEN(&empty, HEADER A_AT_1 "\x00\x11\x04", BIDIGRID_UNKNOWN_KIND, 0, 0, 2));
+    CHECK(TAKEN(&empty, HEADER "\x00\x12\x01", BIDIGRID_BAD_LENGTH, 0, 0, 1));
+    CHECK(TAKEN(&empty, HEADER "\x00\x07\x02\x00\x00\x00\x00\x00\x01", BIDIGRID_ZERO_FIELD, 0, 0, 1));
+    CHECK(TAKEN(&empty, HEADER "\x00\x11\x01\x00\x00\x00\x01\x00\x01\x00\x00\x00\x02\x00\x02\x00\x00\x00" "a",
+                BIDIGRID_PARENT_NOT_BEFORE, 0, 0, 1));
+    CHECK(TAKEN(&empty, HEADER "\x00\x11\x01\x00\x00\x00\x01\x00\x01\x00\x00\x00\x00\x00\x00\x00\x11\x00\x00",
+                BIDIGRID_NOT_A_SCALAR, 0, 0, 1));
+    CHECK(has_text(&empty, ""));
+    /* A run of version 2. */
+    CHECK(TAKEN(&empty, "BGOP\x02\x00\x15\x03\x00\x00\x00\x01\x00\x01\x00\x00\x00\x00\x00\x00\x00\x00\x00" "a"
+                "\x00\x00\x00" "b", BIDIGRID_OK, 2, 2, 0) && has_text(&empty, "ab"));
+    bidigrid_desk_free(&desk);
+    bidigrid_desk_free(&empty);
+}
+
+static void tries_merging(void)
+{
+    bidigrid_desk one = made(1), other = made(2), none = BIDIGRID_NONE;
+    uint8_t out[BIDIGRID_TYPED_SIZE];
+    size_t size;
+    CHECK(bidigrid_desk_type(&one, 0, 'a', out, sizeof out, &size) == BIDIGRID_OK);
+    CHECK(bidigrid_desk_type(&other, 0, 'b', out, sizeof out, &size) == BIDIGRID_OK);
+    CHECK(bidigrid_desk_merge(&one, &other) == BIDIGRID_OK && has_text(&one, "ba") && has_text(&other, "b"));
+    CHECK(bidigrid_desk_merge(&other, &one) == BIDIGRID_OK && has_text(&other, "ba"));
+    CHECK(bidigrid_desk_merge(&none, &one) == BIDIGRID_EMPTY_HANDLE && has_text(&one, "ba"));
+    CHECK(bidigrid_desk_merge(&one, &none) == BIDIGRID_EMPTY_HANDLE && has_text(&one, "ba"));
+    bidigrid_desk clash = made(1);
+    CHECK(bidigrid_desk_type(&clash, 0, 'z', out, sizeof out, &size) == BIDIGRID_OK);
+    CHECK(bidigrid_desk_merge(&one, &clash) == BIDIGRID_IDENTIFIER_REUSED && has_text(&one, "ba"));
+    bidigrid_desk_free(&one);
+    bidigrid_desk_free(&other);
+    bidigrid_desk_free(&clash);
+}
+
+static void tries_identifiers(void)
+{
+    bidigrid_desk desk = made(9);
+    uint8_t out[BIDIGRID_TYPED_SIZE];
+    size_t size, place = 77;
+    for (uint32_t i = 0; i < 3; i++)
+        CHECK(bidigrid_desk_type(&desk, i, 'a' + i, out, sizeof out, &size) == BIDIGRID_OK);
+    bidigrid_id id = {5, 5};
+    CHECK(bidigrid_desk_id_at(&desk, 3, &id) == BIDIGRID_BAD_PLACE && id.counter == 5 && id.site == 5);
+    CHECK(bidigrid_desk_place_of(&desk, &id, &place) == BIDIGRID_NOT_PLACED && place == 77);
+    CHECK(bidigrid_desk_id_at(&desk, 2, &id) == BIDIGRID_OK && id.counter == 3 && id.site == 9);
+    CHECK(bidigrid_desk_erase(&desk, 0, out, sizeof out, &size) == BIDIGRID_OK);
+    CHECK(bidigrid_desk_place_of(&desk, &id, &place) == BIDIGRID_OK && place == 1);
+    CHECK(bidigrid_desk_erase(&desk, 1, out, sizeof out, &size) == BIDIGRID_OK);
+    CHECK(bidigrid_desk_place_of(&desk, &id, &place) == BIDIGRID_OK && place == 1);
+    id.counter = 0;
+    CHECK(bidigrid_desk_place_of(&desk, &id, &place) == BIDIGRID_BAD_IDENTIFIER);
+    id = (bidigrid_id){1, 0};
+    CHECK(bidigrid_desk_place_of(&desk, &id, &place) == BIDIGRID_BAD_IDENTIFIER && place == 1);
+    bidigrid_desk_free(&desk);
+}
+
+/* What a desk holds as one message: another desk that takes it is the same, with what waits and what was erased. */
+static void tries_saving(void)
+{
+    bidigrid_desk desk = made(4), newcomer = made(5), none = BIDIGRID_NONE;
+    uint8_t out[128], again[128];
+    size_t size, same;
+    bidigrid_taken told;
+    CHECK(bidigrid_desk_file(&desk, out, sizeof out, &size) == BIDIGRID_OK && is_text(out, size, "BGOP\x02"));
+    for (uint32_t i = 0; i < 5; i++)
+        CHECK(bidigrid_desk_type(&desk, i, 'a' + i, out, sizeof out, &size) == BIDIGRID_OK);
+    CHECK(bidigrid_desk_erase(&desk, 1, out, sizeof out, &size) == BIDIGRID_OK);
+    CHECK(TAKEN(&desk, HEADER B_AFTER_A, BIDIGRID_OK, 1, 1, 0) && has_text(&desk, "acde"));
+    CHECK(bidigrid_desk_file(&desk, NULL, 0, &size) == BIDIGRID_SHORT_BUFFER);
+    /* A run of five, a deletion, and the insertion that waits. */
+    CHECK(size == 5 + (19 + 4 * 4) + 9 + 19);
+    CHECK(bidigrid_desk_file(&desk, out, size, &size) == BIDIGRID_OK);
+    CHECK(bidigrid_desk_take(&newcomer, out, size, &told) == BIDIGRID_OK && told.operations == 7 && told.taken == 7);
+    CHECK(has_text(&newcomer, "acde"));
+    CHECK(bidigrid_desk_file(&newcomer, again, sizeof again, &same) == BIDIGRID_OK);
+    CHECK(same == size && !memcmp(out, again, size));
+    CHECK(TAKEN(&newcomer, HEADER A_AT_1, BIDIGRID_OK, 1, 1, 0) && has_text(&newcomer, "acdeab"));
+    CHECK(bidigrid_desk_file(&none, out, sizeof out, &size) == BIDIGRID_EMPTY_HANDLE);
+    bidigrid_desk_free(&desk);
+    bidigrid_desk_free(&newcomer);
+}
+
+static void tries_room(void)
+{
+    bidigrid_desk desk = made(1);
+    CHECK(bidigrid_desk_reserve(&desk, BIDIGRID_MOST_OPERATIONS + 1) == BIDIGRID_TOO_MANY);
+    CHECK(bidigrid_desk_reserve(&desk, SIZE_MAX) == BIDIGRID_TOO_MANY);
+    CHECK(bidigrid_desk_reserve(&desk, 0) == BIDIGRID_OK && bidigrid_desk_reserve(&desk, 100) == BIDIGRID_OK);
+    size_t size = 0;
+    CHECK(bidigrid_desk_text(&desk, NULL, 0, &size) == BIDIGRID_OK && size == 0);
+    uint8_t out[BIDIGRID_TYPED_SIZE];
+    CHECK(bidigrid_desk_type(&desk, 0, 0x1F44D, out, sizeof out, &size) == BIDIGRID_OK);
+    CHECK(bidigrid_desk_text(&desk, out, 3, &size) == BIDIGRID_SHORT_BUFFER && size == 4);
+    bidigrid_desk_free(&desk);
+}
+
+static void tries_the_last_counter(void)
+{
+    bidigrid_desk desk = made(1);
+    uint8_t out[BIDIGRID_TYPED_SIZE];
+    size_t size;
+    CHECK(TAKEN(&desk, HEADER "\x00\x11\x01\xFF\xFF\xFF\xFF\x00\x02\xFF\xFF\xFF\xFE\x00\x02\x00\x00\x00" "a",
+                BIDIGRID_OK, 1, 1, 0));
+    CHECK(bidigrid_desk_type(&desk, 0, 'z', out, sizeof out, &size) == BIDIGRID_COUNTER_SPENT && has_text(&desk, ""));
+    bidigrid_desk_free(&desk);
+}
+
+static void tries_empty_handles(void)
+{
+    bidigrid_desk none = BIDIGRID_NONE;
+    uint8_t out[32];
+    size_t size;
+    bidigrid_taken told;
+    bidigrid_id id = {1, 1};
+    CHECK(bidigrid_desk_type(&none, 0, 'a', out, sizeof out, &size) == BIDIGRID_EMPTY_HANDLE);
+    CHECK(bidigrid_desk_erase(&none, 0, out, sizeof out, &size) == BIDIGRID_EMPTY_HANDLE);
+    CHECK(bidigrid_desk_take(&none, utf8(HEADER), 5, &told) == BIDIGRID_EMPTY_HANDLE);
+    CHECK(bidigrid_desk_reserve(&none, 1) == BIDIGRID_EMPTY_HANDLE);
+    CHECK(bidigrid_desk_text(&none, out, sizeof out, &size) == BIDIGRID_EMPTY_HANDLE);
+    CHECK(bidigrid_desk_length(&none, &size) == BIDIGRID_EMPTY_HANDLE);
+    CHECK(bidigrid_desk_id_at(&none, 0, &id) == BIDIGRID_EMPTY_HANDLE);
+    CHECK(bidigrid_desk_place_of(&none, &id, &size) == BIDIGRID_EMPTY_HANDLE);
+    bidigrid_desk_free(&none);
+}
+
+int main(void)
+{
+    tries_typing();
+    tries_sites();
+    tries_messages();
+    tries_merging();
+    tries_identifiers();
+    tries_saving();
+    tries_room();
+    tries_the_last_counter();
+    tries_empty_handles();
+    puts("desks: as they have to be");
+    return 0;
+}

@@ -1,0 +1,20 @@
+//! Bytes that a call writes to a buffer of C.
+
+ghost use Rattle.std.specs.Prelude.{◌≡◌};
+ghost use Rattle.bidigrid_c.specs.Copying.{IsCopied};
+
+use crate::fault::{OK, SHORT_BUFFER};
+
+/// Copies bytes to the front of a buffer, if it has room for them, tells how many there are, and returns
+/// what the call answers.
+pub(crate) fn copy_out(bytes: &[u8], out: &mut [u8], size: &mut usize) -> u32
+    ensures { IsCopied bytes.now out.old out.new size.new result }
+{
+    let count = bytes.len();
+    *size = count;
+    if out.len() < count {
+        return SHORT_BUFFER;
+    }
+    out[..count].copy_from_slice(bytes);
+    OK
+}

@@ -1,0 +1,129 @@
+//! What the calls answer: 0, or the number of a fault.
+
+ghost use Rattle.std.specs.Prelude.{◌≡◌, ◌<◌};
+ghost use Rattle.bidigrid_c.specs.Faults.{data_number, message_number, take_number};
+
+use desk_replica::TakeFault;
+use op_codec::CodecFault;
+use ucd_files::UcdFault;
+
+/// It was done.
+pub const OK: u32 = 0;
+/// A growth was refused.
+pub const MEMORY: u32 = 9;
+/// A handle holds nothing.
+pub const EMPTY_HANDLE: u32 = 101;
+/// A buffer is shorter than what is to be written to it.
+pub const SHORT_BUFFER: u32 = 102;
+/// The bytes of a text are not UTF-8.
+pub const NOT_UTF8: u32 = 103;
+/// A text has more than 4,000,000 bytes.
+pub const TEXT_TOO_LONG: u32 = 104;
+/// A width is not 2 to 500.
+pub const BAD_WIDTH: u32 = 105;
+/// A base is neither 0, 1 nor 2.
+pub const BAD_BASE: u32 = 106;
+/// A place lies behind the text's end.
+pub const BAD_PLACE: u32 = 107;
+/// There is no such row.
+pub const BAD_ROW: u32 = 108;
+/// The row has no such entry.
+pub const BAD_ENTRY: u32 = 109;
+/// A caret's row or gap is none of the picture's.
+pub const BAD_CARET: u32 = 110;
+/// A character is above 10FFFF or a surrogate.
+pub const BAD_CHARACTER: u32 = 111;
+/// A site is 0.
+pub const BAD_SITE: u32 = 112;
+/// An identifier's counter or site is 0.
+pub const BAD_IDENTIFIER: u32 = 113;
+/// An identifier stands nowhere in the text's walk.
+pub const NOT_PLACED: u32 = 114;
+/// More than 1,000,000 operations are asked room for.
+pub const TOO_MANY: u32 = 115;
+/// An identifier is kept with another parent or character.
+pub const IDENTIFIER_REUSED: u32 = 201;
+/// 1,000,000 operations are kept.
+pub const FULL: u32 = 202;
+/// The next counter is above 4,294,967,295.
+pub const COUNTER_SPENT: u32 = 203;
+/// The first number of the faults of messages: their cause's is added.
+pub const MESSAGE: u32 = 300;
+/// The first number of the faults of data files: their cause's is added.
+pub const DATA: u32 = 400;
+
+/// The number of a data file's fault.
+pub(crate) fn data_number(fault: UcdFault) -> u32
+    ensures number { result ≡ data_number fault }
+    ensures some { 0 < result }
+{
+    match fault {
+        UcdFault::Memory => MEMORY,
+        UcdFault::At { cause, .. } => DATA + u32::from(cause.code()),
+    }
+}
+
+/// The number of a message's fault.
+pub(crate) fn message_number(fault: CodecFault) -> u32
+    ensures number { result ≡ message_number fault }
+    ensures some { 0 < result }
+{
+    match fault {
+        CodecFault::Memory => MEMORY,
+        CodecFault::Malformed { cause, .. } => MESSAGE + u32::from(cause.code()),
+    }
+}
+
+/// The number of why a desk took no operation.
+pub(crate) fn take_number(fault: TakeFault) -> u32
+    ensures number { result ≡ take_number fault }
+    ensures some { 0 < result }
+{
+    match fault {
+        TakeFault::IdentifierReused => IDENTIFIER_REUSED,
+        TakeFault::Full => FULL,
+        TakeFault::Memory => MEMORY,
+    }
+}
+
+/// The bare name of a fault, or that of no fault.
+pub(crate) fn name_of(number: u32) -> &'static str {
+    match number {
+        OK => "Ok",
+        MEMORY => "Memory",
+        EMPTY_HANDLE => "EmptyHandle",
+        SHORT_BUFFER => "ShortBuffer",
+        NOT_UTF8 => "NotUtf8",
+        TEXT_TOO_LONG => "TextTooLong",
+        BAD_WIDTH => "BadWidth",
+        BAD_BASE => "BadBase",
+        BAD_PLACE => "BadPlace",
+        BAD_ROW => "BadRow",
+        BAD_ENTRY => "BadEntry",
+        BAD_CARET => "BadCaret",
+        BAD_CHARACTER => "BadCharacter",
+        BAD_SITE => "BadSite",
+        BAD_IDENTIFIER => "BadIdentifier",
+        NOT_PLACED => "NotPlaced",
+        TOO_MANY => "TooMany",
+        IDENTIFIER_REUSED => "IdentifierReused",
+        FULL => "Full",
+        COUNTER_SPENT => "CounterSpent",
+        301 => "BadMagic",
+        302 => "BadVersion",
+        303 => "Truncated",
+        304 => "UnknownKind",
+        305 => "BadLength",
+        306 => "ZeroField",
+        307 => "ParentNotBefore",
+        308 => "NotAScalar",
+        310 => "CounterOverflow",
+        311 => "NotJoined",
+        401 => "BadUtf8",
+        402 => "BadCode",
+        403 => "BadRange",
+        404 => "MissingField",
+        405 => "UnknownValue",
+        _ => "Unknown",
+    }
+}

@@ -1,0 +1,20 @@
+//! The core for C (include/bidigrid.h): each export is one call of the core, and states its clauses again.
+#![tactic(auto)]
+
+mod about;
+mod copying;
+mod desk;
+mod desk_handle;
+mod fault;
+mod numbers;
+mod picture;
+mod picture_handle;
+mod tables;
+mod tables_handle;
+
+pub use about::{bidigrid_fault_name, bidigrid_version};
+pub use desk::Desk;
+pub use desk_handle::DeskHandle;
+pub use numbers::{CaretNumbers, DataFault, EntryNumbers, IdentifierNumbers, RowNumbers, Taken};
+pub use picture_handle::PictureHandle;
+pub use tables_handle::TablesHandle;

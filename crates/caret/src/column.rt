@@ -1,0 +1,19 @@
+//! The caret at a column of a row.
+
+ghost use Rattle.std.specs.Prelude.{◌≡◌, ◌<◌, length};
+ghost use Rattle.caret.specs.Gaps.{IsCaretOf};
+ghost use Rattle.caret.specs.Moves.{caret_under};
+
+use crate::caret::Caret;
+use crate::gaps::caret_by;
+use cell_grid::Grid;
+
+/// The caret where a mouse points: in the row with this number at the last gap whose column isn't
+/// greater than `column`, else at its gap 0, as `up` and `down` come to a row.
+pub fn at_column(grid: &Grid, row: usize, column: usize) -> Caret
+    requires { row < length grid.now.rows }
+    ensures caret { result ≡ caret_under grid.now.rows row column }
+    ensures within { IsCaretOf grid.now.rows result }
+{
+    caret_by(&grid.rows()[row], row, column)
+}

@@ -1,0 +1,52 @@
+-- What a desk makes where a number of characters are typed or erased at once.
+use Rattle.std.specs.Prelude.{◌+◌, ◌-◌, ◌<◌, ◌≤◌, ◌^◌, ℕ, List, [], ◌∷◌, take, drop, map as each}
+use Rattle.bg_types.specs.Identifier.{Identifier}
+use Rattle.bg_types.specs.OperationSet.{OperationSet, next, size}
+use Rattle.bg_types.specs.declared.op.Place.{Place}
+use Rattle.bg_types.specs.declared.op.Place.TheVariants.{After}
+use Rattle.bg_types.specs.declared.op.OpView.{OpView}
+use Rattle.bg_types.specs.declared.op.OpView.TheVariants.{Insert, Erase}
+use Rattle.rga_tree.specs.TextOf.{visible_ids}
+use Rattle.desk_replica.specs.Typing.{parent_at}
+use Rattle.desk_replica.specs.declared.answer.TypeFault.{TypeFault}
+use Rattle.desk_replica.specs.declared.answer.TypeFault.TheVariants.{CounterSpent, Full, Memory}
+
+-- the identifier that a desk of this site that keeps S gives to what it types next
+abbrev pub next_id : OperationSet → ℕ → Identifier
+next_id s site = record { counter = next s; site = site }
+
+-- and the one that it gives after that
+abbrev pub id_after : Identifier → Identifier
+id_after id = record { counter = id.counter + 1; site = id.site }
+
+-- the insertions of characters: the first one after a parent, each further one after the one before
+abbrev pub insertions : Identifier → Place → List ℕ → List OpView
+insertions id parent [] = []
+insertions id parent (ch ∷ chs) = Insert id parent ch ∷ insertions (id_after id) (After id) chs
+
+-- what a desk of this site that keeps S makes where characters are typed from a place on
+abbrev pub typed_text : OperationSet → (site place : ℕ) → List ℕ → List OpView
+typed_text s site place chs = insertions (next_id s site) (parent_at (visible_ids s) place) chs
+
+-- the deletions of a number of visible characters from a place on
+abbrev pub deletions : OperationSet → (place count : ℕ) → List OpView
+deletions s place count = each Erase (take count (drop place (visible_ids s)))
+
+-- a desk that keeps S does not type n characters: fewer counters are left, or else more than 1,000,000 operations would
+-- be kept. Lack of memory is of no characters
+abbrev pub IsTextRefusal : OperationSet → ℕ → TypeFault → Type 0
+IsTextRefusal s n CounterSpent = 2 ^ 32 - next s < n
+IsTextRefusal s n Full = (n ≤ 2 ^ 32 - next s) × (1_000_000 < size s + n)
+IsTextRefusal s n Memory = ⊥
+
+-- the faults: those refusals, and lack of memory
+abbrev pub IsTextRefused : OperationSet → ℕ → TypeFault → Type 0
+IsTextRefused s n CounterSpent = IsTextRefusal s n CounterSpent
+IsTextRefused s n Full = IsTextRefusal s n Full
+IsTextRefused s n Memory = (n ≤ 2 ^ 32 - next s) × (size s + n ≤ 1_000_000)
+
+-- why a desk that keeps S does not erase n characters
+abbrev pub IsRangeRefused : OperationSet → ℕ → TypeFault → Type 0
+IsRangeRefused s n CounterSpent = ⊥
+IsRangeRefused s n Full = 1_000_000 < size s + n
+IsRangeRefused s n Memory = size s + n ≤ 1_000_000

@@ -1,0 +1,239 @@
+//! What no clause says: that memory suffices to type and to erase a number of characters at once, and which texts and
+//! operations come out.
+//!
+//! A refused growth must leave desk and list as they were, and the call is made again: so each test
+//! also passes with any one allocation refused (`rt try --test --fail-alloc N`).
+
+ghost use Rattle.std.specs.Prelude.{◌<◌};
+
+use crate::ops::{OpRow, op};
+use crate::rows::{Row, assert_rows};
+use OpRow::{Erase, Insert};
+use bg_types::{Memory, Op};
+use desk_replica::{Replica, TypeFault};
+use rga_sequence::Blocks;
+use rga_tree::{Fresh, Plain};
+use std::alloc::Global;
+
+/// The text of a desk and what it told.
+#[derive(Drop)]
+struct Writer<S: Fresh> {
+    desk: Replica<S>,
+    made: Vec<Op>,
+}
+
+impl<S: Fresh> Writer<S> {
+    fn shows(&self, text: &str, made: usize) -> Result<bool, Memory> {
+        Ok(self.desk.text()?.as_str() == text && self.made.len() == made)
+    }
+
+    /// Types characters at a place, or at the end of a shorter text.
+    fn types(&mut self, place: usize, characters: &str) -> Result<(), TypeFault> {
+        let place = place.min(self.desk.len());
+        self.desk.type_text(place, characters, &mut self.made)
+    }
+
+    /// Erases from one place up to another, as far as the text goes.
+    fn erases(&mut self, from: usize, to: usize) -> Result<(), TypeFault> {
+        let to = to.min(self.desk.len());
+        let from = from.min(to);
+        self.desk.erase_range(from, to, &mut self.made)
+    }
+
+    /// Makes a change. After lack of memory text and list must be as they were.
+    fn makes(&mut self, edit: Edit) -> Result<Result<(), TypeFault>, Memory> {
+        let text = self.desk.text()?;
+        let made = self.made.len();
+        let answer = self.tries(edit);
+        if answer != Err(TypeFault::Memory) {
+            return Ok(answer);
+        }
+        match self.shows(text.as_str(), made)? {
+            true => Err(Memory),
+            false => Ok(answer),
+        }
+    }
+
+    fn tries(&mut self, edit: Edit) -> Result<(), TypeFault> {
+        match edit {
+            Edit::Types(place, characters) => self.types(place, characters),
+            Edit::Erases(from, to) => self.erases(from, to),
+            Edit::Holds(row) => self.holds(row),
+        }
+    }
+
+    fn holds(&mut self, row: OpRow) -> Result<(), TypeFault> {
+        match op(row) {
+            Some(op) if self.desk.take(&op).is_ok() => Ok(()),
+            _ => Err(TypeFault::Memory),
+        }
+    }
+}
+
+/// What is done at a desk.
+#[derive(Clone, Copy)]
+enum Edit {
+    Types(usize, &'static str),
+    Erases(usize, usize),
+    /// An operation of another site is taken.
+    Holds(OpRow),
+}
+
+/// Edits with their answers, the text then, and the operations that were told.
+type Case = (
+    &'static [(Edit, Result<(), TypeFault>)],
+    &'static str,
+    &'static [OpRow],
+);
+
+impl Row for Case {
+    fn comes_out(&self, alloc: Global) -> Result<bool, Memory> {
+        Ok(comes_out::<Blocks>(alloc, self)? && comes_out::<Plain>(alloc, self)?)
+    }
+}
+
+fn fresh_writer<S: Fresh>(alloc: Global) -> Writer<S> {
+    Writer {
+        desk: Replica::new(alloc, 1, S::fresh(alloc, 7), 7),
+        made: Vec::new(alloc),
+    }
+}
+
+fn comes_out<S: Fresh>(alloc: Global, case: &Case) -> Result<bool, Memory> {
+    let mut writer: Writer<S> = fresh_writer(alloc);
+    let (edits, text, told) = *case;
+    let mut right = true;
+    for (edit, answer) in edits {
+        right = writer.makes(*edit)? == *answer && right;
+    }
+    Ok(right && writer.shows(text, told.len())? && tells(&writer.made, told))
+}
+
+/// Whether these are the operations of the rows.
+fn tells(made: &[Op], told: &[OpRow]) -> bool {
+    let mut right = made.len() == told.len();
+    for (made, row) in made.iter().zip(told) {
+        right = op(*row) == Some(*made) && right;
+    }
+    right
+}
+
+const OK: Result<(), TypeFault> = Ok(());
+
+const SPENT: Result<(), TypeFault> = Err(TypeFault::CounterSpent);
+
+/// `abc`, each behind the one before.
+const A: OpRow = Insert((1, 1), (0, 0), 'a');
+
+const B: OpRow = Insert((2, 1), (1, 1), 'b');
+
+const C: OpRow = Insert((3, 1), (2, 1), 'c');
+
+const CASES: [Case; 7] = [
+    (&[(Edit::Types(0, "abc"), OK)], "abc", &[A, B, C]),
+    (
+        &[(Edit::Types(0, ""), OK), (Edit::Erases(0, 0), OK)],
+        "",
+        &[],
+    ),
+    // In the middle, behind the visible one there.
+    (
+        &[
+            (Edit::Types(0, "ad"), OK),
+            (Edit::Types(1, "\u{5D0}\u{1F600}"), OK),
+        ],
+        "a\u{5D0}\u{1F600}d",
+        &[
+            Insert((1, 1), (0, 0), 'a'),
+            Insert((2, 1), (1, 1), 'd'),
+            Insert((3, 1), (1, 1), '\u{5D0}'),
+            Insert((4, 1), (3, 1), '\u{1F600}'),
+        ],
+    ),
+    // What is erased in the middle, and typed in its place.
+    (
+        &[
+            (Edit::Types(0, "abc"), OK),
+            (Edit::Erases(1, 3), OK),
+            (Edit::Types(1, "x"), OK),
+        ],
+        "ax",
+        &[
+            A,
+            B,
+            C,
+            Erase((2, 1)),
+            Erase((3, 1)),
+            Insert((4, 1), (1, 1), 'x'),
+        ],
+    ),
+    // Over what is hidden already.
+    (
+        &[
+            (Edit::Types(0, "abc"), OK),
+            (Edit::Erases(1, 2), OK),
+            (Edit::Erases(0, 2), OK),
+        ],
+        "",
+        &[A, B, C, Erase((2, 1)), Erase((1, 1)), Erase((3, 1))],
+    ),
+    // Two counters are left for three characters, and then for two.
+    (
+        &[
+            (Edit::Holds(Erase((4_294_967_293, 2))), OK),
+            (Edit::Types(0, "abc"), SPENT),
+            (Edit::Types(0, "ab"), OK),
+            (Edit::Types(0, "a"), SPENT),
+            (Edit::Types(0, ""), OK),
+        ],
+        "ab",
+        &[
+            Insert((4_294_967_294, 1), (0, 0), 'a'),
+            Insert((4_294_967_295, 1), (4_294_967_294, 1), 'b'),
+        ],
+    ),
+    // What was typed at another site.
+    (
+        &[
+            (Edit::Holds(Insert((1, 2), (0, 0), 'x')), OK),
+            (Edit::Types(1, "ab"), OK),
+        ],
+        "xab",
+        &[Insert((2, 1), (1, 2), 'a'), Insert((3, 1), (2, 1), 'b')],
+    ),
+];
+
+#[test]
+fn stretches_are_typed_and_erased(rt: HostRuntime) {
+    assert_rows(&rt, &CASES);
+}
+
+/// Whether a desk that paid for four types four at the first try, into a list with room.
+fn types_paid<S: Fresh>(alloc: Global) -> Result<bool, Memory> {
+    let mut writer: Writer<S> = fresh_writer(alloc);
+    writer.made.reserve(6)?;
+    writer.desk.reserve(4)?;
+    let typed = writer.types(0, "abcd");
+    let erased = writer.erases(1, 3);
+    Ok(typed == OK && erased == OK && writer.shows("ad", 6)? && writer.desk.spare() == 0)
+}
+
+/// Which sequence is tried.
+enum Paid {
+    OverBlocks,
+    OverPlain,
+}
+
+impl Row for Paid {
+    fn comes_out(&self, alloc: Global) -> Result<bool, Memory> {
+        match self {
+            Paid::OverBlocks => types_paid::<Blocks>(alloc),
+            Paid::OverPlain => types_paid::<Plain>(alloc),
+        }
+    }
+}
+
+#[test]
+fn a_stretch_that_is_paid_for_takes_no_memory(rt: HostRuntime) {
+    assert_rows(&rt, &[Paid::OverBlocks, Paid::OverPlain]);
+}

@@ -1,0 +1,235 @@
+//! A picture of a text.
+
+ghost use Rattle.std.specs.Prelude.{◌≡◌, ◌<◌, ◌≤◌, length, IfOk};
+ghost use Rattle.std.specs.Bool.{OnTrue, OnFalse};
+ghost use Rattle.std.specs.Str.{chars};
+ghost use Rattle.cell_grid.specs.Grids.{grid_of, IsDrawn};
+ghost use Rattle.cell_grid.specs.Print.{printed, printed_row};
+ghost use Rattle.caret.specs.Gaps.{IsCaretOf};
+ghost use Rattle.caret.specs.Moves.{right_of, left_of, up_of, down_of, caret_under};
+ghost use Rattle.caret.specs.Places.{caret_at};
+
+use crate::in_memory::InMemory;
+use crate::shared_tables::SharedTables;
+use bg_types::{Base, Memory};
+use caret::{Caret, at_column, at_place, down, left, right, up};
+use cell_grid::laws::rows_follow;
+use cell_grid::{Grid, Row, draw, print, print_row_at};
+use std::alloc::Global;
+use std::marker::Model;
+use std::mem;
+use unicode_tables::Tables;
+
+/// A text as it is drawn, with the tables and the text of its own. Clauses see it as its grid.
+///
+/// Its calls make the grid of the rows that it keeps, which takes no memory, and keep the rows again;
+/// so those that need a grid ask for a `&mut`, and change nothing.
+#[derive(Drop)]
+pub struct Picture {
+    alloc: Global,
+    tables: SharedTables,
+    text: String,
+    rows: Vec<Row>,
+}
+
+impl Model for Picture {
+    ghost use Rattle.std.specs.Prelude.{string_bytes};
+    ghost use Rattle.cell_grid.specs.Grids.{DrawnGrid, IsDrawn};
+
+    ghost Value = { DrawnGrid };
+
+    ghost view = { λ p. record { tables = p.tables; text = string_bytes p.text; rows = p.rows.items } };
+
+    ghost invariant = { λ p. IsDrawn (record { tables = p.tables; text = string_bytes p.text; rows = p.rows.items }) };
+}
+
+impl Picture {
+    /// Draws a text, of which it keeps a copy, as `cell_grid::draw` does.
+    pub fn draw(
+        alloc: Global,
+        tables: &SharedTables,
+        width: u16,
+        base: Base,
+        text: &str,
+    ) -> Result<Picture, Memory>
+        requires at_least { 2 ≤ width }
+        requires at_most { width ≤ 500 }
+        requires size { length text.now ≤ 4_000_000 }
+        ensures { IfOk result (λ picture. picture ≡ grid_of tables.now width base text.now) }
+    {
+        let tables = tables.share()?;
+        let text = String::from_str(alloc, text)?;
+        let rows = draw(alloc, tables.tables(), width, base, text.as_str())?.into_rows();
+        Ok(Picture {
+            alloc,
+            tables,
+            text,
+            rows,
+        })
+    }
+
+    /// Its tables.
+    #[inline]
+    pub fn tables(&self) -> &Tables
+        ensures { result.now ≡ self.now.tables }
+    {
+        self.tables.tables()
+    }
+
+    /// The text that it was drawn from.
+    #[inline]
+    pub fn text(&self) -> &str
+        ensures { result.now ≡ self.now.text }
+    {
+        self.text.as_str()
+    }
+
+    /// How many code points the text has: its last row ends behind them.
+    #[inline]
+    pub fn len(&self) -> usize
+        ensures { result ≡ length (chars self.now.text) }
+    {
+        rows_follow();
+        let rows = self.rows();
+        let last = rows.len() - 1;
+        rows[last].last_place()
+    }
+
+    /// Its rows from the top, at least one.
+    #[inline]
+    pub fn rows(&self) -> &[Row]
+        ensures rows { result.now ≡ self.now.rows }
+        // What is true of every picture, for the caller's proof.
+        ensures drawn { IsDrawn self.now }
+    {
+        &self.rows
+    }
+
+    /// Whether a caret's row and gap are the picture's.
+    pub fn holds(&self, caret: Caret) -> bool
+        ensures yes { OnTrue result (IsCaretOf self.now.rows caret) }
+        ensures no { OnFalse result (¬ (IsCaretOf self.now.rows caret)) }
+    {
+        match self.rows.get(caret.row) {
+            Some(row) => caret.gap <= row.entries().len(),
+            None => false,
+        }
+    }
+
+    /// Its print: the text of each cell, and one LF after each row.
+    pub fn printed(&mut self) -> Result<Vec<u8>, Memory>
+        ensures print { IfOk result (λ bytes. bytes.items ≡ printed self.old) }
+        ensures unchanged { self.new ≡ self.old }
+    {
+        let mut sink = InMemory::new(self.alloc);
+        let rows = mem::replace(&mut self.rows, Vec::new(self.alloc));
+        let grid = Grid::of(self.tables.tables(), self.text.as_str(), rows);
+        let outcome = print(&grid, &mut sink);
+        self.rows = grid.into_rows();
+        match outcome {
+            Ok(()) => Ok(sink.bytes),
+            Err(_) => Err(Memory),
+        }
+    }
+
+    /// The print of the row with this number, counted from 0, with its LF.
+    pub fn printed_row(&mut self, number: usize) -> Result<Vec<u8>, Memory>
+        requires { number < length self.old.rows }
+        ensures print { IfOk result (λ bytes. bytes.items ≡ printed_row self.old number) }
+        ensures unchanged { self.new ≡ self.old }
+    {
+        let mut sink = InMemory::new(self.alloc);
+        let rows = mem::replace(&mut self.rows, Vec::new(self.alloc));
+        let grid = Grid::of(self.tables.tables(), self.text.as_str(), rows);
+        let outcome = print_row_at(&grid, number, &mut sink);
+        self.rows = grid.into_rows();
+        match outcome {
+            Ok(()) => Ok(sink.bytes),
+            Err(_) => Err(Memory),
+        }
+    }
+
+    /// The caret at a place of the text, as `caret::at_place` answers.
+    pub fn at_place(&mut self, place: usize) -> Caret
+        requires { place ≤ length (chars self.old.text) }
+        ensures caret { result ≡ caret_at self.old place }
+        ensures within { IsCaretOf self.old.rows result }
+        ensures unchanged { self.new ≡ self.old }
+    {
+        let rows = mem::replace(&mut self.rows, Vec::new(self.alloc));
+        let grid = Grid::of(self.tables.tables(), self.text.as_str(), rows);
+        let caret = at_place(&grid, place);
+        self.rows = grid.into_rows();
+        caret
+    }
+
+    /// The caret where a mouse points, as `caret::at_column` answers.
+    pub fn at_column(&mut self, row: usize, column: usize) -> Caret
+        requires { row < length self.old.rows }
+        ensures caret { result ≡ caret_under self.old.rows row column }
+        ensures within { IsCaretOf self.old.rows result }
+        ensures unchanged { self.new ≡ self.old }
+    {
+        let rows = mem::replace(&mut self.rows, Vec::new(self.alloc));
+        let grid = Grid::of(self.tables.tables(), self.text.as_str(), rows);
+        let caret = at_column(&grid, row, column);
+        self.rows = grid.into_rows();
+        caret
+    }
+
+    /// The caret one step to the right, as `caret::right` answers.
+    pub fn right(&mut self, caret: Caret) -> Caret
+        requires { IsCaretOf self.old.rows caret }
+        ensures caret { result ≡ right_of self.old.rows caret }
+        ensures within { IsCaretOf self.old.rows result }
+        ensures unchanged { self.new ≡ self.old }
+    {
+        let rows = mem::replace(&mut self.rows, Vec::new(self.alloc));
+        let grid = Grid::of(self.tables.tables(), self.text.as_str(), rows);
+        let moved = right(&grid, caret);
+        self.rows = grid.into_rows();
+        moved
+    }
+
+    /// The caret one step to the left, as `caret::left` answers.
+    pub fn left(&mut self, caret: Caret) -> Caret
+        requires { IsCaretOf self.old.rows caret }
+        ensures caret { result ≡ left_of self.old.rows caret }
+        ensures within { IsCaretOf self.old.rows result }
+        ensures unchanged { self.new ≡ self.old }
+    {
+        let rows = mem::replace(&mut self.rows, Vec::new(self.alloc));
+        let grid = Grid::of(self.tables.tables(), self.text.as_str(), rows);
+        let moved = left(&grid, caret);
+        self.rows = grid.into_rows();
+        moved
+    }
+
+    /// The caret one row higher, as `caret::up` answers.
+    pub fn up(&mut self, caret: Caret) -> Caret
+        requires { IsCaretOf self.old.rows caret }
+        ensures caret { result ≡ up_of self.old.rows caret }
+        ensures within { IsCaretOf self.old.rows result }
+        ensures unchanged { self.new ≡ self.old }
+    {
+        let rows = mem::replace(&mut self.rows, Vec::new(self.alloc));
+        let grid = Grid::of(self.tables.tables(), self.text.as_str(), rows);
+        let moved = up(&grid, caret);
+        self.rows = grid.into_rows();
+        moved
+    }
+
+    /// The caret one row lower, as `caret::down` answers.
+    pub fn down(&mut self, caret: Caret) -> Caret
+        requires { IsCaretOf self.old.rows caret }
+        ensures caret { result ≡ down_of self.old.rows caret }
+        ensures within { IsCaretOf self.old.rows result }
+        ensures unchanged { self.new ≡ self.old }
+    {
+        let rows = mem::replace(&mut self.rows, Vec::new(self.alloc));
+        let grid = Grid::of(self.tables.tables(), self.text.as_str(), rows);
+        let moved = down(&grid, caret);
+        self.rows = grid.into_rows();
+        moved
+    }
+}

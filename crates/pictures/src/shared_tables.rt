@@ -1,0 +1,49 @@
+//! Tables with several owners.
+
+ghost use Rattle.std.specs.Prelude.{◌≡◌, IfOk};
+
+use bg_types::Memory;
+use std::alloc::Global;
+use std::marker::Model;
+use std::rc::Rc;
+use unicode_tables::Tables;
+
+/// A share in tables, which go with the last share. All shares of some tables stay in one thread.
+#[derive(Drop)]
+pub struct SharedTables {
+    tables: Rc<Tables>,
+}
+
+impl Model for SharedTables {
+    ghost use Rattle.unicode_tables.specs.Tables.{TableValues};
+
+    ghost Value = { TableValues };
+
+    ghost view = { λ s. s.tables.value };
+}
+
+impl SharedTables {
+    /// The first share in these tables.
+    pub fn new(alloc: Global, tables: Tables) -> Result<SharedTables, Memory>
+        ensures { IfOk result (λ shared. shared ≡ tables) }
+    {
+        let tables = Rc::new(alloc, tables)?;
+        Ok(SharedTables { tables })
+    }
+
+    /// A further share in the same tables.
+    pub fn share(&self) -> Result<SharedTables, Memory>
+        ensures { IfOk result (λ shared. shared ≡ self.now) }
+    {
+        let tables = self.tables.clone()?;
+        Ok(SharedTables { tables })
+    }
+
+    /// The tables.
+    #[inline]
+    pub fn tables(&self) -> &Tables
+        ensures { result.now ≡ self.now }
+    {
+        &self.tables
+    }
+}

@@ -1,0 +1,79 @@
+//! Counts of visible elements. Each look is counted where it is taken.
+
+ghost use Rattle.std.specs.Prelude.{◌≡◌, ◌+◌, ◌*◌, ◌^◌, ◌<◌, ◌≤◌, true, length};
+ghost use Rattle.rga_sequence.specs.BlockRows.{items_of};
+ghost use Rattle.rga_sequence.specs.Blocks.{seen, seen_all};
+
+use crate::block::Block;
+use rga_tree::Element;
+
+/// How many elements of a block are visible. This is one look.
+#[inline(always)]
+pub fn header(block: &Block, looks: &mut u64) -> usize
+    requires room { looks.old + 1 < 2 ^ 64 }
+    ensures visible { result ≡ seen block.now.elements.items }
+    ensures looks { looks.new ≡ looks.old + 1 }
+{
+    *looks += 1;
+    block.visible
+}
+
+/// How many elements of these blocks are visible. The header of each is looked at.
+pub fn headers(blocks: &[Block], looks: &mut u64) -> usize
+    requires few { 512 * length blocks.now < 2 ^ 64 }
+    requires room { looks.old + length blocks.now < 2 ^ 64 }
+    ensures visible { result ≡ seen_all (items_of blocks.now) }
+    ensures looks { looks.new ≡ looks.old + length blocks.now }
+{
+    let mut visible = 0;
+    let mut read = 0;
+    for block in blocks {
+        visible += header(block, &mut read);
+    }
+    *looks += read;
+    visible
+}
+
+/// How many of these elements are visible. Each is looked at; where all are known to be visible, they are passed in one
+/// step, which is as many looks.
+pub fn visible_in(row: &[Element], all: bool, looks: &mut u64) -> usize
+    requires all { all ≡ true → seen row.now ≡ length row.now }
+    requires few { length row.now ≤ 255 }
+    requires room { looks.old + length row.now < 2 ^ 64 }
+    ensures visible { result ≡ seen row.now }
+    ensures looks { looks.new ≡ looks.old + length row.now }
+{
+    if all {
+        *looks += row.len() as u64;
+        row.len()
+    } else {
+        row.len() - usize::from(hidden_in(row, looks))
+    }
+}
+
+/// How many of these elements are hidden. Each is looked at, and no branch depends on one.
+fn hidden_in(row: &[Element], looks: &mut u64) -> u8
+    requires few { length row.now ≤ 255 }
+    requires room { looks.old + length row.now < 2 ^ 64 }
+    ensures hidden { result + seen row.now ≡ length row.now }
+    ensures looks { looks.new ≡ looks.old + length row.now }
+{
+    let mut hidden = 0;
+    let mut read = 0;
+    for e in row {
+        hidden += u8::from(is_hidden(e, &mut read));
+    }
+    *looks += read;
+    hidden
+}
+
+/// Whether an element is hidden. This is one look.
+#[inline(always)]
+fn is_hidden(element: &Element, looks: &mut u64) -> bool
+    requires room { looks.old + 1 < 2 ^ 64 }
+    ensures hidden { result ≡ element.now.hidden }
+    ensures looks { looks.new ≡ looks.old + 1 }
+{
+    *looks += 1;
+    element.hidden
+}

@@ -1,0 +1,111 @@
+//! The rows of paragraphs, kept.
+
+ghost use Rattle.std.specs.Prelude.{◌≡◌, ◌≤◌, ℕ, [], length, IfOk, OnOk, OnErr};
+ghost use Rattle.lru.specs.LruCache.{lru_cache};
+ghost use Rattle.unicode_tables.specs.Tables.{TableValues};
+ghost use Rattle.cell_grid.specs.Rows.{rows_of};
+ghost use Rattle.view_cache.specs.Keys.{ParagraphKey, paragraph_key};
+ghost use Rattle.view_cache.specs.KeptParagraphs.{AreLaid, nothing_kept, IsNewest, IsUse};
+
+use crate::key::Key;
+use bg_types::{Base, Memory};
+use cell_grid::{Row, rows};
+use lru::LruCache;
+use paragraphs::Para;
+use std::alloc::Global;
+use std::marker::Model;
+use std::num::NonZeroUsize;
+use unicode_tables::Tables;
+
+/// The rows of the paragraphs that were used last, counted from each paragraph's start, by the
+/// paragraph's text, the width and the base. It borrows no tables and no text: its owner hands them
+/// in, and the rows stay right as long as the tables are always the same.
+#[derive(Drop)]
+pub struct KeptRows {
+    hash_key: u128,
+    kept: LruCache<Key, Vec<Row>>,
+}
+
+impl Model for KeptRows {
+    ghost use Rattle.std.specs.Prelude.{map};
+    ghost use Rattle.view_cache.specs.KeptParagraphs.{KeptParagraphs};
+
+    ghost Value = { KeptParagraphs };
+
+    ghost use Rattle.view_cache.specs.Kept.{entry_said, IsKept};
+
+    ghost view = { λ k. record { room = k.kept.cap; hash_key = k.hash_key; entries = map entry_said k.kept.entries } };
+
+    ghost invariant = { λ k. IsKept k.hash_key k.kept };
+}
+
+impl KeptRows {
+    /// Room for the rows of this many paragraphs, 1 to 1,000,000, found by hashes that begin with this
+    /// key, so that it is hard to choose paragraphs that share a slot without knowing it. The hash is
+    /// not cryptographic, and no bound is proved.
+    pub fn keyed(alloc: Global, key: u128, room: usize) -> Result<KeptRows, Memory>
+        requires some { 1 ≤ room }
+        requires most { room ≤ 1_000_000 }
+        ensures { IfOk result (λ kept. kept ≡ nothing_kept room key) }
+    {
+        let kept = empty_cache(alloc, room)?;
+        Ok(KeptRows {
+            hash_key: key,
+            kept,
+        })
+    }
+
+    /// Uses the key of a paragraph of at most 4,000,000 bytes at a width in columns: where no rows are
+    /// kept under it, the paragraph is laid out and its rows are kept, in place of those used longest ago
+    /// where there is no more room. Returns whether it was laid out. `newest` has the rows then. After
+    /// `Memory` nothing has changed.
+    pub fn keep(
+        &mut self,
+        alloc: Global,
+        tables: &Tables,
+        width: u16,
+        base: Base,
+        para: &Para,
+    ) -> Result<bool, Memory>
+        requires at_least { 2 ≤ width }
+        requires at_most { width ≤ 500 }
+        requires size { length para.now.text ≤ 4_000_000 }
+        ensures use_ok { IfOk result (λ anew. IsUse (paragraph_key para.now.text width base) self.old anew self.new) }
+        ensures newest { OnOk result (IsNewest (paragraph_key para.now.text width base) self.new) }
+        // Rows that are all by these tables stay so.
+        ensures laid { AreLaid tables.now self.old → AreLaid tables.now self.new }
+        ensures err { OnErr result (self.new ≡ self.old) }
+    {
+        let key = Key::of(alloc, self.hash_key, para.text(), width, base)?;
+        if self.kept.promote(&key) {
+            return Ok(false);
+        }
+        let rows = rows(alloc, tables, width, base, para)?;
+        self.kept.put(key, rows)?;
+        Ok(true)
+    }
+
+    /// The rows under the key that was used last, counted from the paragraph's start; none before the
+    /// first use.
+    pub fn newest(&self) -> &[Row]
+        ensures { (tables : TableValues) (key : ParagraphKey) → AreLaid tables self.now → IsNewest key self.now
+            → result.now ≡ rows_of tables key.width key.base key.text }
+    {
+        match self.kept.peek_mru() {
+            Some((_, rows)) => rows.as_slice(),
+            None => &[],
+        }
+    }
+}
+
+/// An empty cache with room for this many paragraphs.
+fn empty_cache(alloc: Global, room: usize) -> Result<LruCache<Key, Vec<Row>>, Memory>
+    requires { 1 ≤ room }
+    ensures { IfOk result (λ cache. cache ≡ lru_cache [] room) }
+{
+    let mut cache = LruCache::unbounded(alloc)?;
+    if let Some(room) = NonZeroUsize::new(room) {
+        cache.resize(room);
+    }
+    Ok(cache)
+}

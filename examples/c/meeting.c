@@ -1,0 +1,60 @@
+/* Two desks write one text at once, meet, and show the same picture. */
+#include <bidigrid.h>
+#include <stdio.h>
+#include <stdlib.h>
+
+static void must(uint32_t answer)
+{
+    if (answer != BIDIGRID_OK) {
+        fprintf(stderr, "meeting: fault %u\n", (unsigned)answer);
+        exit(1);
+    }
+}
+
+/* Types words at the end of a desk's text, and sends each message to another desk, if one is there to hear. */
+static void type_words(bidigrid_desk *desk, bidigrid_desk *other, const uint32_t *words)
+{
+    uint8_t message[BIDIGRID_TYPED_SIZE];
+    size_t size, end;
+    bidigrid_taken told;
+    for (must(bidigrid_desk_length(desk, &end)); *words; words++, end++) {
+        must(bidigrid_desk_type(desk, end, *words, message, sizeof message, &size));
+        if (other)
+            must(bidigrid_desk_take(other, message, size, &told));
+    }
+}
+
+static void show(const char *who, bidigrid_desk *desk, bidigrid_tables *tables)
+{
+    uint8_t text[256], print[256];
+    size_t size;
+    bidigrid_picture picture = BIDIGRID_NONE;
+    must(bidigrid_desk_text(desk, text, sizeof text, &size));
+    must(bidigrid_picture_new(&picture, tables, 16, BIDIGRID_AUTO, text, size));
+    must(bidigrid_picture_print(&picture, print, sizeof print, &size));
+    printf("%s: %.*s", who, (int)size, (const char *)print);
+    bidigrid_picture_free(&picture);
+}
+
+int main(void)
+{
+    static const uint32_t TEA[] = {'t', 'e', 'a', ' ', 0}, HOT[] = {'h', 'o', 't', 0}, HEBREW[] = {0x5EA, 0x5D4, 0};
+    bidigrid_tables tables = BIDIGRID_NONE;
+    bidigrid_desk one = BIDIGRID_NONE, other = BIDIGRID_NONE;
+    must(bidigrid_tables_unicode(&tables, false));
+    must(bidigrid_desk_new(&one, 1, 0, 0));
+    must(bidigrid_desk_new(&other, 2, 0, 0));
+    type_words(&one, &other, TEA);
+    type_words(&one, NULL, HOT); /* neither sees what the other writes now */
+    type_words(&other, NULL, HEBREW);
+    show("one, apart  ", &one, &tables);
+    show("other, apart", &other, &tables);
+    must(bidigrid_desk_merge(&one, &other));
+    must(bidigrid_desk_merge(&other, &one));
+    show("one, met    ", &one, &tables);
+    show("other, met  ", &other, &tables);
+    bidigrid_desk_free(&one);
+    bidigrid_desk_free(&other);
+    bidigrid_tables_free(&tables);
+    return 0;
+}
