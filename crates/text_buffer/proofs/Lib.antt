@@ -4,3 +4,7 @@ pub mod Joins
 pub mod Texts
 pub mod Splits
 pub mod Places
+pub mod Begun
+pub mod Chars
+pub mod Spots
+pub mod Made

@@ -1,5 +1,5 @@
 -- Paragraphs of a text that gets others in the place of some.
-use Rattle.std.proofs.Common.{◌≡◌, ℕ, ◌+◌, ◌-◌, ◌<◌, ◌≤◌, List, [], ◌∷◌, ◌++◌, map, length, take, drop, refl, sym, ap, ap₂, subst, ◌∙◌, arith}
+use Rattle.std.proofs.Common.{◌≡◌, ℕ, Bool, true, false, cond, ◌+◌, ◌-◌, ◌<◌, ◌≤◌, List, [], ◌∷◌, ◌++◌, map, length, take, drop, refl, sym, ap, ap₂, subst, ◌∙◌, arith}
 use Rattle.std.proofs.lemmas.List.{append-nil, append_assoc, length-append, length-drop, map-append, take-append-drop, drop_all, take_all}
 use Rattle.std.proofs.lemmas.Str.{encodes-append, encodes-chars, IsUtf8-append, IsUtf8-nil, IsUtf8-string_bytes}
 use Rattle.std.specs.List.{concat}
@@ -7,13 +7,13 @@ use Rattle.std.specs.Prelude.{encode_utf8_all, string_bytes}
 use Rattle.std.specs.Str.{IsUtf8}
 use Rattle.unicode_tables.specs.Tables.{TableValues, bidi_of}
 use Rattle.paragraphs.specs.Paragraphs.{meets_at_cut}
-use Rattle.paragraphs.proofs.Interface.{parts, front, concat-parts, IsHalved-from, parts-put, parts-put_last, concat-append, paragraph_points-parts}
+use Rattle.paragraphs.proofs.Interface.{parts, front, front-is, concat-parts, IsHalved-from, parts-put, parts-put_last, concat-append, paragraph_points-parts}
 use Rattle.text_buffer.specs.declared.piece.Piece.{Piece}
 use Rattle.text_buffer.specs.declared.block.Block.{Block}
 use Rattle.text_buffer.specs.Buffers.{IsSplit}
 use Rattle.text_buffer.specs.Pieces.{points_of, points_in}
 use Rattle.text_buffer.specs.Blocks.{joined, rows_of, kept_in}
-use Rattle.text_buffer.specs.Stretches.{IsStretch}
+use Rattle.text_buffer.specs.Stretches.{IsStretch, text_with}
 use Rattle.text_buffer.proofs.Joins.{joined-append}
 
 -- ---- what is kept is text
@@ -51,27 +51,33 @@ module _ (tables : TableValues) (kept : List (List ℕ)) (from to : ℕ) (points
       ≡ parts (bidi_of tables) (concat (take from kept) ++ (points ++ concat (drop to kept)))
   put-before_others more =
       let class = bidi_of tables in
-      let low = IsHalved-from class kept (take from kept) (drop from kept) is (sym (take-append-drop from kept)) (let o = s.order in omega (arith, length-drop from kept)) in
+      let low = IsHalved-from class kept (take from kept) (drop from kept) is (sym (take-append-drop from kept)) (let o = s.begun.order in omega (arith, length-drop from kept)) in
       let high = IsHalved-from class kept (take to kept) (drop to kept) is (sym (take-append-drop to kept)) (omega (arith, length-drop to kept)) in
-      parts-put class (take from kept) (drop to kept) points low.before high.after s.before (s.after more)
+      parts-put class (take from kept) (drop to kept) points low.before high.after s.begun.before (s.after more)
 
   put-at_end : to ≡ length kept → take from kept ++ (parts (bidi_of tables) points ++ drop to kept)
       ≡ parts (bidi_of tables) (concat (take from kept) ++ (points ++ concat (drop to kept)))
   put-at_end all =
       let class = bidi_of tables in
       let none : drop to kept ≡ [] = drop_all to kept (omega (arith, all)) in
-      let low = IsHalved-from class kept (take from kept) (drop from kept) is (sym (take-append-drop from kept)) (let o = s.order in omega (arith, all, length-drop from kept)) in
+      let low = IsHalved-from class kept (take from kept) (drop from kept) is (sym (take-append-drop from kept)) (let o = s.begun.order in omega (arith, all, length-drop from kept)) in
       let whole : points ++ concat (drop to kept) ≡ points = ap (λ t. points ++ concat t) none ∙ append-nil points in
       ap (λ t. take from kept ++ (parts class points ++ t)) none
       ∙ ap (λ t. take from kept ++ t) (append-nil (parts class points))
-      ∙ parts-put_last class (take from kept) points low.before (ap (meets_at_cut class (concat (take from kept))) (sym whole) ∙ s.before)
+      ∙ parts-put_last class (take from kept) points low.before (ap (meets_at_cut class (concat (take from kept))) (sym whole) ∙ s.begun.before)
       ∙ ap (λ t. parts class (concat (take from kept) ++ t)) (sym whole)
 
-  -- the text of what is kept then, and that it is split
-  pub stretch-text : (new : List (List ℕ)) → new ≡ parts (bidi_of tables) (concat (take from kept) ++ (points ++ concat (drop to kept)))
-      → concat new ≡ concat (take from kept) ++ (points ++ concat (drop to kept))
-  stretch-text new e = ap concat e ∙ concat-parts (bidi_of tables) (concat (take from kept) ++ (points ++ concat (drop to kept)))
+  -- all paragraphs of the text, or all but the last where others follow
+  pub put-stretch : (last : Bool) → (last ≡ true → to ≡ length kept) → (last ≡ false → to < length kept)
+      → take from kept ++ (cond last (parts (bidi_of tables) points) (take (length (parts (bidi_of tables) points) - 1) (parts (bidi_of tables) points)) ++ drop to kept)
+      ≡ parts (bidi_of tables) (text_with kept from to points)
+  put-stretch true ends more = put-at_end (ends refl)
+  put-stretch false ends more =
+      ap (λ t. take from kept ++ (t ++ drop to kept)) (sym (front-is (parts (bidi_of tables) points))) ∙ put-before_others (more refl)
 
-  pub stretch-split : (new : List (List ℕ)) → new ≡ parts (bidi_of tables) (concat (take from kept) ++ (points ++ concat (drop to kept)))
-      → new ≡ parts (bidi_of tables) (concat new)
-  stretch-split new e = e ∙ sym (ap (parts (bidi_of tables)) (stretch-text new e))
+-- the text of what is kept then, and that it is split
+pub text-of_parts : (tables : TableValues) (new : List (List ℕ)) (points : List ℕ) → new ≡ parts (bidi_of tables) points → concat new ≡ points
+text-of_parts tables new points e = ap concat e ∙ concat-parts (bidi_of tables) points
+
+pub split-of_parts : (tables : TableValues) (new : List (List ℕ)) (points : List ℕ) → new ≡ parts (bidi_of tables) points → new ≡ parts (bidi_of tables) (concat new)
+split-of_parts tables new points e = e ∙ sym (ap (parts (bidi_of tables)) (text-of_parts tables new points e))

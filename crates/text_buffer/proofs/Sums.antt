@@ -1,8 +1,8 @@
 -- How many bytes and code points paragraphs have.
-use Rattle.std.proofs.Common.{◌≡◌, ℕ, ◌+◌, ◌≤◌, ◌<◌, List, [], ◌∷◌, ◌++◌, map, length, take, drop, get_or, refl, sym, ap, ap₂, ◌∙◌, arith}
-use Rattle.std.proofs.lemmas.List.{append-nil, append_assoc, length-append, map-append, take_more, take-map, drop-map, take-append-drop}
+use Rattle.std.proofs.Common.{◌≡◌, ℕ, suc, ◌+◌, ◌≤◌, ◌<◌, List, [], ◌∷◌, ◌++◌, map, length, take, drop, get_or, refl, sym, ap, ap₂, ◌∙◌, add-one, arith}
+use Rattle.std.proofs.lemmas.List.{append-nil, append_assoc, length-append, map-append, take_more, take-map, drop-map, take-append-drop, drop-drop}
 use Rattle.std.proofs.lemmas.Str.{encodes-append, encodes-chars, IsUtf8-string_bytes, length-le-encodes}
-use Rattle.std.specs.List.{concat}
+use Rattle.std.specs.List.{concat, remove}
 use Rattle.std.specs.Prelude.{encode_utf8_all, string_bytes}
 use Rattle.paragraphs.proofs.Interface.{concat-append}
 use Rattle.text_buffer.specs.declared.piece.Piece.{Piece}
@@ -63,3 +63,24 @@ places-parts ps qs rs n front back =
     ap (λ t. length (concat t)) (ap points_in (sym (take-append-drop n ps)) ∙ map-append points_of (take n ps) (drop n ps))
     ∙ places-append (points_in (take n ps)) (points_in (drop n ps))
     ∙ ap₂ (λ x y. length (concat (points_in x)) + length (concat (points_in y))) (sym front) (sym back)
+
+-- without a paragraph there are no more bytes
+bytes-later : (xs : List (List ℕ)) → bytes_in (concat (drop 1 xs)) ≤ bytes_in (concat xs)
+bytes-later [] = omega arith
+bytes-later (x ∷ xs) = let e = bytes_in-append x (concat xs) in omega (arith, e)
+
+pub bytes-remove : (xs : List (List ℕ)) (i : ℕ) → bytes_in (concat (remove xs i)) ≤ bytes_in (concat xs)
+bytes-remove xs i =
+    let all = ap (λ t. bytes_in (concat t)) (sym (take-append-drop i xs)) ∙ bytes-append (take i xs) (drop i xs) in
+    let next = ap (λ t. bytes_in (concat t)) (drop-drop 1 i xs) in
+    let same = ap (λ n. bytes_in (concat (drop n xs))) (add-one i) in
+    omega (arith, all, bytes-append (take i xs) (drop (suc i) xs), next, same, bytes-later (drop i xs))
+
+-- what paragraphs are seen as, where one goes or others come
+pub points-remove : (ps : List Piece) (i : ℕ) → points_in (remove ps i) ≡ remove (points_in ps) i
+points-remove ps i = map-append points_of (take i ps) (drop (suc i) ps) ∙ ap₂ (λ x y. x ++ y) (sym (take-map points_of i ps)) (sym (drop-map points_of (suc i) ps))
+
+pub points-put : (ps qs : List Piece) (i : ℕ) → points_in (take i ps ++ (qs ++ drop i ps)) ≡ take i (points_in ps) ++ (points_in qs ++ drop i (points_in ps))
+points-put ps qs i =
+    map-append points_of (take i ps) (qs ++ drop i ps)
+    ∙ ap₂ (λ x y. x ++ y) (sym (take-map points_of i ps)) (map-append points_of qs (drop i ps) ∙ ap (λ t. points_in qs ++ t) (sym (drop-map points_of i ps)))

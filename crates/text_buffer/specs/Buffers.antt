@@ -12,7 +12,8 @@ bytes_in points = length (encode_utf8_all points)
 abbrev pub IsSplit : TableValues → List (List ℕ) → Type 0
 IsSplit tables kept = kept ≡ paragraph_points tables (concat kept)
 
--- no text is longer than 4,000,000 bytes, and each paragraph but the last has one at least
+-- no text is longer than 4,000,000 bytes, and each paragraph but the last has one at least; while an edit is under way
+-- those that it puts in and those that it takes out stand side by side
 pub record Fits (kept : List (List ℕ)) : Type 0 where
-  pub bytes : bytes_in (concat kept) ≤ 4_000_000
-  pub paragraphs : length kept ≤ 4_000_001
+  pub bytes : bytes_in (concat kept) ≤ 9_000_000
+  pub paragraphs : length kept ≤ 9_000_000

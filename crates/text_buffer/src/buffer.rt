@@ -1,11 +1,15 @@
 //! A text that is kept in paragraphs.
 
-ghost use Rattle.std.specs.Prelude.{◌≡◌, ◌+◌, ◌-◌, ◌<◌, ◌≤◌, ◌↔◌, Some, Err, [], insert, remove, length, take, get_or, slice_get, encode_utf8, encode_utf8_all, IfOk, OnOk, OnErr};
+ghost use Rattle.std.specs.Prelude.{◌≡◌, ◌+◌, ◌-◌, ◌<◌, ◌≤◌, ◌↔◌, ◌++◌, Some, Err, insert, remove, length, take, drop, slice_get, string_bytes, vec_len, encode_utf8, encode_utf8_all, IfOk, OnOk, OnErr};
 ghost use Rattle.std.specs.List.{concat};
+ghost use Rattle.std.specs.Str.{IsUtf8};
 ghost use Rattle.unicode_tables.specs.Tables.{TableValues};
 ghost use Rattle.paragraphs.specs.Text.{code_points};
 ghost use Rattle.paragraphs.specs.Paragraphs.{paragraphs};
+ghost use Rattle.bg_types.specs.Edit.{IsInRange, changed};
 ghost use Rattle.text_buffer.specs.Buffers.{bytes_in, IsSplit};
+ghost use Rattle.text_buffer.specs.Pieces.{points_in};
+ghost use Rattle.text_buffer.specs.Blocks.{kept_in};
 ghost use Rattle.text_buffer.specs.declared.fault.BufferFault.TheVariants.{TooLong};
 
 use crate::block::{Block, sum_up};
@@ -13,8 +17,8 @@ use crate::change::{change, pieces_of};
 use crate::fault::BufferFault;
 use crate::find::{block_of, spot_at};
 use crate::piece::Piece;
-use crate::stretch::text_of;
-use bg_types::Memory;
+use crate::stretch::{joined_text, text_of};
+use bg_types::{Change, Memory};
 use paragraphs::Para;
 use std::alloc::Global;
 use std::marker::Model;
@@ -59,7 +63,7 @@ impl Buffer {
         if text.len() > LIMIT {
             return Err(BufferFault::TooLong);
         }
-        let pieces = pieces_of(alloc, tables, text, true)?;
+        let pieces = pieces_of(alloc, tables, text)?;
         let paragraphs = pieces.len();
         let sums = sum_up(&pieces);
         let blocks = blocks_of(alloc, pieces)?;
@@ -166,7 +170,7 @@ impl Buffer {
         let spot = spot_at(&self.blocks, place);
         let before = text_of(&self.blocks, spot.number);
         let text = without_char(self.alloc, before, spot.offset)?;
-        let fewer = before.len() - text.len();
+        let fewer = before.len() - text.as_str().len();
         self.paragraphs = change(
             self.alloc,
             tables,
@@ -179,10 +183,34 @@ impl Buffer {
         self.places -= 1;
         Ok(())
     }
+
+    /// Makes a change. After a fault the text is as it was: `TooLong` where it would have more than 4,000,000 bytes.
+    pub fn apply(&mut self, tables: &Tables, change: &Change) -> Result<(), BufferFault>
+        requires split { IsSplit tables.now self.old }
+        requires place { IsInRange (concat self.old) change.now }
+        ensures text { OnOk result (concat self.new ≡ changed (concat self.old) change.now) }
+        ensures split { OnOk result (IsSplit tables.now self.new) }
+        ensures unchanged { OnErr result (self.new ≡ self.old) }
+        ensures too_long { (result ≡ Err TooLong) ↔ (4_000_000 < bytes_in (changed (concat self.old) change.now)) }
+    {
+        // The text that is there has no more bytes than it may.
+        let _bytes = self.bytes;
+        match *change {
+            Change::Put { place, ch } => self.put(tables, place, ch),
+            Change::Cut { place } => match self.cut(tables, place) {
+                Ok(()) => Ok(()),
+                Err(Memory) => Err(BufferFault::Memory),
+            },
+        }
+    }
 }
 
 /// Paragraphs in blocks.
-fn blocks_of(alloc: Global, pieces: Vec<Piece>) -> Result<Vec<Block>, Memory> {
+fn blocks_of(alloc: Global, pieces: Vec<Piece>) -> Result<Vec<Block>, Memory>
+    requires some { 0 < vec_len pieces }
+    requires few { bytes_in (concat (points_in pieces.items)) ≤ 9_000_000 }
+    ensures { IfOk result (λ blocks. kept_in blocks.items ≡ points_in pieces.items) }
+{
     let mut blocks = Vec::new(alloc);
     let mut left = pieces;
     while left.len() > HALF {
@@ -195,37 +223,56 @@ fn blocks_of(alloc: Global, pieces: Vec<Piece>) -> Result<Vec<Block>, Memory> {
     Ok(blocks)
 }
 
-/// Where code point `offset` of a text begins, in bytes.
-fn byte_of(text: &str, offset: usize) -> usize {
-    let mut chars = text.chars();
+/// A text's first `offset` code points, and the others.
+fn parted(text: &str, offset: usize) -> (&str, &str)
+    requires { offset ≤ length (code_points text.now) }
+    ensures whole { result.0.now ++ result.1.now ≡ text.now }
+    ensures first { IsUtf8 result.0.now }
+    ensures second { IsUtf8 result.1.now }
+    ensures front { code_points result.0.now ≡ take offset (code_points text.now) }
+    ensures back { code_points result.1.now ≡ drop offset (code_points text.now) }
+{
+    let mut rest = text;
     let mut left = offset;
     while left > 0 {
-        if chars.next().is_none() {
-            return text.len();
-        }
+        rest = past_first(rest);
         left -= 1;
     }
-    text.len() - chars.as_str().len()
+    (&text[..text.len() - rest.len()], rest)
+}
+
+/// What stands behind a text's first code point.
+fn past_first(text: &str) -> &str
+    requires { 0 < length (code_points text.now) }
+    ensures points { code_points result.now ≡ drop 1 (code_points text.now) }
+    ensures len { length result.now < length text.now }
+    ensures end { result.now ≡ drop (length text.now - length result.now) text.now }
+{
+    let mut chars = text.chars();
+    match chars.next() {
+        Some(_) => chars.as_str(),
+        None => text,
+    }
 }
 
 /// A text with a character put behind `offset` code points.
-fn with_char(alloc: Global, text: &str, offset: usize, ch: char) -> Result<String, Memory> {
-    let at = byte_of(text, offset);
-    let mut whole = String::with_capacity(alloc, text.len() + ch.len_utf8())?;
-    whole.push_str(&text[..at])?;
+fn with_char(alloc: Global, text: &str, offset: usize, ch: char) -> Result<String, Memory>
+    requires { offset ≤ length (code_points text.now) }
+    ensures { IfOk result (λ s. code_points (string_bytes s) ≡ insert (code_points text.now) offset ch) }
+{
+    let (front, back) = parted(text, offset);
+    let mut whole = String::with_capacity(alloc, text.len().saturating_add(ch.len_utf8()))?;
+    whole.push_str(front)?;
     whole.push(ch)?;
-    whole.push_str(&text[at..])?;
+    whole.push_str(back)?;
     Ok(whole)
 }
 
 /// A text without the code point behind `offset` others.
-fn without_char(alloc: Global, text: &str, offset: usize) -> Result<String, Memory> {
-    let at = byte_of(text, offset);
-    let mut rest = text[at..].chars();
-    let _gone = rest.next();
-    let rest = rest.as_str();
-    let mut whole = String::with_capacity(alloc, at + rest.len())?;
-    whole.push_str(&text[..at])?;
-    whole.push_str(rest)?;
-    Ok(whole)
+fn without_char(alloc: Global, text: &str, offset: usize) -> Result<String, Memory>
+    requires { offset < length (code_points text.now) }
+    ensures { IfOk result (λ s. code_points (string_bytes s) ≡ remove (code_points text.now) offset) }
+{
+    let (front, back) = parted(text, offset);
+    joined_text(alloc, front, past_first(back))
 }

@@ -1,17 +1,18 @@
 //! A change of one paragraph's text, by which paragraphs join or part.
 
-ghost use Rattle.std.specs.Prelude.{◌≡◌, ◌+◌, ◌-◌, ◌<◌, ◌≤◌, ◌++◌, [], length, map, take, drop, get_or, string_bytes, IfOk, OnOk, OnErr, vec_len, true, if◌then◌else◌};
+ghost use Rattle.std.specs.Prelude.{◌≡◌, ◌+◌, ◌-◌, ◌<◌, ◌≤◌, ◌++◌, length, map, take, drop, string_bytes, remove, IfOk, OnOk, OnErr, vec_len, if◌then◌else◌};
 ghost use Rattle.std.specs.List.{concat};
 ghost use Rattle.paragraphs.specs.Text.{code_points};
 ghost use Rattle.paragraphs.specs.Paragraphs.{paragraphs};
 ghost use Rattle.text_buffer.specs.Buffers.{bytes_in, Fits, IsSplit};
 ghost use Rattle.text_buffer.specs.Pieces.{points_in};
 ghost use Rattle.text_buffer.specs.Blocks.{kept_in};
+ghost use Rattle.text_buffer.specs.Stretches.{text_with};
 
 use crate::block::Block;
 use crate::find::block_of;
 use crate::piece::Piece;
-use crate::rows::{count_in, join_at, part_at, replace_at};
+use crate::rows::{count_in, insert_in, part_at, remove_at};
 use crate::stretch::stretch_at;
 use bg_types::Memory;
 use paragraphs::split;
@@ -21,8 +22,20 @@ use unicode_tables::Tables;
 /// How many paragraphs a block has at most before more are put into it.
 const FULL: usize = 512;
 
+/// The paragraphs of a text.
+pub fn pieces_of(alloc: Global, tables: &Tables, text: &str) -> Result<Vec<Piece>, Memory>
+    ensures { IfOk result (λ pieces. points_in pieces.items ≡ map (λ p. code_points p.text) (paragraphs tables.now text.now)) }
+{
+    let paras = split(alloc, tables, text)?;
+    let mut pieces = Vec::with_capacity(alloc, paras.len())?;
+    for para in &paras {
+        pieces.push(Piece::of(alloc, para.text())?)?;
+    }
+    Ok(pieces)
+}
+
 /// The paragraphs of a text, all but the last one unless that is asked for.
-pub fn pieces_of(
+fn pieces_in(
     alloc: Global,
     tables: &Tables,
     text: &str,
@@ -31,12 +44,11 @@ pub fn pieces_of(
     ensures { let all = map (λ p. code_points p.text) (paragraphs tables.now text.now) in
         IfOk result (λ pieces. points_in pieces.items ≡ (if last then all else take (length all - 1) all)) }
 {
-    let paras = split(alloc, tables, text)?;
-    let count = if last { paras.len() } else { paras.len() - 1 };
-    let mut pieces = Vec::with_capacity(alloc, count)?;
-    for para in &paras[..count] {
-        pieces.push(Piece::of(alloc, para.text())?)?;
+    let mut pieces = pieces_of(alloc, tables, text)?;
+    if last {
+        return Ok(pieces);
     }
+    pieces.pop();
     Ok(pieces)
 }
 
@@ -51,24 +63,22 @@ pub fn change(
 ) -> Result<usize, Memory>
     requires count { count ≡ length (kept_in blocks.old.items) }
     requires there { number < length (kept_in blocks.old.items) }
-    requires fits { Fits (kept_in blocks.old.items) }
+    requires few { bytes_in (concat (kept_in blocks.old.items)) ≤ 4_000_000 }
     requires split { IsSplit tables.now (kept_in blocks.old.items) }
-    requires new { let kept = kept_in blocks.old.items in
-        bytes_in (concat (take number kept) ++ (code_points (string_bytes text) ++ concat (drop (number + 1) kept))) ≤ 4_000_000 }
-    ensures text { let kept = kept_in blocks.old.items in
-        OnOk result (concat (kept_in blocks.new.items) ≡ concat (take number kept) ++ (code_points (string_bytes text) ++ concat (drop (number + 1) kept))) }
+    requires new { bytes_in (text_with (kept_in blocks.old.items) number (number + 1) (code_points (string_bytes text))) ≤ 4_000_000 }
+    ensures text { OnOk result (concat (kept_in blocks.new.items) ≡ text_with (kept_in blocks.old.items) number (number + 1) (code_points (string_bytes text))) }
     ensures split { OnOk result (IsSplit tables.now (kept_in blocks.new.items)) }
     ensures count { IfOk result (λ n. n ≡ length (kept_in blocks.new.items)) }
     ensures err { OnErr result (kept_in blocks.new.items ≡ kept_in blocks.old.items) }
 {
     let stretch = stretch_at(alloc, tables, blocks, count, number, text)?;
-    let pieces = pieces_of(alloc, tables, &stretch.text, stretch.to == count)?;
+    let pieces = pieces_in(alloc, tables, &stretch.text, stretch.to == count)?;
     let more = pieces.len();
     put_between(blocks, stretch.from, stretch.to, pieces)?;
     Ok(count - (stretch.to - stretch.from) + more)
 }
 
-/// Puts others in the place of paragraphs `from` up to `to`.
+/// Puts others in the place of paragraphs `from` up to `to`. What may be refused comes first.
 fn put_between(
     blocks: &mut Vec<Block>,
     from: usize,
@@ -77,17 +87,28 @@ fn put_between(
 ) -> Result<(), Memory>
     requires order { from < to }
     requires within { to ≤ length (kept_in blocks.old.items) }
-    requires fits { Fits (kept_in blocks.old.items) }
-    requires new { let kept = kept_in blocks.old.items in bytes_in (concat (take from kept ++ (points_in pieces.items ++ drop to kept))) ≤ 4_000_000 }
+    requires few { bytes_in (concat (kept_in blocks.old.items)) + bytes_in (concat (points_in pieces.items)) ≤ 9_000_000 }
+    requires paragraphs { length (kept_in blocks.old.items) + vec_len pieces ≤ 9_000_000 }
     ensures ok { let kept = kept_in blocks.old.items in OnOk result (kept_in blocks.new.items ≡ take from kept ++ (points_in pieces.items ++ drop to kept)) }
     ensures err { OnErr result (kept_in blocks.new.items ≡ kept_in blocks.old.items) }
 {
-    make_room(blocks, from)?;
-    let before = block_of(blocks, from);
-    let start = from - before.paragraphs;
-    let end = to - before.paragraphs;
-    gather(blocks, before.block, end)?;
-    replace_at(blocks, before.block, start, end, pieces)
+    let behind = from + pieces.len();
+    put_before(blocks, from, pieces)?;
+    take_away(blocks, behind, to - from);
+    Ok(())
+}
+
+/// Puts others in front of paragraph `number`.
+fn put_before(blocks: &mut Vec<Block>, number: usize, pieces: Vec<Piece>) -> Result<(), Memory>
+    requires there { number < length (kept_in blocks.old.items) }
+    requires fits { Fits (kept_in blocks.old.items) }
+    requires few { bytes_in (concat (kept_in blocks.old.items)) + bytes_in (concat (points_in pieces.items)) ≤ 9_000_000 }
+    ensures ok { let kept = kept_in blocks.old.items in OnOk result (kept_in blocks.new.items ≡ take number kept ++ (points_in pieces.items ++ drop number kept)) }
+    ensures err { OnErr result (kept_in blocks.new.items ≡ kept_in blocks.old.items) }
+{
+    make_room(blocks, number)?;
+    let before = block_of(blocks, number);
+    insert_in(blocks, before.block, number - before.paragraphs, pieces)
 }
 
 /// Splits the block of paragraph `number`, if it is full. The paragraphs stay.
@@ -103,13 +124,25 @@ fn make_room(blocks: &mut Vec<Block>, number: usize) -> Result<(), Memory>
     part_at(blocks, before.block)
 }
 
-/// Joins blocks behind block q to it until it has so many paragraphs. The paragraphs stay.
-fn gather(blocks: &mut Vec<Block>, q: usize, count: usize) -> Result<(), Memory>
-    requires block { q < vec_len blocks.old }
-    ensures kept { kept_in blocks.new.items ≡ kept_in blocks.old.items }
+/// Takes away so many paragraphs from one on.
+fn take_away(blocks: &mut Vec<Block>, from: usize, count: usize)
+    requires within { from + count ≤ length (kept_in blocks.old.items) }
+    requires fits { Fits (kept_in blocks.old.items) }
+    ensures { kept_in blocks.new.items ≡ take from (kept_in blocks.old.items) ++ drop (from + count) (kept_in blocks.old.items) }
 {
-    while count_in(blocks, q) < count {
-        join_at(blocks, q)?;
+    let mut left = count;
+    while left > 0 {
+        take_one(blocks, from);
+        left -= 1;
     }
-    Ok(())
+}
+
+/// Takes away paragraph `number`.
+fn take_one(blocks: &mut Vec<Block>, number: usize)
+    requires there { number < length (kept_in blocks.old.items) }
+    requires fits { Fits (kept_in blocks.old.items) }
+    ensures { kept_in blocks.new.items ≡ remove (kept_in blocks.old.items) number }
+{
+    let before = block_of(blocks, number);
+    remove_at(blocks, before.block, number - before.paragraphs);
 }

@@ -24,9 +24,9 @@ impl Before {
     /// The next block, behind this one.
     fn past(self, block: &Block) -> Before
         requires block { self.block < 2 ^ 63 }
-        requires paragraphs { self.paragraphs + length block.now.pieces.items ≤ 4_000_001 }
-        requires bytes { self.bytes + block.now.bytes ≤ 4_000_000 }
-        requires places { self.places + block.now.places ≤ 4_000_000 }
+        requires paragraphs { self.paragraphs + length block.now.pieces.items ≤ 9_000_000 }
+        requires bytes { self.bytes + block.now.bytes ≤ 9_000_000 }
+        requires places { self.places + block.now.places ≤ 9_000_000 }
         ensures block { result.block ≡ self.block + 1 }
         ensures paragraphs { result.paragraphs ≡ self.paragraphs + length block.now.pieces.items }
         ensures bytes { result.bytes ≡ self.bytes + block.now.bytes }

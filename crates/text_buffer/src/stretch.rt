@@ -1,11 +1,10 @@
 //! The stretch of paragraphs that an edit makes anew.
 
-ghost use Rattle.std.specs.Prelude.{◌≡◌, ◌+◌, ◌<◌, ◌≤◌, ◌++◌, [], length, take, drop, get_or, string_bytes, IfOk};
-ghost use Rattle.std.specs.List.{concat};
+ghost use Rattle.std.specs.Prelude.{◌≡◌, ◌+◌, ◌<◌, ◌++◌, [], length, get_or, string_bytes, IfOk};
 ghost use Rattle.paragraphs.specs.Text.{code_points};
 ghost use Rattle.text_buffer.specs.Buffers.{Fits, IsSplit};
 ghost use Rattle.text_buffer.specs.Blocks.{kept_in};
-ghost use Rattle.text_buffer.specs.Stretches.{IsStretch};
+ghost use Rattle.text_buffer.specs.Stretches.{IsBegun, IsStretch, text_with};
 
 use crate::block::Block;
 use crate::find::block_of;
@@ -48,54 +47,54 @@ pub fn stretch_at(
     requires fits { Fits (kept_in blocks.now) }
     requires split { IsSplit tables.now (kept_in blocks.now) }
     ensures stretch { IfOk result (λ s. IsStretch tables.now (kept_in blocks.now) s.from s.to (code_points (string_bytes s.text))) }
-    ensures text { IfOk result (λ s. concat (take s.from (kept_in blocks.now)) ++ (code_points (string_bytes s.text) ++ concat (drop s.to (kept_in blocks.now)))
-        ≡ concat (take number (kept_in blocks.now)) ++ (code_points (string_bytes text) ++ concat (drop (number + 1) (kept_in blocks.now)))) }
+    ensures text { IfOk result (λ s. text_with (kept_in blocks.now) s.from s.to (code_points (string_bytes s.text))
+        ≡ text_with (kept_in blocks.now) number (number + 1) (code_points (string_bytes text))) }
 {
-    let front = with_front(alloc, tables, blocks, count, number, text)?;
-    with_back(tables, blocks, count, front)
+    let front = with_front(alloc, tables, blocks, number, text)?;
+    with_back(alloc, tables, blocks, count, front)
 }
 
-/// With the paragraph in front, where it no longer ends there.
+/// With the paragraph in front, where it no longer ends there. If nothing is left of the paragraph itself, what stands
+/// behind it decides that, so the one in front is made anew too.
 fn with_front(
     alloc: Global,
     tables: &Tables,
     blocks: &[Block],
-    count: usize,
     number: usize,
     text: String,
 ) -> Result<Stretch, Memory>
-    requires count { count ≡ length (kept_in blocks.now) }
-    requires fits { Fits (kept_in blocks.now) }
     requires there { number < length (kept_in blocks.now) }
+    requires fits { Fits (kept_in blocks.now) }
+    requires split { IsSplit tables.now (kept_in blocks.now) }
+    ensures front { IfOk result (λ s. IsBegun tables.now (kept_in blocks.now) s.from s.to (code_points (string_bytes s.text))) }
+    ensures text { IfOk result (λ s. text_with (kept_in blocks.now) s.from s.to (code_points (string_bytes s.text))
+        ≡ text_with (kept_in blocks.now) number (number + 1) (code_points (string_bytes text))) }
 {
-    let to = number + 1;
-    if number > 0 {
-        let before = text_of(blocks, number - 1);
-        let behind = if text.is_empty() && to < count {
-            text_of(blocks, to)
-        } else {
-            text.as_str()
-        };
-        if !meets_at_cut(tables, before, behind) {
-            let mut whole = String::with_capacity(alloc, before.len() + text.len())?;
-            whole.push_str(before)?;
-            whole.push_str(&text)?;
-            return Ok(Stretch {
-                from: number - 1,
-                to,
-                text: whole,
-            });
-        }
+    if number == 0 {
+        return Ok(Stretch {
+            from: 0,
+            to: 1,
+            text,
+        });
+    }
+    let before = text_of(blocks, number - 1);
+    if !text.is_empty() && meets_at_cut(tables, before, &text) {
+        return Ok(Stretch {
+            from: number,
+            to: number + 1,
+            text,
+        });
     }
     Ok(Stretch {
-        from: number,
-        to,
-        text,
+        from: number - 1,
+        to: number + 1,
+        text: joined_text(alloc, before, &text)?,
     })
 }
 
 /// With the paragraph behind, where it no longer begins there.
 fn with_back(
+    alloc: Global,
     tables: &Tables,
     blocks: &[Block],
     count: usize,
@@ -103,18 +102,32 @@ fn with_back(
 ) -> Result<Stretch, Memory>
     requires count { count ≡ length (kept_in blocks.now) }
     requires fits { Fits (kept_in blocks.now) }
+    requires split { IsSplit tables.now (kept_in blocks.now) }
+    requires front { IsBegun tables.now (kept_in blocks.now) front.from front.to (code_points (string_bytes front.text)) }
+    ensures stretch { IfOk result (λ s. IsStretch tables.now (kept_in blocks.now) s.from s.to (code_points (string_bytes s.text))) }
+    ensures text { IfOk result (λ s. text_with (kept_in blocks.now) s.from s.to (code_points (string_bytes s.text))
+        ≡ text_with (kept_in blocks.now) front.from front.to (code_points (string_bytes front.text))) }
 {
-    let Stretch { from, to, mut text } = front;
-    if to < count {
-        let behind = text_of(blocks, to);
-        if !meets_at_cut(tables, &text, behind) {
-            text.push_str(behind)?;
-            return Ok(Stretch {
-                from,
-                to: to + 1,
-                text,
-            });
-        }
+    if front.to >= count {
+        return Ok(front);
     }
-    Ok(Stretch { from, to, text })
+    let behind = text_of(blocks, front.to);
+    if meets_at_cut(tables, &front.text, behind) {
+        return Ok(front);
+    }
+    Ok(Stretch {
+        from: front.from,
+        to: front.to + 1,
+        text: joined_text(alloc, &front.text, behind)?,
+    })
+}
+
+/// Two texts, one behind the other.
+pub fn joined_text(alloc: Global, first: &str, second: &str) -> Result<String, Memory>
+    ensures { IfOk result (λ s. string_bytes s ≡ first.now ++ second.now) }
+{
+    let mut whole = String::with_capacity(alloc, first.len().saturating_add(second.len()))?;
+    whole.push_str(first)?;
+    whole.push_str(second)?;
+    Ok(whole)
 }
