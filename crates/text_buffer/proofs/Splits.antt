@@ -7,7 +7,7 @@ use Rattle.std.specs.Prelude.{encode_utf8_all, string_bytes}
 use Rattle.std.specs.Str.{IsUtf8}
 use Rattle.unicode_tables.specs.Tables.{TableValues, bidi_of}
 use Rattle.paragraphs.specs.Paragraphs.{meets_at_cut}
-use Rattle.paragraphs.proofs.Interface.{parts, front, front-is, concat-parts, IsHalved-from, parts-put, parts-put_last, concat-append, paragraph_points-parts}
+use Rattle.paragraphs.proofs.Interface.{parts, front, front-is, parts-some, concat-parts, IsHalved-from, parts-put, parts-put_last, concat-append, paragraph_points-parts}
 use Rattle.text_buffer.specs.declared.piece.Piece.{Piece}
 use Rattle.text_buffer.specs.declared.block.Block.{Block}
 use Rattle.text_buffer.specs.Buffers.{IsSplit}
@@ -81,3 +81,6 @@ text-of_parts tables new points e = ap concat e ∙ concat-parts (bidi_of tables
 
 pub split-of_parts : (tables : TableValues) (new : List (List ℕ)) (points : List ℕ) → new ≡ parts (bidi_of tables) points → new ≡ parts (bidi_of tables) (concat new)
 split-of_parts tables new points e = e ∙ sym (ap (parts (bidi_of tables)) (text-of_parts tables new points e))
+
+pub some-parts : (tables : TableValues) (new : List (List ℕ)) (points : List ℕ) → new ≡ parts (bidi_of tables) points → 0 < length new
+some-parts tables new points e = let p = parts-some (bidi_of tables) points in let n = ap length (e ∙ p.2) in omega (arith, n)

@@ -1,10 +1,13 @@
 -- A character put at a spot of a paragraph, or erased there, and what a buffer knows then.
-use Rattle.std.proofs.Common.{◌≡◌, ℕ, suc, ◌+◌, ◌-◌, ◌<◌, ◌≤◌, List, [], ◌∷◌, ◌++◌, length, take, drop, get_or, sym, ap, ap₂, subst, ◌∙◌, inl, inr, add-one, arith}
+use Rattle.std.proofs.Common.{Result, Ok, Err, ⊥, ◌≡◌, ℕ, suc, ◌+◌, ◌-◌, ◌<◌, ◌≤◌, List, [], ◌∷◌, ◌++◌, length, take, drop, get_or, sym, ap, ap₂, subst, ◌∙◌, inl, inr, add-one, arith}
 use Rattle.std.proofs.lemmas.Bool.{cases_lt}
 use Rattle.std.proofs.lemmas.List.{length-append, take-append-drop, drop-drop}
 use Rattle.std.specs.List.{concat, insert, remove}
 use Rattle.std.specs.Prelude.{encode_utf8, encode_utf8_all}
 use Rattle.unicode_tables.specs.Tables.{TableValues}
+use Rattle.text_buffer.specs.declared.fault.BufferFault.{BufferFault}
+use Rattle.text_buffer.specs.declared.fault.BufferFault.TheVariants.{TooLong, Memory}
+use Rattle.text_buffer.specs.Codes.{buffer_code}
 use Rattle.text_buffer.specs.declared.block.Block.{Block}
 use Rattle.text_buffer.specs.Buffers.{bytes_in, IsSplit, Fits}
 use Rattle.text_buffer.specs.Blocks.{kept_in}
@@ -111,3 +114,15 @@ counted-new tables bs bytes places paragraphs text split is bytes_is places_is p
         paragraphs = omega (arith, fits-split tables bs split (omega (arith, all, few)));
       };
     }
+
+-- ---- faults
+
+abbrev code_of : {T : Type 0} → Result T BufferFault → ℕ
+code_of (Ok v) = 0
+code_of (Err fault) = buffer_code fault
+
+pub ok-fits : {T : Type 0} (r : Result T BufferFault) (v : T) → r ≡ Ok v → r ≡ Err TooLong → ⊥
+ok-fits r v is long = let e = ap code_of (sym is ∙ long) in omega (arith, e)
+
+pub memory-fits : {T : Type 0} (r : Result T BufferFault) → r ≡ Err Memory → r ≡ Err TooLong → ⊥
+memory-fits r is long = let e = ap code_of (sym is ∙ long) in omega (arith, e)

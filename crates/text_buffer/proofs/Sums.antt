@@ -84,3 +84,8 @@ pub points-put : (ps qs : List Piece) (i : ℕ) → points_in (take i ps ++ (qs 
 points-put ps qs i =
     map-append points_of (take i ps) (qs ++ drop i ps)
     ∙ ap₂ (λ x y. x ++ y) (sym (take-map points_of i ps)) (map-append points_of qs (drop i ps) ∙ ap (λ t. points_in qs ++ t) (sym (drop-map points_of i ps)))
+
+pub bytes-take : (xs : List (List ℕ)) (n : ℕ) → bytes_in (concat (take n xs)) ≤ bytes_in (concat xs)
+bytes-take xs n =
+    let all = ap (λ t. bytes_in (concat t)) (sym (take-append-drop n xs)) in
+    omega (arith, all, bytes-append (take n xs) (drop n xs))

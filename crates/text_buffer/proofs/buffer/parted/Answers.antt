@@ -41,5 +41,5 @@ returns-clause-front c =
     let n = length text - length rest in
     let same : n - 0 ≡ n = omega arith in
     let whole = ap₂ (λ x y. x ++ y) (c.range.ensures.value ∙ ap (λ k. take k text) same) i.end ∙ take-append-drop n text in
-    let all = omega (arith, c.loop-left-test.false) in
+    let all : c.args.offset - c.loop-left.left ≡ c.args.offset = omega (arith, c.loop-left-test.false) in
     front-points text c.range.result.now rest c.args.offset c.range.utf8 whole (i.points ∙ ap (λ k. drop k (code_points text)) all)
