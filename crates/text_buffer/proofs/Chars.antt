@@ -1,5 +1,5 @@
 -- Texts that are parted between characters.
-use Rattle.std.proofs.Common.{◌≡◌, ℕ, ◌+◌, ◌-◌, ◌<◌, ◌≤◌, List, [], ◌∷◌, ◌++◌, length, take, drop, refl, sym, ap, ap₂, subst, ◌∙◌, false, ◌==◌, inl, inr, String, arith}
+use Rattle.std.proofs.Common.{◌≡◌, ℕ, ◌+◌, ◌-◌, ◌<◌, ◌≤◌, List, ◌∷◌, ◌++◌, length, take, drop, refl, sym, ap, ap₂, ◌∙◌, false, ◌==◌, inl, inr, String, arith}
 use Rattle.std.proofs.lemmas.List.{append_assoc, append_cancel_right, length-append, take-append-drop, drop-drop, nil_from_length}
 use Rattle.std.proofs.lemmas.Str.{chars-append, chars_past_char, IsUtf8-append, IsUtf8-encode, IsUtf8-string_bytes, encodes-chars}
 use Rattle.std.proofs.lemmas.Bool.{cases_lt, eqb-false}

@@ -1,5 +1,5 @@
 -- How much stands before a block, in it and behind it.
-use Rattle.std.proofs.Common.{Result, Ok, Err, cond, ◌≡◌, ℕ, suc, ◌/◌, ◌+◌, ◌-◌, ◌<◌, ◌≤◌, List, [], ◌∷◌, ◌++◌, map, length, take, drop, get_or, slice_set, reverse, refl, sym, ap, ap₂, subst, ◌∙◌, inl, inr, arith}
+use Rattle.std.proofs.Common.{Result, Ok, Err, cond, ◌≡◌, ℕ, suc, ◌/◌, ◌+◌, ◌-◌, ◌<◌, ◌≤◌, List, [], ◌∷◌, ◌++◌, length, take, drop, get_or, slice_set, reverse, sym, ap, ap₂, subst, ◌∙◌, inl, inr, arith}
 use Rattle.std.proofs.lemmas.Bool.{cases_lt, false≢true}
 use Rattle.std.proofs.lemmas.List.{append-nil, length-append, length-map, get_or-map, map-set, map-append, take-map, drop-map, reverse-append, take_more, drop_all, take_all, take-append-le}
 use Rattle.std.proofs.lemmas.List.Concat.{get_or-flat_map}

@@ -1,6 +1,6 @@
 -- Paragraphs of a text that gets others in the place of some.
-use Rattle.std.proofs.Common.{◌≡◌, ℕ, Bool, true, false, cond, ◌+◌, ◌-◌, ◌<◌, ◌≤◌, List, [], ◌∷◌, ◌++◌, map, length, take, drop, refl, sym, ap, ap₂, subst, ◌∙◌, arith}
-use Rattle.std.proofs.lemmas.List.{append-nil, append_assoc, length-append, length-drop, map-append, take-append-drop, drop_all, take_all}
+use Rattle.std.proofs.Common.{◌≡◌, ℕ, Bool, true, false, cond, ◌-◌, ◌<◌, List, [], ◌∷◌, ◌++◌, length, take, drop, refl, sym, ap, subst, ◌∙◌, arith}
+use Rattle.std.proofs.lemmas.List.{append-nil, length-drop, take-append-drop, drop_all}
 use Rattle.std.proofs.lemmas.Str.{encodes-append, encodes-chars, IsUtf8-append, IsUtf8-nil, IsUtf8-string_bytes}
 use Rattle.std.specs.List.{concat}
 use Rattle.std.specs.Prelude.{encode_utf8_all, string_bytes}
@@ -12,9 +12,8 @@ use Rattle.text_buffer.specs.declared.piece.Piece.{Piece}
 use Rattle.text_buffer.specs.declared.block.Block.{Block}
 use Rattle.text_buffer.specs.Buffers.{IsSplit}
 use Rattle.text_buffer.specs.Pieces.{points_of, points_in}
-use Rattle.text_buffer.specs.Blocks.{joined, rows_of, kept_in}
+use Rattle.text_buffer.specs.Blocks.{kept_in}
 use Rattle.text_buffer.specs.Stretches.{IsStretch, text_with}
-use Rattle.text_buffer.proofs.Joins.{joined-append}
 
 -- ---- what is kept is text
 

@@ -1,5 +1,5 @@
 -- A character put at a spot of a paragraph, or erased there, and what a buffer knows then.
-use Rattle.std.proofs.Common.{Result, Ok, Err, ◌≡◌, ℕ, suc, ◌+◌, ◌-◌, ◌<◌, ◌≤◌, List, [], ◌∷◌, ◌++◌, length, take, drop, get_or, sym, ap, ap₂, subst, ◌∙◌, inl, inr, add-one, arith}
+use Rattle.std.proofs.Common.{Result, Ok, Err, ◌≡◌, ℕ, suc, ◌+◌, ◌<◌, ◌≤◌, List, [], ◌∷◌, ◌++◌, length, take, drop, get_or, sym, ap, subst, ◌∙◌, inl, inr, add-one, arith}
 use Rattle.std.proofs.lemmas.Bool.{cases_lt}
 use Rattle.std.proofs.lemmas.List.{length-append, take-append-drop, drop-drop}
 use Rattle.std.specs.List.{concat, insert, remove}
@@ -9,7 +9,7 @@ use Rattle.text_buffer.specs.declared.fault.BufferFault.{BufferFault}
 use Rattle.text_buffer.specs.declared.fault.BufferFault.TheVariants.{TooLong, Memory}
 use Rattle.text_buffer.specs.Codes.{buffer_code}
 use Rattle.text_buffer.specs.declared.block.Block.{Block}
-use Rattle.text_buffer.specs.Buffers.{bytes_in, IsSplit, Fits}
+use Rattle.text_buffer.specs.Buffers.{bytes_in, IsSplit}
 use Rattle.text_buffer.specs.Blocks.{kept_in}
 use Rattle.text_buffer.specs.Counted.{IsCounted}
 use Rattle.text_buffer.specs.Stretches.{text_with}

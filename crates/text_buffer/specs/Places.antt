@@ -1,5 +1,5 @@
 -- How much stands in the blocks before one.
-use Rattle.std.specs.Prelude.{◌≡◌, ◌<◌, ℕ, List, length, take}
+use Rattle.std.specs.Prelude.{◌≡◌, ◌<◌, List, length, take}
 use Rattle.std.specs.List.{concat}
 use Rattle.text_buffer.specs.declared.block.Block.{Block}
 use Rattle.text_buffer.specs.declared.find.Before.{Before}

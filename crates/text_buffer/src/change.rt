@@ -35,12 +35,7 @@ pub fn pieces_of(alloc: Global, tables: &Tables, text: &str) -> Result<Vec<Piece
 }
 
 /// The paragraphs of a text, all but the last one unless that is asked for.
-fn pieces_in(
-    alloc: Global,
-    tables: &Tables,
-    text: &str,
-    last: bool,
-) -> Result<Vec<Piece>, Memory>
+fn pieces_in(alloc: Global, tables: &Tables, text: &str, last: bool) -> Result<Vec<Piece>, Memory>
     ensures { let all = map (λ p. code_points p.text) (paragraphs tables.now text.now) in
         IfOk result (λ pieces. points_in pieces.items ≡ (if last then all else take (length all - 1) all)) }
 {

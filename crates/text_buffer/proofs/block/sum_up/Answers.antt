@@ -1,7 +1,6 @@
 -- Each paragraph is counted, and none has more code points than bytes.
-use Rattle.std.proofs.Common.{◌≡◌, ◌+◌, ◌≤◌, length, take, refl, sym, ap, ◌∙◌, arith}
+use Rattle.std.proofs.Common.{◌+◌, length, take, sym, ap, arith}
 use Rattle.std.specs.List.{concat}
-use Rattle.std.specs.Prelude.{string_bytes}
 use Rattle.text_buffer.specs.Pieces.{points_in}
 use Rattle.text_buffer.proofs.Sums.{bytes-more, places-more, bytes-front, places-few}
 use Rattle.text_buffer.proofs.block.sum_up.Goals as goal

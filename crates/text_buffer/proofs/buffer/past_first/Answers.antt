@@ -1,8 +1,8 @@
 -- The first character is one code point.
-use Rattle.std.proofs.Common.{◌≡◌, ◌++◌, ◌<◌, ◌≤◌, drop, sym, ap, ◌∙◌, arith}
+use Rattle.std.proofs.Common.{◌++◌, drop, sym, ap, ◌∙◌}
 use Rattle.std.proofs.lemmas.Str.{chars_past_char}
 use Rattle.std.specs.Prelude.{encode_utf8}
-use Rattle.paragraphs.proofs.Interface.{past_char-shorter, points-fit}
+use Rattle.paragraphs.proofs.Interface.{past_char-shorter}
 use Rattle.text_buffer.proofs.Chars.{end-of}
 use Rattle.text_buffer.proofs.buffer.past_first.Goals as goal
 

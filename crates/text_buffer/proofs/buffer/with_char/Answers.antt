@@ -1,7 +1,7 @@
 -- The code points of three texts, one behind the other.
-use Rattle.std.proofs.Common.{◌≡◌, ◌++◌, ◌∷◌, ap, ap₂, ◌∙◌}
+use Rattle.std.proofs.Common.{◌++◌, ◌∷◌, ap, ap₂, ◌∙◌}
 use Rattle.paragraphs.specs.Text.{code_points}
-use Rattle.std.specs.Prelude.{encode_utf8, string_bytes}
+use Rattle.std.specs.Prelude.{encode_utf8}
 use Rattle.text_buffer.proofs.Chars.{points-between}
 use Rattle.text_buffer.proofs.buffer.with_char.Goals as goal
 

@@ -1,8 +1,6 @@
 -- The stretch is made anew, and the text is split as before.
-use Rattle.std.proofs.Common.{◌≡◌, ◌+◌, ◌-◌, ◌<◌, ◌≤◌, length, sym, ap, subst, ◌∙◌, arith}
-use Rattle.std.specs.List.{concat}
+use Rattle.std.proofs.Common.{◌+◌, sym, ap, subst, ◌∙◌, arith}
 use Rattle.std.specs.Prelude.{string_bytes}
-use Rattle.unicode_tables.specs.Tables.{TableValues}
 use Rattle.paragraphs.specs.Text.{code_points}
 use Rattle.text_buffer.specs.Buffers.{bytes_in, Fits}
 use Rattle.text_buffer.specs.Pieces.{points_in}
@@ -27,7 +25,7 @@ put_between-requires-clause-few c =
     let put = points_in c.in_ok-pieces.pieces.items in
     let text = text_with (kept_in c.deref.result.now) c.args.number (c.args.number + 1) (code_points (string_bytes c.args.text)) in
     let made = made-change c.args.tables.now old c.deref.result.now c.deref.ensures.value s.from s.to c.args.count (code_points (string_bytes s.text)) c.deref-2.result.now text put c.requires.split c.requires.count
-        c.in_ok-stretch.ensures.stretch c.in_ok-stretch.ensures.text c.deref-2.utf8 (ap code_points c.deref-2.ensures) c.in_ok-pieces.ensures in
+    c.in_ok-stretch.ensures.stretch c.in_ok-stretch.ensures.text c.deref-2.utf8 (ap code_points c.deref-2.ensures) c.in_ok-pieces.ensures in
     let few = ap (λ bs. bytes_in (text_with (kept_in bs) c.args.number (c.args.number + 1) (code_points (string_bytes c.args.text)))) c.deref.ensures.value in
     omega (arith, made.bytes, few, c.requires.new, c.requires.few)
 
@@ -38,7 +36,7 @@ put_between-requires-clause-paragraphs c =
     let put = points_in c.in_ok-pieces.pieces.items in
     let text = text_with (kept_in c.deref.result.now) c.args.number (c.args.number + 1) (code_points (string_bytes c.args.text)) in
     let made = made-change c.args.tables.now old c.deref.result.now c.deref.ensures.value s.from s.to c.args.count (code_points (string_bytes s.text)) c.deref-2.result.now text put c.requires.split c.requires.count
-        c.in_ok-stretch.ensures.stretch c.in_ok-stretch.ensures.text c.deref-2.utf8 (ap code_points c.deref-2.ensures) c.in_ok-pieces.ensures in
+    c.in_ok-stretch.ensures.stretch c.in_ok-stretch.ensures.text c.deref-2.utf8 (ap code_points c.deref-2.ensures) c.in_ok-pieces.ensures in
     let few = ap (λ bs. bytes_in (text_with (kept_in bs) c.args.number (c.args.number + 1) (code_points (string_bytes c.args.text)))) c.deref.ensures.value in
     let n = fits-split c.args.tables.now old c.requires.split c.requires.few in
     omega (arith, made.paragraphs, few, c.requires.new, n, length-points c.in_ok-pieces.pieces.items, c.in_ok-pieces.pieces.ok)
@@ -50,7 +48,7 @@ overflow_add-result c =
     let put = points_in c.in_ok-pieces.pieces.items in
     let text = text_with (kept_in c.deref.result.now) c.args.number (c.args.number + 1) (code_points (string_bytes c.args.text)) in
     let made = made-change c.args.tables.now old c.deref.result.now c.deref.ensures.value s.from s.to c.args.count (code_points (string_bytes s.text)) c.deref-2.result.now text put c.requires.split c.requires.count
-        c.in_ok-stretch.ensures.stretch c.in_ok-stretch.ensures.text c.deref-2.utf8 (ap code_points c.deref-2.ensures) c.in_ok-pieces.ensures in
+    c.in_ok-stretch.ensures.stretch c.in_ok-stretch.ensures.text c.deref-2.utf8 (ap code_points c.deref-2.ensures) c.in_ok-pieces.ensures in
     let few = ap (λ bs. bytes_in (text_with (kept_in bs) c.args.number (c.args.number + 1) (code_points (string_bytes c.args.text)))) c.deref.ensures.value in
     let n = fits-split c.args.tables.now old c.requires.split c.requires.few in
     omega (arith, made.paragraphs, few, c.requires.new, n, c.requires.count, c.len-more.ensures, length-points c.in_ok-pieces.pieces.items, c.in_ok-pieces.pieces.ok)
@@ -62,7 +60,7 @@ returns-clause-text c =
     let put = points_in c.in_ok-pieces.pieces.items in
     let text = text_with (kept_in c.deref.result.now) c.args.number (c.args.number + 1) (code_points (string_bytes c.args.text)) in
     let made = made-change c.args.tables.now old c.deref.result.now c.deref.ensures.value s.from s.to c.args.count (code_points (string_bytes s.text)) c.deref-2.result.now text put c.requires.split c.requires.count
-        c.in_ok-stretch.ensures.stretch c.in_ok-stretch.ensures.text c.deref-2.utf8 (ap code_points c.deref-2.ensures) c.in_ok-pieces.ensures in
+    c.in_ok-stretch.ensures.stretch c.in_ok-stretch.ensures.text c.deref-2.utf8 (ap code_points c.deref-2.ensures) c.in_ok-pieces.ensures in
     text-of_parts c.args.tables.now _ text (c.in_ok-put_between.ensures.ok ∙ made.parts_is)
     ∙ ap (λ bs. text_with (kept_in bs) c.args.number (c.args.number + 1) (code_points (string_bytes c.args.text))) c.deref.ensures.value
 
@@ -73,6 +71,6 @@ returns-clause-split c =
     let put = points_in c.in_ok-pieces.pieces.items in
     let text = text_with (kept_in c.deref.result.now) c.args.number (c.args.number + 1) (code_points (string_bytes c.args.text)) in
     let made = made-change c.args.tables.now old c.deref.result.now c.deref.ensures.value s.from s.to c.args.count (code_points (string_bytes s.text)) c.deref-2.result.now text put c.requires.split c.requires.count
-        c.in_ok-stretch.ensures.stretch c.in_ok-stretch.ensures.text c.deref-2.utf8 (ap code_points c.deref-2.ensures) c.in_ok-pieces.ensures in
+    c.in_ok-stretch.ensures.stretch c.in_ok-stretch.ensures.text c.deref-2.utf8 (ap code_points c.deref-2.ensures) c.in_ok-pieces.ensures in
     let new = c.put_between.new.blocks.items in
     parts-split c.args.tables.now (kept_in new) (utf8-kept new) (split-of_parts c.args.tables.now _ text (c.in_ok-put_between.ensures.ok ∙ made.parts_is))

@@ -3,7 +3,6 @@ use Rattle.std.proofs.Common.{◌≡◌, ◌+◌, ◌-◌, ◌≤◌, ◌<◌, �
 use Rattle.std.proofs.lemmas.List.{length-set}
 use Rattle.std.proofs.lemmas.Result.{on_ok_weaker}
 use Rattle.std.specs.List.{concat}
-use Rattle.std.specs.Prelude.{slice_set}
 use Rattle.text_buffer.specs.Buffers.{bytes_in}
 use Rattle.text_buffer.specs.Pieces.{points_in}
 use Rattle.text_buffer.specs.Blocks.{rows_of, kept_in, joined}
@@ -40,8 +39,8 @@ returns-clause-ok c =
     let kept = ap kept_in c.deref_mut.ensures.value ∙ c.in_ok-make_room.ensures in
     on_ok_weaker c.insert_in.result
     (λ rows.
-      let size = sym (length-rows new) ∙ ap length rows ∙ length-set (rows_of now) b.block (take j row ++ (put ++ drop j row)) ∙ length-rows now in
-      ap kept_in (written new c.make_room.new.blocks.items _ (omega (arith, size, c.deref_mut.ensures.len)) (omega (arith, c.make_room.new.blocks.ok)))
-      ∙ ap joined rows ∙ joined-put (rows_of now) b.block j put within inside
-      ∙ ap (λ n. take n (kept_in now) ++ (put ++ drop n (kept_in now))) at ∙ ap (λ k. take c.args.number k ++ (put ++ drop c.args.number k)) kept)
+    let size = sym (length-rows new) ∙ ap length rows ∙ length-set (rows_of now) b.block (take j row ++ (put ++ drop j row)) ∙ length-rows now in
+    ap kept_in (written new c.make_room.new.blocks.items _ (omega (arith, size, c.deref_mut.ensures.len)) (omega (arith, c.make_room.new.blocks.ok)))
+    ∙ ap joined rows ∙ joined-put (rows_of now) b.block j put within inside
+    ∙ ap (λ n. take n (kept_in now) ++ (put ++ drop n (kept_in now))) at ∙ ap (λ k. take c.args.number k ++ (put ++ drop c.args.number k)) kept)
     c.insert_in.ensures.ok

@@ -1,5 +1,5 @@
 -- Others come, and then the stretch goes.
-use Rattle.std.proofs.Common.{◌≡◌, ◌+◌, ◌-◌, ◌<◌, ◌≤◌, ◌++◌, length, take, drop, ap, ◌∙◌, arith}
+use Rattle.std.proofs.Common.{◌≡◌, ◌+◌, ◌-◌, ◌≤◌, ◌++◌, length, take, drop, ap, ◌∙◌, arith}
 use Rattle.text_buffer.specs.Pieces.{points_in}
 use Rattle.text_buffer.specs.Blocks.{kept_in}
 use Rattle.text_buffer.proofs.Joins.{put-taken}

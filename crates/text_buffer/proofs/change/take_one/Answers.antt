@@ -1,7 +1,6 @@
 -- The paragraph of its block goes from all.
-use Rattle.std.proofs.Common.{◌≡◌, ◌+◌, ◌-◌, ◌<◌, ◌≤◌, [], length, take, get_or, sym, ap, subst, ◌∙◌, arith}
-use Rattle.std.specs.List.{concat, remove}
-use Rattle.text_buffer.specs.Buffers.{bytes_in}
+use Rattle.std.proofs.Common.{◌≡◌, ◌+◌, ◌-◌, ◌<◌, [], length, take, get_or, ap, subst, ◌∙◌, arith}
+use Rattle.std.specs.List.{remove}
 use Rattle.text_buffer.specs.Blocks.{rows_of, kept_in, joined}
 use Rattle.text_buffer.specs.Places.{StandsBefore}
 use Rattle.text_buffer.proofs.Joins.{bytes-row, joined-removed}

@@ -1,7 +1,6 @@
 -- No block but the last is passed whole where the place is its end.
-use Rattle.std.proofs.Common.{◌≡◌, ◌+◌, ◌-◌, ◌<◌, ◌≤◌, [], length, take, drop, get_or, sym, ap, ◌∙◌, arith}
+use Rattle.std.proofs.Common.{length, ap, arith}
 use Rattle.std.specs.List.{concat}
-use Rattle.text_buffer.specs.declared.block.Block.{Block}
 use Rattle.text_buffer.specs.Buffers.{bytes_in}
 use Rattle.text_buffer.specs.Blocks.{joined, rows_of}
 use Rattle.text_buffer.proofs.Sums.{places-few}

@@ -1,5 +1,5 @@
 -- A paragraph knows its count.
-use Rattle.std.proofs.Common.{◌≡◌, [], length, get_or, sym, ap, ◌∙◌}
+use Rattle.std.proofs.Common.{[], length, get_or, sym, ap, ◌∙◌}
 use Rattle.std.proofs.lemmas.List.{get_or-map}
 use Rattle.text_buffer.specs.Pieces.{points_of}
 use Rattle.text_buffer.proofs.find.places_of.Goals as goal

@@ -1,6 +1,5 @@
 -- Each paragraph that was passed is whole before the place.
-use Rattle.std.proofs.Common.{◌≡◌, ◌+◌, ◌-◌, ◌<◌, ◌≤◌, [], length, take, get_or, sym, ap, ◌∙◌, arith}
-use Rattle.std.specs.List.{concat}
+use Rattle.std.proofs.Common.{arith}
 use Rattle.text_buffer.specs.Pieces.{points_in}
 use Rattle.text_buffer.proofs.Places.{length-points}
 use Rattle.text_buffer.proofs.Texts.{places-last, places-more-at}

@@ -1,6 +1,6 @@
 -- The two halves follow each other.
-use Rattle.std.proofs.Common.{◌≡◌, ◌+◌, ◌/◌, ◌≤◌, ◌<◌, ◌++◌, [], length, take, drop, get_or, sym, ap, ap₂, ◌∙◌, arith}
-use Rattle.std.proofs.lemmas.List.{length-set, length-map, take-append-drop}
+use Rattle.std.proofs.Common.{◌+◌, ◌/◌, ◌<◌, [], length, take, drop, get_or, sym, ap, ap₂, ◌∙◌, arith}
+use Rattle.std.proofs.lemmas.List.{length-set, take-append-drop}
 use Rattle.std.specs.List.{concat, insert}
 use Rattle.std.specs.Prelude.{slice_set}
 use Rattle.text_buffer.specs.Buffers.{bytes_in}

@@ -1,6 +1,5 @@
 -- A row of one paragraph goes with it.
-use Rattle.std.proofs.Common.{◌≡◌, ℕ, suc, ◌+◌, ◌<◌, ◌≤◌, List, [], ◌++◌, length, take, drop, get_or, sym, ap, subst, ◌∙◌, arith}
-use Rattle.std.specs.List.{remove}
+use Rattle.std.proofs.Common.{◌≡◌, [], length, get_or, sym, ap, ◌∙◌, arith}
 use Rattle.std.specs.Prelude.{slice_set}
 use Rattle.text_buffer.specs.Blocks.{rows_of, joined}
 use Rattle.text_buffer.proofs.Joins.{joined-without, remove-only}

@@ -1,5 +1,5 @@
 -- The row without the paragraph.
-use Rattle.std.proofs.Common.{◌≡◌, ap, ◌∙◌}
+use Rattle.std.proofs.Common.{ap, ◌∙◌}
 use Rattle.std.specs.Prelude.{slice_set}
 use Rattle.text_buffer.specs.Pieces.{points_in}
 use Rattle.text_buffer.specs.Blocks.{rows_of}

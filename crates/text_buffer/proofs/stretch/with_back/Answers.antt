@@ -1,5 +1,5 @@
 -- The text ends at a cut, with the paragraph behind or before it.
-use Rattle.std.proofs.Common.{◌≡◌, ◌+◌, ◌<◌, ◌≤◌, ◌++◌, sym, ap, ap₂, subst, ◌∙◌, arith}
+use Rattle.std.proofs.Common.{◌+◌, ◌++◌, sym, ap, ap₂, subst, ◌∙◌, arith}
 use Rattle.std.proofs.lemmas.Str.{chars-append}
 use Rattle.unicode_tables.specs.Tables.{bidi_of}
 use Rattle.paragraphs.specs.Text.{code_points}
@@ -27,7 +27,7 @@ returns-clause-stretch c =
     let is = split-parts tables kept (utf8-kept c.args.blocks.now) c.requires.split in
     let f = c.args.front in
     let whole = ap code_points c.in_ok-joined_text.ensures ∙ chars-append c.deref-2.result.now c.text_of-behind.result.now c.deref-2.utf8
-        ∙ ap₂ (λ x y. x ++ y) (ap code_points c.deref-2.ensures) c.text_of-behind.ensures in
+    ∙ ap₂ (λ x y. x ++ y) (ap code_points c.deref-2.ensures) c.text_of-behind.ensures in
     subst (λ x. IsStretch tables kept f.from (f.to + 1) x) (sym whole)
     (stretch-joined tables kept is f.from f.to (code_points (string_bytes f.text)) c.requires.front (omega (arith, c.if-front-count.false, c.requires.count)))
 
@@ -36,6 +36,6 @@ returns-clause-text c =
     let kept = kept_in c.args.blocks.now in
     let f = c.args.front in
     let whole = ap code_points c.in_ok-joined_text.ensures ∙ chars-append c.deref-2.result.now c.text_of-behind.result.now c.deref-2.utf8
-        ∙ ap₂ (λ x y. x ++ y) (ap code_points c.deref-2.ensures) c.text_of-behind.ensures in
+    ∙ ap₂ (λ x y. x ++ y) (ap code_points c.deref-2.ensures) c.text_of-behind.ensures in
     ap (text_with kept f.from (f.to + 1)) whole
     ∙ text-joined_back kept f.from f.to (code_points (string_bytes f.text)) (omega (arith, c.if-front-count.false, c.requires.count))

@@ -1,5 +1,5 @@
 -- The text begins at a cut, with the paragraph in front or behind it.
-use Rattle.std.proofs.Common.{◌≡◌, ◌+◌, ◌-◌, ◌<◌, ◌≤◌, ◌++◌, [], length, get_or, sym, ap, ap₂, subst, ◌∙◌, arith}
+use Rattle.std.proofs.Common.{◌≡◌, ◌+◌, ◌-◌, ◌++◌, [], get_or, sym, ap, ap₂, subst, ◌∙◌, arith}
 use Rattle.std.proofs.lemmas.Str.{chars-append}
 use Rattle.unicode_tables.specs.Tables.{bidi_of}
 use Rattle.paragraphs.specs.Text.{code_points}
@@ -34,7 +34,7 @@ returns-clause-front c =
     let next : i + 1 ≡ c.args.number = omega (arith, c.if-number-eq0.false) in
     let t = code_points (string_bytes c.args.text) in
     let whole = ap code_points c.in_ok-joined_text.ensures ∙ chars-append c.text_of-before.result.now c.deref-2.result.now c.text_of-before.utf8
-        ∙ ap₂ (λ x y. x ++ y) c.text_of-before.ensures (ap code_points c.deref-2.ensures) in
+    ∙ ap₂ (λ x y. x ++ y) c.text_of-before.ensures (ap code_points c.deref-2.ensures) in
     subst (λ x. IsBegun tables kept i (c.args.number + 1) x) (sym whole)
     (subst (λ n. IsBegun tables kept i (n + 1) (get_or kept i [] ++ t)) next (begun-joined tables kept is i t (omega (arith, next, c.requires.there))))
 
@@ -45,6 +45,6 @@ returns-clause-text c =
     let next : i + 1 ≡ c.args.number = omega (arith, c.if-number-eq0.false) in
     let t = code_points (string_bytes c.args.text) in
     let whole = ap code_points c.in_ok-joined_text.ensures ∙ chars-append c.text_of-before.result.now c.deref-2.result.now c.text_of-before.utf8
-        ∙ ap₂ (λ x y. x ++ y) c.text_of-before.ensures (ap code_points c.deref-2.ensures) in
+    ∙ ap₂ (λ x y. x ++ y) c.text_of-before.ensures (ap code_points c.deref-2.ensures) in
     ap (text_with kept i (c.args.number + 1)) whole ∙ text-joined_front kept i (c.args.number + 1) t (omega (arith, next, c.requires.there))
     ∙ ap (λ n. text_with kept n (c.args.number + 1) t) next

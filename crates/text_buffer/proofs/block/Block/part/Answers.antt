@@ -1,5 +1,5 @@
 -- Both halves have the sums of the whole.
-use Rattle.std.proofs.Common.{◌≡◌, ◌+◌, ◌-◌, ◌≤◌, ◌<◌, ◌/◌, take, drop, length, sym, ap, ◌∙◌, arith}
+use Rattle.std.proofs.Common.{length, ap, arith}
 use Rattle.std.specs.List.{concat}
 use Rattle.text_buffer.specs.Buffers.{bytes_in}
 use Rattle.text_buffer.specs.Pieces.{points_in}

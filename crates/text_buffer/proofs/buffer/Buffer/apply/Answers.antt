@@ -1,5 +1,5 @@
 -- Each change says whether it fits.
-use Rattle.std.proofs.Common.{◌≡◌, ◌+◌, ◌<◌, ◌≤◌, length, refl, ap, ◌∙◌, arith}
+use Rattle.std.proofs.Common.{refl, ap, ◌∙◌, arith}
 use Rattle.std.specs.List.{concat}
 use Rattle.bg_types.specs.Edit.{changed}
 use Rattle.text_buffer.specs.Buffers.{bytes_in}

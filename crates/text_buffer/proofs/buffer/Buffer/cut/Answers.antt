@@ -1,12 +1,11 @@
 -- The character goes from its paragraph as from the text.
-use Rattle.std.proofs.Common.{◌≡◌, ◌+◌, ◌-◌, ◌<◌, ◌≤◌, length, sym, ap, ◌∙◌, arith}
+use Rattle.std.proofs.Common.{◌<◌, length, ap, ◌∙◌, arith}
 use Rattle.std.proofs.lemmas.List.Edits.{length-remove}
 use Rattle.std.specs.List.{concat, remove}
 use Rattle.std.specs.Prelude.{string_bytes}
 use Rattle.paragraphs.specs.Text.{code_points}
 use Rattle.text_buffer.specs.Buffers.{bytes_in}
 use Rattle.text_buffer.specs.Blocks.{kept_in}
-use Rattle.text_buffer.proofs.Sums.{places-few}
 use Rattle.text_buffer.proofs.Spots.{bytes-erase, spot-inside, cut-spot, cut-bytes, counted-new}
 use Rattle.std.proofs.lemmas.Str.{encodes-chars}
 use Rattle.text_buffer.proofs.buffer.Buffer.cut.Goals as goal

@@ -1,10 +1,9 @@
 -- The text is split whole.
-use Rattle.std.proofs.Common.{◌≡◌, ◌<◌, ◌≤◌, length, sym, ap, ◌∙◌, arith}
+use Rattle.std.proofs.Common.{length, sym, ap, ◌∙◌, arith}
 use Rattle.std.specs.List.{concat}
 use Rattle.std.proofs.lemmas.Str.{encodes-chars}
-use Rattle.unicode_tables.specs.Tables.{bidi_of}
 use Rattle.paragraphs.specs.Text.{code_points}
-use Rattle.paragraphs.proofs.Interface.{parts, points-parts}
+use Rattle.paragraphs.proofs.Interface.{points-parts}
 use Rattle.text_buffer.specs.Buffers.{bytes_in}
 use Rattle.text_buffer.specs.Pieces.{points_in}
 use Rattle.text_buffer.specs.Blocks.{kept_in}

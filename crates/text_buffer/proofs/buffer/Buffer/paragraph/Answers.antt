@@ -1,5 +1,5 @@
 -- The paragraph stands behind those of the blocks before its own, and those before it there.
-use Rattle.std.proofs.Common.{◌≡◌, ℕ, ◌+◌, ◌-◌, ◌<◌, ◌≤◌, ◌++◌, Option, List, [], length, take, get_or, sym, ap, ap₂, subst, ◌∙◌, arith}
+use Rattle.std.proofs.Common.{◌≡◌, ℕ, ◌+◌, ◌-◌, ◌<◌, ◌++◌, Option, List, [], length, take, get_or, sym, ap, ap₂, subst, ◌∙◌, arith}
 use Rattle.std.specs.List.{concat, slice_get}
 use Rattle.std.specs.Prelude.{Some, encode_utf8_all, string_bytes}
 use Rattle.std.proofs.lemmas.Str.{encodes-chars, IsUtf8-string_bytes}
@@ -89,6 +89,6 @@ returns c =
           let here_split = subst (IsSplit tables) (sym c.self.view_is) split in
           subst (λ kept. slice_get (paragraphs tables (encode_utf8_all (concat kept))) number ≡ Some c.new.result) c.self.view_is
           (paragraph-at tables (kept_in bs) number (utf8-kept bs) (split-parts tables (kept_in bs) (utf8-kept bs) here_split) within
-            ∙ ap (λ t. paragraph_with t (bytes_in (concat (take number (kept_in bs)))) (length (concat (take number (kept_in bs))))) text
-            ∙ ap₂ (paragraph_with c.deref-3.result.now) byte place ∙ ap Some (sym c.new.ensures));
+          ∙ ap (λ t. paragraph_with t (bytes_in (concat (take number (kept_in bs)))) (length (concat (take number (kept_in bs))))) text
+          ∙ ap₂ (paragraph_with c.deref-3.result.now) byte place ∙ ap Some (sym c.new.ensures));
     }

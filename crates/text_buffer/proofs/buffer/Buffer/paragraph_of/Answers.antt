@@ -1,5 +1,5 @@
 -- The place stands in the paragraph, or at the text's end.
-use Rattle.std.proofs.Common.{◌≡◌, ◌+◌, ◌<◌, [], length, take, get_or, ap, ◌∙◌, arith}
+use Rattle.std.proofs.Common.{[], length, take, get_or, ap, ◌∙◌, arith}
 use Rattle.std.specs.List.{concat}
 use Rattle.text_buffer.specs.Blocks.{kept_in}
 use Rattle.text_buffer.proofs.Texts.{places-more-at}

@@ -1,8 +1,8 @@
 -- The character stands in its paragraph as in the text.
-use Rattle.std.proofs.Common.{◌≡◌, ◌+◌, ◌-◌, ◌<◌, ◌≤◌, length, sym, ap, ◌∙◌, arith}
+use Rattle.std.proofs.Common.{◌≤◌, length, ap, ◌∙◌, arith}
 use Rattle.std.proofs.lemmas.List.Edits.{length-insert}
 use Rattle.std.specs.List.{concat, insert}
-use Rattle.std.specs.Prelude.{string_bytes, encode_utf8}
+use Rattle.std.specs.Prelude.{string_bytes}
 use Rattle.paragraphs.specs.Text.{code_points}
 use Rattle.text_buffer.specs.Buffers.{bytes_in}
 use Rattle.text_buffer.specs.Blocks.{kept_in}
