@@ -6,7 +6,7 @@ ghost use Rattle.std.specs.Prelude.{◌≡◌};
 ghost use Rattle.text_buffer.specs.Buffers.{IsSplit};
 
 use crate::rows::{Row, assert_rows};
-use bg_types::Memory;
+use bg_types::{Change, Memory};
 use paragraphs::{Para, split};
 use std::alloc::Global;
 use text_buffer::*;
@@ -64,7 +64,7 @@ fn change(tables: &Tables, buffer: &mut Buffer, step: Step) -> Result<(), Buffer
 {
     match step {
         Put(place, ch) if place <= buffer.len() => buffer.put(tables, place, ch),
-        Cut(place) if place < buffer.len() => Ok(buffer.cut(tables, place)?),
+        Cut(place) if place < buffer.len() => buffer.apply(tables, &Change::Cut { place }),
         _ => Err(BufferFault::TooLong),
     }
 }
@@ -256,6 +256,27 @@ fn edits_by_chance_come_out_as_split_of_the_whole(rt: HostRuntime) {
                 seed: 11,
                 edits: 300,
             },
+        ],
+    );
+}
+
+/// A fault, its number, and how it prints.
+struct Printed(BufferFault, u8, &'static str);
+
+impl Row for Printed {
+    fn comes_out(&self, alloc: Global, _tables: &Tables) -> Result<bool, Memory> {
+        let printed = format!(in alloc; "{}", self.0)?;
+        Ok(self.0.code() == self.1 && printed.as_str() == self.2)
+    }
+}
+
+#[test]
+fn faults_print_their_names(rt: HostRuntime) {
+    assert_rows(
+        &rt,
+        &[
+            Printed(BufferFault::TooLong, 1, "TooLong"),
+            Printed(BufferFault::Memory, 9, "Memory"),
         ],
     );
 }
