@@ -28,6 +28,8 @@ mod reorder_tests;
 #[cfg(test)]
 mod rows;
 #[cfg(test)]
+mod text_buffer_tests;
+#[cfg(test)]
 mod ucd_files_tests;
 #[cfg(test)]
 mod view_cache_tests;

@@ -1,0 +1,282 @@
+//! What no clause says: texts typed and erased character by character, each time beside `split` of the whole text.
+//!
+//! An edit that was refused memory leaves the text, and is made again.
+
+ghost use Rattle.std.specs.Prelude.{◌≡◌};
+ghost use Rattle.text_buffer.specs.Buffers.{IsSplit};
+
+use crate::rows::{Row, assert_rows};
+use bg_types::{Change, Memory};
+use paragraphs::{Para, split};
+use std::alloc::Global;
+use text_buffer::*;
+use ucd_files::Tables;
+
+/// A change of a text: a character put at a place, or the character at a place erased.
+#[derive(Clone, Copy)]
+enum Step {
+    Put(usize, char),
+    Cut(usize),
+}
+
+use Step::{Cut, Put};
+
+fn is_same(one: &Para, other: &Para) -> bool {
+    one.text() == other.text()
+        && one.first_byte() == other.first_byte()
+        && one.first_place() == other.first_place()
+}
+
+/// The text that a buffer keeps.
+fn text_of(alloc: Global, buffer: &Buffer) -> Result<String, Memory> {
+    let mut text = String::new(alloc);
+    for number in 0..buffer.paragraph_count() {
+        text.push_str(buffer.paragraph(number).text())?;
+    }
+    Ok(text)
+}
+
+/// Whether a buffer's paragraphs are those that `split` finds in its text, and the paragraph of each place is right.
+fn is_split(alloc: Global, tables: &Tables, buffer: &Buffer) -> Result<bool, Memory> {
+    let text = text_of(alloc, buffer)?;
+    let paras = split(alloc, tables, &text)?;
+    let mut right = paras.len() == buffer.paragraph_count()
+        && text.len() == buffer.bytes()
+        && text.chars().count() == buffer.len();
+    for (number, para) in paras.iter().enumerate() {
+        right = number < buffer.paragraph_count()
+            && is_same(&buffer.paragraph(number), para)
+            && right;
+    }
+    let mut number = 0;
+    for place in 0..=buffer.len() {
+        if number + 1 < paras.len() && paras[number + 1].first_place() <= place {
+            number += 1;
+        }
+        right = buffer.paragraph_of(place) == number && right;
+    }
+    Ok(right)
+}
+
+fn change(tables: &Tables, buffer: &mut Buffer, step: Step) -> Result<(), BufferFault>
+    requires { IsSplit tables.now buffer.old }
+    ensures { IsSplit tables.now buffer.new }
+{
+    match step {
+        Put(place, ch) if place <= buffer.len() => buffer.put(tables, place, ch),
+        Cut(place) if place < buffer.len() => buffer.apply(tables, &Change::Cut { place }),
+        _ => Err(BufferFault::TooLong),
+    }
+}
+
+/// Makes a change, once more where memory was refused and the text as it was.
+fn make(alloc: Global, tables: &Tables, buffer: &mut Buffer, step: Step) -> Result<bool, Memory>
+    requires { IsSplit tables.now buffer.old }
+    ensures { IsSplit tables.now buffer.new }
+{
+    let before = text_of(alloc, buffer)?;
+    match change(tables, buffer, step) {
+        Ok(()) => Ok(true),
+        Err(BufferFault::TooLong) => Ok(false),
+        Err(BufferFault::Memory) => {
+            let same = text_of(alloc, buffer)? == before;
+            Ok(change(tables, buffer, step).is_ok() && same)
+        }
+    }
+}
+
+/// A text, changes of it, and the text after each.
+struct Typed(&'static str, &'static [(Step, &'static str)]);
+
+impl Row for Typed {
+    fn comes_out(&self, alloc: Global, tables: &Tables) -> Result<bool, Memory> {
+        let mut buffer = match Buffer::of(alloc, tables, self.0) {
+            Ok(buffer) => buffer,
+            Err(BufferFault::Memory) => return Err(Memory),
+            Err(BufferFault::TooLong) => return Ok(false),
+        };
+        let mut right = is_split(alloc, tables, &buffer)?;
+        for (step, after) in self.1 {
+            right = make(alloc, tables, &mut buffer, *step)? && right;
+            right = is_split(alloc, tables, &buffer)? && right;
+            right = text_of(alloc, &buffer)?.as_str() == *after && right;
+        }
+        Ok(right)
+    }
+}
+
+const TYPED: &[Typed] = &[
+    Typed("", &[]),
+    Typed(
+        "",
+        &[
+            (Put(0, 'a'), "a"),
+            (Put(1, '\n'), "a\n"),
+            (Cut(0), "\n"),
+            (Cut(0), ""),
+        ],
+    ),
+    // CR and LF on both sides of each other.
+    Typed(
+        "ab",
+        &[
+            (Put(1, '\r'), "a\rb"),
+            (Put(2, '\n'), "a\r\nb"),
+            (Cut(1), "a\nb"),
+            (Put(1, '\r'), "a\r\nb"),
+            (Cut(2), "a\rb"),
+            (Cut(1), "ab"),
+        ],
+    ),
+    Typed(
+        "ab",
+        &[
+            (Put(1, '\n'), "a\nb"),
+            (Put(1, '\r'), "a\r\nb"),
+            (Put(2, '\r'), "a\r\r\nb"),
+            (Put(2, '\n'), "a\r\n\r\nb"),
+            (Put(3, 'x'), "a\r\nx\r\nb"),
+        ],
+    ),
+    Typed(
+        "a\r\nb",
+        &[
+            (Put(2, 'x'), "a\rx\nb"),
+            (Cut(2), "a\r\nb"),
+            (Put(2, '\n'), "a\r\n\nb"),
+            (Cut(1), "a\n\nb"),
+        ],
+    ),
+    Typed(
+        "\r\u{2029}\n",
+        &[
+            (Cut(1), "\r\n"),
+            (Put(1, '\u{2029}'), "\r\u{2029}\n"),
+            (Cut(0), "\u{2029}\n"),
+            (Cut(0), "\n"),
+        ],
+    ),
+    Typed("\rx\nb", &[(Cut(1), "\r\nb"), (Cut(0), "\nb")]),
+    // Separators alone.
+    Typed(
+        "\n\n\n",
+        &[
+            (Cut(1), "\n\n"),
+            (Put(1, '\r'), "\n\r\n"),
+            (Cut(2), "\n\r"),
+            (Put(0, '\r'), "\r\n\r"),
+            (Put(3, '\n'), "\r\n\r\n"),
+        ],
+    ),
+    Typed(
+        "\r\r\r",
+        &[
+            (Put(1, '\n'), "\r\n\r\r"),
+            (Put(4, '\n'), "\r\n\r\r\n"),
+            (Cut(3), "\r\n\r\n"),
+            (Cut(1), "\r\r\n"),
+        ],
+    ),
+    // Characters of one to four bytes, and the ends of paragraphs.
+    Typed(
+        "\u{5D0}b\n\u{20AC}\u{1F600}\n",
+        &[
+            (
+                Put(3, '\u{1F600}'),
+                "\u{5D0}b\n\u{1F600}\u{20AC}\u{1F600}\n",
+            ),
+            (Cut(2), "\u{5D0}b\u{1F600}\u{20AC}\u{1F600}\n"),
+            (
+                Put(6, '\u{5D0}'),
+                "\u{5D0}b\u{1F600}\u{20AC}\u{1F600}\n\u{5D0}",
+            ),
+            (Cut(5), "\u{5D0}b\u{1F600}\u{20AC}\u{1F600}\u{5D0}"),
+        ],
+    ),
+];
+
+#[test]
+fn edits_come_out_as_split_of_the_whole(rt: HostRuntime) {
+    assert_rows(&rt, TYPED);
+}
+
+const ALPHABET: &[char] = &[
+    '\r',
+    '\n',
+    'a',
+    '\u{5D0}',
+    '\u{2029}',
+    '\u{20AC}',
+    '\u{1F600}',
+    '\r',
+    '\n',
+    '\u{85}',
+];
+
+/// So many edits by chance, from a seed.
+struct ByChance {
+    seed: u32,
+    edits: usize,
+}
+
+impl Row for ByChance {
+    fn comes_out(&self, alloc: Global, tables: &Tables) -> Result<bool, Memory> {
+        let mut buffer = match Buffer::of(alloc, tables, "") {
+            Ok(buffer) => buffer,
+            Err(_) => return Err(Memory),
+        };
+        let mut state = self.seed;
+        let mut right = true;
+        for _ in 0..self.edits {
+            state = state.wrapping_mul(1_664_525).wrapping_add(1_013_904_223);
+            let place = (state >> 8) as usize % (buffer.len().saturating_add(1));
+            let pick = (state >> 4) as usize % 16;
+            let step = match ALPHABET.get(pick) {
+                Some(ch) => Put(place, *ch),
+                None if place < buffer.len() => Cut(place),
+                None => Put(place, 'b'),
+            };
+            right = make(alloc, tables, &mut buffer, step)? && right;
+            right = is_split(alloc, tables, &buffer)? && right;
+        }
+        Ok(right)
+    }
+}
+
+#[test]
+fn edits_by_chance_come_out_as_split_of_the_whole(rt: HostRuntime) {
+    assert_rows(
+        &rt,
+        &[
+            ByChance {
+                seed: 7,
+                edits: 300,
+            },
+            ByChance {
+                seed: 11,
+                edits: 300,
+            },
+        ],
+    );
+}
+
+/// A fault, its number, and how it prints.
+struct Printed(BufferFault, u8, &'static str);
+
+impl Row for Printed {
+    fn comes_out(&self, alloc: Global, _tables: &Tables) -> Result<bool, Memory> {
+        let printed = format!(in alloc; "{}", self.0)?;
+        Ok(self.0.code() == self.1 && printed.as_str() == self.2)
+    }
+}
+
+#[test]
+fn faults_print_their_names(rt: HostRuntime) {
+    assert_rows(
+        &rt,
+        &[
+            Printed(BufferFault::TooLong, 1, "TooLong"),
+            Printed(BufferFault::Memory, 9, "Memory"),
+        ],
+    );
+}

@@ -1,0 +1,10 @@
+-- The modules of this crate's proofs.
+pub mod Sums
+pub mod Joins
+pub mod Texts
+pub mod Splits
+pub mod Places
+pub mod Begun
+pub mod Chars
+pub mod Spots
+pub mod Made

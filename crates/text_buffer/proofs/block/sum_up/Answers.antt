@@ -1,0 +1,31 @@
+-- Each paragraph is counted, and none has more code points than bytes.
+use Rattle.std.proofs.Common.{◌+◌, length, take, sym, ap, arith}
+use Rattle.std.specs.List.{concat}
+use Rattle.text_buffer.specs.Pieces.{points_in}
+use Rattle.text_buffer.proofs.Sums.{bytes-more, places-more, bytes-front, places-few}
+use Rattle.text_buffer.proofs.block.sum_up.Goals as goal
+
+pub overflow_add-bytes : goal.overflow_add-bytes
+overflow_add-bytes c =
+    let row = c.args.pieces.now in
+    let i = c.loop-piece.piece-index in
+    let more = bytes-more row i c.piece-item.result (omega (arith, c.loop-piece-test.true)) (sym c.piece-item.is) in
+    omega (arith, c.loop-piece.invariant.bytes, more, bytes-front row (i + 1), c.requires, ap length c.as_str.ensures.value)
+
+pub overflow_add-places : goal.overflow_add-places
+overflow_add-places c =
+    let row = c.args.pieces.now in
+    let i = c.loop-piece.piece-index in
+    let more = places-more row i c.piece-item.result (omega (arith, c.loop-piece-test.true)) (sym c.piece-item.is) in
+    omega (arith, c.loop-piece.invariant.places, more, places-few (concat (points_in (take (i + 1) row))), bytes-front row (i + 1), c.requires)
+
+pub loop-piece-preserved : goal.loop-piece-preserved
+loop-piece-preserved c =
+    let row = c.args.pieces.now in
+    let i = c.loop-piece.piece-index in
+    let bytes = bytes-more row i c.piece-item.result (omega (arith, c.loop-piece-test.true)) (sym c.piece-item.is) in
+    let places = places-more row i c.piece-item.result (omega (arith, c.loop-piece-test.true)) (sym c.piece-item.is) in
+    record {
+      bytes = omega (arith, c.loop-piece.invariant.bytes, bytes, ap length c.as_str.ensures.value);
+      places = omega (arith, c.loop-piece.invariant.places, places);
+    }

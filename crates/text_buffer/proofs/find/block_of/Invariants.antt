@@ -1,0 +1,13 @@
+-- What stands before the block, and that it isn't too much.
+use Rattle.std.proofs.Common.{◌≤◌, ◌-◌, length}
+use Rattle.text_buffer.specs.Places.{StandsBefore}
+use Rattle.text_buffer.proofs.find.block_of.Given as goal
+
+abbrev pub invariant-loop-before : goal.invariant-loop-before
+invariant-loop-before l = record {
+  stands : StandsBefore l.blocks l.before;
+  reached : l.before.paragraphs ≤ l.number;
+}
+
+abbrev pub decreases-loop-before : goal.decreases-loop-before
+decreases-loop-before l = length l.blocks - l.before.block

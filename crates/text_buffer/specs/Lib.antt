@@ -1,0 +1,8 @@
+-- The modules of this crate's definitions.
+pub mod Buffers
+pub mod Codes
+pub mod Pieces
+pub mod Blocks
+pub mod Counted
+pub mod Places
+pub mod Stretches
