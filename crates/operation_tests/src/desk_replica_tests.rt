@@ -170,6 +170,8 @@ pub(crate) enum Case {
     Plays(&'static [(OpRow, Answer)], &'static str),
     /// What is paid for is taken at the first try.
     PlaysPaid,
+    /// The same where it could be paid for. Nothing is asked for after that, so that every further request may be refused.
+    PlaysIfPaid,
     MergesPaid,
     /// Once each desk has taken its rows, the first merges the other one as is said.
     Merges(&'static [OpRow], &'static [OpRow], Merged),
@@ -202,6 +204,7 @@ fn comes_out_on<S: Fresh>(one: &mut Desk<S>, two: &mut Desk<S>, case: Case) -> b
     match case {
         Case::Plays(rows, text) => takes_each(one, rows) && one.reads(text),
         Case::PlaysPaid => plays_paid(one),
+        Case::PlaysIfPaid => !one.pays() || takes_early(one),
         Case::MergesPaid => merges_paid(one, two),
         Case::Merges(mine, others, merged) => merges(one, two, mine, others, merged),
         Case::Types => types(one),
@@ -308,12 +311,17 @@ const ANSWERS: [Case; 10] = [
     ),
 ];
 
-fn plays_paid<S: Fresh>(desk: &mut Desk<S>) -> bool {
-    let mut right = desk.pays();
+/// Whether a desk that paid for four operations answers each row at the first try.
+fn takes_early<S: Fresh>(desk: &mut Desk<S>) -> bool {
+    let mut right = true;
     for (row, answer) in EARLY {
         right = desk.takes_paid(row, answer) && right;
     }
-    right && desk.desk.spare() == 0 && desk.takes(A, KNOWN) && desk.reads("axyb")
+    right && desk.desk.spare() == 0
+}
+
+fn plays_paid<S: Fresh>(desk: &mut Desk<S>) -> bool {
+    desk.pays() && takes_early(desk) && desk.takes(A, KNOWN) && desk.reads("axyb")
 }
 
 fn merges_paid<S: Fresh>(one: &mut Desk<S>, two: &mut Desk<S>) -> bool {
@@ -446,6 +454,11 @@ fn answers_and_reads(rt: HostRuntime) {
 #[test]
 fn takes_what_is_paid_for(rt: HostRuntime) {
     assert_cases(&rt, &[Case::PlaysPaid, Case::MergesPaid]);
+}
+
+#[test]
+fn takes_what_is_paid_for_without_memory(rt: HostRuntime) {
+    assert_cases(&rt, &[Case::PlaysIfPaid]);
 }
 
 #[test]
