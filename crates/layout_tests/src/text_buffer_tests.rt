@@ -48,10 +48,11 @@ fn is_split(alloc: Global, tables: &Tables, buffer: &Buffer) -> Result<bool, Mem
             && is_same(&buffer.paragraph(number), para)
             && right;
     }
-    let mut number = 0;
+    let mut number: usize = 0;
     for place in 0..=buffer.len() {
-        if number + 1 < paras.len() && paras[number + 1].first_place() <= place {
-            number += 1;
+        let next = number.saturating_add(1);
+        if next < paras.len() && paras[next].first_place() <= place {
+            number = next;
         }
         right = buffer.paragraph_of(place) == number && right;
     }
