@@ -13,5 +13,4 @@ pub mod Local
 pub mod Plain
 pub mod Afresh
 pub mod Gathered
-pub mod CommonBytes
 pub mod Interface

@@ -1,15 +1,14 @@
 -- A text that is split up to a place.
-use Rattle.std.proofs.Common.{◌≡◌, ℕ, ◌+◌, ◌-◌, ◌≤◌, true, false, List, [], ◌∷◌, ◌++◌, length, take, drop, slice_range, refl, sym, ap, ap₂, subst, ◌∙◌, ◌&&◌, ◌==◌, not, arith}
-use Rattle.std.proofs.lemmas.List.{append_assoc, drop_at, length-append, length-drop, take_rest, nil_from_length}
-use Rattle.std.proofs.lemmas.List.Elements.{All-same, All-head, All-tail}
-use Rattle.std.proofs.lemmas.Str.{chars-nil, chars_past_char, encodes-append, encodes-chars, length-le-encodes, IsUtf8-past_char, IsCharBoundary-at_seam}
+use Rattle.std.proofs.Common.{◌≡◌, ℕ, ◌+◌, ◌-◌, ◌≤◌, true, false, List, [], ◌∷◌, ◌++◌, length, take, drop, slice_range, refl, sym, ap, ap₂, subst, ◌∙◌, arith}
+use Rattle.std.proofs.lemmas.List.{append_assoc, drop_at, take_rest, nil_from_length}
+use Rattle.std.proofs.lemmas.List.Elements.{All-same}
+use Rattle.std.proofs.lemmas.Str.{chars-nil, chars_past_char, encodes-chars, length-le-encodes, IsUtf8-past_char}
 use Rattle.std.specs.List.{All}
 use Rattle.std.specs.Prelude.{encode_utf8, encode_utf8_all}
 use Rattle.std.specs.Str.{IsUtf8, IsCharBoundary}
 use Rattle.unicode_tables.specs.Tables.{TableValues, bidi_of}
 use Rattle.paragraphs.specs.Text.{code_points}
-use Rattle.paragraphs.specs.Common.{is_common, HasNoCommonSeparator, IsFront, IsPassed, StayIn}
-use Rattle.paragraphs.specs.Paragraphs.{Paragraph, begins_with_line_feed, ends_paragraph, paragraph_between, pieces, paragraphs, StandsIn}
+use Rattle.paragraphs.specs.Paragraphs.{Paragraph, ends_paragraph, paragraph_between, pieces, paragraphs, StandsIn}
 use Rattle.paragraphs.proofs.Cutting.{cuts_from, cuts-is, drop-step, step-le}
 use Rattle.paragraphs.proofs.Slices.{byte_of, byte_of-slice, text-split, length-byte_of, slice_range-byte_of, IsCharBoundary-byte_of}
 use Rattle.paragraphs.proofs.Pieces.{joined, pieces-cut, pieces-no_cut, joined-pieces, pieces-stand}
@@ -142,115 +141,7 @@ module _ (tables : TableValues) (text rest : List ℕ) (done : List Paragraph) (
               ∙ ap (λ cs. done ++ pieces (code_points text) first_place (cuts_from (bidi_of tables) place cs)) (sym head) ∙ s.so_far;
         }
 
--- ---- characters that end no paragraph passed over
-
-past-all : (bytes rest cs : List ℕ) → IsUtf8 bytes → bytes ≡ encode_utf8_all cs ++ rest → IsUtf8 rest
-past-all bytes rest [] u e = subst IsUtf8 e u
-past-all bytes rest (c ∷ cs) u e =
-    past-all (encode_utf8_all cs ++ rest) rest cs (IsUtf8-past_char bytes (encode_utf8_all cs ++ rest) c u (e ∙ append_assoc (encode_utf8 c) (encode_utf8_all cs) rest)) refl
-
-points-over : (cs after : List ℕ) → IsUtf8 (encode_utf8_all cs ++ after) → code_points (encode_utf8_all cs ++ after) ≡ cs ++ code_points after
-points-over [] after u = refl
-points-over (c ∷ cs) after u =
-    let later = encode_utf8_all cs ++ after in
-    let e = append_assoc (encode_utf8 c) (encode_utf8_all cs) after in
-    chars_past_char _ later c u e ∙ ap (λ t. c ∷ t) (points-over cs after (IsUtf8-past_char _ later c u e))
-
--- one more such character
-stay-more : (tables : TableValues) (cs : List ℕ) (c : ℕ) (later : List ℕ) → StayIn tables cs (c ∷ later) → ends_paragraph (bidi_of tables) c later ≡ false
-    → StayIn tables (cs ++ c ∷ []) later
-stay-more tables [] c later stay stays = (stays, tt)
-stay-more tables (x ∷ cs) c later stay stays =
-    (ap (ends_paragraph (bidi_of tables) x) (append_assoc cs (c ∷ []) later) ∙ stay.0, stay-more tables cs c later stay.1 stays)
-
-stay-common : (tables : TableValues) → HasNoCommonSeparator tables → (cs later : List ℕ) → All (λ c. is_common c ≡ true) cs → StayIn tables cs later
-stay-common tables h [] later common = tt
-stay-common tables h (c ∷ cs) later common = (
-  ap (λ b. b && not (c == 0xD && begins_with_line_feed (bidi_of tables) (cs ++ later))) (h.each c (All-head (λ x. is_common x ≡ true) c cs common)),
-  stay-common tables h cs later (All-tail (λ x. is_common x ≡ true) c cs common),
-)
-
-module _ (tables : TableValues) (h : HasNoCommonSeparator tables) (text : List ℕ) (u : IsUtf8 text) (bytes places : ℕ) (f : IsFront text bytes places) where
-  front-bytes : length (encode_utf8_all f.chars) ≡ bytes
-  front-bytes = omega (arith, ap length f.split, length-append (encode_utf8_all f.chars) (drop bytes text), length-drop bytes text, f.within)
-
-  front-utf8 : IsUtf8 (drop bytes text)
-  front-utf8 = past-all text (drop bytes text) f.chars u f.split
-
-  pub front-boundary : IsCharBoundary text bytes
-  front-boundary = subst (IsCharBoundary text) front-bytes (IsCharBoundary-at_seam text (encode_utf8_all f.chars) (drop bytes text) f.split front-utf8)
-
-  pub IsPassed-front : IsPassed tables text (drop bytes text) places
-  IsPassed-front = record { chars = f.chars; count = f.count; stay = stay-common tables h f.chars _ f.common; utf8 = front-utf8; split = f.split }
-
-module _ (tables : TableValues) (text rest : List ℕ) (places : ℕ) (p : IsPassed tables text rest places) (c : ℕ) (after : List ℕ) (e : rest ≡ encode_utf8 c ++ after) where
-  pub IsPassed-on : false ≡ ends_paragraph (bidi_of tables) c (code_points after) → IsPassed tables text after (places + 1)
-  IsPassed-on stays = record {
-    chars = p.chars ++ c ∷ [];
-    count = omega (arith, length-append p.chars (c ∷ []), p.count);
-    stay = stay-more tables p.chars c (code_points after) (subst (StayIn tables p.chars) (chars_past_char rest after c p.utf8 e) p.stay) (sym stays);
-    utf8 = IsUtf8-past_char rest after c p.utf8 e;
-    split =
-        p.split ∙ ap (λ r. encode_utf8_all p.chars ++ r) (e ∙ sym (append_assoc (encode_utf8 c) [] after))
-        ∙ sym (append_assoc (encode_utf8_all p.chars) (encode_utf8 c ++ []) after) ∙ ap (λ t. t ++ after) (sym (encodes-append p.chars (c ∷ [])));
-  }
-
-pub IsPassed-none : (tables : TableValues) (text : List ℕ) → IsUtf8 text → IsPassed tables text text 0
-IsPassed-none tables text u = record { chars = []; count = refl; stay = tt; utf8 = u; split = refl }
-
-pub IsPassed-one : (tables : TableValues) (text after : List ℕ) (c : ℕ) → IsUtf8 text → text ≡ encode_utf8 c ++ after
-    → false ≡ ends_paragraph (bidi_of tables) c (code_points after) → IsPassed tables text after 1
-IsPassed-one tables text after c u e stays = IsPassed-on tables text text 0 (IsPassed-none tables text u) c after e stays
-
-stay-append : (tables : TableValues) (cs ds later : List ℕ) → StayIn tables cs (ds ++ later) → StayIn tables ds later → StayIn tables (cs ++ ds) later
-stay-append tables [] ds later stay next = next
-stay-append tables (c ∷ cs) ds later stay next =
-    (ap (ends_paragraph (bidi_of tables) c) (append_assoc cs ds later) ∙ stay.0, stay-append tables cs ds later stay.1 next)
-
--- those that were passed, and those behind them
-pub IsPassed-then : (tables : TableValues) (text mid rest : List ℕ) (n m : ℕ) → IsPassed tables text mid n → IsPassed tables mid rest m → IsPassed tables text rest (n + m)
-IsPassed-then tables text mid rest n m p q =
-    let points : code_points mid ≡ q.chars ++ code_points rest = ap code_points q.split ∙ points-over q.chars rest (subst IsUtf8 q.split p.utf8) in
-    record {
-      chars = p.chars ++ q.chars;
-      count = omega (arith, length-append p.chars q.chars, p.count, q.count);
-      stay = stay-append tables p.chars q.chars (code_points rest) (subst (StayIn tables p.chars) points p.stay) q.stay;
-      utf8 = q.utf8;
-      split =
-          p.split ∙ ap (λ r. encode_utf8_all p.chars ++ r) q.split ∙ sym (append_assoc (encode_utf8_all p.chars) (encode_utf8_all q.chars) rest)
-          ∙ ap (λ t. t ++ rest) (sym (encodes-append p.chars q.chars));
-    }
-
--- no more characters than bytes
-pub passed-few : (tables : TableValues) (text rest : List ℕ) (places : ℕ) → IsPassed tables text rest places → places + length rest ≤ length text
-passed-few tables text rest places p = omega (arith, p.count, length-le-encodes p.chars, ap length p.split, length-append (encode_utf8_all p.chars) rest)
-
-IsSplitTo-over : (tables : TableValues) (text : List ℕ) (done : List Paragraph) (first_byte first_place : ℕ) → IsUtf8 text
-    → (cs after rest : List ℕ) (place : ℕ) → StayIn tables cs (code_points after) → rest ≡ encode_utf8_all cs ++ after
-    → IsSplitTo tables text rest done first_byte first_place place → IsSplitTo tables text after done first_byte first_place (place + length cs)
-IsSplitTo-over tables text done first_byte first_place u [] after rest place stay e s =
-    let same : place ≡ place + 0 = omega arith in
-    subst (λ n. IsSplitTo tables text after done first_byte first_place n) same (subst (λ r. IsSplitTo tables text r done first_byte first_place place) e s)
-IsSplitTo-over tables text done first_byte first_place u (c ∷ cs) after rest place stay e s =
-    let later = encode_utf8_all cs ++ after in
-    let next = e ∙ append_assoc (encode_utf8 c) (encode_utf8_all cs) after in
-    let points = points-over cs after (IsUtf8-past_char rest later c s.utf8 next) in
-    let stays = sym (ap (ends_paragraph (bidi_of tables) c) points ∙ stay.0) in
-    let step = IsSplitTo-on tables text rest done first_byte first_place place u s c later next stays in
-    let same : place + 1 + length cs ≡ place + length (c ∷ cs) = omega arith in
-    subst (λ n. IsSplitTo tables text after done first_byte first_place n) same
-    (IsSplitTo-over tables text done first_byte first_place u cs after later (place + 1) stay.1 refl step)
-
-module _ (tables : TableValues) (text rest : List ℕ) (done : List Paragraph) (first_byte first_place place : ℕ) (u : IsUtf8 text)
-    (after : List ℕ) (places : ℕ) (p : IsPassed tables rest after places) (s : IsSplitTo tables text rest done first_byte first_place place) where
-  pub IsSplitTo-passed : IsSplitTo tables text after done first_byte first_place (place + places)
-  IsSplitTo-passed =
-      subst (λ n. IsSplitTo tables text after done first_byte first_place (place + n)) p.count
-      (IsSplitTo-over tables text done first_byte first_place u p.chars after rest place p.stay p.split s)
-
-  pub passed-place : place + places ≤ length text
-  passed-place = let w = IsSplitTo-passed.within in let n = length-code_points text u in omega arith
-
+-- what all paragraphs are
 pub joined-paragraphs : (tables : TableValues) (text : List ℕ) → IsUtf8 text → joined (paragraphs tables text) ≡ text
 joined-paragraphs tables text u =
     ap joined (paragraphs-is tables text) ∙ joined-pieces (bidi_of tables) (code_points text) 0 0 (code_points text) refl (omega arith) ∙ encodes-chars text u

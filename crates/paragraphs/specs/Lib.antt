@@ -5,4 +5,3 @@ pub mod Paragraphs
 pub mod Clusters
 pub mod Spans
 pub mod Columns
-pub mod Common

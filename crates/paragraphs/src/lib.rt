@@ -3,7 +3,6 @@
 
 mod class;
 mod cluster;
-mod common;
 mod cuts;
 pub mod laws;
 mod para;

@@ -4,7 +4,7 @@ use Rattle.paragraphs.specs.Paragraphs.{StandsIn}
 use Rattle.paragraphs.proofs.Pieces.{joined}
 use Rattle.paragraphs.proofs.Splitting.{first_boundary, next_place, after_fits, first-le-end, end_boundary, IsSplitTo-start, IsSplitTo-on, IsSplitTo-cut, paragraphs-end, joined-paragraphs, paragraphs-stand}
 use Rattle.std.proofs.lemmas.List.Elements.{All-same}
-use Rattle.paragraphs.proofs.cuts.split_short.Goals as goal
+use Rattle.paragraphs.proofs.cuts.split.Goals as goal
 
 pub loop-c-init : goal.loop-c-init
 loop-c-init c = rw (c.chars-chars.ensures.rest, c.new-paragraphs.ensures.items) (IsSplitTo-start c.args.tables.now c.args.text.now c.utf8.text)
