@@ -1,10 +1,10 @@
 -- Paragraphs that are cut in two, and others put between.
-use Rattle.std.proofs.Common.{◌≡◌, ℕ, ◌+◌, ◌<◌, true, List, [], ◌∷◌, ◌++◌, length, refl, sym, ap, ap₂, ◌∙◌, arith}
+use Rattle.std.proofs.Common.{◌≡◌, ℕ, ◌<◌, true, List, [], ◌∷◌, ◌++◌, length, refl, sym, ap, ◌∙◌, arith}
 use Rattle.std.proofs.lemmas.List.{append-nil, append_assoc, append_cancel_left, append_cancel_right, length-append}
 use Rattle.std.specs.List.{concat}
 use Rattle.bg_types.specs.declared.class.Bidi.{Bidi}
 use Rattle.paragraphs.specs.Paragraphs.{ends_paragraph, meets_at_cut}
-use Rattle.paragraphs.proofs.Parts.{parts, front, IsBegun, parts-some, parts-append, begin-parts, meets-behind, meets-head, meets-end, concat-parts}
+use Rattle.paragraphs.proofs.Parts.{parts, front, parts-some, parts-append, begin-parts, meets-behind, meets-head}
 
 pub concat-append : (xs ys : List (List ℕ)) → concat (xs ++ ys) ≡ concat xs ++ concat ys
 concat-append [] ys = refl

@@ -1,5 +1,5 @@
 -- A cut depends on the two code points beside it.
-use Rattle.std.proofs.Common.{◌≡◌, ℕ, suc, ◌+◌, ◌-◌, ◌<◌, ◌≤◌, true, List, [], ◌∷◌, ◌++◌, map, length, take, drop, get_or, refl, sym, ap, ap₂, ◌∙◌, arith}
+use Rattle.std.proofs.Common.{◌≡◌, ℕ, suc, ◌+◌, ◌-◌, ◌<◌, true, List, [], ◌∷◌, ◌++◌, map, length, take, drop, get_or, refl, sym, ap, ap₂, ◌∙◌, arith}
 use Rattle.std.proofs.lemmas.List.{append_assoc, length-append, drop-append-le, drop-drop, drop_at, drop_more, take-map, length-map, map-append, get_or_append_left, get_or-append-add}
 use Rattle.std.proofs.lemmas.Str.{chars-append}
 use Rattle.std.specs.Prelude.{encode_utf8_all}

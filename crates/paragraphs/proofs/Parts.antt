@@ -1,6 +1,5 @@
 -- The code points of paragraphs, found from a text's front, and joined where the text is cut.
-use Rattle.std.proofs.Common.{◌≡◌, ℕ, suc, ◌<◌, ◌-◌, Bool, true, false, cond, List, [], ◌∷◌, ◌++◌, length, take, refl, sym, ap, ap₂, ◌∙◌, ◌&&◌, ◌==◌, not, arith}
-use Rattle.std.proofs.lemmas.List.{append-nil, append_assoc, append_cancel_left, append_cancel_right}
+use Rattle.std.proofs.Common.{◌≡◌, ℕ, suc, ◌<◌, ◌-◌, Bool, true, false, cond, List, [], ◌∷◌, ◌++◌, length, take, refl, sym, ap, ◌∙◌, ◌&&◌, ◌==◌, not, arith}
 use Rattle.std.specs.List.{concat}
 use Rattle.bg_types.specs.declared.class.Bidi.{Bidi}
 use Rattle.paragraphs.specs.Classes.{is_separator}

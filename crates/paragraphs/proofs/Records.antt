@@ -1,16 +1,16 @@
 -- Paragraphs by their code points.
-use Rattle.std.proofs.Common.{◌≡◌, ℕ, ◌+◌, ◌≤◌, true, false, cond, List, [], ◌∷◌, ◌++◌, map, length, take, drop, get_or, slice_range, ◌<◌, zero, suc, encode_utf8, refl, sym, ap, ap₂, subst, ◌∙◌, arith}
-use Rattle.std.proofs.lemmas.List.{append-nil, append_assoc, length-append, take_rest, drop_more, drop_at}
+use Rattle.std.proofs.Common.{◌≡◌, ℕ, ◌+◌, ◌≤◌, true, false, cond, List, [], ◌∷◌, ◌++◌, map, length, take, drop, get_or, slice_range, ◌<◌, zero, suc, refl, sym, ap, ap₂, subst, ◌∙◌, arith}
+use Rattle.std.proofs.lemmas.List.{append_assoc, length-append, take_rest, drop_more, drop_at}
 use Rattle.std.proofs.lemmas.List.Edits.{between_none, between_more}
 use Rattle.std.proofs.lemmas.List.Folds.{drop_split}
 use Rattle.std.proofs.lemmas.Str.{chars_from_encodes, encodes-chars, encodes-append}
 use Rattle.std.specs.List.{concat}
-use Rattle.std.specs.Prelude.{encode_utf8_all, Option, Some, slice_get}
+use Rattle.std.specs.Prelude.{encode_utf8_all, Some, slice_get}
 use Rattle.std.specs.Str.{IsUtf8}
 use Rattle.bg_types.specs.declared.class.Bidi.{Bidi}
 use Rattle.unicode_tables.specs.Tables.{TableValues, bidi_of}
 use Rattle.paragraphs.specs.Text.{code_points}
-use Rattle.paragraphs.specs.Paragraphs.{Paragraph, ends_paragraph, paragraph_between, pieces, paragraphs, paragraph_points, ParagraphsFollow}
+use Rattle.paragraphs.specs.Paragraphs.{Paragraph, ends_paragraph, pieces, paragraphs, paragraph_points, ParagraphsFollow}
 use Rattle.paragraphs.proofs.Slices.{IsUtf8-encodes_drop}
 use Rattle.unicode_segmentation.proofs.TextLemmas.{IsUtf8-before}
 use Rattle.paragraphs.proofs.Cutting.{cuts_from, cuts-is, drop-step, step-le}

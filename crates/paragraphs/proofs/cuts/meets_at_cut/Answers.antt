@@ -1,5 +1,5 @@
 -- The last character, and what stands in front of it.
-use Rattle.std.proofs.Common.{◌≡◌, length, ◌∷◌, ◌++◌, [], true, sym, ap, ◌∙◌}
+use Rattle.std.proofs.Common.{length, ◌++◌, sym, ap, ◌∙◌}
 use Rattle.std.proofs.lemmas.List.{nil_from_length}
 use Rattle.std.proofs.lemmas.Str.{chars-nil, chars-append}
 use Rattle.std.specs.Prelude.{encode_utf8}
