@@ -34,10 +34,12 @@ fn push_piece(read: &mut String, bytes: &mut [u8], piece: &[Element]) -> Result<
     ensures { OnOk result (string_bytes read.new ≡ string_bytes read.old ++ encode_utf8_all (shown_of piece.now)) }
 {
     let end = encode_shown(piece, bytes);
+    if end == 0 {
+        return Ok(());
+    }
     // That they are UTF-8 is proved: this call's `requires` asks for it, as any other call's.
     let text = unsafe { from_utf8_unchecked(&bytes[..end]) };
-    read.push_str(text)?;
-    Ok(())
+    Ok(read.push_str(text)?)
 }
 
 /// Puts the characters of the visible elements to the front of these bytes, and answers where they end.
