@@ -58,7 +58,7 @@ fn encode_shown(row: &[Element], bytes: &mut [u8]) -> usize
     end
 }
 
-/// Puts a character at a place, and answers where it ends. Most take one byte or two.
+/// Puts a character at a place, and answers where it ends.
 #[inline(always)]
 fn put_char(ch: char, bytes: &mut [u8], at: usize) -> usize
     requires { at + 4 ≤ length bytes.old }
@@ -74,21 +74,15 @@ fn put_char(ch: char, bytes: &mut [u8], at: usize) -> usize
         let second = put_byte((0xC0 + code / 0x40) as u8, bytes, at);
         return put_byte((0x80 + code % 0x40) as u8, bytes, second);
     }
-    put_long(ch, bytes, at)
-}
-
-/// The same for any character. Not inlined, so that the loop over elements stays short.
-#[inline(never)]
-fn put_long(ch: char, bytes: &mut [u8], at: usize) -> usize
-    requires { at + 4 ≤ length bytes.old }
-    ensures end { result ≤ at + 4 }
-    ensures bytes { take result bytes.new ≡ take at bytes.old ++ encode_utf8 ch }
-{
-    let mut four = [0; 4];
-    let encoded = ch.encode_utf8(&mut four).as_bytes();
-    let end = at + encoded.len();
-    bytes[at..end].copy_from_slice(encoded);
-    end
+    if code < 0x10000 {
+        let second = put_byte((0xE0 + code / 0x1000) as u8, bytes, at);
+        let third = put_byte((0x80 + code / 0x40 % 0x40) as u8, bytes, second);
+        return put_byte((0x80 + code % 0x40) as u8, bytes, third);
+    }
+    let second = put_byte((0xF0 + code / 0x40000) as u8, bytes, at);
+    let third = put_byte((0x80 + code / 0x1000 % 0x40) as u8, bytes, second);
+    let fourth = put_byte((0x80 + code / 0x40 % 0x40) as u8, bytes, third);
+    put_byte((0x80 + code % 0x40) as u8, bytes, fourth)
 }
 
 /// Puts a byte at a place, and answers where it ends.
