@@ -1,19 +1,19 @@
 -- The statuses before letters and spaces behind a word.
 use Rattle.std.proofs.Common.{◌≡◌, ℕ, Bool, true, false, ◌&&◌, List, [], ◌∷◌, ◌++◌, refl, sym, ap, ◌∙◌, if◌then◌else◌}
-use Rattle.std.specs.Prelude.{encode_utf8}
+use Rattle.std.specs.Prelude.{encode_utf8, Option}
 use Rattle.bg_types.specs.declared.class.Lb.{Lb}
 use Rattle.bg_types.specs.declared.class.Lb.TheVariants.{Al, Ba, Bk, Cm, Cr, Hl, Hy, Lf, Nl, Op, Ri, Sp, Zw, Zwj}
-use Rattle.unicode_tables.specs.Tables.{TableValues}
+use Rattle.unicode_tables.specs.Tables.{TableValues, ea_of}
 use Rattle.line_break.specs.declared.context.Before.{Before}
 use Rattle.line_break.specs.declared.item.Item.{Item}
 use Rattle.line_break.specs.declared.status.Break.{Break}
 use Rattle.line_break.specs.declared.status.Break.TheVariants.{May, No}
-use Rattle.line_break.specs.Classes.{one_of}
+use Rattle.line_break.specs.Classes.{one_of, is_east_asian}
 use Rattle.line_break.specs.Items.{point_of, items, is_mark, takes_marks, as_base}
 use Rattle.line_break.specs.Context.{before, before_by, after}
 use Rattle.line_break.specs.Rules.{first_rule, rules}
 use Rattle.line_break.specs.Marked.{IsMarkedTo}
-use Rattle.line_break.specs.Words.{behind_word}
+use Rattle.line_break.specs.Words.{behind_word, last_of}
 use Rattle.line_break.proofs.BetweenLetters.{between-letters-no, before-space-no}
 use Rattle.line_break.proofs.BehindSpaces.{behind-spaces-may}
 use Rattle.line_break.proofs.Contexts.{before-push, before-is, before-base}
@@ -85,35 +85,50 @@ before-space letter is_space last p w is =
     (last-other (Cr ∷ Lf ∷ Nl ∷ []) letter is_space last w refl refl refl)
     (ap (one_of (Sp ∷ Zw ∷ [])) is)
 
-module _ (tables : TableValues) (text rest : List ℕ) (done : List Break) (letter : Lb) (is_space : Bool) (last : ℕ)
-    (m : IsMarkedTo tables text rest done (behind_word letter (point_of tables last))) (w : IsWord letter is_space (point_of tables last)) where
-  -- one letter further
-  pub IsMarkedTo-letter : (c : ℕ) (p : Item) (later : List ℕ) (s : Break) (more : List Break) → rest ≡ encode_utf8 c ++ later → p ≡ point_of tables c
-      → one_of (Al ∷ Hl ∷ []) p.class ≡ true → s ≡ (if is_space then May else No) → more ≡ done ++ s ∷ []
-      → IsMarkedTo tables text later more (behind_word p.class (point_of tables c))
-  IsMarkedTo-letter c p later s more e same is k put =
-      let q = point_of tables c in
-      let one = ap (λ (x : Item). one_of (Al ∷ Hl ∷ []) x.class) (sym same) ∙ is in
-      IsMarkedTo-on tables text rest done _ m c later s more _ e (k ∙ before-word letter is_space (point_of tables last) q w one) put
-      (ap (λ (x : Item). behind_word x.class q) same ∙ letter-before m.front q one)
-
-  -- one space further
-  pub IsMarkedTo-space : (c : ℕ) (later : List ℕ) (more : List Break) → rest ≡ encode_utf8 c ++ later
-      → (point_of tables c).class ≡ Sp → more ≡ done ++ No ∷ []
-      → IsMarkedTo tables text later more (behind_word letter (point_of tables c))
-  IsMarkedTo-space c later more e is put =
-      IsMarkedTo-on tables text rest done _ m c later No more _ e (before-space letter is_space (point_of tables last) (point_of tables c) w is) put
-      (space-before _ m.front m.before_is (point_of tables c) is)
-
--- a letter begins a word, and a space goes on with it
-pub IsWord-letter : (letter : Lb) (last : Item) → one_of (Al ∷ Hl ∷ []) letter ≡ true → last.class ≡ letter → IsWord letter false last
-IsWord-letter letter last is e = record { is_letter = is; space = λ h. absurd (cc); itself = λ h. e }
-
-pub IsWord-space : (letter : Lb) (last : Item) → one_of (Al ∷ Hl ∷ []) letter ≡ true → last.class ≡ Sp → IsWord letter true last
-IsWord-space letter last is e = record { is_letter = is; space = λ h. e; itself = λ h. absurd (cc) }
-
 -- the class of spaces
-pub space-is : (x : Lb) → one_of (Sp ∷ []) x ≡ true → x ≡ Sp
+space-is : (x : Lb) → one_of (Sp ∷ []) x ≡ true → x ≡ Sp
 unfolding one_of
 space-is Sp h = refl
 space-is _ h = absurd (cc)
+
+-- a character of this class
+pub of_class-is : (tables : TableValues) (c : ℕ) (x : Lb) → x ≡ (point_of tables c).class
+    → record { class = x; wide = is_east_asian (ea_of tables c) } ≡ point_of tables c
+of_class-is tables c x e = ap (λ (k : Lb). record { class = k; wide = is_east_asian (ea_of tables c) }) e
+
+module _ (tables : TableValues) (text rest : List ℕ) (done : List Break) (letter : Lb) (is_space : Bool) (last : Item)
+    (m : IsMarkedTo tables text rest done (behind_word letter last)) (w : IsWord letter is_space last) where
+  -- one letter further
+  pub IsMarkedTo-letter : (c : ℕ) (x : Lb) (later : List ℕ) (s : Break) (more : List Break) → rest ≡ encode_utf8 c ++ later → x ≡ (point_of tables c).class
+      → one_of (Al ∷ Hl ∷ []) x ≡ true → s ≡ (if is_space then May else No) → more ≡ done ++ s ∷ []
+      → IsMarkedTo tables text later more (behind_word x (record { class = x; wide = is_east_asian (ea_of tables c) }))
+  IsMarkedTo-letter c x later s more e same is k put =
+      let q = point_of tables c in
+      let one = ap (one_of (Al ∷ Hl ∷ [])) (sym same) ∙ is in
+      IsMarkedTo-on tables text rest done _ m c later s more _ e (k ∙ before-word letter is_space last q w one) put
+      (ap (λ (k : Lb). behind_word k (record { class = k; wide = q.wide })) same ∙ letter-before m.front q one)
+
+  -- one space further
+  pub IsMarkedTo-space : (c : ℕ) (x : Lb) (later : List ℕ) (more : List Break) → rest ≡ encode_utf8 c ++ later → x ≡ (point_of tables c).class
+      → one_of (Sp ∷ []) x ≡ true → more ≡ done ++ No ∷ []
+      → IsMarkedTo tables text later more (behind_word letter (record { class = Sp; wide = is_east_asian (ea_of tables c) }))
+  IsMarkedTo-space c x later more e same is put =
+      let q = point_of tables c in
+      let space = sym same ∙ space-is x is in
+      IsMarkedTo-on tables text rest done _ m c later No more _ e (before-space letter is_space last q w space) put
+      (ap (λ (k : Lb). behind_word letter (record { class = k; wide = q.wide })) (sym space) ∙ space-before _ m.front m.before_is q space)
+
+  -- one character further that is neither
+  pub IsMarkedTo-other : (c : ℕ) (p : Item) (b b' : Before) (later : List ℕ) (s : Break) (more : List Break) → rest ≡ encode_utf8 c ++ later → p ≡ point_of tables c
+      → b ≡ behind_word letter last → s ≡ first_rule rules May b (after p) → more ≡ done ++ s ∷ []
+      → ((front : List Item) → b ≡ before front → b' ≡ before (front ++ p ∷ []))
+      → IsMarkedTo tables text later more b'
+  IsMarkedTo-other c p b b' later s more e same here k put next =
+      IsMarkedTo-on tables text rest done _ m c later s more _ e
+      (k ∙ ap (λ x. first_rule rules May x (after p)) here ∙ ap (λ q. first_rule rules May (behind_word letter last) (after q)) same) put
+      (next m.front (here ∙ m.before_is) ∙ ap (λ q. before (m.front ++ q ∷ [])) same)
+
+-- letters, and spaces behind them
+pub IsWord-of : (tables : TableValues) (first : Item) (letter : Lb) (is_space : Bool) (last : Option ℕ) → one_of (Al ∷ Hl ∷ []) letter ≡ true
+    → IsWord letter is_space (last_of tables first letter is_space last)
+IsWord-of tables first letter is_space last is = record { is_letter = is; space = λ h. rw h refl; itself = λ h. rw h refl }

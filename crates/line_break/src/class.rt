@@ -4,7 +4,7 @@ ghost use Rattle.std.specs.Prelude.{◌≡◌};
 ghost use Rattle.unicode_tables.specs.Tables.{bidi_of, lb_of};
 ghost use Rattle.line_break.specs.Classes.{one_of, resolved, is_east_asian};
 
-use bg_types::{Bidi, Ea, Lb};
+use bg_types::{Ea, Lb};
 use unicode_tables::Tables;
 
 /// Whether the class is one of these.
@@ -24,23 +24,29 @@ pub(crate) fn resolved(tables: &Tables, c: char) -> Lb
 {
     let class = tables.lb(c);
     if matches!(class, Lb::Ai | Lb::Sg | Lb::Xx | Lb::Cj | Lb::Sa) {
-        resolved_by(tables.bidi(c), class)
+        resolved_by(tables, c, class)
     } else {
         class
     }
 }
 
-/// The same by its two classes.
+/// The same of a character of this class. Never inlined: each character would cost a jump by table.
 #[inline(never)]
 #[tactic(auto, unfolding(crate::specs::Classes::resolved))]
-fn resolved_by(bidi: Bidi, class: Lb) -> Lb
-    ensures { result ≡ resolved bidi class }
+fn resolved_by(tables: &Tables, c: char, class: Lb) -> Lb
+    ensures { result ≡ resolved (bidi_of tables.now c) class }
 {
     match class {
         Lb::Ai | Lb::Sg | Lb::Xx => Lb::Al,
         Lb::Cj => Lb::Ns,
         // Own: SA becomes AL, not ID or a class from a dictionary.
-        Lb::Sa => { if bidi.is_nonspacing() { Lb::Cm } else { Lb::Al } }
+        Lb::Sa => {
+            if tables.bidi(c).is_nonspacing() {
+                Lb::Cm
+            } else {
+                Lb::Al
+            }
+        }
         class => class,
     }
 }

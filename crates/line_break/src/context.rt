@@ -61,7 +61,7 @@ impl Before {
 
     /// What stands before a boundary after a letter: nothing that counts stands before the letter.
     #[inline]
-    pub(crate) fn behind_letter(letter: Item) -> Before
+    fn behind_letter(letter: Item) -> Before
         requires { one_of (Lb.Al ∷ Lb.Hl ∷ []) letter.class ≡ true }
         ensures { (items : List Item) → result ≡ before_by letter.class (letter ∷ items) }
     {

@@ -31,6 +31,8 @@ pub(crate) fn takes_marks(class: Lb) -> bool
 }
 
 impl Item {
+    ghost use Rattle.unicode_tables.specs.Tables.{ea_of};
+    ghost use Rattle.line_break.specs.Classes.{is_east_asian};
     ghost use Rattle.line_break.specs.Items.{point_of, as_base};
 
     /// A character by itself.
@@ -38,8 +40,16 @@ impl Item {
     pub(crate) fn point(tables: &Tables, c: char) -> Item
         ensures { result ≡ point_of tables.now c }
     {
+        Item::of_class(tables, c, resolved(tables, c))
+    }
+
+    /// A character whose class by LB1 is known.
+    #[inline]
+    pub(crate) fn of_class(tables: &Tables, c: char, class: Lb) -> Item
+        ensures { result ≡ record { class = class; wide = is_east_asian (ea_of tables.now c) } }
+    {
         Item {
-            class: resolved(tables, c),
+            class,
             wide: is_east_asian(tables.ea(c)),
         }
     }

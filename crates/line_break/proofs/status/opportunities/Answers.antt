@@ -4,10 +4,6 @@ use Rattle.std.specs.Prelude.{encode_utf8}
 use Rattle.std.specs.Str.{IsUtf8}
 use Rattle.paragraphs.proofs.Interface.{past_char-shorter}
 use Rattle.line_break.specs.declared.status.Break.TheVariants.{May}
-use Rattle.bg_types.specs.declared.class.Lb.TheVariants.{Al, Hl}
-use Rattle.line_break.specs.declared.item.Item.{Item}
-use Rattle.line_break.specs.Classes.{one_of}
-use Rattle.line_break.specs.Items.{point_of}
 use Rattle.line_break.specs.Context.{before, after}
 use Rattle.line_break.specs.Words.{behind_word}
 use Rattle.line_break.specs.Rules.{first_rule, rules}
@@ -50,8 +46,8 @@ loop-c-preserved c =
           omega arith;
     }
 
-pub pass_words-words-requires-clause-room : goal.pass_words-words-requires-clause-room
-pass_words-words-requires-clause-room c =
+pub pass_words-end-requires-clause-room : goal.pass_words-end-requires-clause-room
+pass_words-end-requires-clause-room c =
     let shorter = past_char-shorter _ _ c.in-Some-next.c c.in-Some-next.ensures.steps.0 in
     let rest = ap length c.as_str.ensures in
     let one = c.push_reserved.ensures.len in
@@ -59,29 +55,27 @@ pass_words-words-requires-clause-room c =
     let room = c.loop-c.invariant.room in
     omega arith
 
-pub pass_words-words-requires-clause-letter : goal.pass_words-words-requires-clause-letter
-pass_words-words-requires-clause-letter c =
-    ap (λ (p : Item). one_of (Al ∷ Hl ∷ []) p.class) (sym c.point-point.ensures) ∙ sym c.is_letter.ensures ∙ c.if-is_letter.true
+pub pass_words-end-requires-clause-letter : goal.pass_words-end-requires-clause-letter
+pass_words-end-requires-clause-letter c = sym c.is_letter.ensures ∙ c.if-is_letter.true
 
 pub loop-c-preserved-then-is_letter : goal.loop-c-preserved-then-is_letter
 loop-c-preserved-then-is_letter c =
     let t = c.args.tables.now in
     let text = c.args.para.now.text in
     let m = c.loop-c.invariant.marked in
-    let is = ap (λ (p : Item). one_of (Al ∷ Hl ∷ []) p.class) (sym c.point-point.ensures) ∙ sym c.is_letter.ensures ∙ c.if-is_letter.true in
-    let letter = point_of t c.in-Some-next.c in
+    let letter = c.point-point.result in
+    let same = c.point-point.ensures in
     let step =
     IsMarkedTo-on t text _ _ c.loop-c.before m c.in-Some-next.c _ c.status.result _ (behind_word letter.class letter)
     (c.in-Some-next.ensures.steps.0 ∙ ap (λ x. encode_utf8 c.in-Some-next.c ++ x) (sym c.as_str.ensures))
-    (c.status.ensures ∙ ap (first_rule rules May c.loop-c.before) (c.of.ensures ∙ ap after c.point-point.ensures))
-    c.push_reserved.ensures.items (letter-before m.front letter is) in
+    (c.status.ensures ∙ ap (first_rule rules May c.loop-c.before) (c.of.ensures ∙ ap after same))
+    c.push_reserved.ensures.items
+    (letter-before m.front letter (sym c.is_letter.ensures ∙ c.if-is_letter.true) ∙ ap (λ p. before (m.front ++ p ∷ [])) same) in
     record {
-      marked =
-          rw (c.chars-chars-then-is_letter.ensures.rest, c.behind_word-before.ensures, c.point-then-is_letter.ensures)
-          (c.pass_words-words.ensures.marked text step);
+      marked = rw c.chars-chars-then-is_letter.ensures.rest (c.pass_words-end.ensures.marked text step);
       room =
           let rest = ap length c.chars-chars-then-is_letter.ensures.rest in
-          let room = c.pass_words-words.ensures.room in
+          let room = c.pass_words-end.ensures.room in
           omega arith;
     }
 
@@ -90,7 +84,7 @@ loop-c-smaller-then-is_letter c =
     let shorter = past_char-shorter _ _ c.in-Some-next.c c.in-Some-next.ensures.steps.0 in
     let rest = ap length c.chars-chars-then-is_letter.ensures.rest in
     let text = ap length c.as_str.ensures in
-    let left = c.pass_words-words.ensures.rest in
+    let left = c.pass_words-end.ensures.rest in
     omega arith
 
 pub returns-in_default : goal.returns-in_default

@@ -1,57 +1,57 @@
--- Each letter and each space adds a status.
-use Rattle.std.proofs.Common.{◌≡◌, ◌++◌, true, [], ◌∷◌, sym, ap, subst, ◌∙◌, arith}
+-- Each letter and each space adds a status, and so does the character behind them.
+use Rattle.std.proofs.Common.{◌≡◌, ◌++◌, true, [], ◌∷◌, sym, ap, subst, ◌∙◌, arith, length}
 use Rattle.std.specs.Prelude.{encode_utf8}
 use Rattle.bg_types.specs.declared.class.Lb.TheVariants.{Al, Hl}
 use Rattle.paragraphs.proofs.Interface.{past_char-shorter}
-use Rattle.line_break.specs.declared.item.Item.{Item}
 use Rattle.line_break.specs.Classes.{one_of}
-use Rattle.line_break.specs.Items.{point_of}
 use Rattle.line_break.specs.Marked.{IsMarkedTo}
 use Rattle.line_break.specs.Words.{behind_word}
-use Rattle.line_break.proofs.Words.{IsMarkedTo-letter, IsMarkedTo-space, IsWord-letter, IsWord-space, space-is}
+use Rattle.line_break.specs.declared.status.Break.TheVariants.{May}
+use Rattle.line_break.specs.Rules.{first_rule, rules}
+use Rattle.line_break.proofs.Words.{IsMarkedTo-letter, IsMarkedTo-space, IsMarkedTo-other, IsWord-of, of_class-is}
 use Rattle.line_break.proofs.status.pass_words.Goals as goal
 
 pub loop-c-init : goal.loop-c-init
 loop-c-init c =
     let t = c.args.tables.now in
-    let e = c.to-words.ensures in
-    rw (e.letter, e.spaced, e.last, e.rest)
+    let rest = c.chars-chars.ensures.rest in
     record {
-      rest = sym c.chars-chars.ensures.rest;
-      word =
-          IsWord-letter _ _ (ap (λ (p : Item). one_of (Al ∷ Hl ∷ []) p.class) c.point.ensures ∙ c.requires.letter)
-          (ap (λ (p : Item). p.class) (sym c.point.ensures));
+      word = c.requires.letter;
       marked = λ whole m.
-          subst (λ (p : Item). IsMarkedTo t whole c.args.text.now c.args.statuses.now.items (behind_word p.class (point_of t c.args.letter))) (sym c.point.ensures) m;
-      left = omega arith;
-      room = c.requires.room;
+          subst (λ x. IsMarkedTo t whole x c.args.statuses.now.items (behind_word c.args.letter.class c.args.letter)) (sym rest) m;
+      left = let all = ap length rest in omega arith;
+      room = let all = ap length rest in let room = c.requires.room in omega arith;
     }
 
 pub push_reserved-requires : goal.push_reserved-requires
 push_reserved-requires c =
-    let shorter = past_char-shorter _ _ c.in-Some.c (c.loop-c.invariant.rest ∙ c.in-Some.ensures.steps.0) in
+    let shorter = past_char-shorter _ _ c.in-Some.c c.in-Some.ensures.steps.0 in
     let room = c.loop-c.invariant.room in
     omega arith
 
 pub push_reserved-requires-then-is_one_of : goal.push_reserved-requires-then-is_one_of
 push_reserved-requires-then-is_one_of c =
-    let shorter = past_char-shorter _ _ c.in-Some.c (c.loop-c.invariant.rest ∙ c.in-Some.ensures.steps.0) in
+    let shorter = past_char-shorter _ _ c.in-Some.c c.in-Some.ensures.steps.0 in
+    let room = c.loop-c.invariant.room in
+    omega arith
+
+pub push_reserved-requires-else-is_one_of : goal.push_reserved-requires-else-is_one_of
+push_reserved-requires-else-is_one_of c =
+    let shorter = past_char-shorter _ _ c.in-Some.c c.in-Some.ensures.steps.0 in
     let room = c.loop-c.invariant.room in
     omega arith
 
 pub loop-c-preserved-then-is_letter : goal.loop-c-preserved-then-is_letter
 loop-c-preserved-then-is_letter c =
     let t = c.args.tables.now in
-    let here = c.loop-c.invariant.rest ∙ c.in-Some.ensures.steps.0 ∙ ap (λ x. encode_utf8 c.in-Some.c ++ x) (sym c.as_str.ensures) in
-    let class : one_of (Al ∷ Hl ∷ []) c.point-point.result.class ≡ true = sym c.is_letter.ensures ∙ c.if-is_letter.true in
-    let e = c.to-words-then-is_letter.ensures in
-    rw (e.letter, e.spaced, e.last, e.rest)
+    let here = c.in-Some.ensures.steps.0 in
+    let w = c.loop-c.words in
+    let class : one_of (Al ∷ Hl ∷ []) c.resolved-class.result ≡ true = sym c.is_letter.ensures ∙ c.if-is_letter.true in
     record {
-      rest = c.as_str.ensures;
-      word = IsWord-letter _ _ class (ap (λ (p : Item). p.class) (sym c.point-point.ensures));
+      word = class;
       marked = λ whole m.
-          IsMarkedTo-letter t whole _ _ _ _ _ (c.loop-c.invariant.marked whole m) c.loop-c.invariant.word c.in-Some.c _ _ _ _ here c.point-point.ensures class
-          c.before_letter.ensures c.push_reserved.ensures.items;
+          IsMarkedTo-letter t whole _ _ _ _ _ (c.loop-c.invariant.marked whole m) (IsWord-of t c.args.letter w.letter w.spaced w.last c.loop-c.invariant.word)
+          c.in-Some.c _ _ _ _ here c.resolved-class.ensures class c.before_letter.ensures c.push_reserved.ensures.items;
       left =
           let shorter = past_char-shorter _ _ c.in-Some.c here in
           let left = c.loop-c.invariant.left in
@@ -67,15 +67,13 @@ loop-c-preserved-then-is_letter c =
 pub loop-c-preserved : goal.loop-c-preserved
 loop-c-preserved c =
     let t = c.args.tables.now in
-    let here = c.loop-c.invariant.rest ∙ c.in-Some.ensures.steps.0 ∙ ap (λ x. encode_utf8 c.in-Some.c ++ x) (sym c.as_str-then-is_one_of.ensures) in
-    let is = ap (λ (p : Item). p.class) (sym c.point-point.ensures) ∙ space-is _ (sym c.is_one_of.ensures ∙ c.if-is_one_of.true) in
-    let e = c.to-words-then-is_one_of.ensures in
-    rw (e.letter, e.spaced, e.last, e.rest)
+    let here = c.in-Some.ensures.steps.0 in
+    let w = c.loop-c.words in
     record {
-      rest = c.as_str-then-is_one_of.ensures;
-      word = IsWord-space _ _ c.loop-c.invariant.word.is_letter is;
+      word = c.loop-c.invariant.word;
       marked = λ whole m.
-          IsMarkedTo-space t whole _ _ _ _ _ (c.loop-c.invariant.marked whole m) c.loop-c.invariant.word c.in-Some.c _ _ here is c.push_reserved-then-is_one_of.ensures.items;
+          IsMarkedTo-space t whole _ _ _ _ _ (c.loop-c.invariant.marked whole m) (IsWord-of t c.args.letter w.letter w.spaced w.last c.loop-c.invariant.word)
+          c.in-Some.c _ _ _ here c.resolved-class.ensures (sym c.is_one_of.ensures ∙ c.if-is_one_of.true) c.push_reserved-then-is_one_of.ensures.items;
       left =
           let shorter = past_char-shorter _ _ c.in-Some.c here in
           let left = c.loop-c.invariant.left in
@@ -87,3 +85,16 @@ loop-c-preserved c =
           let room = c.loop-c.invariant.room in
           omega arith;
     }
+
+pub returns-else-is_one_of-clause-marked : goal.returns-else-is_one_of-clause-marked
+returns-else-is_one_of-clause-marked c = λ whole m.
+    let t = c.args.tables.now in
+    let w = c.loop-c.words in
+    IsMarkedTo-other t whole _ _ _ _ _ (c.loop-c.invariant.marked whole m) (IsWord-of t c.args.letter w.letter w.spaced w.last c.loop-c.invariant.word)
+    c.in-Some.c _ _ _ _ _ _
+    (c.in-Some.ensures.steps.0 ∙ ap (λ x. encode_utf8 c.in-Some.c ++ x) (sym c.as_str.ensures))
+    (c.of_class-point.ensures ∙ of_class-is t c.in-Some.c _ c.resolved-class.ensures)
+    c.before-before.ensures
+    (c.status.ensures ∙ ap (first_rule rules May c.before-before.result) c.of.ensures)
+    c.push_reserved-else-is_one_of.ensures.items
+    c.next-else-is_one_of.ensures
