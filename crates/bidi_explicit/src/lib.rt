@@ -16,5 +16,5 @@ mod uniform;
 pub use embedded::{Embedded, Sequence};
 pub use kept::Kept;
 pub use level::paragraph_level;
-pub use paragraph::{explicit, explicit_at};
+pub use paragraph::{explicit, explicit_at, explicit_by_controls};
 pub use uniform::has_controls;

@@ -17,10 +17,12 @@ use paragraphs::Para;
 use std::alloc::Global;
 use unicode_tables::Tables;
 
-/// What the rules make of a paragraph of this level, whatever its classes.
-fn by_controls(alloc: Global, level: u8, classes: &[Bidi]) -> Result<Embedded, Memory>
+/// What `explicit_at` answers, without a look whether there are controls: for classes of which that is known.
+pub fn explicit_by_controls(alloc: Global, level: u8, classes: &[Bidi]) -> Result<Embedded, Memory>
     requires { level ≤ 1 }
-    ensures { IfOk result (λ e. e ≡ embedding_at level classes.now) }
+    ensures embedding { IfOk result (λ e. e ≡ embedding_at level classes.now) }
+    ensures places { IfOk result (λ e. length e.places ≡ length classes.now) }
+    ensures sequence_depth { IfOk result (λ e. All (λ s. s.level ≤ 125) e.sequences) }
 {
     let controls = controls(alloc, classes)?;
     let places = places(alloc, level, classes, &controls)?;
@@ -39,7 +41,7 @@ fn embedded_at(alloc: Global, level: u8, classes: &[Bidi]) -> Result<Embedded, M
     ensures { IfOk result (λ e. e ≡ embedding_at level classes.now) }
 {
     if has_controls(classes) {
-        by_controls(alloc, level, classes)
+        explicit_by_controls(alloc, level, classes)
     } else {
         uniform(alloc, level, classes)
     }

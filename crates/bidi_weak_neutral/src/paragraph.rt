@@ -16,7 +16,9 @@ use crate::neutral::put_levels;
 use crate::sequence::{gather, resolve_types};
 use crate::weak::resolve_weak;
 use bg_types::{Base, Bidi, Memory};
-use bidi_explicit::{Embedded, Kept, Sequence, explicit_at, has_controls, paragraph_level};
+use bidi_explicit::{
+    Embedded, Kept, Sequence, explicit_by_controls, has_controls, paragraph_level,
+};
 use bracket_pairs::resolve;
 use paragraphs::{Para, code_points_of};
 use std::alloc::Global;
@@ -196,7 +198,7 @@ fn levels_by_controls(
     ensures one_each { IfOk result (λ levels. length levels.items ≡ length points.now) }
     ensures bound { IfOk result (λ levels. All (λ level. level ≤ 126) levels.items) }
 {
-    let embedded = explicit_at(alloc, level, classes)?;
+    let embedded = explicit_by_controls(alloc, level, classes)?;
     let mut levels = vec![in alloc; embedded.level(); points.len()]?;
     resolve_levels(alloc, tables, points, &embedded, &mut levels)?;
     Ok(levels)
