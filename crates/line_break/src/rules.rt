@@ -16,7 +16,7 @@ use bg_types::Lb::{
 };
 
 /// The status of a boundary that is not a paragraph's end, by the first rule that holds.
-#[inline]
+#[inline(always)]
 pub(crate) fn status(b: Before, a: After) -> Break
     ensures { result ≡ first_rule rules Break.May b a }
 {
