@@ -73,17 +73,18 @@ agree_placed s t c all id a b in_s in_t =
 
 -- ---- a row
 
--- insertions that are known may join, behind those that may
+-- insertions that are known may join
+pub known_joins : (s : OperationSet) (xs : List Element) → All (Holds s) (insertions_in xs) → All (λ e. MayJoin s (insertion_of e)) xs
+known_joins s [] all = All-nil (λ (e : Element). MayJoin s (insertion_of e))
+known_joins s (e ∷ xs) all = All-cons (λ (x : Element). MayJoin s (insertion_of x)) e xs (Holds-may_join s (insertion_of e) (All-head (Holds s) (insertion_of e) (insertions_in xs) all))
+    (known_joins s xs (All-tail (Holds s) (insertion_of e) (insertions_in xs) all))
+
+-- behind those that may, too
 pub known_join : (s : OperationSet) (row : List Element) (j n : ℕ) → All (λ e. MayJoin s (insertion_of e)) (take j row) → All (Holds s) (insertions_in (take n (rest_from row j)))
     → All (λ e. MayJoin s (insertion_of e)) (take (j + n) row)
 known_join s row j n front known =
     let may = λ (e : Element). MayJoin s (insertion_of e) in
-    subst (All may) (sym (take_behind row j n)) (All-append may (take j row) _ front (each_joins (take n (rest_from row j)) known))
-  where
-    each_joins : (xs : List Element) → All (Holds s) (insertions_in xs) → All (λ e. MayJoin s (insertion_of e)) xs
-    each_joins [] all = All-nil (λ (e : Element). MayJoin s (insertion_of e))
-    each_joins (e ∷ xs) all = All-cons (λ (x : Element). MayJoin s (insertion_of x)) e xs (Holds-may_join s (insertion_of e) (All-head (Holds s) (insertion_of e) (insertions_in xs) all))
-        (each_joins xs (All-tail (Holds s) (insertion_of e) (insertions_in xs) all))
+    subst (All may) (sym (take_behind row j n)) (All-append may (take j row) _ front (known_joins s (take n (rest_from row j)) known))
 
 -- ---- what waits
 

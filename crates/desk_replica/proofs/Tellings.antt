@@ -1,7 +1,6 @@
 -- What is told of a text, one change after the other.
-use Rattle.std.proofs.Common.{◌≡◌, ◌≤◌, ◌+◌, ◌++◌, ℕ, zero, suc, Bool, true, false, cond, not, List, [], ◌∷◌, length, drop, Option, None, Some, inl, inr, sym, ap, subst, ◌∙◌, refl, true≢false, is_some, arith, append_assoc, length-append}
+use Rattle.std.proofs.Common.{◌≡◌, ◌≤◌, ◌+◌, ◌++◌, ℕ, Bool, true, false, cond, not, List, [], ◌∷◌, length, drop, Option, None, Some, inl, inr, sym, ap, subst, ◌∙◌, refl, true≢false, is_some, arith, append_assoc, length-append}
 use Rattle.std.specs.Prelude.{◌||◌, ◌⊎◌, Result, Ok, Err, MatchResult, IfErr, OnErr, filter, insert, slice_get, map as each}
-use Rattle.std.specs.List.{AllByRecursion}
 use Rattle.std.specs.FinMap as map
 use Rattle.std.specs.FinSet as set
 use Rattle.std.proofs.lemmas.List.{append-nil}
@@ -20,10 +19,9 @@ use Rattle.rga_tree.specs.Walk.{walk}
 use Rattle.rga_tree.specs.Attached.{is_attached}
 use Rattle.rga_tree.specs.Parts.{IsPartOf}
 use Rattle.rga_tree.specs.TextOf.{text, visible, visible_ids, visible_before, is_erased}
-use Rattle.rga_tree.specs.Tree.{stands_in, IsTree}
+use Rattle.rga_tree.specs.Tree.{stands_in}
 use Rattle.rga_tree.specs.Elements.{elements, with_element}
 use Rattle.rga_tree.specs.Row.{place_of}
-use Rattle.rga_tree.specs.declared.element.Element.{Element}
 use Rattle.rga_tree.proofs.Interface.{Entry, IsAbsent, all_weaker_by, all_held, walk-leaf_at, walk-sub_walk, same_id-swap, listed-attached, IsAttached-tree}
 use Rattle.pending_ops.specs.Waiting.{Waiting}
 use Rattle.desk_replica.specs.Placement.{IsSettled, whole}

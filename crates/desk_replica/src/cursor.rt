@@ -13,15 +13,13 @@ const READ_FOR_ONE: usize = 8;
 /// elements that both know in one order, so it only moves on. It may stand at a part's end, since what is placed next may
 /// stand there. Still it is a guess: what stands ahead is compared.
 ///
-/// The other desk's elements pay for the own ones that it passes: a merge takes no longer because a desk has many own
-/// ones. Where it has not been paid enough it stays behind, and what is awaited is looked up.
+/// The other desk's elements pay for the own ones that it passes in search: a merge takes no longer because a desk has
+/// many own ones. Where it has not been paid enough it stays behind, and what is awaited is looked up.
 #[derive(Clone, Copy)]
 pub struct Cursor {
     part: usize,
     at: usize,
     paid: usize,
-    /// Behind this element it should stand, where that was not sought yet: of many in a row only the last one is.
-    met: Option<Id>,
 }
 
 impl Cursor {
@@ -31,7 +29,6 @@ impl Cursor {
             part: 0,
             at: 0,
             paid: 0,
-            met: None,
         }
     }
 
@@ -57,6 +54,13 @@ impl Cursor {
             self.go_on();
         }
         self.at = self.at.saturating_add(count);
+    }
+
+    /// Moves behind the element with this identifier, and tells whether `find` finds it.
+    pub fn pass<S: Sequence>(&mut self, seq: &S, id: Id) -> bool {
+        let found = self.find(seq, id);
+        self.at = self.at.saturating_add(usize::from(found));
+        found
     }
 
     /// Moves to the element with this identifier, if that stands here or later and what stands before it is paid for, and
@@ -91,21 +95,6 @@ impl Cursor {
         self.part = self.part.saturating_add(1);
         self.at = 0;
         self.paid = self.paid.saturating_sub(1);
-    }
-
-    /// Shall stand behind the element with this identifier.
-    pub fn meet(&mut self, id: Id) {
-        self.met = Some(id);
-    }
-
-    /// Moves behind the element that was met last, if that is found.
-    pub fn catch_up<S: Sequence>(&mut self, seq: &S) {
-        if let Some(id) = self.met {
-            self.met = None;
-            if self.find(seq, id) {
-                self.at = self.at.saturating_add(1);
-            }
-        }
     }
 }
 

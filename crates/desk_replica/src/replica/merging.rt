@@ -12,12 +12,13 @@ ghost use Rattle.desk_replica.specs.declared.answer.TakeFault.{TakeFault as Faul
 ghost use Rattle.desk_replica.specs.Desk.{insertion_of as made_by};
 ghost use Rattle.desk_replica.specs.Told.{told, insertions_in, deletions_in};
 ghost use Rattle.desk_replica.specs.Placement.{waiting_in};
+ghost use Rattle.desk_replica.specs.Standing.{IsStanding};
 ghost use Rattle.desk_replica.specs.Listening.{IsBounded, Tells, told_count};
 ghost use Rattle.desk_replica.specs.Telling.{IsUntaken, seen_count};
 ghost use Rattle.desk_replica.specs.Merging.{Disagree, IsMergeRefusal, IsMergeRefused, IsStopped, ReusesIn, with_operations};
 
 use super::Replica;
-use crate::answer::TakeFault;
+use crate::answer::{TakeFault, Taken};
 use crate::cursor::Cursor;
 use crate::listener::{Listener, Nobody};
 use crate::placing::{Standing, count_waiting, look_up};
@@ -98,42 +99,54 @@ impl<S: Sequence> Replica<S> {
         false
     }
 
-    /// Whether an element of a row reuses an identifier. The first is awaited at the cursor.
+    /// Whether an element of a row reuses an identifier. The first is awaited at the cursor, and so is what follows one that
+    /// is known; what follows a new one is looked up.
     fn disagrees_row(&self, row: &[Element], cursor: &mut Cursor) -> bool
         requires { All (λ e. MayFollow e.parent e.id) row.now }
         ensures yes { OnTrue result (ReusesIn self.now.set row.now) }
         ensures no { OnFalse result (All (λ e. MayJoin self.now.set (made_by e)) row.now) }
     {
         cursor.pay(row.len());
-        let mut at = 0;
+        let mut at = self.known_in_front(row, cursor);
         while at < row.len() {
-            let known = self.known_in_front(&row[at..], cursor);
-            if known > 0 {
-                at += known;
-            } else if self.reuses_at(&row[at], cursor) {
-                return true;
-            } else {
-                at += 1;
+            let e = &row[at];
+            at += 1;
+            match self.standing(e) {
+                Standing::Reused => return true,
+                Standing::Known => at += self.known_behind(e.id, &row[at..], cursor),
+                Standing::New => {}
             }
         }
         false
     }
 
-    /// Whether the insertion of an element reuses an identifier. If that stands, the cursor goes on behind it.
-    fn reuses_at(&self, e: &Element, cursor: &mut Cursor) -> bool
+    /// How the insertion of an element stands to what is kept.
+    fn standing(&self, e: &Element) -> Standing
         requires { MayFollow e.now.parent e.now.id }
-        ensures yes { OnTrue result (ReusesIdentifier self.now.set (made_by e.now)) }
-        ensures no { OnFalse result (MayJoin self.now.set (made_by e.now)) }
+        ensures { IsStanding self.now.set (made_by e.now) result }
     {
-        if self.is_newest(e) {
-            return false;
+        look_up(&self.seq, &self.held, self.greatest, &insertion_of(e))
+    }
+
+    /// How many elements in front of a row are known without a look-up, where it stands behind an element that is known.
+    /// Not inlined, so that the loop over new elements stays short.
+    #[inline(never)]
+    fn known_behind(&self, id: Id, row: &[Element], cursor: &mut Cursor) -> usize
+        ensures within { result ≤ length row.now }
+        ensures known { All (Holds self.now.set) (insertions_in (take result row.now)) }
+    {
+        if !self.is_placed(id) {
+            return 0;
         }
-        match look_up(&self.seq, &self.held, self.greatest, &insertion_of(e)) {
-            Standing::Reused => return true,
-            Standing::Known if self.seq.has(e.id) => cursor.meet(e.id),
-            _ => {}
+        if !cursor.pass(&self.seq, id) {
+            return 0;
         }
-        false
+        self.known_in_front(row, cursor)
+    }
+
+    /// Whether an insertion that is kept is placed: it is, where none waits.
+    fn is_placed(&self, id: Id) -> bool {
+        self.held.insertion_count() == 0 || self.seq.has(id)
     }
 
     /// How many elements in front of a row stand at the cursor, one behind the other: what made them is known without a
@@ -142,22 +155,9 @@ impl<S: Sequence> Replica<S> {
         ensures within { result ≤ length row.now }
         ensures known { All (Holds self.now.set) (insertions_in (take result row.now)) }
     {
-        match row.first() {
-            Some(first) if !self.is_newest(first) => {}
-            _ => return 0,
-        }
-        cursor.catch_up(&self.seq);
         let known = alike_in_front(cursor.ahead(&self.seq), row);
         cursor.skip(&self.seq, known);
         known
-    }
-
-    /// Whether an element's counter is above all that are named, so that nothing is known of it.
-    #[inline(always)]
-    fn is_newest(&self, e: &Element) -> bool
-        ensures { OnTrue result (MayJoin self.now.set (made_by e.now)) }
-    {
-        e.id.counter() > self.greatest
     }
 
     fn disagrees_waiting(&self, held: &Held) -> bool
@@ -221,7 +221,8 @@ impl<S: Sequence> Replica<S> {
         Ok(())
     }
 
-    /// Takes the insertions that made the elements of a row. The first is awaited at the cursor.
+    /// Takes the insertions that made the elements of a row. The first is awaited at the cursor, and so is what follows one
+    /// that is known; what follows a new one is looked up.
     fn insert_row<L: Listener>(
         &mut self,
         row: &[Element],
@@ -238,26 +239,19 @@ impl<S: Sequence> Replica<S> {
         ensures seen { told_count (L.told listener.new) + seen_count self.old.set ≤ told_count (L.told listener.old) + seen_count self.new.set }
     {
         cursor.pay(row.len());
-        let mut at = 0;
+        let mut at = self.known_in_front(row, cursor);
         while at < row.len() {
-            let known = self.known_in_front(&row[at..], cursor);
-            if known > 0 {
-                at += known;
-            } else {
-                self.take_at(&row[at], cursor, listener)?;
-                at += 1;
+            let e = &row[at];
+            at += 1;
+            if self.take_at(e, listener)? {
+                at += self.known_behind(e.id, &row[at..], cursor);
             }
         }
         Ok(())
     }
 
-    /// Takes the insertion that made an element. The cursor goes on behind it.
-    fn take_at<L: Listener>(
-        &mut self,
-        e: &Element,
-        cursor: &mut Cursor,
-        listener: &mut L,
-    ) -> Result<(), TakeFault>
+    /// Takes the insertion that made an element, and tells whether it was known.
+    fn take_at<L: Listener>(&mut self, e: &Element, listener: &mut L) -> Result<bool, TakeFault>
         requires { MayFollow e.now.parent e.now.id }
         ensures ok { OnOk result (self.new.set ≡ with_operation self.old.set (made_by e.now)) }
         ensures err { OnErr result (self.new ≡ self.old) }
@@ -268,10 +262,8 @@ impl<S: Sequence> Replica<S> {
         ensures told { Tells self.old.set self.new.set (L.told listener.old) (L.told listener.new) }
         ensures seen { told_count (L.told listener.new) + seen_count self.old.set ≤ told_count (L.told listener.old) + seen_count self.new.set }
     {
-        self.take_to(&insertion_of(e), listener)?;
-        // Its parent was taken before it, so it stands now.
-        cursor.meet(e.id);
-        Ok(())
+        let taken = self.take_to(&insertion_of(e), listener)?;
+        Ok(matches!(taken, Taken::Known))
     }
 
     fn take_deletions<L: Listener>(&mut self, seq: &S, listener: &mut L) -> Result<(), TakeFault>

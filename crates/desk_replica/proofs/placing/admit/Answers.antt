@@ -1,5 +1,5 @@
 -- The goals of `admit` that are answered by hand.
-use Rattle.std.proofs.Common.{◌≡◌, ◌+◌, inl, inr, refl, false, true, sym, ap, subst, ◌∙◌, arith, rules}
+use Rattle.std.proofs.Common.{◌≡◌, ◌+◌, inl, refl, false, true, sym, ap, subst, ◌∙◌, arith, rules}
 use Rattle.std.specs.FinMap as map
 use Rattle.bg_types.specs.OperationSet.{OperationSet, with_operation}
 use Rattle.desk_replica.specs.Placement.{MayPlace, reaches_in, whole}
@@ -8,7 +8,7 @@ use Rattle.desk_replica.proofs.FirstTurn.{held_within}
 use Rattle.desk_replica.proofs.Admitting.{settled_as, still_paid, target_there, whole_as, held_paid, held_new, held_settled, held_whole, waits_answer, hidden_settled, hidden_whole, may_reach, hides, on_err}
 use Rattle.bg_types.specs.declared.change.Change.TheVariants.{Cut}
 use Rattle.rga_tree.specs.TextOf.{visible_before}
-use Rattle.desk_replica.specs.Listening.{told_count, HasRoom}
+use Rattle.desk_replica.specs.Listening.{told_count}
 use Rattle.desk_replica.proofs.Tellings.{room_within, tells_nothing, tells_more, tells_whole, tells_hidden, one_told, still_visible, no_hiding}
 use Rattle.desk_replica.proofs.placing.admit.Goals as goal
 

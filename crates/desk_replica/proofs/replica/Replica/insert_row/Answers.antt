@@ -1,25 +1,25 @@
 -- The goals of `insert_row` that are answered by hand.
-use Rattle.std.proofs.Common.{ap, ◌∙◌, refl, arith}
+use Rattle.std.proofs.Common.{◌+◌, take, sym, ap, ◌∙◌, refl, arith}
 use Rattle.std.proofs.lemmas.Result.{err_from_is_err_and}
 use Rattle.desk_replica.specs.Desk.{Desk, insertion_of}
 use Rattle.desk_replica.specs.Told.{insertions_in}
 use Rattle.desk_replica.proofs.Rows.{insertions-append}
-use Rattle.desk_replica.proofs.InTurn.{row_ended, row_next, row_passed}
+use Rattle.desk_replica.proofs.InTurn.{row_ended, row_next, row_passed, with-known}
 use Rattle.desk_replica.proofs.Tellings.{tells_nothing, tells_more}
 use Rattle.desk_replica.proofs.replica.Replica.insert_row.Goals as goal
 
 pub loop-at-init : goal.loop-at-init
-loop-at-init g c = record { within = omega arith; taken = refl; site = refl; spare = omega arith; told = (let s = c.args.self.now.set in let a = g.L.Listener.told c.args.listener.now in tells_nothing s s a a refl refl); seen = omega arith }
-
-pub loop-at-preserved-then-known-gt0 : goal.loop-at-preserved-then-known-gt0
-loop-at-preserved-then-known-gt0 g c = record {
-  within = omega (arith, c.known_in_front-known.ensures.within);
-  taken = row_passed insertions_in insertions-append c.args.self.now.set c.loop-at.self.set c.args.row.now c.loop-at.at c.known_in_front-known.result c.loop-at.invariant.taken c.known_in_front-known.ensures.known;
-  site = c.loop-at.invariant.site;
-  spare = c.loop-at.invariant.spare;
-  told = c.loop-at.invariant.told;
-  seen = c.loop-at.invariant.seen;
-}
+loop-at-init g c =
+    let s = c.args.self.now.set in
+    let told = g.L.Listener.told c.args.listener.now in
+    record {
+      within = c.known_in_front-at.ensures.within;
+      taken = sym (with-known s (insertions_in (take c.known_in_front-at.result c.args.row.now)) c.known_in_front-at.ensures.known);
+      site = refl;
+      spare = omega arith;
+      told = tells_nothing s s told told refl refl;
+      seen = omega arith;
+    }
 
 pub returns-in_err-take_at-clause-fault : goal.returns-in_err-take_at-clause-fault
 returns-in_err-take_at-clause-fault g c =
@@ -35,6 +35,18 @@ pub loop-at-preserved : goal.loop-at-preserved
 loop-at-preserved g c = record {
   within = omega arith;
   taken = row_next insertions_in insertions-append c.args.self.now.set c.loop-at.self.set c.args.row.now c.loop-at.at c.index-row-at.result c.loop-at-test.true c.index-row-at.is c.loop-at.invariant.taken c.take_at.new.self.set c.in_ok-take_at.ensures.ok;
+  site = c.in_ok-take_at.ensures.site ∙ c.loop-at.invariant.site;
+  spare = omega (arith, c.take_at.ensures.spare, c.loop-at.invariant.spare);
+  told = tells_more c.args.self.now.set c.loop-at.self.set c.take_at.new.self.set (g.L.Listener.told c.args.listener.now) (g.L.Listener.told c.loop-at.listener) (g.L.Listener.told c.take_at.new.listener) c.loop-at.invariant.told c.take_at.ensures.told;
+  seen = omega (arith, c.take_at.ensures.seen, c.loop-at.invariant.seen);
+}
+
+pub loop-at-preserved-then-branch : goal.loop-at-preserved-then-branch
+loop-at-preserved-then-branch g c = record {
+  within = omega (arith, c.known_behind-at.ensures.within);
+  taken = row_passed insertions_in insertions-append c.args.self.now.set c.take_at.new.self.set c.args.row.now (c.loop-at.at + 1) c.known_behind-at.result
+      (row_next insertions_in insertions-append c.args.self.now.set c.loop-at.self.set c.args.row.now c.loop-at.at c.index-row-at.result c.loop-at-test.true c.index-row-at.is c.loop-at.invariant.taken c.take_at.new.self.set c.in_ok-take_at.ensures.ok)
+      c.known_behind-at.ensures.known;
   site = c.in_ok-take_at.ensures.site ∙ c.loop-at.invariant.site;
   spare = omega (arith, c.take_at.ensures.spare, c.loop-at.invariant.spare);
   told = tells_more c.args.self.now.set c.loop-at.self.set c.take_at.new.self.set (g.L.Listener.told c.args.listener.now) (g.L.Listener.told c.loop-at.listener) (g.L.Listener.told c.take_at.new.listener) c.loop-at.invariant.told c.take_at.ensures.told;

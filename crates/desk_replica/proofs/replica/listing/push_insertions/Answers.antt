@@ -1,5 +1,5 @@
 -- The goals of `push_insertions` that are answered by hand.
-use Rattle.std.proofs.Common.{◌+◌, ◌++◌, List, [], take, sym, ap, ◌∙◌, arith}
+use Rattle.std.proofs.Common.{◌+◌, ◌++◌, List, take, sym, ap, ◌∙◌, arith}
 use Rattle.std.proofs.lemmas.List.{append-nil}
 use Rattle.rga_tree.specs.declared.element.Element.{Element}
 use Rattle.desk_replica.specs.Told.{insertions_in}
