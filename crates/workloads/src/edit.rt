@@ -34,6 +34,9 @@ const ROOM: usize = 10_000;
 /// How many keys are pressed.
 const KEYS: usize = 80;
 
+/// The key that erases.
+const ERASES: usize = 0;
+
 /// A user types and erases in a text of a megabyte, and the window around the caret is shown after each key.
 pub fn edit(alloc: Global, seed: u32, share: usize, digest: &mut Digest) -> Result<()> {
     let mut desk = Replica::new(alloc, 1, Blocks::keyed(alloc, KEY), KEY);
@@ -54,10 +57,12 @@ fn type_and_show(
     import(desk, text.as_str())?;
     let mut place = chance.below(desk.len());
     for _ in 0..KEYS {
-        if chance.one_in(10) {
+        let key = chance.below(8);
+        // To erase what was just typed would give the text before it again.
+        if key == ERASES || chance.one_in(10) {
             place = chance.below(desk.len());
         }
-        place = press(desk, place, chance.below(8))?;
+        place = press(desk, place, key)?;
         show(&mut view, desk, place, digest)?;
     }
     Ok(())
@@ -83,7 +88,7 @@ fn import(desk: &mut Desk, text: &str) -> Result<()> {
 /// Types a character at a place of the text or erases the one before, as the key says. Returns the place after.
 fn press(desk: &mut Desk, place: usize, key: usize) -> Result<usize> {
     let place = place.min(desk.len());
-    if key == 0 && place > 0 {
+    if key == ERASES && place > 0 {
         desk.erase_at(place - 1)?;
         return Ok(place - 1);
     }
@@ -105,6 +110,7 @@ fn show(view: &mut View, desk: &Desk, place: usize, digest: &mut Digest) -> Resu
     if text.len() > LONGEST || code_points(text.as_str()) < place {
         bail!("too large");
     }
+    digest.add(text.as_bytes());
     let grid = view.draw(WIDTH, Base::Auto, text.as_str())?;
     let caret = at_place(&grid, place);
     tell_window(&grid, caret.row, digest);
@@ -133,6 +139,7 @@ fn tell_row(row: &Row, digest: &mut Digest) {
         if let Cell::Head(number) = cell {
             if let Some(entry) = row.entries().get(number as usize) {
                 digest.add_number(entry.span.first_place as usize);
+                digest.add_number(usize::from(entry.level));
             }
         }
     }
