@@ -2,6 +2,7 @@
 //!
 //! `workloads NAME SEED [SHARE]` does the work of this name, or of all names at `all`, and writes a digest of its
 //! results. Each seed gives other inputs of the same kind and size; with a share they are so many times smaller.
+//! `workloads --help` tells its words.
 #![tactic(auto)]
 
 mod chance;
@@ -35,10 +36,19 @@ fn run(alloc: Global, name: &str, seed: u32, share: usize, digest: &mut Digest) 
     }
 }
 
+const USAGE: &str = "usage: workloads NAME SEED [SHARE]";
+
 fn main(rt: HostRuntime) -> Result<()> {
     let mut words = env::args(&rt)?.skip(1);
-    let (Some(name), Some(seed)) = (words.next(), words.next()) else {
-        bail!("usage: workloads NAME SEED [SHARE]");
+    let Some(name) = words.next() else {
+        bail!("{USAGE}");
+    };
+    if matches!(name.as_str(), "--help" | "-h") {
+        println!(rt; "{USAGE}")?;
+        return Ok(());
+    }
+    let Some(seed) = words.next() else {
+        bail!("{USAGE}");
     };
     let seed = seed.as_str().parse::<u32>()?;
     let share = match words.next() {
