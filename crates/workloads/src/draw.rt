@@ -49,14 +49,36 @@ const PICTURES: [Picture; 4] = [
     },
 ];
 
-/// Draws texts of several kinds from new views, and prints them.
+/// The streams of chance that the texts are made of, four texts each.
+const STREAMS: [u32; 2] = [8, 28];
+
+/// Draws two times a text of each kind from new views, and prints them.
 pub fn draw(alloc: Global, seed: u32, share: usize, digest: &mut Digest) -> Result<()> {
     let tables = SMALL.load(alloc)?;
-    let mut chance = Chance::new(seed, 8);
+    for stream in STREAMS {
+        draw_each(
+            alloc,
+            &tables,
+            &mut Chance::new(seed, stream),
+            share,
+            digest,
+        )?;
+    }
+    Ok(())
+}
+
+/// Draws a text of each kind.
+fn draw_each(
+    alloc: Global,
+    tables: &Tables,
+    chance: &mut Chance,
+    share: usize,
+    digest: &mut Digest,
+) -> Result<()> {
     for picture in &PICTURES {
         let bytes = picture.bytes / share.max(1);
-        let text = picture.prose.text(alloc, &mut chance, bytes)?;
-        show(alloc, &tables, picture, text.as_str(), digest)?;
+        let text = picture.prose.text(alloc, chance, bytes)?;
+        show(alloc, tables, picture, text.as_str(), digest)?;
     }
     Ok(())
 }

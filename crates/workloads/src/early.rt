@@ -16,15 +16,32 @@ const KEY: u128 = 0x5eed;
 /// How many operations each text has.
 const COUNT: usize = 400_000;
 
+/// The streams of chance that the texts and the order are made of: one in random order, that order, and the one in
+/// halves.
+const STREAMS: [[u32; 3]; 2] = [[4, 5, 6], [24, 25, 26]];
+
+/// Does this with two times two texts.
+pub fn early(alloc: Global, seed: u32, share: usize, digest: &mut Digest) -> Result<()> {
+    for streams in &STREAMS {
+        take_two(alloc, seed, streams, COUNT / share.max(1), digest)?;
+    }
+    Ok(())
+}
+
 /// A desk takes operations in random order. Two others take a half each, the later one from the back, and then
 /// they meet.
-pub fn early(alloc: Global, seed: u32, share: usize, digest: &mut Digest) -> Result<()> {
+fn take_two(
+    alloc: Global,
+    seed: u32,
+    streams: &[u32; 3],
+    count: usize,
+    digest: &mut Digest,
+) -> Result<()> {
     let mut desk = Replica::new(alloc, 5, Blocks::keyed(alloc, KEY), KEY);
     let mut one = Replica::new(alloc, 5, Blocks::keyed(alloc, KEY), KEY);
     let mut other = Replica::new(alloc, 6, Blocks::keyed(alloc, KEY), KEY);
-    let count = COUNT / share.max(1);
-    let done = take_shuffled(alloc, seed, count, &mut desk, digest);
-    let met = take_halves(alloc, seed, count, &mut one, &mut other, digest);
+    let done = take_shuffled(alloc, seed, streams, count, &mut desk, digest);
+    let met = take_halves(alloc, seed, streams[2], count, &mut one, &mut other, digest);
     done.and(met)
 }
 
@@ -32,13 +49,14 @@ pub fn early(alloc: Global, seed: u32, share: usize, digest: &mut Digest) -> Res
 fn take_shuffled(
     alloc: Global,
     seed: u32,
+    streams: &[u32; 3],
     count: usize,
     desk: &mut Desk,
     digest: &mut Digest,
 ) -> Result<()> {
-    let made = written(alloc, seed, 4, count)?;
+    let made = written(alloc, seed, streams[0], count)?;
     let mut ops = operations(alloc, &made)?;
-    shuffle(&mut Chance::new(seed, 5), &mut ops);
+    shuffle(&mut Chance::new(seed, streams[1]), &mut ops);
     take_all(desk, &ops, digest)?;
     tell(desk, digest)
 }
@@ -47,12 +65,13 @@ fn take_shuffled(
 fn take_halves(
     alloc: Global,
     seed: u32,
+    stream: u32,
     count: usize,
     one: &mut Desk,
     other: &mut Desk,
     digest: &mut Digest,
 ) -> Result<()> {
-    let made = written(alloc, seed, 6, count)?;
+    let made = written(alloc, seed, stream, count)?;
     let mut ops = operations(alloc, &made)?;
     let half = ops.len() / 2;
     let (earlier, later) = ops.split_at_mut(half);

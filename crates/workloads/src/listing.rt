@@ -11,12 +11,28 @@ use std::alloc::Global;
 /// How many operations each file has.
 const COUNT: usize = 1_000_000;
 
-/// Lists an operation file and makes a file of the listing; lists a file of version 2; and migrates a file.
+/// The streams of chance that the files are made of, three files at a time.
+const STREAMS: [[u32; 3]; 2] = [[10, 11, 12], [30, 31, 32]];
+
+/// Does this with two times three files.
 pub fn listing(alloc: Global, seed: u32, share: usize, digest: &mut Digest) -> Result<()> {
-    let count = COUNT / share.max(1);
+    for streams in &STREAMS {
+        list_three(alloc, seed, streams, COUNT / share.max(1), digest)?;
+    }
+    Ok(())
+}
+
+/// Lists an operation file and makes a file of the listing; lists a file of version 2; and migrates a file.
+fn list_three(
+    alloc: Global,
+    seed: u32,
+    streams: &[u32; 3],
+    count: usize,
+    digest: &mut Digest,
+) -> Result<()> {
     let file = encode_file(
         alloc,
-        &operations(alloc, &written(alloc, seed, 10, count)?)?,
+        &operations(alloc, &written(alloc, seed, streams[0], count)?)?,
     )?;
     let mut listed = Vec::new(alloc);
     dump(alloc, &file, &mut Out::new(&mut listed))?;
@@ -25,13 +41,13 @@ pub fn listing(alloc: Global, seed: u32, share: usize, digest: &mut Digest) -> R
 
     let file = encode_file_v2(
         alloc,
-        &operations(alloc, &written(alloc, seed, 11, count)?)?,
+        &operations(alloc, &written(alloc, seed, streams[1], count)?)?,
     )?;
     dump(alloc, &file, digest)?;
 
     let file = encode_file(
         alloc,
-        &operations(alloc, &written(alloc, seed, 12, count)?)?,
+        &operations(alloc, &written(alloc, seed, streams[2], count)?)?,
     )?;
     migrate(alloc, &file, digest)?;
     Ok(())

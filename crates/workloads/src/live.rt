@@ -18,6 +18,9 @@ const COUNT: usize = 200_000;
 /// The most characters that a desk types before the others hear of them.
 const BURST: usize = 30;
 
+/// The streams of chance that the steps are made of.
+const STREAMS: [u32; 2] = [7, 27];
+
 /// What the desks did so far.
 #[derive(Drop)]
 struct Story {
@@ -101,9 +104,9 @@ impl Story {
 }
 
 /// The steps of four desks.
-fn steps_of(alloc: Global, seed: u32, count: usize) -> Result<Vec<Step>, AllocError> {
+fn steps_of(alloc: Global, seed: u32, stream: u32, count: usize) -> Result<Vec<Step>, AllocError> {
     let mut story = Story {
-        chance: Chance::new(seed, 7),
+        chance: Chance::new(seed, stream),
         steps: Vec::new(alloc),
         made: 0,
         length: 0,
@@ -119,10 +122,18 @@ fn steps_of(alloc: Global, seed: u32, count: usize) -> Result<Vec<Step>, AllocEr
     Ok(story.steps)
 }
 
-/// Does the steps of four desks that write one text.
+/// Two times four desks write one text.
 pub fn live(alloc: Global, seed: u32, share: usize, digest: &mut Digest) -> Result<()> {
-    let steps = steps_of(alloc, seed, COUNT / share.max(1))?;
-    let world = run_world::<Blocks>(alloc, KEY, &SITES, &steps)?;
+    for stream in STREAMS {
+        let steps = steps_of(alloc, seed, stream, COUNT / share.max(1))?;
+        do_steps(alloc, &steps, digest)?;
+    }
+    Ok(())
+}
+
+/// Does the steps of four desks that write one text.
+fn do_steps(alloc: Global, steps: &[Step], digest: &mut Digest) -> Result<()> {
+    let world = run_world::<Blocks>(alloc, KEY, &SITES, steps)?;
     tell(&world, digest)
 }
 

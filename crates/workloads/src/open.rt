@@ -12,21 +12,37 @@ const KEY: u128 = 0x5eed;
 /// How many operations each text has.
 const COUNT: usize = 800_000;
 
+/// The streams of chance that the texts are made of, three texts at a time.
+const STREAMS: [[u32; 3]; 2] = [[1, 2, 3], [21, 22, 23]];
+
+/// Opens two times three texts.
+pub fn open(alloc: Global, seed: u32, share: usize, digest: &mut Digest) -> Result<()> {
+    for streams in &STREAMS {
+        open_three(alloc, seed, streams, COUNT / share.max(1), digest)?;
+    }
+    Ok(())
+}
+
 /// Opens three texts that four desks wrote: from a log in version 1, from a log in version 2, and from a file of
 /// each desk.
-pub fn open(alloc: Global, seed: u32, share: usize, digest: &mut Digest) -> Result<()> {
-    let count = COUNT / share.max(1);
-    let made = written(alloc, seed, 1, count)?;
+fn open_three(
+    alloc: Global,
+    seed: u32,
+    streams: &[u32; 3],
+    count: usize,
+    digest: &mut Digest,
+) -> Result<()> {
+    let made = written(alloc, seed, streams[0], count)?;
     let ops = operations(alloc, &made)?;
     let file = encode_file(alloc, &ops)?;
     open_files(alloc, &[file], digest)?;
 
-    let made = written(alloc, seed, 2, count)?;
+    let made = written(alloc, seed, streams[1], count)?;
     let ops = operations(alloc, &made)?;
     let file = encode_file_v2(alloc, &ops)?;
     open_files(alloc, &[file], digest)?;
 
-    let made = written(alloc, seed, 3, count)?;
+    let made = written(alloc, seed, streams[2], count)?;
     let mut files = Vec::new(alloc);
     for desk in 0..DESKS {
         let ops = operations_of(alloc, &made, desk)?;
