@@ -13,6 +13,7 @@ mod edit;
 mod history;
 mod listing;
 mod live;
+mod meet;
 mod open;
 mod prose;
 
@@ -21,7 +22,7 @@ use digest::Digest;
 use std::alloc::Global;
 use std::env;
 
-const NAMES: [&str; 6] = ["open", "early", "live", "draw", "edit", "listing"];
+const NAMES: [&str; 7] = ["open", "early", "live", "meet", "draw", "edit", "listing"];
 
 /// Does the work of a name.
 fn run(alloc: Global, name: &str, seed: u32, share: usize, digest: &mut Digest) -> Result<()> {
@@ -29,6 +30,7 @@ fn run(alloc: Global, name: &str, seed: u32, share: usize, digest: &mut Digest) 
         "open" => open::open(alloc, seed, share, digest),
         "early" => early::early(alloc, seed, share, digest),
         "live" => live::live(alloc, seed, share, digest),
+        "meet" => meet::meet(alloc, seed, share, digest),
         "draw" => draw::draw(alloc, seed, share, digest),
         "edit" => edit::edit(alloc, seed, share, digest),
         "listing" => listing::listing(alloc, seed, share, digest),

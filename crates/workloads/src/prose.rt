@@ -8,6 +8,8 @@ use std::alloc::{AllocError, Global};
 pub struct Prose {
     /// The words, each as likely as any other.
     pub words: &'static [&'static str],
+    /// What stands between two of them.
+    pub between: &'static str,
     /// Of so many words one ends its paragraph; 0 where none does.
     pub paragraph: usize,
 }
@@ -42,6 +44,7 @@ pub const MIXED: Prose = Prose {
         "1,250.5",
         "well-known",
     ],
+    between: " ",
     paragraph: 40,
 };
 
@@ -51,6 +54,7 @@ pub const LATIN: Prose = Prose {
         "the", "quick", "brown", "fox", "jumps", "over", "a", "lazy", "dog,", "and", "sleeps",
         "on;", "fn", "main()", "{", "}", "let", "x", "=", "1;", "return", "words", "of", "length",
     ],
+    between: " ",
     paragraph: 12,
 };
 
@@ -75,7 +79,55 @@ pub const HEBREW: Prose = Prose {
         "אל",
         "לא",
     ],
+    between: " ",
     paragraph: 60,
+};
+
+/// Hebrew of which each letter has its point, with numbers and punctuation of its own.
+pub const POINTED: Prose = Prose {
+    words: &[
+        "בְּרֵאשִׁית",
+        "בָּרָא",
+        "אֱלֹהִים",
+        "אֵת",
+        "הַשָּׁמַיִם",
+        "וְאֵת",
+        "הָאָרֶץ׃",
+        "וְחֹשֶׁךְ",
+        "עַל־פְּנֵי",
+        "תְהוֹם",
+        "מְרַחֶפֶת",
+        "וַיֹּאמֶר",
+        "יְהִי־אוֹר",
+        "שָׁלוֹם,",
+        "(יוֹם)",
+        "120",
+        "15:30",
+    ],
+    between: " ",
+    paragraph: 60,
+};
+
+/// Chinese, in which no spaces stand, with wide punctuation and brackets, numbers and a Latin word.
+pub const CHINESE: Prose = Prose {
+    words: &[
+        "人人生而自由，",
+        "在尊严和权利上",
+        "一律平等。",
+        "他们赋有理性",
+        "和良心，",
+        "并应以",
+        "兄弟关系的",
+        "精神相对待。",
+        "「世界」",
+        "（第1条）",
+        "2023年",
+        "Unicode",
+        "、",
+        "文字",
+    ],
+    between: "",
+    paragraph: 30,
 };
 
 /// What makes a layout work: isolates, embeddings, overrides, brackets in brackets, numbers with their
@@ -110,11 +162,12 @@ pub const KNOTTED: Prose = Prose {
         "«ג»",
         "\u{2028}",
     ],
+    between: " ",
     paragraph: 0,
 };
 
 impl Prose {
-    /// A text of words with a space between, which ends with the word that reaches this many bytes.
+    /// A text of words with something between, which ends with the word that reaches this many bytes.
     pub fn text(
         &self,
         alloc: Global,
@@ -131,7 +184,7 @@ impl Prose {
                 None => return Ok(text),
             }
             let ends = self.paragraph > 0 && chance.one_in(self.paragraph);
-            text.push(if ends { '\n' } else { ' ' })?;
+            text.push_str(if ends { "\n" } else { self.between })?;
         }
         Ok(text)
     }
