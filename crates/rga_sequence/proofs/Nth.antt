@@ -43,15 +43,6 @@ all_visible es at n all =
       length-append (take n part) (drop n part),
     )
 
--- one more hidden element
-pub hidden-next : (es : List Element) (j : ℕ) (e : Element) → slice_get es j ≡ Some e → e.hidden ≡ true → seen (take (j + 1) es) ≡ seen (take j es)
-hidden-next es j e is hidden = omega (arith, seen-more es j e is, ap {B = ℕ} (λ h. cond h 0 1) hidden)
-
--- where visible ones are left behind a hidden one there is a further element
-pub further-there : (es : List Element) (at from : ℕ) (e : Element) → slice_get es at ≡ Some e → e.hidden ≡ true
-    → seen (take at es) ≡ seen (take from es) → seen (take from es) < seen es → at + 1 < length es
-further-there es at from e is hidden same few = not_all es (at + 1) (omega (arith, hidden-next es at e is hidden, same, few))
-
 -- a part of a row of blocks
 pub items_part : (bs : List Block) (b n : ℕ) → take n (drop b (items_of bs)) ≡ items_of (take n (drop b bs))
 items_part bs b n = let f = λ (x : Block). x.elements.items in ap (take n) (drop-map f b bs) ∙ take-map f n (drop b bs)

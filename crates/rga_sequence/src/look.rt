@@ -1,13 +1,19 @@
 //! Looking for a visible element block by block, with a count of the looks.
 
-ghost use Rattle.std.specs.Prelude.{◌≡◌, ◌+◌, ◌-◌, ◌<◌, ◌≤◌, ◌^◌, ℕ, List, length, take, drop, filter, not, false, slice_get, get_or, [], Some};
+ghost use Rattle.std.specs.Prelude.{◌≡◌, ◌+◌, ◌-◌, ◌<◌, ◌≤◌, ◌^◌, ℕ, List, length, take, drop, filter, not, ◌||◌, nat_lt, false, slice_get, get_or, [], Some};
 ghost use Rattle.rga_tree.specs.declared.element.Element.{Element};
 ghost use Rattle.rga_sequence.specs.Blocks.{seen, seen_all, joined, FindsBy};
 
-use crate::block::FULL;
+use crate::block::{FULL, weight};
 use rga_tree::Element;
 
-/// How many elements are counted together: as many as a byte can count.
+/// How many blocks are passed together at least. Of fewer each is looked at alone, so that no step leads over one block.
+const FEWEST_BLOCKS: usize = 8;
+
+/// How many elements are passed together at least, likewise.
+const FEWEST_ELEMENTS: usize = 16;
+
+/// How many elements are counted together at most: as many as a byte can count.
 const COUNTED: usize = 255;
 
 /// A row of blocks of at most 512 elements each, which counts how often it is looked at. Blocks,
@@ -124,7 +130,7 @@ fn passed_together<L: Look>(row: &mut L, k: usize) -> (usize, usize)
 {
     let mut b = 0;
     let mut left = k;
-    while left >= FULL {
+    while left / FULL >= FEWEST_BLOCKS {
         let end = b + left / FULL;
         left -= row.headers(b, end);
         b = end;
@@ -149,30 +155,40 @@ fn element_of<L: Look>(row: &mut L, b: usize, visible: usize, k: usize) -> (usiz
 {
     let mut at = 0;
     let mut left = k;
-    while left > 0 {
+    while left >= FEWEST_ELEMENTS {
         let end = at + left.min(COUNTED);
         left -= row.visible_in(b, visible, at, end);
         at = end;
     }
-    first_visible(row, b, at)
+    visible_from(row, b, at, left)
 }
 
-/// The place of the first visible element of a block from one on, and the element.
-fn first_visible<L: Look>(row: &mut L, b: usize, from: usize) -> (usize, Element)
-    requires there { seen (take from (get_or (L.blocks row.old) b [])) < seen (get_or (L.blocks row.old) b []) }
+/// The place of the visible element that has k visible ones between it and a place of its block, and the element.
+fn visible_from<L: Look>(row: &mut L, b: usize, from: usize, k: usize) -> (usize, Element)
+    requires there { seen (take from (get_or (L.blocks row.old) b [])) + k < seen (get_or (L.blocks row.old) b []) }
     requires room { L.looked row.old + (length (get_or (L.blocks row.old) b []) - from) < 2 ^ 64 }
     ensures there { slice_get (get_or (L.blocks row.old) b []) result.0 ≡ Some result.1 }
     ensures visible { result.1.hidden ≡ false }
-    ensures before { seen (take result.0 (get_or (L.blocks row.old) b [])) ≡ seen (take from (get_or (L.blocks row.old) b [])) }
+    ensures before { seen (take result.0 (get_or (L.blocks row.old) b [])) ≡ seen (take from (get_or (L.blocks row.old) b [])) + k }
     ensures looks { L.looked row.new + from ≡ L.looked row.old + (result.0 + 1) }
     ensures content { L.blocks row.new ≡ L.blocks row.old }
     ensures aside { L.aside row.new ≡ L.aside row.old }
 {
     let mut at = from;
+    let mut left = k;
     let mut element = row.element(b, at);
-    while element.hidden {
+    while is_later(element.hidden, left) {
+        left -= weight(element.hidden);
         at += 1;
         element = row.element(b, at);
     }
     (at, element)
+}
+
+/// Whether the one that is looked for stands later: this one is hidden, or visible ones are left before it.
+#[inline(always)]
+fn is_later(hidden: bool, left: usize) -> bool
+    ensures { result ≡ (hidden || nat_lt 0 left) }
+{
+    hidden || left > 0
 }
