@@ -131,8 +131,7 @@ impl Look for Blocks {
 
     fn visible_in(&mut self, b: usize, visible: usize, from: usize, to: usize) -> usize {
         let row = &self.row.blocks[b].elements;
-        let all = visible == row.len();
-        counted::visible_in(&row[from..to], all, &mut self.looks)
+        counted::visible_in(row, visible, from, to, &mut self.looks)
     }
 
     fn looks(&self) -> u64 {

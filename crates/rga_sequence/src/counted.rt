@@ -1,6 +1,6 @@
 //! Counts of visible elements. Each look is counted where it is taken.
 
-ghost use Rattle.std.specs.Prelude.{◌≡◌, ◌+◌, ◌*◌, ◌^◌, ◌<◌, ◌≤◌, true, length};
+ghost use Rattle.std.specs.Prelude.{◌≡◌, ◌+◌, ◌-◌, ◌*◌, ◌^◌, ◌<◌, ◌≤◌, length, take, drop};
 ghost use Rattle.rga_sequence.specs.BlockRows.{items_of};
 ghost use Rattle.rga_sequence.specs.Blocks.{seen, seen_all};
 
@@ -34,20 +34,22 @@ pub fn headers(blocks: &[Block], looks: &mut u64) -> usize
     visible
 }
 
-/// How many of these elements are visible. Each is looked at; where all are known to be visible, they are passed in one
-/// step, which is as many looks.
-pub fn visible_in(row: &[Element], all: bool, looks: &mut u64) -> usize
-    requires all { all ≡ true → seen row.now ≡ length row.now }
-    requires few { length row.now ≤ 255 }
-    requires room { looks.old + length row.now < 2 ^ 64 }
-    ensures visible { result ≡ seen row.now }
-    ensures looks { looks.new ≡ looks.old + length row.now }
+/// How many elements of a block, from one up to another, are visible, where in all `visible` are. Each is looked at; where
+/// none of the block is hidden, they are passed in one step, which is as many looks.
+pub fn visible_in(row: &[Element], visible: usize, from: usize, to: usize, looks: &mut u64) -> usize
+    requires visible { visible ≡ seen row.now }
+    requires order { from ≤ to }
+    requires there { to ≤ length row.now }
+    requires few { to ≤ from + 255 }
+    requires room { looks.old + (to - from) < 2 ^ 64 }
+    ensures visible { result ≡ seen (take (to - from) (drop from row.now)) }
+    ensures looks { looks.new ≡ looks.old + (to - from) }
 {
-    if all {
-        *looks += row.len() as u64;
-        row.len()
+    if visible == row.len() {
+        *looks += (to - from) as u64;
+        to - from
     } else {
-        row.len() - usize::from(hidden_in(row, looks))
+        to - from - usize::from(hidden_in(&row[from..to], looks))
     }
 }
 
