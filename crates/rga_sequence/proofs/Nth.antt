@@ -1,6 +1,5 @@
 -- Where the visible elements of a row stand.
-use Rattle.std.proofs.Common.{◌≡◌, ℕ, zero, suc, ◌<◌, ◌≤◌, ◌+◌, ◌*◌, ◌/◌, true, cond, List, [], ◌∷◌, ◌++◌, length, take, drop, get_or, Some, sym, ap, ◌∙◌, zero-add, length-append, length-drop, arith}
-use Rattle.std.specs.Prelude.{slice_get}
+use Rattle.std.proofs.Common.{◌≡◌, ℕ, zero, suc, ◌<◌, ◌≤◌, ◌+◌, ◌*◌, ◌/◌, List, [], ◌∷◌, ◌++◌, length, take, drop, get_or, sym, ap, ◌∙◌, zero-add, length-append, length-drop, arith}
 use Rattle.std.proofs.Math.Seq.{take-add}
 use Rattle.std.proofs.lemmas.List.{drop-map, length-take-le, take-append-drop, take-map}
 use Rattle.rga_tree.specs.declared.element.Element.{Element}
@@ -8,7 +7,6 @@ use Rattle.rga_sequence.specs.declared.block.Block.{Block}
 use Rattle.rga_sequence.specs.BlockRows.{items_of}
 use Rattle.rga_sequence.specs.Blocks.{seen, seen_all}
 use Rattle.rga_sequence.proofs.Grown.{seen_le}
-use Rattle.rga_sequence.proofs.Seen.{not_all, seen-more}
 use Rattle.rga_sequence.proofs.Spots.{seen-append}
 
 pub seen-add : (es : List Element) (at n : ℕ) → seen (take (at + n) es) ≡ seen (take at es) + seen (take n (drop at es))

@@ -1,5 +1,5 @@
 -- The goals of `passed_together` that are answered by hand.
-use Rattle.std.proofs.Common.{◌≡◌, ◌<◌, ◌≤◌, ◌+◌, ◌-◌, ◌/◌, ◌∙◌, ap, length, take, drop, arith}
+use Rattle.std.proofs.Common.{◌≡◌, ◌≤◌, ◌+◌, ◌-◌, ◌/◌, ◌∙◌, ap, length, take, drop, arith}
 use Rattle.rga_sequence.specs.Blocks.{seen_all}
 use Rattle.rga_sequence.proofs.Nth.{blocks_behind, seen_all-add, seen_part}
 use Rattle.rga_sequence.proofs.look.passed_together.Goals as goal

@@ -1,9 +1,6 @@
 -- The goals of `visible_in` that are answered by hand.
-use Rattle.std.proofs.Common.{◌≡◌, ◌<◌, ◌∙◌, [], length, get_or, ap, arith}
-use Rattle.rga_sequence.specs.Blocks.{seen}
-use Rattle.rga_sequence.specs.BlockRows.{items_of}
+use Rattle.std.proofs.Common.{arith}
 use Rattle.rga_sequence.proofs.Numbers.{length-items}
-use Rattle.rga_sequence.proofs.Passing.{items_at}
 use Rattle.rga_sequence.proofs.blocks.BlocksLook.visible_in.Goals as goal
 
 pub index-requires : goal.index-requires
