@@ -1,5 +1,6 @@
 -- Where the visible elements of a row stand.
-use Rattle.std.proofs.Common.{◌≡◌, ℕ, zero, suc, ◌<◌, ◌≤◌, ◌+◌, ◌*◌, ◌/◌, List, [], ◌∷◌, ◌++◌, length, take, drop, get_or, sym, ap, ◌∙◌, zero-add, length-append, length-drop, arith}
+use Rattle.std.proofs.Common.{◌≡◌, ℕ, zero, suc, ◌<◌, ◌≤◌, ◌+◌, ◌*◌, ◌/◌, true, false, cond, List, [], ◌∷◌, ◌++◌, length, take, drop, get_or, Some, sym, ap, ◌∙◌, zero-add, length-append, length-drop, arith}
+use Rattle.std.specs.Prelude.{slice_get}
 use Rattle.std.proofs.Math.Seq.{take-add}
 use Rattle.std.proofs.lemmas.List.{drop-map, length-take-le, take-append-drop, take-map}
 use Rattle.rga_tree.specs.declared.element.Element.{Element}
@@ -7,6 +8,7 @@ use Rattle.rga_sequence.specs.declared.block.Block.{Block}
 use Rattle.rga_sequence.specs.BlockRows.{items_of}
 use Rattle.rga_sequence.specs.Blocks.{seen, seen_all}
 use Rattle.rga_sequence.proofs.Grown.{seen_le}
+use Rattle.rga_sequence.proofs.Seen.{not_all, seen-more}
 use Rattle.rga_sequence.proofs.Spots.{seen-append}
 
 pub seen-add : (es : List Element) (at n : ℕ) → seen (take (at + n) es) ≡ seen (take at es) + seen (take n (drop at es))
@@ -40,6 +42,19 @@ all_visible es at n all =
       ap length (take-append-drop n part),
       length-append (take n part) (drop n part),
     )
+
+-- one more hidden element
+pub hidden-next : (es : List Element) (j : ℕ) (e : Element) → slice_get es j ≡ Some e → e.hidden ≡ true → seen (take (j + 1) es) ≡ seen (take j es)
+hidden-next es j e is hidden = omega (arith, seen-more es j e is, ap {B = ℕ} (λ h. cond h 0 1) hidden)
+
+-- one more visible element
+pub visible-next : (es : List Element) (j : ℕ) (e : Element) → slice_get es j ≡ Some e → e.hidden ≡ false → seen (take (j + 1) es) ≡ seen (take j es) + 1
+visible-next es j e is visible = omega (arith, seen-more es j e is, ap {B = ℕ} (λ h. cond h 0 1) visible)
+
+-- where visible ones are left behind a hidden one there is a further element
+pub further-there : (es : List Element) (at from : ℕ) (e : Element) → slice_get es at ≡ Some e → e.hidden ≡ true
+    → seen (take at es) ≡ seen (take from es) → seen (take from es) < seen es → at + 1 < length es
+further-there es at from e is hidden same few = not_all es (at + 1) (omega (arith, hidden-next es at e is hidden, same, few))
 
 -- a part of a row of blocks
 pub items_part : (bs : List Block) (b n : ℕ) → take n (drop b (items_of bs)) ≡ items_of (take n (drop b bs))

@@ -1,10 +1,10 @@
 //! Looking for a visible element block by block, with a count of the looks.
 
-ghost use Rattle.std.specs.Prelude.{◌≡◌, ◌+◌, ◌-◌, ◌<◌, ◌≤◌, ◌^◌, ℕ, List, length, take, drop, filter, not, ◌||◌, nat_lt, false, slice_get, get_or, [], Some};
+ghost use Rattle.std.specs.Prelude.{◌≡◌, ◌+◌, ◌-◌, ◌<◌, ◌≤◌, ◌^◌, ℕ, List, length, take, drop, filter, not, false, slice_get, get_or, [], Some};
 ghost use Rattle.rga_tree.specs.declared.element.Element.{Element};
 ghost use Rattle.rga_sequence.specs.Blocks.{seen, seen_all, joined, FindsBy};
 
-use crate::block::{FULL, weight};
+use crate::block::FULL;
 use rga_tree::Element;
 
 /// How many blocks are passed together at least. Of fewer each is looked at alone, so that no step leads over one block.
@@ -174,21 +174,29 @@ fn visible_from<L: Look>(row: &mut L, b: usize, from: usize, k: usize) -> (usize
     ensures content { L.blocks row.new ≡ L.blocks row.old }
     ensures aside { L.aside row.new ≡ L.aside row.old }
 {
+    let mut found = first_visible(row, b, from);
+    for _ in 0..k {
+        found = first_visible(row, b, found.0 + 1);
+    }
+    found
+}
+
+/// The place of the first visible element of a block from one on, and the element.
+fn first_visible<L: Look>(row: &mut L, b: usize, from: usize) -> (usize, Element)
+    requires there { seen (take from (get_or (L.blocks row.old) b [])) < seen (get_or (L.blocks row.old) b []) }
+    requires room { L.looked row.old + (length (get_or (L.blocks row.old) b []) - from) < 2 ^ 64 }
+    ensures there { slice_get (get_or (L.blocks row.old) b []) result.0 ≡ Some result.1 }
+    ensures visible { result.1.hidden ≡ false }
+    ensures before { seen (take result.0 (get_or (L.blocks row.old) b [])) ≡ seen (take from (get_or (L.blocks row.old) b [])) }
+    ensures looks { L.looked row.new + from ≡ L.looked row.old + (result.0 + 1) }
+    ensures content { L.blocks row.new ≡ L.blocks row.old }
+    ensures aside { L.aside row.new ≡ L.aside row.old }
+{
     let mut at = from;
-    let mut left = k;
     let mut element = row.element(b, at);
-    while is_later(element.hidden, left) {
-        left -= weight(element.hidden);
+    while element.hidden {
         at += 1;
         element = row.element(b, at);
     }
     (at, element)
-}
-
-/// Whether the one that is looked for stands later: this one is hidden, or visible ones are left before it.
-#[inline(always)]
-fn is_later(hidden: bool, left: usize) -> bool
-    ensures { result ≡ (hidden || nat_lt 0 left) }
-{
-    hidden || left > 0
 }
