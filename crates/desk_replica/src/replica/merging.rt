@@ -120,16 +120,20 @@ impl<S: Sequence> Replica<S> {
         false
     }
 
-    /// How the insertion of an element stands to what is kept.
+    /// How the insertion of an element stands to what is kept. A counter above all that are named is seen in place to be
+    /// new.
+    #[inline(always)]
     fn standing(&self, e: &Element) -> Standing
         requires { MayFollow e.now.parent e.now.id }
         ensures { IsStanding self.now.set (made_by e.now) result }
     {
+        if e.id.counter() > self.greatest {
+            return Standing::New;
+        }
         look_up(&self.seq, &self.held, self.greatest, &insertion_of(e))
     }
 
     /// How many elements in front of a row are known without a look-up, where it stands behind an element that is known.
-    /// Not inlined, so that the loop over new elements stays short.
     #[inline(never)]
     fn known_behind(&self, id: Id, row: &[Element], cursor: &mut Cursor) -> usize
         ensures within { result ≤ length row.now }
