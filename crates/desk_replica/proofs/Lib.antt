@@ -19,12 +19,17 @@ pub mod Counters
 pub mod Typed
 pub mod Typing
 pub mod Shown
+pub mod Steps
+pub mod Counts
 pub mod Tellings
 pub mod Erasing
 pub mod Rows
 pub mod OnceEach
 pub mod Told
 pub mod InTurn
+pub mod Hearing
+pub mod Growing
+pub mod Together
 pub mod DeskLists
 pub mod Refusals
 pub mod WorldSteps

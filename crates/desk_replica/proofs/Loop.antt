@@ -12,6 +12,7 @@ use Rattle.bg_types.specs.declared.op.OpView.{OpView}
 use Rattle.bg_types.specs.declared.op.OpView.TheVariants.{Insert, Erase}
 use Rattle.bg_types.proofs.Interface.{id_cmp-total}
 use Rattle.pending_ops.specs.Waiting.{Waiting, HandsOut, TakesOut, NoneReady, follows, is_ready, is_released}
+use Rattle.pending_ops.specs.Releasing.{PlacesOne}
 use Rattle.desk_replica.specs.Placement.{IsParted, IsSettled, MayPlace, Places, PlacesIn}
 use Rattle.desk_replica.proofs.Whole.{some_not}
 use Rattle.desk_replica.proofs.PlacedOne.{Stepped, parted_now, same_now, in_tree, del_tree, ins_held, del_held}
@@ -75,6 +76,18 @@ turn t w taken (Insert id parent ch) u v d takes places =
       formed = formed_rest w.held v.held id s.held_ins s.held_del;
     }
 turn t w taken (Erase target) u v d takes places = absurd takes
+
+-- and what it makes of what waits
+pub places_one : (t : OperationSet) (w taken : Waiting) (op : OpView) (u : OperationSet) (v : Waiting) → TakesOut w op taken → Places t taken op u v → PlacesOne w op v
+places_one t w taken (Insert id parent ch) u v takes places = record {
+  taken = taken;
+  rest = places.rest;
+  takes = takes;
+  insertions = ap (λ (x : OperationSet). x.ins) places.held;
+  released = places.released;
+  releases = places.releases;
+}
+places_one t w taken (Erase target) u v takes places = absurd takes
 
 pub may_place : (t : OperationSet) (w taken : Waiting) (op : OpView) → IsParted t w.held (is_ready w) → TakesOut w op taken → MayPlace t op
 may_place t w taken (Insert id parent ch) d takes = (

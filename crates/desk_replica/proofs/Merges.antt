@@ -1,6 +1,8 @@
 -- A merge takes all operations of the other desk.
 use Rattle.std.proofs.Common.{◌≡◌, ◌<◌, ◌≤◌, ◌+◌, ◌++◌, ℕ, Bool, false, cond, length-append, zero, suc, true, List, [], ◌∷◌, length, Option, None, Some, sym, ap, subst, ◌∙◌, refl, true≢false, is_some, arith, inl, inr}
-use Rattle.std.specs.Prelude.{slice_get}
+use Rattle.std.specs.Prelude.{All, Contains, slice_get}
+use Rattle.std.proofs.lemmas.Option.{get_or_from_slice_get, slice_get-get_or, slice_get_within}
+use Rattle.std.proofs.lemmas.List.Elements.{All-get_or}
 use Rattle.std.specs.FinMap as map
 use Rattle.std.specs.FinSet as set
 use Rattle.bg_types.specs.Identifier.{Identifier}
@@ -12,7 +14,7 @@ use Rattle.desk_replica.specs.declared.answer.TakeFault.{TakeFault}
 use Rattle.desk_replica.specs.declared.answer.TakeFault.TheVariants.{IdentifierReused, Full, Memory}
 use Rattle.pending_ops.specs.Waiting.{ListsOnce}
 use Rattle.desk_replica.specs.Telling.{IsUntaken}
-use Rattle.desk_replica.specs.Merging.{Disagree, IsBetween, IsMergeRefusal, IsMergeRefused, IsStopped, with_operations}
+use Rattle.desk_replica.specs.Merging.{Disagree, IsBetween, IsGrownBy, IsMergeRefusal, IsMergeRefused, with_operations}
 use Rattle.desk_replica.proofs.Sizes.{len_map-map, len_set-set}
 use Rattle.desk_replica.proofs.Lists.{slice_get-left, slice_get-right}
 use Rattle.desk_replica.proofs.OnceEach.{nothing_at}
@@ -71,12 +73,12 @@ union_larger s t u op agree between h missing =
     let within = size_more (with_operation u op) (union s t) (λ x k. (Holds-union s t agree x).1 (more.0.of_both x k)) in
     omega (arith, grown, within)
 
+never_reused : (s t u : OperationSet) (op : OpView) → Agree s t → IsBetween s t u → Holds t op → ReusesIdentifier u op → ⊥
+never_reused s t u (Insert id parent ch) agree between h r = r.2 (may_join s t u (Insert id parent ch) agree between h r.0 r.1)
+never_reused s t u (Erase target) agree between h r = r
+
 pub merge_refused : (s t u : OperationSet) (op : OpView) (fault : TakeFault) → Agree s t → IsBetween s t u → Holds t op → IsUntaken u op fault → IsMergeRefused s t u fault
-merge_refused s t u op IdentifierReused agree between h r = absurd (reused op h r)
-  where
-    reused : (op : OpView) → Holds t op → ReusesIdentifier u op → ⊥
-    reused (Insert id parent ch) h r = r.2 (may_join s t u (Insert id parent ch) agree between h r.0 r.1)
-    reused (Erase target) h r = r
+merge_refused s t u op IdentifierReused agree between h r = absurd (never_reused s t u op agree between h r)
 merge_refused s t u op Full agree between h r =
     let larger = union_larger s t u op agree between h r.1 in
     let full = r.2 in
@@ -143,7 +145,7 @@ taken_united s t u ops agree lists taken =
       λ op h. subst (λ x. Holds x op) (sym taken) (all.keeps op h),
     )
 
--- where an operation of t is refused, so is the merge
+-- so that has no more operations than both
 at_most : (b : Bool) (k : ℕ) → cond b k (k + 1) ≤ k + 1
 at_most true k = omega arith
 at_most false k = omega arith
@@ -156,15 +158,35 @@ size-with_operations : (s : OperationSet) (ops : List OpView) → size (with_ope
 size-with_operations s [] = omega arith
 size-with_operations s (op ∷ ops) = omega (arith, size-with_operations (with_operation s op) ops, size-one_more s op)
 
--- one that was refused is left out of what was taken
-pub stopped_short : (s t u : OperationSet) (ops : List OpView) (fault : TakeFault) → ListsOnce t ops → IsStopped s ops u fault → size u < size s + size t
-stopped_short s t u ops fault once stop =
-    let all = ap length stop.in_order ∙ length-append stop.before (stop.op ∷ stop.after) in
-    omega (arith, once.all, all, ap size stop.taken, size-with_operations s stop.before)
+union_within : (s t : OperationSet) (ops : List OpView) → Agree s t → ListsOnce t ops → size (union s t) ≤ size s + size t
+union_within s t ops agree lists =
+    let is = (taken_united s t (with_operations s ops) ops agree lists refl).0 in
+    omega (arith, ap size is, size-with_operations s ops, lists.all)
 
-pub stopped_refused : (s t u : OperationSet) (ops : List OpView) (fault : TakeFault) → Agree s t → ListsOnce t ops → IsStopped s ops u fault → IsMergeRefused s t u fault
-stopped_refused s t u ops fault agree lists h =
-    let at : (j : ℕ) (op : OpView) → slice_get (h.before ++ h.op ∷ h.after) j ≡ Some op → Holds t op = λ j op f. (lists.each op).1 (j, ap (λ l. slice_get l j) h.in_order ∙ f) in
-    let some = joins_all s t s h.before agree (between_start s t) (λ j op f. at j op (slice_get-left h.before (h.op ∷ h.after) j op f)) in
-    merge_refused s t u h.op fault agree (subst (IsBetween s t) (sym h.taken) some.between)
-    (at (length h.before) h.op (slice_get-right h.before (h.op ∷ h.after) 0 (length h.before) (omega arith))) h.refused
+-- ---- by operations of a list of all that t holds
+
+listed_held : (t : OperationSet) (ops : List OpView) → ListsOnce t ops → (op : OpView) → Contains ops op → Holds t op
+listed_held t ops lists op h = (lists.each op).1 (h.0, slice_get-get_or ops h.0 op h.1 ∙ ap (λ (x : OpView). Some x) h.2)
+
+module _ (s t u : OperationSet) (ops : List OpView) (agree : Agree s t) (lists : ListsOnce t ops) (grown : IsGrownBy s ops u) where
+  between : IsBetween s t u
+  between = record { keeps = grown.keeps; of_both = λ op h. elim (grown.of_list op h) [ inl old ↦ inl old | inr new ↦ inr (listed_held t ops lists op new) ] }
+
+  pub grown_united : All (Holds u) ops → u ≡ union s t
+  grown_united all = united s t u agree between (λ op h.
+      let f = (lists.each op).0 h in subst (Holds u) (get_or_from_slice_get ops f.0 op op f.1) (All-get_or (Holds u) ops f.0 op (slice_get_within ops f.0 op f.1) all))
+
+  -- where an operation of t is refused, so is the merge
+  pub stopped_refused : (op : OpView) (fault : TakeFault) → Contains ops op → IsUntaken u op fault → IsMergeRefused s t u fault
+  stopped_refused op fault listed refused = merge_refused s t u op fault agree between (listed_held t ops lists op listed) refused
+
+  pub stopped_below : (op : OpView) (fault : TakeFault) → Contains ops op → IsUntaken u op fault → size u < size (union s t)
+  stopped_below op fault listed refused = let held = listed_held t ops lists op listed in union_larger s t u op agree between held (left_out fault held refused)
+    where
+      left_out : (fault : TakeFault) → Holds t op → IsUntaken u op fault → ¬ (Holds u op)
+      left_out IdentifierReused held r = absurd (never_reused s t u op agree between held r)
+      left_out Full held r = r.1
+      left_out Memory held r = r.is_new
+
+  pub stopped_short : (op : OpView) (fault : TakeFault) → Contains ops op → IsUntaken u op fault → size u < size s + size t
+  stopped_short op fault listed refused = omega (arith, stopped_below op fault listed refused, union_within s t ops agree lists)

@@ -1,12 +1,17 @@
 -- What a merge takes, and what one that ends early leaves.
-use Rattle.std.specs.Prelude.{◌≡◌, ◌≢◌, ◌⊎◌, ◌<◌, ◌≤◌, ◌+◌, ◌++◌, ℕ, Some, List, [], ◌∷◌, Contains, Result, OnOk, IfOk, IfErr, IsOk}
+use Rattle.std.specs.Prelude.{◌≡◌, ◌≢◌, ◌⊎◌, ◌<◌, ◌≤◌, ◌+◌, ◌-◌, ℕ, Bool, true, false, Option, Some, List, [], ◌∷◌, Contains, Result, OnOk, IfOk, IfErr, IsOk}
 use Rattle.std.specs.FinMap as map
+use Rattle.std.specs.FinSet as set
 use Rattle.bg_types.specs.Identifier.{Identifier}
 use Rattle.bg_types.specs.OperationSet.{Node, OperationSet, Holds, Agree, ReusesIdentifier, with_operation, union, size}
 use Rattle.bg_types.specs.declared.op.OpView.{OpView}
+use Rattle.bg_types.specs.declared.op.OpView.TheVariants.{Insert, Erase}
+use Rattle.bg_types.specs.declared.change.Change.{Change}
 use Rattle.rga_tree.specs.declared.element.Element.{Element}
+use Rattle.rga_tree.specs.Parts.{IsPartOf}
 use Rattle.desk_replica.specs.Desk.{Desk, insertion_of}
-use Rattle.desk_replica.specs.Telling.{IsUntaken}
+use Rattle.desk_replica.specs.Telling.{IsUntaken, waiting_count}
+use Rattle.desk_replica.specs.Listening.{HasRoom, told_count}
 use Rattle.desk_replica.specs.declared.answer.TakeFault.{TakeFault}
 use Rattle.desk_replica.specs.declared.answer.TakeFault.TheVariants.{IdentifierReused, Full, Memory}
 
@@ -15,14 +20,32 @@ abbrev pub with_operations : OperationSet → List OpView → OperationSet
 with_operations s [] = s
 with_operations s (op ∷ ops) = with_operations (with_operation s op) ops
 
--- S took the operations before one that was refused with the fault, and is u now
-pub record IsStopped (s : OperationSet) (ops : List OpView) (u : OperationSet) (fault : TakeFault) : Type 0 where
-  pub before : List OpView
+abbrev pub is_deletion : OpView → Bool
+is_deletion (Insert id parent ch) = false
+is_deletion (Erase target) = true
+
+-- u holds what S holds, and of the rest only operations of the list
+pub record IsGrownBy (s : OperationSet) (ops : List OpView) (u : OperationSet) : Type 0 where
+  pub keeps : IsPartOf s u
+  pub of_list : (op : OpView) → Holds u op → Holds s op ⊎ Contains ops op
+
+-- a desk took operations of the list
+pub record IsGrown (old : Desk) (ops : List OpView) (new : Desk) : Type 0 where
+  pub grown : IsGrownBy old.set ops new.set
+  pub site : new.site ≡ old.site
+  pub spare : size old.set + old.spare ≤ size new.set + new.spare
+
+-- a desk is `new` now, and refused an operation of the list with the fault. Lack of memory comes where no operation was
+-- spare, or where there was no room for what was told and for one change more and one for each insertion that waits
+pub record IsStopped (ops : List OpView) (new : Desk) (told more : Option (List Change)) (capacity : ℕ) (fault : TakeFault) : Type 0 where
   pub op : OpView
-  pub after : List OpView
-  pub in_order : ops ≡ before ++ op ∷ after
-  pub taken : u ≡ with_operations s before
-  pub refused : IsUntaken u op fault
+  pub listed : Contains ops op
+  pub refused : IsUntaken new.set op fault
+  pub unpaid : fault ≡ Memory → (new.spare ≡ 0) ⊎ (¬ (HasRoom told capacity (told_count more - told_count told + waiting_count new.set + 1)))
+
+-- an element that is hidden has its deletion in u, if its insertion is there
+abbrev pub IsErasedIn : OperationSet → Element → Type 0
+IsErasedIn u e = e.hidden ≡ true → map.contains_key u.ins e.id ≡ true → set.contains u.del e.id ≡ true
 
 -- the insertion of an element reuses an identifier of S
 abbrev pub ReusesIn : OperationSet → List Element → Type 0

@@ -13,6 +13,9 @@ insertions_in row = each insertion_of row
 abbrev pub deletions_in : List Element → List OpView
 deletions_in row = each Erase (hidden_ids row)
 
+abbrev pub operations_in : List Element → List OpView
+operations_in row = insertions_in row ++ deletions_in row
+
 -- the operations of a desk: the attached insertions in the order of the walk, then the deletions of attached ones in that
 -- order, then those that wait
 abbrev pub told : Desk → List OpView

@@ -25,7 +25,7 @@ ghost use Rattle.desk_replica.specs.declared.world.step.Reply.TheVariants.{Done,
 ghost use Rattle.desk_replica.specs.SetOf.{IsSetOf};
 ghost use Rattle.desk_replica.specs.Typing.{typed, insertion};
 ghost use Rattle.desk_replica.specs.Stretch.{typed_text, deletions};
-ghost use Rattle.desk_replica.specs.Telling.{IsTold};
+ghost use Rattle.desk_replica.specs.Telling.{IsTold, change_count};
 ghost use Rattle.desk_replica.specs.Reply.{IsRefusal};
 ghost use Rattle.desk_replica.specs.Refusal.{IsFirstRefusal};
 ghost use Rattle.desk_replica.specs.Merging.{IsMergeRefusal};
@@ -94,11 +94,15 @@ pub fn stretches()
 {}
 
 /// Told changes are the change: made one after the other on the text before, they give the text after; so do those of
-/// calls in turn. What is told of a fresh desk from its first call on makes its text of nothing.
+/// calls in turn. They are as many as there are elements that only one of the two texts shows. What is told of a fresh desk
+/// from its first call on makes its text of nothing.
 pub fn told_changes()
     ensures change { (s t : OperationSet) (old new : List Change) → IsTold s t old new
         → IsEdit (text s) (drop (length old) new) (text t) }
-    ensures in_turn { (s t u : OperationSet) (a b c : List Change) → IsTold s t a b → IsTold t u b c → IsTold s u a c }
+    ensures in_turn { (s t u : OperationSet) (a b c : List Change) → IsTold s t a b → IsTold t u b c
+        → IsEdit (text s) (drop (length a) c) (text u) }
+    ensures count { (s t : OperationSet) (old new : List Change) → IsTold s t old new
+        → length new ≡ length old + change_count s t }
     ensures fresh { (s : OperationSet) (told : List Change) → IsTold no_operations s [] told → IsEdit [] told (text s) }
 {}
 

@@ -12,8 +12,8 @@ ghost use Rattle.rga_tree.specs.Tree.{stands_in};
 ghost use Rattle.pending_ops.specs.Releasing.{subject};
 ghost use Rattle.pending_ops.specs.Waiting.{IsNew, ListsOnce, is_ready};
 ghost use Rattle.rga_tree.specs.TextOf.{visible_before, is_erased};
-ghost use Rattle.desk_replica.specs.Listening.{HasRoom, IsBounded, Tells, extended, told_count};
-ghost use Rattle.desk_replica.specs.Telling.{most_told};
+ghost use Rattle.desk_replica.specs.Listening.{HasRoom, HasRoomBelow, HasRoomFor, Tells, extended, told_count};
+ghost use Rattle.desk_replica.specs.Telling.{ShowsAll, most_told};
 ghost use Rattle.desk_replica.specs.Placement.{IsParted, IsSettled, IsPaid, MayPlace, Places, reaches_in, waiting_in, whole};
 ghost use Rattle.desk_replica.specs.Reply.{IsAdmitted, IsTaken, IsHiding, attached_count};
 ghost use Rattle.desk_replica.specs.Standing.{IsStanding};
@@ -113,6 +113,7 @@ fn pay<S: Sequence, L: Listener>(
     seq: &mut S,
     held: &mut Held,
     spare: &mut usize,
+    op: &Op,
     listener: &mut L,
 ) -> Result<(), Memory>
     requires paid { IsPaid (S.free seq.old) held.old spare.old }
@@ -122,14 +123,15 @@ fn pay<S: Sequence, L: Listener>(
     ensures released { held.new.released ≡ held.old.released }
     ensures paid { OnOk result (IsPaid (S.free seq.new) held.new (spare.new + 1)) }
     ensures spare { OnOk result (spare.new ≡ spare.old - 1) }
-    ensures unpaid { OnErr result ((spare.old ≡ 0) ⊎ IsBounded (L.room listener.new)) }
+    ensures unpaid { HasRoomFor (L.told listener.old) (L.capacity listener.old) held.old.held op.now → OnErr result (spare.old ≡ 0) }
     ensures kept { S.free seq.old ≤ S.free seq.new }
     ensures err { OnErr result (held.new ≡ held.old) }
     ensures same { OnErr result (spare.new ≡ spare.old) }
     ensures told { L.told listener.new ≡ L.told listener.old }
-    ensures room { OnOk result (HasRoom (L.room listener.new) (map.len held.old.held.ins + 1)) }
+    ensures room { OnOk result (HasRoomFor (L.told listener.new) (L.capacity listener.new) held.old.held op.now) }
+    ensures capacity { L.capacity listener.old ≤ L.capacity listener.new }
 {
-    listener.make_room(held)?;
+    listener.make_room(held, op)?;
     if *spare > 0 {
         *spare -= 1;
         return Ok(());
@@ -154,29 +156,30 @@ pub fn admit<S: Sequence, L: Listener>(
     ensures settled { IsSettled (S.content seq.new) held.new }
     ensures paid { IsPaid (S.free seq.new) held.new spare.new }
     ensures spare { spare.old ≤ spare.new + 1 }
-    ensures unpaid { OnErr result ((spare.old ≡ 0) ⊎ IsBounded (L.room listener.new)) }
+    ensures unpaid { HasRoomFor (L.told listener.old) (L.capacity listener.old) held.old.held op.now
+        → OnErr result ((spare.old ≡ 0) × (¬ (IsHiding (whole (S.content seq.old) held.old) op.now))) }
     ensures same { OnErr result (spare.new ≡ spare.old) }
     ensures ok { OnOk result (whole (S.content seq.new) held.new ≡ with_operation (whole (S.content seq.old) held.old) op.now) }
     ensures answer { IfOk result (IsTaken (whole (S.content seq.old) held.old) op.now) }
     ensures content { OnErr result (S.content seq.new ≡ S.content seq.old) }
     ensures held { OnErr result (held.new ≡ held.old) }
-    ensures memory { OnErr result ((¬ (IsHiding (whole (S.content seq.old) held.old) op.now)) ⊎ IsBounded (L.room listener.new)) }
     ensures told { Tells (whole (S.content seq.old) held.old) (whole (S.content seq.new) held.new) (L.told listener.old) (L.told listener.new) }
     ensures few { IfOk result (λ taken. told_count (L.told listener.new) ≤ told_count (L.told listener.old) + most_told taken) }
     ensures untold { OnErr result (L.told listener.new ≡ L.told listener.old) }
+    ensures capacity { L.capacity listener.old ≤ L.capacity listener.new }
 {
     if !reaches(seq, op) {
-        pay(seq, held, spare, &mut Nobody)?;
+        pay(seq, held, spare, op, &mut Nobody)?;
         keep_waiting(held, op);
         return Ok(Taken::Held);
     }
     match op.view() {
         OpView::Insert { .. } => {
-            pay(seq, held, spare, listener)?;
+            pay(seq, held, spare, op, listener)?;
             Ok(place_new(seq, held, op, listener))
         }
         OpView::Erase { target } => {
-            listener.make_room(held)?;
+            listener.make_room(held, op)?;
             hide(seq, target, listener);
             Ok(Taken::Hidden)
         }
@@ -188,10 +191,11 @@ pub fn admit<S: Sequence, L: Listener>(
 fn hide<S: Sequence, L: Listener>(seq: &mut S, target: Id, listener: &mut L)
     requires placed { map.contains_key (S.content seq.old).ins target ≡ true }
     requires visible { is_erased (S.content seq.old) target ≡ false }
-    requires room { HasRoom (L.room listener.old) 1 }
+    requires room { HasRoom (L.told listener.old) (L.capacity listener.old) 1 }
     ensures content { S.content seq.new ≡ with_operation (S.content seq.old) (OpView.Erase target) }
     ensures room { S.free seq.new ≡ S.free seq.old }
     ensures told { L.told listener.new ≡ extended (L.told listener.old) (Change.Cut (visible_before (S.content seq.old) target) ∷ []) }
+    ensures capacity { L.capacity listener.old ≤ L.capacity listener.new }
 {
     listener.hear_cut(seq, target);
     seq.hide(target);
@@ -230,13 +234,14 @@ fn place_new<S: Sequence, L: Listener>(
     requires admitted { IsAdmitted (whole (S.content seq.old) held.old) op.now }
     requires may { MayPlace (S.content seq.old) op.now }
     requires room { map.len held.old.held.ins + 1 ≤ S.free seq.old }
-    requires told_room { HasRoom (L.room listener.old) (map.len held.old.held.ins + 1) }
+    requires told_room { HasRoomFor (L.told listener.old) (L.capacity listener.old) held.old.held op.now }
     ensures settled { IsSettled (S.content seq.new) held.new }
     ensures whole { whole (S.content seq.new) held.new ≡ with_operation (whole (S.content seq.old) held.old) op.now }
     ensures answer { IsTaken (whole (S.content seq.old) held.old) op.now result }
     ensures paid { (n : ℕ) → IsPaid (S.free seq.old) held.old (n + 1) → IsPaid (S.free seq.new) held.new n }
     ensures told { Tells (whole (S.content seq.old) held.old) (whole (S.content seq.new) held.new) (L.told listener.old) (L.told listener.new) }
     ensures few { told_count (L.told listener.new) ≤ told_count (L.told listener.old) + most_told result }
+    ensures capacity { L.capacity listener.old ≤ L.capacity listener.new }
 {
     let before = seq.placed();
     place_one(seq, held, op, listener);
@@ -249,7 +254,7 @@ fn place_ready<S: Sequence, L: Listener>(seq: &mut S, held: &mut Held, listener:
     requires parted { IsParted (S.content seq.old) held.old.held (is_ready held.old) }
     requires formed { AllWellFormed held.old.held }
     requires room { map.len held.old.held.ins ≤ S.free seq.old }
-    requires told_room { HasRoom (L.room listener.old) (map.len held.old.held.ins) }
+    requires told_room { HasRoomBelow (L.told listener.old) (L.capacity listener.old) held.old }
     ensures settled { IsSettled (S.content seq.new) held.new }
     ensures same { whole (S.content seq.new) held.new ≡ whole (S.content seq.old) held.old }
     ensures grows { attached_count (S.content seq.old) ≤ attached_count (S.content seq.new) }
@@ -257,6 +262,8 @@ fn place_ready<S: Sequence, L: Listener>(seq: &mut S, held: &mut Held, listener:
     ensures told { Tells (S.content seq.old) (S.content seq.new) (L.told listener.old) (L.told listener.new) }
     ensures few { told_count (L.told listener.new) + attached_count (S.content seq.old)
         ≤ told_count (L.told listener.old) + attached_count (S.content seq.new) }
+    ensures shows { ShowsAll (S.content seq.old) (S.content seq.new) }
+    ensures capacity { L.capacity listener.old ≤ L.capacity listener.new }
 {
     while let Some(op) = held.next_ready() {
         place_one(seq, held, &op, listener);
@@ -268,13 +275,14 @@ fn place_ready<S: Sequence, L: Listener>(seq: &mut S, held: &mut Held, listener:
 fn place_one<S: Sequence, L: Listener>(seq: &mut S, held: &mut Held, op: &Op, listener: &mut L)
     requires may { MayPlace (S.content seq.old) op.now }
     requires room { 1 ≤ S.free seq.old }
-    requires told_room { HasRoom (L.room listener.old) 1 }
+    requires told_room { HasRoom (L.told listener.old) (L.capacity listener.old) 1 }
     ensures places { Places (S.content seq.old) held.old op.now (S.content seq.new) held.new }
     ensures room { S.free seq.new + 1 ≡ S.free seq.old }
     ensures grows { attached_count (S.content seq.new) ≡ attached_count (S.content seq.old) + 1 }
     ensures told { Tells (S.content seq.old) (S.content seq.new) (L.told listener.old) (L.told listener.new) }
     ensures few { told_count (L.told listener.new) ≤ told_count (L.told listener.old) + 1 }
-    ensures told_room { (n : ℕ) → HasRoom (L.room listener.old) (n + 1) → HasRoom (L.room listener.new) n }
+    ensures shows { ShowsAll (S.content seq.old) (S.content seq.new) }
+    ensures capacity { L.capacity listener.old ≤ L.capacity listener.new }
 {
     match op.view() {
         OpView::Insert { id, parent, ch } => {
@@ -291,10 +299,10 @@ fn place_one<S: Sequence, L: Listener>(seq: &mut S, held: &mut Held, op: &Op, li
 #[inline(always)]
 fn tell_placed<S: Sequence, L: Listener>(seq: &S, id: Id, ch: char, hidden: bool, listener: &mut L)
     requires placed { map.contains_key (S.content seq.now).ins id ≡ true }
-    requires room { HasRoom (L.room listener.old) 1 }
+    requires room { HasRoom (L.told listener.old) (L.capacity listener.old) 1 }
     ensures told { L.told listener.new ≡ extended (L.told listener.old)
         (if hidden then [] else Change.Put (visible_before (S.content seq.now) id) ch ∷ []) }
-    ensures room { (n : ℕ) → HasRoom (L.room listener.old) (n + 1) → HasRoom (L.room listener.new) n }
+    ensures capacity { L.capacity listener.old ≤ L.capacity listener.new }
 {
     if hidden {
         return;

@@ -3,3 +3,4 @@ pub use Rattle.pending_ops.proofs.Tables.{IsDistinct-apart, is_in-slice_get}
 pub use Rattle.pending_ops.proofs.Views.{contains-from_list}
 pub use Rattle.pending_ops.proofs.Listing.{one_place, len-from_list}
 pub use Rattle.pending_ops.proofs.OneStep.{place_released, is_ready-same}
+pub use Rattle.pending_ops.proofs.Loop.{PlacesEach-push, one_more_below}

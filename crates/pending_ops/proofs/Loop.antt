@@ -1,5 +1,5 @@
 -- What the loop of taking, placing and releasing has placed once nothing is ready.
-use Rattle.std.proofs.Common.{◌≡◌, ◌++◌, ℕ, true, false, not, cond, List, [], ◌∷◌, length, None, sym, ap, subst, ◌∙◌, refl, suc, true≢false}
+use Rattle.std.proofs.Common.{◌≡◌, ◌+◌, ◌++◌, ℕ, Bool, true, false, not, cond, List, [], ◌∷◌, length, Option, None, Some, sym, ap, subst, ◌∙◌, refl, suc, true≢false, arith}
 use Rattle.std.specs.Prelude.{◌||◌, ◌↔◌}
 use Rattle.std.specs.Option.{option_map_or}
 use Rattle.std.specs.FinMap as map
@@ -8,15 +8,16 @@ use Rattle.bg_types.specs.Identifier.{Identifier, id_cmp, same_id}
 use Rattle.bg_types.specs.OperationSet.{Node, OperationSet}
 use Rattle.bg_types.specs.declared.op.OpView.{OpView}
 use Rattle.bg_types.proofs.Interface.{id_cmp-total, id_cmp-exact, same_id-is, same_tests}
-use Rattle.pending_ops.specs.Waiting.{NoneReady, Releases, Waiting, follows, is_after, is_ready}
+use Rattle.pending_ops.specs.Waiting.{NoneReady, Releases, TakesOut, Waiting, follows, is_after, is_ready}
 use Rattle.pending_ops.specs.Below.{CountsBelow, IsBelow, IsChain}
 use Rattle.pending_ops.specs.Chains.{AreApart}
-use Rattle.pending_ops.specs.Releasing.{PlacesBelow, PlacesEach, PlacesOne, is_placed}
+use Rattle.bg_types.specs.declared.op.OpView.TheVariants.{Insert, Erase}
+use Rattle.pending_ops.specs.Releasing.{PlacesBelow, PlacesEach, PlacesOne, is_placed, subject}
 use Rattle.pending_ops.proofs.Tables.{AreApart-distinct, one_of}
 use Rattle.pending_ops.proofs.Views.{contains-from_list}
 use Rattle.pending_ops.proofs.Listing.{len-from_list}
 use Rattle.pending_ops.proofs.OneStep.{after_cut, by_false}
-use Rattle.pending_ops.proofs.Placed.{after_parents, apart, followers_placed, ids, placed_below, ready_placed, rest_of, were_held}
+use Rattle.pending_ops.proofs.Placed.{after_parents, apart, followers_placed, ids, placed_below, ready_below, ready_placed, rest_of, were_held}
 use Rattle.std.proofs.lemmas.Bool.{and_parts, or_left}
 
 -- one more at the end of the loop
@@ -46,6 +47,27 @@ counted_once s id xs once exact n counts =
     let same : counts.0 ≡ set.from_list {R = id_cmp} xs = set.same_set id_cmp-total id_cmp-exact _ _ (λ q.
     same_tests (set.contains counts.0 q) (is_placed xs q) (λ h. (exact q).1 ((counts.1.0 q).0 h)) (λ h. (counts.1.0 q).1 ((exact q).0 h)) ∙ sym (contains-from_list xs q)) in
     sym counts.1.1 ∙ ap set.len same ∙ len-from_list xs once
+
+-- while one is ready, it and those that were placed stand below the identifier, each another
+pub one_more_below : (old start now next : Waiting) (id : Identifier) (ops : List OpView) (op : OpView) → NoneReady old → Releases old id start → PlacesEach start ops now → TakesOut now op next
+    → (below : set.FinSet id_cmp) × (((q : Identifier) → set.contains below q ≡ true → IsBelow old.held id q) × (set.len below ≡ length ops + 1))
+one_more_below old start now next id ops (Insert x parent ch) none r h takes =
+    let was : (p q : Identifier) → follows start.held p q ≡ true → follows old.held p q ≡ true = λ p q f. sym (ap (λ s. follows s p q) r.held) ∙ f in
+    let first : (q : Identifier) → is_ready start q ≡ true → IsBelow old.held id q = λ q ready. ([], sym (r.ready q ∙ ap (λ b. b || follows old.held id q) (none q)) ∙ ready) in
+    let new : is_placed (ids ops) x ≡ false = by_false (is_placed (ids ops) x) (λ m. gone _ _ (is_placed (ids ops) x) m (sym (rest_of start ops now h x) ∙ takes.was_held)) in (
+      set.from_list (x ∷ ids ops),
+      (
+        λ q m. one_of (same_id q x) (is_placed (ids ops) q) _ (sym (contains-from_list (x ∷ ids ops) q) ∙ m)
+            (λ same. subst (IsBelow old.held id) (sym (same_id-is q x same)) (ready_below start ops now h old.held id was first x takes.was_ready))
+            (λ placed. placed_below start ops now h old.held id was first q placed),
+        len-from_list (x ∷ ids ops) (new, apart start ops now h) ∙ (let l = length-ids ops in omega (arith, l)),
+      ),
+    )
+  where
+    gone : (o : Option Node) (n : Node) (b : Bool) → b ≡ true → cond b None o ≡ Some n → ⊥
+    gone o n true same e = cc
+    gone o n false same e = true≢false (sym same)
+one_more_below old start now next id ops (Erase target) none r h takes = absurd takes
 
 module _ (old start new : Waiting) (id : Identifier) (ops : List OpView) (none : NoneReady old) (r : Releases old id start) (h : PlacesEach start ops new) (end : NoneReady new) where
   same_ins : (q : Identifier) → map.get start.held.ins q ≡ map.get old.held.ins q

@@ -105,6 +105,19 @@ placed_below old (Insert x parent ch ∷ ops) new h s id was below q m =
     (λ r ready. ready_back old h.0 x node t r (IsBelow s id r) ready (below r) (λ f. (x ∷ own.0, (was x r f, own.1)))) q later)
 placed_below old (Erase target ∷ ops) new h s id was below q m = absurd (no_erasure old h.0 target h.1.0)
 
+-- and so does what is ready then
+pub ready_below : (old : Waiting) (ops : List OpView) (new : Waiting) → PlacesEach old ops new → (s : OperationSet) (id : Identifier)
+    → ((p q : Identifier) → follows old.held p q ≡ true → follows s p q ≡ true) → ((q : Identifier) → is_ready old q ≡ true → IsBelow s id q)
+    → (q : Identifier) → is_ready new q ≡ true → IsBelow s id q
+ready_below old [] new h s id was below q r = below q (sym (ap (λ w. is_ready w q) h) ∙ r)
+ready_below old (Insert x parent ch ∷ ops) new h s id was below q r =
+    let node : Node = record { parent = parent; ch = ch } in
+    let t = step_of old h.0 x parent ch h.1.0 in
+    let own = below x t.ready in
+    ready_below h.0 ops new h.1.1 s id (λ p y f. was p y (follows_back old h.0 x node t p y f))
+    (λ y ready. ready_back old h.0 x node t y (IsBelow s id y) ready (below y) (λ f. (x ∷ own.0, (was x y f, own.1)))) q r
+ready_below old (Erase target ∷ ops) new h s id was below q r = absurd (no_erasure old h.0 target h.1.0)
+
 -- each comes after its parent
 pub after_parents : (old : Waiting) (ops : List OpView) (new : Waiting) → PlacesEach old ops new → (placed : List Identifier)
     → ((q : Identifier) (n : Node) → map.get old.held.ins q ≡ Some n → is_ready old q ≡ true → list_any (is_after n.parent) placed ≡ true) → FollowPlaced placed ops

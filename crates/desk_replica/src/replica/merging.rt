@@ -1,21 +1,23 @@
 //! Taking all operations of another desk.
 
-ghost use Rattle.std.specs.Prelude.{◌≡◌, ◌≤◌, ◌<◌, ◌+◌, ◌⊎◌, true, OnOk, OnErr, IfOk, IfErr, IsOk, All, length, take};
+ghost use Rattle.std.specs.Prelude.{◌≡◌, ◌≤◌, ◌<◌, ◌+◌, ◌⊎◌, ◌∷◌, [], true, false, OnOk, OnErr, IfOk, IfErr, IsOk, All, length, take, get_or};
 ghost use Rattle.std.specs.Bool.{OnTrue, OnFalse};
-ghost use Rattle.bg_types.specs.OperationSet.{Holds, Agree, MayJoin, ReusesIdentifier, union, size, with_operation};
+ghost use Rattle.std.specs.FinMap as map;
+ghost use Rattle.bg_types.specs.Identifier.{Identifier};
+ghost use Rattle.bg_types.specs.OperationSet.{AllWellFormed, Holds, Agree, MayJoin, ReusesIdentifier, union, size};
 ghost use Rattle.bg_types.specs.WellFormed.{MayFollow};
-ghost use Rattle.bg_types.specs.declared.op.OpView.{OpView};
+ghost use Rattle.bg_types.specs.declared.op.OpView.{OpView as View};
 ghost use Rattle.bg_types.specs.declared.op.OpView.TheVariants.{Erase};
 ghost use Rattle.rga_tree.specs.Elements.{elements};
 ghost use Rattle.pending_ops.specs.Waiting.{ListsOnce};
 ghost use Rattle.desk_replica.specs.declared.answer.TakeFault.{TakeFault as Fault};
 ghost use Rattle.desk_replica.specs.Desk.{insertion_of as made_by};
-ghost use Rattle.desk_replica.specs.Told.{told, insertions_in, deletions_in};
+ghost use Rattle.desk_replica.specs.Told.{told, insertions_in, deletions_in, operations_in};
 ghost use Rattle.desk_replica.specs.Placement.{waiting_in};
 ghost use Rattle.desk_replica.specs.Standing.{IsStanding};
-ghost use Rattle.desk_replica.specs.Listening.{IsBounded, Tells, told_count};
-ghost use Rattle.desk_replica.specs.Telling.{IsUntaken, seen_count};
-ghost use Rattle.desk_replica.specs.Merging.{Disagree, IsMergeRefusal, IsMergeRefused, IsStopped, ReusesIn, with_operations};
+ghost use Rattle.desk_replica.specs.Listening.{HasRoom, IsHeard};
+ghost use Rattle.desk_replica.specs.Telling.{ShowsAll, waiting_count};
+ghost use Rattle.desk_replica.specs.Merging.{Disagree, IsErasedIn, IsGrown, IsMergeRefusal, IsMergeRefused, IsStopped, ReusesIn, is_deletion};
 
 use super::Replica;
 use crate::answer::{TakeFault, Taken};
@@ -23,7 +25,7 @@ use crate::cursor::Cursor;
 use crate::listener::{Listener, Nobody};
 use crate::placing::{Standing, count_waiting, look_up};
 use crate::reading::insertion_of;
-use bg_types::{Id, Op};
+use bg_types::{Id, Op, OpView};
 use pending_ops::Held;
 use rga_tree::{Element, Sequence};
 
@@ -41,7 +43,7 @@ impl<S: Sequence> Replica<S> {
         ensures fault { IfErr result (IsMergeRefused self.old.set other.now.set self.new.set) }
         // What waits keeps its order too.
         ensures reused { IfErr result (λ fault. fault ≡ TakeFault.IdentifierReused → self.new ≡ self.old) }
-        ensures nothing_new { ((op : OpView) → Holds other.now.set op → Holds self.old.set op) → IsOk result }
+        ensures nothing_new { ((op : View) → Holds other.now.set op → Holds self.old.set op) → IsOk result }
         ensures site { self.new.site ≡ self.old.site }
         ensures spare { size self.old.set + self.old.spare ≤ size self.new.set + self.new.spare }
         ensures unpaid { IfErr result (λ fault. fault ≡ TakeFault.Memory → self.old.spare < size other.now.set) }
@@ -62,19 +64,18 @@ impl<S: Sequence> Replica<S> {
         ensures limited { OnOk result (size self.new.set ≤ 1_000_000) }
         ensures fault { IfErr result (IsMergeRefused self.old.set other.now.set self.new.set) }
         ensures reused { IfErr result (λ fault. fault ≡ TakeFault.IdentifierReused → self.new ≡ self.old) }
-        ensures nothing_new { ((op : OpView) → Holds other.now.set op → Holds self.old.set op) → IsOk result }
+        ensures nothing_new { ((op : View) → Holds other.now.set op → Holds self.old.set op) → IsOk result }
         ensures site { self.new.site ≡ self.old.site }
         ensures spare { size self.old.set + self.old.spare ≤ size self.new.set + self.new.spare }
-        ensures unpaid { IfErr result (λ fault. fault ≡ TakeFault.Memory
-            → (self.old.spare < size other.now.set) ⊎ IsBounded (L.room listener.new)) }
-        ensures told { Tells self.old.set self.new.set (L.told listener.old) (L.told listener.new) }
-        ensures seen { told_count (L.told listener.new) + seen_count self.old.set ≤ told_count (L.told listener.old) + seen_count self.new.set }
+        ensures unpaid { HasRoom (L.told listener.old) (L.capacity listener.old) (size other.now.set + waiting_count self.old.set)
+            → IfErr result (λ fault. fault ≡ TakeFault.Memory → self.old.spare < size other.now.set) }
+        ensures heard { IsHeard self.old.set self.new.set (L.told listener.old) (L.told listener.new) (L.capacity listener.old) (L.capacity listener.new) }
     {
         if self.disagrees(other) {
             return Err(TakeFault::IdentifierReused);
         }
         let before = self.kept;
-        self.take_told(other, listener)?;
+        self.take_all(other, listener)?;
         Ok(self.kept - before)
     }
 
@@ -187,97 +188,86 @@ impl<S: Sequence> Replica<S> {
         )
     }
 
-    /// Takes the operations of another desk in the order in which `op_at` tells them. The elements
-    /// are read part after part, since `nth` of each may cost more than reading it.
-    fn take_told<L: Listener>(
+    /// Takes all operations of another desk. A deletion comes before the insertion that it is of: so no element is shown that
+    /// the other desk has erased, and what a listener is told is put stays. The elements are read part after part, since
+    /// `nth` of each may cost more than reading it.
+    fn take_all<L: Listener>(
         &mut self,
         other: &Replica<S>,
         listener: &mut L,
     ) -> Result<(), TakeFault>
-        ensures ok { OnOk result (self.new.set ≡ with_operations self.old.set (told other.now)) }
-        ensures fault { IfErr result (IsStopped self.old.set (told other.now) self.new.set) }
+        requires well_formed { AllWellFormed self.old.set }
+        ensures grown { IsGrown self.old (told other.now) self.new }
+        ensures heard { IsHeard self.old.set self.new.set (L.told listener.old) (L.told listener.new) (L.capacity listener.old) (L.capacity listener.new) }
+        ensures fault { IfErr result (IsStopped (told other.now) self.new (L.told listener.old) (L.told listener.new) (L.capacity listener.old)) }
+        ensures ok { OnOk result (All (Holds self.new.set) (told other.now)) }
         ensures all { ListsOnce other.now.set (told other.now) }
-        ensures site { self.new.site ≡ self.old.site }
-        ensures spare { size self.old.set + self.old.spare ≤ size self.new.set + self.new.spare }
-        ensures unpaid { IfErr result (λ fault. fault ≡ TakeFault.Memory → (self.new.spare ≡ 0) ⊎ IsBounded (L.room listener.new)) }
-        ensures told { Tells self.old.set self.new.set (L.told listener.old) (L.told listener.new) }
-        ensures seen { told_count (L.told listener.new) + seen_count self.old.set ≤ told_count (L.told listener.old) + seen_count self.new.set }
     {
         let waiting = count_waiting(&other.held);
-        self.take_insertions(&other.seq, listener)?;
-        self.take_deletions(&other.seq, listener)?;
-        self.take_waiting(&other.held, waiting, listener)
+        self.erase_waiting(&other.held, waiting, listener)?;
+        self.erase_elements(&other.seq, listener)?;
+        self.take_elements(&other.seq, listener)?;
+        self.insert_waiting(&other.held, waiting, listener)
     }
 
-    fn take_insertions<L: Listener>(&mut self, seq: &S, listener: &mut L) -> Result<(), TakeFault>
-        ensures ok { OnOk result (self.new.set ≡ with_operations self.old.set (insertions_in (elements (S.content seq.now)))) }
-        ensures fault { IfErr result (IsStopped self.old.set (insertions_in (elements (S.content seq.now))) self.new.set) }
-        ensures site { self.new.site ≡ self.old.site }
-        ensures spare { size self.old.set + self.old.spare ≤ size self.new.set + self.new.spare }
-        ensures unpaid { IfErr result (λ fault. fault ≡ TakeFault.Memory → (self.new.spare ≡ 0) ⊎ IsBounded (L.room listener.new)) }
-        ensures told { Tells self.old.set self.new.set (L.told listener.old) (L.told listener.new) }
-        ensures seen { told_count (L.told listener.new) + seen_count self.old.set ≤ told_count (L.told listener.old) + seen_count self.new.set }
-    {
-        let mut cursor = Cursor::front();
-        for p in 0..seq.part_count() {
-            self.insert_row(seq.part(p), &mut cursor, listener)?;
-        }
-        Ok(())
-    }
-
-    /// Takes the insertions that made the elements of a row. The first is awaited at the cursor, and so is what follows one
-    /// that is known; what follows a new one is looked up.
-    fn insert_row<L: Listener>(
+    /// Takes the deletions that wait in a store of this many operations.
+    fn erase_waiting<L: Listener>(
         &mut self,
-        row: &[Element],
-        cursor: &mut Cursor,
+        held: &Held,
+        count: usize,
         listener: &mut L,
     ) -> Result<(), TakeFault>
-        requires { All (λ e. MayFollow e.parent e.id) row.now }
-        ensures ok { OnOk result (self.new.set ≡ with_operations self.old.set (insertions_in row.now)) }
-        ensures fault { IfErr result (IsStopped self.old.set (insertions_in row.now) self.new.set) }
-        ensures site { self.new.site ≡ self.old.site }
-        ensures spare { size self.old.set + self.old.spare ≤ size self.new.set + self.new.spare }
-        ensures unpaid { IfErr result (λ fault. fault ≡ TakeFault.Memory → (self.new.spare ≡ 0) ⊎ IsBounded (L.room listener.new)) }
-        ensures told { Tells self.old.set self.new.set (L.told listener.old) (L.told listener.new) }
-        ensures seen { told_count (L.told listener.new) + seen_count self.old.set ≤ told_count (L.told listener.old) + seen_count self.new.set }
+        requires well_formed { AllWellFormed self.old.set }
+        requires count { count ≡ size held.now.held }
+        ensures grown { IsGrown self.old (waiting_in held.now) self.new }
+        ensures insertions { self.new.set.ins ≡ self.old.set.ins }
+        ensures heard { IsHeard self.old.set self.new.set (L.told listener.old) (L.told listener.new) (L.capacity listener.old) (L.capacity listener.new) }
+        ensures fault { IfErr result (IsStopped (waiting_in held.now) self.new (L.told listener.old) (L.told listener.new) (L.capacity listener.old)) }
+        ensures ok { OnOk result (All (λ op. is_deletion op ≡ true → Holds self.new.set op) (waiting_in held.now)) }
     {
-        cursor.pay(row.len());
-        let mut at = self.known_in_front(row, cursor);
-        while at < row.len() {
-            let e = &row[at];
-            at += 1;
-            if self.take_at(e, listener)? {
-                at += self.known_behind(e.id, &row[at..], cursor);
-            }
+        for j in 0..count {
+            self.take_deletion(&held.nth(j), listener)?;
         }
         Ok(())
     }
 
-    /// Takes the insertion that made an element, and tells whether it was known.
-    fn take_at<L: Listener>(&mut self, e: &Element, listener: &mut L) -> Result<bool, TakeFault>
-        requires { MayFollow e.now.parent e.now.id }
-        ensures ok { OnOk result (self.new.set ≡ with_operation self.old.set (made_by e.now)) }
-        ensures err { OnErr result (self.new ≡ self.old) }
-        ensures fault { IfErr result (IsUntaken self.old.set (made_by e.now)) }
-        ensures site { self.new.site ≡ self.old.site }
-        ensures spare { size self.old.set + self.old.spare ≤ size self.new.set + self.new.spare }
-        ensures unpaid { IfErr result (λ fault. fault ≡ TakeFault.Memory → (self.new.spare ≡ 0) ⊎ IsBounded (L.room listener.new)) }
-        ensures told { Tells self.old.set self.new.set (L.told listener.old) (L.told listener.new) }
-        ensures seen { told_count (L.told listener.new) + seen_count self.old.set ≤ told_count (L.told listener.old) + seen_count self.new.set }
+    /// Takes an operation if it is a deletion.
+    fn take_deletion<L: Listener>(&mut self, op: &Op, listener: &mut L) -> Result<(), TakeFault>
+        requires well_formed { AllWellFormed self.old.set }
+        ensures grown { IsGrown self.old (op.now ∷ []) self.new }
+        ensures insertions { self.new.set.ins ≡ self.old.set.ins }
+        ensures heard { IsHeard self.old.set self.new.set (L.told listener.old) (L.told listener.new) (L.capacity listener.old) (L.capacity listener.new) }
+        ensures fault { IfErr result (IsStopped (op.now ∷ []) self.new (L.told listener.old) (L.told listener.new) (L.capacity listener.old)) }
+        ensures ok { OnOk result (is_deletion op.now ≡ true → Holds self.new.set op.now) }
     {
-        let taken = self.take_to(&insertion_of(e), listener)?;
-        Ok(matches!(taken, Taken::Known))
+        if !deletes(op) {
+            return Ok(());
+        }
+        self.take_one(op, listener)?;
+        Ok(())
     }
 
-    fn take_deletions<L: Listener>(&mut self, seq: &S, listener: &mut L) -> Result<(), TakeFault>
-        ensures ok { OnOk result (self.new.set ≡ with_operations self.old.set (deletions_in (elements (S.content seq.now)))) }
-        ensures fault { IfErr result (IsStopped self.old.set (deletions_in (elements (S.content seq.now))) self.new.set) }
-        ensures site { self.new.site ≡ self.old.site }
-        ensures spare { size self.old.set + self.old.spare ≤ size self.new.set + self.new.spare }
-        ensures unpaid { IfErr result (λ fault. fault ≡ TakeFault.Memory → (self.new.spare ≡ 0) ⊎ IsBounded (L.room listener.new)) }
-        ensures told { Tells self.old.set self.new.set (L.told listener.old) (L.told listener.new) }
-        ensures seen { told_count (L.told listener.new) + seen_count self.old.set ≤ told_count (L.told listener.old) + seen_count self.new.set }
+    /// Takes an operation, and tells whether it was known.
+    fn take_one<L: Listener>(&mut self, op: &Op, listener: &mut L) -> Result<bool, TakeFault>
+        ensures grown { IsGrown self.old (op.now ∷ []) self.new }
+        ensures shows { is_deletion op.now ≡ false → ShowsAll self.old.set self.new.set }
+        ensures insertions { is_deletion op.now ≡ true → self.new.set.ins ≡ self.old.set.ins }
+        ensures heard { IsHeard self.old.set self.new.set (L.told listener.old) (L.told listener.new) (L.capacity listener.old) (L.capacity listener.new) }
+        ensures fault { IfErr result (IsStopped (op.now ∷ []) self.new (L.told listener.old) (L.told listener.new) (L.capacity listener.old)) }
+        ensures ok { OnOk result (Holds self.new.set op.now) }
+    {
+        let taken = self.take_to(op, listener)?;
+        Ok(was_known(&taken))
+    }
+
+    /// Takes the deletions of hidden elements whose insertions are kept: of those that are placed, and of those that wait.
+    fn erase_elements<L: Listener>(&mut self, seq: &S, listener: &mut L) -> Result<(), TakeFault>
+        requires well_formed { AllWellFormed self.old.set }
+        ensures grown { IsGrown self.old (deletions_in (elements (S.content seq.now))) self.new }
+        ensures insertions { self.new.set.ins ≡ self.old.set.ins }
+        ensures heard { IsHeard self.old.set self.new.set (L.told listener.old) (L.told listener.new) (L.capacity listener.old) (L.capacity listener.new) }
+        ensures fault { IfErr result (IsStopped (deletions_in (elements (S.content seq.now))) self.new (L.told listener.old) (L.told listener.new) (L.capacity listener.old)) }
+        ensures ok { OnOk result (All (IsErasedIn self.new.set) (elements (S.content seq.now))) }
     {
         let mut cursor = Cursor::front();
         for p in 0..seq.part_count() {
@@ -286,52 +276,57 @@ impl<S: Sequence> Replica<S> {
         Ok(())
     }
 
-    /// Takes the deletions of the hidden elements of a row. The own elements stand at the cursor or behind it.
+    /// The same of a row. The own elements stand at the cursor or behind it.
     fn erase_row<L: Listener>(
         &mut self,
         row: &[Element],
         cursor: &mut Cursor,
         listener: &mut L,
     ) -> Result<(), TakeFault>
-        ensures ok { OnOk result (self.new.set ≡ with_operations self.old.set (deletions_in row.now)) }
-        ensures fault { IfErr result (IsStopped self.old.set (deletions_in row.now) self.new.set) }
-        ensures site { self.new.site ≡ self.old.site }
-        ensures spare { size self.old.set + self.old.spare ≤ size self.new.set + self.new.spare }
-        ensures unpaid { IfErr result (λ fault. fault ≡ TakeFault.Memory → (self.new.spare ≡ 0) ⊎ IsBounded (L.room listener.new)) }
-        ensures told { Tells self.old.set self.new.set (L.told listener.old) (L.told listener.new) }
-        ensures seen { told_count (L.told listener.new) + seen_count self.old.set ≤ told_count (L.told listener.old) + seen_count self.new.set }
+        requires well_formed { AllWellFormed self.old.set }
+        ensures grown { IsGrown self.old (deletions_in row.now) self.new }
+        ensures insertions { self.new.set.ins ≡ self.old.set.ins }
+        ensures heard { IsHeard self.old.set self.new.set (L.told listener.old) (L.told listener.new) (L.capacity listener.old) (L.capacity listener.new) }
+        ensures fault { IfErr result (IsStopped (deletions_in row.now) self.new (L.told listener.old) (L.told listener.new) (L.capacity listener.old)) }
+        ensures ok { OnOk result (All (IsErasedIn self.new.set) row.now) }
     {
         cursor.pay(row.len());
         for e in row {
-            if e.hidden {
-                self.take_deletion(e.id, cursor, listener)?;
-            }
+            self.erase_element(e, cursor, listener)?;
         }
         Ok(())
     }
 
-    /// Takes a deletion. Where the own element is hidden, it is known without a look-up.
-    fn take_deletion<L: Listener>(
+    /// The same of an element. Where the own one is hidden, its deletion is known without a look-up.
+    fn erase_element<L: Listener>(
         &mut self,
-        id: Id,
+        e: &Element,
         cursor: &mut Cursor,
         listener: &mut L,
     ) -> Result<(), TakeFault>
-        ensures ok { OnOk result (self.new.set ≡ with_operation self.old.set (Erase id)) }
-        ensures err { OnErr result (self.new ≡ self.old) }
-        ensures fault { IfErr result (IsUntaken self.old.set (Erase id)) }
-        ensures site { self.new.site ≡ self.old.site }
-        ensures spare { size self.old.set + self.old.spare ≤ size self.new.set + self.new.spare }
-        ensures unpaid { IfErr result (λ fault. fault ≡ TakeFault.Memory → (self.new.spare ≡ 0) ⊎ IsBounded (L.room listener.new)) }
-        ensures told { Tells self.old.set self.new.set (L.told listener.old) (L.told listener.new) }
-        ensures seen { told_count (L.told listener.new) + seen_count self.old.set ≤ told_count (L.told listener.old) + seen_count self.new.set }
+        requires well_formed { AllWellFormed self.old.set }
+        ensures grown { IsGrown self.old (deletions_in (e.now ∷ [])) self.new }
+        ensures insertions { self.new.set.ins ≡ self.old.set.ins }
+        ensures heard { IsHeard self.old.set self.new.set (L.told listener.old) (L.told listener.new) (L.capacity listener.old) (L.capacity listener.new) }
+        ensures fault { IfErr result (IsStopped (deletions_in (e.now ∷ [])) self.new (L.told listener.old) (L.told listener.new) (L.capacity listener.old)) }
+        ensures ok { OnOk result (IsErasedIn self.new.set e.now) }
     {
-        cursor.find(&self.seq, id);
-        if self.hides(id, cursor) {
+        if !e.hidden {
             return Ok(());
         }
-        self.take_to(&Op::erase(id), listener)?;
+        cursor.find(&self.seq, e.id);
+        if self.hides(e.id, cursor) || !self.inserts(e.id) {
+            return Ok(());
+        }
+        self.take_one(&Op::erase(e.id), listener)?;
         Ok(())
+    }
+
+    /// Whether an insertion with this identifier is kept.
+    fn inserts(&self, id: Id) -> bool
+        ensures { result ≡ map.contains_key self.now.set.ins id }
+    {
+        self.seq.has(id) || self.held.insertion(id).is_some()
     }
 
     /// Whether the element with this identifier stands at the cursor, hidden: then its deletion is known.
@@ -344,27 +339,148 @@ impl<S: Sequence> Replica<S> {
         }
     }
 
-    /// Takes the operations that wait in a store of this many.
-    fn take_waiting<L: Listener>(
+    /// Takes the insertions that made the elements, and the deletions of those that are hidden: where an insertion is kept,
+    /// its deletion is known.
+    fn take_elements<L: Listener>(&mut self, seq: &S, listener: &mut L) -> Result<(), TakeFault>
+        requires well_formed { AllWellFormed self.old.set }
+        requires erased { All (IsErasedIn self.old.set) (elements (S.content seq.now)) }
+        ensures grown { IsGrown self.old (operations_in (elements (S.content seq.now))) self.new }
+        ensures shows { ShowsAll self.old.set self.new.set }
+        ensures heard { IsHeard self.old.set self.new.set (L.told listener.old) (L.told listener.new) (L.capacity listener.old) (L.capacity listener.new) }
+        ensures fault { IfErr result (IsStopped (operations_in (elements (S.content seq.now))) self.new (L.told listener.old) (L.told listener.new) (L.capacity listener.old)) }
+        ensures ok { OnOk result (All (Holds self.new.set) (operations_in (elements (S.content seq.now)))) }
+    {
+        let mut cursor = Cursor::front();
+        for p in 0..seq.part_count() {
+            self.take_part(seq, p, &mut cursor, listener)?;
+        }
+        Ok(())
+    }
+
+    /// The same of a part. Its first element is awaited at the cursor, and so is what follows one that is known; what follows
+    /// a new one is looked up.
+    fn take_part<L: Listener>(
+        &mut self,
+        seq: &S,
+        p: usize,
+        cursor: &mut Cursor,
+        listener: &mut L,
+    ) -> Result<(), TakeFault>
+        requires well_formed { AllWellFormed self.old.set }
+        requires part { p < length (S.parts seq.now) }
+        requires erased { All (IsErasedIn self.old.set) (elements (S.content seq.now)) }
+        ensures grown { IsGrown self.old (operations_in (elements (S.content seq.now))) self.new }
+        ensures shows { ShowsAll self.old.set self.new.set }
+        ensures erased { All (IsErasedIn self.new.set) (elements (S.content seq.now)) }
+        ensures heard { IsHeard self.old.set self.new.set (L.told listener.old) (L.told listener.new) (L.capacity listener.old) (L.capacity listener.new) }
+        ensures fault { IfErr result (IsStopped (operations_in (elements (S.content seq.now))) self.new (L.told listener.old) (L.told listener.new) (L.capacity listener.old)) }
+        ensures ok { OnOk result (All (Holds self.new.set) (insertions_in (get_or (S.parts seq.now) p []))) }
+    {
+        let row = seq.part(p);
+        cursor.pay(row.len());
+        let mut at = self.known_in_front(row, cursor);
+        while at < row.len() {
+            let e = &row[at];
+            at += 1;
+            if self.take_element(e, listener)? {
+                at += self.known_behind(e.id, &row[at..], cursor);
+            }
+        }
+        Ok(())
+    }
+
+    /// Takes the insertion that made an element, and tells whether it was known. Where that is new and the element is hidden,
+    /// the deletion is taken first.
+    fn take_element<L: Listener>(
+        &mut self,
+        e: &Element,
+        listener: &mut L,
+    ) -> Result<bool, TakeFault>
+        requires well_formed { AllWellFormed self.old.set }
+        requires follows { MayFollow e.now.parent e.now.id }
+        requires erased { IsErasedIn self.old.set e.now }
+        ensures grown { IsGrown self.old (operations_in (e.now ∷ [])) self.new }
+        ensures shows { ShowsAll self.old.set self.new.set }
+        ensures erased { IsErasedIn self.new.set e.now }
+        ensures no_other { (id : Identifier) → map.contains_key self.new.set.ins id ≡ true → (map.contains_key self.old.set.ins id ≡ true) ⊎ (id ≡ e.now.id) }
+        ensures heard { IsHeard self.old.set self.new.set (L.told listener.old) (L.told listener.new) (L.capacity listener.old) (L.capacity listener.new) }
+        ensures fault { IfErr result (IsStopped (operations_in (e.now ∷ [])) self.new (L.told listener.old) (L.told listener.new) (L.capacity listener.old)) }
+        ensures ok { OnOk result (Holds self.new.set (made_by e.now)) }
+    {
+        self.erase_new(e, listener)?;
+        self.take_one(&insertion_of(e), listener)
+    }
+
+    /// Takes the deletion of a hidden element whose insertion is not kept: that waits for the insertion, and nothing that is
+    /// shown is hidden by it.
+    fn erase_new<L: Listener>(&mut self, e: &Element, listener: &mut L) -> Result<(), TakeFault>
+        requires well_formed { AllWellFormed self.old.set }
+        requires erased { IsErasedIn self.old.set e.now }
+        ensures grown { IsGrown self.old (deletions_in (e.now ∷ [])) self.new }
+        ensures insertions { self.new.set.ins ≡ self.old.set.ins }
+        ensures shows { ShowsAll self.old.set self.new.set }
+        ensures heard { IsHeard self.old.set self.new.set (L.told listener.old) (L.told listener.new) (L.capacity listener.old) (L.capacity listener.new) }
+        ensures fault { IfErr result (IsStopped (deletions_in (e.now ∷ [])) self.new (L.told listener.old) (L.told listener.new) (L.capacity listener.old)) }
+        ensures ok { OnOk result (e.now.hidden ≡ true → Holds self.new.set (Erase e.now.id)) }
+    {
+        if !e.hidden {
+            return Ok(());
+        }
+        if self.inserts(e.id) {
+            return Ok(());
+        }
+        self.take_one(&Op::erase(e.id), listener)?;
+        Ok(())
+    }
+
+    /// Takes the insertions that wait in a store of this many operations.
+    fn insert_waiting<L: Listener>(
         &mut self,
         held: &Held,
         count: usize,
         listener: &mut L,
     ) -> Result<(), TakeFault>
-        requires { count ≡ size held.now.held }
-        ensures ok { OnOk result (self.new.set ≡ with_operations self.old.set (waiting_in held.now)) }
-        ensures fault { IfErr result (IsStopped self.old.set (waiting_in held.now) self.new.set) }
-        ensures site { self.new.site ≡ self.old.site }
-        ensures spare { size self.old.set + self.old.spare ≤ size self.new.set + self.new.spare }
-        ensures unpaid { IfErr result (λ fault. fault ≡ TakeFault.Memory → (self.new.spare ≡ 0) ⊎ IsBounded (L.room listener.new)) }
-        ensures told { Tells self.old.set self.new.set (L.told listener.old) (L.told listener.new) }
-        ensures seen { told_count (L.told listener.new) + seen_count self.old.set ≤ told_count (L.told listener.old) + seen_count self.new.set }
+        requires well_formed { AllWellFormed self.old.set }
+        requires count { count ≡ size held.now.held }
+        ensures grown { IsGrown self.old (waiting_in held.now) self.new }
+        ensures shows { ShowsAll self.old.set self.new.set }
+        ensures heard { IsHeard self.old.set self.new.set (L.told listener.old) (L.told listener.new) (L.capacity listener.old) (L.capacity listener.new) }
+        ensures fault { IfErr result (IsStopped (waiting_in held.now) self.new (L.told listener.old) (L.told listener.new) (L.capacity listener.old)) }
+        ensures ok { OnOk result (All (λ op. is_deletion op ≡ false → Holds self.new.set op) (waiting_in held.now)) }
     {
         for j in 0..count {
-            self.take_to(&held.nth(j), listener)?;
+            self.take_insertion(&held.nth(j), listener)?;
         }
         Ok(())
     }
+
+    /// Takes an operation if it is an insertion.
+    fn take_insertion<L: Listener>(&mut self, op: &Op, listener: &mut L) -> Result<(), TakeFault>
+        requires well_formed { AllWellFormed self.old.set }
+        ensures grown { IsGrown self.old (op.now ∷ []) self.new }
+        ensures shows { ShowsAll self.old.set self.new.set }
+        ensures heard { IsHeard self.old.set self.new.set (L.told listener.old) (L.told listener.new) (L.capacity listener.old) (L.capacity listener.new) }
+        ensures fault { IfErr result (IsStopped (op.now ∷ []) self.new (L.told listener.old) (L.told listener.new) (L.capacity listener.old)) }
+        ensures ok { OnOk result (is_deletion op.now ≡ false → Holds self.new.set op.now) }
+    {
+        if deletes(op) {
+            return Ok(());
+        }
+        self.take_one(op, listener)?;
+        Ok(())
+    }
+}
+
+/// Whether an operation that was taken was known.
+fn was_known(taken: &Taken) -> bool {
+    matches!(taken, Taken::Known)
+}
+
+/// Whether an operation is a deletion.
+fn deletes(op: &Op) -> bool
+    ensures { result ≡ is_deletion op.now }
+{
+    matches!(op.view(), OpView::Erase { .. })
 }
 
 /// How many elements in front of both rows were made by the same insertions.

@@ -1,13 +1,13 @@
 //! Taking one operation or all of another desk, and telling what that changes in the text.
 
-ghost use Rattle.std.specs.Prelude.{◌≡◌, ◌≤◌, ◌<◌, ◌+◌, ◌⊎◌, OnOk, OnErr, IfOk, IfErr, IsOk, MatchResult, length};
+ghost use Rattle.std.specs.Prelude.{◌≡◌, ◌≤◌, ◌<◌, ◌+◌, ◌⊎◌, ℕ, false, OnOk, OnErr, IfOk, IfErr, IsOk, MatchResult, vec_len, vec_capacity};
 ghost use Rattle.bg_types.specs.OperationSet.{Agree, Holds, size, union, with_operation};
 ghost use Rattle.bg_types.specs.declared.op.OpView.{OpView};
 ghost use Rattle.desk_replica.specs.declared.answer.TakeFault.{TakeFault as Fault};
 ghost use Rattle.desk_replica.specs.Reply.{IsTaken, IsRefusal, IsHiding};
-ghost use Rattle.desk_replica.specs.Merging.{IsMergeRefusal, IsMergeRefused};
-ghost use Rattle.desk_replica.specs.Listening.{IsBounded, Tells, told_count};
-ghost use Rattle.desk_replica.specs.Telling.{IsTold, IsUntaken, most_told, seen_count};
+ghost use Rattle.desk_replica.specs.Merging.{IsMergeRefusal, IsMergeRefused, is_deletion};
+ghost use Rattle.desk_replica.specs.Listening.{HasRoom, HasRoomFor, IsHeard};
+ghost use Rattle.desk_replica.specs.Telling.{IsTold, IsUntaken, ShowsAll, TellsAtMost, waiting_count};
 
 use super::{LIMIT, Replica};
 use crate::answer::{TakeFault, Taken};
@@ -18,24 +18,27 @@ use rga_tree::Sequence;
 
 impl<S: Sequence> Replica<S> {
     /// Takes an operation as `take` does, and appends to the list how the text changed by it. A fault changes nothing, and
-    /// nothing in the list. But for the list's memory, while one is spare the fault is not `Memory`.
+    /// nothing in the list. While one is spare, and the list has room for what the operation may tell, the fault is not
+    /// `Memory`: one change for a deletion, and for an insertion one and one for each that waits below it.
     pub fn take_telling(&mut self, op: &Op, changes: &mut Vec<Change>) -> Result<Taken, TakeFault>
         ensures answer { MatchResult result (IsTaken self.old.set op.now) (IsUntaken self.old.set op.now) }
         ensures accepted { OnOk result ((fault : Fault) → ¬ (IsRefusal self.old.set op.now fault)) }
         ensures ok { OnOk result (self.new.set ≡ with_operation self.old.set op.now) }
         ensures limited { size self.new.set ≤ 1_000_000 }
         ensures told { IsTold self.old.set self.new.set changes.old.items changes.new.items }
-        ensures few { IfOk result (λ taken. length changes.new.items ≤ length changes.old.items + most_told taken) }
         ensures err { OnErr result (self.new ≡ self.old) }
         ensures untold { OnErr result (changes.new.items ≡ changes.old.items) }
         ensures site { self.new.site ≡ self.old.site }
         ensures spare { size self.old.set + self.old.spare ≤ size self.new.set + self.new.spare }
+        ensures unpaid { (n : ℕ) → TellsAtMost self.old.set op.now n → vec_len changes.old + n ≤ vec_capacity changes.old
+            → IfErr result (λ fault. fault ≡ TakeFault.Memory → (self.old.spare ≡ 0) × (¬ (IsHiding self.old.set op.now))) }
     {
         self.take_to(op, changes)
     }
 
     /// Takes all operations of another desk as `merge` does, and appends to the list how the text changed by them: after
-    /// `Full` and `Memory` too, by those that are taken.
+    /// `Full` and `Memory` too, by those that are taken. While as many are spare as the other desk keeps, and the list has
+    /// room for that many changes and one for each insertion that waits here, the fault is not `Memory`.
     pub fn merge_telling(
         &mut self,
         other: &Replica<S>,
@@ -47,13 +50,14 @@ impl<S: Sequence> Replica<S> {
         ensures count { IfOk result (λ n. size self.new.set ≡ size self.old.set + n) }
         ensures limited { OnOk result (size self.new.set ≤ 1_000_000) }
         ensures told { IsTold self.old.set self.new.set changes.old.items changes.new.items }
-        ensures few { length changes.new.items + seen_count self.old.set ≤ length changes.old.items + seen_count self.new.set }
         ensures fault { IfErr result (IsMergeRefused self.old.set other.now.set self.new.set) }
         // What waits keeps its order too.
         ensures reused { IfErr result (λ fault. fault ≡ TakeFault.IdentifierReused → self.new ≡ self.old) }
         ensures nothing_new { ((op : OpView) → Holds other.now.set op → Holds self.old.set op) → IsOk result }
         ensures site { self.new.site ≡ self.old.site }
         ensures spare { size self.old.set + self.old.spare ≤ size self.new.set + self.new.spare }
+        ensures unpaid { vec_len changes.old + size other.now.set + waiting_count self.old.set ≤ vec_capacity changes.old
+            → IfErr result (λ fault. fault ≡ TakeFault.Memory → self.old.spare < size other.now.set) }
     {
         self.merge_to(other, changes)
     }
@@ -65,20 +69,20 @@ impl<S: Sequence> Replica<S> {
         listener: &mut L,
     ) -> Result<Taken, TakeFault>
         ensures answer { MatchResult result (IsTaken self.old.set op.now) (IsUntaken self.old.set op.now) }
-        ensures memory { IfErr result (λ fault. fault ≡ TakeFault.Memory
-            → (¬ (IsHiding self.old.set op.now)) ⊎ IsBounded (L.room listener.new)) }
         ensures accepted { OnOk result ((fault : Fault) → ¬ (IsRefusal self.old.set op.now fault)) }
         ensures ok { OnOk result (self.new.set ≡ with_operation self.old.set op.now) }
         ensures limited { size self.new.set ≤ 1_000_000 }
-        ensures told { Tells self.old.set self.new.set (L.told listener.old) (L.told listener.new) }
-        ensures few { IfOk result (λ taken. told_count (L.told listener.new) ≤ told_count (L.told listener.old) + most_told taken) }
-        ensures seen { told_count (L.told listener.new) + seen_count self.old.set ≤ told_count (L.told listener.old) + seen_count self.new.set }
+        ensures heard { IsHeard self.old.set self.new.set (L.told listener.old) (L.told listener.new) (L.capacity listener.old) (L.capacity listener.new) }
+        ensures shows { is_deletion op.now ≡ false → ShowsAll self.old.set self.new.set }
         ensures err { OnErr result (self.new ≡ self.old) }
         ensures untold { OnErr result (L.told listener.new ≡ L.told listener.old) }
         ensures site { self.new.site ≡ self.old.site }
         ensures spare { size self.old.set + self.old.spare ≤ size self.new.set + self.new.spare }
         ensures unpaid { IfErr result (λ fault. fault ≡ TakeFault.Memory
-            → (self.new.spare ≡ 0) ⊎ IsBounded (L.room listener.new)) }
+            → HasRoomFor (L.told listener.old) (L.capacity listener.old) self.old.set op.now
+            → (self.old.spare ≡ 0) × (¬ (IsHiding self.old.set op.now))) }
+        ensures short { IfErr result (λ fault. fault ≡ TakeFault.Memory
+            → (self.old.spare ≡ 0) ⊎ (¬ (HasRoom (L.told listener.old) (L.capacity listener.old) (waiting_count self.old.set + 1)))) }
     {
         match look_up(&self.seq, &self.held, self.greatest, op) {
             Standing::Known => return Ok(Taken::Known),

@@ -2,14 +2,15 @@
 use Rattle.std.proofs.Common.{◌≡◌, ◌+◌, inl, refl, false, true, sym, ap, subst, ◌∙◌, arith, rules}
 use Rattle.std.specs.FinMap as map
 use Rattle.bg_types.specs.OperationSet.{OperationSet, with_operation}
-use Rattle.desk_replica.specs.Placement.{MayPlace, reaches_in, whole}
+use Rattle.desk_replica.specs.Placement.{IsSettled, MayPlace, reaches_in, whole}
 use Rattle.desk_replica.specs.Reply.{IsAdmitted, IsTaken}
 use Rattle.desk_replica.proofs.FirstTurn.{held_within}
 use Rattle.desk_replica.proofs.Admitting.{settled_as, still_paid, target_there, whole_as, held_paid, held_new, held_settled, held_whole, waits_answer, hidden_settled, hidden_whole, may_reach, hides, on_err}
 use Rattle.bg_types.specs.declared.change.Change.TheVariants.{Cut}
 use Rattle.rga_tree.specs.TextOf.{visible_before}
-use Rattle.desk_replica.specs.Listening.{told_count}
-use Rattle.desk_replica.proofs.Tellings.{room_within, tells_nothing, tells_more, tells_whole, tells_hidden, one_told, still_visible, no_hiding}
+use Rattle.desk_replica.specs.Listening.{HasRoomFor, told_count}
+use Rattle.desk_replica.proofs.Tellings.{tells_nothing, tells_more, tells_whole, tells_hidden, one_told, formed_whole, part_with, shows_same, stays_old}
+use Rattle.desk_replica.proofs.Hearing.{room_one, room_untold, still_visible, no_hiding}
 use Rattle.desk_replica.proofs.placing.admit.Goals as goal
 
 pub pay-requires-clause-few : goal.pay-requires-clause-few
@@ -18,12 +19,15 @@ pay-requires-clause-few g c = omega (arith, held_within (g.S.Sequence.content c.
 pub pay-requires-in-Insert-clause-few : goal.pay-requires-in-Insert-clause-few
 pay-requires-in-Insert-clause-few g c = omega (arith, held_within (g.S.Sequence.content c.args.seq.now) c.args.held.now.held, c.requires.admitted.room)
 
-pub returns-in_err-pay-clause-memory : goal.returns-in_err-pay-clause-memory
-returns-in_err-pay-clause-memory g c =
+pub returns-in_err-pay-clause-unpaid : goal.returns-in_err-pay-clause-unpaid
+returns-in_err-pay-clause-unpaid g c = λ room.
     let t = g.S.Sequence.content c.args.seq.now in
     let no : c.reaches.result ≡ false = search rules in
-    on_err c.from_residual.result _ (inl (waits_answer t c.args.held.now c.args.op.now (record { well = g.met.S.Sequence.well_formed c.args.seq.now; tree = g.met.S.Sequence.is_tree c.args.seq.now; only = g.met.S.Sequence.only_placed c.args.seq.now })
-    c.requires.settled c.requires.admitted c.reaches.ensures.well_formed (sym c.reaches.ensures.value ∙ no)).1)
+    on_err c.from_residual.result _ (
+      c.in_err-pay.ensures.unpaid (room_untold 0 c.args.held.now.held c.args.op.now),
+      (waits_answer t c.args.held.now c.args.op.now (record { well = g.met.S.Sequence.well_formed c.args.seq.now; tree = g.met.S.Sequence.is_tree c.args.seq.now; only = g.met.S.Sequence.only_placed c.args.seq.now })
+          c.requires.settled c.requires.admitted c.reaches.ensures.well_formed (sym c.reaches.ensures.value ∙ no)).1,
+    )
 
 pub keep_waiting-requires-clause-room : goal.keep_waiting-requires-clause-room
 keep_waiting-requires-clause-room g c = omega (arith, c.in_ok-pay.ensures.paid.held)
@@ -78,12 +82,15 @@ pub returns-in_ok-pay-in-Insert-clause-paid : goal.returns-in_ok-pay-in-Insert-c
 returns-in_ok-pay-in-Insert-clause-paid g c = c.place_new.ensures.paid c.pay-in-Insert.new.spare c.in_ok-pay-in-Insert.ensures.paid
 
 pub returns-in_ok-make_room-in-Erase-clause-settled : goal.returns-in_ok-make_room-in-Erase-clause-settled
-returns-in_ok-make_room-in-Erase-clause-settled g c = hidden_settled (g.S.Sequence.content c.args.seq.now) (g.S.Sequence.content c.hide.new.seq) c.args.held.now c.in-Erase.target c.hide.ensures.content c.requires.settled
+returns-in_ok-make_room-in-Erase-clause-settled g c =
+    let u = g.S.Sequence.content c.hide.new.seq in
+    subst (IsSettled u) (sym c.make_room.ensures.held) (hidden_settled (g.S.Sequence.content c.args.seq.now) u c.args.held.now c.in-Erase.target c.hide.ensures.content c.requires.settled)
 
 pub returns-in_ok-make_room-in-Erase-clause-ok : goal.returns-in_ok-make_room-in-Erase-clause-ok
 returns-in_ok-make_room-in-Erase-clause-ok g c =
     let t = g.S.Sequence.content c.args.seq.now in
-    hidden_whole t (g.S.Sequence.content c.hide.new.seq) c.args.held.now c.in-Erase.target c.hide.ensures.content ∙ ap (with_operation (whole t c.args.held.now)) c.in-Erase.ensures.value
+    let u = g.S.Sequence.content c.hide.new.seq in
+    ap (whole u) c.make_room.ensures.held ∙ hidden_whole t u c.args.held.now c.in-Erase.target c.hide.ensures.content ∙ ap (with_operation (whole t c.args.held.now)) c.in-Erase.ensures.value
 
 pub returns-in_ok-make_room-in-Erase-clause-answer : goal.returns-in_ok-make_room-in-Erase-clause-answer
 returns-in_ok-make_room-in-Erase-clause-answer g c =
@@ -148,7 +155,7 @@ hide-requires-clause-visible g c = still_visible (g.S.Sequence.content c.args.se
 pub returns-in_err-pay-clause-told : goal.returns-in_err-pay-clause-told
 returns-in_err-pay-clause-told g c =
     let told = g.L.Listener.told c.args.listener.now in
-    tells_nothing (whole (g.S.Sequence.content c.args.seq.now) c.args.held.now) (whole (g.S.Sequence.content c.pay.new.seq) c.pay.new.held) told told
+    tells_nothing (whole (g.S.Sequence.content c.args.seq.now) c.args.held.now) (whole (g.S.Sequence.content c.pay.new.seq) c.pay.new.held) told told (formed_whole (g.S.Sequence.content c.args.seq.now) c.args.held.now (record { well = g.met.S.Sequence.well_formed c.args.seq.now; tree = g.met.S.Sequence.is_tree c.args.seq.now; only = g.met.S.Sequence.only_placed c.args.seq.now }) c.requires.settled)
     (whole_as (g.S.Sequence.content c.args.seq.now) (g.S.Sequence.content c.pay.new.seq) c.args.held.now c.pay.new.held c.pay.ensures.content c.pay.ensures.held) refl
 
 pub returns-then-not-reaches-clause-told : goal.returns-then-not-reaches-clause-told
@@ -158,16 +165,17 @@ returns-then-not-reaches-clause-told g c =
     let told = g.L.Listener.told c.args.listener.now in
     tells_whole t u c.args.held.now c.keep_waiting.new.held told told (record { well = g.met.S.Sequence.well_formed c.args.seq.now; tree = g.met.S.Sequence.is_tree c.args.seq.now; only = g.met.S.Sequence.only_placed c.args.seq.now }) c.requires.settled
     (record { well = g.met.S.Sequence.well_formed c.pay.new.seq; tree = g.met.S.Sequence.is_tree c.pay.new.seq; only = g.met.S.Sequence.only_placed c.pay.new.seq }) (returns-then-not-reaches-clause-settled g c)
-    (tells_nothing t u told told c.pay.ensures.content refl)
+    (part_with (whole t c.args.held.now) (whole u c.keep_waiting.new.held) c.args.op.now c.requires.admitted.joins (returns-then-not-reaches-clause-ok g c))
+    (tells_nothing t u told told (g.met.S.Sequence.well_formed c.args.seq.now) c.pay.ensures.content refl)
 
 pub returns-in_err-pay-in-Insert-clause-told : goal.returns-in_err-pay-in-Insert-clause-told
 returns-in_err-pay-in-Insert-clause-told g c =
     tells_nothing (whole (g.S.Sequence.content c.args.seq.now) c.args.held.now) (whole (g.S.Sequence.content c.pay-in-Insert.new.seq) c.pay-in-Insert.new.held)
-    (g.L.Listener.told c.args.listener.now) (g.L.Listener.told c.pay-in-Insert.new.listener) (whole_as (g.S.Sequence.content c.args.seq.now) (g.S.Sequence.content c.pay-in-Insert.new.seq) c.args.held.now c.pay-in-Insert.new.held c.pay-in-Insert.ensures.content c.pay-in-Insert.ensures.held) c.pay-in-Insert.ensures.told
+    (g.L.Listener.told c.args.listener.now) (g.L.Listener.told c.pay-in-Insert.new.listener) (formed_whole (g.S.Sequence.content c.args.seq.now) c.args.held.now (record { well = g.met.S.Sequence.well_formed c.args.seq.now; tree = g.met.S.Sequence.is_tree c.args.seq.now; only = g.met.S.Sequence.only_placed c.args.seq.now }) c.requires.settled) (whole_as (g.S.Sequence.content c.args.seq.now) (g.S.Sequence.content c.pay-in-Insert.new.seq) c.args.held.now c.pay-in-Insert.new.held c.pay-in-Insert.ensures.content c.pay-in-Insert.ensures.held) c.pay-in-Insert.ensures.told
 
-pub returns-in_err-pay-in-Insert-clause-memory : goal.returns-in_err-pay-in-Insert-clause-memory
-returns-in_err-pay-in-Insert-clause-memory g c =
-    on_err c.from_residual-in_err-pay-in-Insert.result _ (inl (no_hiding (whole (g.S.Sequence.content c.args.seq.now) c.args.held.now) c.in-Insert.id c.in-Insert.parent c.in-Insert.ch c.args.op.now c.in-Insert.ensures.value))
+pub returns-in_err-pay-in-Insert-clause-unpaid : goal.returns-in_err-pay-in-Insert-clause-unpaid
+returns-in_err-pay-in-Insert-clause-unpaid g c = λ room.
+    on_err c.from_residual-in_err-pay-in-Insert.result _ (c.in_err-pay-in-Insert.ensures.unpaid room, (no_hiding (whole (g.S.Sequence.content c.args.seq.now) c.args.held.now) c.in-Insert.id c.in-Insert.parent c.in-Insert.ch c.args.op.now c.in-Insert.ensures.value))
 
 pub returns-in_ok-pay-in-Insert-clause-told : goal.returns-in_ok-pay-in-Insert-clause-told
 returns-in_ok-pay-in-Insert-clause-told g c =
@@ -175,22 +183,21 @@ returns-in_ok-pay-in-Insert-clause-told g c =
     let r = whole (g.S.Sequence.content c.pay-in-Insert.new.seq) c.pay-in-Insert.new.held in
     let a = g.L.Listener.told c.args.listener.now in
     let b = g.L.Listener.told c.pay-in-Insert.new.listener in
+    let same = whole_as (g.S.Sequence.content c.args.seq.now) (g.S.Sequence.content c.pay-in-Insert.new.seq) c.args.held.now c.pay-in-Insert.new.held c.pay-in-Insert.ensures.content c.pay-in-Insert.ensures.held in
     tells_more s r (whole (g.S.Sequence.content c.place_new.new.seq) c.place_new.new.held) a b (g.L.Listener.told c.place_new.new.listener)
-    (tells_nothing s r a b (whole_as (g.S.Sequence.content c.args.seq.now) (g.S.Sequence.content c.pay-in-Insert.new.seq) c.args.held.now c.pay-in-Insert.new.held c.pay-in-Insert.ensures.content c.pay-in-Insert.ensures.held) c.pay-in-Insert.ensures.told) c.place_new.ensures.told
+    (tells_nothing s r a b (formed_whole (g.S.Sequence.content c.args.seq.now) c.args.held.now (record { well = g.met.S.Sequence.well_formed c.args.seq.now; tree = g.met.S.Sequence.is_tree c.args.seq.now; only = g.met.S.Sequence.only_placed c.args.seq.now }) c.requires.settled) same c.pay-in-Insert.ensures.told) c.place_new.ensures.told (stays_old s r (whole (g.S.Sequence.content c.place_new.new.seq) c.place_new.new.held) (shows_same r s (sym same)))
 
 pub returns-in_ok-pay-in-Insert-clause-few : goal.returns-in_ok-pay-in-Insert-clause-few
 returns-in_ok-pay-in-Insert-clause-few g c = omega (arith, c.place_new.ensures.few, ap told_count c.pay-in-Insert.ensures.told)
 
 pub place_new-requires-clause-told_room : goal.place_new-requires-clause-told_room
 place_new-requires-clause-told_room g c =
-    let same = ap (λ (s : OperationSet). map.len s.ins) c.pay-in-Insert.ensures.held in
-    room_within (g.L.Listener.room c.pay-in-Insert.new.listener) (map.len c.pay-in-Insert.new.held.held.ins + 1) (map.len c.args.held.now.held.ins + 1)
-    (omega (arith, same)) c.in_ok-pay-in-Insert.ensures.room
+    subst (λ h. HasRoomFor (g.L.Listener.told c.pay-in-Insert.new.listener) (g.L.Listener.capacity c.pay-in-Insert.new.listener) h c.args.op.now) (sym c.pay-in-Insert.ensures.held) c.in_ok-pay-in-Insert.ensures.room
 
 pub returns-in_err-make_room-in-Erase-clause-told : goal.returns-in_err-make_room-in-Erase-clause-told
 returns-in_err-make_room-in-Erase-clause-told g c =
-    let s = whole (g.S.Sequence.content c.args.seq.now) c.args.held.now in
-    tells_nothing s s (g.L.Listener.told c.args.listener.now) (g.L.Listener.told c.make_room.new.self) refl c.make_room.ensures.told
+    let t = g.S.Sequence.content c.args.seq.now in
+    tells_nothing (whole t c.args.held.now) (whole t c.make_room.new.held) (g.L.Listener.told c.args.listener.now) (g.L.Listener.told c.make_room.new.self) (formed_whole (g.S.Sequence.content c.args.seq.now) c.args.held.now (record { well = g.met.S.Sequence.well_formed c.args.seq.now; tree = g.met.S.Sequence.is_tree c.args.seq.now; only = g.met.S.Sequence.only_placed c.args.seq.now }) c.requires.settled) (ap (whole t) c.make_room.ensures.held) c.make_room.ensures.told
 
 pub returns-in_ok-make_room-in-Erase-clause-told : goal.returns-in_ok-make_room-in-Erase-clause-told
 returns-in_ok-make_room-in-Erase-clause-told g c =
@@ -201,11 +208,13 @@ returns-in_ok-make_room-in-Erase-clause-told g c =
     let b = g.L.Listener.told c.make_room.new.self in
     let told = g.L.Listener.told c.hide.new.listener in
     let yes : c.reaches.result ≡ true = search rules in
-    tells_whole t u w w a told (record { well = g.met.S.Sequence.well_formed c.args.seq.now; tree = g.met.S.Sequence.is_tree c.args.seq.now; only = g.met.S.Sequence.only_placed c.args.seq.now }) c.requires.settled
-    (record { well = g.met.S.Sequence.well_formed c.hide.new.seq; tree = g.met.S.Sequence.is_tree c.hide.new.seq; only = g.met.S.Sequence.only_placed c.hide.new.seq }) (hidden_settled t u w c.in-Erase.target c.hide.ensures.content c.requires.settled)
-    (tells_more t t u a b told (tells_nothing t t a b refl c.make_room.ensures.told)
-    (tells_hidden t c.in-Erase.target u b told (record { well = g.met.S.Sequence.well_formed c.args.seq.now; tree = g.met.S.Sequence.is_tree c.args.seq.now; only = g.met.S.Sequence.only_placed c.args.seq.now }) (target_there t c.in-Erase.target c.args.op.now c.in-Erase.ensures.value (sym c.reaches.ensures.value ∙ yes))
-    (still_visible t w c.in-Erase.target c.args.op.now c.in-Erase.ensures.value c.requires.admitted) c.hide.ensures.content c.hide.ensures.told))
+    tells_whole t u w c.make_room.new.held a told (record { well = g.met.S.Sequence.well_formed c.args.seq.now; tree = g.met.S.Sequence.is_tree c.args.seq.now; only = g.met.S.Sequence.only_placed c.args.seq.now }) c.requires.settled
+    (record { well = g.met.S.Sequence.well_formed c.hide.new.seq; tree = g.met.S.Sequence.is_tree c.hide.new.seq; only = g.met.S.Sequence.only_placed c.hide.new.seq }) (returns-in_ok-make_room-in-Erase-clause-settled g c)
+    (part_with (whole t w) (whole u c.make_room.new.held) c.args.op.now c.requires.admitted.joins (returns-in_ok-make_room-in-Erase-clause-ok g c))
+    (tells_more t t u a b told (tells_nothing t t a b (g.met.S.Sequence.well_formed c.args.seq.now) refl c.make_room.ensures.told)
+    (tells_hidden t c.in-Erase.target (record { well = g.met.S.Sequence.well_formed c.args.seq.now; tree = g.met.S.Sequence.is_tree c.args.seq.now; only = g.met.S.Sequence.only_placed c.args.seq.now }) (target_there t c.in-Erase.target c.args.op.now c.in-Erase.ensures.value (sym c.reaches.ensures.value ∙ yes))
+    (still_visible t w c.in-Erase.target c.args.op.now c.in-Erase.ensures.value c.requires.admitted) u b told (g.met.S.Sequence.well_formed c.hide.new.seq) c.hide.ensures.content c.hide.ensures.told)
+    (stays_old t t u (λ id h. h)))
 
 pub returns-in_ok-make_room-in-Erase-clause-few : goal.returns-in_ok-make_room-in-Erase-clause-few
 returns-in_ok-make_room-in-Erase-clause-few g c =
@@ -216,4 +225,4 @@ pub make_room-requires : goal.make_room-requires
 make_room-requires g c = omega (arith, held_within (g.S.Sequence.content c.args.seq.now) c.args.held.now.held, c.requires.admitted.room)
 
 pub hide-requires-clause-room : goal.hide-requires-clause-room
-hide-requires-clause-room g c = room_within (g.L.Listener.room c.make_room.new.self) 1 (map.len c.args.held.now.held.ins + 1) (omega arith) c.in_ok-make_room-in-Erase.ensures.ok
+hide-requires-clause-room g c = room_one (g.L.Listener.told c.make_room.new.self) (g.L.Listener.capacity c.make_room.new.self) c.args.held.now.held c.args.op.now c.in_ok-make_room-in-Erase.ensures.ok

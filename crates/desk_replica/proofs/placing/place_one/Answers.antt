@@ -9,7 +9,8 @@ use Rattle.desk_replica.specs.Placement.{MayPlace, Places}
 use Rattle.desk_replica.proofs.Leaf.{one_more}
 use Rattle.bg_types.specs.declared.change.Change.TheVariants.{Put}
 use Rattle.rga_tree.specs.TextOf.{visible_before}
-use Rattle.desk_replica.proofs.Tellings.{there_now, tells_placed, one_told}
+use Rattle.desk_replica.proofs.Tellings.{tells_placed, shows_placed, one_told}
+use Rattle.desk_replica.proofs.Hearing.{there_now}
 use Rattle.desk_replica.proofs.placing.place_one.Goals as goal
 
 pub returns-clause-places : goal.returns-clause-places
@@ -46,11 +47,17 @@ returns-clause-told g c =
     let may : MayPlace t op = subst (MayPlace t) (sym c.in-Insert.ensures.value) c.requires.may in
     let is : IsWellFormed op = subst IsWellFormed (sym c.in-Insert.ensures.value) c.in-Insert.ensures.well_formed in
     tells_placed t c.in-Insert.id c.in-Insert.parent c.in-Insert.ch (record { well = g.met.S.Sequence.well_formed c.args.seq.now; tree = g.met.S.Sequence.is_tree c.args.seq.now; only = g.met.S.Sequence.only_placed c.args.seq.now })
-    is may.0 may.1 (g.S.Sequence.content c.place.new.self) c.drop_erasure-hidden.result (g.L.Listener.told c.args.listener.now) (g.L.Listener.told c.tell_placed.new.listener) c.place.ensures.content c.tell_placed.ensures.told
+    is may.0 may.1 (g.S.Sequence.content c.place.new.self) c.drop_erasure-hidden.result (g.L.Listener.told c.args.listener.now) (g.L.Listener.told c.tell_placed.new.listener) (g.met.S.Sequence.well_formed c.place.new.self) c.place.ensures.content c.tell_placed.ensures.told
 
 pub returns-clause-few : goal.returns-clause-few
 returns-clause-few g c =
     one_told c.drop_erasure-hidden.result (Put (visible_before (g.S.Sequence.content c.place.new.self) c.in-Insert.id) c.in-Insert.ch) (g.L.Listener.told c.args.listener.now) (g.L.Listener.told c.tell_placed.new.listener) c.tell_placed.ensures.told
 
-pub returns-clause-told_room : goal.returns-clause-told_room
-returns-clause-told_room g c = c.tell_placed.ensures.room
+pub returns-clause-shows : goal.returns-clause-shows
+returns-clause-shows g c =
+    let t = g.S.Sequence.content c.args.seq.now in
+    let op : OpView = Insert c.in-Insert.id c.in-Insert.parent c.in-Insert.ch in
+    let may : MayPlace t op = subst (MayPlace t) (sym c.in-Insert.ensures.value) c.requires.may in
+    let is : IsWellFormed op = subst IsWellFormed (sym c.in-Insert.ensures.value) c.in-Insert.ensures.well_formed in
+    shows_placed t c.in-Insert.id c.in-Insert.parent c.in-Insert.ch (record { well = g.met.S.Sequence.well_formed c.args.seq.now; tree = g.met.S.Sequence.is_tree c.args.seq.now; only = g.met.S.Sequence.only_placed c.args.seq.now })
+    is may.0 may.1 (g.S.Sequence.content c.place.new.self) c.drop_erasure-hidden.result c.place.ensures.content

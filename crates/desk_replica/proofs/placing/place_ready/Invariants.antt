@@ -1,11 +1,14 @@
 -- What stays true in the loop of `place_ready`.
-use Rattle.std.proofs.Common.{◌≡◌, ◌≤◌, ◌+◌, ℕ}
+use Rattle.std.proofs.Common.{◌≡◌, ◌≤◌, ◌+◌, ℕ, List, length}
 use Rattle.std.specs.FinMap as map
 use Rattle.bg_types.specs.OperationSet.{AllWellFormed}
+use Rattle.bg_types.specs.declared.op.OpView.{OpView}
 use Rattle.pending_ops.specs.Waiting.{is_ready}
+use Rattle.pending_ops.specs.Releasing.{PlacesEach}
 use Rattle.desk_replica.specs.Placement.{IsParted, IsPaid, whole}
 use Rattle.desk_replica.specs.Reply.{attached_count}
-use Rattle.desk_replica.specs.Listening.{HasRoom, Tells, told_count}
+use Rattle.desk_replica.specs.Listening.{Tells, told_count}
+use Rattle.desk_replica.specs.Telling.{ShowsAll}
 use Rattle.desk_replica.proofs.placing.place_ready.Given as goal
 
 abbrev pub invariant-loop-op : goal.invariant-loop-op
@@ -16,7 +19,9 @@ invariant-loop-op g l = record {
   grows : attached_count (g.S.Sequence.content l.fn.seq) ≤ attached_count (g.S.Sequence.content l.seq);
   room : map.len l.held.held.ins ≤ g.S.Sequence.free l.seq;
   paid : (n : ℕ) → IsPaid (g.S.Sequence.free l.fn.seq) l.fn.held n → IsPaid (g.S.Sequence.free l.seq) l.held n;
-  told_room : HasRoom (g.L.Listener.room l.listener) (map.len l.held.held.ins);
+  placed : (ops : List OpView) × PlacesEach l.fn.held ops l.held × (attached_count (g.S.Sequence.content l.seq) ≡ attached_count (g.S.Sequence.content l.fn.seq) + length ops);
+  shows : ShowsAll (g.S.Sequence.content l.fn.seq) (g.S.Sequence.content l.seq);
+  capacity : g.L.Listener.capacity l.fn.listener ≤ g.L.Listener.capacity l.listener;
   told : Tells (g.S.Sequence.content l.fn.seq) (g.S.Sequence.content l.seq) (g.L.Listener.told l.fn.listener) (g.L.Listener.told l.listener);
   few : told_count (g.L.Listener.told l.listener) + attached_count (g.S.Sequence.content l.fn.seq) ≤ told_count (g.L.Listener.told l.fn.listener) + attached_count (g.S.Sequence.content l.seq);
 }

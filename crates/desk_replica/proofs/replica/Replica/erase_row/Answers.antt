@@ -1,71 +1,65 @@
 -- The goals of `erase_row` that are answered by hand.
-use Rattle.std.proofs.Common.{◌≡◌, [], ◌∷◌, sym, ap, ◌∙◌, refl, arith}
-use Rattle.std.specs.Prelude.{map as each}
+use Rattle.std.proofs.Common.{◌≤◌, [], ◌∷◌, take, get_or, subst, ◌∙◌, refl, arith}
 use Rattle.std.proofs.lemmas.Result.{err_from_is_err_and}
-use Rattle.bg_types.specs.OperationSet.{size}
-use Rattle.bg_types.specs.declared.op.OpView.TheVariants.{Erase}
-use Rattle.desk_replica.specs.Desk.{Desk}
+use Rattle.std.proofs.lemmas.List.Elements.{All-more, All-nil}
 use Rattle.desk_replica.specs.Told.{deletions_in}
-use Rattle.desk_replica.specs.Merging.{with_operations}
-use Rattle.desk_replica.specs.Listening.{told_count}
-use Rattle.desk_replica.specs.Telling.{seen_count}
-use Rattle.desk_replica.proofs.Rows.{deletions-append, hidden_one, hidden_none}
-use Rattle.desk_replica.proofs.InTurn.{row_next, row_ended}
-use Rattle.desk_replica.proofs.Tellings.{tells_nothing, tells_more}
+use Rattle.desk_replica.specs.Merging.{IsErasedIn}
+use Rattle.desk_replica.proofs.Growing.{all_done, desk_still, desk_then, erased_more, listed_alike, one_listed, shows_erased, stopped_then}
+use Rattle.desk_replica.proofs.Hearing.{heard_more, heard_nothing}
+use Rattle.desk_replica.proofs.Rows.{deletions-append}
+use Rattle.desk_replica.proofs.Tellings.{stays_old}
 use Rattle.desk_replica.proofs.replica.Replica.erase_row.Goals as goal
-use Rattle.desk_replica.proofs.replica.Replica.erase_row.Goals.{then-e+in_ok-take_deletion, else-e}
 
 pub loop-e-init : goal.loop-e-init
-loop-e-init g c = record { taken = refl; site = refl; spare = omega arith; told = (let s = c.args.self.now.set in let a = g.L.Listener.told c.args.listener.now in tells_nothing s s a a refl refl); seen = omega arith }
+loop-e-init g c = record {
+  grown = desk_still c.args.self.now c.args.self.now (deletions_in c.args.row.now) refl;
+  insertions = refl;
+  done = All-nil (IsErasedIn c.args.self.now.set);
+  heard =
+      (let s = c.args.self.now.set in
+      let a = g.L.Listener.told c.args.listener.now in
+      let k = g.L.Listener.capacity c.args.listener.now in
+      heard_nothing s s a a k k c.requires.well_formed refl refl (omega arith));
+}
 
-pub returns-in_err-take_deletion-clause-fault : goal.returns-in_err-take_deletion-clause-fault
-returns-in_err-take_deletion-clause-fault g c =
-    let s = c.args.self.now.set in
-    let row = c.args.row.now in
-    let e = c.e-item.result in
-    let fault = c.in_err-take_deletion.field-0.0 in
+pub erase_element-requires : goal.erase_element-requires
+erase_element-requires g c = record { well_formed = c.loop-e.invariant.heard.tells.are_steps.well_formed }
+
+pub returns-in_err-erase_element-clause-grown : goal.returns-in_err-erase_element-clause-grown
+returns-in_err-erase_element-clause-grown g c =
+    desk_then c.args.self.now c.loop-e.self c.erase_element.new.self (deletions_in c.args.row.now) (deletions_in (c.e-item.result ∷ [])) (deletions_in c.args.row.now) c.loop-e.invariant.grown c.erase_element.ensures.grown
+    (listed_alike (deletions_in c.args.row.now)) (one_listed deletions_in deletions-append c.args.row.now c.loop-e.e-index c.e-item.result c.loop-e-test.true c.e-item.is)
+
+pub returns-in_err-erase_element-clause-heard : goal.returns-in_err-erase_element-clause-heard
+returns-in_err-erase_element-clause-heard g c =
+    heard_more c.args.self.now.set c.loop-e.self.set c.erase_element.new.self.set (g.L.Listener.told c.args.listener.now) (g.L.Listener.told c.loop-e.listener) (g.L.Listener.told c.erase_element.new.listener)
+    (g.L.Listener.capacity c.args.listener.now) (g.L.Listener.capacity c.loop-e.listener) (g.L.Listener.capacity c.erase_element.new.listener) c.loop-e.invariant.heard c.erase_element.ensures.heard
+    (stays_old c.args.self.now.set c.loop-e.self.set c.erase_element.new.self.set (shows_erased c.args.self.now.set c.loop-e.self.set c.loop-e.invariant.insertions c.loop-e.invariant.grown.grown.keeps))
+
+pub returns-in_err-erase_element-clause-fault : goal.returns-in_err-erase_element-clause-fault
+returns-in_err-erase_element-clause-fault g c =
     let p = err_from_is_err_and c.from_residual.result c.from_residual.ensures.1 in
-    let told : deletions_in (e ∷ []) ≡ Erase e.id ∷ [] = ap (each Erase) (hidden_one e c.if-e.true) in
-    rw (p.1, p.2) (row_ended deletions_in deletions-append s c.loop-e.self.set row c.loop-e.e-index e c.loop-e-test.true c.e-item.is c.loop-e.invariant.taken c.take_deletion.new.self.set (Erase e.id) fault
-    (ap (λ (d : Desk). d.set) c.in_err-take_deletion.ensures.err) told c.in_err-take_deletion.ensures.fault)
+    rw (p.1, p.2) (stopped_then c.args.self.now c.loop-e.self c.erase_element.new.self (deletions_in (c.e-item.result ∷ [])) (deletions_in c.args.row.now)
+    (g.L.Listener.told c.args.listener.now) (g.L.Listener.told c.loop-e.listener) (g.L.Listener.told c.erase_element.new.listener)
+    (g.L.Listener.capacity c.args.listener.now) (g.L.Listener.capacity c.loop-e.listener) (g.L.Listener.capacity c.erase_element.new.listener) c.in_err-erase_element.field-0.0
+    c.loop-e.invariant.heard c.erase_element.ensures.heard c.in_err-erase_element.ensures.fault
+    (one_listed deletions_in deletions-append c.args.row.now c.loop-e.e-index c.e-item.result c.loop-e-test.true c.e-item.is))
 
 pub loop-e-preserved : goal.loop-e-preserved
 loop-e-preserved g c =
-    let u = c.loop-e.self.set in
-    let v = c.if-e.self.set in
-    let e = c.e-item.result in
-    let next = row_next deletions_in deletions-append c.args.self.now.set u c.args.row.now c.loop-e.e-index e c.loop-e-test.true c.e-item.is c.loop-e.invariant.taken v in
-    elim c.if-e.branch [
-      | then-e+in_ok-take_deletion w ↦ record {
-        taken = next (ap (λ (d : Desk). d.set) w.self-is ∙ w.in_ok-take_deletion.ensures.ok ∙ ap (with_operations u) (ap (each Erase) (sym (hidden_one e w.if-e.true))));
-        site = ap (λ (d : Desk). d.site) w.self-is ∙ w.in_ok-take_deletion.ensures.site ∙ c.loop-e.invariant.site;
-        spare = omega (arith, ap (λ (d : Desk). size d.set) w.self-is, ap (λ (d : Desk). d.spare) w.self-is, w.take_deletion.ensures.spare, c.loop-e.invariant.spare);
-        told = tells_more c.args.self.now.set u v (g.L.Listener.told c.args.listener.now) (g.L.Listener.told c.loop-e.listener) (g.L.Listener.told c.if-e.listener) c.loop-e.invariant.told (rw (w.self-is, w.listener-is) w.take_deletion.ensures.told);
-        seen = omega (arith, ap (λ (d : Desk). seen_count d.set) w.self-is, ap (λ l. told_count (g.L.Listener.told l)) w.listener-is, w.take_deletion.ensures.seen, c.loop-e.invariant.seen);
-      }
-      | else-e w ↦ record {
-        taken = next (ap (λ (d : Desk). d.set) w.self-is ∙ ap (with_operations u) (ap (each Erase) (sym (hidden_none e w.if-e.false))));
-        site = ap (λ (d : Desk). d.site) w.self-is ∙ c.loop-e.invariant.site;
-        spare = omega (arith, ap (λ (d : Desk). size d.set) w.self-is, ap (λ (d : Desk). d.spare) w.self-is, c.loop-e.invariant.spare);
-        told = rw (w.self-is, w.listener-is) c.loop-e.invariant.told;
-        seen = omega (arith, ap (λ (d : Desk). seen_count d.set) w.self-is, ap (λ l. told_count (g.L.Listener.told l)) w.listener-is, c.loop-e.invariant.seen);
-      }
-    ]
+    let u = c.erase_element.new.self.set in
+    record {
+      grown = desk_then c.args.self.now c.loop-e.self c.erase_element.new.self (deletions_in c.args.row.now) (deletions_in (c.e-item.result ∷ [])) (deletions_in c.args.row.now) c.loop-e.invariant.grown c.erase_element.ensures.grown
+          (listed_alike (deletions_in c.args.row.now)) (one_listed deletions_in deletions-append c.args.row.now c.loop-e.e-index c.e-item.result c.loop-e-test.true c.e-item.is);
+      insertions = c.erase_element.ensures.insertions ∙ c.loop-e.invariant.insertions;
+      done = All-more (IsErasedIn u) c.args.row.now c.loop-e.e-index c.e-item.result c.loop-e-test.true
+          (λ k d within. erased_more c.loop-e.self.set u (get_or (take c.loop-e.e-index c.args.row.now) k d) c.erase_element.ensures.insertions c.erase_element.ensures.grown.grown.keeps (c.loop-e.invariant.done k d within))
+          (subst (IsErasedIn u) c.e-item.is c.in_ok-erase_element.ensures.ok);
+      heard =
+          heard_more c.args.self.now.set c.loop-e.self.set c.erase_element.new.self.set (g.L.Listener.told c.args.listener.now) (g.L.Listener.told c.loop-e.listener) (g.L.Listener.told c.erase_element.new.listener)
+          (g.L.Listener.capacity c.args.listener.now) (g.L.Listener.capacity c.loop-e.listener) (g.L.Listener.capacity c.erase_element.new.listener) c.loop-e.invariant.heard c.erase_element.ensures.heard
+          (stays_old c.args.self.now.set c.loop-e.self.set c.erase_element.new.self.set (shows_erased c.args.self.now.set c.loop-e.self.set c.loop-e.invariant.insertions c.loop-e.invariant.grown.grown.keeps));
+    }
 
-pub returns-in_err-take_deletion-clause-spare : goal.returns-in_err-take_deletion-clause-spare
-returns-in_err-take_deletion-clause-spare g c = omega (arith, c.take_deletion.ensures.spare, c.loop-e.invariant.spare)
-
-pub returns-clause-spare : goal.returns-clause-spare
-returns-clause-spare g c = c.loop-e.invariant.spare
-
-pub returns-in_err-take_deletion-clause-told : goal.returns-in_err-take_deletion-clause-told
-returns-in_err-take_deletion-clause-told g c = tells_more c.args.self.now.set c.loop-e.self.set c.take_deletion.new.self.set (g.L.Listener.told c.args.listener.now) (g.L.Listener.told c.loop-e.listener) (g.L.Listener.told c.take_deletion.new.listener) c.loop-e.invariant.told c.take_deletion.ensures.told
-
-pub returns-in_err-take_deletion-clause-seen : goal.returns-in_err-take_deletion-clause-seen
-returns-in_err-take_deletion-clause-seen g c = omega (arith, c.take_deletion.ensures.seen, c.loop-e.invariant.seen)
-
-pub returns-clause-told : goal.returns-clause-told
-returns-clause-told g c = c.loop-e.invariant.told
-
-pub returns-clause-seen : goal.returns-clause-seen
-returns-clause-seen g c = c.loop-e.invariant.seen
+pub returns-clause-ok : goal.returns-clause-ok
+returns-clause-ok g c = all_done (IsErasedIn c.loop-e.self.set) c.args.row.now c.loop-e.e-index (let done = c.loop-e-test.false in omega (arith, done)) c.loop-e.invariant.done

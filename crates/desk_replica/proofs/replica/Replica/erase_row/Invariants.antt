@@ -1,17 +1,15 @@
 -- What stays true in the loop of `erase_row`.
-use Rattle.std.proofs.Common.{◌≡◌, ◌≤◌, ◌+◌, take}
-use Rattle.bg_types.specs.OperationSet.{size}
+use Rattle.std.proofs.Common.{◌≡◌, take}
+use Rattle.std.specs.Prelude.{All}
 use Rattle.desk_replica.specs.Told.{deletions_in}
-use Rattle.desk_replica.specs.Merging.{with_operations}
-use Rattle.desk_replica.specs.Listening.{Tells, told_count}
-use Rattle.desk_replica.specs.Telling.{seen_count}
+use Rattle.desk_replica.specs.Listening.{IsHeard}
+use Rattle.desk_replica.specs.Merging.{IsErasedIn, IsGrown}
 use Rattle.desk_replica.proofs.replica.Replica.erase_row.Given as goal
 
 abbrev pub invariant-loop-e : goal.invariant-loop-e
 invariant-loop-e g l = record {
-  taken : l.self.set ≡ with_operations l.fn.self.set (deletions_in (take l.e-index l.row));
-  site : l.self.site ≡ l.fn.self.site;
-  spare : size l.fn.self.set + l.fn.self.spare ≤ size l.self.set + l.self.spare;
-  told : Tells l.fn.self.set l.self.set (g.L.Listener.told l.fn.listener) (g.L.Listener.told l.listener);
-  seen : told_count (g.L.Listener.told l.listener) + seen_count l.fn.self.set ≤ told_count (g.L.Listener.told l.fn.listener) + seen_count l.self.set;
+  grown : IsGrown l.fn.self (deletions_in l.row) l.self;
+  insertions : l.self.set.ins ≡ l.fn.self.set.ins;
+  done : All (IsErasedIn l.self.set) (take l.e-index l.row);
+  heard : IsHeard l.fn.self.set l.self.set (g.L.Listener.told l.fn.listener) (g.L.Listener.told l.listener) (g.L.Listener.capacity l.fn.listener) (g.L.Listener.capacity l.listener);
 }

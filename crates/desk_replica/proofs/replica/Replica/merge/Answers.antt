@@ -4,4 +4,4 @@ use Rattle.std.proofs.Common.{inl, inr}
 use Rattle.desk_replica.proofs.replica.Replica.merge.Goals as goal
 
 pub returns-clause-unpaid : goal.returns-clause-unpaid
-returns-clause-unpaid g c = IfErr-weaker c.merge_to.result _ _ (λ fault h is. elim (h is) [ inl low ↦ low | inr never ↦ absurd never ]) c.merge_to.ensures.unpaid
+returns-clause-unpaid g c = c.merge_to.ensures.unpaid tt

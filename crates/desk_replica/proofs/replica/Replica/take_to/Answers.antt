@@ -10,14 +10,14 @@ use Rattle.desk_replica.specs.Placement.{IsCounted, IsDesk, whole}
 use Rattle.desk_replica.specs.Reply.{IsAdmitted, IsHiding, IsRefusal, IsTaken}
 use Rattle.desk_replica.specs.declared.answer.TakeFault.{TakeFault}
 use Rattle.desk_replica.specs.declared.answer.TakeFault.TheVariants.{Full}
-use Rattle.desk_replica.specs.Listening.{IsBounded, Tells, told_count}
-use Rattle.desk_replica.specs.Telling.{IsUntaken, seen_count}
-use Rattle.rga_tree.specs.Parts.{IsPartOf}
-use Rattle.desk_replica.proofs.Tellings.{tells_nothing, seen_taken}
+use Rattle.desk_replica.specs.Listening.{HasRoom, HasRoomFor, IsHeard}
+use Rattle.desk_replica.specs.Telling.{IsUntaken, ShowsAll, seen_count, waiting_count}
+use Rattle.desk_replica.proofs.Tellings.{part_with, shows_same}
+use Rattle.desk_replica.proofs.Hearing.{heard_nothing, none_or_short, room_waiting, room_whole, seen_taken, shows_inserted}
 use Rattle.desk_replica.proofs.Settled.{whole_formed}
 use Rattle.rga_tree.proofs.Interface.{AllWellFormed-with}
 use Rattle.desk_replica.proofs.Admitting.{whole_as}
-use Rattle.desk_replica.proofs.Desks.{IsDesk-more, desk_limited, desk_same}
+use Rattle.desk_replica.proofs.Desks.{IsDesk-more, desk_limited, desk_same, well_formed_desk}
 use Rattle.desk_replica.proofs.Refusals.{known_accepted, admitted_accepted}
 use Rattle.desk_replica.proofs.replica.Replica.take_to.Goals as goal
 
@@ -137,49 +137,101 @@ returns-in-Err-clause-spare g c =
     c.in-Err.ensures.content c.in-Err.ensures.held c.in-Err.ensures.same c.self.view_is in
     omega (arith, ap (λ (d : Desk). size d.set) same, ap (λ (d : Desk). d.spare) same)
 
-pub returns-in-Err-clause-memory : goal.returns-in-Err-clause-memory
-returns-in-Err-clause-memory g c = λ _. subst (λ (d : Desk). (¬ (IsHiding d.set c.args.op.now)) ⊎ IsBounded (g.L.Listener.room c.admit.new.listener)) c.self.view_is c.in-Err.ensures.memory
-
 pub returns-in-Err-clause-unpaid : goal.returns-in-Err-clause-unpaid
-returns-in-Err-clause-unpaid g c = λ _. elim c.in-Err.ensures.unpaid [ inl none ↦ inl (omega (arith, none, c.in-Err.ensures.same)) | inr bounded ↦ inr bounded ]
+returns-in-Err-clause-unpaid g c = λ memory room.
+    let t = g.S.Sequence.content c.self.inside.seq in
+    let w = c.self.inside.held in
+    let told = g.L.Listener.told c.args.listener.now in
+    let capacity = g.L.Listener.capacity c.args.listener.now in
+    let whole_room = subst (λ (d : Desk). HasRoomFor told capacity d.set c.args.op.now) (sym c.self.view_is) room in
+    let h = c.in-Err.ensures.unpaid (room_whole told capacity t w c.self.invariant.settled c.args.op.now whole_room) in
+    (sym (ap (λ (d : Desk). d.spare) c.self.view_is) ∙ h.0, subst (λ (d : Desk). ¬ (IsHiding d.set c.args.op.now)) c.self.view_is h.1)
+
+pub returns-in-Err-clause-short : goal.returns-in-Err-clause-short
+returns-in-Err-clause-short g c = λ memory.
+    let t = g.S.Sequence.content c.self.inside.seq in
+    let w = c.self.inside.held in
+    let told = g.L.Listener.told c.args.listener.now in
+    let capacity = g.L.Listener.capacity c.args.listener.now in
+    none_or_short c.args.self.now.spare (HasRoom told capacity (waiting_count c.args.self.now.set + 1)) (λ room.
+    let waiting_room = subst (λ (d : Desk). HasRoom told capacity (waiting_count d.set + 1)) (sym c.self.view_is) room in
+    sym (ap (λ (d : Desk). d.spare) c.self.view_is)
+    ∙ (c.in-Err.ensures.unpaid (room_waiting told capacity t w c.self.invariant.settled (record { well = g.met.S.Sequence.well_formed c.self.inside.seq; tree = g.met.S.Sequence.is_tree c.self.inside.seq; only = g.met.S.Sequence.only_placed c.self.inside.seq }) c.args.op.now waiting_room)).0)
 
 -- ---- what is told
 
-pub returns-in-Known-clause-told : goal.returns-in-Known-clause-told
-returns-in-Known-clause-told g c = let told = g.L.Listener.told c.args.listener.now in tells_nothing c.args.self.now.set c.args.self.now.set told told refl refl
+pub returns-in-Known-clause-heard : goal.returns-in-Known-clause-heard
+returns-in-Known-clause-heard g c =
+    let s = c.args.self.now.set in
+    let told = g.L.Listener.told c.args.listener.now in
+    let capacity = g.L.Listener.capacity c.args.listener.now in
+    heard_nothing s s told told capacity capacity
+    (well_formed_desk (g.S.Sequence.content c.self.inside.seq) c.self.inside.held c.self.inside.site c.self.inside.spare c.args.self.now (record { well = g.met.S.Sequence.well_formed c.self.inside.seq; tree = g.met.S.Sequence.is_tree c.self.inside.seq; only = g.met.S.Sequence.only_placed c.self.inside.seq }) c.self.invariant.settled c.self.view_is)
+    refl refl (omega arith)
 
-pub returns-in-Reused-clause-told : goal.returns-in-Reused-clause-told
-returns-in-Reused-clause-told g c = let told = g.L.Listener.told c.args.listener.now in tells_nothing c.args.self.now.set c.args.self.now.set told told refl refl
+pub returns-in-Reused-clause-heard : goal.returns-in-Reused-clause-heard
+returns-in-Reused-clause-heard g c =
+    let s = c.args.self.now.set in
+    let told = g.L.Listener.told c.args.listener.now in
+    let capacity = g.L.Listener.capacity c.args.listener.now in
+    heard_nothing s s told told capacity capacity
+    (well_formed_desk (g.S.Sequence.content c.self.inside.seq) c.self.inside.held c.self.inside.site c.self.inside.spare c.args.self.now (record { well = g.met.S.Sequence.well_formed c.self.inside.seq; tree = g.met.S.Sequence.is_tree c.self.inside.seq; only = g.met.S.Sequence.only_placed c.self.inside.seq }) c.self.invariant.settled c.self.view_is)
+    refl refl (omega arith)
 
-pub returns-then-self-ge-LIMIT-clause-told : goal.returns-then-self-ge-LIMIT-clause-told
-returns-then-self-ge-LIMIT-clause-told g c = let told = g.L.Listener.told c.args.listener.now in tells_nothing c.args.self.now.set c.args.self.now.set told told refl refl
+pub returns-then-self-ge-LIMIT-clause-heard : goal.returns-then-self-ge-LIMIT-clause-heard
+returns-then-self-ge-LIMIT-clause-heard g c =
+    let s = c.args.self.now.set in
+    let told = g.L.Listener.told c.args.listener.now in
+    let capacity = g.L.Listener.capacity c.args.listener.now in
+    heard_nothing s s told told capacity capacity
+    (well_formed_desk (g.S.Sequence.content c.self.inside.seq) c.self.inside.held c.self.inside.site c.self.inside.spare c.args.self.now (record { well = g.met.S.Sequence.well_formed c.self.inside.seq; tree = g.met.S.Sequence.is_tree c.self.inside.seq; only = g.met.S.Sequence.only_placed c.self.inside.seq }) c.self.invariant.settled c.self.view_is)
+    refl refl (omega arith)
 
-pub returns-in-Ok-clause-told : goal.returns-in-Ok-clause-told
-returns-in-Ok-clause-told g c =
-    let after = whole (g.S.Sequence.content c.admit.new.seq) c.admit.new.held in
-    subst (λ (d : Desk). Tells d.set after (g.L.Listener.told c.args.listener.now) (g.L.Listener.told c.admit.new.listener)) c.self.view_is c.admit.ensures.told
-
-pub returns-in-Err-clause-told : goal.returns-in-Err-clause-told
-returns-in-Err-clause-told g c =
-    let after = whole (g.S.Sequence.content c.admit.new.seq) c.admit.new.held in
-    subst (λ (d : Desk). Tells d.set after (g.L.Listener.told c.args.listener.now) (g.L.Listener.told c.admit.new.listener)) c.self.view_is c.admit.ensures.told
-
-pub returns-in-Ok-clause-seen : goal.returns-in-Ok-clause-seen
-returns-in-Ok-clause-seen g c =
+pub returns-in-Ok-clause-heard : goal.returns-in-Ok-clause-heard
+returns-in-Ok-clause-heard g c =
     let t = g.S.Sequence.content c.self.inside.seq in
     let w = c.self.inside.held in
     let s = whole t w in
+    let after = whole (g.S.Sequence.content c.admit.new.seq) c.admit.new.held in
     let op = c.args.op.now in
     let settled = c.self.invariant.settled in
     let formed = whole_formed t w.held (g.met.S.Sequence.well_formed c.self.inside.seq) settled.well_formed (g.met.S.Sequence.is_tree c.self.inside.seq) (g.met.S.Sequence.only_placed c.self.inside.seq) settled.parted in
-    let part : IsPartOf s (with_operation s op) = λ x h. (Holds-with_operation s op x c.in-New.ensures.0).1 (inr h) in
-    let seen = seen_taken s op c.in-Ok.taken (AllWellFormed-with s op formed c.counter_of.ensures.well_formed) part c.in-Ok.ensures.answer in
-    let old = ap (λ (d : Desk). seen_count d.set) c.self.view_is in
+    let seen = seen_taken s op c.in-Ok.taken (AllWellFormed-with s op formed c.counter_of.ensures.well_formed) (part_with s (with_operation s op) op c.in-New.ensures.0 refl) c.in-Ok.ensures.answer in
     let new = ap seen_count c.in-Ok.ensures.ok in
-    omega (arith, seen, c.in-Ok.ensures.few, old, new)
+    subst (λ (d : Desk). IsHeard d.set after (g.L.Listener.told c.args.listener.now) (g.L.Listener.told c.admit.new.listener) (g.L.Listener.capacity c.args.listener.now) (g.L.Listener.capacity c.admit.new.listener)) c.self.view_is
+    (record { tells = c.admit.ensures.told; few = omega (arith, seen, c.in-Ok.ensures.few, new); capacity = c.admit.ensures.capacity })
 
-pub returns-in-Err-clause-seen : goal.returns-in-Err-clause-seen
-returns-in-Err-clause-seen g c =
+pub returns-in-Err-clause-heard : goal.returns-in-Err-clause-heard
+returns-in-Err-clause-heard g c =
+    let s = c.args.self.now.set in
+    let after = whole (g.S.Sequence.content c.admit.new.seq) c.admit.new.held in
     let same = desk_same (g.S.Sequence.content c.self.inside.seq) (g.S.Sequence.content c.admit.new.seq) c.self.inside.held c.admit.new.held c.self.inside.site c.self.inside.spare c.admit.new.spare c.args.self.now
     c.in-Err.ensures.content c.in-Err.ensures.held c.in-Err.ensures.same c.self.view_is in
-    omega (arith, ap (λ (d : Desk). seen_count d.set) same, ap told_count c.in-Err.ensures.untold)
+    heard_nothing s after (g.L.Listener.told c.args.listener.now) (g.L.Listener.told c.admit.new.listener) (g.L.Listener.capacity c.args.listener.now) (g.L.Listener.capacity c.admit.new.listener)
+    (well_formed_desk (g.S.Sequence.content c.self.inside.seq) c.self.inside.held c.self.inside.site c.self.inside.spare c.args.self.now (record { well = g.met.S.Sequence.well_formed c.self.inside.seq; tree = g.met.S.Sequence.is_tree c.self.inside.seq; only = g.met.S.Sequence.only_placed c.self.inside.seq }) c.self.invariant.settled c.self.view_is)
+    (ap (λ (d : Desk). d.set) same) c.in-Err.ensures.untold c.admit.ensures.capacity
+
+-- ---- what stays shown
+
+pub returns-in-Known-clause-shows : goal.returns-in-Known-clause-shows
+returns-in-Known-clause-shows g c = λ no id h. h
+
+pub returns-in-Reused-clause-shows : goal.returns-in-Reused-clause-shows
+returns-in-Reused-clause-shows g c = λ no id h. h
+
+pub returns-then-self-ge-LIMIT-clause-shows : goal.returns-then-self-ge-LIMIT-clause-shows
+returns-then-self-ge-LIMIT-clause-shows g c = λ no id h. h
+
+pub returns-in-Ok-clause-shows : goal.returns-in-Ok-clause-shows
+returns-in-Ok-clause-shows g c = λ no.
+    let t = g.S.Sequence.content c.self.inside.seq in
+    let w = c.self.inside.held in
+    let s = whole t w in
+    let after = whole (g.S.Sequence.content c.admit.new.seq) c.admit.new.held in
+    subst (λ (d : Desk). ShowsAll d.set after) c.self.view_is (shows_inserted s after c.args.op.now c.admit.ensures.told.are_steps.well_formed c.in-New.ensures.0 no c.in-Ok.ensures.ok)
+
+pub returns-in-Err-clause-shows : goal.returns-in-Err-clause-shows
+returns-in-Err-clause-shows g c = λ no.
+    let same = desk_same (g.S.Sequence.content c.self.inside.seq) (g.S.Sequence.content c.admit.new.seq) c.self.inside.held c.admit.new.held c.self.inside.site c.self.inside.spare c.admit.new.spare c.args.self.now
+    c.in-Err.ensures.content c.in-Err.ensures.held c.in-Err.ensures.same c.self.view_is in
+    shows_same c.args.self.now.set (whole (g.S.Sequence.content c.admit.new.seq) c.admit.new.held) (ap (λ (d : Desk). d.set) same)
