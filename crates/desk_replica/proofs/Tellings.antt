@@ -263,12 +263,10 @@ pub told_change : (s t : OperationSet) (old new : List Change) → IsTold s t ol
 told_change s t old new h =
     subst (λ l. IsEdit (text s) l (text t)) (sym (ap (drop (length old)) h.appended ∙ behind old (changes_of t (is_shown s) h.steps))) (told_edit s t h.steps h.are_steps)
 
-pub told_in_turn : (s t u : OperationSet) (a b c : List Change) → IsTold s t a b → IsTold t u b c → IsEdit (text s) (drop (length a) c) (text u)
-told_in_turn s t u a b c first second =
-    let xs = changes_of t (is_shown s) first.steps in
-    let ys = changes_of u (is_shown t) second.steps in
-    subst (λ l. IsEdit (text s) l (text u)) (sym (ap (drop (length a)) (second.appended ∙ ap (λ l. l ++ ys) first.appended ∙ append_assoc a xs ys) ∙ behind a (xs ++ ys)))
-    (edit_both (text s) (text t) (text u) xs ys (told_edit s t first.steps first.are_steps) (told_edit t u second.steps second.are_steps))
+pub told_in_turn : (start : List ℕ) (s t : OperationSet) (old new : List Change) → IsEdit start old (text s) → IsTold s t old new → IsEdit start new (text t)
+told_in_turn start s t old new first h =
+    let xs = changes_of t (is_shown s) h.steps in
+    subst (λ l. IsEdit start l (text t)) (sym h.appended) (edit_both start (text s) (text t) old xs first (told_edit s t h.steps h.are_steps))
 
 -- a fresh desk shows nothing
 pub text-nothing : text no_operations ≡ []

@@ -93,14 +93,14 @@ pub fn stretches()
         → deletions s place (count + 1) ≡ Erase target ∷ deletions (with_operation s (Erase target)) place count }
 {}
 
-/// Told changes are the change: made one after the other on the text before, they give the text after; so do those of
-/// calls in turn. They are as many as there are elements that only one of the two texts shows. What is told of a fresh desk
+/// Told changes are the change: made one after the other on the text before, they give the text after; and behind changes
+/// that gave the text before, they give the text after with those. They are as many as there are elements that only one of the two texts shows. What is told of a fresh desk
 /// from its first call on makes its text of nothing.
 pub fn told_changes()
     ensures change { (s t : OperationSet) (old new : List Change) → IsTold s t old new
         → IsEdit (text s) (drop (length old) new) (text t) }
-    ensures in_turn { (s t u : OperationSet) (a b c : List Change) → IsTold s t a b → IsTold t u b c
-        → IsEdit (text s) (drop (length a) c) (text u) }
+    ensures in_turn { (start : List ℕ) (s t : OperationSet) (old new : List Change) → IsEdit start old (text s)
+        → IsTold s t old new → IsEdit start new (text t) }
     ensures count { (s t : OperationSet) (old new : List Change) → IsTold s t old new
         → length new ≡ length old + change_count s t }
     ensures fresh { (s : OperationSet) (told : List Change) → IsTold no_operations s [] told → IsEdit [] told (text s) }
