@@ -1,19 +1,11 @@
 -- Rows of blocks of elements.
-use Rattle.std.specs.Prelude.{◌≡◌, ◌+◌, ◌<◌, ◌≤◌, ◌&&◌, ℕ, Bool, true, false, not, List, [], ◌∷◌, length, filter, take, drop, slice_get, get_or, Some}
+use Rattle.std.specs.Prelude.{◌≡◌, ◌+◌, ◌<◌, ◌≤◌, ◌&&◌, ℕ, Bool, true, not, List, length, take, drop, get_or}
 use Rattle.std.specs.List.{list_all, list_any, flat_map, prefix_len}
 use Rattle.std.specs.Ordering.{is_lt}
 use Rattle.std.proofs.Props.{props}
 use Rattle.bg_types.specs.Identifier.{Identifier, id_cmp, same_id}
 use Rattle.rga_tree.specs.declared.element.Element.{Element}
-
--- how many elements are visible
-abbrev pub seen : List Element → ℕ
-seen es = length (filter (λ e. not e.hidden) es)
-
--- how many elements of all blocks are visible
-abbrev pub seen_all : List (List Element) → ℕ
-seen_all [] = 0
-seen_all (b ∷ bs) = seen b + seen_all bs
+pub use Rattle.rga_tree.specs.Spot.{seen, seen_all, IsVisiblePlace}
 
 -- the elements of all blocks, in order
 abbrev pub joined : List (List Element) → List Element
@@ -26,12 +18,6 @@ offset bs b j = length (joined (take b bs)) + j
 -- where the first stands that isn't greater, from element j of block b on
 abbrev pub sought : Identifier → List (List Element) → ℕ → ℕ → ℕ
 sought id bs b j = let start = offset bs b j in start + prefix_len (λ e. is_lt (id_cmp id e.id)) (drop start (joined bs))
-
--- element j of block b is e, which is visible, and k visible elements stand before it
-pub record IsVisiblePlace (bs : List (List Element)) (k b j : ℕ) (e : Element) : Type 0 where
-  pub there : slice_get (get_or bs b []) j ≡ Some e
-  pub visible : e.hidden ≡ false
-  pub before : seen_all (take b bs) + seen (take j (get_or bs b [])) ≡ k
 
 -- this many looks find visible element k, which is e: the place of its block plus its place there, both from 1
 abbrev pub FindsBy : List (List Element) → ℕ → Element → ℕ → Type 0

@@ -9,7 +9,7 @@ ghost use Rattle.rga_tree.specs.TextOf.{visible, visible_ids, text};
 ghost use Rattle.rga_tree.specs.Elements.{elements};
 ghost use Rattle.rga_tree.specs.Row.{operations_of};
 ghost use Rattle.rga_tree.specs.KeepsWalk.{KeepsWalk, KeepsWalk-prop};
-ghost use Rattle.rga_sequence.specs.Blocks.{seen, FindsBy};
+ghost use Rattle.rga_sequence.specs.Blocks.{seen, FindsBy, IsVisiblePlace};
 ghost use Rattle.rga_sequence.specs.Few.{few_items};
 ghost use Rattle.rga_sequence.specs.Indexed.{blocks_in, elements_in, IsIndexed, IsIndexed-prop, HasRoom, HasRoom-prop};
 
@@ -17,7 +17,7 @@ use crate::before::count_before;
 use crate::block::{HALF, weight};
 use crate::counted;
 use crate::index::empty;
-use crate::look::{Look, find};
+use crate::look::{Look, find, find_spot};
 use crate::row::{Row, block_at, hide, make_memory, put, spot, stands};
 use bg_types::{Hashed, Id, Keyed, Memory, Place};
 use rga_tree::{Element, Fresh, Sequence};
@@ -200,6 +200,18 @@ impl Sequence for Blocks {
         ensures looks { (e : Element) × FindsBy (⟦<Blocks as Look>⟧.blocks self.old) k e (⟦<Blocks as Look>⟧.looked self.new) }
     {
         self.shown(k).ch
+    }
+
+    fn spot_at(&mut self, k: usize) -> (usize, usize)
+        requires { k < length (visible (⟦<Blocks as Sequence>⟧.content self.old)) }
+        ensures value { (e : Element) × IsVisiblePlace (⟦<Blocks as Sequence>⟧.parts self.new) k result.0 result.1 e }
+        ensures content { ⟦<Blocks as Sequence>⟧.content self.new ≡ ⟦<Blocks as Sequence>⟧.content self.old }
+        ensures room { ⟦<Blocks as Sequence>⟧.free self.new ≡ ⟦<Blocks as Sequence>⟧.free self.old }
+        ensures looks { ⟦<Blocks as Look>⟧.looked self.new ≡ (result.0 + 1) + (result.1 + 1) }
+    {
+        self.looks = 0;
+        let (b, at, _) = find_spot(self, k);
+        (b, at)
     }
 
     fn visible_before(&self, id: Id) -> usize {

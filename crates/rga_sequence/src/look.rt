@@ -2,7 +2,7 @@
 
 ghost use Rattle.std.specs.Prelude.{◌≡◌, ◌+◌, ◌-◌, ◌<◌, ◌≤◌, ◌^◌, ℕ, List, length, take, drop, filter, not, false, slice_get, get_or, [], Some};
 ghost use Rattle.rga_tree.specs.declared.element.Element.{Element};
-ghost use Rattle.rga_sequence.specs.Blocks.{seen, seen_all, joined, FindsBy};
+ghost use Rattle.rga_sequence.specs.Blocks.{seen, seen_all, joined, FindsBy, IsVisiblePlace};
 
 use crate::block::FULL;
 use rga_tree::Element;
@@ -79,9 +79,7 @@ pub trait Look {
     ghost few: { (s : Self) (b : ℕ) → length (get_or (blocks s) b []) ≤ 512 };
 }
 
-/// Visible element k. Looks at the header of each block up to the one in which it stands, and at
-/// each element there up to it: as often as the place of the block and the place of the element in
-/// it together say, both counted from 1.
+/// Visible element k, which `find_spot` finds.
 pub fn find<L: Look>(row: &mut L, k: usize) -> Element
     requires there { k < seen_all (L.blocks row.old) }
     requires room { L.looked row.old + length (L.blocks row.old) + 512 < 2 ^ 64 }
@@ -91,8 +89,23 @@ pub fn find<L: Look>(row: &mut L, k: usize) -> Element
     ensures content { L.blocks row.new ≡ L.blocks row.old }
     ensures aside { L.aside row.new ≡ L.aside row.old }
 {
+    find_spot(row, k).2
+}
+
+/// The block of visible element k, its place there, and the element. Looks at the header of each block up to that one,
+/// and at each element there up to it: as often as the place of the block and the place of the element in it together
+/// say, both counted from 1.
+pub fn find_spot<L: Look>(row: &mut L, k: usize) -> (usize, usize, Element)
+    requires there { k < seen_all (L.blocks row.old) }
+    requires room { L.looked row.old + length (L.blocks row.old) + 512 < 2 ^ 64 }
+    ensures place { IsVisiblePlace (L.blocks row.old) k result.0 result.1 result.2 }
+    ensures looks { L.looked row.new ≡ L.looked row.old + ((result.0 + 1) + (result.1 + 1)) }
+    ensures content { L.blocks row.new ≡ L.blocks row.old }
+    ensures aside { L.aside row.new ≡ L.aside row.old }
+{
     let (b, visible, left) = block_of(row, k);
-    element_of(row, b, visible, left).1
+    let (at, element) = element_of(row, b, visible, left);
+    (b, at, element)
 }
 
 /// The block in which visible element k stands, how many visible ones it has, and how many of them are before it there.

@@ -9,6 +9,7 @@ pub use Rattle.rga_tree.proofs.Placing.{KeepsWalk-nothing, placing, start_within
 pub use Rattle.rga_tree.proofs.Siblings.{less_of, place_behind_sibling}
 pub use Rattle.rga_tree.proofs.Hiding.{hiding}
 pub use Rattle.rga_tree.proofs.Seen.{element_row, visible_row, seen_at, before_elements, before_row}
+pub use Rattle.rga_tree.proofs.VisiblePlaces.{seen-more, visible_at, from_place, shown_elements, place_within}
 pub use Rattle.rga_tree.proofs.Listed.{is_listed, all_listed}
 pub use Rattle.rga_tree.proofs.AttachedWalk.{IsReached, IsAttached-child, all_passing, all_weaker_by, all_attached, all_held, listed-attached}
 pub use Rattle.rga_tree.proofs.WalkDistinct.{AreDistinct-walk, IsDistinct-walked}

@@ -11,6 +11,7 @@ pub mod RowSets
 pub mod Placing
 pub mod Hiding
 pub mod Seen
+pub mod VisiblePlaces
 pub mod Texts
 pub mod Listed
 pub mod AttachedWalk

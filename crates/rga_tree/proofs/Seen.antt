@@ -43,7 +43,7 @@ visible_row row in_order = ap (λ r. length (filter (λ e. not e.hidden) r)) in_
   by_walk (e ∷ es) = elim (is_erased (operations_of row) e.0) as (λ b. length (cond (not b) (element_of (operations_of row) e ∷ filter (λ e. not e.hidden) (each (element_of (operations_of row)) es)) (filter (λ e. not e.hidden) (each (element_of (operations_of row)) es))) ≡ length (cond (not b) (e ∷ filter (λ e. not (is_erased (operations_of row) e.0)) es) (filter (λ e. not (is_erased (operations_of row) e.0)) es))) [ true ↦ by_walk es | false ↦ ap suc (by_walk es) ]
 
 -- the visible elements of a row are those of the walk
-filter_seen : (s : OperationSet) (es : List Entry) → filter (λ e. not e.hidden) (each (element_of s) es) ≡ each (element_of s) (filter (λ e. not (is_erased s e.0)) es)
+pub filter_seen : (s : OperationSet) (es : List Entry) → filter (λ e. not e.hidden) (each (element_of s) es) ≡ each (element_of s) (filter (λ e. not (is_erased s e.0)) es)
 filter_seen s [] = refl
 filter_seen s (e ∷ es) =
     elim (is_erased s e.0) as (λ b. cond (not b) (element_of s e ∷ filter (λ e. not e.hidden) (each (element_of s) es)) (filter (λ e. not e.hidden) (each (element_of s) es)) ≡ each (element_of s) (cond (not b) (e ∷ filter (λ e. not (is_erased s e.0)) es) (filter (λ e. not (is_erased s e.0)) es))) [

@@ -6,6 +6,7 @@ pub mod Tree
 pub mod AllWellFormed
 pub mod Elements
 pub mod Row
+pub mod Spot
 pub mod KeepsWalk
 pub mod Examples
 pub mod Leaf

@@ -16,6 +16,9 @@ entry_of e = (e.id, record { parent = e.parent; ch = e.ch })
 abbrev pub hidden_ids : List Element → List Identifier
 hidden_ids row = each (λ e. e.id) (filter (λ e. e.hidden) row)
 
+abbrev pub shown_ids : List Element → List Identifier
+shown_ids row = each (λ e. e.id) (filter (λ e. not e.hidden) row)
+
 -- the characters of the visible elements
 abbrev pub shown_of : List Element → List ℕ
 shown_of row = each (λ e. e.ch) (filter (λ e. not e.hidden) row)

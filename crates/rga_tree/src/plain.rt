@@ -9,6 +9,8 @@ ghost use Rattle.bg_types.specs.OperationSet.{no_operations};
 ghost use Rattle.rga_tree.specs.TextOf.{visible, visible_ids, text};
 ghost use Rattle.rga_tree.specs.Row.{operations_of, start_of, place_of};
 ghost use Rattle.rga_tree.specs.KeepsWalk.{KeepsWalk, KeepsWalk-prop};
+ghost use Rattle.rga_tree.specs.Spot.{seen, IsVisiblePlace};
+ghost use Rattle.rga_tree.specs.declared.element.Element.{Element as Shown};
 
 use crate::element::{Element, greater_in_front};
 use crate::sequence::{Fresh, Sequence};
@@ -82,6 +84,10 @@ impl Sequence for Plain {
 
     fn char_at(&mut self, k: usize) -> char {
         self.shown(k).ch
+    }
+
+    fn spot_at(&mut self, k: usize) -> (usize, usize) {
+        (0, place_of_visible(&self.row, k))
     }
 
     fn visible_before(&self, id: Id) -> usize {
@@ -197,6 +203,23 @@ fn visible_at(row: &[Element], k: usize) -> Option<Element>
         }
     }
     None
+}
+
+/// How many elements stand before visible element k.
+fn place_of_visible(row: &[Element], k: usize) -> usize
+    requires { k < seen row.now }
+    ensures { (e : Shown) × IsVisiblePlace (row.now ∷ []) k 0 result e }
+{
+    let mut left = k;
+    for at in 0..row.len() {
+        if !row[at].hidden {
+            if left == 0 {
+                return at;
+            }
+            left -= 1;
+        }
+    }
+    unreachable!()
 }
 
 fn contains(row: &[Element], id: Id) -> bool

@@ -12,6 +12,7 @@ ghost use Rattle.rga_tree.specs.declared.element.Element.{Element};
 ghost use Rattle.rga_tree.specs.TextOf.{visible, visible_ids, visible_before, text};
 ghost use Rattle.rga_tree.specs.Tree.{stands_in, IsTree, OnlyErasesPlaced};
 ghost use Rattle.rga_tree.specs.Elements.{elements, element_of, with_element};
+ghost use Rattle.rga_tree.specs.Spot.{IsVisiblePlace};
 
 use crate::element::Element;
 use crate::shown::{PIECE_BYTES, push_shown};
@@ -30,8 +31,8 @@ pub trait Sequence {
     /// The elements in parts, each in one piece of memory.
     ghost parts: { Self → List (List Element) };
 
-    /// How often it was looked at in search of a visible element, where that is counted. Only `id_at` and
-    /// `char_at` change the number.
+    /// How often it was looked at in search of a visible element, where that is counted. Only `id_at`, `char_at` and
+    /// `spot_at` change the number.
     ghost looked: { Self → ℕ } = { λ _. 0 };
 
     /// Makes room for n placings (at most 4,000,000). If memory is refused, content and room
@@ -83,6 +84,14 @@ pub trait Sequence {
     fn char_at(&mut self, k: usize) -> char
         requires { k < length (visible (content self.old)) }
         ensures value { slice_get (text (content self.old)) k ≡ Some result }
+        ensures content { content self.new ≡ content self.old }
+        ensures room { free self.new ≡ free self.old };
+
+    /// Where visible element k stands: its part, and its place there. To read from it on, read the rest of that part,
+    /// and then part after part.
+    fn spot_at(&mut self, k: usize) -> (usize, usize)
+        requires { k < length (visible (content self.old)) }
+        ensures value { (e : Element) × IsVisiblePlace (parts self.new) k result.0 result.1 e }
         ensures content { content self.new ≡ content self.old }
         ensures room { free self.new ≡ free self.old };
 
