@@ -4,7 +4,7 @@ use Rattle.std.specs.Prelude.{All, slice_get, filter}
 use Rattle.std.specs.FinMap as map
 use Rattle.std.proofs.lemmas.List.Elements.{All-nil, All-cons, All-head}
 use Rattle.bg_types.specs.Identifier.{Identifier}
-use Rattle.bg_types.specs.OperationSet.{OperationSet, Holds, MayJoin, named_counters, parent_counters, next, with_operation}
+use Rattle.bg_types.specs.OperationSet.{Node, OperationSet, Holds, MayJoin, named_counters, parent_counters, next, with_operation}
 use Rattle.bg_types.specs.declared.op.Place.TheVariants.{Root}
 use Rattle.bg_types.specs.declared.op.OpView.{OpView}
 use Rattle.bg_types.specs.declared.op.OpView.TheVariants.{Insert, Erase}
@@ -14,14 +14,20 @@ use Rattle.rga_tree.specs.TextOf.{visible, visible_ids, is_erased}
 use Rattle.rga_tree.proofs.Interface.{Entry, all_held, all_passing, all_weaker_by}
 use Rattle.desk_replica.proofs.Lists.{all_at, slice_get-from}
 
--- what is visible is kept, so its counter is below the next one
-pub visible_below : (s : OperationSet) (k : ℕ) (target : Identifier) → slice_get (visible_ids s) k ≡ Some target → target.counter < next s
-visible_below s k target at =
+-- what is visible is kept
+pub visible_kept : (s : OperationSet) (k : ℕ) (target : Identifier) → slice_get (visible_ids s) k ≡ Some target → (node : Node) × (map.get s.ins target ≡ Some node)
+visible_kept s k target at =
     let f = slice_get-from (λ (x : Entry). x.0) (visible s) k target at in
     let p : Entry → Bool = λ y. not (is_erased s y.0) in
     let kept : map.get s.ins f.0.0 ≡ Some f.0.1 = all_at (λ (y : Entry). map.get s.ins y.0 ≡ Some y.1) (filter p (walk s Root)) k f.0
     (all_passing (λ y. map.get s.ins y.0 ≡ Some y.1) p (walk s Root) (all_weaker_by (λ y. map.get s.ins y.0 ≡ Some y.1) (λ y. p y ≡ true → map.get s.ins y.0 ≡ Some y.1) (walk s Root) (λ y k _. k) (all_held s (map.len s.ins) Root))) f.1.0 in
-    subst (λ (q : Identifier). q.counter < next s) f.1.1 (All-head (λ c. c < next s) f.0.0.counter (parent_counters f.0.1.parent) (next-above s (Insert f.0.0 f.0.1.parent f.0.1.ch) kept))
+    (f.0.1, subst (λ (q : Identifier). map.get s.ins q ≡ Some f.0.1) f.1.1 kept)
+
+-- so its counter is below the next one
+pub visible_below : (s : OperationSet) (k : ℕ) (target : Identifier) → slice_get (visible_ids s) k ≡ Some target → target.counter < next s
+visible_below s k target at =
+    let kept = visible_kept s k target at in
+    All-head (λ c. c < next s) target.counter (parent_counters kept.0.parent) (next-above s (Insert target kept.0.parent kept.0.ch) kept.1)
 
 -- so erasing it leaves the next counter
 pub next_erased : (s : OperationSet) (k : ℕ) (target : Identifier) → slice_get (visible_ids s) k ≡ Some target → next (with_operation s (Erase target)) ≡ next s

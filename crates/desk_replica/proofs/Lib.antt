@@ -40,4 +40,5 @@ pub mod WorldLaws
 pub mod WorldTyped
 pub mod Stretches
 pub mod Ranges
+pub mod Replacing
 pub mod Listing

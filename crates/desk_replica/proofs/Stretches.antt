@@ -1,7 +1,8 @@
 -- Characters are typed, each behind the one before.
-use Rattle.std.proofs.Common.{◌≡◌, ◌≤◌, ◌<◌, ◌+◌, ◌^◌, ◌⊎◌, inl, inr, ℕ, zero, suc, List, [], ◌∷◌, ◌++◌, length, take, drop, Some, refl, sym, ap, subst, ◌∙◌, append_assoc, arith}
+use Rattle.std.proofs.Common.{◌≡◌, ◌≤◌, ◌<◌, ◌+◌, ◌^◌, ◌⊎◌, inl, inr, ℕ, zero, suc, false, true, cond, List, [], ◌∷◌, ◌++◌, length, take, drop, Some, refl, sym, ap, subst, ◌∙◌, append_assoc, is_some, arith}
 use Rattle.std.specs.Prelude.{All, slice_get, insert, encode_utf8, map as each}
 use Rattle.std.specs.Option.{option_map_or}
+use Rattle.std.specs.FinMap as map
 use Rattle.std.specs.List.{AllByRecursion}
 use Rattle.std.specs.Str.{chars, IsUtf8}
 use Rattle.std.proofs.lemmas.Str.{chars_past_char, chars-nil, IsUtf8-past_char}
@@ -9,26 +10,27 @@ use Rattle.std.proofs.lemmas.List.{append-nil, take-append-drop}
 use Rattle.std.proofs.lemmas.List.Elements.{All-nil, All-cons, All-head}
 use Rattle.bg_types.specs.Identifier.{Identifier}
 use Rattle.bg_types.specs.WellFormed.{IsWellFormed, MayFollow}
-use Rattle.bg_types.specs.OperationSet.{OperationSet, Holds, MayJoin, AllWellFormed, named_counters, parent_counters, next, size, with_operation}
+use Rattle.bg_types.specs.OperationSet.{Node, OperationSet, Holds, MayJoin, AllWellFormed, named_counters, parent_counters, next, size, with_operation}
 use Rattle.bg_types.specs.declared.op.Place.{Place}
 use Rattle.bg_types.specs.declared.op.Place.TheVariants.{Root, After}
 use Rattle.bg_types.specs.declared.op.OpView.{OpView}
 use Rattle.bg_types.specs.declared.op.OpView.TheVariants.{Insert}
-use Rattle.bg_types.proofs.Interface.{next-above, next-least, Holds-with_operation, size-with_operation}
+use Rattle.bg_types.proofs.Interface.{id_cmp-total, same_id-itself, next-above, next-least, Holds-with_operation, size-with_operation}
+use Rattle.rga_tree.specs.Tree.{stands_in}
 use Rattle.rga_tree.specs.TextOf.{text, visible, visible_ids}
 use Rattle.rga_tree.proofs.Interface.{Entry, AllWellFormed-with}
-use Rattle.desk_replica.specs.Desk.{Desk}
-use Rattle.desk_replica.specs.declared.answer.TakeFault.{TakeFault}
-use Rattle.desk_replica.specs.declared.answer.TakeFault.TheVariants.{IdentifierReused, Full, Memory}
-use Rattle.desk_replica.specs.Reply.{IsRefused}
+use Rattle.pending_ops.specs.Waiting.{Waiting}
+use Rattle.desk_replica.specs.Placement.{IsSettled, whole}
 use Rattle.desk_replica.specs.Typing.{parent_at}
-use Rattle.desk_replica.specs.Stretch.{next_id, insertions, typed_text}
+use Rattle.desk_replica.specs.Stretch.{next_id, id_after, insertions, typed_text}
 use Rattle.desk_replica.specs.Merging.{with_operations}
+use Rattle.desk_replica.proofs.Admitting.{IsContent}
+use Rattle.desk_replica.proofs.Counters.{newest-is_new, next-with}
+use Rattle.desk_replica.proofs.FirstTurn.{nothing_kept}
 use Rattle.desk_replica.proofs.Leaf.{length-put}
 use Rattle.desk_replica.proofs.Lists.{length-each}
 use Rattle.desk_replica.proofs.Typed.{each-insert}
-use Rattle.desk_replica.proofs.Typing.{new_ins}
-use Rattle.desk_replica.proofs.Whole.{some_not}
+use Rattle.desk_replica.proofs.Typing.{content, parted, same_set}
 use Rattle.desk_replica.proofs.WorldTyped.{visible_typed}
 
 -- ---- a list with one more element at a place
@@ -80,12 +82,6 @@ module _ (s : OperationSet) (id : Identifier) (is : id.counter ≡ next s) (pare
       grown x (inl same) = subst (λ (o : OpView). All (λ c. c < next s + 1) (named_counters o)) (sym same)
           (All-cons (λ c. c < next s + 1) id.counter (parent_counters parent) (omega arith) (parents_below parent follows))
       grown x (inr h) = more (named_counters x) (next-above s x h)
-
-  -- nothing but lack of memory is left to refuse it within the limit
-  pub typed_accepted : (fault : TakeFault) → size s < 1_000_000 → IsRefused s (Insert id parent ch) fault → fault ≡ Memory
-  typed_accepted IdentifierReused few r = some_not r.0 _ (sym (new_ins s id is) ∙ r.1)
-  typed_accepted Full few r = absurd (omega (arith, few, r.2))
-  typed_accepted Memory few r = refl
 
   pub size_typed : size (with_operation s (Insert id parent ch)) ≡ size s + 1
   size_typed = size-with_operation s (Insert id parent ch) new_joins not_held
@@ -147,87 +143,114 @@ module _ (site : ℕ) where
   text_stretch [] s k well le formed = sym (take-append-drop k (text s))
   text_stretch (ch ∷ typed) s k well le formed = one_more s k ch typed well le formed (text_stretch typed (with_operation s (Insert (next_id s site) (parent_at (visible_ids s) k) ch)) (suc k))
 
--- ---- a stretch that is being typed
+-- ---- characters typed into a sequence, each behind the one before
 
-abbrev pub left_of : Desk → Place → List ℕ → List OpView
-left_of d parent chs = insertions (next_id d.set d.site) parent chs
+-- with an identifier above all that are named, nothing is kept at it
+pub newest_absent : (t : OperationSet) (id : Identifier) (parent : Place) (ch : ℕ) → next t ≤ id.counter → map.contains_key t.ins id ≡ false
+newest_absent t id parent ch above =
+    let new = newest-is_new t (Insert id parent ch) above in
+    ap is_some (nothing_kept t id parent ch new.0 new.1)
 
--- a desk that was d is e, made the operations told, and types what is left behind the parent
-pub record IsUnderWay (d e : Desk) (first parent : Place) (made told : List OpView) (all rest : List ℕ) : Type 0 where
+-- and the next one is above all then
+next_above : (t : OperationSet) (id : Identifier) (parent : Place) (ch : ℕ) → next t ≤ id.counter → IsWellFormed (Insert id parent ch) → next (with_operation t (Insert id parent ch)) ≤ id.counter + 1
+next_above t id parent ch above formed = let grown = next-with t (Insert id parent ch) (newest-is_new t (Insert id parent ch) above).0 formed in omega (arith, grown, above)
+
+pub stands_behind : (t : OperationSet) (id : Identifier) (parent : Place) (ch : ℕ) → stands_in (with_operation t (Insert id parent ch)) (After id) ≡ true
+stands_behind t id parent ch =
+    let node : Node = record { parent = parent; ch = ch } in
+    ap is_some (map.get-insert id_cmp-total t.ins id node id) ∙ ap (λ b. is_some (cond b (Some node) (map.get t.ins id))) (same_id-itself id)
+
+-- a sequence that had s and room for some placings has t, and room for those that are left. What was made and what is
+-- told differ by the insertions so far; the rest is typed behind a parent, the next character with this identifier
+pub record IsUnderWay (s t : OperationSet) (first id : Identifier) (front parent : Place) (made told : List OpView) (all rest : List ℕ) (some left : ℕ) : Type 0 where
   pub utf8 : IsUtf8 rest
-  pub told_is : told ++ left_of e parent (chars rest) ≡ made ++ left_of d first (chars all)
-  pub set_is : with_operations e.set (left_of e parent (chars rest)) ≡ with_operations d.set (left_of d first (chars all))
-  pub formed : AllByRecursion IsWellFormed (left_of e parent (chars rest)) → AllByRecursion IsWellFormed (left_of d first (chars all))
-  pub follows : MayFollow parent (next_id e.set e.site)
-  pub counters : next e.set + length (chars rest) ≤ 2 ^ 32
-  pub room : size e.set + length (chars rest) ≤ 1_000_000
-  pub paid : length (chars rest) ≤ e.spare
-  pub site : e.site ≡ d.site
-  pub spare : size d.set + d.spare ≤ size e.set + e.spare
+  pub told_is : told ++ insertions id parent (chars rest) ≡ made ++ insertions first front (chars all)
+  pub set_is : with_operations t (insertions id parent (chars rest)) ≡ with_operations s (insertions first front (chars all))
+  pub formed : AllByRecursion IsWellFormed (insertions id parent (chars rest)) → AllByRecursion IsWellFormed (insertions first front (chars all))
+  pub above : next t ≤ id.counter
+  pub follows : MayFollow parent id
+  pub stands : stands_in t parent ≡ true
+  pub counters : id.counter + length (chars rest) ≤ 2 ^ 32
+  pub room : left + length (chars all) ≡ some + length (chars rest)
+  pub paid : length (chars rest) ≤ left
 
--- one more was typed
-pub record IsTypedOne (e f : Desk) (parent : Place) (told more : List OpView) (ch : ℕ) : Type 0 where
-  pub told_is : more ≡ told ++ Insert (next_id e.set e.site) parent ch ∷ []
-  pub formed : IsWellFormed (Insert (next_id e.set e.site) parent ch)
-  pub set_is : f.set ≡ with_operation e.set (Insert (next_id e.set e.site) parent ch)
-  pub site : f.site ≡ e.site
-  pub spare : size e.set + e.spare ≤ size f.set + f.spare
-
-module _ (d e f : Desk) (first parent : Place) (made told more : List OpView) (all rest after : List ℕ) (ch : ℕ) (now : IsUnderWay d e first parent made told all rest) (is : rest ≡ encode_utf8 ch ++ after)
-    (one : IsTypedOne e f parent told more ch) where
-  abbrev own : Identifier
-  own = next_id e.set e.site
-
+module _ (s t u : OperationSet) (first id : Identifier) (front parent : Place) (made told more : List OpView) (all rest after : List ℕ) (some left fewer : ℕ) (ch : ℕ)
+    (now : IsUnderWay s t first id front parent made told all rest some left) (is : rest ≡ encode_utf8 ch ++ after) where
   rest_is : chars rest ≡ ch ∷ chars after
   rest_is = chars_past_char rest after ch now.utf8 is
-
-  next_is : next f.set ≡ next e.set + 1
-  next_is = ap next one.set_is ∙ next_typed e.set own refl parent ch one.formed.1
-
-  size_is : size f.set ≡ size e.set + 1
-  size_is = ap size one.set_is ∙ size_typed e.set own refl parent ch
-
-  behind_is : left_of e parent (chars rest) ≡ Insert own parent ch ∷ left_of f (After own) (chars after)
-  behind_is = ap (left_of e parent) rest_is ∙ (λ i. Insert own parent ch ∷ insertions (record { counter = sym next_is i; site = sym one.site i }) (After own) (chars after))
 
   pub one_less : length (chars rest) ≡ length (chars after) + 1
   one_less = let l = ap length rest_is in omega (arith, l)
 
-  pub under_way : IsUnderWay d f first (After own) made more all after
-  under_way =
-      let l = ap length rest_is in
-      let later = left_of f (After own) (chars after) in
+  pub under_way : more ≡ told ++ Insert id parent ch ∷ [] → IsWellFormed (Insert id parent ch) → u ≡ with_operation t (Insert id parent ch) → fewer + 1 ≡ left
+      → IsUnderWay s u first (id_after id) front (After id) made more all after some fewer
+  under_way told_is formed set_is room =
+      let later = insertions (id_after id) (After id) (chars after) in
+      let split : insertions id parent (chars rest) ≡ Insert id parent ch ∷ later = ap (insertions id parent) rest_is in
       record {
         utf8 = IsUtf8-past_char rest after ch now.utf8 is;
-        told_is = ap (λ t. t ++ later) one.told_is ∙ append_assoc told (Insert own parent ch ∷ []) later ∙ ap (λ t. told ++ t) (sym behind_is) ∙ now.told_is;
-        set_is = ap (λ s. with_operations s later) one.set_is ∙ ap (with_operations e.set) (sym behind_is) ∙ now.set_is;
-        formed = λ h. now.formed (subst (AllByRecursion IsWellFormed) (sym behind_is) (one.formed, h));
-        follows = (one.formed.0, omega (arith, next_is));
-        counters = omega (arith, l, next_is, now.counters);
-        room = omega (arith, l, size_is, now.room);
-        paid = omega (arith, l, size_is, one.spare, now.paid);
-        site = one.site ∙ now.site;
-        spare = omega (arith, one.spare, now.spare);
+        told_is = ap (λ l. l ++ later) told_is ∙ append_assoc told (Insert id parent ch ∷ []) later ∙ ap (λ l. told ++ l) (sym split) ∙ now.told_is;
+        set_is = ap (λ x. with_operations x later) set_is ∙ ap (with_operations t) (sym split) ∙ now.set_is;
+        formed = λ h. now.formed (subst (AllByRecursion IsWellFormed) (sym split) (formed, h));
+        above = let low = next_above t id parent ch now.above formed in omega (arith, ap next set_is, low);
+        follows = (formed.0, omega arith);
+        stands = ap (λ (x : OperationSet). stands_in x (After id)) set_is ∙ stands_behind t id parent ch;
+        counters = omega (arith, one_less, now.counters);
+        room = omega (arith, one_less, now.room, room);
+        paid = omega (arith, one_less, now.paid, room);
       }
 
 nothing_left : (rest : List ℕ) → length rest ≡ 0 → chars rest ≡ []
 nothing_left [] none = chars-nil
 nothing_left (x ∷ rest) none = absurd (omega (arith, none))
 
-module _ (d e : Desk) (first parent : Place) (made told : List OpView) (all rest : List ℕ) (now : IsUnderWay d e first parent made told all rest) (none : length rest ≡ 0) where
-  nil : left_of e parent (chars rest) ≡ []
-  nil = ap (left_of e parent) (nothing_left rest none)
+module _ (s t : OperationSet) (first id : Identifier) (front parent : Place) (made told : List OpView) (all rest : List ℕ) (some left : ℕ)
+    (now : IsUnderWay s t first id front parent made told all rest some left) (none : length rest ≡ 0) where
+  nil : insertions id parent (chars rest) ≡ []
+  nil = ap (insertions id parent) (nothing_left rest none)
 
-  pub all_told : told ≡ made ++ left_of d first (chars all)
+  pub all_told : told ≡ made ++ insertions first front (chars all)
   all_told = sym (append-nil told) ∙ ap (λ l. told ++ l) (sym nil) ∙ now.told_is
 
-  pub all_set : e.set ≡ with_operations d.set (left_of d first (chars all))
-  all_set = ap (with_operations e.set) (sym nil) ∙ now.set_is
+  pub all_set : t ≡ with_operations s (insertions first front (chars all))
+  all_set = ap (with_operations t) (sym nil) ∙ now.set_is
 
-  pub all_formed : AllByRecursion IsWellFormed (left_of d first (chars all))
+  pub all_formed : AllByRecursion IsWellFormed (insertions first front (chars all))
   all_formed = now.formed (subst (AllByRecursion IsWellFormed) (sym nil) tt)
 
-pub starts_typing : (d : Desk) (first : Place) (made : List OpView) (all : List ℕ) → IsUtf8 all → MayFollow first (next_id d.set d.site) → next d.set + length (chars all) ≤ 2 ^ 32 → size d.set + length (chars all) ≤ 1_000_000
-    → length (chars all) ≤ d.spare → IsUnderWay d d first first made made all all
-starts_typing d first made all utf8 follows counters room paid =
-    record { utf8 = utf8; told_is = refl; set_is = refl; formed = λ h. h; follows = follows; counters = counters; room = room; paid = paid; site = refl; spare = omega arith }
+  pub all_room : left + length (chars all) ≡ some
+  all_room = omega (arith, ap length (nothing_left rest none), now.room)
+
+-- ---- and what they make of a desk
+
+-- the operations, placed in the tree, leave what waits, and are then kept
+pub record IsPlacedAll (t : OperationSet) (w : Waiting) (ops : List OpView) : Type 0 where
+  pub settled : IsSettled (with_operations t ops) w
+  pub whole_is : whole (with_operations t ops) w ≡ with_operations (whole t w) ops
+
+pub typed_whole : (chs : List ℕ) (t : OperationSet) (w : Waiting) (id : Identifier) (parent : Place) → IsContent t → IsSettled t w → id.counter ≡ next (whole t w) → stands_in t parent ≡ true
+    → AllByRecursion IsWellFormed (insertions id parent chs) → IsPlacedAll t w (insertions id parent chs)
+typed_whole [] t w id parent c d is stands formed = record { settled = d; whole_is = refl }
+typed_whole (ch ∷ chs) t w id parent c d is stands formed =
+    let u = with_operation t (Insert id parent ch) in
+    let same : whole u w ≡ with_operation (whole t w) (Insert id parent ch) = same_set t w.held d.well_formed c d.parted id parent ch is formed.0 stands in
+    let du : IsSettled u w = record { parted = parted t w.held d.well_formed c d.parted id parent ch is formed.0 stands; none_released = d.none_released; well_formed = d.well_formed } in
+    let counter : id.counter + 1 ≡ next (whole u w) = let grown = next_typed (whole t w) id is parent ch formed.0.1 in omega (arith, ap next same, grown, is) in
+    let rest = typed_whole chs u w (id_after id) (After id) (content t w.held d.well_formed c d.parted id parent ch is formed.0 stands) du counter (stands_behind t id parent ch) formed.1 in
+    record { settled = rest.settled; whole_is = rest.whole_is ∙ ap (λ s. with_operations s (insertions (id_after id) (After id) chs)) same }
+
+pub typed_size : (chs : List ℕ) (s : OperationSet) (id : Identifier) (parent : Place) → id.counter ≡ next s → AllByRecursion IsWellFormed (insertions id parent chs)
+    → size (with_operations s (insertions id parent chs)) ≡ size s + length chs
+typed_size [] s id parent is formed = omega arith
+typed_size (ch ∷ chs) s id parent is formed =
+    let counter = next_typed s id is parent ch formed.0.1 in
+    let rest = typed_size chs (with_operation s (Insert id parent ch)) (id_after id) (After id) (omega (arith, is, counter)) formed.1 in
+    omega (arith, rest, size_typed s id is parent ch)
+
+pub typed_next : (chs : List ℕ) (s : OperationSet) (id : Identifier) (parent : Place) → id.counter ≡ next s → AllByRecursion IsWellFormed (insertions id parent chs)
+    → next (with_operations s (insertions id parent chs)) ≡ next s + length chs
+typed_next [] s id parent is formed = omega arith
+typed_next (ch ∷ chs) s id parent is formed =
+    let counter = next_typed s id is parent ch formed.0.1 in
+    let rest = typed_next chs (with_operation s (Insert id parent ch)) (id_after id) (After id) (omega (arith, is, counter)) formed.1 in
+    omega (arith, rest, counter)

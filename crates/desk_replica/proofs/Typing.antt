@@ -98,7 +98,7 @@ module _ (t h : OperationSet) (wh : AllWellFormed h) (c : IsContent t) (d : IsPa
   got : (q : Identifier) → map.get u.ins q ≡ cond (same_id q id) (Some node) (map.get t.ins q)
   got q = map.get-insert id_cmp-total t.ins id node q
 
-  content : IsContent u
+  pub content : IsContent u
   content = record {
     well = AllWellFormed-with t (Insert id parent ch) c.well formed;
     tree = IsTree-grown t e c.tree stands;
@@ -112,7 +112,7 @@ module _ (t h : OperationSet) (wh : AllWellFormed h) (c : IsContent t) (d : IsPa
       by None f = f
       by (Some m) f = some_not n _ (sym (d.apart q (ap is_some f)) ∙ k)
 
-  parted : IsParted u h (λ _. false)
+  pub parted : IsParted u h (λ _. false)
   parted = record {
     apart = λ q k. apart q (same_id q id) refl (ap is_some (sym (got q)) ∙ k);
     stands = λ q n k r. absurd (true≢false (sym r));
@@ -132,7 +132,7 @@ module _ (t h : OperationSet) (wh : AllWellFormed h) (c : IsContent t) (d : IsPa
       early q true same k = ap (set.contains h.del) (same_id-is q id same) ∙ unmarked.1
       early q false same k = d.early q k
 
-  same_set : union u h ≡ with_operation s (Insert id parent ch)
+  pub same_set : union u h ≡ with_operation s (Insert id parent ch)
   same_set = same_sets (union u h) (with_operation s (Insert id parent ch))
       (λ q. get-union u h q ∙ ap (λ o. unwrap_first o (map.get h.ins q)) (got q) ∙ by (same_id q id) (map.get t.ins q) (map.get h.ins q)
       ∙ ap (cond (same_id q id) (Some node)) (sym (get-union t h q)) ∙ sym (map.get-insert id_cmp-total s.ins id node q))

@@ -1,5 +1,6 @@
 -- What a desk makes where a number of characters are typed or erased at once.
-use Rattle.std.specs.Prelude.{◌+◌, ◌-◌, ◌<◌, ◌≤◌, ◌^◌, ℕ, List, [], ◌∷◌, take, drop, map as each}
+use Rattle.std.specs.Prelude.{◌≡◌, ◌+◌, ◌-◌, ◌<◌, ◌≤◌, ◌^◌, ◌++◌, ℕ, List, [], ◌∷◌, true, take, drop, map as each}
+use Rattle.std.specs.FinMap as map
 use Rattle.bg_types.specs.Identifier.{Identifier}
 use Rattle.bg_types.specs.OperationSet.{OperationSet, next, size}
 use Rattle.bg_types.specs.declared.op.Place.{Place}
@@ -7,6 +8,7 @@ use Rattle.bg_types.specs.declared.op.Place.TheVariants.{After}
 use Rattle.bg_types.specs.declared.op.OpView.{OpView}
 use Rattle.bg_types.specs.declared.op.OpView.TheVariants.{Insert, Erase}
 use Rattle.rga_tree.specs.TextOf.{visible_ids}
+use Rattle.desk_replica.specs.Merging.{with_operations}
 use Rattle.desk_replica.specs.Typing.{parent_at}
 use Rattle.desk_replica.specs.declared.answer.TypeFault.{TypeFault}
 use Rattle.desk_replica.specs.declared.answer.TypeFault.TheVariants.{CounterSpent, Full, Memory}
@@ -32,6 +34,16 @@ typed_text s site place chs = insertions (next_id s site) (parent_at (visible_id
 abbrev pub deletions : OperationSet → (place count : ℕ) → List OpView
 deletions s place count = each Erase (take count (drop place (visible_ids s)))
 
+-- what a desk of this site that keeps S makes where a number of characters from a place on are replaced: the deletions, and
+-- then the insertions, typed where the stretch began
+abbrev pub replacement : OperationSet → (site place count : ℕ) → List ℕ → List OpView
+replacement s site place count chs = let gone = deletions s place count in gone ++ typed_text (with_operations s gone) site place chs
+
+-- a deletion of what is placed in the tree
+abbrev pub MayHide : OperationSet → OpView → Type 0
+MayHide t (Insert id parent ch) = ⊥
+MayHide t (Erase target) = map.contains_key t.ins target ≡ true
+
 -- a desk that keeps S does not type n characters: fewer counters are left, or else more than 1,000,000 operations would
 -- be kept. Lack of memory is of no characters
 abbrev pub IsTextRefusal : OperationSet → ℕ → TypeFault → Type 0
@@ -50,3 +62,16 @@ abbrev pub IsRangeRefused : OperationSet → ℕ → TypeFault → Type 0
 IsRangeRefused s n CounterSpent = ⊥
 IsRangeRefused s n Full = 1_000_000 < size s + n
 IsRangeRefused s n Memory = size s + n ≤ 1_000_000
+
+-- a desk that keeps S does not put n characters in the place of m: fewer counters are left, or else more than 1,000,000
+-- operations would be kept. Lack of memory is of no characters
+abbrev pub IsReplaceRefusal : OperationSet → (m n : ℕ) → TypeFault → Type 0
+IsReplaceRefusal s m n CounterSpent = 2 ^ 32 - next s < n
+IsReplaceRefusal s m n Full = (n ≤ 2 ^ 32 - next s) × (1_000_000 < size s + (m + n))
+IsReplaceRefusal s m n Memory = ⊥
+
+-- the faults: those refusals, and lack of memory
+abbrev pub IsReplaceRefused : OperationSet → (m n : ℕ) → TypeFault → Type 0
+IsReplaceRefused s m n CounterSpent = IsReplaceRefusal s m n CounterSpent
+IsReplaceRefused s m n Full = IsReplaceRefusal s m n Full
+IsReplaceRefused s m n Memory = (n ≤ 2 ^ 32 - next s) × (size s + (m + n) ≤ 1_000_000)

@@ -1,6 +1,6 @@
 //! Laws of the definitions: each function's contract is the law, and its body is empty.
 
-ghost use Rattle.std.specs.Prelude.{◌≡◌, ◌≤◌, ◌+◌, ◌↔◌, ℕ, List, [], ◌∷◌, Some, All, Contains, drop, filter, insert, length, remove, slice_get};
+ghost use Rattle.std.specs.Prelude.{◌≡◌, ◌≤◌, ◌+◌, ◌↔◌, ◌++◌, ℕ, List, [], ◌∷◌, Some, All, Contains, drop, filter, insert, length, remove, slice_get};
 ghost use Rattle.std.specs.declared.cmp.Ordering.TheVariants.{Less};
 ghost use Rattle.bg_types.specs.Identifier.{Identifier, id_cmp};
 ghost use Rattle.bg_types.specs.OperationSet.{OperationSet, Agree, AllWellFormed, Holds, next, no_operations, size, union, with_operation};
@@ -24,7 +24,7 @@ ghost use Rattle.desk_replica.specs.declared.world.step.Reply.{Reply};
 ghost use Rattle.desk_replica.specs.declared.world.step.Reply.TheVariants.{Done, Refused};
 ghost use Rattle.desk_replica.specs.SetOf.{IsSetOf};
 ghost use Rattle.desk_replica.specs.Typing.{typed, insertion};
-ghost use Rattle.desk_replica.specs.Stretch.{typed_text, deletions};
+ghost use Rattle.desk_replica.specs.Stretch.{typed_text, deletions, replacement};
 ghost use Rattle.desk_replica.specs.Telling.{IsTold, change_count};
 ghost use Rattle.desk_replica.specs.Reply.{IsRefusal};
 ghost use Rattle.desk_replica.specs.Refusal.{IsFirstRefusal};
@@ -82,7 +82,8 @@ pub fn typed_and_erased()
 {}
 
 /// Characters that are typed at once are typed one after the other, each behind the one before, and those that are
-/// erased at once are erased one after the other, each at the place of the first.
+/// erased at once are erased one after the other, each at the place of the first. In the place of others the same is
+/// typed as where nothing is erased.
 pub fn stretches()
     ensures typed { (s : OperationSet) (site place ch : ℕ) (chs : List ℕ) → AllWellFormed s → place ≤ length (visible s)
         → All IsWellFormed (typed_text s site place (ch ∷ chs))
@@ -91,11 +92,13 @@ pub fn stretches()
     ensures erased { (s : OperationSet) (place count : ℕ) (target : Identifier) → AllWellFormed s
         → slice_get (visible_ids s) place ≡ Some target
         → deletions s place (count + 1) ≡ Erase target ∷ deletions (with_operation s (Erase target)) place count }
+    ensures replaced { (s : OperationSet) (site place count : ℕ) (chs : List ℕ) → AllWellFormed s → place + count ≤ length (visible s)
+        → replacement s site place count chs ≡ deletions s place count ++ typed_text s site place chs }
 {}
 
 /// Told changes are the change: made one after the other on the text before, they give the text after; and behind changes
-/// that gave the text before, they give the text after with those. They are as many as there are elements that only one of the two texts shows. What is told of a fresh desk
-/// from its first call on makes its text of nothing.
+/// that gave the text before, they give the text after with those. They are as many as there are elements that only one of
+/// the two texts shows. What is told of a fresh desk from its first call on makes its text of nothing.
 pub fn told_changes()
     ensures change { (s t : OperationSet) (old new : List Change) → IsTold s t old new
         → IsEdit (text s) (drop (length old) new) (text t) }

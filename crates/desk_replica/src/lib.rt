@@ -8,6 +8,7 @@ mod listener;
 mod placing;
 mod reading;
 mod replica;
+mod stretching;
 mod taking;
 mod world;
 

@@ -1,11 +1,12 @@
 -- The goals of `stretches` that are answered by hand.
-use Rattle.std.proofs.Common.{◌≡◌, ◌+◌, ◌∷◌, suc, ap, ◌∙◌, arith}
+use Rattle.std.proofs.Common.{◌≡◌, ◌+◌, ◌++◌, ◌∷◌, suc, ap, ◌∙◌, arith}
 use Rattle.std.proofs.lemmas.List.Elements.{recursion_from_All}
 use Rattle.bg_types.specs.WellFormed.{IsWellFormed}
 use Rattle.bg_types.specs.OperationSet.{with_operation}
 use Rattle.desk_replica.specs.Typing.{typed, insertion}
 use Rattle.desk_replica.specs.Stretch.{typed_text, deletions}
 use Rattle.desk_replica.proofs.Ranges.{erased_then, visible_at}
+use Rattle.desk_replica.proofs.Replacing.{typed_still}
 use Rattle.desk_replica.proofs.Stretches.{one_then}
 use Rattle.desk_replica.proofs.laws.stretches.Goals as goal
 
@@ -18,4 +19,5 @@ returns c = record {
   erased = λ s place count target well at.
       let up : count + 1 ≡ suc count = omega arith in
       ap (deletions s place) up ∙ erased_then place count s target well (visible_at s place target at) at;
+  replaced = λ s site place count chs well within. ap (λ ops. deletions s place count ++ ops) (typed_still s place count well within site chs);
 }
