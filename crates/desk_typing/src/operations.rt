@@ -1,26 +1,26 @@
 //! The operations of a change.
 
-ghost use Rattle.std.specs.Prelude.{◌≡◌, ◌≤◌, ◌<◌, ◌+◌, ◌-◌, ◌^◌, ◌++◌, ◌⊎◌, take, drop, length, OnOk, IfOk, IfErr};
+ghost use Rattle.std.specs.Prelude.{◌≡◌, ◌≤◌, ◌<◌, ◌+◌, ◌-◌, ◌^◌, ◌++◌, ◌⊎◌, length, OnOk, OnErr, IfOk, IfErr};
 ghost use Rattle.std.specs.Str.{chars};
 ghost use Rattle.bg_types.specs.OperationSet.{next, size};
 ghost use Rattle.desk_files.specs.declared.run_fault.RunFault.TheVariants.{Memory as run_memory};
 ghost use Rattle.desk_typing.specs.declared.typing_fault.TypingFault.TheVariants.{Run as typing_run, CounterSpent as typing_spent};
 ghost use Rattle.rga_tree.specs.TextOf.{visible};
-ghost use Rattle.desk_replica.specs.Stretch.{deletions, typed_text};
+ghost use Rattle.desk_replica.specs.Stretch.{replacement};
 ghost use Rattle.desk_typing.specs.Changing.{operations_of, Fits, IsUnfit};
 
 use crate::change::Change;
 use crate::typing_fault::TypingFault;
 use bg_types::Op;
 use desk_files::{Desk, RunFault};
-use desk_replica::TypeFault;
+use desk_replica::{TypeFault, laws};
 use std::alloc::Global;
 
 /// How many operations a desk keeps at most.
 const LIMIT: usize = 1_000_000;
 
 /// What the desk of a change's site makes by it: deletions, then the insertions of the characters. After a fault the
-/// desk may have made the deletions.
+/// desk is as it was.
 pub fn operations(
     alloc: Global,
     desk: &mut Desk,
@@ -29,6 +29,7 @@ pub fn operations(
 ) -> Result<Vec<Op>, TypingFault>
     requires { desk.old.site ≡ change.now.site }
     ensures ok { IfOk result (λ ops. ops.items ≡ operations_of desk.old.set change.now (chars text.now)) }
+    ensures err { OnErr result (desk.new ≡ desk.old) }
     ensures fits { OnOk result (Fits desk.old.set change.now (chars text.now)) }
     ensures fault { IfErr result (IsUnfit desk.old.set change.now (chars text.now)) }
 {
@@ -47,40 +48,30 @@ pub fn operations(
         return Err(TypingFault::Full);
     }
     let mut ops = Vec::with_capacity(alloc, erased + count)?;
-    erase(desk, place, place + erased, &mut ops)?;
-    insert(desk, place, text, &mut ops)?;
+    // Where others are replaced, the same is typed as where nothing is erased.
+    laws::stretches();
+    replace(desk, place, place + erased, text, &mut ops)?;
     Ok(ops)
 }
 
-/// Erases the visible characters from a place to an end, and adds the deletions.
-fn erase(desk: &mut Desk, place: usize, end: usize, ops: &mut Vec<Op>) -> Result<(), TypingFault>
+/// Replaces the visible characters from a place to an end, and adds the operations.
+fn replace(
+    desk: &mut Desk,
+    place: usize,
+    end: usize,
+    text: &str,
+    ops: &mut Vec<Op>,
+) -> Result<(), TypingFault>
     requires order { place ≤ end }
     requires within { end ≤ length (visible desk.old.set) }
-    requires room { size desk.old.set + (end - place) ≤ 1_000_000 }
-    ensures ok { OnOk result (ops.new.items ≡ ops.old.items ++ deletions desk.old.set place (end - place)) }
-    ensures visible { OnOk result (visible desk.new.set ≡ take place (visible desk.old.set) ++ drop end (visible desk.old.set)) }
-    ensures counter { OnOk result (next desk.new.set ≡ next desk.old.set) }
-    ensures size { OnOk result (size desk.new.set ≡ size desk.old.set + (end - place)) }
-    ensures site { desk.new.site ≡ desk.old.site }
-    ensures fault { IfErr result (λ fault. fault ≡ typing_run run_memory) }
-{
-    match desk.erase_range(place, end, ops) {
-        Ok(()) => Ok(()),
-        Err(TypeFault::Memory) => Err(TypingFault::Run(RunFault::Memory)),
-        Err(TypeFault::Full | TypeFault::CounterSpent) => unreachable!(),
-    }
-}
-
-/// Types characters at a place, and adds the insertions.
-fn insert(desk: &mut Desk, place: usize, text: &str, ops: &mut Vec<Op>) -> Result<(), TypingFault>
-    requires place { place ≤ length (visible desk.old.set) }
-    requires room { size desk.old.set + length (chars text.now) ≤ 1_000_000 }
-    ensures ok { OnOk result (ops.new.items ≡ ops.old.items ++ typed_text desk.old.set desk.old.site place (chars text.now)) }
+    requires room { size desk.old.set + ((end - place) + length (chars text.now)) ≤ 1_000_000 }
+    ensures ok { OnOk result (ops.new.items ≡ ops.old.items ++ replacement desk.old.set desk.old.site place (end - place) (chars text.now)) }
     ensures counters { OnOk result (length (chars text.now) ≤ 2 ^ 32 - next desk.old.set) }
+    ensures err { OnErr result (desk.new ≡ desk.old) }
     ensures fault { IfErr result (λ fault. (fault ≡ typing_run run_memory)
         ⊎ ((fault ≡ typing_spent) × (2 ^ 32 - next desk.old.set < length (chars text.now)))) }
 {
-    match desk.type_text(place, text, ops) {
+    match desk.replace(place, end, text, ops) {
         Ok(()) => Ok(()),
         Err(TypeFault::CounterSpent) => Err(TypingFault::CounterSpent),
         Err(TypeFault::Memory) => Err(TypingFault::Run(RunFault::Memory)),

@@ -1,10 +1,10 @@
--- The goals of `insert` that are answered by hand.
+-- The goals of `replace` that are answered by hand.
 use Rattle.std.proofs.Common.{◌-◌, length, inl, inr}
 use Rattle.std.proofs.lemmas.Bool.{cases_lt}
 use Rattle.std.specs.Str.{chars}
 use Rattle.bg_types.specs.OperationSet.{next}
 use Rattle.desk_replica.specs.declared.answer.TypeFault.TheVariants.{CounterSpent}
-use Rattle.desk_typing.proofs.operations.insert.Goals as goal
+use Rattle.desk_typing.proofs.operations.replace.Goals as goal
 
 pub returns-in-Ok-clause-counters : goal.returns-in-Ok-clause-counters
 returns-in-Ok-clause-counters c =
