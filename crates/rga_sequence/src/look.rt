@@ -79,7 +79,7 @@ pub trait Look {
     ghost few: { (s : Self) (b : ℕ) → length (get_or (blocks s) b []) ≤ 512 };
 }
 
-/// Visible element k, which `find_spot` finds.
+/// Visible element k. Looks at as much as `find_spot` does.
 pub fn find<L: Look>(row: &mut L, k: usize) -> Element
     requires there { k < seen_all (L.blocks row.old) }
     requires room { L.looked row.old + length (L.blocks row.old) + 512 < 2 ^ 64 }
