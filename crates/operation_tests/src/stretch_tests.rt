@@ -1,5 +1,5 @@
-//! What no clause says: that memory suffices to type and to erase a number of characters at once, and which texts and
-//! operations come out.
+//! What no clause says: that memory suffices to type, to erase and to replace a number of characters at once, and which
+//! texts and operations come out.
 //!
 //! A refused growth must leave desk and list as they were, and the call is made again: so each test
 //! also passes with any one allocation refused (`rt try --test --fail-alloc N`).
@@ -40,6 +40,13 @@ impl<S: Fresh> Writer<S> {
         self.desk.erase_range(from, to, &mut self.made)
     }
 
+    /// Replaces what stands from one place up to another, as far as the text goes.
+    fn replaces(&mut self, from: usize, to: usize, characters: &str) -> Result<(), TypeFault> {
+        let to = to.min(self.desk.len());
+        let from = from.min(to);
+        self.desk.replace(from, to, characters, &mut self.made)
+    }
+
     /// Makes a change. After lack of memory text and list must be as they were.
     fn makes(&mut self, edit: Edit) -> Result<Result<(), TypeFault>, Memory> {
         let text = self.desk.text()?;
@@ -58,6 +65,7 @@ impl<S: Fresh> Writer<S> {
         match edit {
             Edit::Types(place, characters) => self.types(place, characters),
             Edit::Erases(from, to) => self.erases(from, to),
+            Edit::Replaces(from, to, characters) => self.replaces(from, to, characters),
             Edit::Holds(row) => self.holds(row),
         }
     }
@@ -75,6 +83,7 @@ impl<S: Fresh> Writer<S> {
 enum Edit {
     Types(usize, &'static str),
     Erases(usize, usize),
+    Replaces(usize, usize, &'static str),
     /// An operation of another site is taken.
     Holds(OpRow),
 }
@@ -129,7 +138,7 @@ const B: OpRow = Insert((2, 1), (1, 1), 'b');
 
 const C: OpRow = Insert((3, 1), (2, 1), 'c');
 
-const CASES: [Case; 7] = [
+const CASES: [Case; 11] = [
     (&[(Edit::Types(0, "abc"), OK)], "abc", &[A, B, C]),
     (
         &[(Edit::Types(0, ""), OK), (Edit::Erases(0, 0), OK)],
@@ -177,6 +186,61 @@ const CASES: [Case; 7] = [
         "",
         &[A, B, C, Erase((2, 1)), Erase((1, 1)), Erase((3, 1))],
     ),
+    // A word that is overwritten: what is typed follows the visible one in front of it.
+    (
+        &[
+            (Edit::Types(0, "abc"), OK),
+            (Edit::Replaces(1, 3, "xy"), OK),
+        ],
+        "axy",
+        &[
+            A,
+            B,
+            C,
+            Erase((2, 1)),
+            Erase((3, 1)),
+            Insert((4, 1), (1, 1), 'x'),
+            Insert((5, 1), (4, 1), 'y'),
+        ],
+    ),
+    // At the text's front, over what is hidden already.
+    (
+        &[
+            (Edit::Types(0, "abc"), OK),
+            (Edit::Erases(0, 1), OK),
+            (Edit::Replaces(0, 1, "x"), OK),
+        ],
+        "xc",
+        &[
+            A,
+            B,
+            C,
+            Erase((1, 1)),
+            Erase((2, 1)),
+            Insert((4, 1), (0, 0), 'x'),
+        ],
+    ),
+    // Nothing is erased, then nothing is typed, then neither.
+    (
+        &[
+            (Edit::Replaces(0, 0, "ab"), OK),
+            (Edit::Replaces(0, 1, ""), OK),
+            (Edit::Replaces(1, 1, ""), OK),
+        ],
+        "b",
+        &[A, B, Erase((1, 1))],
+    ),
+    // Where the counters are too few for what is typed, nothing is erased.
+    (
+        &[
+            (Edit::Types(0, "a"), OK),
+            (Edit::Holds(Erase((4_294_967_293, 2))), OK),
+            (Edit::Replaces(0, 1, "xyz"), SPENT),
+            (Edit::Replaces(0, 1, "x"), OK),
+        ],
+        "x",
+        &[A, Erase((1, 1)), Insert((4_294_967_294, 1), (0, 0), 'x')],
+    ),
     // Two counters are left for three characters, and then for two.
     (
         &[
@@ -208,17 +272,53 @@ fn stretches_are_typed_and_erased(rt: HostRuntime) {
     assert_rows(&rt, &CASES);
 }
 
-/// Whether a desk that paid for four types four at the first try, into a list with room.
+/// Whether a desk that paid for five types four, and then one in place of another, at the first try, into a list with room.
 fn types_paid<S: Fresh>(alloc: Global) -> Result<bool, Memory> {
     let mut writer: Writer<S> = fresh_writer(alloc);
-    writer.made.reserve(6)?;
-    writer.desk.reserve(4)?;
+    writer.made.reserve(8)?;
+    writer.desk.reserve(5)?;
     let typed = writer.types(0, "abcd");
     let erased = writer.erases(1, 3);
-    Ok(typed == OK && erased == OK && writer.shows("ad", 6)? && writer.desk.spare() == 0)
+    let replaced = writer.replaces(0, 1, "x");
+    let right = typed == OK && erased == OK && replaced == OK;
+    Ok(right && writer.shows("xd", 8)? && writer.desk.spare() == 0)
+}
+
+/// 64 characters.
+const LINE: &str = "0123456789abcdefghijklmnopqrstuvwxyzABCDEFGHIJKLMNOPQRSTUVWXYZ-+";
+
+/// Whether all but the first and the last of 1,280 characters, which are more than two blocks have, are replaced by one.
+fn replaces_across_blocks<S: Fresh>(alloc: Global) -> Result<bool, Memory> {
+    let mut writer: Writer<S> = fresh_writer(alloc);
+    let mut right = true;
+    for _ in 0..20 {
+        right = writer.makes(Edit::Types(0, LINE))? == OK && right;
+    }
+    right = writer.makes(Edit::Replaces(1, 1_279, "."))? == OK && right;
+    Ok(right && writer.shows("0.+", 2_559)?)
 }
 
 /// Which sequence is tried.
+enum Across {
+    OverBlocks,
+    OverPlain,
+}
+
+impl Row for Across {
+    fn comes_out(&self, alloc: Global) -> Result<bool, Memory> {
+        match self {
+            Across::OverBlocks => replaces_across_blocks::<Blocks>(alloc),
+            Across::OverPlain => replaces_across_blocks::<Plain>(alloc),
+        }
+    }
+}
+
+#[test]
+fn a_stretch_across_blocks_is_replaced(rt: HostRuntime) {
+    assert_rows(&rt, &[Across::OverBlocks, Across::OverPlain]);
+}
+
+/// Which sequence is tried without memory.
 enum Paid {
     OverBlocks,
     OverPlain,
