@@ -1,10 +1,9 @@
 -- Operations that are taken one after the other.
-use Rattle.std.proofs.Common.{◌≡◌, ◌++◌, ◌+◌, ◌<◌, ℕ, List, [], ◌∷◌, length, take, get_or, refl, sym, ap, ◌∙◌, append_assoc, append-nil}
+use Rattle.std.proofs.Common.{◌≡◌, ◌++◌, ◌+◌, ◌<◌, ℕ, List, [], ◌∷◌, length, take, get_or, refl, sym, ap, ◌∙◌}
 use Rattle.std.proofs.lemmas.List.{take_more}
 use Rattle.bg_types.specs.OperationSet.{OperationSet, with_operation}
 use Rattle.bg_types.specs.declared.op.OpView.{OpView}
 use Rattle.desk_replica.specs.Merging.{with_operations}
-use Rattle.calling.specs.Made.{Appended}
 
 pub with-append_one : (s : OperationSet) (ops : List OpView) (op : OpView) → with_operations s (ops ++ op ∷ []) ≡ with_operation (with_operations s ops) op
 with-append_one s [] op = refl
@@ -16,15 +15,3 @@ pub taken_next : (s u v : OperationSet) (ops : List OpView) (j : ℕ) (op : OpVi
 taken_next s u v ops j op within is taken more =
     more ∙ ap (λ t. with_operation t op) taken ∙ sym (with-append_one s (take j ops) op)
     ∙ ap (with_operations s) (sym (take_more ops j op within ∙ ap (λ x. take j ops ++ x ∷ []) (sym is)))
-
--- none was made
-pub none_made : (s : OperationSet) (made : List OpView) → Appended s s made made
-none_made s made = record { ops = []; grown = refl; appended = sym (append-nil made) }
-
--- one more was made
-pub one_made : (s u v : OperationSet) (old now : List OpView) (op : OpView) → Appended s u old now → v ≡ with_operation u op → Appended s v old (now ++ op ∷ [])
-one_made s u v old now op h more = record {
-  ops = h.ops ++ op ∷ [];
-  grown = more ∙ ap (λ t. with_operation t op) h.grown ∙ sym (with-append_one s h.ops op);
-  appended = ap (λ (made : List OpView). made ++ op ∷ []) h.appended ∙ append_assoc old h.ops (op ∷ []);
-}

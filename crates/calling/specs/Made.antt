@@ -1,11 +1,10 @@
--- The operations that a desk makes.
-use Rattle.std.specs.Prelude.{◌≡◌, List, ◌++◌}
-use Rattle.bg_types.specs.OperationSet.{OperationSet}
+-- The operations that a desk makes where words are typed.
+use Rattle.std.specs.Prelude.{ℕ, List, length}
 use Rattle.bg_types.specs.declared.op.OpView.{OpView}
-use Rattle.desk_replica.specs.Merging.{with_operations}
+use Rattle.rga_tree.specs.TextOf.{visible}
+use Rattle.desk_replica.specs.Desk.{Desk}
+use Rattle.desk_replica.specs.Stretch.{typed_text}
 
--- the operations by which the set grew were appended to others, in order
-pub record Appended (before after : OperationSet) (old new : List OpView) : Type 0 where
-  pub ops : List OpView
-  pub grown : after ≡ with_operations before ops
-  pub appended : new ≡ old ++ ops
+-- the insertions of characters that are typed at the end of a desk's text, each after the one before
+abbrev pub words_made : Desk → List ℕ → List OpView
+words_made desk chs = typed_text desk.set desk.site (length (visible desk.set)) chs

@@ -1,12 +1,15 @@
 //! Desks: typing, taking what another desk made, and meeting.
 
-ghost use Rattle.std.specs.Prelude.{◌≡◌, ◌<◌, ◌++◌, IfOk, OnOk, string_bytes, encode_utf8_all};
+ghost use Rattle.std.specs.Prelude.{◌≡◌, ◌<◌, ◌++◌, length, IfOk, IfErr, OnOk, OnErr, string_bytes, encode_utf8_all};
 ghost use Rattle.std.specs.Str.{chars};
 ghost use Rattle.rga_tree.specs.TextOf.{text};
 ghost use Rattle.desk_replica.specs.Desk.{fresh};
 ghost use Rattle.desk_replica.specs.Merging.{with_operations};
+ghost use Rattle.desk_replica.specs.Stretch.{IsTextRefused};
+ghost use Rattle.desk_replica.specs.declared.answer.TypeFault.{TypeFault as Untyped};
 ghost use Rattle.bg_types.specs.OperationSet.{union};
-ghost use Rattle.calling.specs.Made.{Appended};
+ghost use Rattle.calling.specs.declared.fault.Fault.TheVariants.{«Type» as type_fault};
+ghost use Rattle.calling.specs.Made.{words_made};
 
 use crate::fault::Fault;
 use bg_types::Op;
@@ -25,16 +28,18 @@ pub fn new_desk(alloc: Global, site: u16, key: u128) -> Desk
     Replica::new(alloc, site, Blocks::keyed(alloc, key), key)
 }
 
-/// Types words at the end of a desk's text, and appends the operations that this made to
-/// `made`, to be sent to the other desks.
+/// Types words at the end of a desk's text, each character behind the one before, and appends the
+/// operations that this makes to `made`, to be sent to the other desks. A fault changes nothing.
 pub fn type_words(desk: &mut Desk, words: &str, made: &mut Vec<Op>) -> Result<(), Fault>
+    ensures made { OnOk result (made.new.items ≡ made.old.items ++ words_made desk.old (chars words.now)) }
+    ensures ok { OnOk result (desk.new.set ≡ with_operations desk.old.set (words_made desk.old (chars words.now))) }
     ensures typed { OnOk result (text desk.new.set ≡ text desk.old.set ++ chars words.now) }
-    ensures made { OnOk result (Appended desk.old.set desk.new.set made.old.items made.new.items) }
+    ensures fault { IfErr result (λ fault. (why : Untyped) × (fault ≡ type_fault why) × IsTextRefused desk.old.set (length (chars words.now)) why) }
+    ensures err { OnErr result (desk.new ≡ desk.old) }
+    ensures unmade { OnErr result (made.new.items ≡ made.old.items) }
+    ensures site { desk.new.site ≡ desk.old.site }
 {
-    for ch in words.chars() {
-        let op = desk.type_char(desk.len(), ch)?;
-        made.push(op)?;
-    }
+    desk.type_text(desk.len(), words, made)?;
     Ok(())
 }
 

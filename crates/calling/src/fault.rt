@@ -1,5 +1,8 @@
 //! Why the program ended early.
 
+ghost use Rattle.std.specs.Prelude.{◌≡◌};
+ghost use Rattle.calling.specs.declared.fault.Fault.TheVariants.{«Type» as type_fault};
+
 use bg_types::{Device, Memory};
 use desk_replica::{TakeFault, TypeFault};
 use std::alloc::{AllocError, AllocFailed};
@@ -42,6 +45,8 @@ impl From<TakeFault> for Fault {
 }
 
 impl From<TypeFault> for Fault {
+    ghost from_gives = { λ fault e. e ≡ type_fault fault };
+
     fn from(fault: TypeFault) -> Fault {
         Fault::Type(fault)
     }
