@@ -4,6 +4,11 @@ A desk's set has insertions, by identifier (counter, site), and deletions. The w
 child of it in falling order of identifier, the child and then the walk from it; the text is the characters of the
 walk from the root whose identifiers are not deleted.
 
+A call that takes something tells how the text changes. What it tells is followed over identifiers: each element that
+is visible after the call and was not before is put once, each that was and no longer is is cut once, and no other; and
+the place told is the number of elements present at that moment that stand before it in the walk after the call. Each
+character is typed once, so that it tells its element.
+
 Usage: world.py steps SEED STEPS DESKS    writes a file of random steps
        world.py judge FILE FOUND          compares what was found with what the definitions say
 """
@@ -105,13 +110,18 @@ class World:
         return next((reply for reply in replies if reply != "done"), "done")
 
 
-def one_step(draw, world):
+def typed_character(number):
+    """The character that is typed in this step: the ideographs of plane 2 one after the other."""
+    return 0x20000 + number % 0xA000
+
+
+def one_step(draw, world, number):
     desks = len(world.desks)
     d = draw.randrange(desks) if draw.random() > 0.02 else desks
     shown = len(world.desks[d].visible()) if d < desks else 3
     kind = draw.choices((0, 1, 2, 3), (45, 15, 35, 5))[0]
     if kind == 0:
-        return (0, d, draw.randrange(shown + 1) + (draw.random() < 0.03), ord(draw.choice("abcdefgh\u05d0\u0628")))
+        return (0, d, draw.randrange(shown + 1) + (draw.random() < 0.03), typed_character(number))
     if kind == 1:
         return (1, d, draw.randrange(shown + 1))
     if kind == 2:
@@ -124,8 +134,8 @@ def steps(seed, count, desks):
     sites = draw.sample(range(1, 65536), desks)
     world = World(sites)
     print(*sites)
-    for _ in range(count):
-        step = one_step(draw, world)
+    for number in range(count):
+        step = one_step(draw, world, number)
         world.do(*step)
         print(*step)
 
@@ -136,6 +146,60 @@ def line_of(op):
     return f"insert {op[1][0]} {op[1][1]} {op[2][0][0]} {op[2][0][1]} {op[2][1]}"
 
 
+def changes_of(line):
+    """The changes of a line `told put PLACE CHARACTER cut PLACE ..`."""
+    words = iter(line.split()[1:])
+    for word in words:
+        yield (word, int(next(words)), int(next(words)) if word == "put" else None)
+
+
+def put(present, to_put, rank, place, ch):
+    """Whether an element of this character is put, at the place of its identifier."""
+    id = to_put.pop(ch, None)
+    if id is None or place != sum(rank[other] < rank[id] for other in present):
+        return False
+    present.insert(place, id)
+    return True
+
+
+def cut(present, to_cut, place):
+    """Whether an element that is to be cut stands at the place, and is cut."""
+    if place >= len(present) or present[place] not in to_cut:
+        return False
+    to_cut.remove(present.pop(place))
+    return True
+
+
+def is_told(before, desk, line):
+    """Whether the changes of a line lead from the elements visible before to those of the desk, each at its place."""
+    walk = desk.walk()
+    rank = {id: number for number, id in enumerate(walk)}
+    after = [id for id in walk if id not in desk.dels]
+    present, to_cut = list(before), set(before) - set(after)
+    to_put = {desk.ins[id][1]: id for id in set(after) - set(before)}
+    for kind, place, ch in changes_of(line):
+        if not (put(present, to_put, rank, place, ch) if kind == "put" else cut(present, to_cut, place)):
+            return False
+    return not to_put and not to_cut and present == after
+
+
+def judge_told(lines, found):
+    """Compares what each step told, a line a step, with the elements of the desk before and after it."""
+    world = World([int(word) for word in lines[0].split()])
+    steps = [[int(word) for word in line.split()] for line in lines[1:]]
+    if len(found) != len(steps):
+        sys.exit(f"{len(found)} steps told something, wanted {len(steps)}")
+    changes = 0
+    for number, (step, line) in enumerate(zip(steps, found)):
+        desk = world.desks[step[1]] if step[1] < len(world.desks) else None
+        before = desk.visible() if desk and step[0] >= 2 else []
+        world.do(*step)
+        if not (is_told(before, desk, line) if desk and step[0] >= 2 else line == "told"):
+            sys.exit(f"step {number + 1}, {step}, told {line[5:]!r}")
+        changes += sum(1 for _ in changes_of(line))
+    return changes
+
+
 def wanted(lines):
     world = World([int(word) for word in lines[0].split()])
     replies = [world.do(*(int(word) for word in line.split())) for line in lines[1:]]
@@ -144,7 +208,8 @@ def wanted(lines):
 
 
 def judge(steps_file, found_file):
-    head, desks = wanted(open(steps_file, encoding="utf-8").read().splitlines())
+    lines = open(steps_file, encoding="utf-8").read().splitlines()
+    head, desks = wanted(lines)
     found = open(found_file, encoding="utf-8").read().splitlines()
     if found[: len(head)] != head:
         at = next(n for n, line in enumerate(head) if n >= len(found) or found[n] != line)
@@ -155,9 +220,8 @@ def judge(steps_file, found_file):
         if here[:1] != [line] or sorted(here[1:]) != ops:
             sys.exit(f"desk {number} differs")
         at += 1 + len(ops)
-    if at != len(found):
-        sys.exit("more was written than is wanted")
-    print(f"{len(head)} replies and operations, and {len(desks)} desks agree")
+    changes = judge_told(lines, found[at:])
+    print(f"{len(head)} replies and operations, {changes} told changes and {len(desks)} desks agree")
 
 
 if __name__ == "__main__":
