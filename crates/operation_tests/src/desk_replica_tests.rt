@@ -168,6 +168,8 @@ fn takes_each<S: Fresh>(desk: &mut Desk<S>, rows: &[(OpRow, Answer)]) -> bool {
 pub(crate) enum Case {
     /// The first desk gives each row its answer, and reads as this text then.
     Plays(&'static [(OpRow, Answer)], &'static str),
+    /// Four operations are paid for, and none is taken.
+    Pays,
     /// What is paid for is taken at the first try.
     PlaysPaid,
     /// The same where it could be paid for. Nothing is asked for after that, so that every further request may be refused.
@@ -203,6 +205,7 @@ fn comes_out_beside<S: Fresh>(alloc: Global, one: &mut Desk<S>, case: Case) -> b
 fn comes_out_on<S: Fresh>(one: &mut Desk<S>, two: &mut Desk<S>, case: Case) -> bool {
     match case {
         Case::Plays(rows, text) => takes_each(one, rows) && one.reads(text),
+        Case::Pays => one.pays(),
         Case::PlaysPaid => plays_paid(one),
         Case::PlaysIfPaid => !one.pays() || takes_early(one),
         Case::MergesPaid => merges_paid(one, two),
@@ -454,6 +457,11 @@ fn answers_and_reads(rt: HostRuntime) {
 #[test]
 fn takes_what_is_paid_for(rt: HostRuntime) {
     assert_cases(&rt, &[Case::PlaysPaid, Case::MergesPaid]);
+}
+
+#[test]
+fn pays_and_takes_nothing(rt: HostRuntime) {
+    assert_cases(&rt, &[Case::Pays]);
 }
 
 #[test]
