@@ -311,6 +311,7 @@ impl Row for Uses {
         let mut kept = KeptRows::keyed(alloc, 7, 2)?;
         let paragraphs = split(alloc, tables, text)?;
         let mut right = rows.len() == count && paragraphs.len() == wanted.len();
+        right = kept.newest().is_empty() && right;
         for (para, use_) in paragraphs.iter().zip(wanted) {
             if para.text().len() > 4_000_000 {
                 return Ok(false);
