@@ -59,29 +59,51 @@ fn is_split(alloc: Global, tables: &Tables, buffer: &Buffer) -> Result<bool, Mem
     Ok(right)
 }
 
-fn change(tables: &Tables, buffer: &mut Buffer, step: Step) -> Result<(), BufferFault>
+/// By which calls steps are made: `put` and `cut`, or `apply`.
+#[derive(Clone, Copy, PartialEq, Eq)]
+enum Way {
+    PutAndCut,
+    Apply,
+}
+
+fn change(tables: &Tables, buffer: &mut Buffer, way: Way, step: Step) -> Result<(), BufferFault>
     requires { IsSplit tables.now buffer.old }
     ensures { IsSplit tables.now buffer.new }
 {
     match step {
-        Put(place, ch) if place <= buffer.len() => buffer.put(tables, place, ch),
-        Cut(place) if place < buffer.len() => buffer.apply(tables, &Change::Cut { place }),
+        Put(place, ch) if place <= buffer.len() => match way {
+            Way::PutAndCut => buffer.put(tables, place, ch),
+            Way::Apply => buffer.apply(tables, &Change::Put { place, ch }),
+        },
+        Cut(place) if place < buffer.len() => match way {
+            Way::PutAndCut => match buffer.cut(tables, place) {
+                Ok(()) => Ok(()),
+                Err(Memory) => Err(BufferFault::Memory),
+            },
+            Way::Apply => buffer.apply(tables, &Change::Cut { place }),
+        },
         _ => Err(BufferFault::TooLong),
     }
 }
 
 /// Makes a change, once more where memory was refused and the text as it was.
-fn make(alloc: Global, tables: &Tables, buffer: &mut Buffer, step: Step) -> Result<bool, Memory>
+fn make(
+    alloc: Global,
+    tables: &Tables,
+    buffer: &mut Buffer,
+    way: Way,
+    step: Step,
+) -> Result<bool, Memory>
     requires { IsSplit tables.now buffer.old }
     ensures { IsSplit tables.now buffer.new }
 {
     let before = text_of(alloc, buffer)?;
-    match change(tables, buffer, step) {
+    match change(tables, buffer, way, step) {
         Ok(()) => Ok(true),
         Err(BufferFault::TooLong) => Ok(false),
         Err(BufferFault::Memory) => {
             let same = text_of(alloc, buffer)? == before;
-            Ok(change(tables, buffer, step).is_ok() && same)
+            Ok(change(tables, buffer, way, step).is_ok() && same)
         }
     }
 }
@@ -89,8 +111,8 @@ fn make(alloc: Global, tables: &Tables, buffer: &mut Buffer, step: Step) -> Resu
 /// A text, changes of it, and the text after each.
 struct Typed(&'static str, &'static [(Step, &'static str)]);
 
-impl Row for Typed {
-    fn comes_out(&self, alloc: Global, tables: &Tables) -> Result<bool, Memory> {
+impl Typed {
+    fn comes_out_by(&self, alloc: Global, tables: &Tables, way: Way) -> Result<bool, Memory> {
         let mut buffer = match Buffer::of(alloc, tables, self.0) {
             Ok(buffer) => buffer,
             Err(BufferFault::Memory) => return Err(Memory),
@@ -98,11 +120,20 @@ impl Row for Typed {
         };
         let mut right = is_split(alloc, tables, &buffer)?;
         for (step, after) in self.1 {
-            right = make(alloc, tables, &mut buffer, *step)? && right;
+            right = make(alloc, tables, &mut buffer, way, *step)? && right;
             right = is_split(alloc, tables, &buffer)? && right;
             right = text_of(alloc, &buffer)?.as_str() == *after && right;
         }
         Ok(right)
+    }
+}
+
+impl Row for Typed {
+    fn comes_out(&self, alloc: Global, tables: &Tables) -> Result<bool, Memory> {
+        Ok(
+            self.comes_out_by(alloc, tables, Way::PutAndCut)?
+                && self.comes_out_by(alloc, tables, Way::Apply)?,
+        )
     }
 }
 
@@ -237,7 +268,12 @@ impl Row for ByChance {
                 None if place < buffer.len() => Cut(place),
                 None => Put(place, 'b'),
             };
-            right = make(alloc, tables, &mut buffer, step)? && right;
+            let way = if state < 0x8000_0000 {
+                Way::PutAndCut
+            } else {
+                Way::Apply
+            };
+            right = make(alloc, tables, &mut buffer, way, step)? && right;
             right = is_split(alloc, tables, &buffer)? && right;
         }
         Ok(right)
@@ -256,6 +292,85 @@ fn edits_by_chance_come_out_as_split_of_the_whole(rt: HostRuntime) {
             ByChance {
                 seed: 11,
                 edits: 300,
+            },
+        ],
+    );
+}
+
+/// A text of so many lines, and so many line feeds that are put at a place of it and cut again: blocks of paragraphs part,
+/// and lose those that they got.
+struct Crowded {
+    lines: usize,
+    place: usize,
+    typed: usize,
+}
+
+impl Crowded {
+    /// The text, with these line feeds behind the first `place` lines.
+    fn text(&self, alloc: Global, typed: usize) -> Result<String, Memory> {
+        let mut text = String::new(alloc);
+        for line in 0..self.lines {
+            if line == self.place {
+                for _ in 0..typed {
+                    text.push('\n')?;
+                }
+            }
+            text.push('\n')?;
+        }
+        Ok(text)
+    }
+}
+
+impl Row for Crowded {
+    fn comes_out(&self, alloc: Global, tables: &Tables) -> Result<bool, Memory> {
+        let text = self.text(alloc, 0)?;
+        let mut buffer = match Buffer::of(alloc, tables, &text) {
+            Ok(buffer) => buffer,
+            Err(_) => return Err(Memory),
+        };
+        let mut right = true;
+        for _ in 0..self.typed {
+            right = make(
+                alloc,
+                tables,
+                &mut buffer,
+                Way::PutAndCut,
+                Put(self.place, '\n'),
+            )? && right;
+        }
+        right = is_split(alloc, tables, &buffer)? && right;
+        right = text_of(alloc, &buffer)? == self.text(alloc, self.typed)? && right;
+        for _ in 0..self.typed {
+            right = make(alloc, tables, &mut buffer, Way::Apply, Cut(self.place))? && right;
+        }
+        Ok(is_split(alloc, tables, &buffer)? && text_of(alloc, &buffer)? == text && right)
+    }
+}
+
+#[test]
+fn many_paragraphs_come_out_as_split_of_the_whole(rt: HostRuntime) {
+    assert_rows(
+        &rt,
+        &[
+            Crowded {
+                lines: 1,
+                place: 0,
+                typed: 600,
+            },
+            Crowded {
+                lines: 700,
+                place: 0,
+                typed: 500,
+            },
+            Crowded {
+                lines: 700,
+                place: 350,
+                typed: 300,
+            },
+            Crowded {
+                lines: 700,
+                place: 699,
+                typed: 300,
             },
         ],
     );
