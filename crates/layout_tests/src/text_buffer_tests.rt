@@ -3,7 +3,7 @@
 //! An edit that was refused memory leaves the text, and is made again.
 
 ghost use Rattle.std.specs.Prelude.{◌≡◌};
-ghost use Rattle.text_buffer.specs.Buffers.{IsSplit};
+ghost use Rattle.text_buffer.specs.Buffers.{paragraphs_in, IsSplit};
 
 use crate::rows::{Row, assert_rows};
 use bg_types::{Change, Memory};
@@ -28,7 +28,7 @@ fn is_same(one: &Para, other: &Para) -> bool {
 }
 
 /// The text that a buffer keeps.
-fn text_of(alloc: Global, buffer: &Buffer) -> Result<String, Memory> {
+fn text_of(alloc: Global, buffer: &Buffer<u8>) -> Result<String, Memory> {
     let mut text = String::new(alloc);
     for number in 0..buffer.paragraph_count() {
         text.push_str(buffer.paragraph(number).text())?;
@@ -37,7 +37,7 @@ fn text_of(alloc: Global, buffer: &Buffer) -> Result<String, Memory> {
 }
 
 /// Whether a buffer's paragraphs are those that `split` finds in its text, and the paragraph of each place is right.
-fn is_split(alloc: Global, tables: &Tables, buffer: &Buffer) -> Result<bool, Memory> {
+fn is_split(alloc: Global, tables: &Tables, buffer: &Buffer<u8>) -> Result<bool, Memory> {
     let text = text_of(alloc, buffer)?;
     let paras = split(alloc, tables, &text)?;
     let mut right = paras.len() == buffer.paragraph_count()
@@ -66,9 +66,14 @@ enum Way {
     Apply,
 }
 
-fn change(tables: &Tables, buffer: &mut Buffer, way: Way, step: Step) -> Result<(), BufferFault>
-    requires { IsSplit tables.now buffer.old }
-    ensures { IsSplit tables.now buffer.new }
+fn change(
+    tables: &Tables,
+    buffer: &mut Buffer<u8>,
+    way: Way,
+    step: Step,
+) -> Result<Touched, BufferFault>
+    requires { IsSplit tables.now (paragraphs_in buffer.old) }
+    ensures { IsSplit tables.now (paragraphs_in buffer.new) }
 {
     match step {
         Put(place, ch) if place <= buffer.len() => match way {
@@ -76,10 +81,7 @@ fn change(tables: &Tables, buffer: &mut Buffer, way: Way, step: Step) -> Result<
             Way::Apply => buffer.apply(tables, &Change::Put { place, ch }),
         },
         Cut(place) if place < buffer.len() => match way {
-            Way::PutAndCut => match buffer.cut(tables, place) {
-                Ok(()) => Ok(()),
-                Err(Memory) => Err(BufferFault::Memory),
-            },
+            Way::PutAndCut => buffer.cut(tables, place),
             Way::Apply => buffer.apply(tables, &Change::Cut { place }),
         },
         _ => Err(BufferFault::TooLong),
@@ -90,16 +92,16 @@ fn change(tables: &Tables, buffer: &mut Buffer, way: Way, step: Step) -> Result<
 fn make(
     alloc: Global,
     tables: &Tables,
-    buffer: &mut Buffer,
+    buffer: &mut Buffer<u8>,
     way: Way,
     step: Step,
 ) -> Result<bool, Memory>
-    requires { IsSplit tables.now buffer.old }
-    ensures { IsSplit tables.now buffer.new }
+    requires { IsSplit tables.now (paragraphs_in buffer.old) }
+    ensures { IsSplit tables.now (paragraphs_in buffer.new) }
 {
     let before = text_of(alloc, buffer)?;
     match change(tables, buffer, way, step) {
-        Ok(()) => Ok(true),
+        Ok(_) => Ok(true),
         Err(BufferFault::TooLong) => Ok(false),
         Err(BufferFault::Memory) => {
             let same = text_of(alloc, buffer)? == before;
@@ -321,6 +323,17 @@ impl Crowded {
     }
 }
 
+/// Makes a change, once more where memory was refused.
+fn make_again(tables: &Tables, buffer: &mut Buffer<u8>, way: Way, step: Step) -> bool
+    requires { IsSplit tables.now (paragraphs_in buffer.old) }
+    ensures { IsSplit tables.now (paragraphs_in buffer.new) }
+{
+    match change(tables, buffer, way, step) {
+        Err(BufferFault::Memory) => change(tables, buffer, way, step).is_ok(),
+        answer => answer.is_ok(),
+    }
+}
+
 impl Row for Crowded {
     fn comes_out(&self, alloc: Global, tables: &Tables) -> Result<bool, Memory> {
         let text = self.text(alloc, 0)?;
@@ -330,18 +343,14 @@ impl Row for Crowded {
         };
         let mut right = true;
         for _ in 0..self.typed {
-            right = make(
-                alloc,
-                tables,
-                &mut buffer,
-                Way::PutAndCut,
-                Put(self.place, '\n'),
-            )? && right;
+            let step = Put(self.place, '\n');
+            right = make_again(tables, &mut buffer, Way::PutAndCut, step) && right;
         }
         right = is_split(alloc, tables, &buffer)? && right;
         right = text_of(alloc, &buffer)? == self.text(alloc, self.typed)? && right;
         for _ in 0..self.typed {
-            right = make(alloc, tables, &mut buffer, Way::Apply, Cut(self.place))? && right;
+            let step = Cut(self.place);
+            right = make_again(tables, &mut buffer, Way::Apply, step) && right;
         }
         Ok(is_split(alloc, tables, &buffer)? && text_of(alloc, &buffer)? == text && right)
     }

@@ -1,7 +1,7 @@
 -- Paragraphs beside each other, and texts that begin and end at their cuts.
 use Rattle.std.proofs.Common.{◌≡◌, ℕ, zero, suc, ◌+◌, ◌-◌, ◌<◌, ◌≤◌, true, List, [], ◌∷◌, ◌++◌, length, take, drop, get_or, refl, sym, ap, ◌∙◌, inl, inr, add-one, arith}
 use Rattle.std.proofs.lemmas.Bool.{cases_lt}
-use Rattle.std.proofs.lemmas.List.{append-nil, append_assoc, length-append, length-drop, take-append-drop, drop_all, drop_more, take_more}
+use Rattle.std.proofs.lemmas.List.{append-nil, append_assoc, length-append, length-drop, take-append-drop, drop_more, take_more}
 use Rattle.std.specs.List.{concat}
 use Rattle.unicode_tables.specs.Tables.{TableValues, bidi_of}
 use Rattle.paragraphs.specs.Paragraphs.{meets_at_cut}
@@ -23,12 +23,6 @@ text-joined_front kept i to t within =
     let p = get_or kept i [] in
     let z = concat (drop to kept) in
     ap (λ x. concat (take i kept) ++ x) (append_assoc p t z) ∙ sym (append_assoc (concat (take i kept)) p (t ++ z)) ∙ ap (λ x. x ++ (t ++ z)) (sym (concat-more kept i within))
-
-behind-joined : (kept : List (List ℕ)) (i : ℕ) (t : List ℕ) → i < length kept → (t ++ get_or kept i []) ++ concat (drop (i + 1) kept) ≡ t ++ concat (drop i kept)
-behind-joined kept i t within = append_assoc t (get_or kept i []) (concat (drop (i + 1) kept)) ∙ ap (λ x. t ++ x) (sym (concat-later kept i within))
-
-pub text-joined_back : (kept : List (List ℕ)) (from i : ℕ) (t : List ℕ) → i < length kept → text_with kept from (i + 1) (t ++ get_or kept i []) ≡ text_with kept from i t
-text-joined_back kept from i t within = ap (λ x. concat (take from kept) ++ x) (behind-joined kept i t within)
 
 module _ (tables : TableValues) (kept : List (List ℕ)) (is : kept ≡ parts (bidi_of tables) (concat kept)) where
   halved : (i : ℕ) → i < length kept → IsHalved (bidi_of tables) (take i kept) (drop i kept)
@@ -84,62 +78,61 @@ module _ (tables : TableValues) (kept : List (List ℕ)) (is : kept ≡ parts (b
       let later = concat (drop (i + 1) kept) in
       sym (meets-last class (concat (take i kept)) p later (some-at i more)) ∙ ap (λ t. meets_at_cut class t later) (sym (concat-more kept i (omega arith))) ∙ (halved (i + 1) more).met
 
-  meets-next : (i : ℕ) (t : List ℕ) → i < length kept → meets_at_cut (bidi_of tables) t (concat (drop i kept)) ≡ meets_at_cut (bidi_of tables) t (get_or kept i [])
-  meets-next i t within =
-      let class = bidi_of tables in
-      let p = get_or kept i [] in
-      ap (meets_at_cut class t) (concat-later kept i within)
-      ∙ elim (cases_lt (i + 1) (length kept)) [
-        | inl more ↦ meets-front class t p (concat (drop (i + 1) kept)) (some-at i more)
-        | inr last ↦ ap (λ x. meets_at_cut class t (p ++ concat x)) (drop_all (i + 1) kept last) ∙ ap (meets_at_cut class t) (append-nil p)
-      ]
-
   -- ---- in front
 
-  pub begun-first : (t : List ℕ) → 0 < length kept → IsBegun tables kept 0 1 t
-  begun-first t some = record { order = omega arith; within = omega arith; before = refl }
+  pub begun-first : (to : ℕ) (t : List ℕ) → 0 < to → to ≤ length kept → IsBegun tables kept 0 to t
+  begun-first to t order within = record { order = order; within = within; before = refl }
 
-  pub begun-alone : (i : ℕ) (t : List ℕ) → i + 1 < length kept → 0 < length t → meets_at_cut (bidi_of tables) (get_or kept i []) t ≡ true → IsBegun tables kept (i + 1) (i + 1 + 1) t
-  begun-alone i t more some met =
+  -- with the beginning of its first paragraph a text begins at a cut
+  pub begun-own : (i to : ℕ) (f g t : List ℕ) → i < to → to ≤ length kept → f ++ g ≡ get_or kept i [] → 0 < length f → IsBegun tables kept i to (f ++ t)
+  begun-own i to f g t order within own some =
+      let class = bidi_of tables in
+      let a = concat (take i kept) in
+      let z = concat (drop to kept) in
+      let later = concat (drop (i + 1) kept) in
+      let here : i < length kept = omega arith in
+      let is : concat (drop i kept) ≡ f ++ (g ++ later) = concat-later kept i here ∙ ap (λ p. p ++ later) (sym own) ∙ append_assoc f g later in
+      record {
+        order = order;
+        within = within;
+        before =
+            ap (meets_at_cut class a) (append_assoc f t z) ∙ meets-front class a f (t ++ z) some ∙ sym (meets-front class a f (g ++ later) some)
+            ∙ ap (meets_at_cut class a) (sym is) ∙ (halved i here).met;
+      }
+
+  pub begun-alone : (i to : ℕ) (t : List ℕ) → i + 1 < to → to ≤ length kept → 0 < length t → meets_at_cut (bidi_of tables) (get_or kept i []) t ≡ true → IsBegun tables kept (i + 1) to t
+  begun-alone i to t order within some met =
       let class = bidi_of tables in
       let p = get_or kept i [] in
-      let z = concat (drop (i + 1 + 1) kept) in
+      let z = concat (drop to kept) in
       record {
-        order = omega arith;
-        within = omega arith;
+        order = order;
+        within = within;
         before =
-            ap (λ x. meets_at_cut class x (t ++ z)) (concat-more kept i (omega arith)) ∙ meets-last class (concat (take i kept)) p (t ++ z) (some-at i more)
+            ap (λ x. meets_at_cut class x (t ++ z)) (concat-more kept i (omega arith)) ∙ meets-last class (concat (take i kept)) p (t ++ z) (some-at i (omega arith))
             ∙ meets-front class p t z some ∙ met;
       }
 
-  pub begun-joined : (i : ℕ) (t : List ℕ) → i + 1 < length kept → IsBegun tables kept i (i + 1 + 1) (get_or kept i [] ++ t)
-  begun-joined i t more =
+  pub begun-joined : (i to : ℕ) (t : List ℕ) → i + 1 < to → to ≤ length kept → IsBegun tables kept i to (get_or kept i [] ++ t)
+  begun-joined i to t order within =
       let p = get_or kept i [] in
-      let z = concat (drop (i + 1 + 1) kept) in
+      let z = concat (drop to kept) in
       record {
         order = omega arith;
-        within = omega arith;
-        before = ap (meets_at_cut (bidi_of tables) (concat (take i kept))) (append_assoc p t z) ∙ begins i (t ++ z) more;
+        within = within;
+        before = ap (meets_at_cut (bidi_of tables) (concat (take i kept))) (append_assoc p t z) ∙ begins i (t ++ z) (omega arith);
       }
 
   -- ---- behind
 
-  pub stretch-met : (from i : ℕ) (t : List ℕ) → IsBegun tables kept from i t → i < length kept → meets_at_cut (bidi_of tables) t (get_or kept i []) ≡ true → IsStretch tables kept from i t
-  stretch-met from i t begun within met = record { begun = begun; after = λ _. meets-next i t within ∙ met }
-
-  pub stretch-end : (from i : ℕ) (t : List ℕ) → IsBegun tables kept from i t → length kept ≤ i → IsStretch tables kept from i t
-  stretch-end from i t begun end = record { begun = begun; after = λ more. absurd (omega (arith, end, more)) }
-
-  pub stretch-joined : (from i : ℕ) (t : List ℕ) → IsBegun tables kept from i t → i < length kept → IsStretch tables kept from (i + 1) (t ++ get_or kept i [])
-  stretch-joined from i t begun within =
+  -- with the end of its last paragraph it ends at a cut
+  pub stretch-own : (from i : ℕ) (f g x t : List ℕ) → IsBegun tables kept from (i + 1) t → f ++ g ≡ get_or kept i [] → (i + 1 < length kept → 0 < length g) → t ≡ x ++ g → IsStretch tables kept from (i + 1) t
+  stretch-own from i f g x t begun own some is =
       let class = bidi_of tables in
-      let p = get_or kept i [] in
-      let order = begun.order in
       record {
-        begun = record {
-          order = omega (arith, order);
-          within = omega arith;
-          before = ap (meets_at_cut class (concat (take from kept))) (behind-joined kept i t within) ∙ begun.before;
-        };
-        after = λ more. meets-last class t p (concat (drop (i + 1) kept)) (some-at i more) ∙ ends i more;
+        begun = begun;
+        after = λ more.
+            let later = concat (drop (i + 1) kept) in
+            ap (λ y. meets_at_cut class y later) is ∙ meets-last class x g later (some more) ∙ sym (meets-last class f g later (some more))
+            ∙ ap (λ y. meets_at_cut class y later) own ∙ ends i more;
       }

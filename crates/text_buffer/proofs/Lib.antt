@@ -6,5 +6,7 @@ pub mod Splits
 pub mod Places
 pub mod Begun
 pub mod Chars
+pub mod Edits
+pub mod Counted
 pub mod Spots
 pub mod Made

@@ -7,12 +7,12 @@ use Rattle.std.specs.Prelude.{encode_utf8_all, string_bytes}
 use Rattle.std.specs.Str.{IsUtf8}
 use Rattle.unicode_tables.specs.Tables.{TableValues, bidi_of}
 use Rattle.paragraphs.specs.Paragraphs.{meets_at_cut}
-use Rattle.paragraphs.proofs.Interface.{parts, front, front-is, parts-some, concat-parts, IsHalved-from, parts-put, parts-put_last, concat-append, paragraph_points-parts}
+use Rattle.paragraphs.proofs.Interface.{parts, front, front-is, parts-some, concat-parts, IsHalved-from, parts-put, parts-put_last, paragraph_points-parts}
 use Rattle.text_buffer.specs.declared.piece.Piece.{Piece}
 use Rattle.text_buffer.specs.declared.block.Block.{Block}
 use Rattle.text_buffer.specs.Buffers.{IsSplit}
 use Rattle.text_buffer.specs.Pieces.{points_of, points_in}
-use Rattle.text_buffer.specs.Blocks.{kept_in}
+use Rattle.text_buffer.specs.Blocks.{pieces_in, texts_in}
 use Rattle.text_buffer.specs.Stretches.{IsStretch, text_with}
 
 -- ---- what is kept is text
@@ -20,19 +20,16 @@ use Rattle.text_buffer.specs.Stretches.{IsStretch, text_with}
 utf8-joined : (x y : List ℕ) → IsUtf8 (encode_utf8_all x) → IsUtf8 (encode_utf8_all y) → IsUtf8 (encode_utf8_all (x ++ y))
 utf8-joined x y u v = subst IsUtf8 (sym (encodes-append x y)) (IsUtf8-append (encode_utf8_all x) (encode_utf8_all y) u v)
 
-utf8-piece : (p : Piece) → IsUtf8 (encode_utf8_all (points_of p))
-utf8-piece p = let u = IsUtf8-string_bytes p.text in subst IsUtf8 (sym (encodes-chars (string_bytes p.text) u)) u
+module _ {K : Type 0} where
+  utf8-piece : (p : Piece K) → IsUtf8 (encode_utf8_all (points_of p))
+  utf8-piece p = let u = IsUtf8-string_bytes p.text in subst IsUtf8 (sym (encodes-chars (string_bytes p.text) u)) u
 
-pub utf8-pieces : (ps : List Piece) → IsUtf8 (encode_utf8_all (concat (points_in ps)))
-utf8-pieces [] = IsUtf8-nil
-utf8-pieces (p ∷ ps) = utf8-joined (points_of p) (concat (points_in ps)) (utf8-piece p) (utf8-pieces ps)
+  pub utf8-pieces : (ps : List (Piece K)) → IsUtf8 (encode_utf8_all (concat (points_in ps)))
+  utf8-pieces [] = IsUtf8-nil
+  utf8-pieces (p ∷ ps) = utf8-joined (points_of p) (concat (points_in ps)) (utf8-piece p) (utf8-pieces ps)
 
-pub utf8-kept : (bs : List Block) → IsUtf8 (encode_utf8_all (concat (kept_in bs)))
-utf8-kept [] = IsUtf8-nil
-utf8-kept (b ∷ bs) =
-    let row = points_in b.pieces.items in
-    subst (λ t. IsUtf8 (encode_utf8_all t)) (sym (concat-append row (kept_in bs)))
-    (utf8-joined (concat row) (concat (kept_in bs)) (utf8-pieces b.pieces.items) (utf8-kept bs))
+  pub utf8-kept : (bs : List (Block K)) → IsUtf8 (encode_utf8_all (concat (texts_in bs)))
+  utf8-kept bs = utf8-pieces (pieces_in bs)
 
 -- ---- split, by the cuts from the front
 

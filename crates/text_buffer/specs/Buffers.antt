@@ -1,8 +1,23 @@
--- What a buffer is seen as: the paragraphs of its text, each as its code points. Joined they are the text.
-use Rattle.std.specs.Prelude.{◌≡◌, ◌≤◌, ℕ, List, length, encode_utf8_all}
+-- What a buffer is seen as: the paragraphs of its text, each with what is kept of it. Joined they are the text.
+use Rattle.std.specs.Prelude.{◌≡◌, ◌≤◌, ℕ, List, Option, length, map as each, encode_utf8_all}
 use Rattle.std.specs.List.{concat}
 use Rattle.unicode_tables.specs.Tables.{TableValues}
 use Rattle.paragraphs.specs.Paragraphs.{paragraph_points}
+
+-- a paragraph: its code points, and what is kept of it or nothing
+pub record KeptParagraph (K : Type 0) : Type 0 where
+  pub points : List ℕ
+  pub kept : Option K
+
+module _ {K : Type 0} where
+  abbrev pub paragraphs_in : List (KeptParagraph K) → List (List ℕ)
+  paragraphs_in ps = each (λ p. p.points) ps
+
+  abbrev pub kept_in : List (KeptParagraph K) → List (Option K)
+  kept_in ps = each (λ p. p.kept) ps
+
+  abbrev pub text_in : List (KeptParagraph K) → List ℕ
+  text_in ps = concat (paragraphs_in ps)
 
 -- how many bytes these code points take
 abbrev pub bytes_in : List ℕ → ℕ
@@ -10,10 +25,10 @@ bytes_in points = length (encode_utf8_all points)
 
 -- these are the paragraphs of the text that they are joined
 abbrev pub IsSplit : TableValues → List (List ℕ) → Type 0
-IsSplit tables kept = kept ≡ paragraph_points tables (concat kept)
+IsSplit tables paragraphs = paragraphs ≡ paragraph_points tables (concat paragraphs)
 
 -- no text is longer than 4,000,000 bytes, and each paragraph but the last has one at least; while an edit is under way
 -- those that it puts in and those that it takes out stand side by side
-pub record Fits (kept : List (List ℕ)) : Type 0 where
-  pub bytes : bytes_in (concat kept) ≤ 9_000_000
-  pub paragraphs : length kept ≤ 9_000_000
+pub record Fits (texts : List (List ℕ)) : Type 0 where
+  pub bytes : bytes_in (concat texts) ≤ 9_000_000
+  pub paragraphs : length texts ≤ 9_000_000

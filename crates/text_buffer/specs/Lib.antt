@@ -1,5 +1,6 @@
 -- The modules of this crate's definitions.
 pub mod Buffers
+pub mod Edits
 pub mod Codes
 pub mod Pieces
 pub mod Blocks

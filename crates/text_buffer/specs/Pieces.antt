@@ -1,10 +1,15 @@
 -- Paragraphs as they are kept, and what they are seen as.
 use Rattle.std.specs.Prelude.{ℕ, List, map as each, string_bytes}
 use Rattle.paragraphs.specs.Text.{code_points}
+use Rattle.text_buffer.specs.Buffers.{KeptParagraph}
 use Rattle.text_buffer.specs.declared.piece.Piece.{Piece}
 
-abbrev pub points_of : Piece → List ℕ
-points_of p = code_points (string_bytes p.text)
+module _ {K : Type 0} where
+  abbrev pub points_of : Piece K → List ℕ
+  points_of p = code_points (string_bytes p.text)
 
-abbrev pub points_in : List Piece → List (List ℕ)
-points_in ps = each points_of ps
+  abbrev pub points_in : List (Piece K) → List (List ℕ)
+  points_in ps = each points_of ps
+
+  abbrev pub seen : Piece K → KeptParagraph K
+  seen p = record { points = points_of p; kept = p.kept }

@@ -1,13 +1,23 @@
--- How much stands in the blocks before one.
-use Rattle.std.specs.Prelude.{◌≡◌, ◌<◌, List, length, take}
+-- How much stands in the blocks before one, and before a place.
+use Rattle.std.specs.Prelude.{◌≡◌, ◌+◌, ◌<◌, ◌≤◌, ℕ, List, [], length, take, get_or}
 use Rattle.std.specs.List.{concat}
 use Rattle.text_buffer.specs.declared.block.Block.{Block}
 use Rattle.text_buffer.specs.declared.find.Before.{Before}
+use Rattle.text_buffer.specs.declared.find.Spot.{Spot}
 use Rattle.text_buffer.specs.Buffers.{bytes_in}
+use Rattle.text_buffer.specs.Pieces.{points_in}
 use Rattle.text_buffer.specs.Blocks.{rows_of, joined}
 
-pub record StandsBefore (blocks : List Block) (b : Before) : Type 0 where
+pub record StandsBefore {K : Type 0} (blocks : List (Block K)) (b : Before) : Type 0 where
   pub within : b.block < length blocks
-  pub paragraphs : b.paragraphs ≡ length (joined (take b.block (rows_of blocks)))
-  pub bytes : b.bytes ≡ bytes_in (concat (joined (take b.block (rows_of blocks))))
-  pub places : b.places ≡ length (concat (joined (take b.block (rows_of blocks))))
+  pub paragraphs : b.paragraphs ≡ length (points_in (joined (take b.block (rows_of blocks))))
+  pub bytes : b.bytes ≡ bytes_in (concat (points_in (joined (take b.block (rows_of blocks)))))
+  pub places : b.places ≡ length (concat (points_in (joined (take b.block (rows_of blocks)))))
+
+-- a place stands in a paragraph, behind so many of its code points; one between two paragraphs stands in the later one
+pub record StandsAt (paragraphs : List (List ℕ)) (place : ℕ) (s : Spot) : Type 0 where
+  pub there : s.number < length paragraphs
+  pub bytes : s.bytes ≡ bytes_in (concat (take s.number paragraphs))
+  pub place_is : length (concat (take s.number paragraphs)) + s.offset ≡ place
+  pub within : s.offset ≤ length (get_or paragraphs s.number [])
+  pub inside : s.number + 1 < length paragraphs → s.offset < length (get_or paragraphs s.number [])

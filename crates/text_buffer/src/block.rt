@@ -1,11 +1,12 @@
 //! Blocks of paragraphs.
 
-ghost use Rattle.std.specs.Prelude.{◌≡◌, ◌/◌, ◌<◌, ◌≤◌, ◌++◌, length, take, drop, vec_len, remove, IfOk, OnOk, OnErr};
+ghost use Rattle.std.specs.Prelude.{◌≡◌, ◌+◌, ◌<◌, ◌≤◌, ◌++◌, length, take, drop, vec_len, IfOk, OnOk, OnErr};
 ghost use Rattle.std.specs.List.{concat};
 ghost use Rattle.text_buffer.specs.Buffers.{bytes_in};
 ghost use Rattle.text_buffer.specs.Pieces.{points_in};
 
 use crate::piece::Piece;
+use crate::row::{drop_front, splice};
 use bg_types::Memory;
 
 /// How many bytes and code points some paragraphs have.
@@ -16,7 +17,7 @@ pub struct Sums {
 }
 
 /// The sums of these paragraphs.
-pub fn sum_up(pieces: &[Piece]) -> Sums
+pub fn sum_up<K>(pieces: &[Piece<K>]) -> Sums
     requires few { bytes_in (concat (points_in pieces.now)) ≤ 9_000_000 }
     ensures bytes { result.bytes ≡ bytes_in (concat (points_in pieces.now)) }
     ensures places { result.places ≡ length (concat (points_in pieces.now)) }
@@ -32,8 +33,8 @@ pub fn sum_up(pieces: &[Piece]) -> Sums
 
 /// Paragraphs that follow one another, at least one, and how many bytes and code points they have.
 #[derive(Drop)]
-pub struct Block {
-    pub pieces: Vec<Piece>,
+pub struct Block<K> {
+    pub pieces: Vec<Piece<K>>,
     pub bytes: usize,
     pub places: usize,
     ghost some: { 0 < vec_len pieces },
@@ -41,8 +42,8 @@ pub struct Block {
     ghost places_is: { places ≡ length (concat (points_in pieces.items)) },
 }
 
-impl Block {
-    pub fn of(pieces: Vec<Piece>) -> Block
+impl<K: Drop> Block<K> {
+    pub fn of(pieces: Vec<Piece<K>>) -> Block<K>
         requires some { 0 < vec_len pieces }
         requires few { bytes_in (concat (points_in pieces.items)) ≤ 9_000_000 }
         ensures { result.pieces ≡ pieces }
@@ -55,57 +56,47 @@ impl Block {
         }
     }
 
-    /// Its upper half, which it loses.
-    pub fn part(&mut self) -> Result<Block, Memory>
-        requires more { 1 < length self.old.pieces.items }
+    /// Its paragraphs from `number` on, which it loses.
+    pub fn part(&mut self, number: usize) -> Result<Block<K>, Memory>
+        requires some { 0 < number }
+        requires within { number < length self.old.pieces.items }
         requires few { bytes_in (concat (points_in self.old.pieces.items)) ≤ 9_000_000 }
-        ensures low { OnOk result (self.new.pieces.items ≡ take (length self.old.pieces.items / 2) self.old.pieces.items) }
-        ensures high { IfOk result (λ upper. upper.pieces.items ≡ drop (length self.old.pieces.items / 2) self.old.pieces.items) }
+        ensures low { OnOk result (self.new.pieces.items ≡ take number self.old.pieces.items) }
+        ensures high { IfOk result (λ upper. upper.pieces.items ≡ drop number self.old.pieces.items) }
         ensures err { OnErr result (self.new.pieces.items ≡ self.old.pieces.items) }
     {
-        let half = self.pieces.len() / 2;
-        let upper = Block::of(self.pieces.split_off(half)?);
+        let upper = Block::of(self.pieces.split_off(number)?);
         self.bytes -= upper.bytes;
         self.places -= upper.places;
         Ok(upper)
     }
 
-    /// Puts others in front of paragraph `number`, or behind the last one.
-    pub fn insert(&mut self, number: usize, pieces: Vec<Piece>) -> Result<(), Memory>
-        requires within { number ≤ length self.old.pieces.items }
-        requires few { bytes_in (concat (points_in (take number self.old.pieces.items ++ (pieces.items ++ drop number self.old.pieces.items)))) ≤ 9_000_000 }
-        ensures ok { OnOk result (self.new.pieces.items ≡ take number self.old.pieces.items ++ (pieces.items ++ drop number self.old.pieces.items)) }
+    /// Puts others, at least one, in the place of paragraphs `from` up to `to`.
+    pub fn replace(&mut self, from: usize, to: usize, pieces: Vec<Piece<K>>) -> Result<(), Memory>
+        requires order { from ≤ to }
+        requires within { to ≤ length self.old.pieces.items }
+        requires some { 0 < vec_len pieces }
+        requires few { bytes_in (concat (points_in self.old.pieces.items)) + bytes_in (concat (points_in pieces.items)) ≤ 9_000_000 }
+        ensures ok { OnOk result (self.new.pieces.items ≡ take from self.old.pieces.items ++ (pieces.items ++ drop to self.old.pieces.items)) }
         ensures err { OnErr result (self.new.pieces.items ≡ self.old.pieces.items) }
     {
-        splice(&mut self.pieces, number, pieces)?;
-        let sums = sum_up(&self.pieces);
-        self.bytes = sums.bytes;
-        self.places = sums.places;
+        let gone = sum_up(&self.pieces[from..to]);
+        let come = sum_up(&pieces);
+        splice(&mut self.pieces, from, to, pieces)?;
+        self.bytes = self.bytes - gone.bytes + come.bytes;
+        self.places = self.places - gone.places + come.places;
         Ok(())
     }
 
-    /// Takes paragraph `number` away. It is not the only one.
-    pub fn remove(&mut self, number: usize)
-        requires within { number < length self.old.pieces.items }
-        requires more { 1 < length self.old.pieces.items }
+    /// Takes its first `count` paragraphs away, of which it has more.
+    pub fn drop_front(&mut self, count: usize)
+        requires within { count < length self.old.pieces.items }
         requires few { bytes_in (concat (points_in self.old.pieces.items)) ≤ 9_000_000 }
-        ensures { self.new.pieces.items ≡ remove self.old.pieces.items number }
+        ensures { self.new.pieces.items ≡ drop count self.old.pieces.items }
     {
-        self.pieces.remove(number);
-        let sums = sum_up(&self.pieces);
-        self.bytes = sums.bytes;
-        self.places = sums.places;
+        let gone = sum_up(&self.pieces[..count]);
+        drop_front(&mut self.pieces, count);
+        self.bytes -= gone.bytes;
+        self.places -= gone.places;
     }
-}
-
-fn splice(row: &mut Vec<Piece>, number: usize, mut pieces: Vec<Piece>) -> Result<(), Memory>
-    requires { number ≤ length row.old.items }
-    ensures ok { OnOk result (row.new.items ≡ take number row.old.items ++ (pieces.items ++ drop number row.old.items)) }
-    ensures err { OnErr result (row.new.items ≡ row.old.items) }
-{
-    row.reserve(pieces.len())?;
-    let mut tail = row.split_off(number)?;
-    row.append(&mut pieces).unwrap();
-    row.append(&mut tail).unwrap();
-    Ok(())
 }

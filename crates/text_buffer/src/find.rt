@@ -1,11 +1,11 @@
 //! Where paragraphs stand in their blocks.
 
-ghost use Rattle.std.specs.Prelude.{◌≡◌, ◌+◌, ◌^◌, ◌<◌, ◌≤◌, [], length, take, get_or};
+ghost use Rattle.std.specs.Prelude.{◌≡◌, ◌+◌, ◌^◌, ◌<◌, ◌≤◌, [], length, get_or};
 ghost use Rattle.std.specs.List.{concat};
 ghost use Rattle.text_buffer.specs.Buffers.{bytes_in, Fits};
 ghost use Rattle.text_buffer.specs.Pieces.{points_in};
-ghost use Rattle.text_buffer.specs.Blocks.{rows_of, joined, kept_in};
-ghost use Rattle.text_buffer.specs.Places.{StandsBefore};
+ghost use Rattle.text_buffer.specs.Blocks.{rows_of, texts_in};
+ghost use Rattle.text_buffer.specs.Places.{StandsBefore, StandsAt};
 
 use crate::block::Block;
 use crate::piece::Piece;
@@ -22,7 +22,7 @@ pub struct Before {
 
 impl Before {
     /// The next block, behind this one.
-    fn past(self, block: &Block) -> Before
+    fn past<K>(self, block: &Block<K>) -> Before
         requires block { self.block < 2 ^ 63 }
         requires paragraphs { self.paragraphs + length block.now.pieces.items ≤ 9_000_000 }
         requires bytes { self.bytes + block.now.bytes ≤ 9_000_000 }
@@ -41,104 +41,147 @@ impl Before {
     }
 }
 
-const START: Before = Before {
-    block: 0,
-    paragraphs: 0,
-    bytes: 0,
-    places: 0,
-};
+/// The first block.
+pub fn first_block<K>(blocks: &[Block<K>]) -> Before
+    requires { 0 < length blocks.now }
+    ensures stands { StandsBefore blocks.now result }
+    ensures paragraphs { result.paragraphs ≡ 0 }
+    ensures places { result.places ≡ 0 }
+{
+    Before {
+        block: 0,
+        paragraphs: 0,
+        bytes: 0,
+        places: 0,
+    }
+}
+
+/// The block behind one that is not the last.
+pub fn next_to<K>(blocks: &[Block<K>], before: Before) -> Before
+    requires stands { StandsBefore blocks.now before }
+    requires more { before.block + 1 < length blocks.now }
+    requires fits { Fits (texts_in blocks.now) }
+    ensures stands { StandsBefore blocks.now result }
+    ensures paragraphs { result.paragraphs ≡ before.paragraphs + length (get_or (rows_of blocks.now) before.block []) }
+    ensures places { result.places ≡ before.places + length (concat (points_in (get_or (rows_of blocks.now) before.block []))) }
+    ensures block { result.block ≡ before.block + 1 }
+{
+    before.past(&blocks[before.block])
+}
 
 /// How many code points block q has.
-fn places_in(blocks: &[Block], q: usize) -> usize
+fn places_in<K>(blocks: &[Block<K>], q: usize) -> usize
     requires { q < length blocks.now }
-    ensures { result ≡ length (concat (get_or (rows_of blocks.now) q [])) }
+    ensures { result ≡ length (concat (points_in (get_or (rows_of blocks.now) q []))) }
 {
     blocks[q].places
 }
 
-/// The block in which paragraph `number` stands.
-pub fn block_of(blocks: &[Block], number: usize) -> Before
-    requires there { number < length (kept_in blocks.now) }
-    requires fits { Fits (kept_in blocks.now) }
+/// The block in which paragraph `number` stands, from one on that isn't behind it.
+pub fn block_of<K>(blocks: &[Block<K>], start: Before, number: usize) -> Before
+    requires start { StandsBefore blocks.now start }
+    requires behind { start.paragraphs ≤ number }
+    requires there { number < length (texts_in blocks.now) }
+    requires fits { Fits (texts_in blocks.now) }
     ensures stands { StandsBefore blocks.now result }
     ensures reached { result.paragraphs ≤ number }
     ensures here { number < result.paragraphs + length (get_or (rows_of blocks.now) result.block []) }
+    ensures order { start.block ≤ result.block }
 {
-    let mut before = START;
+    let mut before = start;
     while before.paragraphs + count_in(blocks, before.block) <= number {
-        before = before.past(&blocks[before.block]);
+        before = next_to(blocks, before);
     }
     before
 }
 
-/// The block in which a place stands. One behind all that the others have is the last one's.
-pub fn block_at(blocks: &[Block], place: usize) -> Before
-    requires some { 0 < length blocks.now }
-    requires within { place ≤ length (concat (kept_in blocks.now)) }
-    requires fits { Fits (kept_in blocks.now) }
+/// The block in which a place stands, from one on that isn't behind it. A place behind all that the others have is the
+/// last one's.
+pub fn block_at<K>(blocks: &[Block<K>], start: Before, place: usize) -> Before
+    requires start { StandsBefore blocks.now start }
+    requires behind { start.places ≤ place }
+    requires within { place ≤ length (concat (texts_in blocks.now)) }
+    requires fits { Fits (texts_in blocks.now) }
     ensures stands { StandsBefore blocks.now result }
     ensures reached { result.places ≤ place }
-    ensures here { place ≤ result.places + length (concat (get_or (rows_of blocks.now) result.block [])) }
-    ensures inside { result.block + 1 < length blocks.now → place < result.places + length (concat (get_or (rows_of blocks.now) result.block [])) }
+    ensures here { place ≤ result.places + length (concat (points_in (get_or (rows_of blocks.now) result.block []))) }
+    ensures inside { result.block + 1 < length blocks.now → place < result.places + length (concat (points_in (get_or (rows_of blocks.now) result.block []))) }
 {
-    let mut before = START;
+    let mut before = start;
     while before.block + 1 < blocks.len()
         && before.places + places_in(blocks, before.block) <= place
     {
-        before = before.past(&blocks[before.block]);
+        before = next_to(blocks, before);
     }
     before
 }
 
-/// Where a place stands: in which paragraph, and how many code points of it stand before.
+/// Where a place stands: in which paragraph, how many bytes stand before that, and how many code points of it stand before
+/// the place.
 #[derive(Clone, Copy)]
 pub struct Spot {
     pub number: usize,
+    pub bytes: usize,
     pub offset: usize,
 }
 
-/// The paragraph in which a place stands, and how many code points of it stand before. A place between two paragraphs is
-/// the later one's.
-pub fn spot_at(blocks: &[Block], place: usize) -> Spot
-    requires some { 0 < length blocks.now }
-    requires within { place ≤ length (concat (kept_in blocks.now)) }
-    requires fits { Fits (kept_in blocks.now) }
-    ensures number { result.number < length (kept_in blocks.now) }
-    ensures place { length (concat (take result.number (kept_in blocks.now))) + result.offset ≡ place }
-    ensures within { result.offset ≤ length (get_or (kept_in blocks.now) result.number []) }
-    ensures inside { result.number + 1 < length (kept_in blocks.now) → result.offset < length (get_or (kept_in blocks.now) result.number []) }
+/// The spot of a place, and its block, from one on that isn't behind it.
+pub fn spot_at<K>(blocks: &[Block<K>], start: Before, place: usize) -> (Before, Spot)
+    requires start { StandsBefore blocks.now start }
+    requires behind { start.places ≤ place }
+    requires within { place ≤ length (concat (texts_in blocks.now)) }
+    requires fits { Fits (texts_in blocks.now) }
+    ensures stands { StandsBefore blocks.now result.0 }
+    ensures reached { result.0.places ≤ place }
+    ensures first { result.0.paragraphs ≤ result.1.number }
+    ensures here { result.1.number < result.0.paragraphs + length (get_or (rows_of blocks.now) result.0.block []) }
+    ensures spot { StandsAt (texts_in blocks.now) place result.1 }
 {
-    let before = block_at(blocks, place);
+    let before = block_at(blocks, start, place);
     let here = spot_in(&blocks[before.block].pieces, place - before.places);
-    Spot {
+    let spot = Spot {
         number: before.paragraphs + here.number,
+        bytes: before.bytes + here.bytes,
         offset: here.offset,
-    }
+    };
+    (before, spot)
 }
 
 /// The same among the paragraphs of a block.
-fn spot_in(pieces: &[Piece], place: usize) -> Spot
+fn spot_in<K>(pieces: &[Piece<K>], place: usize) -> Spot
     requires some { 0 < length pieces.now }
     requires within { place ≤ length (concat (points_in pieces.now)) }
-    ensures number { result.number < length pieces.now }
-    ensures place { length (concat (take result.number (points_in pieces.now))) + result.offset ≡ place }
-    ensures within { result.offset ≤ length (get_or (points_in pieces.now) result.number []) }
+    requires few { bytes_in (concat (points_in pieces.now)) ≤ 9_000_000 }
+    ensures spot { StandsAt (points_in pieces.now) place result }
     ensures inside { place < length (concat (points_in pieces.now)) → result.offset < length (get_or (points_in pieces.now) result.number []) }
-    ensures early { result.number + 1 < length pieces.now → result.offset < length (get_or (points_in pieces.now) result.number []) }
 {
     let mut number = 0;
+    let mut bytes = 0;
     let mut offset = place;
     while number + 1 < pieces.len() && places_of(pieces, number) <= offset {
+        bytes += bytes_of(pieces, number);
         offset -= places_of(pieces, number);
         number += 1;
     }
-    Spot { number, offset }
+    Spot {
+        number,
+        bytes,
+        offset,
+    }
 }
 
 /// How many code points one of some paragraphs has.
-fn places_of(pieces: &[Piece], number: usize) -> usize
+fn places_of<K>(pieces: &[Piece<K>], number: usize) -> usize
     requires { number < length pieces.now }
     ensures { result ≡ length (get_or (points_in pieces.now) number []) }
 {
     pieces[number].places
+}
+
+/// How many bytes one of some paragraphs has.
+fn bytes_of<K>(pieces: &[Piece<K>], number: usize) -> usize
+    requires { number < length pieces.now }
+    ensures { result ≡ bytes_in (get_or (points_in pieces.now) number []) }
+{
+    pieces[number].text.as_str().len()
 }

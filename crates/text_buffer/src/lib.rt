@@ -6,9 +6,15 @@ mod buffer;
 mod change;
 mod fault;
 mod find;
+mod parted;
 mod piece;
+mod place;
+mod replace;
+mod row;
 mod rows;
 mod stretch;
+mod touched;
 
 pub use buffer::Buffer;
 pub use fault::BufferFault;
+pub use touched::Touched;

@@ -1,87 +1,78 @@
 //! Blocks in the order of the text.
 
-ghost use Rattle.std.specs.Prelude.{◌≡◌, ◌/◌, ◌<◌, ◌≤◌, ◌++◌, [], remove, length, take, drop, get_or, slice_set, vec_len, IfOk, OnOk, OnErr};
+ghost use Rattle.std.specs.Prelude.{◌≡◌, ◌+◌, ◌<◌, ◌≤◌, ◌++◌, [], length, take, drop, get_or, slice_set, vec_len, IfOk, OnOk, OnErr};
 ghost use Rattle.std.specs.List.{concat};
 ghost use Rattle.text_buffer.specs.Buffers.{bytes_in};
 ghost use Rattle.text_buffer.specs.Pieces.{points_in};
-ghost use Rattle.text_buffer.specs.Blocks.{rows_of, joined, kept_in};
+ghost use Rattle.text_buffer.specs.Blocks.{rows_of, pieces_in, texts_in};
 
 use crate::block::Block;
 use crate::piece::Piece;
 use bg_types::Memory;
 
 /// How many paragraphs block q has.
-pub fn count_in(blocks: &[Block], q: usize) -> usize
+pub fn count_in<K>(blocks: &[Block<K>], q: usize) -> usize
     requires { q < length blocks.now }
     ensures { result ≡ length (get_or (rows_of blocks.now) q []) }
 {
     blocks[q].pieces.len()
 }
 
-/// Splits block q in two. The paragraphs stay.
-pub fn part_at(blocks: &mut Vec<Block>, q: usize) -> Result<(), Memory>
+/// Splits block q before its paragraph `number`. The paragraphs stay.
+pub fn part_at<K: Drop>(blocks: &mut Vec<Block<K>>, q: usize, number: usize) -> Result<(), Memory>
     requires block { q < vec_len blocks.old }
-    requires more { 1 < length (get_or (rows_of blocks.old.items) q []) }
-    requires few { bytes_in (concat (kept_in blocks.old.items)) ≤ 9_000_000 }
-    ensures { kept_in blocks.new.items ≡ kept_in blocks.old.items }
+    requires some { 0 < number }
+    requires within { number < length (get_or (rows_of blocks.old.items) q []) }
+    requires few { bytes_in (concat (texts_in blocks.old.items)) ≤ 9_000_000 }
+    ensures kept { pieces_in blocks.new.items ≡ pieces_in blocks.old.items }
+    ensures before { OnOk result (take q (rows_of blocks.new.items) ≡ take q (rows_of blocks.old.items)) }
+    ensures low { OnOk result (get_or (rows_of blocks.new.items) q [] ≡ take number (get_or (rows_of blocks.old.items) q [])) }
+    ensures more { OnOk result (vec_len blocks.new ≡ vec_len blocks.old + 1) }
 {
     blocks.reserve(1)?;
-    let upper = part_in(blocks, q)?;
+    let upper = part_in(blocks, q, number)?;
     blocks.insert(q + 1, upper).unwrap();
     Ok(())
 }
 
-fn part_in(blocks: &mut [Block], q: usize) -> Result<Block, Memory>
+fn part_in<K: Drop>(blocks: &mut [Block<K>], q: usize, number: usize) -> Result<Block<K>, Memory>
     requires block { q < length blocks.old }
-    requires more { 1 < length (get_or (rows_of blocks.old) q []) }
-    requires few { bytes_in (concat (get_or (rows_of blocks.old) q [])) ≤ 9_000_000 }
-    ensures low { let row = get_or (rows_of blocks.old) q [] in
-        OnOk result (rows_of blocks.new ≡ slice_set (rows_of blocks.old) q (take (length row / 2) row)) }
-    ensures high { let row = get_or (rows_of blocks.old) q [] in
-        IfOk result (λ upper. points_in upper.pieces.items ≡ drop (length row / 2) row) }
+    requires some { 0 < number }
+    requires within { number < length (get_or (rows_of blocks.old) q []) }
+    requires few { bytes_in (concat (points_in (get_or (rows_of blocks.old) q []))) ≤ 9_000_000 }
+    ensures low { OnOk result (rows_of blocks.new ≡ slice_set (rows_of blocks.old) q (take number (get_or (rows_of blocks.old) q []))) }
+    ensures high { IfOk result (λ upper. upper.pieces.items ≡ drop number (get_or (rows_of blocks.old) q [])) }
     ensures err { OnErr result (rows_of blocks.new ≡ rows_of blocks.old) }
 {
-    blocks[q].part()
+    blocks[q].part(number)
 }
 
-/// Puts others in front of paragraph `number` of block q, or behind its last one.
-pub fn insert_in(
-    blocks: &mut [Block],
+/// Puts others, at least one, in the place of paragraphs `from` up to `to` of block q.
+pub fn replace_in<K: Drop>(
+    blocks: &mut [Block<K>],
     q: usize,
-    number: usize,
-    pieces: Vec<Piece>,
+    from: usize,
+    to: usize,
+    pieces: Vec<Piece<K>>,
 ) -> Result<(), Memory>
     requires block { q < length blocks.old }
-    requires within { number ≤ length (get_or (rows_of blocks.old) q []) }
-    requires few { let row = get_or (rows_of blocks.old) q [] in
-        bytes_in (concat (take number row ++ (points_in pieces.items ++ drop number row))) ≤ 9_000_000 }
+    requires order { from ≤ to }
+    requires within { to ≤ length (get_or (rows_of blocks.old) q []) }
+    requires some { 0 < vec_len pieces }
+    requires few { bytes_in (concat (points_in (get_or (rows_of blocks.old) q []))) + bytes_in (concat (points_in pieces.items)) ≤ 9_000_000 }
     ensures ok { let row = get_or (rows_of blocks.old) q [] in
-        OnOk result (rows_of blocks.new ≡ slice_set (rows_of blocks.old) q (take number row ++ (points_in pieces.items ++ drop number row))) }
+        OnOk result (rows_of blocks.new ≡ slice_set (rows_of blocks.old) q (take from row ++ (pieces.items ++ drop to row))) }
     ensures err { OnErr result (rows_of blocks.new ≡ rows_of blocks.old) }
 {
-    blocks[q].insert(number, pieces)
+    blocks[q].replace(from, to, pieces)
 }
 
-/// Takes away paragraph `number` of block q. Where it is the only one, the block goes.
-pub fn remove_at(blocks: &mut Vec<Block>, q: usize, number: usize)
-    requires block { q < vec_len blocks.old }
-    requires within { number < length (get_or (rows_of blocks.old.items) q []) }
-    requires few { bytes_in (concat (get_or (rows_of blocks.old.items) q [])) ≤ 9_000_000 }
-    ensures { kept_in blocks.new.items ≡ joined (slice_set (rows_of blocks.old.items) q (remove (get_or (rows_of blocks.old.items) q []) number)) }
-{
-    if count_in(blocks, q) == 1 {
-        blocks.remove(q);
-        return;
-    }
-    remove_in(blocks, q, number);
-}
-
-fn remove_in(blocks: &mut [Block], q: usize, number: usize)
+/// Takes the first `count` paragraphs of block q away, which has more.
+pub fn drop_front_in<K: Drop>(blocks: &mut [Block<K>], q: usize, count: usize)
     requires block { q < length blocks.old }
-    requires within { number < length (get_or (rows_of blocks.old) q []) }
-    requires more { 1 < length (get_or (rows_of blocks.old) q []) }
-    requires few { bytes_in (concat (get_or (rows_of blocks.old) q [])) ≤ 9_000_000 }
-    ensures { rows_of blocks.new ≡ slice_set (rows_of blocks.old) q (remove (get_or (rows_of blocks.old) q []) number) }
+    requires within { count < length (get_or (rows_of blocks.old) q []) }
+    requires few { bytes_in (concat (points_in (get_or (rows_of blocks.old) q []))) ≤ 9_000_000 }
+    ensures { rows_of blocks.new ≡ slice_set (rows_of blocks.old) q (drop count (get_or (rows_of blocks.old) q [])) }
 {
-    blocks[q].remove(number);
+    blocks[q].drop_front(count);
 }

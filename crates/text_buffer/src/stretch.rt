@@ -1,17 +1,27 @@
 //! The stretch of paragraphs that an edit makes anew.
 
-ghost use Rattle.std.specs.Prelude.{◌≡◌, ◌+◌, ◌<◌, ◌++◌, [], length, get_or, string_bytes, IfOk};
+ghost use Rattle.std.specs.Prelude.{◌≡◌, ◌↔◌, ◌⊎◌, ◌+◌, ◌-◌, ◌<◌, ◌≤◌, ◌++◌, ℕ, List, [], Err, length, get_or, string_bytes, IfOk};
+ghost use Rattle.std.specs.List.{concat};
 ghost use Rattle.paragraphs.specs.Text.{code_points};
-ghost use Rattle.text_buffer.specs.Buffers.{Fits, IsSplit};
-ghost use Rattle.text_buffer.specs.Blocks.{kept_in};
+ghost use Rattle.text_buffer.specs.Buffers.{bytes_in, Fits, IsSplit};
+ghost use Rattle.text_buffer.specs.Edits.{replaced, IsParagraphOf};
+ghost use Rattle.text_buffer.specs.Blocks.{texts_in};
+ghost use Rattle.text_buffer.specs.Places.{StandsBefore};
 ghost use Rattle.text_buffer.specs.Stretches.{IsBegun, IsStretch, text_with};
+ghost use Rattle.text_buffer.specs.declared.fault.BufferFault.TheVariants.{TooLong};
 
 use crate::block::Block;
-use crate::find::block_of;
+use crate::fault::BufferFault;
+use crate::find::{Before, first_block};
+use crate::parted::{joined_text, text_between};
+use crate::place::{Place, place_at, text_of};
 use bg_types::Memory;
 use paragraphs::meets_at_cut;
 use std::alloc::Global;
 use unicode_tables::Tables;
+
+/// How many bytes a text has at most.
+pub const LIMIT: usize = 4_000_000;
 
 /// Paragraphs `from` up to `to`, and the text that stands in their place.
 #[derive(Drop)]
@@ -21,113 +31,127 @@ pub struct Stretch {
     pub text: String,
 }
 
-/// The text of paragraph `number`.
-pub fn text_of(blocks: &[Block], number: usize) -> &str
-    requires there { number < length (kept_in blocks.now) }
-    requires fits { Fits (kept_in blocks.now) }
-    ensures { code_points result.now ≡ get_or (kept_in blocks.now) number [] }
-{
-    let before = block_of(blocks, number);
-    blocks[before.block].pieces[number - before.paragraphs]
-        .text
-        .as_str()
+/// What an edit makes anew, the block in which it begins or one before, and how many bytes the text has then.
+#[derive(Drop)]
+pub struct Plan {
+    pub block: Before,
+    pub stretch: Stretch,
+    pub bytes: usize,
 }
 
-/// What is made anew where paragraph `number` gets another text: it, and those beside it that it no longer meets at a cut.
-pub fn stretch_at(
+/// What is made anew where a text takes the place of what stands from one place up to another. The paragraph of the second
+/// place is, with what stands behind the place: so the stretch ends as that paragraph does.
+pub fn plan_edit<K>(
     alloc: Global,
     tables: &Tables,
-    blocks: &[Block],
-    count: usize,
-    number: usize,
-    text: String,
-) -> Result<Stretch, Memory>
-    requires count { count ≡ length (kept_in blocks.now) }
-    requires there { number < length (kept_in blocks.now) }
-    requires fits { Fits (kept_in blocks.now) }
-    requires split { IsSplit tables.now (kept_in blocks.now) }
-    ensures stretch { IfOk result (λ s. IsStretch tables.now (kept_in blocks.now) s.from s.to (code_points (string_bytes s.text))) }
-    ensures text { IfOk result (λ s. text_with (kept_in blocks.now) s.from s.to (code_points (string_bytes s.text))
-        ≡ text_with (kept_in blocks.now) number (number + 1) (code_points (string_bytes text))) }
+    blocks: &[Block<K>],
+    bytes: usize,
+    from: usize,
+    to: usize,
+    text: &str,
+) -> Result<Plan, BufferFault>
+    requires some { 0 < length blocks.now }
+    requires bytes { bytes ≡ bytes_in (concat (texts_in blocks.now)) }
+    requires few { bytes ≤ 4_000_000 }
+    requires order { from ≤ to }
+    requires within { to ≤ length (concat (texts_in blocks.now)) }
+    requires fits { Fits (texts_in blocks.now) }
+    requires split { IsSplit tables.now (texts_in blocks.now) }
+    ensures block { IfOk result (λ p. StandsBefore blocks.now p.block) }
+    ensures stretch { IfOk result (λ p. IsStretch tables.now (texts_in blocks.now) p.stretch.from p.stretch.to (code_points (string_bytes p.stretch.text))) }
+    ensures some { IfOk result (λ p. p.stretch.to < length (texts_in blocks.now) → 0 < length (code_points (string_bytes p.stretch.text))) }
+    ensures text { IfOk result (λ p. text_with (texts_in blocks.now) p.stretch.from p.stretch.to (code_points (string_bytes p.stretch.text))
+        ≡ replaced (concat (texts_in blocks.now)) from to (code_points text.now)) }
+    ensures bytes { IfOk result (λ p. p.bytes ≡ bytes_in (replaced (concat (texts_in blocks.now)) from to (code_points text.now))) }
+    ensures few { IfOk result (λ p. p.bytes ≤ 4_000_000) }
+    ensures first { IfOk result (λ p. IsParagraphOf (texts_in blocks.now) from p.stretch.from ⊎ IsParagraphOf (texts_in blocks.now) from (p.stretch.from + 1)) }
+    ensures last { IfOk result (λ p. IsParagraphOf (texts_in blocks.now) to (p.stretch.to - 1)) }
+    ensures too_long { (result ≡ Err TooLong) ↔ (4_000_000 < bytes_in (replaced (concat (texts_in blocks.now)) from to (code_points text.now))) }
 {
-    let front = with_front(alloc, tables, blocks, number, text)?;
-    with_back(alloc, tables, blocks, count, front)
+    let first = place_at(blocks, first_block(blocks), from);
+    let last = place_at(blocks, first.block, to);
+    let others = bytes - (last.bytes - first.bytes);
+    if text.len() > LIMIT - others {
+        return Err(BufferFault::TooLong);
+    }
+    let whole = text_between(alloc, first.front, text, last.back)?;
+    let stretch = stretch_at(alloc, tables, blocks, &first, last.number + 1, whole)?;
+    Ok(Plan {
+        block: first.block,
+        stretch,
+        bytes: others + text.len(),
+    })
 }
 
-/// With the paragraph in front, where it no longer ends there. If nothing is left of the paragraph itself, what stands
-/// behind it decides that, so the one in front is made anew too.
-fn with_front(
+/// What is made anew where a text takes the place of paragraphs up to `to`, from that of a place on: these, and the one in
+/// front of them, where the text may not meet it at a cut.
+fn stretch_at<K>(
     alloc: Global,
     tables: &Tables,
-    blocks: &[Block],
-    number: usize,
+    blocks: &[Block<K>],
+    first: &Place,
+    to: usize,
     text: String,
 ) -> Result<Stretch, Memory>
-    requires there { number < length (kept_in blocks.now) }
-    requires fits { Fits (kept_in blocks.now) }
-    requires split { IsSplit tables.now (kept_in blocks.now) }
-    ensures front { IfOk result (λ s. IsBegun tables.now (kept_in blocks.now) s.from s.to (code_points (string_bytes s.text))) }
-    ensures text { IfOk result (λ s. text_with (kept_in blocks.now) s.from s.to (code_points (string_bytes s.text))
-        ≡ text_with (kept_in blocks.now) number (number + 1) (code_points (string_bytes text))) }
+    requires some { 0 < length blocks.now }
+    requires order { first.now.number < to }
+    requires within { to ≤ length (texts_in blocks.now) }
+    requires offset { first.now.offset ≡ length (code_points first.now.front.now) }
+    requires own { code_points first.now.front.now ++ code_points first.now.back.now ≡ get_or (texts_in blocks.now) first.now.number [] }
+    requires begins { (t : List ℕ) × (code_points (string_bytes text) ≡ code_points first.now.front.now ++ t) }
+    requires fits { Fits (texts_in blocks.now) }
+    requires split { IsSplit tables.now (texts_in blocks.now) }
+    ensures begun { IfOk result (λ s. IsBegun tables.now (texts_in blocks.now) s.from s.to (code_points (string_bytes s.text))) }
+    ensures text { IfOk result (λ s. text_with (texts_in blocks.now) s.from s.to (code_points (string_bytes s.text))
+        ≡ text_with (texts_in blocks.now) first.now.number to (code_points (string_bytes text))) }
+    ensures from { IfOk result (λ s. (s.from ≡ first.now.number) ⊎ (s.from + 1 ≡ first.now.number)) }
+    ensures to { IfOk result (λ s. s.to ≡ to) }
+    ensures ends { IfOk result (λ s. (front : List ℕ) × (code_points (string_bytes s.text) ≡ front ++ code_points (string_bytes text))) }
 {
-    if number == 0 {
+    if first.number == 0 || first.offset > 0 {
         return Ok(Stretch {
-            from: 0,
-            to: 1,
+            from: first.number,
+            to,
             text,
         });
     }
+    with_front(alloc, tables, blocks, first.number, to, text)
+}
+
+/// With the paragraph in front, where it no longer ends there. If nothing is left of the text, that one is the last, and
+/// is made anew too.
+fn with_front<K>(
+    alloc: Global,
+    tables: &Tables,
+    blocks: &[Block<K>],
+    number: usize,
+    to: usize,
+    text: String,
+) -> Result<Stretch, Memory>
+    requires some { 0 < length blocks.now }
+    requires behind { 0 < number }
+    requires order { number < to }
+    requires within { to ≤ length (texts_in blocks.now) }
+    requires fits { Fits (texts_in blocks.now) }
+    requires split { IsSplit tables.now (texts_in blocks.now) }
+    ensures begun { IfOk result (λ s. IsBegun tables.now (texts_in blocks.now) s.from s.to (code_points (string_bytes s.text))) }
+    ensures text { IfOk result (λ s. text_with (texts_in blocks.now) s.from s.to (code_points (string_bytes s.text))
+        ≡ text_with (texts_in blocks.now) number to (code_points (string_bytes text))) }
+    ensures from { IfOk result (λ s. (s.from ≡ number) ⊎ (s.from + 1 ≡ number)) }
+    ensures to { IfOk result (λ s. s.to ≡ to) }
+    ensures ends { IfOk result (λ s. (front : List ℕ) × (code_points (string_bytes s.text) ≡ front ++ code_points (string_bytes text))) }
+{
     let before = text_of(blocks, number - 1);
     if !text.is_empty() && meets_at_cut(tables, before, &text) {
         return Ok(Stretch {
             from: number,
-            to: number + 1,
+            to,
             text,
         });
     }
     Ok(Stretch {
         from: number - 1,
-        to: number + 1,
+        to,
         text: joined_text(alloc, before, &text)?,
     })
-}
-
-/// With the paragraph behind, where it no longer begins there.
-fn with_back(
-    alloc: Global,
-    tables: &Tables,
-    blocks: &[Block],
-    count: usize,
-    front: Stretch,
-) -> Result<Stretch, Memory>
-    requires count { count ≡ length (kept_in blocks.now) }
-    requires fits { Fits (kept_in blocks.now) }
-    requires split { IsSplit tables.now (kept_in blocks.now) }
-    requires front { IsBegun tables.now (kept_in blocks.now) front.from front.to (code_points (string_bytes front.text)) }
-    ensures stretch { IfOk result (λ s. IsStretch tables.now (kept_in blocks.now) s.from s.to (code_points (string_bytes s.text))) }
-    ensures text { IfOk result (λ s. text_with (kept_in blocks.now) s.from s.to (code_points (string_bytes s.text))
-        ≡ text_with (kept_in blocks.now) front.from front.to (code_points (string_bytes front.text))) }
-{
-    if front.to >= count {
-        return Ok(front);
-    }
-    let behind = text_of(blocks, front.to);
-    if meets_at_cut(tables, &front.text, behind) {
-        return Ok(front);
-    }
-    Ok(Stretch {
-        from: front.from,
-        to: front.to + 1,
-        text: joined_text(alloc, &front.text, behind)?,
-    })
-}
-
-/// Two texts, one behind the other.
-pub fn joined_text(alloc: Global, first: &str, second: &str) -> Result<String, Memory>
-    ensures { IfOk result (λ s. string_bytes s ≡ first.now ++ second.now) }
-{
-    let mut whole = String::with_capacity(alloc, first.len().saturating_add(second.len()))?;
-    whole.push_str(first)?;
-    whole.push_str(second)?;
-    Ok(whole)
 }

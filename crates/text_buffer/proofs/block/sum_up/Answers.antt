@@ -2,25 +2,25 @@
 use Rattle.std.proofs.Common.{◌+◌, length, take, sym, ap, arith}
 use Rattle.std.specs.List.{concat}
 use Rattle.text_buffer.specs.Pieces.{points_in}
-use Rattle.text_buffer.proofs.Sums.{bytes-more, places-more, bytes-front, places-few}
+use Rattle.text_buffer.proofs.Sums.{bytes-more, places-more, bytes-parts, places-few}
 use Rattle.text_buffer.proofs.block.sum_up.Goals as goal
 
 pub overflow_add-bytes : goal.overflow_add-bytes
-overflow_add-bytes c =
+overflow_add-bytes g c =
     let row = c.args.pieces.now in
     let i = c.loop-piece.piece-index in
     let more = bytes-more row i c.piece-item.result (omega (arith, c.loop-piece-test.true)) (sym c.piece-item.is) in
-    omega (arith, c.loop-piece.invariant.bytes, more, bytes-front row (i + 1), c.requires, ap length c.as_str.ensures.value)
+    omega (arith, c.loop-piece.invariant.bytes, more, bytes-parts row (i + 1), c.requires, ap length c.as_str.ensures.value)
 
 pub overflow_add-places : goal.overflow_add-places
-overflow_add-places c =
+overflow_add-places g c =
     let row = c.args.pieces.now in
     let i = c.loop-piece.piece-index in
     let more = places-more row i c.piece-item.result (omega (arith, c.loop-piece-test.true)) (sym c.piece-item.is) in
-    omega (arith, c.loop-piece.invariant.places, more, places-few (concat (points_in (take (i + 1) row))), bytes-front row (i + 1), c.requires)
+    omega (arith, c.loop-piece.invariant.places, more, places-few (concat (points_in (take (i + 1) row))), bytes-parts row (i + 1), c.requires)
 
 pub loop-piece-preserved : goal.loop-piece-preserved
-loop-piece-preserved c =
+loop-piece-preserved g c =
     let row = c.args.pieces.now in
     let i = c.loop-piece.piece-index in
     let bytes = bytes-more row i c.piece-item.result (omega (arith, c.loop-piece-test.true)) (sym c.piece-item.is) in

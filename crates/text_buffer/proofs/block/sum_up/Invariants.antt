@@ -6,7 +6,7 @@ use Rattle.text_buffer.specs.Pieces.{points_in}
 use Rattle.text_buffer.proofs.block.sum_up.Given as goal
 
 abbrev pub invariant-loop-piece : goal.invariant-loop-piece
-invariant-loop-piece l = record {
+invariant-loop-piece g l = record {
   bytes : l.bytes ≡ bytes_in (concat (points_in (take l.piece-index l.pieces)));
   places : l.places ≡ length (concat (points_in (take l.piece-index l.pieces)));
 }

@@ -4,10 +4,10 @@ use Rattle.text_buffer.specs.Places.{StandsBefore}
 use Rattle.text_buffer.proofs.find.block_at.Given as goal
 
 abbrev pub invariant-loop-before : goal.invariant-loop-before
-invariant-loop-before l = record {
+invariant-loop-before g l = record {
   stands : StandsBefore l.blocks l.before;
   reached : l.before.places ≤ l.place;
 }
 
 abbrev pub decreases-loop-before : goal.decreases-loop-before
-decreases-loop-before l = length l.blocks - l.before.block
+decreases-loop-before g l = length l.blocks - l.before.block

@@ -5,7 +5,7 @@ use Rattle.text_buffer.specs.Pieces.{points_of}
 use Rattle.text_buffer.proofs.find.places_of.Goals as goal
 
 pub returns : goal.returns
-returns c =
+returns g c =
     let ps = c.args.pieces.now in
     let r = c.index-pieces-number.result in
     let p = get_or ps c.args.number r in

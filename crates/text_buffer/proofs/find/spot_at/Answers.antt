@@ -1,87 +1,66 @@
 -- The spot in its block is the spot among all.
-use Rattle.std.proofs.Common.{◌+◌, [], length, take, get_or, sym, ap, ◌∙◌, inl, inr, arith}
-use Rattle.std.proofs.lemmas.Bool.{cases_lt}
+use Rattle.std.proofs.Common.{length, get_or, sym, ap, ◌∙◌, arith, refl}
 use Rattle.std.specs.List.{concat}
+use Rattle.text_buffer.specs.Buffers.{bytes_in}
 use Rattle.text_buffer.specs.Pieces.{points_in}
-use Rattle.text_buffer.specs.Blocks.{joined, rows_of}
-use Rattle.text_buffer.proofs.Sums.{places-append}
-use Rattle.text_buffer.proofs.Places.{row-get, kept-at, take-at, parts-of, length-points}
+use Rattle.text_buffer.proofs.Sums.{bytes-take}
+use Rattle.text_buffer.proofs.Places.{row-get, parts-of, length-points, bytes-row}
+use Rattle.text_buffer.proofs.Spots.{spot-among}
 use Rattle.text_buffer.proofs.find.spot_at.Goals as goal
 
-pub overflow_add-result : goal.overflow_add-result
-overflow_add-result c =
-    let bs = c.args.blocks.now in
-    let b = c.block_at-before.result in
-    let s = c.block_at-before.ensures.stands in
-    let x = c.index-blocks-before.result in
-    let ps = c.deref.result.now in
-    let row = row-get bs b.block x s.within ∙ ap points_in (sym c.deref.ensures.value) in
-    let n = c.spot_in-here.result.number in
-    let size = ap length row ∙ length-points ps in
-    let all = parts-of bs b s in
-    omega (arith, all.paragraphs, size, c.spot_in-here.ensures.number, c.requires.fits.paragraphs)
+pub spot_in-here-requires-clause-some : goal.spot_in-here-requires-clause-some
+spot_in-here-requires-clause-some g c =
+    let x = get_or c.args.blocks.now c.block_at-before.result.block c.index-blocks-before.result in
+    omega (arith, ap length c.deref.ensures.value, x.some, x.pieces.ok)
 
-pub returns-clause-number : goal.returns-clause-number
-returns-clause-number c =
+pub spot_in-here-requires-clause-within : goal.spot_in-here-requires-clause-within
+spot_in-here-requires-clause-within g c =
     let bs = c.args.blocks.now in
     let b = c.block_at-before.result in
-    let s = c.block_at-before.ensures.stands in
     let x = c.index-blocks-before.result in
-    let ps = c.deref.result.now in
-    let row = row-get bs b.block x s.within ∙ ap points_in (sym c.deref.ensures.value) in
-    let n = c.spot_in-here.result.number in
-    let size = ap length row ∙ length-points ps in
-    let all = parts-of bs b s in
-    omega (arith, all.paragraphs, size, c.spot_in-here.ensures.number)
+    let row = row-get bs b.block x c.block_at-before.ensures.stands.within ∙ sym c.deref.ensures.value in
+    omega (arith, ap (λ t. length (concat (points_in t))) row, c.block_at-before.ensures.here, c.block_at-before.ensures.reached)
 
-pub returns-clause-place : goal.returns-clause-place
-returns-clause-place c =
+pub spot_in-here-requires-clause-few : goal.spot_in-here-requires-clause-few
+spot_in-here-requires-clause-few g c =
     let bs = c.args.blocks.now in
     let b = c.block_at-before.result in
-    let s = c.block_at-before.ensures.stands in
     let x = c.index-blocks-before.result in
-    let ps = c.deref.result.now in
-    let row = row-get bs b.block x s.within ∙ ap points_in (sym c.deref.ensures.value) in
-    let n = c.spot_in-here.result.number in
-    let size = ap length row ∙ length-points ps in
-    let before = ap (λ t. length (concat t)) (take-at bs b s n (omega (arith, size, c.spot_in-here.ensures.number))) in
-    let both = places-append (joined (take b.block (rows_of bs))) (take n (get_or (rows_of bs) b.block [])) in
-    let here = ap (λ t. length (concat (take n t))) row in
-    omega (arith, before, both, here, s.places, c.spot_in-here.ensures.place, c.block_at-before.ensures.reached)
+    let row = row-get bs b.block x c.block_at-before.ensures.stands.within ∙ sym c.deref.ensures.value in
+    omega (arith, ap (λ t. bytes_in (concat (points_in t))) row, bytes-row bs b.block c.block_at-before.ensures.stands.within, c.requires.fits.bytes)
 
-pub returns-clause-within : goal.returns-clause-within
-returns-clause-within c =
+pub overflow_add-spot : goal.overflow_add-spot
+overflow_add-spot g c =
     let bs = c.args.blocks.now in
     let b = c.block_at-before.result in
-    let s = c.block_at-before.ensures.stands in
     let x = c.index-blocks-before.result in
-    let ps = c.deref.result.now in
-    let row = row-get bs b.block x s.within ∙ ap points_in (sym c.deref.ensures.value) in
-    let n = c.spot_in-here.result.number in
-    let size = ap length row ∙ length-points ps in
-    let at = ap length (kept-at bs b s n (omega (arith, size, c.spot_in-here.ensures.number)) ∙ ap (λ t. get_or t n []) row) in
-    omega (arith, at, c.spot_in-here.ensures.within)
+    let row = row-get bs b.block x c.block_at-before.ensures.stands.within ∙ sym c.deref.ensures.value in
+    let all = parts-of bs b c.block_at-before.ensures.stands in
+    omega (arith, all.paragraphs, ap length row, length-points c.deref.result.now, c.spot_in-here.ensures.spot.there, c.requires.fits.paragraphs)
 
-pub returns-clause-inside : goal.returns-clause-inside
-returns-clause-inside c = λ more.
+pub overflow_add-spot-2 : goal.overflow_add-spot-2
+overflow_add-spot-2 g c =
     let bs = c.args.blocks.now in
     let b = c.block_at-before.result in
-    let s = c.block_at-before.ensures.stands in
     let x = c.index-blocks-before.result in
-    let ps = c.deref.result.now in
-    let row = row-get bs b.block x s.within ∙ ap points_in (sym c.deref.ensures.value) in
-    let n = c.spot_in-here.result.number in
-    let size = ap length row ∙ length-points ps in
-    let all = parts-of bs b s in
-    let at = ap length (kept-at bs b s n (omega (arith, size, c.spot_in-here.ensures.number)) ∙ ap (λ t. get_or t n []) row) in
-    let places = ap (λ t. length (concat t)) row in
-    elim (cases_lt (b.block + 1) (length bs)) [
-      | inl later ↦
-          let less = c.block_at-before.ensures.inside later in
-          let near = c.spot_in-here.ensures.inside (omega (arith, less, places, c.block_at-before.ensures.reached)) in
-          omega (arith, at, near)
-      | inr last ↦
-          let none = ap (λ t. length (joined t)) (all.last last) in
-          let near = c.spot_in-here.ensures.early (omega (arith, all.paragraphs, none, size, more)) in
-          omega (arith, at, near)
-    ]
+    let row = row-get bs b.block x c.block_at-before.ensures.stands.within ∙ sym c.deref.ensures.value in
+    let all = parts-of bs b c.block_at-before.ensures.stands in
+    omega (arith, all.bytes, ap (λ t. bytes_in (concat (points_in t))) row, c.spot_in-here.ensures.spot.bytes, bytes-take (points_in c.deref.result.now) c.spot_in-here.result.number, c.requires.fits.bytes)
+
+pub returns-clause-here : goal.returns-clause-here
+returns-clause-here g c =
+    let b = c.block_at-before.result in
+    let x = c.index-blocks-before.result in
+    let row = row-get c.args.blocks.now b.block x c.block_at-before.ensures.stands.within ∙ sym c.deref.ensures.value in
+    omega (arith, ap length row, length-points c.deref.result.now, c.spot_in-here.ensures.spot.there)
+
+pub returns-clause-spot : goal.returns-clause-spot
+returns-clause-spot g c =
+    let bs = c.args.blocks.now in
+    let b = c.block_at-before.result in
+    let at = c.block_at-before.ensures in
+    let x = c.index-blocks-before.result in
+    let row = row-get bs b.block x at.stands.within ∙ sym c.deref.ensures.value in
+    let places = ap (λ t. length (concat (points_in t))) row in
+    spot-among bs b at.stands c.deref.result.now row c.args.place at.reached c.spot_in-here.result c.spot_in-here.ensures.spot (λ more. let near = at.inside more in omega (arith, near, places)) c.spot_in-here.ensures.inside
+    _ refl refl refl

@@ -1,50 +1,55 @@
 -- The text begins at a cut, with the paragraph in front or behind it.
-use Rattle.std.proofs.Common.{◌≡◌, ◌+◌, ◌-◌, ◌++◌, [], get_or, sym, ap, ap₂, subst, ◌∙◌, arith}
+use Rattle.std.proofs.Common.{◌≡◌, ◌+◌, ◌-◌, ◌++◌, inr, sym, ap, ap₂, subst, ◌∙◌, arith}
 use Rattle.std.proofs.lemmas.Str.{chars-append}
 use Rattle.unicode_tables.specs.Tables.{bidi_of}
 use Rattle.paragraphs.specs.Text.{code_points}
 use Rattle.paragraphs.specs.Paragraphs.{meets_at_cut}
 use Rattle.std.specs.Prelude.{string_bytes}
-use Rattle.text_buffer.specs.Blocks.{kept_in}
+use Rattle.text_buffer.specs.Blocks.{texts_in}
 use Rattle.text_buffer.specs.Stretches.{IsBegun, text_with}
 use Rattle.text_buffer.proofs.Splits.{utf8-kept, split-parts}
 use Rattle.text_buffer.proofs.Begun.{begun-alone, begun-joined, text-joined_front}
 use Rattle.text_buffer.proofs.Chars.{some-points}
 use Rattle.text_buffer.proofs.stretch.with_front.Goals as goal
 
-pub returns-then-meets_at_cut-clause-front : goal.returns-then-meets_at_cut-clause-front
-returns-then-meets_at_cut-clause-front c =
-    let kept = kept_in c.args.blocks.now in
+pub returns-then-meets_at_cut-clause-begun : goal.returns-then-meets_at_cut-clause-begun
+returns-then-meets_at_cut-clause-begun g c =
+    let kept = texts_in c.args.blocks.now in
     let tables = c.args.tables.now in
     let is = split-parts tables kept (utf8-kept c.args.blocks.now) c.requires.split in
     let i = c.args.number - 1 in
-    let next : i + 1 ≡ c.args.number = omega (arith, c.if-number-eq0.false) in
+    let next : i + 1 ≡ c.args.number = omega (arith, c.requires.behind) in
     let t = code_points (string_bytes c.args.text) in
-    let bytes = c.deref.ensures in
     let some = some-points c.args.text (sym c.if-not-is_empty.ensures) in
-    let met = sym (ap₂ (meets_at_cut (bidi_of tables)) c.text_of-before.ensures (ap code_points bytes)) ∙ sym c.if-meets_at_cut.ensures in
-    subst (λ n. IsBegun tables kept n (n + 1) t) next (begun-alone tables kept is i t (omega (arith, next, c.requires.there)) some met)
+    let met = sym (ap₂ (meets_at_cut (bidi_of tables)) c.text_of-before.ensures (ap code_points c.deref.ensures)) ∙ sym c.if-meets_at_cut.ensures in
+    subst (λ n. IsBegun tables kept n c.args.to t) next (begun-alone tables kept is i c.args.to t (omega (arith, next, c.requires.order)) c.requires.within some met)
 
-pub returns-clause-front : goal.returns-clause-front
-returns-clause-front c =
-    let kept = kept_in c.args.blocks.now in
+pub returns-clause-begun : goal.returns-clause-begun
+returns-clause-begun g c =
+    let kept = texts_in c.args.blocks.now in
     let tables = c.args.tables.now in
     let is = split-parts tables kept (utf8-kept c.args.blocks.now) c.requires.split in
     let i = c.args.number - 1 in
-    let next : i + 1 ≡ c.args.number = omega (arith, c.if-number-eq0.false) in
+    let next : i + 1 ≡ c.args.number = omega (arith, c.requires.behind) in
     let t = code_points (string_bytes c.args.text) in
     let whole = ap code_points c.in_ok-joined_text.ensures ∙ chars-append c.text_of-before.result.now c.deref-2.result.now c.text_of-before.utf8
     ∙ ap₂ (λ x y. x ++ y) c.text_of-before.ensures (ap code_points c.deref-2.ensures) in
-    subst (λ x. IsBegun tables kept i (c.args.number + 1) x) (sym whole)
-    (subst (λ n. IsBegun tables kept i (n + 1) (get_or kept i [] ++ t)) next (begun-joined tables kept is i t (omega (arith, next, c.requires.there))))
+    subst (λ x. IsBegun tables kept i c.args.to x) (sym whole) (begun-joined tables kept is i c.args.to t (omega (arith, next, c.requires.order)) c.requires.within)
 
 pub returns-clause-text : goal.returns-clause-text
-returns-clause-text c =
-    let kept = kept_in c.args.blocks.now in
+returns-clause-text g c =
+    let kept = texts_in c.args.blocks.now in
     let i = c.args.number - 1 in
-    let next : i + 1 ≡ c.args.number = omega (arith, c.if-number-eq0.false) in
+    let next : i + 1 ≡ c.args.number = omega (arith, c.requires.behind) in
     let t = code_points (string_bytes c.args.text) in
     let whole = ap code_points c.in_ok-joined_text.ensures ∙ chars-append c.text_of-before.result.now c.deref-2.result.now c.text_of-before.utf8
     ∙ ap₂ (λ x y. x ++ y) c.text_of-before.ensures (ap code_points c.deref-2.ensures) in
-    ap (text_with kept i (c.args.number + 1)) whole ∙ text-joined_front kept i (c.args.number + 1) t (omega (arith, next, c.requires.there))
-    ∙ ap (λ n. text_with kept n (c.args.number + 1) t) next
+    ap (text_with kept i c.args.to) whole ∙ text-joined_front kept i c.args.to t (omega (arith, next, c.requires.order, c.requires.within)) ∙ ap (λ n. text_with kept n c.args.to t) next
+
+pub returns-clause-from : goal.returns-clause-from
+returns-clause-from g c = inr (omega (arith, c.requires.behind))
+
+pub returns-clause-ends : goal.returns-clause-ends
+returns-clause-ends g c =
+    let whole = ap code_points c.in_ok-joined_text.ensures ∙ chars-append c.text_of-before.result.now c.deref-2.result.now c.text_of-before.utf8 in
+    (code_points c.text_of-before.result.now, whole ∙ ap (λ t. code_points c.text_of-before.result.now ++ t) (ap code_points c.deref-2.ensures))

@@ -1,6 +1,6 @@
 -- The text stays split.
-use Rattle.text_buffer.specs.Buffers.{IsSplit}
+use Rattle.text_buffer.specs.Buffers.{paragraphs_in, IsSplit}
 use Rattle.layout_tests.proofs.text_buffer_tests.ByChanceRow.comes_out.Given as goal
 
 abbrev pub invariant-loop : goal.invariant-loop
-invariant-loop l = IsSplit l.tables l.buffer
+invariant-loop l = IsSplit l.tables (paragraphs_in l.buffer)

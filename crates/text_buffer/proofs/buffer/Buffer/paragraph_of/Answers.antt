@@ -1,14 +1,19 @@
--- The place stands in the paragraph, or at the text's end.
-use Rattle.std.proofs.Common.{[], length, take, get_or, ap, ◌∙◌, arith}
+-- The spot is in the paragraph.
+use Rattle.std.proofs.Common.{length, sym, ap, subst, ◌∙◌, arith}
 use Rattle.std.specs.List.{concat}
-use Rattle.text_buffer.specs.Blocks.{kept_in}
-use Rattle.text_buffer.proofs.Texts.{places-more-at}
+use Rattle.text_buffer.specs.Buffers.{paragraphs_in}
+use Rattle.text_buffer.specs.Edits.{IsParagraphOf}
+use Rattle.text_buffer.specs.Blocks.{pieces_in, texts_in}
+use Rattle.text_buffer.proofs.Places.{seen-points}
+use Rattle.text_buffer.proofs.Spots.{paragraph-of}
 use Rattle.text_buffer.proofs.buffer.Buffer.paragraph_of.Goals as goal
 
-pub returns-clause-last : goal.returns-clause-last
-returns-clause-last c = λ more.
-    let e = ap kept_in c.deref.ensures.value ∙ c.self.view_is in
-    let kept = c.args.self.now in
-    let n = c.spot_at.result.number in
-    let inside = c.spot_at.ensures.inside (omega (arith, ap length e, more)) in
-    omega (arith, inside, c.spot_at.ensures.place, ap (λ k. length (concat (take n k))) e, ap (λ k. length (get_or k n [])) e, places-more-at kept n (omega (arith, more)))
+pub spot_at-requires-clause-within : goal.spot_at-requires-clause-within
+spot_at-requires-clause-within g c =
+    let is = ap texts_in c.deref.ensures.value ∙ sym (seen-points (pieces_in c.self.inside.blocks.items)) ∙ ap paragraphs_in c.self.view_is in
+    omega (arith, ap (λ t. length (concat t)) is, c.requires)
+
+pub returns : goal.returns
+returns g c =
+    let is = ap texts_in c.deref.ensures.value ∙ sym (seen-points (pieces_in c.self.inside.blocks.items)) ∙ ap paragraphs_in c.self.view_is in
+    subst (λ t. IsParagraphOf t c.args.place c.spot_at.result.1.number) is (paragraph-of (texts_in c.deref.result.now) c.args.place c.spot_at.result.1 c.spot_at.ensures.spot)

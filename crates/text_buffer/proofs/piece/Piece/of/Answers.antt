@@ -5,6 +5,6 @@ use Rattle.paragraphs.specs.Text.{code_points}
 use Rattle.text_buffer.proofs.piece.Piece.of.Goals as goal
 
 pub invariant_of-result : goal.invariant_of-result
-invariant_of-result c =
+invariant_of-result g c =
     let count : c.count-places.result ≡ length (code_points c.args.text.now) = search (rules, chars_from_encodes) in
     record { counted = count ∙ ap (λ t. length (code_points t)) (sym c.in_ok-text.ensures.ok) }

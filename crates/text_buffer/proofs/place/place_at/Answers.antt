@@ -1,0 +1,43 @@
+-- The two parts of the paragraph stand round the place.
+use Rattle.std.proofs.Common.{◌≡◌, ◌+◌, ◌++◌, [], length, take, get_or, ap, ap₂, ◌∙◌, arith}
+use Rattle.std.proofs.lemmas.List.{take-append-drop, length-take-le}
+use Rattle.std.proofs.lemmas.Str.{encodes-chars}
+use Rattle.std.specs.List.{concat}
+use Rattle.paragraphs.specs.Text.{code_points}
+use Rattle.text_buffer.specs.Buffers.{bytes_in}
+use Rattle.text_buffer.specs.Blocks.{texts_in}
+use Rattle.text_buffer.proofs.Sums.{bytes_in-append, bytes-some}
+use Rattle.text_buffer.proofs.Edits.{text-front}
+use Rattle.text_buffer.proofs.place.place_at.Goals as goal
+
+pub overflow_add-result : goal.overflow_add-result
+overflow_add-result g c =
+    let kept = texts_in c.args.blocks.now in
+    let at = c.spot_at.ensures.spot in
+    let n = c.spot_at.result.1.number in
+    let o = c.spot_at.result.1.offset in
+    let p = code_points c.text_at.result.now in
+    let f = code_points c.parted.result.0.now in
+    let b = code_points c.parted.result.1.now in
+    let own : f ++ b ≡ get_or kept n [] = ap₂ (λ x y. x ++ y) c.parted.ensures.front c.parted.ensures.back ∙ take-append-drop o p ∙ c.text_at.ensures in
+    let size = ap length c.parted.ensures.front ∙ length-take-le o p (omega (arith, at.within, ap length c.text_at.ensures)) in
+    let stands : length (concat (take n kept)) + length f ≡ c.args.place = omega (arith, size, at.place_is) in
+    let front = ap bytes_in (text-front kept n c.args.place f b at.there own stands) ∙ bytes_in-append (concat (take n kept)) f in
+    let same = ap length (encodes-chars c.parted.result.0.now c.parted.ensures.first) in
+    omega (arith, front, same, at.bytes, bytes-some (concat kept) c.args.place, c.requires.fits.bytes)
+
+pub returns-clause-bytes : goal.returns-clause-bytes
+returns-clause-bytes g c =
+    let kept = texts_in c.args.blocks.now in
+    let at = c.spot_at.ensures.spot in
+    let n = c.spot_at.result.1.number in
+    let o = c.spot_at.result.1.offset in
+    let p = code_points c.text_at.result.now in
+    let f = code_points c.parted.result.0.now in
+    let b = code_points c.parted.result.1.now in
+    let own : f ++ b ≡ get_or kept n [] = ap₂ (λ x y. x ++ y) c.parted.ensures.front c.parted.ensures.back ∙ take-append-drop o p ∙ c.text_at.ensures in
+    let size = ap length c.parted.ensures.front ∙ length-take-le o p (omega (arith, at.within, ap length c.text_at.ensures)) in
+    let stands : length (concat (take n kept)) + length f ≡ c.args.place = omega (arith, size, at.place_is) in
+    let front = ap bytes_in (text-front kept n c.args.place f b at.there own stands) ∙ bytes_in-append (concat (take n kept)) f in
+    let same = ap length (encodes-chars c.parted.result.0.now c.parted.ensures.first) in
+    omega (arith, front, same, at.bytes)

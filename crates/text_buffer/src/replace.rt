@@ -1,0 +1,190 @@
+//! Paragraphs in the place of others, whatever blocks they stand in.
+
+ghost use Rattle.std.specs.Prelude.{◌≡◌, ◌+◌, ◌<◌, ◌≤◌, ◌++◌, [], length, take, drop, get_or, vec_len, IfOk, OnOk, OnErr};
+ghost use Rattle.std.specs.List.{concat};
+ghost use Rattle.text_buffer.specs.Buffers.{bytes_in, Fits};
+ghost use Rattle.text_buffer.specs.Pieces.{points_in};
+ghost use Rattle.text_buffer.specs.Blocks.{rows_of, joined, pieces_in, texts_in};
+ghost use Rattle.text_buffer.specs.Places.{StandsBefore};
+
+use crate::block::Block;
+use crate::find::{Before, block_of, first_block, next_to};
+use crate::piece::Piece;
+use crate::row::splice;
+use crate::rows::{count_in, drop_front_in, part_at, replace_in};
+use bg_types::Memory;
+use std::alloc::Global;
+
+/// How many paragraphs a block has at most.
+const FULL: usize = 512;
+
+/// How many paragraphs a block has where many come at once.
+const HALF: usize = 256;
+
+/// Paragraphs in blocks.
+pub fn blocks_of<K: Drop>(alloc: Global, pieces: Vec<Piece<K>>) -> Result<Vec<Block<K>>, Memory>
+    requires some { 0 < vec_len pieces }
+    requires few { bytes_in (concat (points_in pieces.items)) ≤ 9_000_000 }
+    ensures { IfOk result (λ blocks. pieces_in blocks.items ≡ pieces.items) }
+{
+    let mut blocks = Vec::new(alloc);
+    let mut left = pieces;
+    while left.len() > HALF {
+        let last = left.split_off(left.len() - HALF)?;
+        blocks.push(Block::of(last))?;
+    }
+    // It had room for all of them.
+    left.shrink_to_fit();
+    blocks.push(Block::of(left))?;
+    // They were taken from the end, so that none was moved twice.
+    blocks.reverse();
+    Ok(blocks)
+}
+
+/// Puts others, at least one, in the place of paragraphs `from` up to `to`, which are found from a block on. What may be
+/// refused comes first.
+pub fn replace<K: Drop>(
+    alloc: Global,
+    blocks: &mut Vec<Block<K>>,
+    start: Before,
+    from: usize,
+    to: usize,
+    pieces: Vec<Piece<K>>,
+) -> Result<(), Memory>
+    requires start { StandsBefore blocks.old.items start }
+    requires order { from < to }
+    requires within { to ≤ length (pieces_in blocks.old.items) }
+    requires some { 0 < vec_len pieces }
+    requires few { bytes_in (concat (texts_in blocks.old.items)) + bytes_in (concat (points_in pieces.items)) ≤ 9_000_000 }
+    requires paragraphs { length (pieces_in blocks.old.items) + vec_len pieces ≤ 9_000_000 }
+    ensures ok { OnOk result (pieces_in blocks.new.items ≡ take from (pieces_in blocks.old.items) ++ (pieces.items ++ drop to (pieces_in blocks.old.items))) }
+    ensures err { OnErr result (pieces_in blocks.new.items ≡ pieces_in blocks.old.items) }
+{
+    let before = block_of(blocks, start_for(blocks, start, from), from);
+    let count = count_in(blocks, before.block);
+    if to > before.paragraphs + count || count - (to - from) + pieces.len() > FULL {
+        return replace_far(alloc, blocks, before, from, to, pieces);
+    }
+    replace_near(blocks, before, from, to, pieces)
+}
+
+/// A block from which paragraph `number` is found: this one, or the first one.
+fn start_for<K>(blocks: &[Block<K>], start: Before, number: usize) -> Before
+    requires { StandsBefore blocks.now start }
+    ensures stands { StandsBefore blocks.now result }
+    ensures behind { result.paragraphs ≤ number }
+{
+    if start.paragraphs <= number {
+        return start;
+    }
+    first_block(blocks)
+}
+
+/// The same in one block.
+fn replace_near<K: Drop>(
+    blocks: &mut [Block<K>],
+    before: Before,
+    from: usize,
+    to: usize,
+    pieces: Vec<Piece<K>>,
+) -> Result<(), Memory>
+    requires stands { StandsBefore blocks.old before }
+    requires reached { before.paragraphs ≤ from }
+    requires order { from < to }
+    requires here { to ≤ before.paragraphs + length (get_or (rows_of blocks.old) before.block []) }
+    requires some { 0 < vec_len pieces }
+    requires few { bytes_in (concat (texts_in blocks.old)) + bytes_in (concat (points_in pieces.items)) ≤ 9_000_000 }
+    ensures ok { OnOk result (pieces_in blocks.new ≡ take from (pieces_in blocks.old) ++ (pieces.items ++ drop to (pieces_in blocks.old))) }
+    ensures err { OnErr result (pieces_in blocks.new ≡ pieces_in blocks.old) }
+{
+    let number = before.paragraphs;
+    replace_in(blocks, before.block, from - number, to - number, pieces)
+}
+
+/// The same by whole blocks: those of the others stand in the place of all that end before `to`, and what is left of the
+/// next one follows them.
+fn replace_far<K: Drop>(
+    alloc: Global,
+    blocks: &mut Vec<Block<K>>,
+    before: Before,
+    from: usize,
+    to: usize,
+    pieces: Vec<Piece<K>>,
+) -> Result<(), Memory>
+    requires stands { StandsBefore blocks.old.items before }
+    requires reached { before.paragraphs ≤ from }
+    requires here { from < before.paragraphs + length (get_or (rows_of blocks.old.items) before.block []) }
+    requires order { from < to }
+    requires within { to ≤ length (pieces_in blocks.old.items) }
+    requires some { 0 < vec_len pieces }
+    requires few { bytes_in (concat (texts_in blocks.old.items)) + bytes_in (concat (points_in pieces.items)) ≤ 9_000_000 }
+    requires paragraphs { length (pieces_in blocks.old.items) + vec_len pieces ≤ 9_000_000 }
+    ensures ok { OnOk result (pieces_in blocks.new.items ≡ take from (pieces_in blocks.old.items) ++ (pieces.items ++ drop to (pieces_in blocks.old.items))) }
+    ensures err { OnErr result (pieces_in blocks.new.items ≡ pieces_in blocks.old.items) }
+{
+    let others = blocks_of(alloc, pieces)?;
+    let count = others.len();
+    let start = begin_at(blocks, before, from)?;
+    let end = end_of(blocks, start, to);
+    splice(blocks, start.block, end.block, others)?;
+    if end.rest == 0 {
+        return Ok(());
+    }
+    drop_front_in(blocks, start.block + count, end.rest);
+    Ok(())
+}
+
+/// The block that begins with paragraph `number`, which stands in this one: it is split there.
+fn begin_at<K: Drop>(
+    blocks: &mut Vec<Block<K>>,
+    before: Before,
+    number: usize,
+) -> Result<Before, Memory>
+    requires stands { StandsBefore blocks.old.items before }
+    requires reached { before.paragraphs ≤ number }
+    requires here { number < before.paragraphs + length (get_or (rows_of blocks.old.items) before.block []) }
+    requires few { bytes_in (concat (texts_in blocks.old.items)) ≤ 9_000_000 }
+    requires paragraphs { length (pieces_in blocks.old.items) ≤ 9_000_000 }
+    ensures kept { pieces_in blocks.new.items ≡ pieces_in blocks.old.items }
+    ensures stands { IfOk result (λ b. StandsBefore blocks.new.items b) }
+    ensures begins { IfOk result (λ b. b.paragraphs ≡ number) }
+{
+    if number == before.paragraphs {
+        return Ok(before);
+    }
+    part_at(blocks, before.block, number - before.paragraphs)?;
+    Ok(next_to(blocks, before))
+}
+
+/// Where paragraphs end that go: the first block that doesn't go whole, and how many of its own do.
+#[derive(Clone, Copy)]
+struct End {
+    block: usize,
+    rest: usize,
+}
+
+/// Where the paragraphs up to `to` end, found from a block on that doesn't begin behind the last of them.
+fn end_of<K>(blocks: &[Block<K>], start: Before, to: usize) -> End
+    requires start { StandsBefore blocks.now start }
+    requires behind { start.paragraphs < to }
+    requires within { to ≤ length (pieces_in blocks.now) }
+    requires fits { Fits (texts_in blocks.now) }
+    ensures order { start.block ≤ result.block }
+    ensures within { result.block ≤ length blocks.now }
+    ensures rest { 0 < result.rest → result.rest < length (get_or (rows_of blocks.now) result.block []) }
+    ensures there { 0 < result.rest → result.block < length blocks.now }
+    ensures behind { drop result.rest (joined (drop result.block (rows_of blocks.now))) ≡ drop to (pieces_in blocks.now) }
+{
+    let last = block_of(blocks, start, to - 1);
+    let rest = to - last.paragraphs;
+    if rest < count_in(blocks, last.block) {
+        return End {
+            block: last.block,
+            rest,
+        };
+    }
+    End {
+        block: last.block + 1,
+        rest: 0,
+    }
+}
