@@ -61,7 +61,7 @@ enum {
     BIDIGRID_NOT_PLACED = 114,         /* the desk has no such character yet */
     BIDIGRID_TOO_MANY = 115,           /* more than BIDIGRID_MOST_OPERATIONS */
     BIDIGRID_IDENTIFIER_REUSED = 201,  /* an operation: its identifier is kept with another parent or character */
-    BIDIGRID_FULL = 202,               /* BIDIGRID_MOST_OPERATIONS are kept */
+    BIDIGRID_FULL = 202,               /* more than BIDIGRID_MOST_OPERATIONS would be kept */
     BIDIGRID_COUNTER_SPENT = 203,      /* the next counter is above 4294967295 */
     BIDIGRID_BAD_MAGIC = 301,          /* a message: it begins with other bytes than BGOP */
     BIDIGRID_BAD_VERSION = 302,        /* a version other than 1 and 2 */
@@ -211,6 +211,15 @@ uint32_t bidigrid_desk_type(bidigrid_desk *desk, size_t place, uint32_t characte
 
 /* Erases the character at a place, and writes the message to send. */
 uint32_t bidigrid_desk_erase(bidigrid_desk *desk, size_t place, uint8_t *message, size_t room, size_t *size);
+
+/* How many bytes the message has that erases and types so many characters. */
+#define BIDIGRID_REPLACED_SIZE(erased, typed) (5 + 9 * (size_t)(erased) + 19 * (size_t)(typed))
+
+/* Erases the characters from one place up to another, which is left out, types a text in UTF-8 where they began, and
+ * writes the message to send: all of it, or nothing. Where the places are the same it only types; where the text is
+ * empty it only erases. */
+uint32_t bidigrid_desk_replace(bidigrid_desk *desk, size_t from, size_t to, const uint8_t *text, size_t text_size,
+                               uint8_t *message, size_t room, size_t *size);
 
 /* What became of a message: how many operations it has, and how many of them were taken; or its faulty frame, counted
  * from 1, or 0 for its header. */

@@ -53,6 +53,43 @@ static void tries_typing(void)
     bidigrid_desk_free(&desk);
 }
 
+static uint32_t replaced(bidigrid_desk *desk, size_t from, size_t to, const char *text, uint8_t *out, size_t room,
+                         size_t *size)
+{
+    return bidigrid_desk_replace(desk, from, to, utf8(text), strlen(text), out, room, size);
+}
+
+/* A word that is overwritten: one message, which makes another desk the same, or nothing. */
+static void tries_replacing(void)
+{
+    static const uint8_t ONE[] = {'B', 'G', 'O', 'P', 1, 0, 7, 2, 0, 0, 0, 2, 0, 3,
+                                  0,   17,  1,   0,   0, 0, 4, 0, 3, 0, 0, 0, 1, 0, 3, 0, 0, 0x05, 0xD0};
+    bidigrid_desk desk = made(3), other = made(4);
+    bidigrid_taken told;
+    uint8_t out[256];
+    size_t size = 0;
+    CHECK(replaced(&desk, 0, 0, "abc", out, sizeof out, &size) == BIDIGRID_OK && has_text(&desk, "abc"));
+    CHECK(size == BIDIGRID_REPLACED_SIZE(0, 3));
+    CHECK(bidigrid_desk_take(&other, out, size, &told) == BIDIGRID_OK && told.taken == 3 && has_text(&other, "abc"));
+    memset(out, '?', sizeof out);
+    CHECK(replaced(&desk, 1, 2, "\u05D0", out, sizeof ONE - 1, &size) == BIDIGRID_SHORT_BUFFER && size == sizeof ONE);
+    CHECK(replaced(&desk, 1, 2, "\u05D0", NULL, 0, &size) == BIDIGRID_SHORT_BUFFER);
+    CHECK(replaced(&desk, 2, 1, "x", out, sizeof out, &size) == BIDIGRID_BAD_PLACE);
+    CHECK(replaced(&desk, 1, 4, "x", out, sizeof out, &size) == BIDIGRID_BAD_PLACE);
+    CHECK(replaced(&desk, SIZE_MAX, SIZE_MAX, "x", out, sizeof out, &size) == BIDIGRID_BAD_PLACE);
+    CHECK(replaced(&desk, 1, 2, "x\xFF", out, sizeof out, &size) == BIDIGRID_NOT_UTF8);
+    CHECK(out[0] == '?' && has_text(&desk, "abc"));
+    CHECK(replaced(&desk, 1, 2, "\u05D0", out, sizeof out, &size) == BIDIGRID_OK && has_text(&desk, "a\u05D0c"));
+    CHECK(size == sizeof ONE && !memcmp(out, ONE, size) && out[size] == '?');
+    CHECK(bidigrid_desk_take(&other, out, size, &told) == BIDIGRID_OK && told.taken == 2);
+    CHECK(has_text(&other, "a\u05D0c"));
+    CHECK(replaced(&desk, 0, 3, "", out, sizeof out, &size) == BIDIGRID_OK && has_text(&desk, ""));
+    CHECK(size == BIDIGRID_REPLACED_SIZE(3, 0));
+    CHECK(bidigrid_desk_take(&other, out, size, &told) == BIDIGRID_OK && has_text(&other, ""));
+    bidigrid_desk_free(&desk);
+    bidigrid_desk_free(&other);
+}
+
 static void tries_sites(void)
 {
     bidigrid_desk desk = made(65535);
@@ -225,6 +262,7 @@ static void tries_empty_handles(void)
 int main(void)
 {
     tries_typing();
+    tries_replacing();
     tries_sites();
     tries_messages();
     tries_merging();

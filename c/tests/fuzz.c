@@ -78,13 +78,20 @@ static void walks(bidigrid_picture *picture, input *from)
 
 static void edits(bidigrid_desk *desk, bidigrid_desk *other, input *from)
 {
-    uint8_t message[BIDIGRID_TYPED_SIZE];
+    uint8_t message[BIDIGRID_REPLACED_SIZE(8, 4)], text[4];
     size_t size = 0;
     bidigrid_taken told;
     uint8_t how = next(from);
     size_t place = next(from);
-    uint32_t answer = how % 4 == 0 ? bidigrid_desk_erase(desk, place, message, sizeof message, &size)
-                                   : bidigrid_desk_type(desk, place, next(from) * 97u, message, sizeof message, &size);
+    uint32_t answer;
+    if (how % 8 == 2) {
+        for (size_t at = 0; at < sizeof text; at++)
+            text[at] = next(from);
+        answer = bidigrid_desk_replace(desk, place, next(from), text, next(from) % 5, message, sizeof message, &size);
+    } else {
+        answer = how % 4 == 0 ? bidigrid_desk_erase(desk, place, message, sizeof message, &size)
+                              : bidigrid_desk_type(desk, place, next(from) * 97u, message, sizeof message, &size);
+    }
     if (answer == BIDIGRID_OK && how % 2)
         bidigrid_desk_take(other, message, size, &told);
 }

@@ -54,6 +54,11 @@ static uint32_t erases(void)
     return bidigrid_desk_erase(&desk, 0, out, sizeof out, &size);
 }
 
+static uint32_t replaces(void)
+{
+    return bidigrid_desk_replace(&desk, 0, 1, utf8("bc"), 2, out, sizeof out, &size);
+}
+
 static uint32_t takes(void)
 {
     static const uint8_t MESSAGE[] = "BGOP\x02\x00\x15\x03\x00\x00\x00\x01\x00\x07\x00\x00\x00\x00\x00\x00\x00\x00\x00"
@@ -157,6 +162,7 @@ int main(void)
     CHECK(tried("bidigrid_desk_take", a_fresh_desk, takes) > 0 && length_of(&desk) == 2);
     CHECK(tried("bidigrid_desk_type", a_fresh_desk, types) > 0 && length_of(&desk) == 1);
     CHECK(tried("bidigrid_desk_erase", a_letter, erases) > 0 && length_of(&desk) == 0);
+    CHECK(tried("bidigrid_desk_replace", a_letter, replaces) > 0 && length_of(&desk) == 2);
     CHECK(tried("bidigrid_desk_reserve", a_fresh_desk, reserves) > 0);
     CHECK(tried("bidigrid_desk_text", a_letter, reads) > 0);
     CHECK(tried("bidigrid_desk_file", a_letter, saves) > 0);

@@ -1,11 +1,12 @@
 -- What the calls do to a desk.
-use Rattle.std.specs.Prelude.{◌≡◌, ◌⊎◌, ◌<◌, ◌≤◌, ℕ, List, [], ◌∷◌, length, take, slice_get, unwrap_or, Some}
+use Rattle.std.specs.Prelude.{◌≡◌, ◌⊎◌, ◌<◌, ◌≤◌, ◌+◌, ◌-◌, ◌*◌, ◌++◌, ℕ, List, [], ◌∷◌, length, take, drop, slice_get, unwrap_or, Some}
+use Rattle.std.specs.Str.{chars, IsUtf8}
 use Rattle.core.specs.Char.{OutOfScalarRange}
 use Rattle.bg_types.specs.Identifier.{Identifier}
 use Rattle.bg_types.specs.OperationSet.{OperationSet, with_operation, union, size}
 use Rattle.bg_types.specs.declared.op.OpView.{OpView}
 use Rattle.rga_tree.specs.Attached.{IsAttached}
-use Rattle.rga_tree.specs.TextOf.{visible, visible_ids, visible_before}
+use Rattle.rga_tree.specs.TextOf.{text, visible, visible_ids, visible_before}
 use Rattle.op_codec.specs.declared.fault.CodecFault.{CodecFault}
 use Rattle.op_codec.specs.Code.{frame_number}
 use Rattle.op_codec.specs.Fault.{TellsFault}
@@ -14,6 +15,7 @@ use Rattle.op_codec.specs.Spelling.{Spells, SpellsIn, spelling}
 use Rattle.pending_ops.specs.Waiting.{ListsOnce}
 use Rattle.desk_replica.specs.Desk.{Desk}
 use Rattle.desk_replica.specs.Typing.{typed, insertion, IsTypedAt, IsErasedAt, IsTypeRefusal}
+use Rattle.desk_replica.specs.Stretch.{replacement, IsReplaceRefusal}
 use Rattle.desk_replica.specs.Merging.{with_operations, IsMergeRefused}
 use Rattle.desk_replica.specs.Reply.{IsRefused}
 use Rattle.desk_replica.specs.Told.{told as listed}
@@ -38,6 +40,18 @@ pub record IsErased (desk : Desk) (place : ℕ) (new : Desk) (before after : Lis
   pub site : new.site ≡ desk.site
   pub message : IsCopied (spelling (op ∷ [])) before after told 0
 
+-- characters were replaced: the text has the others where they began, and the message is the file of the deletions and of
+-- the insertions that the desk made
+pub record IsReplaced (desk : Desk) (from to : ℕ) (typed : List ℕ) (new : Desk) (before after : List ℕ) (told : ℕ) : Type 0 where
+  pub set : new.set ≡ with_operations desk.set (replacement desk.set desk.site from (to - from) typed)
+  pub replaced : text new.set ≡ take from (text desk.set) ++ (typed ++ drop to (text desk.set))
+  pub site : new.site ≡ desk.site
+  pub message : IsCopied (spelling (replacement desk.set desk.site from (to - from) typed)) before after told 0
+
+-- how many bytes the message of m deletions and n insertions has
+abbrev pub replaced_size : (m n : ℕ) → ℕ
+replaced_size m n = 5 + 9 * m + 19 * n
+
 -- why a desk typed nothing, with the fault's number
 abbrev pub IsRefusedTyping : OperationSet → (place ch room told answer : ℕ) → Type 0
 IsRefusedTyping s place ch room told answer =
@@ -55,6 +69,18 @@ IsRefusedErasing s place room told answer =
     ⊎ (((answer ≡ 107) × (length (visible s) ≤ place))
     ⊎ (((answer ≡ 102) × (room < 14) × (told ≡ 14))
     ⊎ ((answer ≡ 202) × (size s ≡ 1_000_000))))
+
+-- why a desk replaced nothing by the bytes of a text
+abbrev pub IsRefusedReplacing : OperationSet → (from to : ℕ) (bytes : List ℕ) (room told answer : ℕ) → Type 0
+IsRefusedReplacing s from to bytes room told answer =
+    let m = to - from in
+    let n = length (chars bytes) in
+    (answer ≡ 9)
+    ⊎ (((answer ≡ 103) × (¬ (IsUtf8 bytes)))
+    ⊎ (((answer ≡ 107) × ((to < from) ⊎ (length (visible s) < to)))
+    ⊎ (((answer ≡ 102) × (room < replaced_size m n) × (told ≡ replaced_size m n))
+    ⊎ (((answer ≡ 203) × IsReplaceRefusal s m n CounterSpent)
+    ⊎ ((answer ≡ 202) × (1_000_000 < size s + (m + n)))))))
 
 -- a desk took the first operations of a list, as many as were told: all, or those before the one that it refused
 pub record IsTakenUpTo (desk : Desk) (ops : List OpView) (new : Desk) (told answer : ℕ) : Type 0 where

@@ -32,7 +32,7 @@ const TYPED: usize = 24;
 const ERASED: usize = 14;
 
 /// How many operations a desk keeps at most.
-const MOST: usize = 1_000_000;
+pub(crate) const MOST: usize = 1_000_000;
 
 /// Makes a desk of a site without operations. What the handle held is freed.
 #[unsafe(no_mangle)]

@@ -9,6 +9,7 @@ mod fault;
 mod numbers;
 mod picture;
 mod picture_handle;
+mod replacing;
 mod tables;
 mod tables_handle;
 
