@@ -18,7 +18,7 @@ use Rattle.desk_replica.specs.Typing.{typed, insertion, IsTypedAt, IsErasedAt, I
 use Rattle.desk_replica.specs.Stretch.{replacement, IsReplaceRefusal}
 use Rattle.desk_replica.specs.Merging.{with_operations, IsMergeRefused}
 use Rattle.desk_replica.specs.Reply.{IsRefused}
-use Rattle.desk_replica.specs.Told.{told as listed}
+use Rattle.desk_replica.specs.Listed.{listed}
 use Rattle.desk_replica.specs.declared.answer.TakeFault.{TakeFault}
 use Rattle.desk_replica.specs.declared.answer.TypeFault.TheVariants.{CounterSpent, Full}
 use Rattle.bidigrid_c.specs.Copying.{IsCopied}

@@ -23,8 +23,8 @@ use Rattle.desk_replica.proofs.Admitting.{IsContent}
 use Rattle.desk_replica.proofs.ElementPlaces.{element_at, element_for, follows_parent}
 use Rattle.desk_replica.proofs.InTurn.{joined, joined_split, rest_from, take_behind}
 use Rattle.desk_replica.proofs.Lists.{slice_get-take}
-use Rattle.desk_replica.specs.Told.{insertions_in}
-use Rattle.desk_replica.proofs.Told.{late_kept}
+use Rattle.desk_replica.specs.Listed.{insertions_in}
+use Rattle.desk_replica.proofs.Listed.{late_kept}
 use Rattle.desk_replica.proofs.Merges.{agree_of, disagree_of}
 
 -- ---- parts

@@ -23,7 +23,7 @@ use Rattle.rga_tree.specs.Row.{hidden_ids}
 use Rattle.rga_tree.specs.TextOf.{is_erased}
 use Rattle.rga_tree.specs.Parts.{IsPartOf}
 use Rattle.desk_replica.specs.Desk.{Desk, insertion_of}
-use Rattle.desk_replica.specs.Told.{insertions_in, deletions_in, operations_in}
+use Rattle.desk_replica.specs.Listed.{insertions_in, deletions_in, operations_in}
 use Rattle.desk_replica.specs.Listening.{IsHeard, told_count}
 use Rattle.desk_replica.specs.Telling.{ShowsAll, is_shown, changes_of, waiting_count}
 use Rattle.desk_replica.specs.Merging.{IsErasedIn, IsGrown, IsGrownBy, IsStopped}

@@ -37,7 +37,7 @@ use Rattle.desk_replica.proofs.Lists.{length-each}
 use Rattle.desk_replica.proofs.Loop.{none_ready}
 use Rattle.desk_replica.proofs.Settled.{attached_placed, there, whole_formed}
 use Rattle.desk_replica.proofs.Sizes.{len_set-map, len_set-set}
-use Rattle.desk_replica.proofs.Told.{late_kept}
+use Rattle.desk_replica.proofs.Listed.{late_kept}
 use Rattle.desk_replica.specs.Merging.{is_deletion}
 use Rattle.desk_replica.proofs.Steps.{attached_still}
 use Rattle.desk_replica.proofs.Tellings.{Stays, part_with, tells_more, tells_nothing}

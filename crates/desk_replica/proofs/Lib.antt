@@ -25,7 +25,7 @@ pub mod Tellings
 pub mod Erasing
 pub mod Rows
 pub mod OnceEach
-pub mod Told
+pub mod Listed
 pub mod InTurn
 pub mod Hearing
 pub mod Growing

@@ -164,7 +164,7 @@ stands_behind t id parent ch =
 -- told differ by the insertions so far; the rest is typed behind a parent, the next character with this identifier
 pub record IsUnderWay (s t : OperationSet) (first id : Identifier) (front parent : Place) (made told : List OpView) (all rest : List ℕ) (some left : ℕ) : Type 0 where
   pub utf8 : IsUtf8 rest
-  pub told_is : told ++ insertions id parent (chars rest) ≡ made ++ insertions first front (chars all)
+  pub listed_is : told ++ insertions id parent (chars rest) ≡ made ++ insertions first front (chars all)
   pub set_is : with_operations t (insertions id parent (chars rest)) ≡ with_operations s (insertions first front (chars all))
   pub formed : AllByRecursion IsWellFormed (insertions id parent (chars rest)) → AllByRecursion IsWellFormed (insertions first front (chars all))
   pub above : next t ≤ id.counter
@@ -184,12 +184,12 @@ module _ (s t u : OperationSet) (first id : Identifier) (front parent : Place) (
 
   pub under_way : more ≡ told ++ Insert id parent ch ∷ [] → IsWellFormed (Insert id parent ch) → u ≡ with_operation t (Insert id parent ch) → fewer + 1 ≡ left
       → IsUnderWay s u first (id_after id) front (After id) made more all after some fewer
-  under_way told_is formed set_is room =
+  under_way listed_is formed set_is room =
       let later = insertions (id_after id) (After id) (chars after) in
       let split : insertions id parent (chars rest) ≡ Insert id parent ch ∷ later = ap (insertions id parent) rest_is in
       record {
         utf8 = IsUtf8-past_char rest after ch now.utf8 is;
-        told_is = ap (λ l. l ++ later) told_is ∙ append_assoc told (Insert id parent ch ∷ []) later ∙ ap (λ l. told ++ l) (sym split) ∙ now.told_is;
+        listed_is = ap (λ l. l ++ later) listed_is ∙ append_assoc told (Insert id parent ch ∷ []) later ∙ ap (λ l. told ++ l) (sym split) ∙ now.listed_is;
         set_is = ap (λ x. with_operations x later) set_is ∙ ap (with_operations t) (sym split) ∙ now.set_is;
         formed = λ h. now.formed (subst (AllByRecursion IsWellFormed) (sym split) (formed, h));
         above = let low = next_above t id parent ch now.above formed in omega (arith, ap next set_is, low);
@@ -210,7 +210,7 @@ module _ (s t : OperationSet) (first id : Identifier) (front parent : Place) (ma
   nil = ap (insertions id parent) (nothing_left rest none)
 
   pub all_told : told ≡ made ++ insertions first front (chars all)
-  all_told = sym (append-nil told) ∙ ap (λ l. told ++ l) (sym nil) ∙ now.told_is
+  all_told = sym (append-nil told) ∙ ap (λ l. told ++ l) (sym nil) ∙ now.listed_is
 
   pub all_set : t ≡ with_operations s (insertions first front (chars all))
   all_set = ap (with_operations t) (sym nil) ∙ now.set_is

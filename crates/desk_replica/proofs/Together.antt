@@ -8,26 +8,26 @@ use Rattle.rga_tree.specs.Elements.{elements}
 use Rattle.rga_tree.specs.Parts.{IsPartOf}
 use Rattle.pending_ops.specs.Waiting.{Waiting}
 use Rattle.desk_replica.specs.Desk.{Desk}
-use Rattle.desk_replica.specs.Told.{told, insertions_in, deletions_in, operations_in}
+use Rattle.desk_replica.specs.Listed.{listed, insertions_in, deletions_in, operations_in}
 use Rattle.desk_replica.specs.Placement.{IsSettled, waiting_in}
 use Rattle.desk_replica.specs.Merging.{is_deletion}
 use Rattle.desk_replica.proofs.Admitting.{IsContent}
 use Rattle.desk_replica.proofs.Desks.{desk_of}
 use Rattle.desk_replica.proofs.Growing.{IsListedIn}
-use Rattle.desk_replica.proofs.Told.{told_is}
+use Rattle.desk_replica.proofs.Listed.{listed_is}
 
 module _ (t : OperationSet) (w : Waiting) (site spare : ℕ) (d : Desk) (c : IsContent t) (s : IsSettled t w) (view : desk_of t w site spare ≡ d) where
-  pub waiting_listed : IsListedIn (waiting_in w) (told d)
-  waiting_listed op h = subst (λ l. Contains l op) (told_is t w site spare d c s view) (Contains-append_right (operations_in (elements t)) (waiting_in w) op h)
+  pub waiting_listed : IsListedIn (waiting_in w) (listed d)
+  waiting_listed op h = subst (λ l. Contains l op) (listed_is t w site spare d c s view) (Contains-append_right (operations_in (elements t)) (waiting_in w) op h)
 
-  pub elements_listed : IsListedIn (operations_in (elements t)) (told d)
-  elements_listed op h = subst (λ l. Contains l op) (told_is t w site spare d c s view) (Contains-append_left (operations_in (elements t)) (waiting_in w) op h)
+  pub elements_listed : IsListedIn (operations_in (elements t)) (listed d)
+  elements_listed op h = subst (λ l. Contains l op) (listed_is t w site spare d c s view) (Contains-append_left (operations_in (elements t)) (waiting_in w) op h)
 
-  pub deletions_listed : IsListedIn (deletions_in (elements t)) (told d)
+  pub deletions_listed : IsListedIn (deletions_in (elements t)) (listed d)
   deletions_listed op h = elements_listed op (Contains-append_right (insertions_in (elements t)) (deletions_in (elements t)) op h)
 
-  pub all_told : (u : OperationSet) → All (Holds u) (operations_in (elements t)) → All (Holds u) (waiting_in w) → All (Holds u) (told d)
-  all_told u first second = subst (All (Holds u)) (told_is t w site spare d c s view) (All-append (Holds u) (operations_in (elements t)) (waiting_in w) first second)
+  pub all_told : (u : OperationSet) → All (Holds u) (operations_in (elements t)) → All (Holds u) (waiting_in w) → All (Holds u) (listed d)
+  all_told u first second = subst (All (Holds u)) (listed_is t w site spare d c s view) (All-append (Holds u) (operations_in (elements t)) (waiting_in w) first second)
 
 -- deletions that were taken first, and insertions
 pub both_kinds : (u v : OperationSet) (ops : List OpView) → IsPartOf u v → All (λ op. is_deletion op ≡ true → Holds u op) ops → All (λ op. is_deletion op ≡ false → Holds v op) ops → All (Holds v) ops

@@ -7,7 +7,7 @@ pub mod Standing
 pub mod Typing
 pub mod Stretch
 pub mod Merging
-pub mod Told
+pub mod Listed
 pub mod Telling
 pub mod Listening
 pub mod SetOf

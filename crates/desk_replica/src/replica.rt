@@ -9,7 +9,7 @@ ghost use Rattle.pending_ops.specs.Waiting.{ListsOnce};
 ghost use Rattle.desk_replica.specs.Desk.{fresh};
 ghost use Rattle.desk_replica.specs.Reply.{IsTaken, IsRefused, IsRefusal};
 ghost use Rattle.desk_replica.specs.declared.answer.TakeFault.{TakeFault as Fault};
-ghost use Rattle.desk_replica.specs.Told.{told};
+ghost use Rattle.desk_replica.specs.Listed.{listed};
 ghost use Rattle.desk_replica.specs.declared.answer.TypeFault.{TypeFault as Untyped};
 ghost use Rattle.desk_replica.specs.Typing.{typed, insertion, parent_at, IsTypedAt, IsTypeRefusal, IsTypeRefused, IsErasedAt};
 
@@ -254,8 +254,8 @@ impl<S: Sequence> Replica<S> {
     /// of a placed one.
     pub fn op_at(&self, j: usize) -> Op
         requires { j < size self.now.set }
-        ensures listed { slice_get (told self.now) j ≡ Some result }
-        ensures each_once { ListsOnce self.now.set (told self.now) }
+        ensures listed { slice_get (listed self.now) j ≡ Some result }
+        ensures each_once { ListsOnce self.now.set (listed self.now) }
     {
         let reached = self.kept as usize - count_waiting(&self.held);
         if j >= reached {

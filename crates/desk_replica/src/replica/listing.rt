@@ -7,7 +7,7 @@ ghost use Rattle.bg_types.specs.WellFormed.{MayFollow};
 ghost use Rattle.rga_tree.specs.Elements.{elements};
 ghost use Rattle.pending_ops.specs.Waiting.{ListsOnce};
 ghost use Rattle.desk_replica.specs.Placement.{waiting_in};
-ghost use Rattle.desk_replica.specs.Told.{told, insertions_in, deletions_in};
+ghost use Rattle.desk_replica.specs.Listed.{listed, insertions_in, deletions_in};
 
 use super::Replica;
 use crate::placing::count_waiting;
@@ -20,8 +20,8 @@ impl<S: Sequence> Replica<S> {
     /// All operations that are kept, each once, in the order in which `op_at` tells them. Memory is
     /// taken once.
     pub fn ops(&self) -> Result<Vec<Op>, Memory>
-        ensures listed { IfOk result (λ ops. ops.items ≡ told self.now) }
-        ensures each_once { OnOk result (ListsOnce self.now.set (told self.now)) }
+        ensures listed { IfOk result (λ ops. ops.items ≡ listed self.now) }
+        ensures each_once { OnOk result (ListsOnce self.now.set (listed self.now)) }
     {
         let waiting = count_waiting(&self.held);
         let mut ops = Vec::with_capacity(self.alloc, self.kept as usize)?;

@@ -12,7 +12,7 @@ ghost use Rattle.rga_tree.specs.Elements.{elements};
 ghost use Rattle.pending_ops.specs.Waiting.{ListsOnce};
 ghost use Rattle.desk_replica.specs.declared.answer.TakeFault.{TakeFault as Fault};
 ghost use Rattle.desk_replica.specs.Desk.{insertion_of as made_by};
-ghost use Rattle.desk_replica.specs.Told.{told, insertions_in, deletions_in, operations_in};
+ghost use Rattle.desk_replica.specs.Listed.{listed, insertions_in, deletions_in, operations_in};
 ghost use Rattle.desk_replica.specs.Placement.{waiting_in};
 ghost use Rattle.desk_replica.specs.Standing.{IsStanding};
 ghost use Rattle.desk_replica.specs.Listening.{HasRoom, IsHeard};
@@ -197,11 +197,11 @@ impl<S: Sequence> Replica<S> {
         listener: &mut L,
     ) -> Result<(), TakeFault>
         requires well_formed { AllWellFormed self.old.set }
-        ensures grown { IsGrown self.old (told other.now) self.new }
+        ensures grown { IsGrown self.old (listed other.now) self.new }
         ensures heard { IsHeard self.old.set self.new.set (L.told listener.old) (L.told listener.new) (L.capacity listener.old) (L.capacity listener.new) }
-        ensures fault { IfErr result (IsStopped (told other.now) self.new (L.told listener.old) (L.told listener.new) (L.capacity listener.old)) }
-        ensures ok { OnOk result (All (Holds self.new.set) (told other.now)) }
-        ensures all { ListsOnce other.now.set (told other.now) }
+        ensures fault { IfErr result (IsStopped (listed other.now) self.new (L.told listener.old) (L.told listener.new) (L.capacity listener.old)) }
+        ensures ok { OnOk result (All (Holds self.new.set) (listed other.now)) }
+        ensures all { ListsOnce other.now.set (listed other.now) }
     {
         let waiting = count_waiting(&other.held);
         self.erase_waiting(&other.held, waiting, listener)?;

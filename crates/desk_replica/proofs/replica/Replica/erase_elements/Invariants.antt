@@ -2,7 +2,7 @@
 use Rattle.std.proofs.Common.{◌≡◌, take}
 use Rattle.std.specs.Prelude.{All}
 use Rattle.rga_tree.specs.Elements.{elements}
-use Rattle.desk_replica.specs.Told.{deletions_in}
+use Rattle.desk_replica.specs.Listed.{deletions_in}
 use Rattle.desk_replica.specs.Listening.{IsHeard}
 use Rattle.desk_replica.specs.Merging.{IsErasedIn, IsGrown}
 use Rattle.desk_replica.proofs.InTurn.{joined}

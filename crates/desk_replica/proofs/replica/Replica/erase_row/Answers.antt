@@ -2,7 +2,7 @@
 use Rattle.std.proofs.Common.{◌≤◌, [], ◌∷◌, take, get_or, subst, ◌∙◌, refl, arith}
 use Rattle.std.proofs.lemmas.Result.{err_from_is_err_and}
 use Rattle.std.proofs.lemmas.List.Elements.{All-more, All-nil}
-use Rattle.desk_replica.specs.Told.{deletions_in}
+use Rattle.desk_replica.specs.Listed.{deletions_in}
 use Rattle.desk_replica.specs.Merging.{IsErasedIn}
 use Rattle.desk_replica.proofs.Growing.{all_done, desk_still, desk_then, erased_more, listed_alike, one_listed, shows_erased, stopped_then}
 use Rattle.desk_replica.proofs.Hearing.{heard_more, heard_nothing}

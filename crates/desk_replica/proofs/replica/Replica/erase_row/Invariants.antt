@@ -1,7 +1,7 @@
 -- What stays true in the loop of `erase_row`.
 use Rattle.std.proofs.Common.{◌≡◌, take}
 use Rattle.std.specs.Prelude.{All}
-use Rattle.desk_replica.specs.Told.{deletions_in}
+use Rattle.desk_replica.specs.Listed.{deletions_in}
 use Rattle.desk_replica.specs.Listening.{IsHeard}
 use Rattle.desk_replica.specs.Merging.{IsErasedIn, IsGrown}
 use Rattle.desk_replica.proofs.replica.Replica.erase_row.Given as goal

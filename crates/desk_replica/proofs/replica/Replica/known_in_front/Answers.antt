@@ -5,7 +5,7 @@ use Rattle.std.proofs.lemmas.List.Elements.{All-map, All-same, All-take}
 use Rattle.bg_types.specs.OperationSet.{Holds}
 use Rattle.rga_tree.specs.declared.element.Element.{Element}
 use Rattle.desk_replica.specs.Desk.{Desk, insertion_of}
-use Rattle.desk_replica.specs.Told.{insertions_in}
+use Rattle.desk_replica.specs.Listed.{insertions_in}
 use Rattle.desk_replica.proofs.Disagreeing.{placed_kept}
 use Rattle.desk_replica.proofs.replica.Replica.known_in_front.Goals as goal
 

@@ -4,7 +4,7 @@ use Rattle.std.proofs.lemmas.Result.{err_from_is_err_and}
 use Rattle.bg_types.specs.OperationSet.{size}
 use Rattle.desk_replica.specs.declared.answer.TakeFault.TheVariants.{IdentifierReused}
 use Rattle.desk_replica.specs.Desk.{Desk}
-use Rattle.desk_replica.specs.Told.{told}
+use Rattle.desk_replica.specs.Listed.{listed}
 use Rattle.desk_replica.proofs.Desks.{well_formed_desk}
 use Rattle.desk_replica.proofs.Hearing.{heard_nothing, room_to_the_end}
 use Rattle.desk_replica.proofs.Merges.{merge_accepted, nothing_refused, refused_otherwise, size_more, stopped_refused, stopped_short, grown_united}
@@ -29,7 +29,7 @@ returns-in_err-take_all-clause-fault g c =
     let other = c.args.other.now in
     let p = err_from_is_err_and c.from_residual.result c.from_residual.ensures.1 in
     let stop = c.in_err-take_all.ensures.fault in
-    rw (p.1, p.2) (stopped_refused c.args.self.now.set other.set c.take_all.new.self.set (told other) c.if-disagrees.ensures.no c.take_all.ensures.all c.take_all.ensures.grown.grown stop.op c.in_err-take_all.field-0.0 stop.listed stop.refused)
+    rw (p.1, p.2) (stopped_refused c.args.self.now.set other.set c.take_all.new.self.set (listed other) c.if-disagrees.ensures.no c.take_all.ensures.all c.take_all.ensures.grown.grown stop.op c.in_err-take_all.field-0.0 stop.listed stop.refused)
 
 pub returns-in_err-take_all-clause-nothing_new : goal.returns-in_err-take_all-clause-nothing_new
 returns-in_err-take_all-clause-nothing_new g c = λ sub.
@@ -38,7 +38,7 @@ returns-in_err-take_all-clause-nothing_new g c = λ sub.
     let u = c.take_all.new.self.set in
     let fault = c.in_err-take_all.field-0.0 in
     let stop = c.in_err-take_all.ensures.fault in
-    absurd (nothing_refused s other.set u fault sub (stopped_refused s other.set u (told other) c.if-disagrees.ensures.no c.take_all.ensures.all c.take_all.ensures.grown.grown stop.op fault stop.listed stop.refused))
+    absurd (nothing_refused s other.set u fault sub (stopped_refused s other.set u (listed other) c.if-disagrees.ensures.no c.take_all.ensures.all c.take_all.ensures.grown.grown stop.op fault stop.listed stop.refused))
 
 pub returns-in_err-take_all-clause-reused : goal.returns-in_err-take_all-clause-reused
 returns-in_err-take_all-clause-reused g c =
@@ -49,7 +49,7 @@ returns-in_err-take_all-clause-reused g c =
     let p = err_from_is_err_and c.from_residual.result c.from_residual.ensures.1 in
     let stop = c.in_err-take_all.ensures.fault in
     rw (p.1, p.2) (refused_otherwise s other.set u fault (c.take_all.new.self ≡ c.args.self.now) c.if-disagrees.ensures.no
-    (stopped_refused s other.set u (told other) c.if-disagrees.ensures.no c.take_all.ensures.all c.take_all.ensures.grown.grown stop.op fault stop.listed stop.refused))
+    (stopped_refused s other.set u (listed other) c.if-disagrees.ensures.no c.take_all.ensures.all c.take_all.ensures.grown.grown stop.op fault stop.listed stop.refused))
 
 pub returns-in_err-take_all-clause-unpaid : goal.returns-in_err-take_all-clause-unpaid
 returns-in_err-take_all-clause-unpaid g c = λ room.
@@ -59,7 +59,7 @@ returns-in_err-take_all-clause-unpaid g c = λ room.
     let fault = c.in_err-take_all.field-0.0 in
     let stop = c.in_err-take_all.ensures.fault in
     let p = err_from_is_err_and c.from_residual.result c.from_residual.ensures.1 in
-    let short = stopped_short s other.set u (told other) c.if-disagrees.ensures.no c.take_all.ensures.all c.take_all.ensures.grown.grown stop.op fault stop.listed stop.refused in
+    let short = stopped_short s other.set u (listed other) c.if-disagrees.ensures.no c.take_all.ensures.all c.take_all.ensures.grown.grown stop.op fault stop.listed stop.refused in
     rw (p.1, p.2) (λ memory. elim (stop.unpaid memory) [
       | inl none ↦ omega (arith, short, c.take_all.ensures.grown.spare, none)
       | inr full ↦ absurd (full (room_to_the_end s other.set u (g.L.Listener.told c.args.listener.now) (g.L.Listener.told c.take_all.new.listener) (g.L.Listener.capacity c.args.listener.now) (g.L.Listener.capacity c.take_all.new.listener) (well_formed_desk (g.S.Sequence.content c.self.inside.seq) c.self.inside.held c.self.inside.site c.self.inside.spare c.args.self.now (record { well = g.met.S.Sequence.well_formed c.self.inside.seq; tree = g.met.S.Sequence.is_tree c.self.inside.seq; only = g.met.S.Sequence.only_placed c.self.inside.seq }) c.self.invariant.settled c.self.view_is)
@@ -77,7 +77,7 @@ overflow_sub-result g c =
 
 pub returns-clause-ok : goal.returns-clause-ok
 returns-clause-ok g c =
-    grown_united c.args.self.now.set c.args.other.now.set c.take_all.new.self.set (told c.args.other.now) c.if-disagrees.ensures.no c.take_all.ensures.all c.take_all.ensures.grown.grown c.in_ok-take_all.ensures.ok
+    grown_united c.args.self.now.set c.args.other.now.set c.take_all.new.self.set (listed c.args.other.now) c.if-disagrees.ensures.no c.take_all.ensures.all c.take_all.ensures.grown.grown c.in_ok-take_all.ensures.ok
 
 pub returns-clause-count : goal.returns-clause-count
 returns-clause-count g c =
@@ -92,7 +92,7 @@ pub returns-clause-accepted : goal.returns-clause-accepted
 returns-clause-accepted g c =
     let s = c.args.self.now.set in
     let t = c.args.other.now.set in
-    let united = grown_united s t c.take_all.new.self.set (told c.args.other.now) c.if-disagrees.ensures.no c.take_all.ensures.all c.take_all.ensures.grown.grown c.in_ok-take_all.ensures.ok in
+    let united = grown_united s t c.take_all.new.self.set (listed c.args.other.now) c.if-disagrees.ensures.no c.take_all.ensures.all c.take_all.ensures.grown.grown c.in_ok-take_all.ensures.ok in
     let limited = c.self-2.invariant.counted.limited in
     let kept = c.self-2.invariant.counted.kept_is ∙ ap (λ (d : Desk). size d.set) c.self-2.view_is ∙ ap size united in
     merge_accepted s t c.if-disagrees.ensures.no (omega (arith, limited, kept))

@@ -3,8 +3,8 @@ use Rattle.std.proofs.Common.{◌∙◌}
 use Rattle.std.proofs.lemmas.Result.{err_from_is_err_and, on_ok_weaker, IfErr-weaker}
 use Rattle.rga_tree.specs.Elements.{elements}
 use Rattle.desk_replica.specs.Placement.{waiting_in}
-use Rattle.desk_replica.specs.Told.{told, deletions_in, operations_in}
-use Rattle.desk_replica.proofs.Told.{told_once}
+use Rattle.desk_replica.specs.Listed.{listed, deletions_in, operations_in}
+use Rattle.desk_replica.proofs.Listed.{listed_once}
 use Rattle.desk_replica.proofs.Growing.{desk_listed, desk_then, listed_alike, shows_erased, stopped_listed, stopped_then}
 use Rattle.desk_replica.proofs.Hearing.{heard_more}
 use Rattle.desk_replica.proofs.Tellings.{stays_old, stays_shown}
@@ -26,35 +26,35 @@ insert_waiting-requires-clause-well_formed g c = c.take_elements.ensures.heard.t
 pub returns-in_err-erase_waiting-clause-grown : goal.returns-in_err-erase_waiting-clause-grown
 returns-in_err-erase_waiting-clause-grown g c =
     let els = elements (g.S.Sequence.content c.other.inside.seq) in
-    desk_listed c.args.self.now c.erase_waiting.new.self (waiting_in c.other.inside.held) (told c.args.other.now) c.erase_waiting.ensures.grown (waiting_listed (g.S.Sequence.content c.other.inside.seq) c.other.inside.held c.other.inside.site c.other.inside.spare c.args.other.now (record { well = g.met.S.Sequence.well_formed c.other.inside.seq; tree = g.met.S.Sequence.is_tree c.other.inside.seq; only = g.met.S.Sequence.only_placed c.other.inside.seq }) c.other.invariant.settled c.other.view_is)
+    desk_listed c.args.self.now c.erase_waiting.new.self (waiting_in c.other.inside.held) (listed c.args.other.now) c.erase_waiting.ensures.grown (waiting_listed (g.S.Sequence.content c.other.inside.seq) c.other.inside.held c.other.inside.site c.other.inside.spare c.args.other.now (record { well = g.met.S.Sequence.well_formed c.other.inside.seq; tree = g.met.S.Sequence.is_tree c.other.inside.seq; only = g.met.S.Sequence.only_placed c.other.inside.seq }) c.other.invariant.settled c.other.view_is)
 
 pub returns-in_err-erase_waiting-clause-fault : goal.returns-in_err-erase_waiting-clause-fault
 returns-in_err-erase_waiting-clause-fault g c =
     let els = elements (g.S.Sequence.content c.other.inside.seq) in
     let p = err_from_is_err_and c.from_residual.result c.from_residual.ensures.1 in
-    rw (p.1, p.2) (stopped_listed c.erase_waiting.new.self (waiting_in c.other.inside.held) (told c.args.other.now) (g.L.Listener.told c.args.listener.now) (g.L.Listener.told c.erase_waiting.new.listener) (g.L.Listener.capacity c.args.listener.now) c.in_err-erase_waiting.field-0.0 c.in_err-erase_waiting.ensures.fault (waiting_listed (g.S.Sequence.content c.other.inside.seq) c.other.inside.held c.other.inside.site c.other.inside.spare c.args.other.now (record { well = g.met.S.Sequence.well_formed c.other.inside.seq; tree = g.met.S.Sequence.is_tree c.other.inside.seq; only = g.met.S.Sequence.only_placed c.other.inside.seq }) c.other.invariant.settled c.other.view_is))
+    rw (p.1, p.2) (stopped_listed c.erase_waiting.new.self (waiting_in c.other.inside.held) (listed c.args.other.now) (g.L.Listener.told c.args.listener.now) (g.L.Listener.told c.erase_waiting.new.listener) (g.L.Listener.capacity c.args.listener.now) c.in_err-erase_waiting.field-0.0 c.in_err-erase_waiting.ensures.fault (waiting_listed (g.S.Sequence.content c.other.inside.seq) c.other.inside.held c.other.inside.site c.other.inside.spare c.args.other.now (record { well = g.met.S.Sequence.well_formed c.other.inside.seq; tree = g.met.S.Sequence.is_tree c.other.inside.seq; only = g.met.S.Sequence.only_placed c.other.inside.seq }) c.other.invariant.settled c.other.view_is))
 
 pub returns-in_err-erase_waiting-clause-all : goal.returns-in_err-erase_waiting-clause-all
-returns-in_err-erase_waiting-clause-all g c = told_once (g.S.Sequence.content c.other.inside.seq) c.other.inside.held c.other.inside.site c.other.inside.spare c.args.other.now (record { well = g.met.S.Sequence.well_formed c.other.inside.seq; tree = g.met.S.Sequence.is_tree c.other.inside.seq; only = g.met.S.Sequence.only_placed c.other.inside.seq }) c.other.invariant.settled c.other.view_is c.count_waiting-waiting.ensures.each_once
+returns-in_err-erase_waiting-clause-all g c = listed_once (g.S.Sequence.content c.other.inside.seq) c.other.inside.held c.other.inside.site c.other.inside.spare c.args.other.now (record { well = g.met.S.Sequence.well_formed c.other.inside.seq; tree = g.met.S.Sequence.is_tree c.other.inside.seq; only = g.met.S.Sequence.only_placed c.other.inside.seq }) c.other.invariant.settled c.other.view_is c.count_waiting-waiting.ensures.each_once
 
 pub returns-in_err-erase_elements-clause-grown : goal.returns-in_err-erase_elements-clause-grown
 returns-in_err-erase_elements-clause-grown g c =
     let els = elements (g.S.Sequence.content c.other.inside.seq) in
-    desk_then c.args.self.now c.erase_waiting.new.self c.erase_elements.new.self (told c.args.other.now) (deletions_in els) (told c.args.other.now)
-    (desk_listed c.args.self.now c.erase_waiting.new.self (waiting_in c.other.inside.held) (told c.args.other.now) c.erase_waiting.ensures.grown (waiting_listed (g.S.Sequence.content c.other.inside.seq) c.other.inside.held c.other.inside.site c.other.inside.spare c.args.other.now (record { well = g.met.S.Sequence.well_formed c.other.inside.seq; tree = g.met.S.Sequence.is_tree c.other.inside.seq; only = g.met.S.Sequence.only_placed c.other.inside.seq }) c.other.invariant.settled c.other.view_is)) c.erase_elements.ensures.grown (listed_alike (told c.args.other.now))
+    desk_then c.args.self.now c.erase_waiting.new.self c.erase_elements.new.self (listed c.args.other.now) (deletions_in els) (listed c.args.other.now)
+    (desk_listed c.args.self.now c.erase_waiting.new.self (waiting_in c.other.inside.held) (listed c.args.other.now) c.erase_waiting.ensures.grown (waiting_listed (g.S.Sequence.content c.other.inside.seq) c.other.inside.held c.other.inside.site c.other.inside.spare c.args.other.now (record { well = g.met.S.Sequence.well_formed c.other.inside.seq; tree = g.met.S.Sequence.is_tree c.other.inside.seq; only = g.met.S.Sequence.only_placed c.other.inside.seq }) c.other.invariant.settled c.other.view_is)) c.erase_elements.ensures.grown (listed_alike (listed c.args.other.now))
     (deletions_listed (g.S.Sequence.content c.other.inside.seq) c.other.inside.held c.other.inside.site c.other.inside.spare c.args.other.now (record { well = g.met.S.Sequence.well_formed c.other.inside.seq; tree = g.met.S.Sequence.is_tree c.other.inside.seq; only = g.met.S.Sequence.only_placed c.other.inside.seq }) c.other.invariant.settled c.other.view_is)
 
 pub returns-in_err-erase_elements-clause-fault : goal.returns-in_err-erase_elements-clause-fault
 returns-in_err-erase_elements-clause-fault g c =
     let els = elements (g.S.Sequence.content c.other.inside.seq) in
     let p = err_from_is_err_and c.from_residual-in_err-erase_elements.result c.from_residual-in_err-erase_elements.ensures.1 in
-    rw (p.1, p.2) (stopped_then c.args.self.now c.erase_waiting.new.self c.erase_elements.new.self (deletions_in els) (told c.args.other.now) (g.L.Listener.told c.args.listener.now) (g.L.Listener.told c.erase_waiting.new.listener) (g.L.Listener.told c.erase_elements.new.listener) (g.L.Listener.capacity c.args.listener.now) (g.L.Listener.capacity c.erase_waiting.new.listener) (g.L.Listener.capacity c.erase_elements.new.listener) c.in_err-erase_elements.field-0.0
+    rw (p.1, p.2) (stopped_then c.args.self.now c.erase_waiting.new.self c.erase_elements.new.self (deletions_in els) (listed c.args.other.now) (g.L.Listener.told c.args.listener.now) (g.L.Listener.told c.erase_waiting.new.listener) (g.L.Listener.told c.erase_elements.new.listener) (g.L.Listener.capacity c.args.listener.now) (g.L.Listener.capacity c.erase_waiting.new.listener) (g.L.Listener.capacity c.erase_elements.new.listener) c.in_err-erase_elements.field-0.0
     (c.erase_waiting.ensures.heard)
     c.erase_elements.ensures.heard c.in_err-erase_elements.ensures.fault
     (deletions_listed (g.S.Sequence.content c.other.inside.seq) c.other.inside.held c.other.inside.site c.other.inside.spare c.args.other.now (record { well = g.met.S.Sequence.well_formed c.other.inside.seq; tree = g.met.S.Sequence.is_tree c.other.inside.seq; only = g.met.S.Sequence.only_placed c.other.inside.seq }) c.other.invariant.settled c.other.view_is))
 
 pub returns-in_err-erase_elements-clause-all : goal.returns-in_err-erase_elements-clause-all
-returns-in_err-erase_elements-clause-all g c = told_once (g.S.Sequence.content c.other.inside.seq) c.other.inside.held c.other.inside.site c.other.inside.spare c.args.other.now (record { well = g.met.S.Sequence.well_formed c.other.inside.seq; tree = g.met.S.Sequence.is_tree c.other.inside.seq; only = g.met.S.Sequence.only_placed c.other.inside.seq }) c.other.invariant.settled c.other.view_is c.count_waiting-waiting.ensures.each_once
+returns-in_err-erase_elements-clause-all g c = listed_once (g.S.Sequence.content c.other.inside.seq) c.other.inside.held c.other.inside.site c.other.inside.spare c.args.other.now (record { well = g.met.S.Sequence.well_formed c.other.inside.seq; tree = g.met.S.Sequence.is_tree c.other.inside.seq; only = g.met.S.Sequence.only_placed c.other.inside.seq }) c.other.invariant.settled c.other.view_is c.count_waiting-waiting.ensures.each_once
 
 pub returns-in_err-erase_elements-clause-heard : goal.returns-in_err-erase_elements-clause-heard
 returns-in_err-erase_elements-clause-heard g c =
@@ -65,17 +65,17 @@ returns-in_err-erase_elements-clause-heard g c =
 pub returns-in_err-take_elements-clause-grown : goal.returns-in_err-take_elements-clause-grown
 returns-in_err-take_elements-clause-grown g c =
     let els = elements (g.S.Sequence.content c.other.inside.seq) in
-    desk_then c.args.self.now c.erase_elements.new.self c.take_elements.new.self (told c.args.other.now) (operations_in els) (told c.args.other.now)
-    (desk_then c.args.self.now c.erase_waiting.new.self c.erase_elements.new.self (told c.args.other.now) (deletions_in els) (told c.args.other.now)
-    (desk_listed c.args.self.now c.erase_waiting.new.self (waiting_in c.other.inside.held) (told c.args.other.now) c.erase_waiting.ensures.grown (waiting_listed (g.S.Sequence.content c.other.inside.seq) c.other.inside.held c.other.inside.site c.other.inside.spare c.args.other.now (record { well = g.met.S.Sequence.well_formed c.other.inside.seq; tree = g.met.S.Sequence.is_tree c.other.inside.seq; only = g.met.S.Sequence.only_placed c.other.inside.seq }) c.other.invariant.settled c.other.view_is)) c.erase_elements.ensures.grown (listed_alike (told c.args.other.now))
-    (deletions_listed (g.S.Sequence.content c.other.inside.seq) c.other.inside.held c.other.inside.site c.other.inside.spare c.args.other.now (record { well = g.met.S.Sequence.well_formed c.other.inside.seq; tree = g.met.S.Sequence.is_tree c.other.inside.seq; only = g.met.S.Sequence.only_placed c.other.inside.seq }) c.other.invariant.settled c.other.view_is)) c.take_elements.ensures.grown (listed_alike (told c.args.other.now))
+    desk_then c.args.self.now c.erase_elements.new.self c.take_elements.new.self (listed c.args.other.now) (operations_in els) (listed c.args.other.now)
+    (desk_then c.args.self.now c.erase_waiting.new.self c.erase_elements.new.self (listed c.args.other.now) (deletions_in els) (listed c.args.other.now)
+    (desk_listed c.args.self.now c.erase_waiting.new.self (waiting_in c.other.inside.held) (listed c.args.other.now) c.erase_waiting.ensures.grown (waiting_listed (g.S.Sequence.content c.other.inside.seq) c.other.inside.held c.other.inside.site c.other.inside.spare c.args.other.now (record { well = g.met.S.Sequence.well_formed c.other.inside.seq; tree = g.met.S.Sequence.is_tree c.other.inside.seq; only = g.met.S.Sequence.only_placed c.other.inside.seq }) c.other.invariant.settled c.other.view_is)) c.erase_elements.ensures.grown (listed_alike (listed c.args.other.now))
+    (deletions_listed (g.S.Sequence.content c.other.inside.seq) c.other.inside.held c.other.inside.site c.other.inside.spare c.args.other.now (record { well = g.met.S.Sequence.well_formed c.other.inside.seq; tree = g.met.S.Sequence.is_tree c.other.inside.seq; only = g.met.S.Sequence.only_placed c.other.inside.seq }) c.other.invariant.settled c.other.view_is)) c.take_elements.ensures.grown (listed_alike (listed c.args.other.now))
     (elements_listed (g.S.Sequence.content c.other.inside.seq) c.other.inside.held c.other.inside.site c.other.inside.spare c.args.other.now (record { well = g.met.S.Sequence.well_formed c.other.inside.seq; tree = g.met.S.Sequence.is_tree c.other.inside.seq; only = g.met.S.Sequence.only_placed c.other.inside.seq }) c.other.invariant.settled c.other.view_is)
 
 pub returns-in_err-take_elements-clause-fault : goal.returns-in_err-take_elements-clause-fault
 returns-in_err-take_elements-clause-fault g c =
     let els = elements (g.S.Sequence.content c.other.inside.seq) in
     let p = err_from_is_err_and c.from_residual-in_err-take_elements.result c.from_residual-in_err-take_elements.ensures.1 in
-    rw (p.1, p.2) (stopped_then c.args.self.now c.erase_elements.new.self c.take_elements.new.self (operations_in els) (told c.args.other.now) (g.L.Listener.told c.args.listener.now) (g.L.Listener.told c.erase_elements.new.listener) (g.L.Listener.told c.take_elements.new.listener) (g.L.Listener.capacity c.args.listener.now) (g.L.Listener.capacity c.erase_elements.new.listener) (g.L.Listener.capacity c.take_elements.new.listener) c.in_err-take_elements.field-0.0
+    rw (p.1, p.2) (stopped_then c.args.self.now c.erase_elements.new.self c.take_elements.new.self (operations_in els) (listed c.args.other.now) (g.L.Listener.told c.args.listener.now) (g.L.Listener.told c.erase_elements.new.listener) (g.L.Listener.told c.take_elements.new.listener) (g.L.Listener.capacity c.args.listener.now) (g.L.Listener.capacity c.erase_elements.new.listener) (g.L.Listener.capacity c.take_elements.new.listener) c.in_err-take_elements.field-0.0
     (heard_more c.args.self.now.set c.erase_waiting.new.self.set c.erase_elements.new.self.set (g.L.Listener.told c.args.listener.now) (g.L.Listener.told c.erase_waiting.new.listener) (g.L.Listener.told c.erase_elements.new.listener) (g.L.Listener.capacity c.args.listener.now) (g.L.Listener.capacity c.erase_waiting.new.listener) (g.L.Listener.capacity c.erase_elements.new.listener)
     (c.erase_waiting.ensures.heard) c.erase_elements.ensures.heard
     (stays_old c.args.self.now.set c.erase_waiting.new.self.set c.erase_elements.new.self.set (shows_erased c.args.self.now.set c.erase_waiting.new.self.set c.erase_waiting.ensures.insertions c.erase_waiting.ensures.grown.grown.keeps)))
@@ -83,7 +83,7 @@ returns-in_err-take_elements-clause-fault g c =
     (elements_listed (g.S.Sequence.content c.other.inside.seq) c.other.inside.held c.other.inside.site c.other.inside.spare c.args.other.now (record { well = g.met.S.Sequence.well_formed c.other.inside.seq; tree = g.met.S.Sequence.is_tree c.other.inside.seq; only = g.met.S.Sequence.only_placed c.other.inside.seq }) c.other.invariant.settled c.other.view_is))
 
 pub returns-in_err-take_elements-clause-all : goal.returns-in_err-take_elements-clause-all
-returns-in_err-take_elements-clause-all g c = told_once (g.S.Sequence.content c.other.inside.seq) c.other.inside.held c.other.inside.site c.other.inside.spare c.args.other.now (record { well = g.met.S.Sequence.well_formed c.other.inside.seq; tree = g.met.S.Sequence.is_tree c.other.inside.seq; only = g.met.S.Sequence.only_placed c.other.inside.seq }) c.other.invariant.settled c.other.view_is c.count_waiting-waiting.ensures.each_once
+returns-in_err-take_elements-clause-all g c = listed_once (g.S.Sequence.content c.other.inside.seq) c.other.inside.held c.other.inside.site c.other.inside.spare c.args.other.now (record { well = g.met.S.Sequence.well_formed c.other.inside.seq; tree = g.met.S.Sequence.is_tree c.other.inside.seq; only = g.met.S.Sequence.only_placed c.other.inside.seq }) c.other.invariant.settled c.other.view_is c.count_waiting-waiting.ensures.each_once
 
 pub returns-in_err-take_elements-clause-heard : goal.returns-in_err-take_elements-clause-heard
 returns-in_err-take_elements-clause-heard g c =
@@ -96,18 +96,18 @@ returns-in_err-take_elements-clause-heard g c =
 pub returns-clause-grown : goal.returns-clause-grown
 returns-clause-grown g c =
     let els = elements (g.S.Sequence.content c.other.inside.seq) in
-    desk_then c.args.self.now c.take_elements.new.self c.insert_waiting.new.self (told c.args.other.now) (waiting_in c.other.inside.held) (told c.args.other.now)
-    (desk_then c.args.self.now c.erase_elements.new.self c.take_elements.new.self (told c.args.other.now) (operations_in els) (told c.args.other.now)
-    (desk_then c.args.self.now c.erase_waiting.new.self c.erase_elements.new.self (told c.args.other.now) (deletions_in els) (told c.args.other.now)
-    (desk_listed c.args.self.now c.erase_waiting.new.self (waiting_in c.other.inside.held) (told c.args.other.now) c.erase_waiting.ensures.grown (waiting_listed (g.S.Sequence.content c.other.inside.seq) c.other.inside.held c.other.inside.site c.other.inside.spare c.args.other.now (record { well = g.met.S.Sequence.well_formed c.other.inside.seq; tree = g.met.S.Sequence.is_tree c.other.inside.seq; only = g.met.S.Sequence.only_placed c.other.inside.seq }) c.other.invariant.settled c.other.view_is)) c.erase_elements.ensures.grown (listed_alike (told c.args.other.now))
-    (deletions_listed (g.S.Sequence.content c.other.inside.seq) c.other.inside.held c.other.inside.site c.other.inside.spare c.args.other.now (record { well = g.met.S.Sequence.well_formed c.other.inside.seq; tree = g.met.S.Sequence.is_tree c.other.inside.seq; only = g.met.S.Sequence.only_placed c.other.inside.seq }) c.other.invariant.settled c.other.view_is)) c.take_elements.ensures.grown (listed_alike (told c.args.other.now))
-    (elements_listed (g.S.Sequence.content c.other.inside.seq) c.other.inside.held c.other.inside.site c.other.inside.spare c.args.other.now (record { well = g.met.S.Sequence.well_formed c.other.inside.seq; tree = g.met.S.Sequence.is_tree c.other.inside.seq; only = g.met.S.Sequence.only_placed c.other.inside.seq }) c.other.invariant.settled c.other.view_is)) c.insert_waiting.ensures.grown (listed_alike (told c.args.other.now))
+    desk_then c.args.self.now c.take_elements.new.self c.insert_waiting.new.self (listed c.args.other.now) (waiting_in c.other.inside.held) (listed c.args.other.now)
+    (desk_then c.args.self.now c.erase_elements.new.self c.take_elements.new.self (listed c.args.other.now) (operations_in els) (listed c.args.other.now)
+    (desk_then c.args.self.now c.erase_waiting.new.self c.erase_elements.new.self (listed c.args.other.now) (deletions_in els) (listed c.args.other.now)
+    (desk_listed c.args.self.now c.erase_waiting.new.self (waiting_in c.other.inside.held) (listed c.args.other.now) c.erase_waiting.ensures.grown (waiting_listed (g.S.Sequence.content c.other.inside.seq) c.other.inside.held c.other.inside.site c.other.inside.spare c.args.other.now (record { well = g.met.S.Sequence.well_formed c.other.inside.seq; tree = g.met.S.Sequence.is_tree c.other.inside.seq; only = g.met.S.Sequence.only_placed c.other.inside.seq }) c.other.invariant.settled c.other.view_is)) c.erase_elements.ensures.grown (listed_alike (listed c.args.other.now))
+    (deletions_listed (g.S.Sequence.content c.other.inside.seq) c.other.inside.held c.other.inside.site c.other.inside.spare c.args.other.now (record { well = g.met.S.Sequence.well_formed c.other.inside.seq; tree = g.met.S.Sequence.is_tree c.other.inside.seq; only = g.met.S.Sequence.only_placed c.other.inside.seq }) c.other.invariant.settled c.other.view_is)) c.take_elements.ensures.grown (listed_alike (listed c.args.other.now))
+    (elements_listed (g.S.Sequence.content c.other.inside.seq) c.other.inside.held c.other.inside.site c.other.inside.spare c.args.other.now (record { well = g.met.S.Sequence.well_formed c.other.inside.seq; tree = g.met.S.Sequence.is_tree c.other.inside.seq; only = g.met.S.Sequence.only_placed c.other.inside.seq }) c.other.invariant.settled c.other.view_is)) c.insert_waiting.ensures.grown (listed_alike (listed c.args.other.now))
     (waiting_listed (g.S.Sequence.content c.other.inside.seq) c.other.inside.held c.other.inside.site c.other.inside.spare c.args.other.now (record { well = g.met.S.Sequence.well_formed c.other.inside.seq; tree = g.met.S.Sequence.is_tree c.other.inside.seq; only = g.met.S.Sequence.only_placed c.other.inside.seq }) c.other.invariant.settled c.other.view_is)
 
 pub returns-clause-fault : goal.returns-clause-fault
 returns-clause-fault g c =
     let els = elements (g.S.Sequence.content c.other.inside.seq) in
-    IfErr-weaker c.insert_waiting.result _ _ (λ fault h. stopped_then c.args.self.now c.take_elements.new.self c.insert_waiting.new.self (waiting_in c.other.inside.held) (told c.args.other.now) (g.L.Listener.told c.args.listener.now) (g.L.Listener.told c.take_elements.new.listener) (g.L.Listener.told c.insert_waiting.new.listener) (g.L.Listener.capacity c.args.listener.now) (g.L.Listener.capacity c.take_elements.new.listener) (g.L.Listener.capacity c.insert_waiting.new.listener) fault
+    IfErr-weaker c.insert_waiting.result _ _ (λ fault h. stopped_then c.args.self.now c.take_elements.new.self c.insert_waiting.new.self (waiting_in c.other.inside.held) (listed c.args.other.now) (g.L.Listener.told c.args.listener.now) (g.L.Listener.told c.take_elements.new.listener) (g.L.Listener.told c.insert_waiting.new.listener) (g.L.Listener.capacity c.args.listener.now) (g.L.Listener.capacity c.take_elements.new.listener) (g.L.Listener.capacity c.insert_waiting.new.listener) fault
     (heard_more c.args.self.now.set c.erase_elements.new.self.set c.take_elements.new.self.set (g.L.Listener.told c.args.listener.now) (g.L.Listener.told c.erase_elements.new.listener) (g.L.Listener.told c.take_elements.new.listener) (g.L.Listener.capacity c.args.listener.now) (g.L.Listener.capacity c.erase_elements.new.listener) (g.L.Listener.capacity c.take_elements.new.listener)
     (heard_more c.args.self.now.set c.erase_waiting.new.self.set c.erase_elements.new.self.set (g.L.Listener.told c.args.listener.now) (g.L.Listener.told c.erase_waiting.new.listener) (g.L.Listener.told c.erase_elements.new.listener) (g.L.Listener.capacity c.args.listener.now) (g.L.Listener.capacity c.erase_waiting.new.listener) (g.L.Listener.capacity c.erase_elements.new.listener)
     (c.erase_waiting.ensures.heard) c.erase_elements.ensures.heard
@@ -117,7 +117,7 @@ returns-clause-fault g c =
     (waiting_listed (g.S.Sequence.content c.other.inside.seq) c.other.inside.held c.other.inside.site c.other.inside.spare c.args.other.now (record { well = g.met.S.Sequence.well_formed c.other.inside.seq; tree = g.met.S.Sequence.is_tree c.other.inside.seq; only = g.met.S.Sequence.only_placed c.other.inside.seq }) c.other.invariant.settled c.other.view_is)) c.insert_waiting.ensures.fault
 
 pub returns-clause-all : goal.returns-clause-all
-returns-clause-all g c = told_once (g.S.Sequence.content c.other.inside.seq) c.other.inside.held c.other.inside.site c.other.inside.spare c.args.other.now (record { well = g.met.S.Sequence.well_formed c.other.inside.seq; tree = g.met.S.Sequence.is_tree c.other.inside.seq; only = g.met.S.Sequence.only_placed c.other.inside.seq }) c.other.invariant.settled c.other.view_is c.count_waiting-waiting.ensures.each_once
+returns-clause-all g c = listed_once (g.S.Sequence.content c.other.inside.seq) c.other.inside.held c.other.inside.site c.other.inside.spare c.args.other.now (record { well = g.met.S.Sequence.well_formed c.other.inside.seq; tree = g.met.S.Sequence.is_tree c.other.inside.seq; only = g.met.S.Sequence.only_placed c.other.inside.seq }) c.other.invariant.settled c.other.view_is c.count_waiting-waiting.ensures.each_once
 
 pub returns-clause-heard : goal.returns-clause-heard
 returns-clause-heard g c =

@@ -3,7 +3,7 @@ use Rattle.std.proofs.Common.{[], ◌∷◌, ap, subst, refl}
 use Rattle.std.proofs.lemmas.Result.{err_from_is_err_and}
 use Rattle.bg_types.specs.declared.op.OpView.TheVariants.{Erase}
 use Rattle.desk_replica.specs.Desk.{insertion_of}
-use Rattle.desk_replica.specs.Told.{deletions_in, operations_in}
+use Rattle.desk_replica.specs.Listed.{deletions_in, operations_in}
 use Rattle.desk_replica.specs.Merging.{IsGrown, is_deletion}
 use Rattle.desk_replica.proofs.Growing.{desk_then, inserted_by, listed_behind, listed_front, stopped_listed}
 use Rattle.desk_replica.proofs.Hearing.{heard_more}

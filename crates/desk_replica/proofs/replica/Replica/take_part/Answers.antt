@@ -6,7 +6,7 @@ use Rattle.std.specs.Prelude.{All, Contains}
 use Rattle.bg_types.specs.OperationSet.{Holds}
 use Rattle.bg_types.specs.WellFormed.{MayFollow}
 use Rattle.rga_tree.specs.Elements.{elements}
-use Rattle.desk_replica.specs.Told.{insertions_in, operations_in}
+use Rattle.desk_replica.specs.Listed.{insertions_in, operations_in}
 use Rattle.desk_replica.specs.Merging.{IsErasedIn}
 use Rattle.desk_replica.proofs.Disagreeing.{part_contains, part_follows}
 use Rattle.desk_replica.proofs.Growing.{desk_still, desk_then, element_listed, erased_with, held_next, held_passed, listed_alike, stopped_then}

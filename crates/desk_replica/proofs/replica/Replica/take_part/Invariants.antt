@@ -3,7 +3,7 @@ use Rattle.std.proofs.Common.{◌≤◌, ◌-◌, length, take}
 use Rattle.std.specs.Prelude.{All}
 use Rattle.bg_types.specs.OperationSet.{Holds}
 use Rattle.rga_tree.specs.Elements.{elements}
-use Rattle.desk_replica.specs.Told.{insertions_in, operations_in}
+use Rattle.desk_replica.specs.Listed.{insertions_in, operations_in}
 use Rattle.desk_replica.specs.Listening.{IsHeard}
 use Rattle.desk_replica.specs.Telling.{ShowsAll}
 use Rattle.desk_replica.specs.Merging.{IsErasedIn, IsGrown}

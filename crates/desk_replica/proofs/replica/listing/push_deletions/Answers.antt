@@ -2,7 +2,7 @@
 use Rattle.std.proofs.Common.{◌+◌, ◌++◌, List, take, sym, ap, ◌∙◌, arith}
 use Rattle.std.proofs.lemmas.List.{append-nil}
 use Rattle.rga_tree.specs.declared.element.Element.{Element}
-use Rattle.desk_replica.specs.Told.{deletions_in}
+use Rattle.desk_replica.specs.Listed.{deletions_in}
 use Rattle.desk_replica.proofs.Rows.{deletions-append}
 use Rattle.desk_replica.proofs.InTurn.{joined, joined_push, joined_all}
 use Rattle.desk_replica.proofs.Listing.{listed_on}

@@ -1,6 +1,6 @@
 -- What stays true in the loop of `push_deletions`.
 use Rattle.std.proofs.Common.{◌≡◌, ◌++◌, take}
-use Rattle.desk_replica.specs.Told.{deletions_in}
+use Rattle.desk_replica.specs.Listed.{deletions_in}
 use Rattle.desk_replica.proofs.InTurn.{joined}
 use Rattle.desk_replica.proofs.replica.listing.push_deletions.Given as goal
 

@@ -1,6 +1,6 @@
 -- What stays true in the loop of `push_insertions`.
 use Rattle.std.proofs.Common.{◌≡◌, ◌++◌, take}
-use Rattle.desk_replica.specs.Told.{insertions_in}
+use Rattle.desk_replica.specs.Listed.{insertions_in}
 use Rattle.desk_replica.proofs.InTurn.{joined}
 use Rattle.desk_replica.proofs.replica.listing.push_insertions.Given as goal
 

@@ -1,6 +1,6 @@
 -- What stays true in the loop of `push_row`.
 use Rattle.std.proofs.Common.{◌≡◌, ◌++◌, take}
-use Rattle.desk_replica.specs.Told.{insertions_in}
+use Rattle.desk_replica.specs.Listed.{insertions_in}
 use Rattle.desk_replica.proofs.replica.listing.push_row.Given as goal
 
 abbrev pub invariant-loop-e : goal.invariant-loop-e

@@ -1,6 +1,6 @@
 -- What stays true in the loop of `alike_in_front`.
 use Rattle.std.proofs.Common.{◌≡◌, take}
-use Rattle.desk_replica.specs.Told.{insertions_in}
+use Rattle.desk_replica.specs.Listed.{insertions_in}
 use Rattle.desk_replica.proofs.replica.merging.alike_in_front.Given as goal
 
 abbrev pub invariant-loop-at : goal.invariant-loop-at

@@ -19,7 +19,7 @@ use Rattle.pending_ops.specs.Chains.{AreApart, is_in}
 use Rattle.pending_ops.specs.Waiting.{Waiting, ListsOnce}
 use Rattle.pending_ops.proofs.Interface.{IsDistinct-apart, one_place}
 use Rattle.desk_replica.specs.Desk.{Desk, insertion_of}
-use Rattle.desk_replica.specs.Told.{told}
+use Rattle.desk_replica.specs.Listed.{listed}
 use Rattle.desk_replica.specs.Placement.{IsSettled, waiting_in, whole}
 use Rattle.desk_replica.proofs.Whole.{contains-union, first_none, some_not, which}
 use Rattle.desk_replica.proofs.Settled.{elements-whole, in_whole, there}
@@ -102,11 +102,11 @@ slice_get_either [] ys j x h = inr (j, (omega arith, h))
 slice_get_either (z ∷ zs) ys zero x h = inl h
 slice_get_either (z ∷ zs) ys (suc j) x h = elim (slice_get_either zs ys j x h) [ inl here ↦ inl here | inr there ↦ inr (there.0, (let e = there.1.0 in omega arith, there.1.1)) ]
 
-abbrev pub told_by : List Element → List OpView → List OpView
-told_by row waiting = each insertion_of row ++ each Erase (hidden_ids row) ++ waiting
+abbrev pub listed_by : List Element → List OpView → List OpView
+listed_by row waiting = each insertion_of row ++ each Erase (hidden_ids row) ++ waiting
 
 -- an insertion stands among those of the elements, or among those that wait
-insertion_place : (row : List Element) (waiting : List OpView) (j : ℕ) (q : Identifier) (p : Place) (ch : ℕ) → slice_get (told_by row waiting) j ≡ Some (Insert q p ch)
+insertion_place : (row : List Element) (waiting : List OpView) (j : ℕ) (q : Identifier) (p : Place) (ch : ℕ) → slice_get (listed_by row waiting) j ≡ Some (Insert q p ch)
     → ((e : Element) × ((slice_get row j ≡ Some e) × (insertion_of e ≡ Insert q p ch)))
     ⊎ ((k : ℕ) × ((j ≡ length (each insertion_of row ++ each Erase (hidden_ids row)) + k) × (slice_get waiting k ≡ Some (Insert q p ch))))
 insertion_place row waiting j q p ch h = elim (slice_get_either (each insertion_of row ++ each Erase (hidden_ids row)) waiting j (Insert q p ch) h) [
@@ -118,7 +118,7 @@ insertion_place row waiting j q p ch h = elim (slice_get_either (each insertion_
 ]
 
 -- a deletion stands among those of the hidden elements, or among those that wait
-deletion_place : (row : List Element) (waiting : List OpView) (j : ℕ) (q : Identifier) → slice_get (told_by row waiting) j ≡ Some (Erase q)
+deletion_place : (row : List Element) (waiting : List OpView) (j : ℕ) (q : Identifier) → slice_get (listed_by row waiting) j ≡ Some (Erase q)
     → ((k : ℕ) × ((j ≡ length (each insertion_of row) + k) × (slice_get (hidden_ids row) k ≡ Some q)))
     ⊎ ((k : ℕ) × ((j ≡ length (each insertion_of row ++ each Erase (hidden_ids row)) + k) × (slice_get waiting k ≡ Some (Erase q))))
 deletion_place row waiting j q h = elim (slice_get_either (each insertion_of row ++ each Erase (hidden_ids row)) waiting j (Erase q) h) [
@@ -146,7 +146,7 @@ module _ (t : OperationSet) (w : Waiting) (c : IsContent t) (d : IsSettled t w) 
   row = elements t
 
   abbrev ops : List OpView
-  ops = told_by (elements t) (waiting_in w)
+  ops = listed_by (elements t) (waiting_in w)
 
   apart : AreApart (ids_of row)
   apart = subst AreApart (sym (ids_elements t (walk t Root))) (IsDistinct-apart (walked_ids t) (IsDistinct-walked t c.well))
@@ -242,7 +242,7 @@ module _ (t : OperationSet) (w : Waiting) (c : IsContent t) (d : IsSettled t w) 
     ]
   ]
 
-  pub once_each : ListsOnce (whole t w) (told_by (elements t) (waiting_in w))
+  pub once_each : ListsOnce (whole t w) (listed_by (elements t) (waiting_in w))
   once_each =
       let lists_all : Lists (whole t w) ops = λ op. (complete op, (λ f. sound op f.0 f.1)) in
       record { each = lists_all; once = once; all = lists_size ops (whole t w) lists_all once }
@@ -250,11 +250,11 @@ module _ (t : OperationSet) (w : Waiting) (c : IsContent t) (d : IsSettled t w) 
 -- ---- the list of a desk
 
 module _ (t : OperationSet) (w : Waiting) (site spare : ℕ) (d : Desk) (c : IsContent t) (s : IsSettled t w) (view : desk_of t w site spare ≡ d) where
-  pub told_is : told_by (elements t) (waiting_in w) ≡ told d
-  told_is = ap (λ row. told_by row (waiting_in w)) (sym (elements-whole t w.held c.well s.well_formed c.tree c.only s.parted)) ∙ ap told view
+  pub listed_is : listed_by (elements t) (waiting_in w) ≡ listed d
+  listed_is = ap (λ row. listed_by row (waiting_in w)) (sym (elements-whole t w.held c.well s.well_formed c.tree c.only s.parted)) ∙ ap listed view
 
-  pub told_once : ListsOnce w.held (waiting_in w) → ListsOnce d.set (told d)
-  told_once lists = subst (ListsOnce d.set) told_is (subst (λ (x : Desk). ListsOnce x.set (told_by (elements t) (waiting_in w))) view (once_each t w c s lists))
+  pub listed_once : ListsOnce w.held (waiting_in w) → ListsOnce d.set (listed d)
+  listed_once lists = subst (ListsOnce d.set) listed_is (subst (λ (x : Desk). ListsOnce x.set (listed_by (elements t) (waiting_in w))) view (once_each t w c s lists))
 
   -- as many are placed and hidden as do not wait
   pub reached : ListsOnce w.held (waiting_in w) → length (elements t) + length (hidden_ids (elements t)) + size w.held ≡ size (whole t w)
@@ -267,27 +267,27 @@ module _ (t : OperationSet) (w : Waiting) (site spare : ℕ) (d : Desk) (c : IsC
       let l1 = length-each Erase (hidden_ids (elements t)) in
       omega arith
 
-  pub told_insertion : (j : ℕ) (e : Element) → slice_get (elements t) j ≡ Some e → slice_get (told d) j ≡ Some (insertion_of e)
-  told_insertion j e h =
+  pub listed_insertion : (j : ℕ) (e : Element) → slice_get (elements t) j ≡ Some e → slice_get (listed d) j ≡ Some (insertion_of e)
+  listed_insertion j e h =
       let row = elements t in
-      ap (λ xs. slice_get xs j) (sym told_is)
+      ap (λ xs. slice_get xs j) (sym listed_is)
       ∙ slice_get-left (each insertion_of row ++ each Erase (hidden_ids row)) (waiting_in w) j _ (slice_get-left (each insertion_of row) (each Erase (hidden_ids row)) j _ (slice_get-to insertion_of row j e h))
 
-  pub told_deletion : (j k : ℕ) (q : Identifier) → slice_get (hidden_ids (elements t)) k ≡ Some q → j ≡ length (elements t) + k → slice_get (told d) j ≡ Some (Erase q)
-  told_deletion j k q h at =
+  pub listed_deletion : (j k : ℕ) (q : Identifier) → slice_get (hidden_ids (elements t)) k ≡ Some q → j ≡ length (elements t) + k → slice_get (listed d) j ≡ Some (Erase q)
+  listed_deletion j k q h at =
       let row = elements t in
       let l = length-each insertion_of row in
-      ap (λ xs. slice_get xs j) (sym told_is)
+      ap (λ xs. slice_get xs j) (sym listed_is)
       ∙ slice_get-left (each insertion_of row ++ each Erase (hidden_ids row)) (waiting_in w) j _
       (slice_get-right (each insertion_of row) (each Erase (hidden_ids row)) k j (omega arith) ∙ slice_get-to Erase (hidden_ids row) k q h)
 
-  pub told_late : (j k : ℕ) (op : OpView) → slice_get w.listed k ≡ Some op → k < size w.held → j ≡ length (elements t) + length (hidden_ids (elements t)) + k → slice_get (told d) j ≡ Some op
-  told_late j k op h within at =
+  pub listed_late : (j k : ℕ) (op : OpView) → slice_get w.listed k ≡ Some op → k < size w.held → j ≡ length (elements t) + length (hidden_ids (elements t)) + k → slice_get (listed d) j ≡ Some op
+  listed_late j k op h within at =
       let row = elements t in
       let l0 = length-each insertion_of row in
       let l1 = length-each Erase (hidden_ids row) in
       let l2 = length-append (each insertion_of row) (each Erase (hidden_ids row)) in
-      ap (λ xs. slice_get xs j) (sym told_is)
+      ap (λ xs. slice_get xs j) (sym listed_is)
       ∙ slice_get-right (each insertion_of row ++ each Erase (hidden_ids row)) (waiting_in w) k j (omega arith) ∙ slice_get-take w.listed (size w.held) k within ∙ h
 
   pub size_is : size (whole t w) ≡ size d.set

@@ -1,4 +1,4 @@
--- What is read off a desk by its elements.
+-- The operations of a desk, as it lists them.
 use Rattle.std.specs.Prelude.{◌++◌, List, map as each}
 use Rattle.bg_types.specs.declared.op.OpView.{OpView}
 use Rattle.bg_types.specs.declared.op.OpView.TheVariants.{Erase}
@@ -18,5 +18,5 @@ operations_in row = insertions_in row ++ deletions_in row
 
 -- the operations of a desk: the attached insertions in the order of the walk, then the deletions of attached ones in that
 -- order, then those that wait
-abbrev pub told : Desk → List OpView
-told d = insertions_in (elements d.set) ++ deletions_in (elements d.set) ++ d.waiting
+abbrev pub listed : Desk → List OpView
+listed d = insertions_in (elements d.set) ++ deletions_in (elements d.set) ++ d.waiting
