@@ -1,10 +1,9 @@
 -- How many changes are told: one for each element that only one of two sets shows.
 use Rattle.std.proofs.Common.{◌≡◌, ◌≤◌, ◌+◌, ℕ, Bool, true, false, cond, not, List, [], ◌∷◌, length, sym, ap, subst, ◌∙◌, refl, arith}
-use Rattle.std.specs.Prelude.{◌||◌, ◌&&◌, count_by, filter, map as each}
+use Rattle.std.specs.Prelude.{◌||◌, ◌&&◌, count_by, filter}
 use Rattle.std.specs.FinSet as set
 use Rattle.bg_types.specs.Identifier.{Identifier, id_cmp, same_id}
 use Rattle.bg_types.specs.OperationSet.{OperationSet, AllWellFormed}
-use Rattle.bg_types.specs.declared.change.Change.{Change}
 use Rattle.bg_types.specs.declared.op.Place.TheVariants.{Root}
 use Rattle.bg_types.proofs.Interface.{id_cmp-total, id_cmp-exact, same_id-is, same_id-itself}
 use Rattle.rga_tree.specs.Walk.{walk, walked_ids}

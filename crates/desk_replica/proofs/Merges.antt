@@ -1,5 +1,5 @@
 -- A merge takes all operations of the other desk.
-use Rattle.std.proofs.Common.{◌≡◌, ◌<◌, ◌≤◌, ◌+◌, ◌++◌, ℕ, Bool, false, cond, length-append, zero, suc, true, List, [], ◌∷◌, length, Option, None, Some, sym, ap, subst, ◌∙◌, refl, true≢false, is_some, arith, inl, inr}
+use Rattle.std.proofs.Common.{◌≡◌, ◌<◌, ◌≤◌, ◌+◌, ℕ, Bool, false, cond, zero, suc, true, List, [], ◌∷◌, length, Option, None, Some, sym, ap, subst, ◌∙◌, refl, true≢false, is_some, arith, inl, inr}
 use Rattle.std.specs.Prelude.{All, Contains, slice_get}
 use Rattle.std.proofs.lemmas.Option.{get_or_from_slice_get, slice_get-get_or, slice_get_within}
 use Rattle.std.proofs.lemmas.List.Elements.{All-get_or}
@@ -16,7 +16,6 @@ use Rattle.pending_ops.specs.Waiting.{ListsOnce}
 use Rattle.desk_replica.specs.Telling.{IsUntaken}
 use Rattle.desk_replica.specs.Merging.{Disagree, IsBetween, IsGrownBy, IsMergeRefusal, IsMergeRefused, with_operations}
 use Rattle.desk_replica.proofs.Sizes.{len_map-map, len_set-set}
-use Rattle.desk_replica.proofs.Lists.{slice_get-left, slice_get-right}
 use Rattle.desk_replica.proofs.OnceEach.{nothing_at}
 
 pub disagree_of : (s t : OperationSet) (op : OpView) → ReusesIdentifier s op → Holds t op → Disagree s t

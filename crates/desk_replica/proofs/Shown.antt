@@ -1,6 +1,6 @@
 -- Where an identifier stands among the elements of a walk that pass.
-use Rattle.std.proofs.Common.{◌≡◌, ◌≤◌, ◌<◌, ◌+◌, ℕ, suc, Bool, true, false, cond, not, List, [], ◌∷◌, length, take, Some, sym, ap, subst, ◌∙◌, refl, true≢false, arith}
-use Rattle.std.specs.Prelude.{◌||◌, ◌&&◌, count_by, filter, insert, remove, slice_get, map as each}
+use Rattle.std.proofs.Common.{◌≡◌, ◌≤◌, ◌<◌, ◌+◌, ℕ, suc, Bool, true, false, cond, not, List, [], ◌∷◌, length, take, sym, ap, subst, ◌∙◌, refl, true≢false, arith}
+use Rattle.std.specs.Prelude.{◌||◌, count_by, filter, insert, remove, map as each}
 use Rattle.std.specs.List.{AllByRecursion, prefix_len}
 use Rattle.std.proofs.lemmas.Bool.{or_left, or_right}
 use Rattle.std.proofs.lemmas.List.Sums.{sum_by-cons}

@@ -1,15 +1,13 @@
 -- Steps from one set to another: what is told of them is the change of the text.
-use Rattle.std.proofs.Common.{◌≡◌, ◌≤◌, ◌<◌, ◌+◌, ◌++◌, ℕ, Bool, true, false, cond, not, List, [], ◌∷◌, length, Option, None, Some, sym, ap, subst, ◌∙◌, refl, true≢false, arith}
+use Rattle.std.proofs.Common.{◌≡◌, ◌≤◌, ◌+◌, ◌++◌, ℕ, Bool, true, false, cond, not, List, [], ◌∷◌, Some, sym, ap, subst, ◌∙◌, refl, arith}
 use Rattle.std.specs.Prelude.{◌||◌, ◌&&◌, count_by, filter}
 use Rattle.std.specs.Option.{option_map_or}
 use Rattle.std.specs.List.{AllByRecursion}
 use Rattle.std.specs.FinMap as map
-use Rattle.std.specs.FinSet as set
 use Rattle.std.proofs.lemmas.Bool.{and_parts, or_left}
 use Rattle.std.proofs.lemmas.List.Sums.{sum_by-cons, sum_by-append}
 use Rattle.bg_types.specs.Identifier.{Identifier, same_id}
 use Rattle.bg_types.specs.OperationSet.{Node, OperationSet, AllWellFormed}
-use Rattle.bg_types.specs.declared.change.Change.{Change}
 use Rattle.bg_types.specs.declared.op.OpView.TheVariants.{Insert, Erase}
 use Rattle.bg_types.specs.declared.op.Place.TheVariants.{Root}
 use Rattle.bg_types.specs.Edit.{IsEdit}
@@ -19,8 +17,8 @@ use Rattle.rga_tree.specs.Attached.{IsAttached, is_attached}
 use Rattle.rga_tree.specs.Parts.{IsPartOf}
 use Rattle.rga_tree.specs.TextOf.{text, visible, is_erased}
 use Rattle.rga_tree.proofs.Interface.{Entry, AreDistinct, AreDistinct-walk, Rises-entries, AreWellFounded-entries, entries_of, walk-among, all_held, all_weaker_by, is_attached-test, walk-sub_walk, AllWellFormed-part, IsAttached-more, all_attached, listed-attached, is_listed, same_id-swap}
-use Rattle.desk_replica.specs.Telling.{TextStep, puts, cuts, is_put, is_cut, is_shown, AreSteps, present_after, present_before, char_of, told_of, changes_of}
-use Rattle.desk_replica.proofs.Shown.{passing_before, read, before_filtered, put_at, cut_at}
+use Rattle.desk_replica.specs.Telling.{TextStep, puts, cuts, is_put, is_cut, is_shown, AreSteps, present_after, char_of, changes_of}
+use Rattle.desk_replica.proofs.Shown.{read, put_at, cut_at}
 
 -- ---- counts
 

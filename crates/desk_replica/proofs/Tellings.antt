@@ -1,6 +1,6 @@
 -- What is told of a text, one change after the other.
-use Rattle.std.proofs.Common.{◌≡◌, ◌≤◌, ◌+◌, ◌++◌, ℕ, zero, suc, Bool, true, false, cond, not, List, [], ◌∷◌, length, drop, Option, None, Some, inl, inr, sym, ap, subst, ◌∙◌, refl, true≢false, is_some, arith, append_assoc, length-append}
-use Rattle.std.specs.Prelude.{◌||◌, ◌&&◌, filter, insert, map as each}
+use Rattle.std.proofs.Common.{◌≡◌, ◌≤◌, ◌+◌, ◌++◌, ℕ, zero, suc, Bool, true, false, cond, not, List, [], ◌∷◌, length, drop, Option, None, Some, inr, sym, ap, subst, ◌∙◌, refl, true≢false, is_some, arith, append_assoc, length-append}
+use Rattle.std.specs.Prelude.{◌||◌, ◌&&◌, insert, map as each}
 use Rattle.std.specs.Option.{option_map_or}
 use Rattle.std.specs.List.{list_any}
 use Rattle.std.specs.FinMap as map

@@ -1,5 +1,5 @@
 -- The goals of `most_told` that are answered by hand.
-use Rattle.std.proofs.Common.{◌+◌, ◌≤◌, arith}
+use Rattle.std.proofs.Common.{arith}
 use Rattle.desk_replica.proofs.Hearing.{count_within}
 use Rattle.desk_replica.proofs.listener.most_told.Goals as goal
 

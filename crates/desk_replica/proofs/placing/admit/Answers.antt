@@ -1,7 +1,6 @@
 -- The goals of `admit` that are answered by hand.
-use Rattle.std.proofs.Common.{◌≡◌, ◌+◌, inl, refl, false, true, sym, ap, subst, ◌∙◌, arith, rules}
-use Rattle.std.specs.FinMap as map
-use Rattle.bg_types.specs.OperationSet.{OperationSet, with_operation}
+use Rattle.std.proofs.Common.{◌≡◌, refl, false, true, sym, ap, subst, ◌∙◌, arith, rules}
+use Rattle.bg_types.specs.OperationSet.{with_operation}
 use Rattle.desk_replica.specs.Placement.{IsSettled, MayPlace, reaches_in, whole}
 use Rattle.desk_replica.specs.Reply.{IsAdmitted, IsTaken}
 use Rattle.desk_replica.proofs.FirstTurn.{held_within}

@@ -1,5 +1,5 @@
 -- The goals of `place_new` that are answered by hand.
-use Rattle.std.proofs.Common.{◌+◌, sym, ap, ◌∙◌, arith}
+use Rattle.std.proofs.Common.{ap, ◌∙◌, arith}
 use Rattle.std.specs.FinMap as map
 use Rattle.desk_replica.specs.Placement.{whole}
 use Rattle.desk_replica.specs.Telling.{changes_of, is_shown}

@@ -1,5 +1,5 @@
 -- The goals of `erase_element` that are answered by hand.
-use Rattle.std.proofs.Common.{◌≤◌, refl, arith}
+use Rattle.std.proofs.Common.{refl, arith}
 use Rattle.desk_replica.proofs.Hearing.{heard_nothing}
 use Rattle.desk_replica.proofs.replica.Replica.erase_element.Goals as goal
 

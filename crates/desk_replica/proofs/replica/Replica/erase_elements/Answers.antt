@@ -1,9 +1,8 @@
 -- The goals of `erase_elements` that are answered by hand.
-use Rattle.std.proofs.Common.{◌≡◌, ◌≤◌, ◌<◌, [], ◌∷◌, take, get_or, sym, ap, subst, ◌∙◌, refl, arith}
+use Rattle.std.proofs.Common.{take, get_or, sym, subst, ◌∙◌, refl, arith}
 use Rattle.std.proofs.lemmas.Result.{err_from_is_err_and}
 use Rattle.std.proofs.lemmas.List.Elements.{All-append, All-nil}
 use Rattle.std.specs.Prelude.{All}
-use Rattle.bg_types.specs.OperationSet.{Holds}
 use Rattle.rga_tree.specs.Elements.{elements}
 use Rattle.desk_replica.specs.Listed.{deletions_in}
 use Rattle.desk_replica.specs.Merging.{IsErasedIn}

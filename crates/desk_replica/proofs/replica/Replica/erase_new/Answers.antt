@@ -1,5 +1,5 @@
 -- The goals of `erase_new` that are answered by hand.
-use Rattle.std.proofs.Common.{◌≤◌, [], ◌∷◌, sym, ap, subst, ◌∙◌, refl, arith}
+use Rattle.std.proofs.Common.{[], ◌∷◌, sym, ap, subst, ◌∙◌, refl, arith}
 use Rattle.desk_replica.specs.Merging.{IsGrownBy, is_deletion}
 use Rattle.desk_replica.proofs.Growing.{shows_still}
 use Rattle.desk_replica.proofs.Hearing.{heard_nothing}

@@ -1,5 +1,5 @@
 -- The goals of `erase_row` that are answered by hand.
-use Rattle.std.proofs.Common.{◌≤◌, [], ◌∷◌, take, get_or, subst, ◌∙◌, refl, arith}
+use Rattle.std.proofs.Common.{[], ◌∷◌, take, get_or, subst, ◌∙◌, refl, arith}
 use Rattle.std.proofs.lemmas.Result.{err_from_is_err_and}
 use Rattle.std.proofs.lemmas.List.Elements.{All-more, All-nil}
 use Rattle.desk_replica.specs.Listed.{deletions_in}

@@ -1,11 +1,10 @@
 -- The goals of `erase_waiting` that are answered by hand.
-use Rattle.std.proofs.Common.{◌≡◌, [], ◌∷◌, [], ◌∷◌, ◌≤◌, ◌<◌, true, length, take, get_or, sym, subst, ◌∙◌, refl, arith}
+use Rattle.std.proofs.Common.{◌≡◌, [], ◌∷◌, [], ◌∷◌, true, take, get_or, sym, subst, ◌∙◌, refl, arith}
 use Rattle.std.proofs.lemmas.List.{length-take}
 use Rattle.std.proofs.lemmas.Result.{err_from_is_err_and}
 use Rattle.std.proofs.lemmas.List.Elements.{All-more, All-nil, Contains-get_or}
-use Rattle.std.specs.Prelude.{All, Contains}
+use Rattle.std.specs.Prelude.{Contains}
 use Rattle.bg_types.specs.OperationSet.{Holds, size}
-use Rattle.bg_types.specs.declared.op.OpView.{OpView}
 use Rattle.desk_replica.specs.Placement.{waiting_in}
 use Rattle.desk_replica.specs.Merging.{is_deletion}
 use Rattle.desk_replica.proofs.Disagreeing.{waiting_at}

@@ -1,9 +1,8 @@
 -- The goals of `inserts` that are answered by hand.
-use Rattle.std.proofs.Common.{◌≡◌, true, Option, None, Some, is_some, sym, ap, ◌∙◌, refl}
+use Rattle.std.proofs.Common.{◌≡◌, Option, None, Some, is_some, sym, ap, ◌∙◌, refl}
 use Rattle.std.specs.Option.{option_map}
 use Rattle.std.specs.FinMap as map
 use Rattle.bg_types.specs.OperationSet.{Node}
-use Rattle.bg_types.specs.declared.op.OpView.{OpView}
 use Rattle.bg_types.specs.declared.op.OpView.TheVariants.{Insert}
 use Rattle.desk_replica.specs.Desk.{Desk}
 use Rattle.desk_replica.proofs.Growing.{inserted_first, inserted_second}

@@ -1,6 +1,4 @@
 -- The goals of `merge` that are answered by hand.
-use Rattle.std.proofs.lemmas.Result.{IfErr-weaker}
-use Rattle.std.proofs.Common.{inl, inr}
 use Rattle.desk_replica.proofs.replica.Replica.merge.Goals as goal
 
 pub returns-clause-unpaid : goal.returns-clause-unpaid

@@ -1,5 +1,5 @@
 -- The goals of `merge_telling` that are answered by hand.
-use Rattle.std.proofs.Common.{◌+◌, ◌≤◌, arith}
+use Rattle.std.proofs.Common.{arith}
 use Rattle.desk_replica.proofs.Tellings.{told_list}
 use Rattle.desk_replica.proofs.replica.Replica.merge_telling.Goals as goal
 

@@ -1,5 +1,4 @@
 -- The goals of `take_all` that are answered by hand.
-use Rattle.std.proofs.Common.{◌∙◌}
 use Rattle.std.proofs.lemmas.Result.{err_from_is_err_and, on_ok_weaker, IfErr-weaker}
 use Rattle.rga_tree.specs.Elements.{elements}
 use Rattle.desk_replica.specs.Placement.{waiting_in}

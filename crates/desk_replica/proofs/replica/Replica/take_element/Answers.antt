@@ -1,5 +1,5 @@
 -- The goals of `take_element` that are answered by hand.
-use Rattle.std.proofs.Common.{[], ◌∷◌, ap, subst, refl}
+use Rattle.std.proofs.Common.{[], ◌∷◌, ap, subst}
 use Rattle.std.proofs.lemmas.Result.{err_from_is_err_and}
 use Rattle.bg_types.specs.declared.op.OpView.TheVariants.{Erase}
 use Rattle.desk_replica.specs.Desk.{insertion_of}

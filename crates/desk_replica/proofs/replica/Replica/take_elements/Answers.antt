@@ -1,12 +1,11 @@
 -- The goals of `take_elements` that are answered by hand.
-use Rattle.std.proofs.Common.{◌≡◌, ◌≤◌, ◌<◌, [], ◌∷◌, take, get_or, sym, ap, subst, ◌∙◌, refl, arith}
+use Rattle.std.proofs.Common.{[], take, get_or, sym, ap, subst, ◌∙◌, refl, arith}
 use Rattle.std.proofs.lemmas.Result.{err_from_is_err_and}
 use Rattle.std.proofs.lemmas.List.Elements.{All-append, All-nil}
 use Rattle.std.specs.Prelude.{All}
 use Rattle.bg_types.specs.OperationSet.{Holds}
 use Rattle.rga_tree.specs.Elements.{elements}
 use Rattle.desk_replica.specs.Listed.{insertions_in, operations_in}
-use Rattle.desk_replica.specs.Merging.{IsErasedIn}
 use Rattle.desk_replica.proofs.InTurn.{joined, joined_all, joined_push}
 use Rattle.desk_replica.proofs.Growing.{desk_still, desk_then, listed_alike, operations_held, stopped_then}
 use Rattle.desk_replica.proofs.Hearing.{heard_more, heard_nothing}

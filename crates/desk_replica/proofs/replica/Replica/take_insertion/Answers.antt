@@ -1,5 +1,5 @@
 -- The goals of `take_insertion` that are answered by hand.
-use Rattle.std.proofs.Common.{◌≤◌, refl, arith}
+use Rattle.std.proofs.Common.{refl, arith}
 use Rattle.desk_replica.proofs.Hearing.{heard_nothing}
 use Rattle.desk_replica.proofs.replica.Replica.take_insertion.Goals as goal
 

@@ -1,7 +1,7 @@
 -- The goals of `take_part` that are answered by hand.
-use Rattle.std.proofs.Common.{◌≤◌, ◌<◌, ◌+◌, ◌-◌, [], ◌∷◌, length, take, get_or, sym, subst, ◌∙◌, refl, arith}
+use Rattle.std.proofs.Common.{◌+◌, [], ◌∷◌, sym, subst, ◌∙◌, refl, arith}
 use Rattle.std.proofs.lemmas.Result.{err_from_is_err_and}
-use Rattle.std.proofs.lemmas.List.Elements.{All-contains, All-get_or, Contains-get_or}
+use Rattle.std.proofs.lemmas.List.Elements.{All-contains, Contains-get_or}
 use Rattle.std.specs.Prelude.{All, Contains}
 use Rattle.bg_types.specs.OperationSet.{Holds}
 use Rattle.bg_types.specs.WellFormed.{MayFollow}

@@ -1,6 +1,6 @@
 -- The goals of `take_telling` that are answered by hand.
 use Rattle.std.proofs.lemmas.Result.{IfErr-weaker, on_err_weaker}
-use Rattle.std.proofs.Common.{◌≡◌, ◌≤◌, Some, arith}
+use Rattle.std.proofs.Common.{◌≡◌, Some, arith}
 use Rattle.desk_replica.proofs.Hearing.{room_counted}
 use Rattle.desk_replica.proofs.Tellings.{told_list}
 use Rattle.desk_replica.proofs.replica.Replica.take_telling.Goals as goal

@@ -1,8 +1,8 @@
 -- The goals of `take_to` that are answered by hand.
-use Rattle.std.proofs.Common.{◌≡◌, ◌<◌, ◌+◌, inl, inr, refl, sym, ap, subst, ◌∙◌, arith}
-use Rattle.std.specs.Prelude.{◌⊎◌, max}
+use Rattle.std.proofs.Common.{◌≡◌, ◌<◌, ◌+◌, refl, sym, ap, subst, ◌∙◌, arith}
+use Rattle.std.specs.Prelude.{max}
 use Rattle.bg_types.specs.OperationSet.{Holds, ReusesIdentifier, size, with_operation}
-use Rattle.bg_types.proofs.Interface.{Holds-with_operation, with_operation-known, size-with_operation}
+use Rattle.bg_types.proofs.Interface.{with_operation-known, size-with_operation}
 use Rattle.pending_ops.specs.Waiting.{Waiting}
 use Rattle.pending_ops.specs.Releasing.{subject}
 use Rattle.desk_replica.specs.Desk.{Desk}
