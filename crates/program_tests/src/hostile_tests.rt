@@ -8,14 +8,17 @@ use crate::files::Given::{self, Bytes};
 use crate::files::*;
 use crate::rows::assert_none;
 use bg_types::{Base, Out, Sink, Stops};
+use desk_carets::{Move, carets_from};
 use desk_runs::{RunFault, replay, replay_from, text_from};
 use op_codec::{Cause, CodecFault, Gives, In, Source};
 use std::alloc::{AllocError, Global};
 use ucd_files::vectors::SMALL;
+use ucd_files::{Ucd, UcdFault, UcdFile};
 
 /// What the files of readers come to at width 4, without a schedule.
 fn replay_readers<R: Source>(
     alloc: Global,
+    ucd: &Ucd,
     readers: &mut [R],
     room: &mut [u8],
 ) -> Result<(), RunFault>
@@ -24,13 +27,13 @@ fn replay_readers<R: Source>(
     requires working { AreWorking (each R.has_failed readers.old) }
 {
     let out = &mut Out::new(room);
-    replay_from(alloc, KEY, &SMALL, 4, Base::Auto, readers, None, out)
+    replay_from(alloc, KEY, ucd, 4, Base::Auto, readers, None, out)
 }
 
 /// Whether the file of one reader comes to what is wanted.
 fn is_cut(alloc: Global, file: &[u8], wanted: Outcome) -> bool {
     let mut room = [0; 16];
-    let answer = replay_readers(alloc, &mut [In::new(file)], &mut room);
+    let answer = replay_readers(alloc, &SMALL, &mut [In::new(file)], &mut room);
     answer == wanted.0 && are_written(&room, wanted.1)
 }
 
@@ -129,7 +132,7 @@ fn asked_again(alloc: Global) -> Option<usize> {
         let mut readers = [failing(&BAD_MAGIC, size)];
         let text = text_of_readers(alloc, &mut readers, &mut room);
         let mut others = [failing(&BAD_MAGIC, size)];
-        let shows = replay_readers(alloc, &mut others, &mut room);
+        let shows = replay_readers(alloc, &SMALL, &mut others, &mut room);
         let once = was_asked_once(text, &readers[0], size)
             && was_asked_once(shows, &others[0], size);
         if !once || room != [0; 16] {
@@ -142,6 +145,76 @@ fn asked_again(alloc: Global) -> Option<usize> {
 #[test]
 fn a_fault_comes_before_a_failure_behind_it(rt: HostRuntime) {
     assert_none(&rt, "the sizes", asked_again(rt.alloc()));
+}
+
+/// What a walk over the text of the files of readers comes to at width 4.
+fn walk_readers<R: Source>(
+    alloc: Global,
+    ucd: &Ucd,
+    readers: &mut [R],
+    room: &mut [u8],
+) -> Result<(), RunFault>
+    requires { AreWorking (each R.has_failed readers.old) }
+{
+    let (moves, out) = (&[Move::Right], &mut Out::new(room));
+    carets_from(alloc, KEY, ucd, 4, Base::Auto, readers, 0, moves, out)
+}
+
+/// The first number of bytes after which the second reader fails, and a walk does not end with that.
+fn walked_on(alloc: Global) -> Option<usize> {
+    for left in 0..=TWO.len() {
+        let mut room = [0; 16];
+        let mut readers = [Gives::new(&TWO, 7), Gives::new(&TWO, 7).failing_after(left)];
+        let answer = walk_readers(alloc, &SMALL, &mut readers, &mut room);
+        if answer != Err(RunFault::ReadFailed(2)) || room != [0; 16] {
+            return Some(left);
+        }
+    }
+    None
+}
+
+#[test]
+fn a_walk_over_a_failing_reader_writes_nothing(rt: HostRuntime) {
+    assert_none(&rt, "the failures", walked_on(rt.alloc()));
+}
+
+/// Data files of which one is faulty.
+const FAULTY: Ucd<'static> = Ucd {
+    lb: b"41;Q",
+    ..SMALL
+};
+
+/// What a run over them comes to.
+const FAULTY_TABLES: Result<(), RunFault> = Err(RunFault::Tables(UcdFault::At {
+    file: UcdFile::Lb,
+    line: 1,
+    cause: ucd_files::Cause::BadCode,
+}));
+
+/// Whether a reader was not asked, which gives `TWO` and would fail after these bytes.
+fn is_unasked(reader: &Gives, left: usize) -> bool {
+    reader.left == Some(left) && !reader.failed()
+}
+
+/// The first number of bytes after which a reader would fail, and is asked though the tables are faulty.
+fn asked_before_tables(alloc: Global) -> Option<usize> {
+    for left in 0..=TWO.len() {
+        let mut room = [0; 16];
+        let mut readers = [Gives::new(&TWO, 7).failing_after(left)];
+        let walk = walk_readers(alloc, &FAULTY, &mut readers, &mut room);
+        let mut others = [Gives::new(&TWO, 7).failing_after(left)];
+        let shows = replay_readers(alloc, &FAULTY, &mut others, &mut room);
+        let unasked = is_unasked(&readers[0], left) && is_unasked(&others[0], left);
+        if walk != FAULTY_TABLES || shows != FAULTY_TABLES || !unasked || room != [0; 16] {
+            return Some(left);
+        }
+    }
+    None
+}
+
+#[test]
+fn faulty_tables_come_before_a_reader_that_fails(rt: HostRuntime) {
+    assert_none(&rt, "the failures", asked_before_tables(rt.alloc()));
 }
 
 /// What two desks show by turns, and what is written of it.
