@@ -98,7 +98,7 @@ pub fn stretches()
 
 /// Told changes are the change: made one after the other on the text before, they give the text after; and behind changes
 /// that gave the text before, they give the text after with those. They are as many as there are elements that only one of
-/// the two texts shows. What is told of a fresh desk from its first call on makes its text of nothing.
+/// the two texts shows. What is told of a fresh desk from its first call on makes its text of nothing, as it has none.
 pub fn told_changes()
     ensures change { (s t : OperationSet) (old new : List Change) → IsTold s t old new
         → IsEdit (text s) (drop (length old) new) (text t) }
@@ -107,6 +107,7 @@ pub fn told_changes()
     ensures count { (s t : OperationSet) (old new : List Change) → IsTold s t old new
         → length new ≡ length old + change_count s t }
     ensures fresh { (s : OperationSet) (told : List Change) → IsTold no_operations s [] told → IsEdit [] told (text s) }
+    ensures nothing { text no_operations ≡ [] }
 {}
 
 /// No two insertions made in a world have the same identifier.

@@ -22,3 +22,6 @@ returns-clause-count c = λ s t old new h.
 
 pub returns-clause-fresh : goal.returns-clause-fresh
 returns-clause-fresh c = λ s told h. subst (λ t. IsEdit t told (text s)) text-nothing (told_change no_operations s [] told h)
+
+pub returns-clause-nothing : goal.returns-clause-nothing
+returns-clause-nothing c = text-nothing
