@@ -36,11 +36,6 @@ front-points text first second n u whole back =
     append_cancel_right (code_points first) (take n (code_points text)) (drop n (code_points text))
     (ap (λ t. code_points first ++ t) (sym back) ∙ sym (chars-append first second u) ∙ ap code_points whole ∙ sym (take-append-drop n (code_points text)))
 
-pub points-between : (front back : List ℕ) (ch : ℕ) → IsScalar ch → IsUtf8 front → IsUtf8 back → code_points ((front ++ encode_utf8 ch) ++ back) ≡ code_points front ++ ch ∷ code_points back
-points-between front back ch s u v =
-    ap code_points (append_assoc front (encode_utf8 ch) back) ∙ chars-append front (encode_utf8 ch ++ back) u
-    ∙ ap (λ t. code_points front ++ t) (chars_past_char (encode_utf8 ch ++ back) back ch (IsUtf8-append (encode_utf8 ch) back (IsUtf8-encode ch s) v) refl)
-
 -- a text that is not empty has a code point
 pub some-points : {Z : Type 0} (s : String Z) → (string_len s == 0) ≡ false → 0 < length (code_points (string_bytes s))
 some-points s some =

@@ -1,5 +1,5 @@
 -- What a buffer knows of its blocks, and its faults.
-use Rattle.std.proofs.Common.{Result, Ok, Err, ◌≡◌, ℕ, ◌≤◌, List, length, sym, ap, ◌∙◌, arith}
+use Rattle.std.proofs.Common.{Result, Ok, Err, ◌≡◌, ℕ, ◌≤◌, List, length, sym, ap, subst, ◌∙◌, arith}
 use Rattle.std.specs.List.{concat}
 use Rattle.unicode_tables.specs.Tables.{TableValues}
 use Rattle.text_buffer.specs.declared.fault.BufferFault.{BufferFault}
@@ -36,6 +36,18 @@ module _ {K : Type 0} where
         paragraphs_is = paragraphs_is;
         few = few;
         fits = fits-now tables bs split (omega (arith, all, few));
+      }
+
+  -- what is kept is not counted
+  pub counted-same : (old new : List (Block K)) (bytes places paragraphs : ℕ) → texts_in new ≡ texts_in old → IsCounted old bytes places paragraphs → IsCounted new bytes places paragraphs
+  counted-same old new bytes places paragraphs same i =
+      record {
+        some = i.some;
+        bytes_is = i.bytes_is ∙ ap (λ t. bytes_in (concat t)) (sym same);
+        places_is = i.places_is ∙ ap (λ t. length (concat t)) (sym same);
+        paragraphs_is = i.paragraphs_is ∙ ap length (sym same);
+        few = i.few;
+        fits = subst Fits (sym same) i.fits;
       }
 
 -- ---- faults

@@ -1,6 +1,6 @@
 -- Rows, joined.
-use Rattle.std.proofs.Common.{◌≡◌, ℕ, suc, ◌+◌, ◌<◌, ◌≤◌, List, [], ◌∷◌, ◌++◌, length, take, drop, get_or, set, sym, ap, ap₂, ◌∙◌, add-one, arith}
-use Rattle.std.proofs.lemmas.List.{append-nil, append_assoc, length-append, take-append-drop, take-append-le, drop-append-le, drop_more, drop-set-lt, take_at, take-take, take-set, length-take-le, length-set, get_or-set_same, get_or-append-add, take_more, take_more_set, set_split}
+use Rattle.std.proofs.Common.{◌≡◌, ℕ, suc, ◌+◌, ◌-◌, ◌<◌, ◌≤◌, List, [], ◌∷◌, ◌++◌, length, take, drop, get_or, set, map, sym, ap, ap₂, ◌∙◌, add-one, arith}
+use Rattle.std.proofs.lemmas.List.{append-nil, append_assoc, map-append, length-map, set-append_left, set-append_right, length-append, take-append-drop, take-append-le, drop-append-le, drop_more, drop-set-lt, take_at, take-take, take-set, length-take-le, length-set, get_or-set_same, get_or-append-add, take_more, take_more_set, set_split}
 use Rattle.std.proofs.lemmas.List.Concat.{flat_map-append}
 use Rattle.std.proofs.lemmas.List.Edits.{get_or-insert_below}
 use Rattle.std.proofs.Math.Seq.{take-append-add, drop-append-add}
@@ -118,3 +118,38 @@ module _ {A : Type 0} where
       ∙ ap₂ (λ a b. joined a ++ b) low (ap₂ (λ r b. drop rest r ++ joined b) row high)
       ∙ ap₂ (λ a b. a ++ b) (joined-append front new) (sym (ap (drop rest) whole ∙ drop-append-le rest (get_or back 0 []) (joined (drop 1 back)) inside))
       ∙ append_assoc (joined front) (joined new) (drop rest (joined back))
+
+-- ---- what a function sees of rows of which one is written
+
+module _ {A B : Type 0} (f : A → B) where
+  map-joined_set : (rows : List (List A)) (q : ℕ) (x : List A) → q < length rows → map f (joined (set rows q x)) ≡ map f (joined (take q rows)) ++ (map f x ++ map f (joined (drop (q + 1) rows)))
+  map-joined_set rows q x within =
+      let a = joined (take q rows) in
+      let c = joined (drop (q + 1) rows) in
+      ap (map f) (joined-set rows q x within) ∙ map-append f a (x ++ c) ∙ ap (λ t. map f a ++ t) (map-append f x c)
+
+  map-joined_at : (rows : List (List A)) (q : ℕ) → q < length rows → map f (joined rows) ≡ map f (joined (take q rows)) ++ (map f (get_or rows q []) ++ map f (joined (drop (q + 1) rows)))
+  map-joined_at rows q within =
+      let a = joined (take q rows) in
+      let r = get_or rows q [] in
+      let c = joined (drop (q + 1) rows) in
+      ap (map f) (joined-at rows q within) ∙ map-append f a (r ++ c) ∙ ap (λ t. map f a ++ t) (map-append f r c)
+
+  -- a row that it cannot tell from the one that was there
+  pub joined-same : (rows : List (List A)) (q : ℕ) (x : List A) → q < length rows → map f x ≡ map f (get_or rows q []) → map f (joined (set rows q x)) ≡ map f (joined rows)
+  joined-same rows q x within same =
+      map-joined_set rows q x within ∙ ap (λ t. map f (joined (take q rows)) ++ (t ++ map f (joined (drop (q + 1) rows)))) same ∙ sym (map-joined_at rows q within)
+
+  -- a row of which one element is written
+  pub joined-written : (rows : List (List A)) (q i : ℕ) (x : List A) (y : B) → q < length rows → i < length (get_or rows q []) → map f x ≡ set (map f (get_or rows q [])) i y
+      → map f (joined (set rows q x)) ≡ set (map f (joined rows)) (length (joined (take q rows)) + i) y
+  joined-written rows q i x y within inside is =
+      let a = map f (joined (take q rows)) in
+      let r = map f (get_or rows q []) in
+      let c = map f (joined (drop (q + 1) rows)) in
+      let size : length a ≡ length (joined (take q rows)) = length-map (joined (take q rows)) f in
+      let n = length (joined (take q rows)) + i in
+      let near : n - length (joined (take q rows)) ≡ i = omega arith in
+      map-joined_set rows q x within ∙ ap (λ t. a ++ (t ++ c)) is ∙ ap (λ t. a ++ t) (sym (set-append_left r c i y (omega (arith, length-map (get_or rows q []) f, inside))))
+      ∙ ap (λ k. a ++ set (r ++ c) k y) (sym near) ∙ sym (set-append_right a (r ++ c) (length (joined (take q rows))) n y size (omega arith))
+      ∙ ap (λ t. set t n y) (sym (map-joined_at rows q within))

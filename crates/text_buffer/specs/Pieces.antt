@@ -1,5 +1,5 @@
 -- Paragraphs as they are kept, and what they are seen as.
-use Rattle.std.specs.Prelude.{ℕ, List, map as each, string_bytes}
+use Rattle.std.specs.Prelude.{ℕ, List, Option, map as each, string_bytes}
 use Rattle.paragraphs.specs.Text.{code_points}
 use Rattle.text_buffer.specs.Buffers.{KeptParagraph}
 use Rattle.text_buffer.specs.declared.piece.Piece.{Piece}
@@ -10,6 +10,10 @@ module _ {K : Type 0} where
 
   abbrev pub points_in : List (Piece K) → List (List ℕ)
   points_in ps = each points_of ps
+
+  -- what is kept of each
+  abbrev pub kept_of : List (Piece K) → List (Option K)
+  kept_of ps = each (λ p. p.kept) ps
 
   abbrev pub seen : Piece K → KeptParagraph K
   seen p = record { points = points_of p; kept = p.kept }

@@ -1,9 +1,9 @@
 //! Blocks of paragraphs.
 
-ghost use Rattle.std.specs.Prelude.{◌≡◌, ◌+◌, ◌<◌, ◌≤◌, ◌++◌, length, take, drop, vec_len, IfOk, OnOk, OnErr};
+ghost use Rattle.std.specs.Prelude.{◌≡◌, ◌+◌, ◌<◌, ◌≤◌, ◌++◌, length, take, drop, slice_set, vec_len, IfOk, OnOk, OnErr};
 ghost use Rattle.std.specs.List.{concat};
 ghost use Rattle.text_buffer.specs.Buffers.{bytes_in};
-ghost use Rattle.text_buffer.specs.Pieces.{points_in};
+ghost use Rattle.text_buffer.specs.Pieces.{points_in, kept_of};
 
 use crate::piece::Piece;
 use crate::row::{drop_front, splice};
@@ -98,5 +98,15 @@ impl<K: Drop> Block<K> {
         drop_front(&mut self.pieces, count);
         self.bytes -= gone.bytes;
         self.places -= gone.places;
+    }
+
+    /// Keeps this of paragraph `number`, or nothing.
+    pub fn set_kept(&mut self, number: usize, kept: Option<K>)
+        requires { number < length self.old.pieces.items }
+        ensures points { points_in self.new.pieces.items ≡ points_in self.old.pieces.items }
+        ensures kept { kept_of self.new.pieces.items ≡ slice_set (kept_of self.old.pieces.items) number kept }
+    {
+        let piece = &mut self.pieces[number];
+        piece.kept = kept;
     }
 }

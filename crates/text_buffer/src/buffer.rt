@@ -1,11 +1,11 @@
 //! A text that is kept in paragraphs.
 
-ghost use Rattle.std.specs.Prelude.{◌≡◌, ◌+◌, ◌<◌, ◌≤◌, ◌↔◌, Some, Err, insert, remove, length, slice_get, encode_utf8_all, IfOk, OnOk, OnErr};
+ghost use Rattle.std.specs.Prelude.{◌≡◌, ◌+◌, ◌<◌, ◌≤◌, ◌↔◌, Some, None, Err, insert, remove, length, slice_get, slice_set, option_copied, encode_utf8_all, IfOk, OnOk, OnErr};
 ghost use Rattle.unicode_tables.specs.Tables.{TableValues};
 ghost use Rattle.paragraphs.specs.Text.{code_points};
 ghost use Rattle.paragraphs.specs.Paragraphs.{paragraphs};
 ghost use Rattle.bg_types.specs.Edit.{IsInRange, changed};
-ghost use Rattle.text_buffer.specs.Buffers.{bytes_in, paragraphs_in, text_in, IsSplit};
+ghost use Rattle.text_buffer.specs.Buffers.{bytes_in, paragraphs_in, kept_in, text_in, IsSplit};
 ghost use Rattle.text_buffer.specs.Edits.{replaced, place_of, end_of, IsParagraphOf, IsTouched};
 ghost use Rattle.text_buffer.specs.declared.fault.BufferFault.TheVariants.{TooLong};
 
@@ -14,6 +14,7 @@ use crate::change::{change, pieces_of};
 use crate::fault::BufferFault;
 use crate::find::{block_of, first_block, spot_at};
 use crate::replace::blocks_of;
+use crate::rows::set_kept_in;
 use crate::stretch::{LIMIT, plan_edit};
 use crate::touched::Touched;
 use bg_types::Change;
@@ -118,6 +119,38 @@ impl<K: Drop> Buffer<K> {
     {
         let (_, spot) = spot_at(&self.blocks, first_block(&self.blocks), place);
         spot.number
+    }
+
+    /// What is kept of a paragraph, or nothing.
+    pub fn kept(&self, number: usize) -> Option<&K>
+        requires { number < length self.now }
+        ensures { slice_get (kept_in self.now) number ≡ Some (option_copied result) }
+    {
+        let before = block_of(&self.blocks, first_block(&self.blocks), number);
+        let pieces = &self.blocks[before.block].pieces;
+        pieces[number - before.paragraphs].kept.as_ref()
+    }
+
+    /// Keeps a value beside a paragraph, until an edit makes it anew or another takes its place.
+    pub fn keep(&mut self, number: usize, value: K)
+        requires { number < length self.old }
+        ensures paragraphs { paragraphs_in self.new ≡ paragraphs_in self.old }
+        ensures kept { kept_in self.new ≡ slice_set (kept_in self.old) number (Some value) }
+    {
+        let before = block_of(&self.blocks, first_block(&self.blocks), number);
+        let index = number - before.paragraphs;
+        set_kept_in(&mut self.blocks, before.block, index, Some(value));
+    }
+
+    /// Drops what is kept of a paragraph.
+    pub fn forget(&mut self, number: usize)
+        requires { number < length self.old }
+        ensures paragraphs { paragraphs_in self.new ≡ paragraphs_in self.old }
+        ensures kept { kept_in self.new ≡ slice_set (kept_in self.old) number None }
+    {
+        let before = block_of(&self.blocks, first_block(&self.blocks), number);
+        let index = number - before.paragraphs;
+        set_kept_in(&mut self.blocks, before.block, index, None);
     }
 
     /// Puts a text in the place of the code points from one place up to another, and tells which paragraphs it made anew; of

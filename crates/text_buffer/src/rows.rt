@@ -3,8 +3,8 @@
 ghost use Rattle.std.specs.Prelude.{◌≡◌, ◌+◌, ◌<◌, ◌≤◌, ◌++◌, [], length, take, drop, get_or, slice_set, vec_len, IfOk, OnOk, OnErr};
 ghost use Rattle.std.specs.List.{concat};
 ghost use Rattle.text_buffer.specs.Buffers.{bytes_in};
-ghost use Rattle.text_buffer.specs.Pieces.{points_in};
-ghost use Rattle.text_buffer.specs.Blocks.{rows_of, pieces_in, texts_in};
+ghost use Rattle.text_buffer.specs.Pieces.{points_in, kept_of};
+ghost use Rattle.text_buffer.specs.Blocks.{joined, rows_of, pieces_in, texts_in};
 
 use crate::block::Block;
 use crate::piece::Piece;
@@ -75,4 +75,14 @@ pub fn drop_front_in<K: Drop>(blocks: &mut [Block<K>], q: usize, count: usize)
     ensures { rows_of blocks.new ≡ slice_set (rows_of blocks.old) q (drop count (get_or (rows_of blocks.old) q [])) }
 {
     blocks[q].drop_front(count);
+}
+
+/// Keeps this of paragraph `number` of block q, or nothing.
+pub fn set_kept_in<K: Drop>(blocks: &mut [Block<K>], q: usize, number: usize, kept: Option<K>)
+    requires block { q < length blocks.old }
+    requires within { number < length (get_or (rows_of blocks.old) q []) }
+    ensures texts { texts_in blocks.new ≡ texts_in blocks.old }
+    ensures kept { kept_of (pieces_in blocks.new) ≡ slice_set (kept_of (pieces_in blocks.old)) (length (joined (take q (rows_of blocks.old))) + number) kept }
+{
+    blocks[q].set_kept(number, kept);
 }

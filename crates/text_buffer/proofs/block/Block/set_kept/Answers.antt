@@ -1,0 +1,24 @@
+-- The paragraph is the same but for what is kept of it.
+use Rattle.std.proofs.Common.{length, sym, ap, ◌∙◌}
+use Rattle.std.proofs.lemmas.List.{map-set}
+use Rattle.std.proofs.Math.Seq.{map-set_same}
+use Rattle.std.specs.List.{concat}
+use Rattle.text_buffer.specs.declared.piece.Piece.{Piece}
+use Rattle.text_buffer.specs.Buffers.{bytes_in}
+use Rattle.text_buffer.specs.Pieces.{points_of}
+use Rattle.text_buffer.proofs.block.Block.set_kept.Goals as goal
+
+pub invariant_of-self : goal.invariant_of-self
+invariant_of-self g c =
+    let b = c.args.self.now in
+    record {
+      some = b.some;
+      bytes_is = b.bytes_is ∙ sym (ap (λ t. bytes_in (concat t)) (map-set_same points_of b.pieces.items c.args.number _ c.index_mut-piece.result.now (ap points_of c.index_mut-piece.ensures.value)));
+      places_is = b.places_is ∙ sym (ap (λ t. length (concat t)) (map-set_same points_of b.pieces.items c.args.number _ c.index_mut-piece.result.now (ap points_of c.index_mut-piece.ensures.value)));
+    }
+
+pub returns-clause-points : goal.returns-clause-points
+returns-clause-points g c = map-set_same points_of c.args.self.now.pieces.items c.args.number _ c.index_mut-piece.result.now (ap points_of c.index_mut-piece.ensures.value)
+
+pub returns-clause-kept : goal.returns-clause-kept
+returns-clause-kept g c = map-set (λ (p : Piece _). p.kept) c.args.self.now.pieces.items c.args.number _
