@@ -62,6 +62,10 @@ impl<S: Fresh> Sequence for UnderKey<S> {
         self.seq.char_at(k)
     }
 
+    fn spot_at(&mut self, k: usize) -> (usize, usize) {
+        self.seq.spot_at(k)
+    }
+
     fn visible_before(&self, id: Id) -> usize {
         self.seq.visible_before(id)
     }

@@ -13,7 +13,7 @@ use Rattle.bg_types.specs.declared.op.Place.TheVariants.{Root, After}
 use Rattle.rga_tree.specs.Walk.{Insertions, children, walk_to, walk, walked_ids}
 use Rattle.rga_tree.specs.Attached.{IsAttached}
 use Rattle.rga_tree.specs.Attached.IsAttached.{below_root, below}
-use Rattle.rga_tree.specs.Stretch.{IsChild, StandsBelow, IsStretch}
+use Rattle.rga_tree.specs.Stretch.{IsChild, StandsBelow, IsUnbroken}
 use Rattle.rga_tree.specs.Stretch.StandsBelow.{child, deeper}
 use Rattle.rga_tree.proofs.WalkAmong.{Entry}
 use Rattle.rga_tree.proofs.PreorderLaw.{walk-preorder}
@@ -98,7 +98,7 @@ reads_ids s top r =
     let own = (top, r.1) ∷ walk s (After top) in
     ap ids r.3 ∙ map-append (λ (e : Entry). e.0) (r.0 ++ own) r.2 ∙ ap (λ t. t ++ ids r.2) (map-append (λ (e : Entry). e.0) r.0 own)
 
-pub stretch_of : (s : OperationSet) → AllWellFormed s → (top : Identifier) → IsAttached s.ins top → IsStretch s top
+pub stretch_of : (s : OperationSet) → AllWellFormed s → (top : Identifier) → IsAttached s.ins top → IsUnbroken s top
 stretch_of s well top at =
     let r = reads_attached s well at in
     let w = walk s (After top) in

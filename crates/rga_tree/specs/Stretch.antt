@@ -18,7 +18,7 @@ pub data StandsBelow (ins : Insertions) (top : Identifier) : Identifier → Type
   deeper : (id parent : Identifier) → IsChild ins (After parent) id → StandsBelow ins top parent → StandsBelow ins top id
 
 -- top and all below it, and nothing else, stand in one unbroken stretch of the walk
-pub record IsStretch (s : OperationSet) (top : Identifier) : Type 0 where
+pub record IsUnbroken (s : OperationSet) (top : Identifier) : Type 0 where
   pub front : List Identifier
   pub below : List Identifier
   pub back : List Identifier

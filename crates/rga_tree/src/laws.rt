@@ -16,7 +16,7 @@ ghost use Rattle.rga_tree.specs.Walk.{walk, children, walked_ids, StandsAmong};
 ghost use Rattle.rga_tree.specs.Attached.{IsAttached, IsAttachedPart, is_attached};
 ghost use Rattle.rga_tree.specs.Parts.{IsPartOf};
 ghost use Rattle.rga_tree.specs.Order.{Precedes, StandsBetween};
-ghost use Rattle.rga_tree.specs.Stretch.{IsChild, StandsBelow, IsStretch, IsRun, IsLeftOf};
+ghost use Rattle.rga_tree.specs.Stretch.{IsChild, StandsBelow, IsUnbroken, IsRun, IsLeftOf};
 ghost use Rattle.rga_tree.specs.TextOf.{text};
 ghost use Rattle.rga_tree.specs.Tree.{stands_in, IsTree};
 ghost use Rattle.rga_tree.specs.Elements.{elements};
@@ -114,7 +114,7 @@ pub fn one_order()
 /// is a run of the set, so all this holds of it wherever it arrives.
 pub fn unbroken_stretch()
     ensures stretch { (s : OperationSet) → AllWellFormed s → (top : Identifier)
-        → IsAttached s.ins top → IsStretch s top }
+        → IsAttached s.ins top → IsUnbroken s top }
     ensures runs { (s : OperationSet) → AllWellFormed s → (a b : Identifier) (xs ys : List Identifier)
         → IsAttached s.ins a → IsAttached s.ins b → IsRun s.ins (a ∷ xs) → IsRun s.ins (b ∷ ys)
         → a ≢ b → (StandsBelow s.ins a b → ⊥) → (StandsBelow s.ins b a → ⊥)

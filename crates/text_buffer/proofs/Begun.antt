@@ -6,7 +6,7 @@ use Rattle.std.specs.List.{concat}
 use Rattle.unicode_tables.specs.Tables.{TableValues, bidi_of}
 use Rattle.paragraphs.specs.Paragraphs.{meets_at_cut}
 use Rattle.paragraphs.proofs.Interface.{parts, parts-some, IsHalved, IsHalved-from, meets-front, meets-last, concat-append}
-use Rattle.text_buffer.specs.Stretches.{IsBegun, IsStretch, text_with}
+use Rattle.text_buffer.specs.Stretches.{IsBegun, IsRemade, text_with}
 use Rattle.text_buffer.proofs.Texts.{places-at}
 
 concat-more : (kept : List (List ℕ)) (i : ℕ) → i < length kept → concat (take (i + 1) kept) ≡ concat (take i kept) ++ get_or kept i []
@@ -126,7 +126,7 @@ module _ (tables : TableValues) (kept : List (List ℕ)) (is : kept ≡ parts (b
   -- ---- behind
 
   -- with the end of its last paragraph it ends at a cut
-  pub stretch-own : (from i : ℕ) (f g x t : List ℕ) → IsBegun tables kept from (i + 1) t → f ++ g ≡ get_or kept i [] → (i + 1 < length kept → 0 < length g) → t ≡ x ++ g → IsStretch tables kept from (i + 1) t
+  pub stretch-own : (from i : ℕ) (f g x t : List ℕ) → IsBegun tables kept from (i + 1) t → f ++ g ≡ get_or kept i [] → (i + 1 < length kept → 0 < length g) → t ≡ x ++ g → IsRemade tables kept from (i + 1) t
   stretch-own from i f g x t begun own some is =
       let class = bidi_of tables in
       record {

@@ -10,7 +10,7 @@ use Rattle.paragraphs.specs.Text.{code_points}
 use Rattle.paragraphs.specs.Paragraphs.{Paragraph, paragraphs}
 use Rattle.paragraphs.proofs.Interface.{parts, points-parts}
 use Rattle.text_buffer.specs.Buffers.{bytes_in}
-use Rattle.text_buffer.specs.Stretches.{IsStretch, text_with}
+use Rattle.text_buffer.specs.Stretches.{IsRemade, text_with}
 use Rattle.text_buffer.proofs.Sums.{bytes-append, places-append, places-few}
 use Rattle.text_buffer.proofs.Splits.{put-stretch, text-of_parts, split-of_parts, some-parts}
 use Rattle.text_buffer.proofs.Begun.{few-paragraphs}
@@ -31,7 +31,7 @@ abbrev pub all_points : TableValues → List ℕ → List (List ℕ)
 all_points tables bytes = map (λ (p : Paragraph). code_points p.text) (paragraphs tables bytes)
 
 made-parts : (tables : TableValues) (kept : List (List ℕ)) (from to count : ℕ) (points bytes : List ℕ) (put : List (List ℕ)) → kept ≡ parts (bidi_of tables) (concat kept) → count ≡ length kept
-    → IsStretch tables kept from to points → IsUtf8 bytes → code_points bytes ≡ points
+    → IsRemade tables kept from to points → IsUtf8 bytes → code_points bytes ≡ points
     → put ≡ cond (nat_eq to count) (all_points tables bytes) (take (length (all_points tables bytes) - 1) (all_points tables bytes))
     → take from kept ++ (put ++ drop to kept) ≡ parts (bidi_of tables) (text_with kept from to points)
 made-parts tables kept from to count points bytes put is counted s u e made =
@@ -45,7 +45,7 @@ made-parts tables kept from to count points bytes put is counted s u e made =
     ])
 
 pub made-change : (tables : TableValues) (kept : List (List ℕ)) (from to count : ℕ) (points bytes : List ℕ) (put : List (List ℕ)) → kept ≡ parts (bidi_of tables) (concat kept) → count ≡ length kept
-    → IsStretch tables kept from to points → (to < length kept → 0 < length points) → IsUtf8 bytes → code_points bytes ≡ points
+    → IsRemade tables kept from to points → (to < length kept → 0 < length points) → IsUtf8 bytes → code_points bytes ≡ points
     → put ≡ cond (nat_eq to count) (all_points tables bytes) (take (length (all_points tables bytes) - 1) (all_points tables bytes))
     → IsMade tables kept from to put (text_with kept from to points)
 made-change tables kept from to count points bytes put is counted s more u e made =

@@ -12,7 +12,7 @@ use Rattle.text_buffer.specs.declared.find.Before.{Before}
 use Rattle.text_buffer.specs.Buffers.{bytes_in, Fits, paragraphs_in, kept_in}
 use Rattle.text_buffer.specs.Pieces.{points_of, points_in, kept_of, seen}
 use Rattle.text_buffer.specs.Blocks.{rows_of, joined, pieces_in, texts_in}
-use Rattle.text_buffer.specs.Places.{StandsBefore}
+use Rattle.text_buffer.specs.Places.{IsInFront}
 use Rattle.text_buffer.proofs.Sums.{bytes-both, places-both}
 use Rattle.text_buffer.proofs.Joins.{joined-at, joined-more}
 
@@ -53,7 +53,7 @@ pub record HasParts {K : Type 0} (bs : List (Block K)) (b : Before) : Type 0 whe
   pub last : length bs ≤ b.block + 1 → drop (b.block + 1) (rows_of bs) ≡ []
 
 module _ {K : Type 0} where
-  pub parts-of : (bs : List (Block K)) (b : Before) → StandsBefore bs b → HasParts bs b
+  pub parts-of : (bs : List (Block K)) (b : Before) → IsInFront bs b → HasParts bs b
   parts-of bs b s =
       let rows = rows_of bs in
       let a = joined (take b.block rows) in
@@ -69,11 +69,11 @@ module _ {K : Type 0} where
       }
 
   -- past a block
-  pub stands-next : (bs : List (Block K)) (b : Before) → StandsBefore bs b → (next : Before) → next.block ≡ b.block + 1
+  pub stands-next : (bs : List (Block K)) (b : Before) → IsInFront bs b → (next : Before) → next.block ≡ b.block + 1
       → next.paragraphs ≡ b.paragraphs + length (get_or (rows_of bs) b.block [])
       → next.bytes ≡ b.bytes + bytes_in (concat (points_in (get_or (rows_of bs) b.block [])))
       → next.places ≡ b.places + length (concat (points_in (get_or (rows_of bs) b.block [])))
-      → b.block + 1 < length bs → StandsBefore bs next
+      → b.block + 1 < length bs → IsInFront bs next
   stands-next bs b s next block paragraphs bytes places more =
       let rows = rows_of bs in
       let a = joined (take b.block rows) in
@@ -88,7 +88,7 @@ module _ {K : Type 0} where
       }
 
   -- a paragraph of a block among all, and those before it
-  pub kept-at : (bs : List (Block K)) (b : Before) → StandsBefore bs b → (j : ℕ) → j < length (get_or (rows_of bs) b.block [])
+  pub kept-at : (bs : List (Block K)) (b : Before) → IsInFront bs b → (j : ℕ) → j < length (get_or (rows_of bs) b.block [])
       → get_or (texts_in bs) (b.paragraphs + j) [] ≡ get_or (points_in (get_or (rows_of bs) b.block [])) j []
   kept-at bs b s j inside =
       let rows = rows_of bs in
@@ -101,7 +101,7 @@ module _ {K : Type 0} where
       ap (λ n. get_or (texts_in bs) (n + j) []) s.paragraphs ∙ ap (λ t. get_or t (length (points_in a) + j) []) p
       ∙ get_or-both (points_in a) (points_in r) (points_in c) j (omega (arith, length-points r, inside))
 
-  pub take-at : (bs : List (Block K)) (b : Before) → StandsBefore bs b → (j : ℕ) → j ≤ length (get_or (rows_of bs) b.block [])
+  pub take-at : (bs : List (Block K)) (b : Before) → IsInFront bs b → (j : ℕ) → j ≤ length (get_or (rows_of bs) b.block [])
       → take (b.paragraphs + j) (pieces_in bs) ≡ joined (take b.block (rows_of bs)) ++ take j (get_or (rows_of bs) b.block [])
   take-at bs b s j inside =
       let rows = rows_of bs in
@@ -112,7 +112,7 @@ module _ {K : Type 0} where
       ap₂ (λ n t. take (n + j) t) (s.paragraphs ∙ length-points a) (joined-at rows b.block within) ∙ take-append-add a (r ++ c) j ∙ ap (λ t. a ++ t) (take-append-le j r c inside)
 
   -- where a paragraph stands behind a block, a block does
-  pub block-more : (bs : List (Block K)) (b : Before) → StandsBefore bs b → (number : ℕ) → number < length (texts_in bs)
+  pub block-more : (bs : List (Block K)) (b : Before) → IsInFront bs b → (number : ℕ) → number < length (texts_in bs)
       → b.paragraphs + length (get_or (rows_of bs) b.block []) ≤ number → b.block + 1 < length bs
   block-more bs b s number there passed =
       let all = parts-of bs b s in
@@ -122,7 +122,7 @@ module _ {K : Type 0} where
       ]
 
   -- before the first block stands nothing
-  pub stands-first : (bs : List (Block K)) (b : Before) → 0 < length bs → b.block ≡ 0 → b.paragraphs ≡ 0 → b.bytes ≡ 0 → b.places ≡ 0 → StandsBefore bs b
+  pub stands-first : (bs : List (Block K)) (b : Before) → 0 < length bs → b.block ≡ 0 → b.paragraphs ≡ 0 → b.bytes ≡ 0 → b.places ≡ 0 → IsInFront bs b
   stands-first bs b some block paragraphs bytes places =
       let none : joined (take b.block (rows_of bs)) ≡ [] = ap (λ n. joined (take n (rows_of bs))) block in
       record {
@@ -133,7 +133,7 @@ module _ {K : Type 0} where
       }
 
   -- with the same blocks before it and one there a block stands where it stood
-  pub stands-same : (old new : List (Block K)) (b : Before) → StandsBefore old b → take b.block (rows_of new) ≡ take b.block (rows_of old) → b.block < length new → StandsBefore new b
+  pub stands-same : (old new : List (Block K)) (b : Before) → IsInFront old b → take b.block (rows_of new) ≡ take b.block (rows_of old) → b.block < length new → IsInFront new b
   stands-same old new b s same within =
       record {
         within = within;
@@ -195,7 +195,7 @@ module _ {K : Type 0} where
 
   -- ---- a paragraph that was found
 
-  pub found-text : (bs : List (Block K)) (b : Before) (x r : Block K) (p : Piece K) (number : ℕ) → StandsBefore bs b → x ≡ get_or bs b.block r → b.paragraphs ≤ number
+  pub found-text : (bs : List (Block K)) (b : Before) (x r : Block K) (p : Piece K) (number : ℕ) → IsInFront bs b → x ≡ get_or bs b.block r → b.paragraphs ≤ number
       → number < b.paragraphs + length (get_or (rows_of bs) b.block []) → p ≡ get_or x.pieces.items (number - b.paragraphs) p → get_or (texts_in bs) number [] ≡ points_of p
   found-text bs b x r p number s is reached here at =
       let row = row-get bs b.block r s.within ∙ ap (λ (y : Block K). y.pieces.items) (sym is) in
@@ -206,7 +206,7 @@ module _ {K : Type 0} where
       ap (λ n. get_or (texts_in bs) n []) (sym same) ∙ kept-at bs b s j inside ∙ ap (λ r. get_or (points_in r) j []) row
       ∙ get_or-map points_of x.pieces.items j p [] near ∙ ap points_of (sym at)
 
-  pub found-piece : (bs : List (Block K)) (b : Before) (x : Block K) (p : Piece K) (number : ℕ) → StandsBefore bs b → x ≡ get_or bs b.block x → b.paragraphs ≤ number
+  pub found-piece : (bs : List (Block K)) (b : Before) (x : Block K) (p : Piece K) (number : ℕ) → IsInFront bs b → x ≡ get_or bs b.block x → b.paragraphs ≤ number
       → number < b.paragraphs + length (get_or (rows_of bs) b.block []) → p ≡ get_or x.pieces.items (number - b.paragraphs) p → get_or (pieces_in bs) number p ≡ p
   found-piece bs b x p number s is reached here at =
       let rows = rows_of bs in
@@ -217,7 +217,7 @@ module _ {K : Type 0} where
       let inside : j < length (get_or rows b.block []) = omega (arith, reached, here) in
       ap (λ n. get_or (joined rows) n p) (sym same) ∙ get_or-flat_map (λ (r : List (Piece K)). r) rows b.block j [] p within inside ∙ ap (λ r. get_or r j p) row ∙ sym at
 
-  pub found-front : (bs : List (Block K)) (b : Before) (x : Block K) (number : ℕ) → StandsBefore bs b → x ≡ get_or bs b.block x → b.paragraphs ≤ number
+  pub found-front : (bs : List (Block K)) (b : Before) (x : Block K) (number : ℕ) → IsInFront bs b → x ≡ get_or bs b.block x → b.paragraphs ≤ number
       → number < b.paragraphs + length (get_or (rows_of bs) b.block [])
       → take number (texts_in bs) ≡ points_in (joined (take b.block (rows_of bs)) ++ take (number - b.paragraphs) x.pieces.items)
   found-front bs b x number s is reached here =

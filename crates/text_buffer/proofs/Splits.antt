@@ -13,7 +13,7 @@ use Rattle.text_buffer.specs.declared.block.Block.{Block}
 use Rattle.text_buffer.specs.Buffers.{IsSplit}
 use Rattle.text_buffer.specs.Pieces.{points_of, points_in}
 use Rattle.text_buffer.specs.Blocks.{pieces_in, texts_in}
-use Rattle.text_buffer.specs.Stretches.{IsStretch, text_with}
+use Rattle.text_buffer.specs.Stretches.{IsRemade, text_with}
 
 -- ---- what is kept is text
 
@@ -42,7 +42,7 @@ parts-split tables kept u is = is ∙ sym (paragraph_points-parts tables (concat
 -- ---- others in the place of a stretch
 
 module _ (tables : TableValues) (kept : List (List ℕ)) (from to : ℕ) (points : List ℕ) (is : kept ≡ parts (bidi_of tables) (concat kept))
-    (s : IsStretch tables kept from to points) where
+    (s : IsRemade tables kept from to points) where
   put-before_others : to < length kept → take from kept ++ (front (parts (bidi_of tables) points) ++ drop to kept)
       ≡ parts (bidi_of tables) (concat (take from kept) ++ (points ++ concat (drop to kept)))
   put-before_others more =

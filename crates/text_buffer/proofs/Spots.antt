@@ -11,7 +11,7 @@ use Rattle.text_buffer.specs.Buffers.{bytes_in}
 use Rattle.text_buffer.specs.Edits.{IsParagraphOf}
 use Rattle.text_buffer.specs.Pieces.{points_of, points_in}
 use Rattle.text_buffer.specs.Blocks.{joined, rows_of, pieces_in, texts_in}
-use Rattle.text_buffer.specs.Places.{StandsBefore, StandsAt}
+use Rattle.text_buffer.specs.Places.{IsInFront, StandsAt}
 use Rattle.text_buffer.proofs.Sums.{bytes-both, places-both}
 use Rattle.text_buffer.proofs.Texts.{places-more-at}
 use Rattle.text_buffer.proofs.Places.{kept-at, take-at, parts-of, length-points}
@@ -25,11 +25,11 @@ paragraph-of kept place s at =
     }
 
 module _ {K : Type 0} where
-  front-of : (bs : List (Block K)) (b : Before) → StandsBefore bs b → (j : ℕ) → j ≤ length (get_or (rows_of bs) b.block [])
+  front-of : (bs : List (Block K)) (b : Before) → IsInFront bs b → (j : ℕ) → j ≤ length (get_or (rows_of bs) b.block [])
       → take (b.paragraphs + j) (texts_in bs) ≡ points_in (joined (take b.block (rows_of bs)) ++ take j (get_or (rows_of bs) b.block []))
   front-of bs b s j inside = take-map points_of (b.paragraphs + j) (pieces_in bs) ∙ ap points_in (take-at bs b s j inside)
 
-  pub spot-among : (bs : List (Block K)) (b : Before) → StandsBefore bs b → (ps : List (Piece K)) → get_or (rows_of bs) b.block [] ≡ ps → (place : ℕ) → b.places ≤ place
+  pub spot-among : (bs : List (Block K)) (b : Before) → IsInFront bs b → (ps : List (Piece K)) → get_or (rows_of bs) b.block [] ≡ ps → (place : ℕ) → b.places ≤ place
       → (here : Spot) → StandsAt (points_in ps) (place - b.places) here
       → (b.block + 1 < length bs → place < b.places + length (concat (points_in ps))) → (place - b.places < length (concat (points_in ps)) → here.offset < length (get_or (points_in ps) here.number []))
       → (spot : Spot) → spot.number ≡ b.paragraphs + here.number → spot.bytes ≡ b.bytes + here.bytes → spot.offset ≡ here.offset → StandsAt (texts_in bs) place spot

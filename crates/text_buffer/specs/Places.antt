@@ -8,7 +8,7 @@ use Rattle.text_buffer.specs.Buffers.{bytes_in}
 use Rattle.text_buffer.specs.Pieces.{points_in}
 use Rattle.text_buffer.specs.Blocks.{rows_of, joined}
 
-pub record StandsBefore {K : Type 0} (blocks : List (Block K)) (b : Before) : Type 0 where
+pub record IsInFront {K : Type 0} (blocks : List (Block K)) (b : Before) : Type 0 where
   pub within : b.block < length blocks
   pub paragraphs : b.paragraphs ≡ length (points_in (joined (take b.block (rows_of blocks))))
   pub bytes : b.bytes ≡ bytes_in (concat (points_in (joined (take b.block (rows_of blocks)))))

@@ -15,6 +15,6 @@ pub record IsBegun (tables : TableValues) (kept : List (List ℕ)) (from to : �
   pub before : meets_at_cut (bidi_of tables) (concat (take from kept)) (points ++ concat (drop to kept)) ≡ true
 
 -- it meets those beside it at cuts
-pub record IsStretch (tables : TableValues) (kept : List (List ℕ)) (from to : ℕ) (points : List ℕ) : Type 0 where
+pub record IsRemade (tables : TableValues) (kept : List (List ℕ)) (from to : ℕ) (points : List ℕ) : Type 0 where
   pub begun : IsBegun tables kept from to points
   pub after : to < length kept → meets_at_cut (bidi_of tables) points (concat (drop to kept)) ≡ true

@@ -8,8 +8,8 @@ ghost use Rattle.text_buffer.specs.Buffers.{bytes_in, IsSplit};
 ghost use Rattle.text_buffer.specs.Edits.{anew};
 ghost use Rattle.text_buffer.specs.Pieces.{points_in, seen};
 ghost use Rattle.text_buffer.specs.Blocks.{pieces_in, texts_in, seen_in};
-ghost use Rattle.text_buffer.specs.Places.{StandsBefore};
-ghost use Rattle.text_buffer.specs.Stretches.{IsStretch, text_with};
+ghost use Rattle.text_buffer.specs.Places.{IsInFront};
+ghost use Rattle.text_buffer.specs.Stretches.{IsRemade, text_with};
 
 use crate::block::Block;
 use crate::find::Before;
@@ -65,11 +65,11 @@ pub fn change<K: Drop>(
     count: usize,
     stretch: Stretch,
 ) -> Result<Touched, Memory>
-    requires start { StandsBefore blocks.old.items start }
+    requires start { IsInFront blocks.old.items start }
     requires count { count ≡ length (texts_in blocks.old.items) }
     requires few { bytes_in (concat (texts_in blocks.old.items)) ≤ 4_000_000 }
     requires split { IsSplit tables.now (texts_in blocks.old.items) }
-    requires stretch { IsStretch tables.now (texts_in blocks.old.items) stretch.from stretch.to (code_points (string_bytes stretch.text)) }
+    requires stretch { IsRemade tables.now (texts_in blocks.old.items) stretch.from stretch.to (code_points (string_bytes stretch.text)) }
     requires some { stretch.to < length (texts_in blocks.old.items) → 0 < length (code_points (string_bytes stretch.text)) }
     requires new { bytes_in (text_with (texts_in blocks.old.items) stretch.from stretch.to (code_points (string_bytes stretch.text))) ≤ 4_000_000 }
     ensures first { IfOk result (λ t. t.first ≡ stretch.from) }

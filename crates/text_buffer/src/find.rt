@@ -5,7 +5,7 @@ ghost use Rattle.std.specs.List.{concat};
 ghost use Rattle.text_buffer.specs.Buffers.{bytes_in, Fits};
 ghost use Rattle.text_buffer.specs.Pieces.{points_in};
 ghost use Rattle.text_buffer.specs.Blocks.{rows_of, texts_in};
-ghost use Rattle.text_buffer.specs.Places.{StandsBefore, StandsAt};
+ghost use Rattle.text_buffer.specs.Places.{IsInFront, StandsAt};
 
 use crate::block::Block;
 use crate::piece::Piece;
@@ -44,7 +44,7 @@ impl Before {
 /// The first block.
 pub fn first_block<K>(blocks: &[Block<K>]) -> Before
     requires { 0 < length blocks.now }
-    ensures stands { StandsBefore blocks.now result }
+    ensures stands { IsInFront blocks.now result }
     ensures paragraphs { result.paragraphs ≡ 0 }
     ensures places { result.places ≡ 0 }
 {
@@ -58,10 +58,10 @@ pub fn first_block<K>(blocks: &[Block<K>]) -> Before
 
 /// The block behind one that is not the last.
 pub fn next_to<K>(blocks: &[Block<K>], before: Before) -> Before
-    requires stands { StandsBefore blocks.now before }
+    requires stands { IsInFront blocks.now before }
     requires more { before.block + 1 < length blocks.now }
     requires fits { Fits (texts_in blocks.now) }
-    ensures stands { StandsBefore blocks.now result }
+    ensures stands { IsInFront blocks.now result }
     ensures paragraphs { result.paragraphs ≡ before.paragraphs + length (get_or (rows_of blocks.now) before.block []) }
     ensures places { result.places ≡ before.places + length (concat (points_in (get_or (rows_of blocks.now) before.block []))) }
     ensures block { result.block ≡ before.block + 1 }
@@ -79,11 +79,11 @@ fn places_in<K>(blocks: &[Block<K>], q: usize) -> usize
 
 /// The block in which paragraph `number` stands, from one on that isn't behind it.
 pub fn block_of<K>(blocks: &[Block<K>], start: Before, number: usize) -> Before
-    requires start { StandsBefore blocks.now start }
+    requires start { IsInFront blocks.now start }
     requires behind { start.paragraphs ≤ number }
     requires there { number < length (texts_in blocks.now) }
     requires fits { Fits (texts_in blocks.now) }
-    ensures stands { StandsBefore blocks.now result }
+    ensures stands { IsInFront blocks.now result }
     ensures reached { result.paragraphs ≤ number }
     ensures here { number < result.paragraphs + length (get_or (rows_of blocks.now) result.block []) }
     ensures order { start.block ≤ result.block }
@@ -98,11 +98,11 @@ pub fn block_of<K>(blocks: &[Block<K>], start: Before, number: usize) -> Before
 /// The block in which a place stands, from one on that isn't behind it. A place behind all that the others have is the
 /// last one's.
 pub fn block_at<K>(blocks: &[Block<K>], start: Before, place: usize) -> Before
-    requires start { StandsBefore blocks.now start }
+    requires start { IsInFront blocks.now start }
     requires behind { start.places ≤ place }
     requires within { place ≤ length (concat (texts_in blocks.now)) }
     requires fits { Fits (texts_in blocks.now) }
-    ensures stands { StandsBefore blocks.now result }
+    ensures stands { IsInFront blocks.now result }
     ensures reached { result.places ≤ place }
     ensures here { place ≤ result.places + length (concat (points_in (get_or (rows_of blocks.now) result.block []))) }
     ensures inside { result.block + 1 < length blocks.now → place < result.places + length (concat (points_in (get_or (rows_of blocks.now) result.block []))) }
@@ -127,11 +127,11 @@ pub struct Spot {
 
 /// The spot of a place, and its block, from one on that isn't behind it.
 pub fn spot_at<K>(blocks: &[Block<K>], start: Before, place: usize) -> (Before, Spot)
-    requires start { StandsBefore blocks.now start }
+    requires start { IsInFront blocks.now start }
     requires behind { start.places ≤ place }
     requires within { place ≤ length (concat (texts_in blocks.now)) }
     requires fits { Fits (texts_in blocks.now) }
-    ensures stands { StandsBefore blocks.now result.0 }
+    ensures stands { IsInFront blocks.now result.0 }
     ensures reached { result.0.places ≤ place }
     ensures first { result.0.paragraphs ≤ result.1.number }
     ensures here { result.1.number < result.0.paragraphs + length (get_or (rows_of blocks.now) result.0.block []) }

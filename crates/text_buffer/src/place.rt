@@ -6,7 +6,7 @@ ghost use Rattle.std.specs.Str.{IsUtf8};
 ghost use Rattle.paragraphs.specs.Text.{code_points};
 ghost use Rattle.text_buffer.specs.Buffers.{bytes_in, Fits};
 ghost use Rattle.text_buffer.specs.Blocks.{rows_of, texts_in};
-ghost use Rattle.text_buffer.specs.Places.{StandsBefore};
+ghost use Rattle.text_buffer.specs.Places.{IsInFront};
 
 use crate::block::Block;
 use crate::find::{Before, block_of, first_block, spot_at};
@@ -26,11 +26,11 @@ pub struct Place<'a> {
 
 /// A place, found from a block on that isn't behind it. One between two paragraphs stands in the later one.
 pub fn place_at<'a, K>(blocks: &'a [Block<K>], start: Before, place: usize) -> Place<'a>
-    requires start { StandsBefore blocks.now start }
+    requires start { IsInFront blocks.now start }
     requires behind { start.places ≤ place }
     requires within { place ≤ length (concat (texts_in blocks.now)) }
     requires fits { Fits (texts_in blocks.now) }
-    ensures stands { StandsBefore blocks.now result.block }
+    ensures stands { IsInFront blocks.now result.block }
     ensures reached { result.block.places ≤ place }
     ensures first { result.block.paragraphs ≤ result.number }
     ensures there { result.number < length (texts_in blocks.now) }
@@ -56,7 +56,7 @@ pub fn place_at<'a, K>(blocks: &'a [Block<K>], start: Before, place: usize) -> P
 
 /// The text of paragraph `number`, of this block.
 fn text_at<K>(blocks: &[Block<K>], before: Before, number: usize) -> &str
-    requires stands { StandsBefore blocks.now before }
+    requires stands { IsInFront blocks.now before }
     requires reached { before.paragraphs ≤ number }
     requires here { number < before.paragraphs + length (get_or (rows_of blocks.now) before.block []) }
     ensures { code_points result.now ≡ get_or (texts_in blocks.now) number [] }

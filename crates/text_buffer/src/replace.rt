@@ -5,7 +5,7 @@ ghost use Rattle.std.specs.List.{concat};
 ghost use Rattle.text_buffer.specs.Buffers.{bytes_in, Fits};
 ghost use Rattle.text_buffer.specs.Pieces.{points_in};
 ghost use Rattle.text_buffer.specs.Blocks.{rows_of, joined, pieces_in, texts_in};
-ghost use Rattle.text_buffer.specs.Places.{StandsBefore};
+ghost use Rattle.text_buffer.specs.Places.{IsInFront};
 
 use crate::block::Block;
 use crate::find::{Before, block_of, first_block, next_to};
@@ -51,7 +51,7 @@ pub fn replace<K: Drop>(
     to: usize,
     pieces: Vec<Piece<K>>,
 ) -> Result<(), Memory>
-    requires start { StandsBefore blocks.old.items start }
+    requires start { IsInFront blocks.old.items start }
     requires order { from < to }
     requires within { to ≤ length (pieces_in blocks.old.items) }
     requires some { 0 < vec_len pieces }
@@ -70,8 +70,8 @@ pub fn replace<K: Drop>(
 
 /// A block from which paragraph `number` is found: this one, or the first one.
 fn start_for<K>(blocks: &[Block<K>], start: Before, number: usize) -> Before
-    requires { StandsBefore blocks.now start }
-    ensures stands { StandsBefore blocks.now result }
+    requires { IsInFront blocks.now start }
+    ensures stands { IsInFront blocks.now result }
     ensures behind { result.paragraphs ≤ number }
 {
     if start.paragraphs <= number {
@@ -88,7 +88,7 @@ fn replace_near<K: Drop>(
     to: usize,
     pieces: Vec<Piece<K>>,
 ) -> Result<(), Memory>
-    requires stands { StandsBefore blocks.old before }
+    requires stands { IsInFront blocks.old before }
     requires reached { before.paragraphs ≤ from }
     requires order { from < to }
     requires here { to ≤ before.paragraphs + length (get_or (rows_of blocks.old) before.block []) }
@@ -111,7 +111,7 @@ fn replace_far<K: Drop>(
     to: usize,
     pieces: Vec<Piece<K>>,
 ) -> Result<(), Memory>
-    requires stands { StandsBefore blocks.old.items before }
+    requires stands { IsInFront blocks.old.items before }
     requires reached { before.paragraphs ≤ from }
     requires here { from < before.paragraphs + length (get_or (rows_of blocks.old.items) before.block []) }
     requires order { from < to }
@@ -140,13 +140,13 @@ fn begin_at<K: Drop>(
     before: Before,
     number: usize,
 ) -> Result<Before, Memory>
-    requires stands { StandsBefore blocks.old.items before }
+    requires stands { IsInFront blocks.old.items before }
     requires reached { before.paragraphs ≤ number }
     requires here { number < before.paragraphs + length (get_or (rows_of blocks.old.items) before.block []) }
     requires few { bytes_in (concat (texts_in blocks.old.items)) ≤ 9_000_000 }
     requires paragraphs { length (pieces_in blocks.old.items) ≤ 9_000_000 }
     ensures kept { pieces_in blocks.new.items ≡ pieces_in blocks.old.items }
-    ensures stands { IfOk result (λ b. StandsBefore blocks.new.items b) }
+    ensures stands { IfOk result (λ b. IsInFront blocks.new.items b) }
     ensures begins { IfOk result (λ b. b.paragraphs ≡ number) }
 {
     if number == before.paragraphs {
@@ -165,7 +165,7 @@ struct End {
 
 /// Where the paragraphs up to `to` end, found from a block on that doesn't begin behind the last of them.
 fn end_of<K>(blocks: &[Block<K>], start: Before, to: usize) -> End
-    requires start { StandsBefore blocks.now start }
+    requires start { IsInFront blocks.now start }
     requires behind { start.paragraphs < to }
     requires within { to ≤ length (pieces_in blocks.now) }
     requires fits { Fits (texts_in blocks.now) }

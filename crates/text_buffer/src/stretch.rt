@@ -6,8 +6,8 @@ ghost use Rattle.paragraphs.specs.Text.{code_points};
 ghost use Rattle.text_buffer.specs.Buffers.{bytes_in, Fits, IsSplit};
 ghost use Rattle.text_buffer.specs.Edits.{replaced, IsParagraphOf};
 ghost use Rattle.text_buffer.specs.Blocks.{texts_in};
-ghost use Rattle.text_buffer.specs.Places.{StandsBefore};
-ghost use Rattle.text_buffer.specs.Stretches.{IsBegun, IsStretch, text_with};
+ghost use Rattle.text_buffer.specs.Places.{IsInFront};
+ghost use Rattle.text_buffer.specs.Stretches.{IsBegun, IsRemade, text_with};
 ghost use Rattle.text_buffer.specs.declared.fault.BufferFault.TheVariants.{TooLong};
 
 use crate::block::Block;
@@ -57,8 +57,8 @@ pub fn plan_edit<K>(
     requires within { to ≤ length (concat (texts_in blocks.now)) }
     requires fits { Fits (texts_in blocks.now) }
     requires split { IsSplit tables.now (texts_in blocks.now) }
-    ensures block { IfOk result (λ p. StandsBefore blocks.now p.block) }
-    ensures stretch { IfOk result (λ p. IsStretch tables.now (texts_in blocks.now) p.stretch.from p.stretch.to (code_points (string_bytes p.stretch.text))) }
+    ensures block { IfOk result (λ p. IsInFront blocks.now p.block) }
+    ensures stretch { IfOk result (λ p. IsRemade tables.now (texts_in blocks.now) p.stretch.from p.stretch.to (code_points (string_bytes p.stretch.text))) }
     ensures some { IfOk result (λ p. p.stretch.to < length (texts_in blocks.now) → 0 < length (code_points (string_bytes p.stretch.text))) }
     ensures text { IfOk result (λ p. text_with (texts_in blocks.now) p.stretch.from p.stretch.to (code_points (string_bytes p.stretch.text))
         ≡ replaced (concat (texts_in blocks.now)) from to (code_points text.now)) }

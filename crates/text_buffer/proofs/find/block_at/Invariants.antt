@@ -1,11 +1,11 @@
 -- What stands before the block, and that it isn't too much.
 use Rattle.std.proofs.Common.{◌≤◌, ◌-◌, length}
-use Rattle.text_buffer.specs.Places.{StandsBefore}
+use Rattle.text_buffer.specs.Places.{IsInFront}
 use Rattle.text_buffer.proofs.find.block_at.Given as goal
 
 abbrev pub invariant-loop-before : goal.invariant-loop-before
 invariant-loop-before g l = record {
-  stands : StandsBefore l.blocks l.before;
+  stands : IsInFront l.blocks l.before;
   reached : l.before.places ≤ l.place;
 }
 

@@ -5,14 +5,14 @@ use Rattle.std.specs.List.{concat}
 use Rattle.text_buffer.specs.Buffers.{bytes_in}
 use Rattle.text_buffer.specs.Pieces.{points_in}
 use Rattle.text_buffer.specs.Blocks.{rows_of, pieces_in}
-use Rattle.text_buffer.specs.Places.{StandsBefore}
+use Rattle.text_buffer.specs.Places.{IsInFront}
 use Rattle.text_buffer.proofs.Places.{length-points, stands-same}
 use Rattle.text_buffer.proofs.replace.begin_at.Goals as goal
 
 pub next_to-requires-clause-stands : goal.next_to-requires-clause-stands
 next_to-requires-clause-stands g c =
     let new = c.part_at.new.blocks.items in
-    subst (λ bs. StandsBefore bs c.args.before) (sym c.deref.ensures.value)
+    subst (λ bs. IsInFront bs c.args.before) (sym c.deref.ensures.value)
     (stands-same c.args.blocks.now.items new c.args.before c.requires.stands c.in_ok-part_at.ensures.before (omega (arith, c.in_ok-part_at.ensures.more, c.requires.stands.within, c.args.blocks.now.ok, c.part_at.new.blocks.ok)))
 
 pub next_to-requires-clause-more : goal.next_to-requires-clause-more
@@ -28,7 +28,7 @@ next_to-requires-clause-fits g c =
     }
 
 pub returns-clause-stands : goal.returns-clause-stands
-returns-clause-stands g c = subst (λ bs. StandsBefore bs c.next_to.result) c.deref.ensures.value c.next_to.ensures.stands
+returns-clause-stands g c = subst (λ bs. IsInFront bs c.next_to.result) c.deref.ensures.value c.next_to.ensures.stands
 
 pub returns-clause-begins : goal.returns-clause-begins
 returns-clause-begins g c =

@@ -1,7 +1,7 @@
 -- The stretch is found in its block or beyond it.
 use Rattle.std.proofs.Common.{[], length, get_or, ap, subst, arith}
 use Rattle.text_buffer.specs.Blocks.{rows_of, pieces_in}
-use Rattle.text_buffer.specs.Places.{StandsBefore}
+use Rattle.text_buffer.specs.Places.{IsInFront}
 use Rattle.text_buffer.proofs.Places.{length-points, parts-of}
 use Rattle.text_buffer.proofs.replace.replace.Goals as goal
 
@@ -9,7 +9,7 @@ pub overflow_add-before : goal.overflow_add-before
 overflow_add-before g c =
     let old = c.args.blocks.now.items in
     let b = c.block_of-before.result in
-    let all = parts-of old b (subst (λ bs. StandsBefore bs b) c.deref.ensures.value c.block_of-before.ensures.stands) in
+    let all = parts-of old b (subst (λ bs. IsInFront bs b) c.deref.ensures.value c.block_of-before.ensures.stands) in
     let row = ap (λ bs. length (get_or (rows_of bs) b.block [])) c.deref-3.ensures.value in
     omega (arith, all.paragraphs, row, c.count_in-count.ensures, length-points (pieces_in old), c.requires.paragraphs)
 
@@ -17,6 +17,6 @@ pub overflow_add-count : goal.overflow_add-count
 overflow_add-count g c =
     let old = c.args.blocks.now.items in
     let b = c.block_of-before.result in
-    let all = parts-of old b (subst (λ bs. StandsBefore bs b) c.deref.ensures.value c.block_of-before.ensures.stands) in
+    let all = parts-of old b (subst (λ bs. IsInFront bs b) c.deref.ensures.value c.block_of-before.ensures.stands) in
     let row = ap (λ bs. length (get_or (rows_of bs) b.block [])) c.deref-3.ensures.value in
     omega (arith, all.paragraphs, row, c.count_in-count.ensures, length-points (pieces_in old), c.requires.paragraphs, c.len.ensures)

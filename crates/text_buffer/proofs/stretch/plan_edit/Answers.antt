@@ -8,7 +8,7 @@ use Rattle.std.specs.Prelude.{string_bytes}
 use Rattle.paragraphs.specs.Text.{code_points}
 use Rattle.text_buffer.specs.Edits.{IsParagraphOf}
 use Rattle.text_buffer.specs.Blocks.{texts_in}
-use Rattle.text_buffer.specs.Stretches.{IsBegun, IsStretch, text_with}
+use Rattle.text_buffer.specs.Stretches.{IsBegun, IsRemade, text_with}
 use Rattle.text_buffer.proofs.Splits.{utf8-kept, split-parts}
 use Rattle.text_buffer.proofs.Begun.{stretch-own}
 use Rattle.text_buffer.proofs.Edits.{text-replaced, paragraphs-order, is-paragraph, of-first, bytes-replaced}
@@ -156,7 +156,7 @@ returns-clause-stretch g c =
     let is = split-parts tables kept (utf8-kept bs) c.requires.split in
     let x = made.ends.0 in
     let ends = made.ends.1 ∙ ap (λ y. x ++ y) (w ∙ sym (append_assoc f points b)) ∙ sym (append_assoc x (f ++ points) b) in
-    subst (λ n. IsStretch tables kept s.from n t) (sym made.to)
+    subst (λ n. IsRemade tables kept s.from n t) (sym made.to)
     (stretch-own tables kept is s.from high.number (code_points high.front.now) b (x ++ (f ++ points)) t (subst (λ n. IsBegun tables kept s.from n t) made.to made.begun) z.own z.more ends)
 
 pub returns-clause-some : goal.returns-clause-some

@@ -5,7 +5,7 @@ use Rattle.text_buffer.specs.Buffers.{paragraphs_in, kept_in}
 use Rattle.text_buffer.specs.Pieces.{kept_of}
 use Rattle.text_buffer.specs.Blocks.{rows_of, joined, pieces_in, texts_in, seen_in}
 use Rattle.text_buffer.specs.Counted.{IsCounted}
-use Rattle.text_buffer.specs.Places.{StandsBefore}
+use Rattle.text_buffer.specs.Places.{IsInFront}
 use Rattle.text_buffer.proofs.Counted.{counted-same}
 use Rattle.text_buffer.proofs.Places.{length-points, seen-points, seen-kept, written}
 use Rattle.text_buffer.proofs.buffer.Buffer.keep.Goals as goal
@@ -14,7 +14,7 @@ pub set_kept_in-requires-clause-block : goal.set_kept_in-requires-clause-block
 set_kept_in-requires-clause-block g c =
     let bs = c.self.inside.blocks.items in
     let b = c.block_of-before.result in
-    let s = subst (λ all. StandsBefore all b) c.deref.ensures.value c.block_of-before.ensures.stands in
+    let s = subst (λ all. IsInFront all b) c.deref.ensures.value c.block_of-before.ensures.stands in
     let here = subst (λ all. c.args.number < b.paragraphs + length (get_or (rows_of all) b.block [])) c.deref.ensures.value c.block_of-before.ensures.here in
     let e = c.deref_mut.ensures.value in
     omega (arith, s.within, ap length e)
@@ -23,7 +23,7 @@ pub set_kept_in-requires-clause-within : goal.set_kept_in-requires-clause-within
 set_kept_in-requires-clause-within g c =
     let bs = c.self.inside.blocks.items in
     let b = c.block_of-before.result in
-    let s = subst (λ all. StandsBefore all b) c.deref.ensures.value c.block_of-before.ensures.stands in
+    let s = subst (λ all. IsInFront all b) c.deref.ensures.value c.block_of-before.ensures.stands in
     let here = subst (λ all. c.args.number < b.paragraphs + length (get_or (rows_of all) b.block [])) c.deref.ensures.value c.block_of-before.ensures.here in
     let e = c.deref_mut.ensures.value in
     omega (arith, here, c.block_of-before.ensures.reached, ap (λ x. length (get_or (rows_of x) b.block [])) e)
@@ -32,7 +32,7 @@ pub invariant_of-self : goal.invariant_of-self
 invariant_of-self g c =
     let bs = c.self.inside.blocks.items in
     let b = c.block_of-before.result in
-    let s = subst (λ all. StandsBefore all b) c.deref.ensures.value c.block_of-before.ensures.stands in
+    let s = subst (λ all. IsInFront all b) c.deref.ensures.value c.block_of-before.ensures.stands in
     let here = subst (λ all. c.args.number < b.paragraphs + length (get_or (rows_of all) b.block [])) c.deref.ensures.value c.block_of-before.ensures.here in
     let e = c.deref_mut.ensures.value in
     let new = c.set_kept_in.new.blocks in
@@ -44,7 +44,7 @@ pub returns-clause-paragraphs : goal.returns-clause-paragraphs
 returns-clause-paragraphs g c =
     let bs = c.self.inside.blocks.items in
     let b = c.block_of-before.result in
-    let s = subst (λ all. StandsBefore all b) c.deref.ensures.value c.block_of-before.ensures.stands in
+    let s = subst (λ all. IsInFront all b) c.deref.ensures.value c.block_of-before.ensures.stands in
     let here = subst (λ all. c.args.number < b.paragraphs + length (get_or (rows_of all) b.block [])) c.deref.ensures.value c.block_of-before.ensures.here in
     let e = c.deref_mut.ensures.value in
     let new = c.set_kept_in.new.blocks in
@@ -56,7 +56,7 @@ pub returns-clause-kept : goal.returns-clause-kept
 returns-clause-kept g c =
     let bs = c.self.inside.blocks.items in
     let b = c.block_of-before.result in
-    let s = subst (λ all. StandsBefore all b) c.deref.ensures.value c.block_of-before.ensures.stands in
+    let s = subst (λ all. IsInFront all b) c.deref.ensures.value c.block_of-before.ensures.stands in
     let here = subst (λ all. c.args.number < b.paragraphs + length (get_or (rows_of all) b.block [])) c.deref.ensures.value c.block_of-before.ensures.here in
     let e = c.deref_mut.ensures.value in
     let new = c.set_kept_in.new.blocks in

@@ -7,7 +7,7 @@ use Rattle.text_buffer.specs.declared.piece.Piece.{Piece}
 use Rattle.text_buffer.specs.Buffers.{kept_in}
 use Rattle.text_buffer.specs.Pieces.{kept_of, seen}
 use Rattle.text_buffer.specs.Blocks.{rows_of, pieces_in}
-use Rattle.text_buffer.specs.Places.{StandsBefore}
+use Rattle.text_buffer.specs.Places.{IsInFront}
 use Rattle.text_buffer.proofs.Places.{seen-kept, found-piece}
 use Rattle.text_buffer.proofs.buffer.Buffer.kept.Goals as goal
 
@@ -15,7 +15,7 @@ pub returns : goal.returns
 returns g c =
     let bs = c.self.inside.blocks.items in
     let b = c.block_of-before.result in
-    let s = subst (λ all. StandsBefore all b) c.deref.ensures.value c.block_of-before.ensures.stands in
+    let s = subst (λ all. IsInFront all b) c.deref.ensures.value c.block_of-before.ensures.stands in
     let here = subst (λ all. c.args.number < b.paragraphs + length (get_or (rows_of all) b.block [])) c.deref.ensures.value c.block_of-before.ensures.here in
     let x = c.index.result.now in
     let p = c.index-2.result.now in

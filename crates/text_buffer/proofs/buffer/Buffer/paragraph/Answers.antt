@@ -9,7 +9,7 @@ use Rattle.paragraphs.proofs.Interface.{paragraph-at}
 use Rattle.text_buffer.specs.Buffers.{KeptParagraph, bytes_in, paragraphs_in, IsSplit}
 use Rattle.text_buffer.specs.Pieces.{points_in}
 use Rattle.text_buffer.specs.Blocks.{rows_of, joined, pieces_in, texts_in}
-use Rattle.text_buffer.specs.Places.{StandsBefore}
+use Rattle.text_buffer.specs.Places.{IsInFront}
 use Rattle.text_buffer.proofs.Sums.{bytes-both, places-both, bytes-take, places-few}
 use Rattle.text_buffer.proofs.Places.{found-text, found-front, seen-points}
 use Rattle.text_buffer.proofs.Splits.{utf8-kept, split-parts}
@@ -22,7 +22,7 @@ sum_up-sums-requires g c =
     let x = c.index.result.now in
     let number = c.args.number in
     let e = c.deref.ensures.value in
-    let s = subst (λ all. StandsBefore all b) e c.block_of-before.ensures.stands in
+    let s = subst (λ all. IsInFront all b) e c.block_of-before.ensures.stands in
     let reached = c.block_of-before.ensures.reached in
     let here = subst (λ all. number < b.paragraphs + length (get_or (rows_of all) b.block [])) e c.block_of-before.ensures.here in
     let a = joined (take b.block (rows_of bs)) in
@@ -39,7 +39,7 @@ overflow_add-before g c =
     let x = c.index.result.now in
     let number = c.args.number in
     let e = c.deref.ensures.value in
-    let s = subst (λ all. StandsBefore all b) e c.block_of-before.ensures.stands in
+    let s = subst (λ all. IsInFront all b) e c.block_of-before.ensures.stands in
     let reached = c.block_of-before.ensures.reached in
     let here = subst (λ all. number < b.paragraphs + length (get_or (rows_of all) b.block [])) e c.block_of-before.ensures.here in
     let a = joined (take b.block (rows_of bs)) in
@@ -56,7 +56,7 @@ overflow_add-before-2 g c =
     let x = c.index.result.now in
     let number = c.args.number in
     let e = c.deref.ensures.value in
-    let s = subst (λ all. StandsBefore all b) e c.block_of-before.ensures.stands in
+    let s = subst (λ all. IsInFront all b) e c.block_of-before.ensures.stands in
     let reached = c.block_of-before.ensures.reached in
     let here = subst (λ all. number < b.paragraphs + length (get_or (rows_of all) b.block [])) e c.block_of-before.ensures.here in
     let a = joined (take b.block (rows_of bs)) in
@@ -76,7 +76,7 @@ returns g c =
     let x = c.index.result.now in
     let number = c.args.number in
     let e = c.deref.ensures.value in
-    let s = subst (λ all. StandsBefore all b) e c.block_of-before.ensures.stands in
+    let s = subst (λ all. IsInFront all b) e c.block_of-before.ensures.stands in
     let reached = c.block_of-before.ensures.reached in
     let here = subst (λ all. number < b.paragraphs + length (get_or (rows_of all) b.block [])) e c.block_of-before.ensures.here in
     let a = joined (take b.block (rows_of bs)) in
