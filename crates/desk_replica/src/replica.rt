@@ -63,8 +63,8 @@ impl<S: Sequence> Model for Replica<S> {
 }
 
 impl<S: Sequence> Replica<S> {
-    /// A desk of this site (at least 1) without operations, over an empty sequence. Where the
-    /// key is secret, nobody can choose identifiers that make the calls slow.
+    /// A desk of this site (at least 1) without operations, over an empty sequence. Where the key is secret, only one who
+    /// measures the times of many calls can choose identifiers that make them slow.
     pub fn new(alloc: Global, site: u16, seq: S, key: u128) -> Replica<S>
         requires site { 0 < site }
         requires empty { S.content seq ≡ no_operations }

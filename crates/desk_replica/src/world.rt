@@ -71,7 +71,7 @@ impl From<AllocError> for WorldFault {
 }
 
 /// Does steps in order at fresh desks with these sites, each step at one desk. The caller names the desks'
-/// sequence. Without knowing the key, nobody can choose identifiers that make the steps slow.
+/// sequence. Without the key, only one who measures the times of many runs can choose identifiers that make the steps slow.
 ///
 /// `BadSites` where a site is 0 or stands twice, which is tested before the first step; `Memory` where
 /// a growth is refused, which ends the run. What a desk refuses is a reply, and the run goes on.

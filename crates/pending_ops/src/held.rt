@@ -98,8 +98,8 @@ impl Held {
         Held::keyed(alloc, 0)
     }
 
-    /// An empty store whose tables are hashed with this key. Without knowing the key, nobody can
-    /// choose identifiers that make the calls slow.
+    /// An empty store whose tables are hashed with this key. Without the key, only one who measures the
+    /// times of many calls can choose identifiers that make them slow.
     pub fn keyed(alloc: Global, key: u128) -> Held
         ensures { result ≡ nothing_waits }
     {

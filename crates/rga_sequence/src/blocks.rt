@@ -51,8 +51,8 @@ impl Blocks {
         Blocks::keyed(alloc, 0)
     }
 
-    /// An empty sequence, which takes no memory and whose index is hashed with this key. Without
-    /// knowing the key, nobody can choose identifiers that make the calls slow.
+    /// An empty sequence, which takes no memory and whose index is hashed with this key. Without the key,
+    /// only one who measures the times of many calls can choose identifiers that make them slow.
     pub fn keyed(alloc: Global, key: u128) -> Blocks
         ensures content { ⟦<Blocks as Sequence>⟧.content result ≡ no_operations }
         ensures room { ⟦<Blocks as Sequence>⟧.free result ≡ 0 }

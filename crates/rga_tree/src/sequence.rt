@@ -144,7 +144,7 @@ pub trait Sequence {
 /// A sequence that can begin empty, and be let go.
 pub trait Fresh: Sequence + Drop {
     /// An empty sequence, which takes no memory. Where it has a table, that is hashed with this key: without
-    /// knowing the key, nobody can choose identifiers that make the calls slow.
+    /// the key, only one who measures the times of many calls can choose identifiers that make them slow.
     fn fresh(alloc: Global, key: u128) -> Self
         ensures { Self.content result ≡ no_operations };
 }
