@@ -1,9 +1,11 @@
 -- The numbers of a set with one more operation.
-use Rattle.std.proofs.Common.{◌≡◌, ◌≤◌, ◌<◌, ◌+◌, ℕ, [], ◌∷◌, refl, sym, subst, arith, inl, inr}
+use Rattle.std.proofs.Common.{◌≡◌, ◌≤◌, ◌<◌, ◌+◌, ℕ, false, [], ◌∷◌, Option, None, Some, is_some, refl, sym, ap, subst, arith, inl, inr}
+use Rattle.std.specs.FinMap as map
 use Rattle.std.specs.Prelude.{All, max}
 use Rattle.std.proofs.lemmas.List.Elements.{All-nil, All-cons, All-head, All-tail}
 use Rattle.bg_types.specs.WellFormed.{IsWellFormed}
-use Rattle.bg_types.specs.OperationSet.{OperationSet, Holds, MayJoin, named_counters, parent_counters, next, with_operation}
+use Rattle.bg_types.specs.Identifier.{Identifier}
+use Rattle.bg_types.specs.OperationSet.{Node, OperationSet, Holds, MayJoin, named_counters, parent_counters, next, with_operation}
 use Rattle.bg_types.specs.declared.op.Place.TheVariants.{Root, After}
 use Rattle.bg_types.specs.declared.op.OpView.{OpView}
 use Rattle.bg_types.specs.declared.op.OpView.TheVariants.{Insert, Erase}
@@ -59,3 +61,10 @@ not_held s op above h = let below = named_first op (next s) (next-above s op h) 
 pub newest-is_new : (s : OperationSet) (op : OpView) → next s ≤ (subject op).counter → MayJoin s op × (¬ (Holds s op))
 newest-is_new s (Insert id parent ch) above = ((λ kept e. absurd (not_held s (Insert id kept.parent kept.ch) above e)), not_held s (Insert id parent ch) above)
 newest-is_new s (Erase target) above = (tt, not_held s (Erase target) above)
+
+-- nor is its identifier inserted
+pub beyond-is_new : (s : OperationSet) (id : Identifier) → next s ≤ id.counter → map.contains_key s.ins id ≡ false
+beyond-is_new s id above = by_kept (map.get s.ins id) refl where
+  by_kept : (kept : Option Node) → map.get s.ins id ≡ kept → map.contains_key s.ins id ≡ false
+  by_kept None is = ap is_some is
+  by_kept (Some node) is = absurd (not_held s (Insert id node.parent node.ch) above is)

@@ -9,9 +9,12 @@ use rga_tree::{Element, Sequence};
 /// How many own elements may be read for each of the other desk.
 const READ_FOR_ONE: usize = 8;
 
+/// How many more than for the one before are read in search of one that may not be there.
+const FURTHER: usize = 64;
+
 /// Where the next element of another desk is awaited: a part of the own sequence, and a place there. Two desks have the
-/// elements that both know in one order, so it only moves on. It may stand at a part's end, since what is placed next may
-/// stand there. Still it is a guess: what stands ahead is compared.
+/// elements that both know in one order, so it moves on, and back only over what it read in vain. It may stand at a
+/// part's end, since what is placed next may stand there. Still it is a guess: what stands ahead is compared.
 ///
 /// The other desk's elements pay for the own ones that it passes in search: a merge takes no longer because a desk has
 /// many own ones. Where it has not been paid enough it stays behind, and what is awaited is looked up.
@@ -20,6 +23,8 @@ pub struct Cursor {
     part: usize,
     at: usize,
     paid: usize,
+    /// How many are read before it is looked up whether one is there: as many as for the one before, and some more.
+    near: usize,
 }
 
 impl Cursor {
@@ -29,6 +34,7 @@ impl Cursor {
             part: 0,
             at: 0,
             paid: 0,
+            near: FURTHER,
         }
     }
 
@@ -76,6 +82,46 @@ impl Cursor {
             self.go_on();
         }
         false
+    }
+
+    /// Moves to the element with this identifier as `find` does, if there is one. Where there is none it stays.
+    pub fn seek<S: Sequence>(&mut self, seq: &S, id: Id) {
+        let stood = *self;
+        if self.find_near(seq, id) {
+            return;
+        }
+        if seq.has(id) {
+            self.find_further(seq, id);
+        } else {
+            self.go_back(stood);
+        }
+    }
+
+    /// Moves to the element with this identifier, if that is near. Else it moves on over what is.
+    fn find_near<S: Sequence>(&mut self, seq: &S, id: Id) -> bool {
+        let most = self.paid.min(self.near);
+        let rest = self.paid.saturating_sub(most);
+        self.paid = most;
+        let found = self.find(seq, id);
+        if found {
+            self.near = most.saturating_sub(self.paid).saturating_add(FURTHER);
+        }
+        self.paid = self.paid.saturating_add(rest);
+        found
+    }
+
+    /// Moves on to an element that is there and was not near.
+    fn find_further<S: Sequence>(&mut self, seq: &S, id: Id) {
+        let paid = self.paid;
+        self.find(seq, id);
+        let read = paid.saturating_sub(self.paid);
+        self.near = self.near.saturating_add(read).saturating_add(FURTHER);
+    }
+
+    /// Moves back to where it stood. What was read stays paid.
+    fn go_back(&mut self, stood: Cursor) {
+        self.part = stood.part;
+        self.at = stood.at;
     }
 
     /// Moves to the element with this identifier among those that are left of a part, or as far as is paid for.

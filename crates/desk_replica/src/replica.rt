@@ -13,6 +13,7 @@ ghost use Rattle.desk_replica.specs.Listed.{listed};
 ghost use Rattle.desk_replica.specs.declared.answer.TypeFault.{TypeFault as Untyped};
 ghost use Rattle.desk_replica.specs.Typing.{typed, insertion, parent_at, IsTypedAt, IsTypeRefusal, IsTypeRefused, IsErasedAt};
 
+mod agreeing;
 mod listing;
 mod merging;
 mod stretch;

@@ -1,17 +1,15 @@
 -- How many visible elements stand before one of the row, by its blocks.
-use Rattle.std.proofs.Common.{◌≡◌, ℕ, zero, suc, ◌<◌, ◌≤◌, ◌+◌, ◌-◌, not, List, [], ◌∷◌, ◌++◌, length, take, drop, get_or, sym, ap, ◌∙◌, zero-add, length-append, length-drop, arith}
+use Rattle.std.proofs.Common.{◌≡◌, ℕ, zero, suc, ◌<◌, ◌≤◌, ◌+◌, not, List, [], ◌∷◌, ◌++◌, length, take, drop, get_or, sym, ap, ◌∙◌, zero-add, length-append, length-drop, arith}
 use Rattle.std.proofs.Math.Seq.{take-append-add}
-use Rattle.std.proofs.lemmas.List.{take-append-le, take-append-drop, take-map, drop-map, take_all, length-take-le}
+use Rattle.std.proofs.lemmas.List.{take-append-le, take-append-drop, length-take-le}
 use Rattle.std.proofs.lemmas.List.Sums.{length-filter}
 use Rattle.std.specs.Prelude.{count_by}
 use Rattle.bg_types.specs.Identifier.{Identifier}
 use Rattle.rga_tree.specs.declared.element.Element.{Element}
-use Rattle.rga_sequence.specs.declared.block.Block.{Block}
-use Rattle.rga_sequence.specs.BlockRows.{items_of}
 use Rattle.rga_sequence.specs.Blocks.{seen, seen_all, joined, offset}
 use Rattle.rga_sequence.proofs.Grown.{seen_le}
 use Rattle.rga_sequence.proofs.Members.{until}
-use Rattle.rga_sequence.proofs.Nth.{seen-rest}
+use Rattle.rga_sequence.proofs.Nth.{seen-rest, seen_all-append}
 use Rattle.rga_sequence.proofs.Seen.{seen_all-more}
 use Rattle.rga_sequence.proofs.Spots.{seen-append}
 
@@ -35,10 +33,6 @@ all_before es k all within = omega (arith, all, seen-rest es k, seen_le (take k 
 
 -- ---- parts of all blocks
 
-seen_all-append : (xs ys : List (List Element)) → seen_all (xs ++ ys) ≡ seen_all xs + seen_all ys
-seen_all-append [] ys = sym (zero-add (seen_all ys))
-seen_all-append (x ∷ xs) ys = omega (arith, seen_all-append xs ys)
-
 seen_all-parted : (xs : List (List Element)) (b : ℕ) → seen_all (take b xs) + seen_all (drop b xs) ≡ seen_all xs
 seen_all-parted xs b = sym (seen_all-append (take b xs) (drop b xs)) ∙ ap seen_all (take-append-drop b xs)
 
@@ -47,13 +41,3 @@ seen_all-within xs b = omega (arith, seen_all-parted xs b)
 
 pub before_within : (xs : List (List Element)) (b at : ℕ) → seen_all (take b xs) + seen (take at (get_or xs b [])) ≤ seen_all xs
 before_within xs b at = omega (arith, seen_all-more xs b, seen_all-within xs (b + 1), seen-rest (get_or xs b []) at)
-
--- the blocks before a place, and those from it on, as they are read
-pub front_seen : (bs : List Block) (b : ℕ) → seen_all (items_of (take b bs)) ≡ seen_all (take b (items_of bs))
-front_seen bs b = ap seen_all (sym (take-map (λ (x : Block). x.elements.items) b bs))
-
-pub back_seen : (bs : List Block) (b : ℕ) → seen_all (take b (items_of bs)) + seen_all (items_of (take (length bs - b) (drop b bs))) ≡ seen_all (items_of bs)
-back_seen bs b =
-    let all : take (length bs - b) (drop b bs) ≡ drop b bs = take_all (length bs - b) (drop b bs) (omega (arith, length-drop b bs)) in
-    let rest = ap (λ r. seen_all (items_of r)) all ∙ ap seen_all (sym (drop-map (λ (x : Block). x.elements.items) b bs)) in
-    omega (arith, rest, seen_all-parted (items_of bs) b)

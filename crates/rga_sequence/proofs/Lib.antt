@@ -19,3 +19,4 @@ pub mod Put
 pub mod Spots
 pub mod Whole
 pub mod InFront
+pub mod Summed

@@ -85,7 +85,7 @@ blocks_behind [] (suc b) left few more = absurd (omega arith)
 blocks_behind (x ∷ bs) zero left few more = omega (arith, seen_most (x ∷ bs) few, more)
 blocks_behind (x ∷ bs) (suc b) left few more = omega (arith, blocks_behind bs b left (λ b. few (suc b)) (omega (arith, more)))
 
-seen_all-append : (xs ys : List (List Element)) → seen_all (xs ++ ys) ≡ seen_all xs + seen_all ys
+pub seen_all-append : (xs ys : List (List Element)) → seen_all (xs ++ ys) ≡ seen_all xs + seen_all ys
 seen_all-append [] ys = sym (zero-add (seen_all ys))
 seen_all-append (x ∷ xs) ys = omega (arith, seen_all-append xs ys)
 

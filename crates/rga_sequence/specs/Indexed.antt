@@ -7,6 +7,7 @@ use Rattle.rga_sequence.specs.declared.row.Row.{Row}
 use Rattle.rga_sequence.specs.Blocks.{joined}
 use Rattle.rga_sequence.specs.BlockRows.{items_of, numbers_of, home_of, AreHalfFull}
 use Rattle.rga_sequence.specs.Bounds.{AreBounds}
+use Rattle.rga_sequence.specs.Sums.{AreSums}
 use Rattle.rga_sequence.specs.Grouped.{home_in, IsGrouped, HasIndexRoom}
 
 abbrev pub blocks_in : Row → List (List Element)
@@ -15,8 +16,8 @@ blocks_in r = items_of r.blocks.items
 abbrev pub elements_in : Row → List Element
 elements_in r = joined (blocks_in r)
 
--- the index has the number of each identifier's block, `places` the place of each number's block, and
--- `bounds` what no identifier of some neighbouring blocks is below
+-- the index has the number of each identifier's block, `places` the place of each number's block, `bounds` what no
+-- identifier of some neighbouring blocks is below, and `sums` how many of their elements are visible
 pub record IsIndexed (eq : Identifier → Identifier → Bool) (r : Row) : Type 0 where
   pub grouped : IsGrouped eq r.index
   pub homes : (q : Identifier) → home_in eq r.index q ≡ home_of (blocks_in r) (numbers_of r.blocks.items) q
@@ -24,6 +25,7 @@ pub record IsIndexed (eq : Identifier → Identifier → Bool) (r : Row) : Type 
   pub as_many : vec_len r.places ≡ vec_len r.blocks
   pub halves : AreHalfFull (blocks_in r)
   pub bounds : AreBounds r.bounds.items (blocks_in r)
+  pub sums : AreSums r.sums.items (blocks_in r)
 
 -- the next n elements take no memory: each spare block pays for the 256 elements after which it may be needed
 pub record HasRoom (r : Row) (n : ℕ) : Type 0 where

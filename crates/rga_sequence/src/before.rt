@@ -1,36 +1,46 @@
 //! How many visible elements stand before a place of the row.
 
-ghost use Rattle.std.specs.Prelude.{◌≡◌, ◌+◌, ◌^◌, ◌<◌, ◌≤◌, length, take, get_or, []};
+ghost use Rattle.std.specs.Prelude.{◌≡◌, ◌+◌, ◌^◌, ◌<◌, ◌≤◌, length, take, get_or, sum, []};
 ghost use Rattle.rga_sequence.specs.BlockRows.{items_of};
 ghost use Rattle.rga_sequence.specs.Blocks.{seen, seen_all};
+ghost use Rattle.rga_sequence.specs.Sums.{AreSums};
 
 use crate::block::{Block, count_visible};
+use crate::bounds::NEIGHBOURS;
 
-/// How many visible elements stand before element `at` of block b. In all blocks together there are `visible`.
-pub fn count_before(blocks: &[Block], b: usize, at: usize, visible: usize) -> usize
+/// How many visible elements stand before element `at` of block b.
+pub fn count_before(blocks: &[Block], sums: &[usize], b: usize, at: usize) -> usize
     requires block { b < length blocks.now }
     requires within { at ≤ length (get_or (items_of blocks.now) b []) }
-    requires visible { visible ≡ seen_all (items_of blocks.now) }
+    requires sums { AreSums sums.now (items_of blocks.now) }
+    requires few { seen_all (items_of blocks.now) < 2 ^ 64 }
     ensures { result ≡ seen_all (take b (items_of blocks.now)) + seen (take at (get_or (items_of blocks.now) b [])) }
 {
-    before_block(blocks, b, visible) + in_front(&blocks[b], at)
+    before_block(blocks, sums, b) + in_front(&blocks[b], at)
 }
 
-/// How many visible elements stand before block b: what the blocks before it tell, or those from it on where they are fewer.
-fn before_block(blocks: &[Block], b: usize, visible: usize) -> usize
+/// How many visible elements stand before block b: what the sums tell of the blocks before its neighbours, and the headers
+/// of those before it.
+fn before_block(blocks: &[Block], sums: &[usize], b: usize) -> usize
     requires block { b < length blocks.now }
-    requires visible { visible ≡ seen_all (items_of blocks.now) }
+    requires sums { AreSums sums.now (items_of blocks.now) }
+    requires few { seen_all (items_of blocks.now) < 2 ^ 64 }
     ensures { result ≡ seen_all (take b (items_of blocks.now)) }
 {
-    if b < blocks.len() - b {
-        visible_in(&blocks[..b])
-    } else {
-        visible - visible_in(&blocks[b..])
-    }
+    let g = sums.len().min(b / NEIGHBOURS);
+    total(&sums[..g]) + visible_in(&blocks[NEIGHBOURS * g..b])
+}
+
+/// The sums together.
+fn total(sums: &[usize]) -> usize
+    requires few { sum sums.now < 2 ^ 64 }
+    ensures { result ≡ sum sums.now }
+{
+    sums.iter().sum()
 }
 
 /// How many elements of these blocks are visible.
-fn visible_in(blocks: &[Block]) -> usize
+pub fn visible_in(blocks: &[Block]) -> usize
     requires few { seen_all (items_of blocks.now) < 2 ^ 64 }
     ensures { result ≡ seen_all (items_of blocks.now) }
 {

@@ -68,6 +68,7 @@ impl Blocks {
                 places: Vec::new(alloc),
                 recent: 0,
                 bounds: Vec::new(alloc),
+                sums: Vec::new(alloc),
             },
             alloc,
             placed: 0,
@@ -216,7 +217,7 @@ impl Sequence for Blocks {
 
     fn visible_before(&self, id: Id) -> usize {
         let (b, at) = spot(&self.row, id).unwrap();
-        count_before(&self.row.blocks, b, at, self.visible)
+        count_before(&self.row.blocks, &self.row.sums, b, at)
     }
 
     fn placed(&self) -> usize {

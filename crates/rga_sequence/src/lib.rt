@@ -12,6 +12,7 @@ mod look;
 mod order;
 mod row;
 mod skip;
+mod sums;
 
 pub use blocks::Blocks;
 pub use look::{Look, find};

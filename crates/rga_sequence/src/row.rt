@@ -10,11 +10,12 @@ ghost use Rattle.rga_sequence.specs.Blocks.{seen, joined, offset, sought};
 ghost use Rattle.rga_sequence.specs.BlockRows.{has, items_of};
 ghost use Rattle.rga_sequence.specs.Indexed.{blocks_in, elements_in, IsIndexed, HasRoom};
 
-use crate::block::{Block, FULL, HALF, Spare};
+use crate::block::{Block, FULL, HALF, Spare, weight};
 use crate::bounds::{self, NEIGHBOURS};
 use crate::index::{self, Index, home, home_and_hint, rehome, renumber};
 use crate::order::{count_in, hide_at, put_at, split_at};
 use crate::skip::place_from;
+use crate::sums;
 use bg_types::{Id, Memory, Place};
 use rga_tree::Element;
 use std::alloc::Global;
@@ -38,6 +39,8 @@ pub struct Row {
     /// For each 32 blocks of the row an identifier that is no greater than any of theirs. The last
     /// blocks may have none.
     pub bounds: Vec<Id>,
+    /// For each 32 blocks of the row how many of their elements are visible. The last blocks may have none.
+    pub sums: Vec<usize>,
 }
 
 /// Whether an element has this identifier. The one that was put in last is known without a hash.
@@ -324,6 +327,7 @@ fn split(row: &mut Row, q: usize)
     let from = NEIGHBOURS * row.bounds.len().min(q / NEIGHBOURS);
     bounds::add(&mut row.bounds, row.blocks.len(), row.blocks[q].least);
     bounds::renew(&mut row.bounds, &row.blocks, from);
+    sums::renew(&mut row.sums, &row.blocks, q);
 }
 
 /// Puts a new element into a block that has room.
@@ -341,6 +345,7 @@ fn put_into(row: &mut Row, q: usize, at: usize, id: Id, parent: Place, ch: char,
 {
     put_at(&mut row.blocks, q, at, id, parent, ch, hidden);
     bounds::lower(&mut row.bounds, q, id);
+    sums::raise(&mut row.sums, q, weight(hidden));
     let number = row.blocks[q].number;
     index::put(&mut row.index, id, number, at);
     row.recent = q;
@@ -359,7 +364,9 @@ pub fn hide(row: &mut Row, id: Id) -> usize
     ensures room { (n : ℕ) → HasRoom row.old n → HasRoom row.new n }
 {
     let (p, j) = spot(row, id).unwrap();
-    hide_at(&mut row.blocks, p, j)
+    let gone = hide_at(&mut row.blocks, p, j);
+    sums::lower(&mut row.sums, p, gone);
+    gone
 }
 
 /// The block of element j of the row, and its place there.
@@ -396,6 +403,7 @@ pub fn make_memory(row: &mut Row, alloc: Global, n: usize, more: usize) -> Resul
     row.blocks.reserve(row.spares.capacity())?;
     row.places.reserve(row.spares.capacity())?;
     row.bounds.reserve(row.spares.capacity() / NEIGHBOURS + 1)?;
+    row.sums.reserve(row.spares.capacity() / NEIGHBOURS + 1)?;
     add_spares(&mut row.spares, alloc, more)
 }
 

@@ -18,4 +18,4 @@ returns c =
 pub overflow_add-result : goal.overflow_add-result
 overflow_add-result c =
     let sum : c.before_block.result + c.in_front.result ≡ seen_all (take c.args.b (items_of c.args.blocks.now)) + seen (take c.args.at (get_or (items_of c.args.blocks.now) c.args.b [])) = returns c in
-    omega (arith, sum, before_within (items_of c.args.blocks.now) c.args.b c.args.at, c.requires.visible, c.ranges.visible.fits)
+    omega (arith, sum, before_within (items_of c.args.blocks.now) c.args.b c.args.at, c.requires.few)

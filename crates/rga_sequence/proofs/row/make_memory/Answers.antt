@@ -6,25 +6,27 @@ use Rattle.rga_sequence.specs.declared.row.Row.{Row}
 use Rattle.rga_sequence.specs.Blocks.{joined}
 use Rattle.rga_sequence.specs.BlockRows.{items_of, numbers_of, home_of, AreHalfFull}
 use Rattle.rga_sequence.specs.Bounds.{AreBounds}
+use Rattle.rga_sequence.specs.Sums.{AreSums}
 use Rattle.rga_sequence.specs.Grouped.{home_in, IsGrouped}
 use Rattle.rga_sequence.specs.Indexed.{IsIndexed}
 use Rattle.rga_sequence.proofs.Homes.{id_eq}
 use Rattle.rga_sequence.proofs.row.make_memory.Goals as goal
 
--- where only memory was made, the index, the places and the bounds stay true
+-- where only memory was made, the index, the places, the bounds and the sums stay true
 IsIndexed-kept : (old new : Row) → IsIndexed id_eq old → IsGrouped id_eq new.index → ((q : Identifier) → home_in id_eq new.index q ≡ home_in id_eq old.index q)
-    → new.blocks.items ≡ old.blocks.items → new.places.items ≡ old.places.items → vec_len new.places ≡ vec_len new.blocks → new.bounds.items ≡ old.bounds.items → IsIndexed id_eq new
-IsIndexed-kept old new indexed grouped homes blocks places as_many bounds = record {
+    → new.blocks.items ≡ old.blocks.items → new.places.items ≡ old.places.items → vec_len new.places ≡ vec_len new.blocks → new.bounds.items ≡ old.bounds.items → new.sums.items ≡ old.sums.items → IsIndexed id_eq new
+IsIndexed-kept old new indexed grouped homes blocks places as_many bounds sums = record {
   grouped = grouped;
   homes = λ q. homes q ∙ indexed.homes q ∙ (λ i. home_of (items_of (sym blocks i)) (numbers_of (sym blocks i)) q);
   places = λ p there. (λ i. slice_get (places i) (get_or (numbers_of (blocks i)) p 0)) ∙ indexed.places p (omega (arith, there, ap length blocks));
   as_many = as_many;
   halves = subst (λ bs. AreHalfFull (items_of bs)) (sym blocks) indexed.halves;
   bounds = subst (λ bs. AreBounds new.bounds.items (items_of bs)) (sym blocks) (subst (λ ms. AreBounds ms (items_of old.blocks.items)) (sym bounds) indexed.bounds);
+  sums = subst (λ bs. AreSums new.sums.items (items_of bs)) (sym blocks) (subst (λ ss. AreSums ss (items_of old.blocks.items)) (sym sums) indexed.sums);
 }
 
 pub returns-in_err-reserve-clause-indexed : goal.returns-in_err-reserve-clause-indexed
-returns-in_err-reserve-clause-indexed c = IsIndexed-kept c.args.row.now _ c.requires.indexed c.reserve.ensures.grouped c.reserve.ensures.homes refl refl c.requires.indexed.as_many refl
+returns-in_err-reserve-clause-indexed c = IsIndexed-kept c.args.row.now _ c.requires.indexed c.reserve.ensures.grouped c.reserve.ensures.homes refl refl c.requires.indexed.as_many refl refl
 
 pub returns-in_err-reserve-clause-kept : goal.returns-in_err-reserve-clause-kept
 returns-in_err-reserve-clause-kept c = λ m room. record {
@@ -36,7 +38,7 @@ returns-in_err-reserve-clause-kept c = λ m room. record {
 }
 
 pub returns-in_err-reserve-2-clause-indexed : goal.returns-in_err-reserve-2-clause-indexed
-returns-in_err-reserve-2-clause-indexed c = IsIndexed-kept c.args.row.now _ c.requires.indexed c.reserve.ensures.grouped c.reserve.ensures.homes refl refl c.requires.indexed.as_many refl
+returns-in_err-reserve-2-clause-indexed c = IsIndexed-kept c.args.row.now _ c.requires.indexed c.reserve.ensures.grouped c.reserve.ensures.homes refl refl c.requires.indexed.as_many refl refl
 
 pub returns-in_err-reserve-2-clause-kept : goal.returns-in_err-reserve-2-clause-kept
 returns-in_err-reserve-2-clause-kept c = λ m room. record {
@@ -48,7 +50,7 @@ returns-in_err-reserve-2-clause-kept c = λ m room. record {
 }
 
 pub returns-in_err-reserve-3-clause-indexed : goal.returns-in_err-reserve-3-clause-indexed
-returns-in_err-reserve-3-clause-indexed c = IsIndexed-kept c.args.row.now _ c.requires.indexed c.reserve.ensures.grouped c.reserve.ensures.homes c.reserve-3.ensures.items refl (c.requires.indexed.as_many ∙ sym c.reserve-3.ensures.len) refl
+returns-in_err-reserve-3-clause-indexed c = IsIndexed-kept c.args.row.now _ c.requires.indexed c.reserve.ensures.grouped c.reserve.ensures.homes c.reserve-3.ensures.items refl (c.requires.indexed.as_many ∙ sym c.reserve-3.ensures.len) refl refl
 
 pub returns-in_err-reserve-3-clause-kept : goal.returns-in_err-reserve-3-clause-kept
 returns-in_err-reserve-3-clause-kept c = λ m room. record {
@@ -60,7 +62,7 @@ returns-in_err-reserve-3-clause-kept c = λ m room. record {
 }
 
 pub returns-in_err-reserve-4-clause-indexed : goal.returns-in_err-reserve-4-clause-indexed
-returns-in_err-reserve-4-clause-indexed c = IsIndexed-kept c.args.row.now _ c.requires.indexed c.reserve.ensures.grouped c.reserve.ensures.homes c.reserve-3.ensures.items c.reserve-4.ensures.items (c.reserve-4.ensures.len ∙ c.requires.indexed.as_many ∙ sym c.reserve-3.ensures.len) refl
+returns-in_err-reserve-4-clause-indexed c = IsIndexed-kept c.args.row.now _ c.requires.indexed c.reserve.ensures.grouped c.reserve.ensures.homes c.reserve-3.ensures.items c.reserve-4.ensures.items (c.reserve-4.ensures.len ∙ c.requires.indexed.as_many ∙ sym c.reserve-3.ensures.len) refl refl
 
 pub returns-in_err-reserve-4-clause-kept : goal.returns-in_err-reserve-4-clause-kept
 returns-in_err-reserve-4-clause-kept c = λ m room. record {
@@ -72,7 +74,7 @@ returns-in_err-reserve-4-clause-kept c = λ m room. record {
 }
 
 pub returns-in_err-reserve-5-clause-indexed : goal.returns-in_err-reserve-5-clause-indexed
-returns-in_err-reserve-5-clause-indexed c = IsIndexed-kept c.args.row.now _ c.requires.indexed c.reserve.ensures.grouped c.reserve.ensures.homes c.reserve-3.ensures.items c.reserve-4.ensures.items (c.reserve-4.ensures.len ∙ c.requires.indexed.as_many ∙ sym c.reserve-3.ensures.len) c.reserve-5.ensures.items
+returns-in_err-reserve-5-clause-indexed c = IsIndexed-kept c.args.row.now _ c.requires.indexed c.reserve.ensures.grouped c.reserve.ensures.homes c.reserve-3.ensures.items c.reserve-4.ensures.items (c.reserve-4.ensures.len ∙ c.requires.indexed.as_many ∙ sym c.reserve-3.ensures.len) c.reserve-5.ensures.items refl
 
 pub returns-in_err-reserve-5-clause-kept : goal.returns-in_err-reserve-5-clause-kept
 returns-in_err-reserve-5-clause-kept c = λ m room. record {
@@ -83,8 +85,20 @@ returns-in_err-reserve-5-clause-kept c = λ m room. record {
   few = omega (arith, room.few, c.reserve-2.ensures.len, c.reserve-3.ensures.len);
 }
 
+pub returns-in_err-reserve-6-clause-indexed : goal.returns-in_err-reserve-6-clause-indexed
+returns-in_err-reserve-6-clause-indexed c = IsIndexed-kept c.args.row.now _ c.requires.indexed c.reserve.ensures.grouped c.reserve.ensures.homes c.reserve-3.ensures.items c.reserve-4.ensures.items (c.reserve-4.ensures.len ∙ c.requires.indexed.as_many ∙ sym c.reserve-3.ensures.len) c.reserve-5.ensures.items c.reserve-6.ensures.items
+
+pub returns-in_err-reserve-6-clause-kept : goal.returns-in_err-reserve-6-clause-kept
+returns-in_err-reserve-6-clause-kept c = λ m room. record {
+  paid = omega (arith, room.paid, ap (λ bs. length (joined (items_of bs))) c.reserve-3.ensures.items, c.reserve-2.ensures.len, c.reserve-3.ensures.len);
+  index = c.reserve.ensures.kept m room.index;
+  blocks = omega (arith, room.blocks, c.reserve-2.ensures.len, c.reserve-3.ensures.len, c.reserve-3.ensures.capacity);
+  places = omega (arith, room.places, c.reserve-2.ensures.len, c.reserve-3.ensures.len, c.reserve-4.ensures.capacity);
+  few = omega (arith, room.few, c.reserve-2.ensures.len, c.reserve-3.ensures.len);
+}
+
 pub returns-clause-indexed : goal.returns-clause-indexed
-returns-clause-indexed c = IsIndexed-kept c.args.row.now _ c.requires.indexed c.reserve.ensures.grouped c.reserve.ensures.homes c.reserve-3.ensures.items c.reserve-4.ensures.items (c.reserve-4.ensures.len ∙ c.requires.indexed.as_many ∙ sym c.reserve-3.ensures.len) c.reserve-5.ensures.items
+returns-clause-indexed c = IsIndexed-kept c.args.row.now _ c.requires.indexed c.reserve.ensures.grouped c.reserve.ensures.homes c.reserve-3.ensures.items c.reserve-4.ensures.items (c.reserve-4.ensures.len ∙ c.requires.indexed.as_many ∙ sym c.reserve-3.ensures.len) c.reserve-5.ensures.items c.reserve-6.ensures.items
 
 pub returns-clause-kept : goal.returns-clause-kept
 returns-clause-kept c = λ m room. record {

@@ -8,6 +8,7 @@ use Rattle.rga_sequence.specs.declared.block.Block.{Block}
 use Rattle.rga_sequence.specs.Blocks.{joined}
 use Rattle.rga_sequence.specs.BlockRows.{items_of, numbers_of, home_of, AreHalfFull}
 use Rattle.rga_sequence.specs.Grouped.{home_in}
+use Rattle.rga_sequence.specs.Sums.{AreSums}
 use Rattle.rga_sequence.proofs.Homes.{id_eq, or_false}
 use Rattle.rga_sequence.proofs.Numbers.{length_none}
 use Rattle.rga_sequence.proofs.row.put_first.Goals as goal
@@ -28,6 +29,8 @@ returns c =
     let fewer : vec_len c.pop.new.self + 1 ≡ vec_len c.args.row.now.spares = omega (arith, c.pop.ensures.len, ap (λ o. length (option_to_list o)) c.unwrap-elements.ensures) in
     let before = ap (λ (bs : List Block). length (joined (items_of bs))) none in
     let after = ap (λ xs. length (joined xs)) items in
+    let few : length c.args.row.now.sums.items ≡ 0 = omega (arith, c.requires.indexed.sums.whole, ap (λ bs. length (items_of bs)) none) in
+    let no_sums : AreSums c.args.row.now.sums.items (items_of c.push.new.self.items) = record { whole = omega (arith, few); sums = λ g d less. absurd (omega (arith, few, less)) } in
     let one : vec_len c.push.new.self ≡ 1 = omega (arith, ap length blocks, c.push.new.self.ok) in
     record {
       elements = ap joined items;
@@ -39,6 +42,7 @@ returns c =
         as_many = omega (arith, ap length places, ap length blocks, c.push.new.self.ok, c.push-2.new.self.ok);
         halves = subst AreHalfFull (sym items) (λ many. absurd (omega (arith, many)));
         bounds = λ p d h. absurd (omega (arith, ap length c.clear.ensures.items, h));
+        sums = no_sums;
       };
       room = λ n room. record {
         paid = omega (arith, room.paid, before, after, one, fewer, c.requires.none);

@@ -1,5 +1,5 @@
 -- The goals of `put_into` that are answered by hand.
-use Rattle.std.proofs.Common.{◌≡◌, ◌<◌, ◌+◌, ◌++◌, ◌∙◌, [], Some, cond, refl, sym, ap, subst, length, take, drop, get_or, arith}
+use Rattle.std.proofs.Common.{◌≡◌, ◌<◌, ◌+◌, ◌/◌, ◌++◌, ◌∙◌, [], Some, cond, refl, sym, ap, subst, length, take, drop, get_or, arith}
 use Rattle.std.specs.Prelude.{insert, set, slice_get}
 use Rattle.bg_types.specs.Identifier.{same_id}
 use Rattle.std.proofs.lemmas.List.{take_at}
@@ -9,11 +9,15 @@ use Rattle.rga_sequence.specs.declared.block.Block.{Block}
 use Rattle.rga_sequence.specs.Blocks.{joined, offset}
 use Rattle.rga_sequence.specs.BlockRows.{items_of, numbers_of, home_of, AreHalfFull}
 use Rattle.rga_sequence.specs.Bounds.{AreBounds}
+use Rattle.rga_sequence.specs.Sums.{AreSums}
+use Rattle.rga_sequence.proofs.Grown.{seen-insert, seen_le, weight_le}
 use Rattle.rga_sequence.proofs.Halves.{AreHalfFull-set}
 use Rattle.rga_sequence.proofs.Joined.{insert_joined, offset_within}
 use Rattle.rga_sequence.proofs.Numbers.{length-items, length-numbers, number_there}
 use Rattle.rga_sequence.proofs.Places.{few_numbers}
 use Rattle.rga_sequence.proofs.Put.{home_put}
+use Rattle.rga_sequence.proofs.Summed.{seen_among-within}
+use Rattle.rga_sequence.proofs.Whole.{seen_all-joined}
 use Rattle.rga_sequence.proofs.row.put_into.Goals as goal
 
 pub returns : goal.returns
@@ -38,6 +42,11 @@ returns c =
     c.lower.ensures xs c.args.at n refl (subst (λ r. AreBounds r xs) (sym c.deref_mut.ensures.value) c.requires.indexed.bounds) in
     let kept : take c.args.row.now.bounds.len (c.lower.new.bounds ++ drop (length c.lower.new.bounds) ms) ≡ c.lower.new.bounds =
     take_at c.lower.new.bounds (drop (length c.lower.new.bounds) ms) c.args.row.now.bounds.len (omega (arith, c.lower.auto.bounds, c.deref_mut.ensures.len)) in
+    let ss = c.args.row.now.sums.items in
+    let raised : AreSums c.raise.new.sums (set xs q (insert x c.args.at n)) =
+    c.raise.ensures xs (insert x c.args.at n) there (omega (arith, seen-insert x c.args.at n, c.weight.ensures)) (subst (λ r. AreSums r xs) (sym c.deref_mut-2.ensures.value) c.requires.indexed.sums) in
+    let kept_sums : take c.args.row.now.sums.len (c.raise.new.sums ++ drop (length c.raise.new.sums) ss) ≡ c.raise.new.sums =
+    take_at c.raise.new.sums (drop (length c.raise.new.sums) ss) c.args.row.now.sums.len (omega (arith, c.raise.auto.sums, c.deref_mut-2.ensures.len)) in
     record {
       elements = elements;
       indexed = record {
@@ -51,6 +60,7 @@ returns c =
         as_many = omega (arith, c.put_at.ensures.len, c.requires.indexed.as_many);
         halves = subst AreHalfFull (sym c.put_at.ensures.items) (AreHalfFull-set xs q (insert x c.args.at n) c.requires.indexed.halves (omega (arith, length-insert x c.args.at n c.requires.within)));
         bounds = subst (λ ms. AreBounds ms (items_of c.put_at.new.blocks.items)) (sym kept) (subst (AreBounds c.lower.new.bounds) (sym c.put_at.ensures.items) lowered);
+        sums = subst (λ r. AreSums r (items_of c.put_at.new.blocks.items)) (sym kept_sums) (subst (AreSums c.raise.new.sums) (sym c.put_at.ensures.items) raised);
       };
       room = λ m room. record {
         paid = omega (arith, room.paid, long, c.put_at.ensures.len);
@@ -71,3 +81,12 @@ put-requires-clause-few c =
     ap (λ (b : Block). b.number) c.index.ensures ∙ sym (number_there c.put_at.new.blocks.items c.args.q c.index.result.now (omega (arith, c.put_at.new.blocks.ok, c.put_at.ensures.len, c.requires.block))) ∙ ap (λ r. get_or r c.args.q 0) c.put_at.ensures.numbers in
     let below = few_numbers ns c.args.row.now.places.items c.args.q (λ p h. c.requires.indexed.places p (omega (arith, len_ns, h))) many (omega (arith, len_ns, c.args.row.now.blocks.ok, c.requires.block)) in
     omega (arith, number_is, below, len_ns, c.args.row.now.blocks.ok, c.requires.room.few)
+
+pub raise-requires : goal.raise-requires
+raise-requires c = record {
+  few = λ d less.
+      let xs = items_of c.args.row.now.blocks.items in
+      let g = c.args.q / 32 in
+      let is = subst (λ r. AreSums r xs) (sym c.deref_mut-2.ensures.value) c.requires.indexed.sums in
+      omega (arith, is.sums g d less, seen_among-within xs g, seen_all-joined xs, seen_le (joined xs), c.weight.ensures, weight_le c.args.hidden, c.requires.room.paid, c.requires.room.few);
+}

@@ -1,5 +1,5 @@
 -- The goals of `split` that are answered by hand.
-use Rattle.std.proofs.Common.{◌≡◌, ℕ, List, ◌<◌, ◌≤◌, ◌+◌, ◌*◌, ◌++◌, ◌∙◌, ◌∷◌, [], Some, cond, true, sym, ap, subst, length, take, drop, get_or, length-append, length-drop, length-take-le, arith}
+use Rattle.std.proofs.Common.{◌≡◌, ℕ, List, ◌<◌, ◌≤◌, ◌+◌, ◌*◌, ◌/◌, ◌++◌, ◌∙◌, ◌∷◌, [], Some, cond, true, sym, ap, subst, length, take, drop, get_or, length-append, length-drop, length-take-le, arith}
 use Rattle.std.specs.Prelude.{insert, set, slice_get, IsSome, is_ok, is_some, vec_len}
 use Rattle.std.specs.List.{AllByRecursion}
 use Rattle.std.specs.Option.{option_to_list}
@@ -7,10 +7,11 @@ use Rattle.std.proofs.lemmas.List.{take-append-drop, take_at}
 use Rattle.bg_types.specs.Identifier.{Identifier}
 use Rattle.rga_tree.specs.declared.element.Element.{Element}
 use Rattle.rga_sequence.specs.declared.block.Block.{Block}
-use Rattle.rga_sequence.specs.Blocks.{joined}
+use Rattle.rga_sequence.specs.Blocks.{seen_all, joined}
 use Rattle.rga_sequence.specs.BlockRows.{items_of, numbers_of, has, home_of, AreHalfFull}
 use Rattle.rga_sequence.specs.Indexed.{blocks_in}
 use Rattle.rga_sequence.specs.Bounds.{AreBounds, AreBoundsBelow}
+use Rattle.rga_sequence.specs.Sums.{AreSums, AreSumsBelow}
 use Rattle.rga_sequence.specs.Grouped.{home_in}
 use Rattle.rga_sequence.proofs.Halves.{full_paid, AreHalfFull-split}
 use Rattle.rga_sequence.proofs.Homes.{id_eq}
@@ -20,6 +21,9 @@ use Rattle.rga_sequence.proofs.Neighbours.{bounds-split}
 use Rattle.rga_sequence.proofs.Passing.{items_there}
 use Rattle.rga_sequence.proofs.Places.{Inverts, inserted_known, inserted_apart, inserted_before}
 use Rattle.rga_sequence.proofs.Split.{has_joined, home_split-at}
+use Rattle.rga_sequence.proofs.Summed.{sums-split}
+use Rattle.rga_sequence.proofs.Grown.{seen_le}
+use Rattle.rga_sequence.proofs.Whole.{seen_all-joined}
 use Rattle.rga_sequence.proofs.Numbers.{length-items, length-numbers, block_there, as_many_numbers}
 use Rattle.rga_sequence.proofs.row.split.Goals as goal
 
@@ -121,6 +125,7 @@ returns c =
         as_many = omega (arith, pushed, c.split_at.ensures.len, c.requires.indexed.as_many);
         halves = subst AreHalfFull (sym items) (AreHalfFull-split xs q low high c.requires.indexed.halves there (omega (arith, l)) (omega (arith, h)));
         bounds = subst (λ ms. AreBounds ms (items_of new)) (sym renewed) (subst (λ r. AreBounds c.renew.new.bounds (items_of r)) c.deref-3.ensures.value c.renew.ensures);
+        sums = subst (λ r. AreSums c.renew-2.new.sums.items (items_of r)) c.deref-4.ensures.value c.renew-2.ensures;
       };
       room = λ n room. record {
         paid = omega (arith, room.paid, same, c.split_at.ensures.len, fewer);
@@ -145,3 +150,19 @@ renew-requires c =
     let added : AreBoundsBelow from c.add.new.bounds.items halves = c.add.ensures from halves few before in
     subst (λ r. AreBoundsBelow from r (items_of c.deref-3.result.now)) (sym c.deref_mut-2.ensures.value)
     (subst (AreBoundsBelow from c.add.new.bounds.items) (sym (ap items_of c.deref-3.ensures.value ∙ c.split_at.ensures.items)) added)
+
+pub renew-requires-2 : goal.renew-requires-2
+renew-requires-2 c =
+    let xs = items_of c.args.row.now.blocks.items in
+    let q = c.args.q in
+    let x = get_or xs q [] in
+    let low = take 256 x in
+    let high = drop 256 x in
+    let there = block_there c.args.row.now q c.requires.block in
+    let read : items_of c.deref-4.result.now ≡ insert (set xs q low) (q + 1) high = ap items_of c.deref-4.ensures.value ∙ c.split_at.ensures.items in
+    let same = ap joined read ∙ split_joined xs q low high there (sym (take-append-drop 256 x)) in
+    record {
+      few = omega (arith, seen_all-joined (items_of c.deref-4.result.now), seen_le (joined (items_of c.deref-4.result.now)), ap length same, c.requires.room.paid, c.requires.room.few);
+      whole = omega (arith, c.requires.indexed.sums.whole, ap length read, split_long xs q low high there, length-items c.deref-4.result.now);
+      before = subst (AreSumsBelow (q / 32) c.args.row.now.sums.items) (sym read) (sums-split c.args.row.now.sums.items xs q low high there c.requires.indexed.sums);
+    }

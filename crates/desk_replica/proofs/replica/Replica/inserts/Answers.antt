@@ -2,11 +2,15 @@
 use Rattle.std.proofs.Common.{◌≡◌, Option, None, Some, is_some, sym, ap, ◌∙◌, refl}
 use Rattle.std.specs.Option.{option_map}
 use Rattle.std.specs.FinMap as map
+use Rattle.std.proofs.lemmas.Bool.{OnTrue_at}
 use Rattle.bg_types.specs.OperationSet.{Node}
 use Rattle.bg_types.specs.declared.op.OpView.TheVariants.{Insert}
 use Rattle.desk_replica.specs.Desk.{Desk}
 use Rattle.desk_replica.proofs.Growing.{inserted_first, inserted_second}
 use Rattle.desk_replica.proofs.replica.Replica.inserts.Goals as goal
+
+pub returns-then-is_beyond : goal.returns-then-is_beyond
+returns-then-is_beyond g c = sym (OnTrue_at c.if-is_beyond.true c.is_beyond.ensures)
 
 pub returns-then-has : goal.returns-then-has
 returns-then-has g c =

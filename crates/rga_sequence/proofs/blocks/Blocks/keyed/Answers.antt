@@ -19,6 +19,7 @@ invariant_of-result c =
         as_many = omega (arith, c.new.ensures.len, c.new-3.ensures.len);
         halves = λ h. absurd (omega (arith, ap (λ bs. length (items_of bs)) e, h));
         bounds = λ p d h. absurd (omega (arith, ap length c.new-4.ensures.items, h));
+        sums = record { whole = omega (arith, ap length c.new-5.ensures.items); sums = λ g d h. absurd (omega (arith, ap length c.new-5.ensures.items, h)) };
       };
       enough = record {
         paid = omega (arith, ap length row);

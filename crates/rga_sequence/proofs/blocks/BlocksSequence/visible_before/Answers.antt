@@ -1,9 +1,11 @@
 -- The goals of `visible_before` that are answered by hand.
-use Rattle.std.proofs.Common.{◌≡◌, ◌<◌, ◌∙◌, [], true, ap, sym, length, get_or, arith}
+use Rattle.std.proofs.Common.{◌≡◌, ◌<◌, ◌∙◌, [], true, ap, sym, subst, length, get_or, arith}
 use Rattle.rga_tree.proofs.Interface.{before_row, has_row}
 use Rattle.rga_sequence.specs.Blocks.{seen_all, offset}
 use Rattle.rga_sequence.specs.BlockRows.{items_of, has}
 use Rattle.rga_sequence.specs.Indexed.{blocks_in, elements_in}
+use Rattle.rga_sequence.specs.Sums.{AreSums}
+use Rattle.rga_sequence.proofs.Grown.{seen_le}
 use Rattle.rga_sequence.proofs.InFront.{before_spot}
 use Rattle.rga_sequence.proofs.Members.{until, until_some}
 use Rattle.rga_sequence.proofs.Numbers.{length-items}
@@ -17,9 +19,15 @@ unwrap-b-requires c =
     let stands : has c.args.id row ≡ true = sym (has_row row c.args.id) ∙ c.requires in
     some_spot c.spot.result c.args.id row c.spot.ensures.absent (omega (arith, until_some c.args.id row stands))
 
-pub count_before-requires-clause-visible : goal.count_before-requires-clause-visible
-count_before-requires-clause-visible c =
-    c.args.self.now.visible_are ∙ sym (seen_all-joined (blocks_in c.args.self.now.row)) ∙ ap (λ bs. seen_all (items_of bs)) (sym c.deref.ensures.value)
+pub count_before-requires-clause-sums : goal.count_before-requires-clause-sums
+count_before-requires-clause-sums c =
+    subst (λ bs. AreSums c.deref-2.result.now (items_of bs)) (sym c.deref.ensures.value)
+    (subst (λ ss. AreSums ss (blocks_in c.args.self.now.row)) (sym c.deref-2.ensures.value) c.args.self.now.indexed.sums)
+
+pub count_before-requires-clause-few : goal.count_before-requires-clause-few
+count_before-requires-clause-few c =
+    let self = c.args.self.now in
+    omega (arith, ap (λ bs. seen_all (items_of bs)) c.deref.ensures.value, seen_all-joined (blocks_in self.row), seen_le (elements_in self.row), self.enough.paid, self.enough.few)
 
 pub returns : goal.returns
 returns c =
