@@ -5,6 +5,7 @@ pub mod LineFields
 pub mod LinesBack
 pub mod LinesOf
 pub mod Named
+pub mod Places
 pub mod UnsetPlaces
 pub mod TablesOf
 pub mod Writes

@@ -6,7 +6,7 @@ use Rattle.std.specs.Str.{bytes_eq}
 use Rattle.std.specs.Prelude.{find}
 use Rattle.std.proofs.lemmas.List.{at_drop_more}
 use Rattle.std.proofs.lemmas.List.Folds.{find-append}
-use Rattle.ucd_files.specs.Names.{named, rows}
+use Rattle.ucd_files.specs.Names.{named, name_table}
 
 option_map-cond : {A B : Type 0} (f : A → B) (b : Bool) (x : A) (o : Option A) → option_map f (cond b (Some x) o) ≡ cond b (Some (f x)) (option_map f o)
 option_map-cond f true x o = refl
@@ -20,12 +20,12 @@ named-cons row table name = option_map-cond (λ r. r.1) (bytes_eq row.0 name) ro
 -- the row at place i is tried, and then those after it
 pub named-drop : {V : Type 0} (table : List (Bor (List ℕ) × V)) (i : ℕ) (row : Bor (List ℕ) × V) (name : List ℕ) (same : Bool)
     → i < length table → row ≡ get_or table i row → same ≡ bytes_eq row.0.now name
-    → named (rows (drop i table)) name ≡ cond same (Some row.1) (named (rows (drop (i + 1) table)) name)
+    → named (name_table (drop i table)) name ≡ cond same (Some row.1) (named (name_table (drop (i + 1) table)) name)
 named-drop table i row name same h is e =
-    at_drop_more (λ t. named (rows t) name) table i row h
-    ∙ ap (λ r. named (rows (r ∷ drop (i + 1) table)) name) (sym is)
-    ∙ named-cons (row.0.now, row.1) (rows (drop (i + 1) table)) name
-    ∙ ap (λ b. cond b (Some row.1) (named (rows (drop (i + 1) table)) name)) (sym e)
+    at_drop_more (λ t. named (name_table t) name) table i row h
+    ∙ ap (λ r. named (name_table (r ∷ drop (i + 1) table)) name) (sym is)
+    ∙ named-cons (row.0.now, row.1) (name_table (drop (i + 1) table)) name
+    ∙ ap (λ b. cond b (Some row.1) (named (name_table (drop (i + 1) table)) name)) (sym e)
 
 pub named-nil : {V : Type 0} (name : List ℕ) → named {V = V} [] name ≡ None
 unfolding named

@@ -9,5 +9,5 @@ unfoldable pub named : {V : Type 0} → List (List ℕ × V) → List ℕ → Op
 named table name = option_map (λ row. row.1) (find (λ row. bytes_eq row.0 name) table)
 
 -- a table of the code, as names and values
-abbrev pub rows : {V : Type 0} → List (Bor (List ℕ) × V) → List (List ℕ × V)
-rows table = map (λ row. (row.0.now, row.1)) table
+abbrev pub name_table : {V : Type 0} → List (Bor (List ℕ) × V) → List (List ℕ × V)
+name_table table = map (λ row. (row.0.now, row.1)) table

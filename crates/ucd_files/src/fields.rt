@@ -1,14 +1,14 @@
 //! What a line says, by the fields that its file names.
 
 ghost use Rattle.std.specs.Prelude.{◌≡◌, ◌++◌};
-ghost use Rattle.ucd_files.specs.Names.{named, rows};
+ghost use Rattle.ucd_files.specs.Names.{named, name_table};
 ghost use Rattle.ucd_files.specs.BracketKind.{bracket_kind};
 ghost use Rattle.ucd_files.specs.Fields.{entry_with, line_by, property_fields, bracket_fields, mirror_fields, missing_fields, property_missing};
 
 use crate::code::{code, has_dots, range, scalar};
 use crate::entry::Entry;
 use crate::fault::Cause;
-use crate::line::{has_two_fields, next_field, text_and_comment};
+use crate::line::{comment_of, has_two_fields, next_field, text_of};
 use crate::names::{value_named, value_of};
 use unicode_tables::Bracket;
 
@@ -24,7 +24,7 @@ fn entry<V: Copy>(codes: &[u8], value: Option<V>) -> Result<Entry<V>, Cause>
 /// The fields of bidi, lb and ea.
 #[tactic(auto, unfolding(crate::specs::Fields::property_fields))]
 fn property_fields<V: Copy>(names: &[(&[u8], V)], text: &[u8]) -> Result<Entry<V>, Cause>
-    ensures { result ≡ property_fields (named (rows names.now)) text.now }
+    ensures { result ≡ property_fields (named (name_table names.now)) text.now }
 {
     let (codes, rest) = next_field(text);
     let (name, _) = next_field(rest);
@@ -39,9 +39,9 @@ pub(crate) fn property_line<V: Copy>(
     names: &[(&[u8], V)],
     line: &[u8],
 ) -> Result<Option<Entry<V>>, Cause>
-    ensures { result ≡ line_by (property_fields (named (rows names.now))) line.now }
+    ensures { result ≡ line_by (property_fields (named (name_table names.now))) line.now }
 {
-    let (text, _) = text_and_comment(line);
+    let text = text_of(line);
     if text.is_empty() {
         return Ok(None);
     }
@@ -55,7 +55,7 @@ fn missing_fields<V: Copy>(
     long_names: &[(&[u8], V)],
     text: &[u8],
 ) -> Option<Entry<V>>
-    ensures { result ≡ missing_fields (named (rows names.now ++ rows long_names.now)) text.now }
+    ensures { result ≡ missing_fields (named (name_table names.now ++ name_table long_names.now)) text.now }
 {
     let (codes, rest) = next_field(text);
     let (name, _) = next_field(rest);
@@ -72,9 +72,9 @@ pub(crate) fn property_missing<V: Copy>(
     long_names: &[(&[u8], V)],
     line: &[u8],
 ) -> Option<Entry<V>>
-    ensures { result ≡ property_missing (named (rows names.now ++ rows long_names.now)) line.now }
+    ensures { result ≡ property_missing (named (name_table names.now ++ name_table long_names.now)) line.now }
 {
-    let (_, comment) = text_and_comment(line);
+    let comment = comment_of(line);
     missing_fields(names, long_names, comment.strip_prefix(b"@missing:")?)
 }
 
@@ -117,7 +117,7 @@ fn bracket_fields(text: &[u8]) -> Result<Entry<Bracket>, Cause>
 pub(crate) fn bracket_line(line: &[u8]) -> Result<Option<Entry<Bracket>>, Cause>
     ensures { result ≡ line_by (bracket_fields bracket_kind) line.now }
 {
-    let (text, _) = text_and_comment(line);
+    let text = text_of(line);
     if text.is_empty() {
         return Ok(None);
     }
@@ -147,7 +147,7 @@ fn mirror_fields(text: &[u8]) -> Result<Entry<Option<char>>, Cause>
 pub(crate) fn mirror_line(line: &[u8]) -> Result<Option<Entry<Option<char>>>, Cause>
     ensures { result ≡ line_by mirror_fields line.now }
 {
-    let (text, _) = text_and_comment(line);
+    let text = text_of(line);
     if text.is_empty() {
         return Ok(None);
     }

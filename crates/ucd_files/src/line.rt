@@ -4,17 +4,17 @@ ghost use Rattle.std.specs.Prelude.{◌≡◌, ◌≤◌, ◌<◌, ◌-◌, ◌=
 ghost use Rattle.std.specs.List.{before_first, after_first, position_or_len, prefix_len};
 ghost use Rattle.ucd_files.specs.Line.{trimmed, end_trimmed, is_among, text_of, comment_of, field, fields_of};
 
+use memchr::memchr;
+
 /// The place of the first of these bytes, or the length where there is none.
 pub(crate) fn place_of(bytes: &[u8], at: u8) -> usize
     ensures place { result ≡ position_or_len (λ b. b == at) bytes.now }
     ensures bound { result ≤ length bytes.now }
 {
-    for (i, b) in bytes.iter().enumerate() {
-        if *b == at {
-            return i;
-        }
+    match memchr(at, bytes) {
+        Some(place) => place,
+        None => bytes.len(),
     }
-    bytes.len()
 }
 
 /// How many of these bytes there are.
@@ -91,13 +91,20 @@ const BLANKS: &[u8] = b" \t";
 
 const LINE_BLANKS: &[u8] = b" \t\r";
 
-/// The text of a line before its comment, and the comment.
-pub(crate) fn text_and_comment(line: &[u8]) -> (&[u8], &[u8])
-    ensures text { result.0.now ≡ text_of line.now }
-    ensures comment { result.1.now ≡ comment_of line.now }
+/// The text of a line before its comment.
+pub(crate) fn text_of(line: &[u8]) -> &[u8]
+    ensures { result.now ≡ text_of line.now }
 {
-    let (text, comment) = cut(line, b'#');
-    (trimmed(LINE_BLANKS, text), trimmed(LINE_BLANKS, comment))
+    let (text, _) = cut(line, b'#');
+    trimmed(LINE_BLANKS, text)
+}
+
+/// The comment of a line.
+pub(crate) fn comment_of(line: &[u8]) -> &[u8]
+    ensures { result.now ≡ comment_of line.now }
+{
+    let (_, comment) = cut(line, b'#');
+    trimmed(LINE_BLANKS, comment)
 }
 
 /// The first field, and the text of the others.

@@ -1,7 +1,7 @@
 //! The names of values.
 
 ghost use Rattle.std.specs.Prelude.{◌≡◌, ◌++◌};
-ghost use Rattle.ucd_files.specs.Names.{named, rows};
+ghost use Rattle.ucd_files.specs.Names.{named, name_table};
 
 use bg_types::{Bidi, Ea, Lb};
 
@@ -135,7 +135,7 @@ pub(crate) const EA_LONG_NAMES: &[(&[u8], Ea)] = &[
 
 /// The value of a name, in a table of names.
 pub(crate) fn value_named<V: Copy>(table: &[(&[u8], V)], name: &[u8]) -> Option<V>
-    ensures { result ≡ named (rows table.now) name.now }
+    ensures { result ≡ named (name_table table.now) name.now }
 {
     for (spelled, value) in table {
         if *spelled == name {
@@ -151,7 +151,7 @@ pub(crate) fn value_of<V: Copy>(
     long_names: &[(&[u8], V)],
     name: &[u8],
 ) -> Option<V>
-    ensures { result ≡ named (rows names.now ++ rows long_names.now) name.now }
+    ensures { result ≡ named (name_table names.now ++ name_table long_names.now) name.now }
 {
     match value_named(names, name) {
         Some(value) => Some(value),

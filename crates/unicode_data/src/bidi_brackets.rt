@@ -1,7 +1,7 @@
 //! `BidiBrackets.txt` of Unicode 15.0, written by tools/make-unicode-source.
 
 /// The bytes of the file.
-pub(crate) const BIDI_BRACKETS: &[u8] = b"\
+pub const BIDI_BRACKETS: &[u8] = b"\
 0028;0029;o\n0029;0028;c\n005B;005D;o\n005D;005B;c\n007B;007D;o\n007D;007B;c\n0F3A;0F3B;o\n0F3B;0F3A;c\n\
 0F3C;0F3D;o\n0F3D;0F3C;c\n169B;169C;o\n169C;169B;c\n2045;2046;o\n2046;2045;c\n207D;207E;o\n207E;207D;c\n\
 208D;208E;o\n208E;208D;c\n2308;2309;o\n2309;2308;c\n230A;230B;o\n230B;230A;c\n2329;232A;o\n232A;2329;c\n\

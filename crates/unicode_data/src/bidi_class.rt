@@ -1,7 +1,7 @@
 //! `DerivedBidiClass.txt` of Unicode 15.0, written by tools/make-unicode-source.
 
 /// The bytes of the file.
-pub(crate) const BIDI_CLASS: &[u8] = b"\
+pub const BIDI_CLASS: &[u8] = b"\
 0000..0008;BN\n0009;S\n000A;B\n000B;S\n000C;WS\n000D;B\n000E..001B;BN\n001C..001E;B\n001F;S\n0020;WS\n\
 0021..0022;ON\n0023..0025;ET\n0026..002A;ON\n002B;ES\n002C;CS\n002D;ES\n002E..002F;CS\n0030..0039;EN\n\
 003A;CS\n003B..0040;ON\n005B..0060;ON\n007B..007E;ON\n007F..0084;BN\n0085;B\n0086..009F;BN\n00A0;CS\n00A1;ON\n\

@@ -1,7 +1,7 @@
 //! `BidiMirroring.txt` of Unicode 15.0, written by tools/make-unicode-source.
 
 /// The bytes of the file.
-pub(crate) const BIDI_MIRRORING: &[u8] = b"\
+pub const BIDI_MIRRORING: &[u8] = b"\
 0028;0029\n0029;0028\n003C;003E\n003E;003C\n005B;005D\n005D;005B\n007B;007D\n007D;007B\n00AB;00BB\n\
 00BB;00AB\n0F3A;0F3B\n0F3B;0F3A\n0F3C;0F3D\n0F3D;0F3C\n169B;169C\n169C;169B\n2039;203A\n203A;2039\n\
 2045;2046\n2046;2045\n207D;207E\n207E;207D\n208D;208E\n208E;208D\n2208;220B\n2209;220C\n220A;220D\n\

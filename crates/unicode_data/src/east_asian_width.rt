@@ -1,7 +1,7 @@
 //! `EastAsianWidth.txt` of Unicode 15.0, written by tools/make-unicode-source.
 
 /// The bytes of the file.
-pub(crate) const EAST_ASIAN_WIDTH: &[u8] = b"\
+pub const EAST_ASIAN_WIDTH: &[u8] = b"\
 0020..007E;Na\n00A1;A\n00A2..00A3;Na\n00A4;A\n00A5..00A6;Na\n00A7..00A8;A\n00AA;A\n00AC;Na\n00AD..00AE;A\n\
 00AF;Na\n00B0..00B4;A\n00B6..00BA;A\n00BC..00BF;A\n00C6;A\n00D0;A\n00D7..00D8;A\n00DE..00E1;A\n00E6;A\n\
 00E8..00EA;A\n00EC..00ED;A\n00F0;A\n00F2..00F3;A\n00F7..00FA;A\n00FC;A\n00FE;A\n0101;A\n0111;A\n0113;A\n\

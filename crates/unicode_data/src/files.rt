@@ -11,7 +11,12 @@ use ucd_files::Ucd;
 
 /// The five data files of Unicode 15.0, ranges joined and without comments, and the choice of width.
 pub fn unicode_15_0(wide_ambiguous: bool) -> Ucd<'static>
-    ensures { result.wide_ambiguous ≡ wide_ambiguous }
+    ensures bidi { result.bidi.now ≡ BIDI_CLASS.now }
+    ensures brackets { result.brackets.now ≡ BIDI_BRACKETS.now }
+    ensures mirror { result.mirror.now ≡ BIDI_MIRRORING.now }
+    ensures lb { result.lb.now ≡ LINE_BREAK.now }
+    ensures ea { result.ea.now ≡ EAST_ASIAN_WIDTH.now }
+    ensures width { result.wide_ambiguous ≡ wide_ambiguous }
 {
     Ucd {
         bidi: BIDI_CLASS,

@@ -8,4 +8,9 @@ mod east_asian_width;
 mod files;
 mod line_break;
 
+pub use bidi_brackets::BIDI_BRACKETS;
+pub use bidi_class::BIDI_CLASS;
+pub use bidi_mirroring::BIDI_MIRRORING;
+pub use east_asian_width::EAST_ASIAN_WIDTH;
 pub use files::unicode_15_0;
+pub use line_break::LINE_BREAK;

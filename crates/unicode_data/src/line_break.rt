@@ -1,7 +1,7 @@
 //! `LineBreak.txt` of Unicode 15.0, written by tools/make-unicode-source.
 
 /// The bytes of the file.
-pub(crate) const LINE_BREAK: &[u8] = b"\
+pub const LINE_BREAK: &[u8] = b"\
 0000..0008;CM\n0009;BA\n000A;LF\n000B..000C;BK\n000D;CR\n000E..001F;CM\n0020;SP\n0021;EX\n0022;QU\n0023;AL\n\
 0024;PR\n0025;PO\n0026;AL\n0027;QU\n0028;OP\n0029;CP\n002A;AL\n002B;PR\n002C;IS\n002D;HY\n002E;IS\n002F;SY\n\
 0030..0039;NU\n003A..003B;IS\n003C..003E;AL\n003F;EX\n0040..005A;AL\n005B;OP\n005C;PR\n005D;CP\n\

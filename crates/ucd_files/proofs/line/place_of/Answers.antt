@@ -1,12 +1,11 @@
 -- The goals of `place_of` that are answered by hand.
-use Rattle.std.proofs.Common.{◌==◌, sym, arith, rules, tests}
-use Rattle.std.proofs.lemmas.List.Sums.{position_or_len_is}
+use Rattle.std.proofs.Common.{subst, sym, arith}
+use Rattle.memchr.specs.Find.{IsFirstByte, is_byte}
+use Rattle.ucd_files.proofs.Places.{place-found, place-none}
 use Rattle.ucd_files.proofs.line.place_of.Goals as goal
 
-pub returns-then-b-at-clause-place : goal.returns-then-b-at-clause-place
-returns-then-b-at-clause-place c =
-    sym (position_or_len_is (λ b. b == c.args.at) c.args.bytes.now c.loop-i.i 0 (omega arith) c.loop-i.invariant (λ _. search (rules, tests)))
+pub returns-in-Some-clause-place : goal.returns-in-Some-clause-place
+returns-in-Some-clause-place c = place-found c.args.at c.in-Some.place c.args.bytes.now c.in-Some.ensures
 
-pub returns-clause-place : goal.returns-clause-place
-returns-clause-place c =
-    sym (position_or_len_is (λ b. b == c.args.at) c.args.bytes.now _ 0 (omega arith) (search rules) (λ h. absurd (omega (arith, h))))
+pub returns-in-None-clause-place : goal.returns-in-None-clause-place
+returns-in-None-clause-place c = place-none c.args.at c.args.bytes.now c.in-None.ensures

@@ -1,7 +1,7 @@
 -- The goals of `value_named` that are answered by hand.
 use Rattle.std.proofs.Common.{ap, ◌∙◌, sym, arith}
 use Rattle.std.proofs.lemmas.List.{drop_all}
-use Rattle.ucd_files.specs.Names.{named, rows}
+use Rattle.ucd_files.specs.Names.{named, name_table}
 use Rattle.ucd_files.proofs.Named.{named-drop, named-nil}
 use Rattle.ucd_files.proofs.names.value_named.Goals as goal
 
@@ -18,5 +18,5 @@ loop-spelled-preserved g c =
 pub returns : goal.returns
 returns g c =
     sym (sym c.loop-spelled.invariant
-    ∙ ap (λ t. named (rows t) c.args.name.now) (drop_all c.loop-spelled.spelled-index c.args.table.now (omega arith))
+    ∙ ap (λ t. named (name_table t) c.args.name.now) (drop_all c.loop-spelled.spelled-index c.args.table.now (omega arith))
     ∙ named-nil c.args.name.now)

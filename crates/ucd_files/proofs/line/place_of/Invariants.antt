@@ -1,6 +1,0 @@
--- What stays true in the loop of `place_of`.
-use Rattle.std.proofs.Common.{◌≡◌, ◌==◌, ℕ, ◌<◌, false, get_or}
-use Rattle.ucd_files.proofs.line.place_of.Given as goal
-
-abbrev pub invariant-loop-i : goal.invariant-loop-i
-invariant-loop-i l = (k : ℕ) → k < l.i → (get_or l.bytes k 0 == l.at) ≡ false
