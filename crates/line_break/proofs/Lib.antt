@@ -1,9 +1,8 @@
 -- The modules of this crate's proofs.
-pub mod Letters
 pub mod Contexts
-pub mod RuleTable
-pub mod BetweenLetters
-pub mod BehindSpaces
+pub mod Reduced
+pub mod PairTable
+pub mod Columns
 pub mod Marking
 pub mod Tails
 pub mod Greatest
@@ -15,4 +14,3 @@ pub mod Measuring
 pub mod Outlining
 pub mod Following
 pub mod Fitting
-pub mod Words

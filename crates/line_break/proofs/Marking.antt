@@ -6,13 +6,13 @@ use Rattle.std.specs.Prelude.{encode_utf8}
 use Rattle.std.specs.Str.{IsUtf8}
 use Rattle.unicode_tables.specs.Tables.{TableValues}
 use Rattle.paragraphs.specs.Text.{code_points}
-use Rattle.line_break.specs.declared.context.Before.{Before}
 use Rattle.line_break.specs.declared.status.Break.{Break}
 use Rattle.line_break.specs.declared.status.Break.TheVariants.{May, Must}
 use Rattle.line_break.specs.Items.{point_of}
 use Rattle.line_break.specs.Context.{before, after}
 use Rattle.line_break.specs.Rules.{first_rule, rules}
 use Rattle.line_break.specs.Statuses.{statuses_behind, breaks}
+use Rattle.line_break.specs.States.{IsBehind}
 use Rattle.line_break.specs.Marked.{points, statuses_from, IsMarkedTo}
 
 module _ (tables : TableValues) (text : List ℕ) where
@@ -25,29 +25,28 @@ module _ (tables : TableValues) (text : List ℕ) where
   points-head bytes c rest u e = ap (map (point_of tables)) (chars_past_char bytes rest c u e)
 
   -- after the first code point
-  pub IsMarkedTo-start : (c : ℕ) (rest : List ℕ) (done : List Break) (b : Before) → IsUtf8 text → text ≡ encode_utf8 c ++ rest → done ≡ []
-      → b ≡ before (point_of tables c ∷ []) → IsMarkedTo tables text rest done b
+  pub IsMarkedTo-start : (c : ℕ) (rest : List ℕ) (done : List Break) (state : ℕ) → IsUtf8 text → text ≡ encode_utf8 c ++ rest → done ≡ []
+      → IsBehind (point_of tables c ∷ []) state → IsMarkedTo tables text rest done state
   unfolding breaks points statuses_from
-  IsMarkedTo-start c rest done b u e none k = record {
+  IsMarkedTo-start c rest done state u e none k = record {
     front = point_of tables c ∷ [];
     utf8 = IsUtf8-past_char text rest c u e;
-    before_is = k;
+    behind = k;
     so_far = ap (λ d. d ++ statuses_from (point_of tables c ∷ []) (points tables rest)) none ∙ ap (statuses_behind []) (sym (points-head text c rest u e));
   }
 
-  module _ (rest : List ℕ) (done : List Break) (b : Before) (m : IsMarkedTo tables text rest done b) where
+  module _ (rest : List ℕ) (done : List Break) (state : ℕ) (m : IsMarkedTo tables text rest done state) where
     -- one code point further
-    pub IsMarkedTo-on : (c : ℕ) (later : List ℕ) (s : Break) (more : List Break) (b' : Before) → rest ≡ encode_utf8 c ++ later
-        → s ≡ first_rule rules May b (after (point_of tables c)) → more ≡ done ++ s ∷ []
-        → b' ≡ before (m.front ++ point_of tables c ∷ []) → IsMarkedTo tables text later more b'
+    pub IsMarkedTo-on : (c : ℕ) (later : List ℕ) (s : Break) (more : List Break) (next : ℕ) → rest ≡ encode_utf8 c ++ later
+        → s ≡ first_rule rules May (before m.front) (after (point_of tables c)) → more ≡ done ++ s ∷ []
+        → IsBehind (m.front ++ point_of tables c ∷ []) next → IsMarkedTo tables text later more next
     unfolding statuses_from
-    IsMarkedTo-on c later s more b' e k put next =
+    IsMarkedTo-on c later s more next e here put k =
         let p = point_of tables c in
-        let here = k ∙ ap (λ x. first_rule rules May x (after p)) m.before_is in
         record {
           front = m.front ++ p ∷ [];
           utf8 = IsUtf8-past_char rest later c m.utf8 e;
-          before_is = next;
+          behind = k;
           so_far =
               ap (λ d. d ++ statuses_from (m.front ++ p ∷ []) (points tables later)) put
               ∙ append_assoc done (s ∷ []) _

@@ -10,10 +10,9 @@ use Rattle.paragraphs.specs.Text.{code_points}
 use Rattle.paragraphs.specs.Clusters.{clusters, cluster_code_points, cluster_sizes}
 use Rattle.paragraphs.specs.Columns.{begins_with_end, is_invisible, takes_two, takes_two_by_choice, columns_by_choice, columns_of}
 use Rattle.line_break.specs.declared.cluster.Cluster.{Cluster}
-use Rattle.line_break.specs.declared.item.Item.{Item}
 use Rattle.line_break.specs.declared.status.Break.{Break}
 use Rattle.line_break.specs.declared.status.Break.TheVariants.{Must}
-use Rattle.line_break.specs.Items.{point_of}
+use Rattle.line_break.specs.Items.{Item, point_of}
 use Rattle.line_break.specs.Statuses.{statuses_behind, breaks}
 use Rattle.line_break.specs.LineClusters.{is_space as is_space_of, measured, measured_all, line_clusters}
 use Rattle.line_break.specs.declared.measure.Measure.{Measure}

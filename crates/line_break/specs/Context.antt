@@ -2,11 +2,26 @@
 use Rattle.std.specs.Prelude.{Bool, false, not, ◌&&◌, List, [], ◌∷◌, fold, if◌then◌else◌}
 use Rattle.bg_types.specs.declared.class.Lb.{Lb}
 use Rattle.bg_types.specs.declared.class.Lb.TheVariants.{Ba, Hl, Hy, Ri, Sp}
-use Rattle.line_break.specs.declared.item.Item.{Item}
-use Rattle.line_break.specs.declared.context.Before.{Before}
-use Rattle.line_break.specs.declared.context.After.{After}
 use Rattle.line_break.specs.Classes.{one_of}
-use Rattle.line_break.specs.Items.{as_base, items}
+use Rattle.line_break.specs.Items.{Item, as_base, items}
+
+-- what stands before a boundary: the class of the code point right before it; the class of the item before it, and whether
+-- that is East Asian F, W or H; the class of the item before any number of spaces; whether an odd number of RI items in a
+-- row ends there; whether HL and then HY or BA stand right before it
+pub record Before : Type 0 where
+  pub point : Lb
+  pub item : Lb
+  pub wide : Bool
+  pub spaced : Lb
+  pub odd_regional : Bool
+  pub hebrew_hyphen : Bool
+
+-- what follows it: the class of the code point right after it; the class of the item that this code point begins if it
+-- belongs to none, and whether that is East Asian F, W or H
+pub record After : Type 0 where
+  pub point : Lb
+  pub item : Lb
+  pub wide : Bool
 
 -- the class of the first item, or SP where there is none: no rule that looks past an item asks for SP
 abbrev pub class_of : List Item → Lb

@@ -3,10 +3,14 @@ use Rattle.std.specs.Prelude.{ℕ, Bool, not, List, [], ◌∷◌, fold, if◌th
 use Rattle.bg_types.specs.declared.class.Lb.{Lb}
 use Rattle.bg_types.specs.declared.class.Lb.TheVariants.{Al, Bk, Cm, Cr, Lf, Nl, Sp, Zw, Zwj}
 use Rattle.unicode_tables.specs.Tables.{TableValues, bidi_of, lb_of, ea_of}
-use Rattle.line_break.specs.declared.item.Item.{Item}
 use Rattle.line_break.specs.Classes.{one_of, resolved, is_east_asian}
 
--- a code point: its class by LB1, and whether it is East Asian F, W or H
+-- a code point, or a base with its marks: its class or its base's, and whether it is East Asian F, W or H
+pub record Item : Type 0 where
+  pub class : Lb
+  pub wide : Bool
+
+-- a code point: its class by LB1
 abbrev pub point_of : TableValues → ℕ → Item
 point_of tables c = record { class = resolved (bidi_of tables c) (lb_of tables c); wide = is_east_asian (ea_of tables c) }
 

@@ -3,6 +3,7 @@ pub mod Classes
 pub mod Items
 pub mod Context
 pub mod Rules
+pub mod States
 pub mod Statuses
 pub mod LineClusters
 pub mod Measures
@@ -10,4 +11,3 @@ pub mod Lines
 pub mod Open
 pub mod Ranges
 pub mod Marked
-pub mod Words

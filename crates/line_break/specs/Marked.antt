@@ -3,12 +3,10 @@ use Rattle.std.specs.Prelude.{◌≡◌, ℕ, List, ◌∷◌, ◌++◌, map}
 use Rattle.std.specs.Str.{IsUtf8}
 use Rattle.unicode_tables.specs.Tables.{TableValues}
 use Rattle.paragraphs.specs.Text.{code_points}
-use Rattle.line_break.specs.declared.context.Before.{Before}
-use Rattle.line_break.specs.declared.item.Item.{Item}
 use Rattle.line_break.specs.declared.status.Break.{Break}
-use Rattle.line_break.specs.Items.{point_of}
-use Rattle.line_break.specs.Context.{before}
+use Rattle.line_break.specs.Items.{Item, point_of}
 use Rattle.line_break.specs.Statuses.{status, statuses_behind, breaks}
+use Rattle.line_break.specs.States.{IsBehind}
 
 unfoldable pub points : TableValues → List ℕ → List Item
 points tables text = map (point_of tables) (code_points text)
@@ -17,9 +15,9 @@ points tables text = map (point_of tables) (code_points text)
 unfoldable pub statuses_from : List Item → List Item → List Break
 statuses_from front later = status front later ∷ statuses_behind front later
 
--- `done` are the statuses before the boundary at which `rest` begins, and `b` is what stands before it
-pub record IsMarkedTo (tables : TableValues) (text rest : List ℕ) (done : List Break) (b : Before) : Type 0 where
+-- `done` are the statuses before the boundary at which `rest` begins, and this state is what stands before it
+pub record IsMarkedTo (tables : TableValues) (text rest : List ℕ) (done : List Break) (state : ℕ) : Type 0 where
   pub front : List Item
   pub utf8 : IsUtf8 rest
-  pub before_is : b ≡ before front
+  pub behind : IsBehind front state
   pub so_far : done ++ statuses_from front (points tables rest) ≡ breaks tables text

@@ -4,10 +4,9 @@ use Rattle.bg_types.specs.declared.class.Lb.{Lb}
 use Rattle.bg_types.specs.declared.class.Lb.TheVariants.{Al, B2, Ba, Bb, Bk, Cb, Cl, Cp, Cr, Eb, Em, Ex, Gl, H2, H3, Hl, Hy, Id, In, Is, Jl, Jt, Jv, Lf, Nl, Ns, Nu, Op, Po, Pr, Qu, Ri, Sp, Sy, Wj, Zw, Zwj}
 use Rattle.line_break.specs.declared.status.Break.{Break}
 use Rattle.line_break.specs.declared.status.Break.TheVariants.{Must, May, No}
-use Rattle.line_break.specs.declared.context.Before.{Before}
-use Rattle.line_break.specs.declared.context.After.{After}
 use Rattle.line_break.specs.Classes.{one_of}
 use Rattle.line_break.specs.Items.{is_mark, takes_marks}
+use Rattle.line_break.specs.Context.{Before, After}
 
 -- a rule: what must stand before the boundary, what after it, and its status
 pub record Rule : Type 0 where
@@ -254,8 +253,3 @@ item_rules = joiners ++ (enclosing ++ (spaces ++ (quotations ++ (contingent ++ (
 -- the table, in the standard's order; where none holds, LB31 allows a break
 unfoldable pub rules : List Rule
 rules = point_rules ++ item_rules
-
--- letters stand before and after a boundary, at which no line must end (LB4, LB5) and no ZW stands (LB8)
-abbrev pub between_letters : Before → After → Bool
-between_letters b a =
-    item (Al ∷ Hl ∷ []) b && (next (Al ∷ Hl ∷ []) a && (not (point (Bk ∷ Cr ∷ Lf ∷ Nl ∷ []) b) && not (spaced (Zw ∷ []) b)))

@@ -3,15 +3,15 @@
 
 mod class;
 mod cluster;
-mod context;
-mod item;
 pub mod laws;
 mod line;
 mod measure;
 mod open;
 mod outline;
-mod rules;
+mod state;
+mod state_table;
 mod status;
+mod status_table;
 
 pub use class::is_one_of;
 pub use cluster::{Cluster, is_space};

@@ -6,6 +6,6 @@ use Rattle.line_break.proofs.status.opportunities.Given as goal
 
 abbrev pub invariant-loop-c : goal.invariant-loop-c
 invariant-loop-c l = record {
-  marked : IsMarkedTo l.tables l.para.text (chars_rest l.chars) l.statuses.items l.before;
+  marked : IsMarkedTo l.tables l.para.text (chars_rest l.chars) l.statuses.items l.state.number;
   room : vec_len l.statuses + length (chars_rest l.chars) < vec_capacity l.statuses;
 }

@@ -1,0 +1,101 @@
+//! The break rules as an automaton: from boundary to boundary by the pair table.
+
+ghost use Rattle.std.specs.Prelude.{◌≡◌, ◌<◌, List, [], ◌∷◌, ◌++◌, if◌then◌else◌};
+ghost use Rattle.unicode_tables.specs.Tables.{ea_of};
+ghost use Rattle.line_break.specs.declared.status.Break.TheVariants.{May};
+ghost use Rattle.line_break.specs.Classes.{is_east_asian};
+ghost use Rattle.line_break.specs.Items.{Item, point_of};
+ghost use Rattle.line_break.specs.Context.{before, after};
+ghost use Rattle.line_break.specs.Rules.{first_rule, rules};
+ghost use Rattle.line_break.specs.States.{IsBehind, IsColumn};
+
+use crate::state_table::STATES;
+use crate::status::Break;
+use crate::status_table::STATUSES;
+use bg_types::{Ea, Lb};
+use unicode_tables::Tables;
+
+/// The column of a wide character of CP, behind those of the classes.
+const WIDE_CP: usize = 43;
+
+/// The column of a wide character of OP.
+const WIDE_OP: usize = 44;
+
+/// What stands before a boundary, as far as any rule can tell: a row of the pair table.
+#[derive(Clone, Copy)]
+pub(crate) struct State {
+    number: u8,
+}
+
+impl State {
+    /// The state before a text's first character.
+    pub(crate) fn start() -> State
+        ensures { IsBehind [] result.number }
+    {
+        State { number: 0 }
+    }
+
+    /// The status of the boundary before a character of this column.
+    #[inline]
+    pub(crate) fn status_before(self, column: usize) -> Break
+        requires state { self.number < 80 }
+        requires column { column < 45 }
+        ensures { (front : List Item) → IsBehind front self.number → (p : Item) → IsColumn p column
+            → result ≡ first_rule rules May (before front) (after p) }
+    {
+        STATUSES[self.number as usize][column]
+    }
+
+    /// The state behind it.
+    #[inline]
+    pub(crate) fn next(self, column: usize) -> State
+        requires state { self.number < 80 }
+        requires column { column < 45 }
+        ensures { (front : List Item) → IsBehind front self.number → (p : Item) → IsColumn p column
+            → IsBehind (front ++ p ∷ []) result.number }
+    {
+        State {
+            number: STATES[self.number as usize][column],
+        }
+    }
+}
+
+/// The column of a character. But for SA, LB1 is in the table.
+#[inline]
+pub(crate) fn column_of(tables: &Tables, c: char) -> usize
+    ensures { IsColumn (point_of tables.now c) result }
+{
+    let class = tables.lb(c);
+    match class {
+        Lb::Cp => column_by_width(tables, c, Lb::Cp as usize, WIDE_CP),
+        Lb::Op => column_by_width(tables, c, Lb::Op as usize, WIDE_OP),
+        // Own: SA becomes AL, not ID or a class from a dictionary.
+        Lb::Sa => {
+            if tables.bidi(c).is_nonspacing() {
+                Lb::Cm as usize
+            } else {
+                Lb::Al as usize
+            }
+        }
+        _ => class as usize,
+    }
+}
+
+/// One of two columns, by the width of a character.
+fn column_by_width(tables: &Tables, c: char, narrow: usize, wide: usize) -> usize
+    ensures { result ≡ (if is_east_asian (ea_of tables.now c) then wide else narrow) }
+{
+    if is_east_asian(tables.ea(c)) {
+        wide
+    } else {
+        narrow
+    }
+}
+
+/// Whether LB30 leaves out a character of this width.
+#[tactic(auto, unfolding(crate::specs::Classes::is_east_asian))]
+fn is_east_asian(width: Ea) -> bool
+    ensures { result ≡ is_east_asian width }
+{
+    matches!(width, Ea::F | Ea::W | Ea::H)
+}
