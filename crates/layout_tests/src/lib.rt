@@ -8,6 +8,8 @@ mod bidi_weak_neutral_tests;
 #[cfg(test)]
 mod bracket_pairs_tests;
 #[cfg(test)]
+mod buffers;
+#[cfg(test)]
 mod caret_tests;
 #[cfg(test)]
 mod cell_grid_tests;
@@ -27,6 +29,10 @@ mod pieces;
 mod reorder_tests;
 #[cfg(test)]
 mod rows;
+#[cfg(test)]
+mod text_buffer_burst_tests;
+#[cfg(test)]
+mod text_buffer_kept_tests;
 #[cfg(test)]
 mod text_buffer_tests;
 #[cfg(test)]

@@ -42,8 +42,10 @@ impl Row for Drawn {
         }
         let whole = picture.printed()?;
         let row = picture.printed_row(0)?;
+        let size = picture.print_size()?;
         let places = places_of_walk(&mut picture);
         let same = whole.as_slice() == print.as_bytes() && row.as_slice() == first.as_bytes();
+        let same = same && size == print.len();
         Ok(same && picture.text() == text && places == walk)
     }
 }

@@ -5,9 +5,9 @@
 ghost use Rattle.std.specs.Prelude.{◌≡◌};
 ghost use Rattle.text_buffer.specs.Buffers.{paragraphs_in, IsSplit};
 
+use crate::buffers::{is_split, text_of};
 use crate::rows::{Row, assert_rows};
 use bg_types::{Change, Memory};
-use paragraphs::{Para, split};
 use std::alloc::Global;
 use text_buffer::*;
 use ucd_files::Tables;
@@ -20,44 +20,6 @@ enum Step {
 }
 
 use Step::{Cut, Put};
-
-fn is_same(one: &Para, other: &Para) -> bool {
-    one.text() == other.text()
-        && one.first_byte() == other.first_byte()
-        && one.first_place() == other.first_place()
-}
-
-/// The text that a buffer keeps.
-fn text_of(alloc: Global, buffer: &Buffer<u8>) -> Result<String, Memory> {
-    let mut text = String::new(alloc);
-    for number in 0..buffer.paragraph_count() {
-        text.push_str(buffer.paragraph(number).text())?;
-    }
-    Ok(text)
-}
-
-/// Whether a buffer's paragraphs are those that `split` finds in its text, and the paragraph of each place is right.
-fn is_split(alloc: Global, tables: &Tables, buffer: &Buffer<u8>) -> Result<bool, Memory> {
-    let text = text_of(alloc, buffer)?;
-    let paras = split(alloc, tables, &text)?;
-    let mut right = paras.len() == buffer.paragraph_count()
-        && text.len() == buffer.bytes()
-        && text.chars().count() == buffer.len();
-    for (number, para) in paras.iter().enumerate() {
-        right = number < buffer.paragraph_count()
-            && is_same(&buffer.paragraph(number), para)
-            && right;
-    }
-    let mut number: usize = 0;
-    for place in 0..=buffer.len() {
-        let next = number.saturating_add(1);
-        if next < paras.len() && paras[next].first_place() <= place {
-            number = next;
-        }
-        right = buffer.paragraph_of(place) == number && right;
-    }
-    Ok(right)
-}
 
 /// By which calls steps are made: `put` and `cut`, or `apply`.
 #[derive(Clone, Copy, PartialEq, Eq)]
@@ -380,160 +342,6 @@ fn many_paragraphs_come_out_as_split_of_the_whole(rt: HostRuntime) {
                 lines: 700,
                 place: 699,
                 typed: 300,
-            },
-        ],
-    );
-}
-
-/// A text in which others stand in the place of the characters from one place up to another.
-fn replaced(
-    alloc: Global,
-    text: &str,
-    from: usize,
-    to: usize,
-    put: &str,
-) -> Result<String, Memory> {
-    let mut new = String::new(alloc);
-    for (place, ch) in text.chars().enumerate() {
-        if place == from {
-            new.push_str(put)?;
-        }
-        if place < from || to <= place {
-            new.push(ch)?;
-        }
-    }
-    if text.chars().count() <= from {
-        new.push_str(put)?;
-    }
-    Ok(new)
-}
-
-/// Makes an edit, once more where memory was refused.
-fn edit_again(
-    tables: &Tables,
-    buffer: &mut Buffer<u8>,
-    from: usize,
-    to: usize,
-    put: &str,
-) -> Option<Touched>
-    requires { IsSplit tables.now (paragraphs_in buffer.old) }
-    ensures { IsSplit tables.now (paragraphs_in buffer.new) }
-{
-    if to < from || buffer.len() < to {
-        return None;
-    }
-    match buffer.edit(tables, from, to, put) {
-        Err(BufferFault::Memory) => buffer.edit(tables, from, to, put).ok(),
-        answer => answer.ok(),
-    }
-}
-
-/// What is kept beside paragraphs after an edit, and where one more is kept then.
-fn kept_after(
-    alloc: Global,
-    kept: &[Option<u8>],
-    touched: Touched,
-    number: usize,
-    value: u8,
-) -> Result<Vec<Option<u8>>, Memory> {
-    let behind = touched.first.saturating_add(touched.old);
-    let mut all = Vec::new(alloc);
-    for value in kept.iter().take(touched.first) {
-        all.push(*value)?;
-    }
-    for _ in 0..touched.new {
-        all.push(None)?;
-    }
-    for value in kept.iter().skip(behind) {
-        all.push(*value)?;
-    }
-    if number < all.len() {
-        all[number] = Some(value);
-    }
-    Ok(all)
-}
-
-/// Keeps a value beside a paragraph that is there.
-fn keep_beside(buffer: &mut Buffer<u8>, number: usize, value: u8)
-    ensures { paragraphs_in buffer.new ≡ paragraphs_in buffer.old }
-{
-    if number < buffer.paragraph_count() {
-        buffer.keep(number, value);
-    }
-}
-
-/// Whether a buffer keeps this.
-fn is_kept(buffer: &Buffer<u8>, kept: &[Option<u8>]) -> bool {
-    let mut right = kept.len() == buffer.paragraph_count();
-    for (number, value) in kept.iter().enumerate() {
-        right = number < buffer.paragraph_count()
-            && buffer.kept(number).copied() == *value
-            && right;
-    }
-    right
-}
-
-/// So many edits by chance of a text of so many lines, with something kept beside a paragraph after each.
-struct Keeping {
-    seed: u32,
-    lines: usize,
-    edits: usize,
-}
-
-const PUTS: &[&str] = &["", "a", "\n", "\r", "\r\n", "\u{2029}b", "", "c\nd\ne\n"];
-
-impl Row for Keeping {
-    fn comes_out(&self, alloc: Global, tables: &Tables) -> Result<bool, Memory> {
-        let mut text = String::new(alloc);
-        for _ in 0..self.lines {
-            text.push('\n')?;
-        }
-        let mut buffer: Buffer<u8> = match Buffer::of(alloc, tables, &text) {
-            Ok(buffer) => buffer,
-            Err(_) => return Err(Memory),
-        };
-        let mut kept = Vec::new(alloc);
-        for _ in 0..buffer.paragraph_count() {
-            kept.push(None)?;
-        }
-        let mut state = self.seed;
-        let mut right = true;
-        'edits: for _ in 0..self.edits {
-            state = state.wrapping_mul(1_664_525).wrapping_add(1_013_904_223);
-            let from = (state >> 8) as usize % buffer.len().saturating_add(1);
-            let more = (state >> 4) as usize % self.lines.saturating_add(3);
-            let to = from.saturating_add(more / 2).min(buffer.len());
-            let put = PUTS[(state >> 5) as usize % 8];
-            text = replaced(alloc, &text, from, to, put)?;
-            let Some(touched) = edit_again(tables, &mut buffer, from, to, put) else {
-                return Ok(false);
-            };
-            let number = (state >> 9) as usize % buffer.paragraph_count().max(1);
-            let value = ((state >> 3) % 256) as u8;
-            keep_beside(&mut buffer, number, value);
-            kept = kept_after(alloc, &kept, touched, number, value)?;
-            right = is_kept(&buffer, &kept) && right;
-            right = is_split(alloc, tables, &buffer)? && right;
-            right = text_of(alloc, &buffer)? == text && right;
-        }
-        Ok(right)
-    }
-}
-
-#[test]
-fn what_is_kept_stays_but_for_what_is_made_anew(rt: HostRuntime) {
-    assert_rows(
-        &rt,
-        &[
-            Keeping {
-                seed: 5,
-                lines: 3,
-                edits: 60,
-            },
-            Keeping {
-                seed: 17,
-                lines: 1_100,
-                edits: 6,
             },
         ],
     );

@@ -1,11 +1,10 @@
 -- Texts that are parted between characters.
-use Rattle.std.proofs.Common.{◌≡◌, ℕ, ◌+◌, ◌-◌, ◌<◌, ◌≤◌, List, [], ◌∷◌, ◌++◌, length, take, drop, refl, sym, ap, ap₂, ◌∙◌, false, ◌==◌, inl, inr, String, arith}
-use Rattle.std.proofs.lemmas.List.{append_assoc, append_cancel_right, length-append, take-append-drop, drop-drop, nil_from_length}
-use Rattle.std.proofs.lemmas.Str.{chars-append, chars-encodes, chars_past_char, IsUtf8-append, IsUtf8-encode, IsUtf8-string_bytes, encodes-chars}
+use Rattle.std.proofs.Common.{◌≡◌, ℕ, ◌+◌, ◌-◌, ◌<◌, ◌≤◌, List, [], ◌++◌, length, take, drop, refl, sym, ap, ap₂, ◌∙◌, false, ◌==◌, inl, inr, String, arith}
+use Rattle.std.proofs.lemmas.List.{append_cancel_right, length-append, take-append-drop, drop-drop, nil_from_length}
+use Rattle.std.proofs.lemmas.Str.{chars-append, chars-encodes, IsUtf8-string_bytes, encodes-chars}
 use Rattle.std.proofs.lemmas.Bool.{cases_lt, eqb-false}
 use Rattle.std.proofs.Math.Seq.{drop-append-add}
-use Rattle.std.specs.Prelude.{encode_utf8, encode_utf8_all, string_bytes, string_len}
-use Rattle.std.specs.Char.{IsScalar}
+use Rattle.std.specs.Prelude.{encode_utf8_all, string_bytes, string_len}
 use Rattle.std.specs.Str.{IsUtf8}
 use Rattle.paragraphs.specs.Text.{code_points}
 

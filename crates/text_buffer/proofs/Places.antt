@@ -1,5 +1,5 @@
 -- How much stands before a block, in it and behind it.
-use Rattle.std.proofs.Common.{Result, Ok, Err, cond, ◌≡◌, ℕ, ◌+◌, ◌-◌, ◌<◌, ◌≤◌, List, [], ◌∷◌, ◌++◌, length, take, drop, get_or, slice_set, reverse, refl, map, sym, ap, ap₂, subst, ◌∙◌, inl, inr, arith}
+use Rattle.std.proofs.Common.{Result, Ok, Err, cond, ◌≡◌, ℕ, ◌+◌, ◌-◌, ◌<◌, ◌≤◌, List, [], ◌∷◌, ◌++◌, length, take, drop, get_or, slice_set, reverse, refl, map, sym, ap, ap₂, ◌∙◌, inl, inr, arith}
 use Rattle.std.proofs.lemmas.Bool.{cases_lt, false≢true}
 use Rattle.std.proofs.lemmas.List.{append-nil, length-append, length-map, get_or-map, get_or_append_left, get_or-append-add, map-set, map-append, take-map, drop-map, reverse-append, drop_all, take_all, take-append-le}
 use Rattle.std.proofs.lemmas.List.Concat.{get_or-flat_map}
@@ -9,7 +9,7 @@ use Rattle.std.specs.Result.{IsOk, is_ok}
 use Rattle.text_buffer.specs.declared.piece.Piece.{Piece}
 use Rattle.text_buffer.specs.declared.block.Block.{Block}
 use Rattle.text_buffer.specs.declared.find.Before.{Before}
-use Rattle.text_buffer.specs.Buffers.{bytes_in, Fits, paragraphs_in, kept_in}
+use Rattle.text_buffer.specs.Buffers.{bytes_in, paragraphs_in, kept_in}
 use Rattle.text_buffer.specs.Pieces.{points_of, points_in, kept_of, seen}
 use Rattle.text_buffer.specs.Blocks.{rows_of, joined, pieces_in, texts_in}
 use Rattle.text_buffer.specs.Places.{IsInFront}

@@ -25,7 +25,7 @@ paragraph-of kept place s at =
     }
 
 module _ {K : Type 0} where
-  front-of : (bs : List (Block K)) (b : Before) → IsInFront bs b → (j : ℕ) → j ≤ length (get_or (rows_of bs) b.block [])
+  pub front-of : (bs : List (Block K)) (b : Before) → IsInFront bs b → (j : ℕ) → j ≤ length (get_or (rows_of bs) b.block [])
       → take (b.paragraphs + j) (texts_in bs) ≡ points_in (joined (take b.block (rows_of bs)) ++ take j (get_or (rows_of bs) b.block []))
   front-of bs b s j inside = take-map points_of (b.paragraphs + j) (pieces_in bs) ∙ ap points_in (take-at bs b s j inside)
 

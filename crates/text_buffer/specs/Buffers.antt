@@ -1,5 +1,5 @@
 -- What a buffer is seen as: the paragraphs of its text, each with what is kept of it. Joined they are the text.
-use Rattle.std.specs.Prelude.{◌≡◌, ◌≤◌, ℕ, List, Option, length, map as each, encode_utf8_all}
+use Rattle.std.specs.Prelude.{◌≡◌, ◌≤◌, ◌-◌, ◌++◌, ℕ, List, Option, None, length, take, drop, map as each, encode_utf8_all}
 use Rattle.std.specs.List.{concat}
 use Rattle.unicode_tables.specs.Tables.{TableValues}
 use Rattle.paragraphs.specs.Paragraphs.{paragraph_points}
@@ -18,6 +18,19 @@ module _ {K : Type 0} where
 
   abbrev pub text_in : List (KeptParagraph K) → List ℕ
   text_in ps = concat (paragraphs_in ps)
+
+  -- of all of these nothing is kept
+  abbrev pub forgotten : List (Option K) → List (Option K)
+  forgotten kept = each (λ _. None) kept
+
+  -- of the paragraphs from `from` up to `to` what was kept, and nothing of the others
+  abbrev pub kept_but : (from to : ℕ) → List (Option K) → List (Option K)
+  kept_but from to kept = forgotten (take from kept) ++ (take (to - from) (drop from kept) ++ forgotten (drop to kept))
+
+-- a paragraph of a buffer, by its number
+pub record Standing (K : Type 0) : Type 0 where
+  pub paragraphs : List (KeptParagraph K)
+  pub number : ℕ
 
 -- how many bytes these code points take
 abbrev pub bytes_in : List ℕ → ℕ

@@ -1,6 +1,7 @@
 -- What an edit makes of a text, and which paragraphs it makes anew.
-use Rattle.std.specs.Prelude.{◌≡◌, ◌⊎◌, ◌+◌, ◌-◌, ◌<◌, ◌≤◌, ◌++◌, ℕ, List, None, length, take, drop, map as each}
-use Rattle.std.specs.List.{concat}
+use Rattle.std.specs.Prelude.{◌≡◌, ◌⊎◌, ◌+◌, ◌-◌, ◌<◌, ◌≤◌, ◌++◌, ℕ, List, [], ◌∷◌, None, length, take, drop, replicate, map as each}
+use Rattle.std.specs.List.{concat, flat_map}
+use Rattle.bg_types.specs.Edit.{IsInRange, changed}
 use Rattle.bg_types.specs.declared.change.Change.{Change}
 use Rattle.bg_types.specs.declared.change.Change.TheVariants.{Put, Cut}
 use Rattle.text_buffer.specs.Buffers.{KeptParagraph, paragraphs_in}
@@ -38,3 +39,46 @@ pub record IsTouched {K : Type 0} (old : List (KeptParagraph K)) (from to : ℕ)
   pub some : 0 < touched.old
   pub first : IsParagraphOf (paragraphs_in old) from touched.first ⊎ IsParagraphOf (paragraphs_in old) from (touched.first + 1)
   pub last : IsParagraphOf (paragraphs_in old) to (touched.first + touched.old - 1)
+
+-- ---- changes, one after the other
+
+-- the text after them
+abbrev pub all_changed : List ℕ → List Change → List ℕ
+all_changed text [] = text
+all_changed text (change ∷ changes) = all_changed (changed text change) changes
+
+-- each place is in range when its turn comes
+abbrev pub AreInRange : List ℕ → List Change → Type 0
+AreInRange text [] = Unit {0}
+AreInRange text (change ∷ changes) = IsInRange text change × AreInRange (changed text change) changes
+
+-- so many characters are cut at a place, one after the other
+abbrev pub cuts_at : (place count : ℕ) → List Change
+cuts_at place count = replicate count (Cut place)
+
+-- these are put from a place on, one behind the other
+abbrev pub puts_at : (place : ℕ) → (points : List ℕ) → List Change
+puts_at place [] = []
+puts_at place (point ∷ points) = Put place point ∷ puts_at (place + 1) points
+
+-- an edit that stands for changes: what stood from `from` up to `to` is cut, these code points are put there, and some
+-- paragraphs are made anew
+pub record Step : Type 0 where
+  pub from : ℕ
+  pub to : ℕ
+  pub points : List ℕ
+  pub touched : Touched
+
+abbrev pub changes_of : Step → List Change
+changes_of step = cuts_at step.from (step.to - step.from) ++ puts_at step.from step.points
+
+-- the edits, one after the other, lead from the old paragraphs to the new ones
+abbrev pub IsTouchedInTurn : {K : Type 0} → List (KeptParagraph K) → List Step → List (KeptParagraph K) → Type 0
+IsTouchedInTurn old [] new = new ≡ old
+IsTouchedInTurn {K} old (step ∷ steps) new = (next : List (KeptParagraph K)) × IsTouched old step.from step.to step.touched next × IsTouchedInTurn next steps new
+
+-- edits that stand for these changes do
+pub record AreTouched {K : Type 0} (old : List (KeptParagraph K)) (changes : List Change) (new : List (KeptParagraph K)) : Type 0 where
+  pub steps : List Step
+  pub all : changes ≡ flat_map changes_of steps
+  pub touched : IsTouchedInTurn old steps new

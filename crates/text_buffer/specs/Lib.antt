@@ -7,3 +7,5 @@ pub mod Blocks
 pub mod Counted
 pub mod Places
 pub mod Stretches
+pub mod Forgetting
+pub mod Runs

@@ -1,5 +1,5 @@
 -- Paragraphs as they are kept, and what they are seen as.
-use Rattle.std.specs.Prelude.{ℕ, List, Option, map as each, string_bytes}
+use Rattle.std.specs.Prelude.{ℕ, List, Option, is_some, count_by, map as each, string_bytes}
 use Rattle.paragraphs.specs.Text.{code_points}
 use Rattle.text_buffer.specs.Buffers.{KeptParagraph}
 use Rattle.text_buffer.specs.declared.piece.Piece.{Piece}
@@ -14,6 +14,10 @@ module _ {K : Type 0} where
   -- what is kept of each
   abbrev pub kept_of : List (Piece K) → List (Option K)
   kept_of ps = each (λ p. p.kept) ps
+
+  -- of how many of them something is kept
+  abbrev pub kept_count : List (Piece K) → ℕ
+  kept_count ps = count_by (λ p. is_some p.kept) ps
 
   abbrev pub seen : Piece K → KeptParagraph K
   seen p = record { points = points_of p; kept = p.kept }

@@ -4,9 +4,10 @@ use Rattle.std.specs.List.{concat}
 use Rattle.text_buffer.specs.declared.block.Block.{Block}
 use Rattle.text_buffer.specs.declared.find.Before.{Before}
 use Rattle.text_buffer.specs.declared.find.Spot.{Spot}
-use Rattle.text_buffer.specs.Buffers.{bytes_in}
+use Rattle.text_buffer.specs.declared.found.Found.{Found}
+use Rattle.text_buffer.specs.Buffers.{bytes_in, Fits}
 use Rattle.text_buffer.specs.Pieces.{points_in}
-use Rattle.text_buffer.specs.Blocks.{rows_of, joined}
+use Rattle.text_buffer.specs.Blocks.{rows_of, joined, texts_in}
 
 pub record IsInFront {K : Type 0} (blocks : List (Block K)) (b : Before) : Type 0 where
   pub within : b.block < length blocks
@@ -21,3 +22,16 @@ pub record StandsAt (paragraphs : List (List ℕ)) (place : ℕ) (s : Spot) : Ty
   pub place_is : length (concat (take s.number paragraphs)) + s.offset ≡ place
   pub within : s.offset ≤ length (get_or paragraphs s.number [])
   pub inside : s.number + 1 < length paragraphs → s.offset < length (get_or paragraphs s.number [])
+
+-- a paragraph stands at its number in its block, and at its number among all, behind so many bytes and code points
+pub record IsFound {K : Type 0} (blocks : List (Block K)) (f : Found) : Type 0 where
+  pub block : f.block < length blocks
+  pub inside : f.index < length (get_or (rows_of blocks) f.block [])
+  pub number : f.number ≡ length (joined (take f.block (rows_of blocks))) + f.index
+  pub bytes : f.bytes ≡ bytes_in (concat (take f.number (texts_in blocks)))
+  pub places : f.places ≡ length (concat (take f.number (texts_in blocks)))
+
+-- it was found in blocks that are not too many to go on
+pub record IsStanding {K : Type 0} (blocks : List (Block K)) (f : Found) : Type 0 where
+  pub found : IsFound blocks f
+  pub fits : Fits (texts_in blocks)

@@ -1,19 +1,21 @@
 //! Blocks of paragraphs.
 
-ghost use Rattle.std.specs.Prelude.{◌≡◌, ◌+◌, ◌<◌, ◌≤◌, ◌++◌, length, take, drop, slice_set, vec_len, IfOk, OnOk, OnErr};
+ghost use Rattle.std.specs.Prelude.{◌≡◌, ◌+◌, ◌<◌, ◌≤◌, ◌++◌, ◌&&◌, nat_le, nat_lt, length, take, drop, slice_set, vec_len, IfOk, OnOk, OnErr};
 ghost use Rattle.std.specs.List.{concat};
 ghost use Rattle.text_buffer.specs.Buffers.{bytes_in};
-ghost use Rattle.text_buffer.specs.Pieces.{points_in, kept_of};
+ghost use Rattle.text_buffer.specs.Pieces.{points_in, kept_of, kept_count};
+ghost use Rattle.text_buffer.specs.Forgetting.{left_of};
 
-use crate::piece::Piece;
+use crate::piece::{Piece, count_of};
 use crate::row::{drop_front, splice};
 use bg_types::Memory;
 
-/// How many bytes and code points some paragraphs have.
+/// How many bytes and code points some paragraphs have, and of how many of them something is kept.
 #[derive(Clone, Copy)]
 pub struct Sums {
     pub bytes: usize,
     pub places: usize,
+    pub kept: usize,
 }
 
 /// The sums of these paragraphs.
@@ -21,25 +23,35 @@ pub fn sum_up<K>(pieces: &[Piece<K>]) -> Sums
     requires few { bytes_in (concat (points_in pieces.now)) ≤ 9_000_000 }
     ensures bytes { result.bytes ≡ bytes_in (concat (points_in pieces.now)) }
     ensures places { result.places ≡ length (concat (points_in pieces.now)) }
+    ensures kept { result.kept ≡ kept_count pieces.now }
 {
     let mut bytes = 0;
     let mut places = 0;
+    let mut kept = 0;
     for piece in pieces {
         bytes += piece.text.as_str().len();
         places += piece.places;
+        kept += piece.kept_count();
     }
-    Sums { bytes, places }
+    Sums {
+        bytes,
+        places,
+        kept,
+    }
 }
 
-/// Paragraphs that follow one another, at least one, and how many bytes and code points they have.
+/// Paragraphs that follow one another, at least one, with how many bytes and code points they have, and of how many of them
+/// something is kept.
 #[derive(Drop)]
 pub struct Block<K> {
     pub pieces: Vec<Piece<K>>,
     pub bytes: usize,
     pub places: usize,
+    pub kept: usize,
     ghost some: { 0 < vec_len pieces },
     ghost bytes_is: { bytes ≡ bytes_in (concat (points_in pieces.items)) },
     ghost places_is: { places ≡ length (concat (points_in pieces.items)) },
+    ghost kept_is: { kept ≡ kept_count pieces.items },
 }
 
 impl<K: Drop> Block<K> {
@@ -53,6 +65,7 @@ impl<K: Drop> Block<K> {
             pieces,
             bytes: sums.bytes,
             places: sums.places,
+            kept: sums.kept,
         }
     }
 
@@ -68,6 +81,7 @@ impl<K: Drop> Block<K> {
         let upper = Block::of(self.pieces.split_off(number)?);
         self.bytes -= upper.bytes;
         self.places -= upper.places;
+        self.kept -= upper.kept;
         Ok(upper)
     }
 
@@ -85,6 +99,7 @@ impl<K: Drop> Block<K> {
         splice(&mut self.pieces, from, to, pieces)?;
         self.bytes = self.bytes - gone.bytes + come.bytes;
         self.places = self.places - gone.places + come.places;
+        self.kept = self.kept - gone.kept + come.kept;
         Ok(())
     }
 
@@ -98,6 +113,7 @@ impl<K: Drop> Block<K> {
         drop_front(&mut self.pieces, count);
         self.bytes -= gone.bytes;
         self.places -= gone.places;
+        self.kept -= gone.kept;
     }
 
     /// Keeps this of paragraph `number`, or nothing.
@@ -106,7 +122,41 @@ impl<K: Drop> Block<K> {
         ensures points { points_in self.new.pieces.items ≡ points_in self.old.pieces.items }
         ensures kept { kept_of self.new.pieces.items ≡ slice_set (kept_of self.old.pieces.items) number kept }
     {
+        let is = count_of(&kept);
+        let was = self.pieces[number].kept_count();
         let piece = &mut self.pieces[number];
         piece.kept = kept;
+        self.kept = self.kept - was + is;
     }
+
+    /// Drops what is kept of all but its paragraphs from `from` up to `to`.
+    pub fn forget_but(&mut self, from: usize, to: usize)
+        requires few { bytes_in (concat (points_in self.old.pieces.items)) ≤ 9_000_000 }
+        ensures points { points_in self.new.pieces.items ≡ points_in self.old.pieces.items }
+        ensures kept { kept_of self.new.pieces.items ≡ left_of from to (kept_of self.old.pieces.items) }
+    {
+        if self.kept == 0 {
+            return;
+        }
+        forget_outside(&mut self.pieces, from, to);
+        self.kept = sum_up(&self.pieces).kept;
+    }
+}
+
+/// Drops what is kept of all but the paragraphs from `from` up to `to`.
+fn forget_outside<K: Drop>(pieces: &mut [Piece<K>], from: usize, to: usize)
+    ensures points { points_in pieces.new ≡ points_in pieces.old }
+    ensures kept { kept_of pieces.new ≡ left_of from to (kept_of pieces.old) }
+{
+    for number in 0..pieces.len() {
+        pieces[number].forget_unless(is_between(number, from, to));
+    }
+}
+
+/// Whether a number is one of those from `from` up to `to`.
+#[inline]
+fn is_between(number: usize, from: usize, to: usize) -> bool
+    ensures { result ≡ (nat_le from number && nat_lt number to) }
+{
+    from <= number && number < to
 }

@@ -1,20 +1,26 @@
 //! A text that is kept in paragraphs.
 
-ghost use Rattle.std.specs.Prelude.{◌≡◌, ◌+◌, ◌<◌, ◌≤◌, ◌↔◌, Some, None, Err, insert, remove, length, slice_get, slice_set, option_copied, encode_utf8_all, IfOk, OnOk, OnErr};
+ghost use Rattle.std.specs.Prelude.{◌≡◌, ◌+◌, ◌<◌, ◌≤◌, ◌↔◌, ℕ, Some, None, Err, insert, remove, length, map, take, drop, slice_get, slice_set, option_copied, encode_utf8_all, IfOk, IfErr, IsTrue, OnOk, OnErr};
 ghost use Rattle.unicode_tables.specs.Tables.{TableValues};
+ghost use Rattle.std.specs.Str.{IsUtf8};
 ghost use Rattle.paragraphs.specs.Text.{code_points};
 ghost use Rattle.paragraphs.specs.Paragraphs.{paragraphs};
 ghost use Rattle.bg_types.specs.Edit.{IsInRange, changed};
-ghost use Rattle.text_buffer.specs.Buffers.{bytes_in, paragraphs_in, kept_in, text_in, IsSplit};
-ghost use Rattle.text_buffer.specs.Edits.{replaced, place_of, end_of, IsParagraphOf, IsTouched};
+ghost use Rattle.text_buffer.specs.Buffers.{bytes_in, paragraphs_in, kept_in, kept_but, text_in, IsSplit};
+ghost use Rattle.text_buffer.specs.Edits.{replaced, place_of, end_of, anew, all_changed, AreInRange, IsParagraphOf, IsTouched, AreTouched};
+ghost use Rattle.text_buffer.specs.Runs.{IsStepOf};
 ghost use Rattle.text_buffer.specs.declared.fault.BufferFault.TheVariants.{TooLong};
 
 use crate::block::{Block, sum_up};
 use crate::change::{change, pieces_of};
-use crate::fault::BufferFault;
+use crate::cursor::Cursor;
+use crate::fault::{BufferFault, Stopped};
 use crate::find::{block_of, first_block, spot_at};
+use crate::forget::forget_but;
+use crate::found::{find, find_at};
 use crate::replace::blocks_of;
 use crate::rows::set_kept_in;
+use crate::run::{are_in_range, first_run};
 use crate::stretch::{LIMIT, plan_edit};
 use crate::touched::Touched;
 use bg_types::Change;
@@ -54,6 +60,7 @@ impl<K: Drop> Buffer<K> {
     pub fn of(alloc: Global, tables: &Tables, text: &str) -> Result<Buffer<K>, BufferFault>
         ensures text { IfOk result (λ buffer. text_in buffer ≡ code_points text.now) }
         ensures split { IfOk result (λ buffer. IsSplit tables.now (paragraphs_in buffer)) }
+        ensures nothing { IfOk result (λ buffer. buffer ≡ map anew (paragraphs_in buffer)) }
         ensures too_long { (result ≡ Err TooLong) ↔ (4_000_000 < length text.now) }
     {
         if text.len() > LIMIT {
@@ -83,7 +90,10 @@ impl<K: Drop> Buffer<K> {
     /// How many bytes it has.
     #[inline]
     pub fn bytes(&self) -> usize
-        ensures { result ≡ bytes_in (text_in self.now) }
+        ensures bytes { result ≡ bytes_in (text_in self.now) }
+        ensures few { result ≤ 4_000_000 }
+        // What is true of every buffer, for the caller's proof.
+        ensures utf8 { IsUtf8 (encode_utf8_all (text_in self.now)) }
     {
         self.bytes
     }
@@ -101,15 +111,25 @@ impl<K: Drop> Buffer<K> {
         requires { number < length self.now }
         ensures paragraph { (tables : TableValues) → IsSplit tables (paragraphs_in self.now) → slice_get (paragraphs tables (encode_utf8_all (text_in self.now))) number ≡ Some result }
     {
-        let before = block_of(&self.blocks, first_block(&self.blocks), number);
-        let pieces = &self.blocks[before.block].pieces;
-        let index = number - before.paragraphs;
-        let sums = sum_up(&pieces[..index]);
-        Para::new(
-            &pieces[index].text,
-            before.bytes + sums.bytes,
-            before.places + sums.places,
-        )
+        self.cursor(number).paragraph()
+    }
+
+    /// A cursor at a paragraph.
+    pub fn cursor(&self, number: usize) -> Cursor<'_, K>
+        requires { number < length self.now }
+        ensures paragraphs { result.paragraphs ≡ self.now }
+        ensures number { result.number ≡ number }
+    {
+        Cursor::at(&self.blocks, find(&self.blocks, number))
+    }
+
+    /// A cursor at the paragraph in which a place stands.
+    pub fn cursor_at(&self, place: usize) -> Cursor<'_, K>
+        requires { place ≤ length (text_in self.now) }
+        ensures paragraphs { result.paragraphs ≡ self.now }
+        ensures number { IsParagraphOf (paragraphs_in self.now) place result.number }
+    {
+        Cursor::at(&self.blocks, find_at(&self.blocks, place))
     }
 
     /// The number of the paragraph in which a place stands: of the last one that begins at it or before.
@@ -126,9 +146,7 @@ impl<K: Drop> Buffer<K> {
         requires { number < length self.now }
         ensures { slice_get (kept_in self.now) number ≡ Some (option_copied result) }
     {
-        let before = block_of(&self.blocks, first_block(&self.blocks), number);
-        let pieces = &self.blocks[before.block].pieces;
-        pieces[number - before.paragraphs].kept.as_ref()
+        self.cursor(number).kept()
     }
 
     /// Keeps a value beside a paragraph, until an edit makes it anew or another takes its place.
@@ -151,6 +169,15 @@ impl<K: Drop> Buffer<K> {
         let before = block_of(&self.blocks, first_block(&self.blocks), number);
         let index = number - before.paragraphs;
         set_kept_in(&mut self.blocks, before.block, index, None);
+    }
+
+    /// Drops what is kept of all paragraphs but those from one number up to another.
+    pub fn forget_but(&mut self, from: usize, to: usize)
+        requires { from ≤ to }
+        ensures paragraphs { paragraphs_in self.new ≡ paragraphs_in self.old }
+        ensures kept { kept_in self.new ≡ kept_but from to (kept_in self.old) }
+    {
+        forget_but(&mut self.blocks, from, to);
     }
 
     /// Puts a text in the place of the code points from one place up to another, and tells which paragraphs it made anew; of
@@ -233,5 +260,57 @@ impl<K: Drop> Buffer<K> {
             Change::Put { place, ch } => self.put(tables, place, ch),
             Change::Cut { place } => self.cut(tables, place),
         }
+    }
+
+    /// Whether each of these changes is in range when its turn comes.
+    pub fn may_apply(&self, changes: &[Change]) -> bool
+        ensures { IsTrue result ↔ AreInRange (text_in self.now) changes.now }
+    {
+        are_in_range(self.places, changes)
+    }
+
+    /// Makes changes in turn, as `apply` does. Characters that are cut at one place, and others that are put there behind one
+    /// another, are one edit together, which splits the paragraphs that they meet once. After a fault those before that edit
+    /// stand, so many as it tells.
+    pub fn apply_all(&mut self, tables: &Tables, changes: &[Change]) -> Result<(), Stopped>
+        requires split { IsSplit tables.now (paragraphs_in self.old) }
+        requires places { AreInRange (text_in self.old) changes.now }
+        ensures text { OnOk result (text_in self.new ≡ all_changed (text_in self.old) changes.now) }
+        ensures split { IsSplit tables.now (paragraphs_in self.new) }
+        ensures touched { OnOk result (AreTouched self.old changes.now self.new) }
+        ensures stopped { IfErr result (λ s. s.made < length changes.now) }
+        ensures made { IfErr result (λ s. text_in self.new ≡ all_changed (text_in self.old) (take s.made changes.now)) }
+        ensures made_touched { IfErr result (λ s. AreTouched self.old (take s.made changes.now) self.new) }
+        ensures too_long { IfErr result (λ s. s.fault ≡ TooLong → (count : ℕ) × (s.made < count) × (count ≤ length changes.now)
+            × (4_000_000 < bytes_in (all_changed (text_in self.old) (take count changes.now)))) }
+    {
+        let mut made = 0;
+        while made < changes.len() {
+            match self.apply_run(tables, &changes[made..]) {
+                Ok(count) => made += count,
+                Err(fault) => return Err(Stopped { made, fault }),
+            }
+        }
+        Ok(())
+    }
+
+    /// Makes the first run of some changes, and tells how many these are.
+    fn apply_run(&mut self, tables: &Tables, changes: &[Change]) -> Result<usize, BufferFault>
+        requires some { 0 < length changes.now }
+        requires split { IsSplit tables.now (paragraphs_in self.old) }
+        requires places { AreInRange (text_in self.old) changes.now }
+        ensures some { IfOk result (λ count. 0 < count) }
+        ensures within { IfOk result (λ count. count ≤ length changes.now) }
+        ensures text { IfOk result (λ count. text_in self.new ≡ all_changed (text_in self.old) (take count changes.now)) }
+        ensures places { IfOk result (λ count. AreInRange (text_in self.new) (drop count changes.now)) }
+        ensures split { OnOk result (IsSplit tables.now (paragraphs_in self.new)) }
+        ensures touched { IfOk result (λ count. IsStepOf self.old (take count changes.now) self.new) }
+        ensures unchanged { OnErr result (self.new ≡ self.old) }
+        ensures too_long { result ≡ Err TooLong → (count : ℕ) × (0 < count) × (count ≤ length changes.now)
+            × (4_000_000 < bytes_in (all_changed (text_in self.old) (take count changes.now))) }
+    {
+        let first = first_run(self.alloc, changes)?;
+        self.edit(tables, first.from, first.to, &first.text)?;
+        Ok(first.count)
     }
 }

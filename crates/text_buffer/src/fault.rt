@@ -1,4 +1,4 @@
-//! Why a buffer refuses a text or an edit.
+//! Why a buffer refuses a text or an edit, and how many changes stand then.
 
 ghost use Rattle.std.specs.Prelude.{◌≡◌};
 ghost use Rattle.text_buffer.specs.Codes.{buffer_code};
@@ -38,4 +38,11 @@ impl From<Memory> for BufferFault {
     fn from(_error: Memory) -> BufferFault {
         BufferFault::Memory
     }
+}
+
+/// Why changes were not all made: how many of them stand, and what refused the edit that came next.
+#[derive(Clone, Copy, Debug, PartialEq, Eq, Hash)]
+pub struct Stopped {
+    pub made: usize,
+    pub fault: BufferFault,
 }

@@ -4,17 +4,22 @@
 mod block;
 mod buffer;
 mod change;
+mod cursor;
 mod fault;
 mod find;
+mod forget;
+mod found;
 mod parted;
 mod piece;
 mod place;
 mod replace;
 mod row;
 mod rows;
+mod run;
 mod stretch;
 mod touched;
 
 pub use buffer::Buffer;
-pub use fault::BufferFault;
+pub use cursor::Cursor;
+pub use fault::{BufferFault, Stopped};
 pub use touched::Touched;

@@ -1,6 +1,6 @@
 //! A paragraph as it is kept.
 
-ghost use Rattle.std.specs.Prelude.{◌≡◌, None, IfOk, length, string_bytes};
+ghost use Rattle.std.specs.Prelude.{◌≡◌, None, IfOk, is_some, cond, length, string_bytes};
 ghost use Rattle.paragraphs.specs.Text.{code_points};
 
 use bg_types::Memory;
@@ -29,4 +29,32 @@ impl<K: Drop> Piece<K> {
             kept: None,
         })
     }
+
+    /// Drops what is kept, unless that is to stay.
+    pub fn forget_unless(&mut self, stays: bool)
+        ensures text { self.new.text ≡ self.old.text }
+        ensures kept { self.new.kept ≡ cond stays self.old.kept None }
+    {
+        if !stays {
+            self.kept = None;
+        }
+    }
+}
+
+impl<K> Piece<K> {
+    /// Of how many paragraphs something is kept: of this one or none.
+    #[inline]
+    pub fn kept_count(&self) -> usize
+        ensures { result ≡ cond (is_some self.now.kept) 1 0 }
+    {
+        count_of(&self.kept)
+    }
+}
+
+/// Whether something is kept, as a count.
+#[inline]
+pub fn count_of<K>(kept: &Option<K>) -> usize
+    ensures { result ≡ cond (is_some kept.now) 1 0 }
+{
+    if kept.is_some() { 1 } else { 0 }
 }

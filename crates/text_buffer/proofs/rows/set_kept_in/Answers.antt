@@ -1,5 +1,5 @@
 -- A row in which another is kept.
-use Rattle.std.proofs.Common.{◌≡◌, ◌+◌, ◌++◌, length, take, drop, get_or, map, sym, ap, ◌∙◌, arith}
+use Rattle.std.proofs.Common.{map, sym, ap, ◌∙◌, arith}
 use Rattle.std.specs.Prelude.{slice_set}
 use Rattle.text_buffer.specs.declared.piece.Piece.{Piece}
 use Rattle.text_buffer.specs.Pieces.{points_of, kept_of}

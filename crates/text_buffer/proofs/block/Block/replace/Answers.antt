@@ -3,8 +3,8 @@ use Rattle.std.proofs.Common.{◌-◌, ◌++◌, length, take, drop, ap, arith}
 use Rattle.std.proofs.lemmas.List.{length-append}
 use Rattle.std.specs.List.{concat}
 use Rattle.text_buffer.specs.Buffers.{bytes_in}
-use Rattle.text_buffer.specs.Pieces.{points_in}
-use Rattle.text_buffer.proofs.Sums.{bytes-both, places-both, bytes-between, places-between, places-few}
+use Rattle.text_buffer.specs.Pieces.{points_in, kept_count}
+use Rattle.text_buffer.proofs.Sums.{bytes-both, places-both, bytes-between, places-between, places-few, kept-both, kept-between, kept-few}
 use Rattle.text_buffer.proofs.block.Block.replace.Goals as goal
 
 pub sum_up-gone-requires : goal.sum_up-gone-requires
@@ -26,6 +26,33 @@ pub overflow_add-self-2 : goal.overflow_add-self-2
 overflow_add-self-2 g c =
     let come = ap (λ ps. length (concat (points_in ps))) c.deref-2.ensures.value in
     omega (arith, come, c.sum_up-come.ensures.places, c.args.self.now.places_is, places-few (concat (points_in c.args.self.now.pieces.items)), places-few (concat (points_in c.args.pieces.items)), c.requires.few)
+
+pub overflow_sub-self-3 : goal.overflow_sub-self-3
+overflow_sub-self-3 g c =
+    let e = ap (λ ps. kept_count (take (c.args.to - c.args.from) (drop c.args.from ps))) c.deref.ensures.value in
+    omega (arith, e, kept-between c.args.self.now.pieces.items c.args.from c.args.to c.requires.order, c.sum_up-gone.ensures.kept, c.args.self.now.kept_is)
+
+pub overflow_add-self-3 : goal.overflow_add-self-3
+overflow_add-self-3 g c =
+    let ps = c.args.self.now.pieces.items in
+    let qs = c.args.pieces.items in
+    let new = c.in_ok-splice.ensures.ok in
+    let gone = ap (λ ps. kept_count (take (c.args.to - c.args.from) (drop c.args.from ps))) c.deref.ensures.value in
+    let come = ap kept_count c.deref-2.ensures.value in
+    omega (
+      arith,
+      gone,
+      come,
+      kept-between ps c.args.from c.args.to c.requires.order,
+      c.sum_up-gone.ensures.kept,
+      c.sum_up-come.ensures.kept,
+      c.args.self.now.kept_is,
+      ap kept_count new,
+      kept-both (take c.args.from ps) (qs ++ drop c.args.to ps),
+      kept-both qs (drop c.args.to ps),
+      kept-few c.splice.new.row.items,
+      c.splice.new.row.ok,
+    )
 
 pub invariant_of-self-2 : goal.invariant_of-self-2
 invariant_of-self-2 g c =
@@ -63,5 +90,17 @@ invariant_of-self-2 g c =
         ap (λ t. length (concat (points_in t))) new,
         places-both (take from ps) (qs ++ drop to ps),
         places-both qs (drop to ps),
+      );
+      kept_is = omega (
+        arith,
+        ap (λ ps. kept_count (take (c.args.to - c.args.from) (drop c.args.from ps))) c.deref.ensures.value,
+        ap kept_count c.deref-2.ensures.value,
+        kept-between ps from to c.requires.order,
+        c.sum_up-gone.ensures.kept,
+        c.sum_up-come.ensures.kept,
+        c.args.self.now.kept_is,
+        ap kept_count new,
+        kept-both (take from ps) (qs ++ drop to ps),
+        kept-both qs (drop to ps),
       );
     }

@@ -1,11 +1,12 @@
 -- The text is split whole.
-use Rattle.std.proofs.Common.{length, sym, ap, subst, ◌∙◌, arith}
+use Rattle.std.proofs.Common.{◌≡◌, ℕ, List, [], ◌∷◌, length, map, refl, sym, ap, subst, ◌∙◌, arith}
 use Rattle.std.specs.List.{concat}
 use Rattle.std.proofs.lemmas.Str.{encodes-chars}
 use Rattle.paragraphs.specs.Text.{code_points}
 use Rattle.paragraphs.proofs.Interface.{points-parts}
-use Rattle.text_buffer.specs.Buffers.{IsSplit, bytes_in}
-use Rattle.text_buffer.specs.Pieces.{points_in}
+use Rattle.text_buffer.specs.Buffers.{KeptParagraph, IsSplit, bytes_in, paragraphs_in}
+use Rattle.text_buffer.specs.Edits.{anew}
+use Rattle.text_buffer.specs.Pieces.{points_in, seen}
 use Rattle.text_buffer.specs.Blocks.{pieces_in, texts_in}
 use Rattle.text_buffer.proofs.Places.{length-points, seen-points}
 use Rattle.text_buffer.proofs.Edits.{points-anew}
@@ -66,3 +67,12 @@ returns-clause-split g c =
     let ps = c.in_ok-pieces.pieces.items in
     let is = ap points_in c.in_ok-blocks.ensures ∙ points-anew ps _ c.in_ok-pieces.ensures ∙ points-parts tables text c.utf8.text in
     subst (IsSplit tables) (sym (seen-points (pieces_in bs))) (parts-split tables (texts_in bs) (utf8-kept bs) (split-of_parts tables (texts_in bs) (code_points text) is))
+
+paragraphs-anew : (K : Type 0) (texts : List (List ℕ)) → paragraphs_in (map (anew {K = K}) texts) ≡ texts
+paragraphs-anew K [] = refl
+paragraphs-anew K (t ∷ texts) = ap (λ later. t ∷ later) (paragraphs-anew K texts)
+
+pub returns-clause-nothing : goal.returns-clause-nothing
+returns-clause-nothing g c =
+    let is = ap (map seen) c.in_ok-blocks.ensures ∙ c.in_ok-pieces.ensures in
+    is ∙ sym (ap (λ ps. map anew (paragraphs_in ps)) is ∙ ap (map anew) (paragraphs-anew _ _))

@@ -1,0 +1,41 @@
+//! What is kept is dropped, but for a stretch of paragraphs.
+
+ghost use Rattle.std.specs.Prelude.{◌≡◌, ◌<◌, ◌≤◌, [], length, get_or, slice_set};
+ghost use Rattle.std.specs.List.{concat};
+ghost use Rattle.text_buffer.specs.Buffers.{bytes_in, Fits};
+ghost use Rattle.text_buffer.specs.Pieces.{points_in, kept_of};
+ghost use Rattle.text_buffer.specs.Blocks.{rows_of, pieces_in, texts_in};
+ghost use Rattle.text_buffer.specs.Forgetting.{left_of};
+
+use crate::block::Block;
+use crate::rows::count_in;
+
+/// Drops what is kept of all but the paragraphs from `from` up to `to`. Only blocks that keep something are gone over.
+pub fn forget_but<K: Drop>(blocks: &mut [Block<K>], from: usize, to: usize)
+    requires { Fits (texts_in blocks.old) }
+    ensures texts { texts_in blocks.new ≡ texts_in blocks.old }
+    ensures kept { kept_of (pieces_in blocks.new) ≡ left_of from to (kept_of (pieces_in blocks.old)) }
+{
+    let mut before: usize = 0;
+    for q in 0..blocks.len() {
+        let count = count_in(blocks, q);
+        forget_but_in(
+            blocks,
+            q,
+            from.saturating_sub(before),
+            to.saturating_sub(before),
+        );
+        before += count;
+    }
+}
+
+/// The same in block q alone.
+fn forget_but_in<K: Drop>(blocks: &mut [Block<K>], q: usize, from: usize, to: usize)
+    requires block { q < length blocks.old }
+    requires few { bytes_in (concat (points_in (get_or (rows_of blocks.old) q []))) ≤ 9_000_000 }
+    ensures row { rows_of blocks.new ≡ slice_set (rows_of blocks.old) q (get_or (rows_of blocks.new) q []) }
+    ensures points { points_in (get_or (rows_of blocks.new) q []) ≡ points_in (get_or (rows_of blocks.old) q []) }
+    ensures kept { kept_of (get_or (rows_of blocks.new) q []) ≡ left_of from to (kept_of (get_or (rows_of blocks.old) q [])) }
+{
+    blocks[q].forget_but(from, to);
+}
