@@ -15,5 +15,5 @@ pub use caret::Caret;
 pub use column::at_column;
 pub use gaps::gap_column;
 pub use moves::{Move, down, left, right, up};
-pub use place::at_place;
+pub use place::{at_place, row_at};
 pub use position::Position;

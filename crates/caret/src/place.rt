@@ -43,7 +43,7 @@ fn entry_up_to(entries: &[Entry], place: usize) -> Option<(usize, Entry)>
 }
 
 /// The last row whose first place is at most `place`, by binary search.
-pub(crate) fn row_at(rows: &[Row], place: usize) -> usize
+pub fn row_at(rows: &[Row], place: usize) -> usize
     requires rises { FirstPlacesRise rows.now }
     requires begun { begins_by rows.now place 0 ≡ true }
     ensures number { result ≡ row_at rows.now place }

@@ -184,7 +184,7 @@ some-lines below tables text width = elim (leb_tells 1 (length (clusters text)))
     has_line [] to f some = absurd (omega arith)
     has_line (line ∷ ls) to f some = omega arith
 
-some-rows : (below : LawsBelow) (tables : TableValues) (width : ℕ) (base : Base) (ps : List Paragraph) → 0 < length ps → 0 < length (flat_map (paragraph_rows tables width base) ps)
+pub some-rows : (below : LawsBelow) (tables : TableValues) (width : ℕ) (base : Base) (ps : List Paragraph) → 0 < length ps → 0 < length (flat_map (paragraph_rows tables width base) ps)
 some-rows below tables width base [] some = absurd (omega arith)
 some-rows below tables width base (p ∷ ps) some =
     let rows = paragraph_rows tables width base in

@@ -77,13 +77,15 @@ pub fn windows_in_stretches()
 {}
 
 /// The rows of paragraphs that follow one another take up their places in order. Those of paragraphs
-/// behind a place all begin behind it.
+/// behind a place all begin behind it. No paragraph is without a row.
 pub fn rows_of_paragraphs()
     ensures follow { (tables : TableValues) (width : ℕ) (base : Base) (byte place : ℕ) (paras : List Paragraph) → 2 ≤ width
         → All (λ p. IsUtf8 p.text) paras → ParagraphsFollow byte place paras
         → RowsFollow place (flat_map (paragraph_rows tables width base) paras) (place + sum_by (λ p. length (code_points p.text)) paras) }
     ensures behind { (place from to : ℕ) (rows : List DrawnRow) → RowsFollow from rows to → place < from
         → All (λ r. place < r.first_place) rows }
+    ensures some { (tables : TableValues) (width : ℕ) (base : Base) (paras : List Paragraph) → 0 < length paras
+        → 0 < length (flat_map (paragraph_rows tables width base) paras) }
 {
     laws_below();
 }

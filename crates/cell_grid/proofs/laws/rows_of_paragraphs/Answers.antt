@@ -1,5 +1,5 @@
 -- The law by its lemmas.
-use Rattle.cell_grid.proofs.Following.{paragraphs-follow}
+use Rattle.cell_grid.proofs.Following.{paragraphs-follow, some-rows}
 use Rattle.cell_grid.proofs.Windows.{past-follow}
 use Rattle.cell_grid.proofs.laws.rows_of_paragraphs.Goals as goal
 
@@ -8,3 +8,6 @@ returns-clause-follow c = λ tables width base byte place paras wide. paragraphs
 
 pub returns-clause-behind : goal.returns-clause-behind
 returns-clause-behind c = past-follow
+
+pub returns-clause-some : goal.returns-clause-some
+returns-clause-some c = λ tables width base paras some. some-rows c.laws_below.ensures tables width base paras some

@@ -1,0 +1,11 @@
+//! What no clause says of a live document.
+#![tactic(auto)]
+
+#[cfg(test)]
+mod chance;
+#[cfg(test)]
+mod edits;
+#[cfg(test)]
+mod walking;
+#[cfg(test)]
+mod walking_tests;

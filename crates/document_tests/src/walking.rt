@@ -1,0 +1,108 @@
+//! A walk of edits by chance, after each of which a window is compared with the rows of the whole grid.
+
+use crate::chance::Chance;
+use crate::edits::change;
+use bg_types::{Base, Memory};
+use cell_grid::{Row, draw};
+use live_document::{Document, Window, WindowRow};
+use std::alloc::Global;
+use std::rc::Rc;
+use ucd_files::Tables;
+
+const KEY: u128 = 0x5eed;
+
+/// The most rows of a window above and below its own, and one more.
+const ROWS: usize = 40;
+
+/// How many paragraphs the text has from the start: more than one block of a buffer.
+const PARAGRAPHS: usize = 600;
+
+/// Makes so many edits by chance, some of the width and the base direction, and shows a window at some place after each. Tells the number of the first edit after which
+/// the window is not the stretch of the rows of `cell_grid::draw` that it should be, or the number of edits where there is
+/// none.
+pub fn walk(alloc: Global, tables: Rc<Tables>, seed: u64, steps: usize) -> Result<usize, Memory> {
+    let mut document = begun(alloc, tables)?;
+    let mut chance = Chance::new(seed);
+    let mut made = Vec::new(alloc);
+    for step in 0..steps {
+        change(&mut document, &mut chance, &mut made)?;
+        if !shows(alloc, &mut document, &mut chance)? {
+            return Ok(step);
+        }
+    }
+    Ok(steps)
+}
+
+/// A document with the first text.
+fn begun(alloc: Global, tables: Rc<Tables>) -> Result<Document, Memory> {
+    let mut document = Document::new(alloc, 1, tables, 17, Base::Auto, KEY)?;
+    let mut text = String::new(alloc);
+    for _ in 0..PARAGRAPHS {
+        text.push_str("ab \u{5D0}\n")?;
+    }
+    let mut made = Vec::new(alloc);
+    document.type_text(0, &text, &mut made).map_err(|_| Memory)?;
+    Ok(document)
+}
+
+/// Whether a window at some place is the stretch of the whole grid that it should be.
+fn shows(alloc: Global, document: &mut Document, chance: &mut Chance) -> Result<bool, Memory> {
+    let length = document.len();
+    let place = chance.below(length.saturating_add(1)).min(length);
+    let above = chance.below(ROWS).min(ROWS);
+    let below = chance.below(ROWS).min(ROWS);
+    document.show(place, above, below)?;
+    let text = document.text()?;
+    let width = document.width();
+    if text.len() > 4_000_000 || width < 2 || width > 500 {
+        return Ok(false);
+    }
+    let grid = draw(alloc, document.tables(), width, document.base(), &text)?;
+    Ok(is_stretch(&document.window(), grid.rows(), place, above, below))
+}
+
+/// Whether a window has the rows from so many above the row of a place to so many below it.
+fn is_stretch(window: &Window, rows: &[Row], place: usize, above: usize, below: usize) -> bool {
+    let number = row_of(rows, place);
+    let first = number.saturating_sub(above);
+    let end = rows
+        .len()
+        .min(number.saturating_add(below).saturating_add(1));
+    let mut right = window.len() == end.saturating_sub(first)
+        && window.number() == number.saturating_sub(first);
+    let mut seen = window.rows();
+    for row in rows.iter().take(end).skip(first) {
+        right = is_next(seen.next(), row) && right;
+    }
+    right
+}
+
+/// The last row whose first place is at most this place.
+fn row_of(rows: &[Row], place: usize) -> usize {
+    let mut number = 0;
+    for (n, row) in rows.iter().enumerate() {
+        if row.first_place() <= place {
+            number = n;
+        }
+    }
+    number
+}
+
+fn is_next(seen: Option<WindowRow>, row: &Row) -> bool {
+    match seen {
+        Some(seen) => is_same(&seen, row),
+        None => false,
+    }
+}
+
+fn is_same(seen: &WindowRow, row: &Row) -> bool {
+    let mut right = seen.first_place() == row.first_place()
+        && seen.last_place() == row.last_place()
+        && seen.para_level() == row.para_level()
+        && seen.width() == row.width()
+        && seen.entry_count() == row.entries().len();
+    for (n, entry) in row.entries().iter().enumerate() {
+        right = n < seen.entry_count() && seen.entry(n) == *entry && right;
+    }
+    right
+}

@@ -1,0 +1,28 @@
+//! Walks of edits by chance.
+
+use crate::walking::walk;
+use bg_types::Memory;
+use std::alloc::Global;
+use std::rc::Rc;
+use ucd_files::vectors::SMALL;
+
+/// How many edits a walk has.
+const STEPS: usize = 40;
+
+/// How far the walks of three seeds come.
+fn least(alloc: Global) -> Result<usize, Memory> {
+    let Ok(tables) = SMALL.load(alloc) else {
+        return Err(Memory);
+    };
+    let tables = Rc::new(alloc, tables)?;
+    let first = walk(alloc, tables.clone()?, 3, STEPS)?;
+    let second = walk(alloc, tables.clone()?, 4, STEPS)?;
+    let third = walk(alloc, tables, 5, STEPS)?;
+    Ok(first.min(second).min(third))
+}
+
+#[test]
+fn each_window_is_a_stretch_of_the_whole_grid(rt: HostRuntime) {
+    let least = least(rt.alloc());
+    assert_eq!(rt; least, Ok(STEPS));
+}

@@ -1,0 +1,104 @@
+-- Paragraphs that follow the text of a desk.
+use Rattle.std.proofs.Common.{◌≡◌, ℕ, ◌+◌, ◌≤◌, Bool, false, inl, List, length, map, sym, ap, subst, ◌∙◌, arith}
+use Rattle.std.proofs.lemmas.List.{length-map}
+use Rattle.std.specs.List.{All, concat}
+use Rattle.std.specs.Prelude.{Result, Ok, Err, is_err, IfOk, OnOk, OnErr}
+use Rattle.bg_types.specs.Identifier.{Identifier}
+use Rattle.bg_types.specs.OperationSet.{Node, OperationSet}
+use Rattle.rga_tree.specs.TextOf.{text, visible}
+use Rattle.desk_replica.specs.Desk.{Desk}
+use Rattle.bg_types.specs.declared.class.Base.{Base}
+use Rattle.unicode_tables.specs.Tables.{TableValues}
+use Rattle.text_buffer.specs.Buffers.{paragraphs_in, text_in, IsSplit}
+use Rattle.text_buffer.specs.Edits.{anew, replaced, IsTouched}
+use Rattle.text_buffer.specs.declared.touched.Touched.{Touched}
+use Rattle.text_buffer.specs.declared.fault.BufferFault.{BufferFault}
+use Rattle.live_document.specs.Keeping.{KeptText, IsLaid, IsKeptAt, StaysKept}
+use Rattle.live_document.specs.declared.shown.Shown.{Shown}
+use Rattle.live_document.specs.Documents.{IsWindowOf, IsLive}
+use Rattle.live_document.specs.Showing.{window_in, no_window, IsAtHand}
+use Rattle.live_document.proofs.Beside.{laid-anew, laid-replaced}
+
+-- of a text that is split anew nothing is kept
+pub kept-anew : (tables : TableValues) (width : ℕ) (base : Base) (kept : KeptText) → IsSplit tables (paragraphs_in kept) → kept ≡ map anew (paragraphs_in kept)
+    → 2 ≤ width → width ≤ 500 → IsKeptAt tables width base kept
+kept-anew tables width base kept split is least most = record {
+  at_least = least;
+  at_most = most;
+  split = split;
+  laid = subst (All (IsLaid tables width base)) (sym is) (laid-anew tables width base (paragraphs_in kept));
+}
+
+-- an edit drops what is kept of what it makes anew, and leaves the rest
+pub stays-edited : (tables : TableValues) (old new : KeptText) (from to : ℕ) (touched : Touched) → IsTouched old from to touched new → IsSplit tables (paragraphs_in new)
+    → StaysKept tables old new
+stays-edited tables old new from to touched h split = λ width base at. record {
+  at_least = at.at_least;
+  at_most = at.at_most;
+  split = split;
+  laid = laid-replaced tables width base old new touched.first (touched.first + touched.old) h.made h.paragraphs at.laid;
+}
+
+pub stays-same : (tables : TableValues) (old new : KeptText) → new ≡ old → StaysKept tables old new
+stays-same tables old new same = λ width base at. subst (IsKeptAt tables width base) (sym same) at
+
+-- one that was refused leaves all
+pub stays-after : (tables : TableValues) (old new : KeptText) (from to : ℕ) (r : Result Touched BufferFault) → IfOk r (λ t. IsTouched old from to t new)
+    → OnOk r (IsSplit tables (paragraphs_in new)) → OnErr r (new ≡ old) → StaysKept tables old new
+stays-after tables old new from to (Ok t) touched split same = stays-edited tables old new from to t touched split
+stays-after tables old new from to (Err e) touched split same = stays-same tables old new same
+
+-- what holds after Ok
+pub on-ok : {A E P : Type 0} (r : Result A E) → is_err r ≡ false → OnOk r P → P
+on-ok (Ok v) e h = h
+on-ok (Err x) e h = cc
+
+-- a text has as many code points as characters are visible
+pub text-count : (s : OperationSet) → length (text s) ≡ length (visible s)
+text-count s = length-map (visible s) (λ (e : Identifier × Node). e.1.ch)
+
+-- nothing is shown
+pub nothing-at_hand : (kept : KeptText) (s : Shown) → s ≡ record { first = 0; skip = 0; count = 0; number = 0 } → IsAtHand kept s
+nothing-at_hand kept s is = subst (IsAtHand kept) (sym is) (omega arith)
+
+pub nothing-window : (kept : KeptText) (s : Shown) → s ≡ record { first = 0; skip = 0; count = 0; number = 0 } → window_in kept s ≡ no_window
+nothing-window kept s is = ap (window_in kept) is
+
+-- a desk's text has changed, and the paragraphs with it or they are behind
+pub live-followed : (old new : Desk) (tables : TableValues) (width : ℕ) (base : Base) (behind later : Bool) (kept now : KeptText) (s nothing : Shown) (from to : ℕ) (points : List ℕ)
+    → IsLive old tables width base behind kept s → nothing ≡ record { first = 0; skip = 0; count = 0; number = 0 } → StaysKept tables kept now
+    → (later ≡ false → behind ≡ false) → (later ≡ false → text_in now ≡ replaced (text_in kept) from to points) → text new.set ≡ replaced (text old.set) from to points
+    → IsLive new tables width base later now nothing
+live-followed old new tables width base behind later kept now s nothing from to points live none stays before same changed = record {
+  kept_at = stays width base live.kept_at;
+  text_is = λ h. same h ∙ ap (λ t. replaced t from to points) (live.text_is (before h)) ∙ sym changed;
+  at_hand = nothing-at_hand now nothing none;
+  of_now = inl (nothing-window now nothing none);
+}
+
+-- the desk's text is the same, and the paragraphs are its own
+pub live-caught : (desk : Desk) (tables : TableValues) (width : ℕ) (base : Base) (behind : Bool) (now : KeptText) (s : Shown)
+    → IsKeptAt tables width base now → text_in now ≡ text desk.set → IsAtHand now s → IsWindowOf desk.set tables width base (window_in now s)
+    → IsLive desk tables width base behind now s
+live-caught desk tables width base behind now s at is hand shown = record { kept_at = at; text_is = λ h. is; at_hand = hand; of_now = shown }
+
+-- nothing has changed but what is shown
+pub live-same : (desk : Desk) (tables : TableValues) (width : ℕ) (base : Base) (behind : Bool) (kept now : KeptText) (s nothing : Shown)
+    → IsLive desk tables width base behind kept s → nothing ≡ record { first = 0; skip = 0; count = 0; number = 0 } → now ≡ kept → IsLive desk tables width base behind now nothing
+live-same desk tables width base behind kept now s nothing live none same = record {
+  kept_at = subst (IsKeptAt tables width base) (sym same) live.kept_at;
+  text_is = λ h. ap text_in same ∙ live.text_is h;
+  at_hand = nothing-at_hand now nothing none;
+  of_now = inl (nothing-window now nothing none);
+}
+
+-- nothing is kept any more, and the width or the base may be another
+pub live-turned : (desk : Desk) (tables : TableValues) (width : ℕ) (base : Base) (behind : Bool) (kept now : KeptText) (s nothing : Shown) (wider : ℕ) (turned : Base)
+    → IsLive desk tables width base behind kept s → 2 ≤ wider → wider ≤ 500 → nothing ≡ record { first = 0; skip = 0; count = 0; number = 0 }
+    → paragraphs_in now ≡ paragraphs_in kept → All (IsLaid tables wider turned) now → IsLive desk tables wider turned behind now nothing
+live-turned desk tables width base behind kept now s nothing wider turned live least most none same laid = record {
+  kept_at = record { at_least = least; at_most = most; split = subst (IsSplit tables) (sym same) live.kept_at.split; laid = laid };
+  text_is = λ h. ap concat same ∙ live.text_is h;
+  at_hand = nothing-at_hand now nothing none;
+  of_now = inl (nothing-window now nothing none);
+}

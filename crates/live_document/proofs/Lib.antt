@@ -1,0 +1,8 @@
+-- The modules of this crate's proofs.
+mod Beside
+mod Marks
+mod Stretches
+mod Placing
+mod Windows
+mod Spots
+mod Followed

@@ -1,0 +1,11 @@
+-- No rows are left of what was.
+use Rattle.live_document.proofs.Followed.{live-turned}
+use Rattle.live_document.proofs.document.Document.set_base.Goals as goal
+
+pub invariant_of-self : goal.invariant_of-self
+invariant_of-self c =
+    let i = c.self.inside in
+    let f = c.forget_rows in
+    let n = c.nothing-self-inside in
+    live-turned i.desk i.tables.value i.width i.base i.behind i.buffer f.new.buffer i.shown n.result i.width c.args.base c.self.invariant c.self.invariant.kept_at.at_least c.self.invariant.kept_at.at_most n.ensures f.ensures.paragraphs
+    (f.ensures.none i.tables.value i.width c.args.base)

@@ -1,0 +1,22 @@
+-- The paragraphs follow the desk's text, or are behind it.
+use Rattle.std.proofs.Common.{chars, subst}
+use Rattle.std.specs.List.{All}
+use Rattle.bg_types.specs.WellFormed.{IsWellFormed}
+use Rattle.desk_replica.specs.Stretch.{typed_text}
+use Rattle.live_document.specs.Documents.{LiveDocument}
+use Rattle.unicode_tables.specs.Tables.{TableValues}
+use Rattle.live_document.specs.Keeping.{StaysKept}
+use Rattle.live_document.proofs.Followed.{live-followed}
+use Rattle.live_document.proofs.document.Document.type_text.Goals as goal
+
+pub invariant_of-self-2 : goal.invariant_of-self-2
+invariant_of-self-2 c =
+    let i = c.self.inside in
+    let f = c.follow-self-inside in
+    let n = c.nothing-self-inside in
+    live-followed i.desk c.type_text.new.self i.tables.value i.width i.base i.behind f.result i.buffer f.new.buffer i.shown n.result c.args.place c.args.place (chars c.args.characters.now)
+    c.self.invariant n.ensures (subst (λ (tables : TableValues). StaysKept tables i.buffer f.new.buffer) c.deref.ensures f.ensures.kept) f.ensures.before f.ensures.text c.in_ok-type_text.ensures.typed
+
+pub returns-clause-well_formed : goal.returns-clause-well_formed
+returns-clause-well_formed c =
+    subst (λ (d : LiveDocument). All IsWellFormed (typed_text d.desk.set d.desk.site c.args.place (chars c.args.characters.now))) c.self.view_is c.in_ok-type_text.ensures.well_formed

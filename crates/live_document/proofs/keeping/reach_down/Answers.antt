@@ -1,0 +1,52 @@
+-- One paragraph more is laid out, behind those that are.
+use Rattle.std.proofs.Common.{◌≡◌, ◌<◌, ℕ, [], cond, length, get_or, refl, sym, ap, ◌∙◌, inr, arith}
+use Rattle.text_buffer.specs.Buffers.{paragraphs_in}
+use Rattle.live_document.specs.Keeping.{flags, is_kept, rows_of_text}
+use Rattle.live_document.proofs.Marks.{marked-none, marked-down, count-down, count-none, rows-down, rows-none, cond-most}
+use Rattle.live_document.proofs.Stretches.{count-texts, count-flags}
+use Rattle.live_document.proofs.keeping.reach_down.Goals as goal
+
+pub loop-end-init : goal.loop-end-init
+loop-end-init c = record {
+  kept = c.requires.kept;
+  paragraphs = refl;
+  count_is = c.paragraph_count-count.ensures;
+  order = omega arith;
+  within = omega arith;
+  marked = marked-none (flags c.args.buffer.now) c.args.number;
+  rows_are = sym (rows-none c.args.tables.now c.args.width c.args.base (paragraphs_in c.args.buffer.now) c.args.number);
+  few = omega arith;
+  laid_are = sym (count-none (flags c.args.buffer.now) c.args.number);
+  laid_few = omega arith;
+}
+
+pub loop-end-preserved : goal.loop-end-preserved
+loop-end-preserved c =
+    let h = c.loop-end.invariant in
+    let e = c.in_ok-out.ensures in
+    let old = c.args.buffer.now in
+    let now = c.loop-end.buffer in
+    let end = c.loop-end.end in
+    let texts = paragraphs_in old in
+    let a = count-texts old in
+    let b = count-texts now in
+    let d = count-flags old in
+    let f = count-flags now in
+    let same = ap length h.paragraphs in
+    let within : end < length (flags now) = omega arith in
+    let many = rows-down c.args.tables.now c.args.width c.args.base texts c.args.number end (omega arith) h.order in
+    let own = e.rows ∙ ap (λ ts. length (rows_of_text c.args.tables.now c.args.width c.args.base (get_or ts end []))) h.paragraphs in
+    let marks = count-down (flags old) c.args.number end (omega arith) h.order in
+    let laid : c.in_ok-out.out.laid ≡ cond {A = ℕ} (is_kept (flags old) end) 0 1 = e.laid ∙ ap (λ b. cond {A = ℕ} b 0 1) (h.marked.outside end (inr (omega arith))) in
+    record {
+      kept = e.kept;
+      paragraphs = e.paragraphs ∙ h.paragraphs;
+      count_is = h.count_is;
+      order = omega arith;
+      within = omega arith;
+      marked = marked-down (flags old) (flags now) (flags c.lay_out.new.buffer) c.args.number end h.marked e.marks within h.order;
+      rows_are = omega (arith, h.rows_are, many, own);
+      few = omega (arith, h.few, e.few);
+      laid_are = omega (arith, h.laid_are, marks, laid);
+      laid_few = omega (arith, h.laid_few, laid, cond-most (is_kept (flags old) end));
+    }

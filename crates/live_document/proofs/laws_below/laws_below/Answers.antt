@@ -1,0 +1,14 @@
+-- Each law as its crate promises it.
+use Rattle.live_document.proofs.laws_below.laws_below.Goals as goal
+
+pub returns : goal.returns
+returns c = record {
+  paragraphs_stand = c.paragraphs_join.ensures.slices;
+  paragraphs_follow = c.paragraphs_join.ensures.follow;
+  places_rise = c.first_places_rise.ensures;
+  rows_follow = c.rows_of_paragraphs.ensures.follow;
+  rows_behind = c.rows_of_paragraphs.ensures.behind;
+  some_rows = c.rows_of_paragraphs.ensures.some;
+  may_shift = c.rows_may_shift.ensures;
+  in_stretch = c.windows_in_stretches.ensures;
+}

@@ -1,0 +1,106 @@
+-- The paragraph's rows rise, and the first begins by the place.
+use Rattle.std.proofs.Common.{◌-◌, ◌≤◌, [], length, get_or, take, sym, ap, subst, ◌∙◌, arith}
+use Rattle.std.specs.List.{concat}
+use Rattle.cell_grid.specs.Rows.{rows_of}
+use Rattle.text_buffer.specs.Buffers.{bytes_in, paragraphs_in, text_in}
+use Rattle.cell_grid.specs.Windows.{FirstPlacesRise, begins_by, row_at}
+use Rattle.live_document.specs.Keeping.{flags, rows_of_text}
+use Rattle.live_document.proofs.Beside.{rows_at-laid}
+use Rattle.live_document.proofs.Marks.{set-mark}
+use Rattle.live_document.proofs.Stretches.{count-texts, count-flags}
+use Rattle.live_document.proofs.Windows.{own-text, own-first, own-rises, own-begun}
+use Rattle.live_document.proofs.showing.own_row.Goals as goal
+
+pub lay_out-requires-clause-number : goal.lay_out-requires-clause-number
+lay_out-requires-clause-number c = let n = count-texts c.args.buffer.now in omega (arith, n, c.paragraph_of-number.ensures.there)
+
+pub paragraph-requires : goal.paragraph-requires
+paragraph-requires c =
+    let n = count-texts c.args.buffer.now in
+    let m = count-texts c.lay_out.new.buffer in
+    omega (arith, n, m, ap length c.in_ok-out.ensures.paragraphs, c.paragraph_of-number.ensures.there)
+
+pub kept_rows-rows-requires : goal.kept_rows-rows-requires
+kept_rows-rows-requires c =
+    let n = count-texts c.args.buffer.now in
+    let m = count-texts c.lay_out.new.buffer in
+    omega (arith, n, m, ap length c.in_ok-out.ensures.paragraphs, c.paragraph_of-number.ensures.there)
+
+pub overflow_sub-place : goal.overflow_sub-place
+overflow_sub-place c =
+    let new = c.lay_out.new.buffer in
+    let e = c.in_ok-out.ensures in
+    let b = c.bytes-bytes.ensures in
+    let is = c.paragraph.ensures.paragraph c.args.tables.now e.kept.split in
+    let first = own-first c.laws_below.ensures c.args.tables.now c.args.width c.args.base new e.kept b.utf8 (omega (arith, b.bytes, b.few)) c.paragraph_of-number.result c.paragraph.result is in
+    omega (arith, first, ap (λ ts. length (concat (take c.paragraph_of-number.result ts))) e.paragraphs, c.paragraph_of-number.ensures.begun, c.first_place-first_place.ensures)
+
+pub row_at-requires-clause-rises : goal.row_at-requires-clause-rises
+row_at-requires-clause-rises c =
+    let T = c.args.tables.now in
+    let w = c.args.width in
+    let base = c.args.base in
+    let old = c.args.buffer.now in
+    let new = c.lay_out.new.buffer in
+    let n = c.paragraph_of-number.result in
+    let e = c.in_ok-out.ensures in
+    let b = c.bytes-bytes.ensures in
+    let q = c.paragraph.result in
+    let is = c.paragraph.ensures.paragraph T e.kept.split in
+    let few : bytes_in (text_in new) ≤ 4_000_000 = omega (arith, b.bytes, b.few) in
+    let count = count-texts old in
+    let marks = count-flags old in
+    let flag = set-mark (flags old) (flags new) n e.marks (omega (arith, c.paragraph_of-number.ensures.there)) in
+    let own = own-text c.laws_below.ensures T w base new e.kept b.utf8 few n q is in
+    let rows = c.kept_rows-rows.ensures ∙ rows_at-laid T w base new e.kept.laid n flag ∙ own in
+    subst FirstPlacesRise (sym rows) (own-rises c.laws_below.ensures T w base new e.kept b.utf8 few n q is)
+
+pub row_at-requires-clause-begun : goal.row_at-requires-clause-begun
+row_at-requires-clause-begun c =
+    let T = c.args.tables.now in
+    let w = c.args.width in
+    let base = c.args.base in
+    let old = c.args.buffer.now in
+    let new = c.lay_out.new.buffer in
+    let n = c.paragraph_of-number.result in
+    let e = c.in_ok-out.ensures in
+    let b = c.bytes-bytes.ensures in
+    let q = c.paragraph.result in
+    let is = c.paragraph.ensures.paragraph T e.kept.split in
+    let few : bytes_in (text_in new) ≤ 4_000_000 = omega (arith, b.bytes, b.few) in
+    let count = count-texts old in
+    let marks = count-flags old in
+    let flag = set-mark (flags old) (flags new) n e.marks (omega (arith, c.paragraph_of-number.ensures.there)) in
+    let own = own-text c.laws_below.ensures T w base new e.kept b.utf8 few n q is in
+    let rows = c.kept_rows-rows.ensures ∙ rows_at-laid T w base new e.kept.laid n flag ∙ own in
+    let first = own-first c.laws_below.ensures T w base new e.kept b.utf8 few n q is in
+    let le : q.first_place ≤ c.args.place = omega (arith, first, ap (λ ts. length (concat (take n ts))) e.paragraphs, c.paragraph_of-number.ensures.begun) in
+    ap (λ l. begins_by l (c.args.place - c.first_place-first_place.result) 0) rows
+    ∙ ap (λ m. begins_by (rows_of T w base q.text) (c.args.place - m) 0) c.first_place-first_place.ensures
+    ∙ own-begun c.laws_below.ensures T w base new e.kept b.utf8 few n q is c.args.place le
+
+pub returns-clause-row : goal.returns-clause-row
+returns-clause-row c =
+    let T = c.args.tables.now in
+    let w = c.args.width in
+    let base = c.args.base in
+    let old = c.args.buffer.now in
+    let new = c.lay_out.new.buffer in
+    let n = c.paragraph_of-number.result in
+    let e = c.in_ok-out.ensures in
+    let b = c.bytes-bytes.ensures in
+    let q = c.paragraph.result in
+    let is = c.paragraph.ensures.paragraph T e.kept.split in
+    let few : bytes_in (text_in new) ≤ 4_000_000 = omega (arith, b.bytes, b.few) in
+    let count = count-texts old in
+    let marks = count-flags old in
+    let flag = set-mark (flags old) (flags new) n e.marks (omega (arith, c.paragraph_of-number.ensures.there)) in
+    let rows = c.kept_rows-rows.ensures ∙ rows_at-laid T w base new e.kept.laid n flag ∙ ap (λ ts. rows_of_text T w base (get_or ts n [])) e.paragraphs in
+    let first = own-first c.laws_below.ensures T w base new e.kept b.utf8 few n q is ∙ ap (λ ts. length (concat (take n ts))) e.paragraphs in
+    let place = c.first_place-first_place.ensures ∙ first in
+    record {
+      is = c.row_at.ensures.number ∙ ap (λ l. row_at l (c.args.place - c.first_place-first_place.result)) rows
+          ∙ ap (λ m. row_at (rows_of_text T w base (get_or (paragraphs_in old) n [])) (c.args.place - m)) place;
+      count = e.rows;
+      within = omega (arith, c.row_at.ensures.within, ap length rows, e.rows);
+    }

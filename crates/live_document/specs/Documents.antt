@@ -1,0 +1,73 @@
+-- What a document is seen as.
+use Rattle.std.specs.Prelude.{◌≡◌, ◌⊎◌, ℕ, Bool, true, false, List, [], refl, encode_utf8_all}
+use Rattle.std.specs.Coded.{Coded, code_by, coded×, coded_ℕ, coded_bool, coded_list}
+use Rattle.bg_types.specs.declared.class.Base.{Base}
+use Rattle.bg_types.specs.contracts.class.Base.{the_row as base_row}
+use Rattle.unicode_tables.specs.Tables.{TableValues}
+use Rattle.unicode_tables.specs.contracts.tables.Tables.{the_row as tables_row}
+use Rattle.bg_types.specs.OperationSet.{OperationSet}
+use Rattle.rga_tree.specs.TextOf.{text}
+use Rattle.desk_replica.specs.Desk.{Desk, coded_desk}
+use Rattle.text_buffer.specs.Buffers.{text_in}
+use Rattle.cell_grid.specs.Rows.{DrawnRow}
+use Rattle.cell_grid.specs.contracts.row.Row.{the_row as drawn_row}
+use Rattle.cell_grid.specs.Grids.{grid_rows}
+use Rattle.cell_grid.specs.Windows.{DrawnWindow, window_of}
+use Rattle.live_document.specs.declared.shown.Shown.{Shown}
+use Rattle.live_document.specs.Keeping.{KeptText, IsKeptAt, flags}
+use Rattle.live_document.specs.Showing.{window_in, no_window, IsAtHand}
+
+-- a document: its desk; the tables, the width and the base that it is drawn at; of which paragraphs of its text rows are
+-- kept, none where the list ends; the window that is shown; how many paragraphs the last window took to lay out
+pub record LiveDocument : Type 0 where
+  pub desk : Desk
+  pub tables : TableValues
+  pub width : ℕ
+  pub base : Base
+  pub kept : List Bool
+  pub window : DrawnWindow
+  pub laid : ℕ
+
+-- a document whose paragraphs are behind its desk keeps nothing
+abbrev pub kept_flags : (behind : Bool) → KeptText → List Bool
+kept_flags true kept = []
+kept_flags false kept = flags kept
+
+-- nothing, or the rows of *Grid* of a set of operations round a place
+abbrev pub IsWindowOf : OperationSet → TableValues → (width : ℕ) → Base → DrawnWindow → Type 0
+IsWindowOf set tables width base window =
+    (window ≡ no_window) ⊎ ((place : ℕ) × (above : ℕ) × (below : ℕ) × (window ≡ window_of above below place (grid_rows tables width base (encode_utf8_all (text set)))))
+
+-- unless they are behind, the paragraphs are those of the desk's text
+pub record IsLive (desk : Desk) (tables : TableValues) (width : ℕ) (base : Base) (behind : Bool) (kept : KeptText) (s : Shown) : Type 0 where
+  pub kept_at : IsKeptAt tables width base kept
+  pub text_is : behind ≡ false → text_in kept ≡ text desk.set
+  pub at_hand : IsAtHand kept s
+  pub of_now : IsWindowOf desk.set tables width base (window_in kept s)
+
+-- the rows of *Grid* of the desk's text, from so many above the row of a place to so many below it
+abbrev pub window_round : LiveDocument → (place above below : ℕ) → DrawnWindow
+window_round d place above below = window_of above below place (grid_rows d.tables d.width d.base (encode_utf8_all (text d.desk.set)))
+
+-- a document is stored as the tuple of its parts
+abbrev pub live_code : Coded LiveDocument
+live_code =
+    code_by (Desk × (TableValues × (ℕ × (Base × (List Bool × ((List DrawnRow × ℕ) × ℕ))))))
+    (coded× coded_desk (coded× tables_row.coded (coded× coded_ℕ (coded× base_row.coded (coded× (coded_list coded_bool) (coded× (coded× (coded_list drawn_row.coded) coded_ℕ) coded_ℕ))))))
+    (λ d. (d.desk, (d.tables, (d.width, (d.base, (d.kept, ((d.window.rows, d.window.number), d.laid)))))))
+    (λ p. record {
+      desk = p.0;
+      tables = p.1.0;
+      width = p.1.1.0;
+      base = p.1.1.1.0;
+      kept = p.1.1.1.1.0;
+      window = record { rows = p.1.1.1.1.1.0.0; number = p.1.1.1.1.1.0.1 };
+      laid = p.1.1.1.1.1.1;
+    })
+    (λ _. refl)
+
+-- both are drawn by the same tables, at the same width and base
+pub record IsDrawnAlike (old new : LiveDocument) : Type 0 where
+  pub tables : new.tables ≡ old.tables
+  pub width : new.width ≡ old.width
+  pub base : new.base ≡ old.base

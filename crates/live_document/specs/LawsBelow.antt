@@ -1,0 +1,31 @@
+-- What this crate's proofs take from the laws of the crates below, in the words of those laws.
+use Rattle.std.specs.Prelude.{◌≡◌, ℕ, ◌+◌, ◌<◌, ◌≤◌, List, ◌++◌, length, sum_by}
+use Rattle.std.specs.List.{All, flat_map}
+use Rattle.std.specs.Str.{IsUtf8}
+use Rattle.bg_types.specs.declared.class.Base.{Base}
+use Rattle.unicode_tables.specs.Tables.{TableValues}
+use Rattle.paragraphs.specs.Text.{code_points}
+use Rattle.paragraphs.specs.Paragraphs.{Paragraph, paragraphs, StandsIn, ParagraphsFollow}
+use Rattle.cell_grid.specs.Rows.{DrawnRow, rows_of}
+use Rattle.cell_grid.specs.Shifting.{MayShiftRow}
+use Rattle.cell_grid.specs.Grids.{DrawnGrid, IsDrawn, paragraph_rows}
+use Rattle.cell_grid.specs.Laws.{RowsFollow}
+use Rattle.cell_grid.specs.Windows.{FirstPlacesRise, window_of, HasWindow}
+
+pub record LawsBelow : Type 0 where
+  -- paragraphs, as `paragraphs` promises of them
+  pub paragraphs_stand : (tables : TableValues) (text : List ℕ) → IsUtf8 text → All (StandsIn text) (paragraphs tables text)
+  pub paragraphs_follow : (tables : TableValues) (text : List ℕ) → IsUtf8 text → ParagraphsFollow 0 0 (paragraphs tables text)
+  -- and rows, as `cell_grid` does
+  pub places_rise : (g : DrawnGrid) → IsDrawn g → FirstPlacesRise g.rows
+  pub rows_follow : (tables : TableValues) (width : ℕ) (base : Base) (byte place : ℕ) (paras : List Paragraph) → 2 ≤ width
+      → All (λ (p : Paragraph). IsUtf8 p.text) paras → ParagraphsFollow byte place paras
+      → RowsFollow place (flat_map (paragraph_rows tables width base) paras) (place + sum_by (λ (p : Paragraph). length (code_points p.text)) paras)
+  pub rows_behind : (place from to : ℕ) (rows : List DrawnRow) → RowsFollow from rows to → place < from → All (λ (r : DrawnRow). place < r.first_place) rows
+  pub some_rows : (tables : TableValues) (width : ℕ) (base : Base) (paras : List Paragraph) → 0 < length paras
+      → 0 < length (flat_map (paragraph_rows tables width base) paras)
+  pub may_shift : (tables : TableValues) (width : ℕ) (base : Base) (text : List ℕ) → 2 ≤ width → IsUtf8 text
+      → (bytes places : ℕ) → bytes + length text ≤ 4_000_000 → places + length (code_points text) ≤ 4_000_000
+      → All (MayShiftRow bytes places) (rows_of tables width base text)
+  pub in_stretch : (before rows after : List DrawnRow) (above below place : ℕ) → HasWindow before rows after above below place
+      → window_of above below place (before ++ (rows ++ after)) ≡ window_of above below place rows

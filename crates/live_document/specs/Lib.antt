@@ -1,0 +1,5 @@
+-- The modules of this crate's definitions.
+pub mod Keeping
+pub mod Showing
+pub mod Documents
+pub mod LawsBelow

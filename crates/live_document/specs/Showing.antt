@@ -1,0 +1,46 @@
+-- What is shown: a window over rows that are kept.
+use Rattle.std.specs.Prelude.{◌≡◌, ◌+◌, ◌-◌, ◌<◌, ◌≤◌, ◌++◌, ℕ, List, [], ◌∷◌, length, take, drop, get_or, map as each}
+use Rattle.std.specs.List.{concat}
+use Rattle.unicode_tables.specs.Tables.{TableValues}
+use Rattle.bg_types.specs.declared.class.Base.{Base}
+use Rattle.text_buffer.specs.Buffers.{bytes_in, text_in}
+use Rattle.cell_grid.specs.Rows.{DrawnRow, shifted}
+use Rattle.cell_grid.specs.Windows.{DrawnWindow, row_at}
+use Rattle.live_document.specs.declared.shown.Shown.{Shown}
+use Rattle.live_document.specs.Keeping.{KeptText, rows_beside, rows_of_text, IsKeptAt}
+
+-- the rows that are kept of paragraphs, which stand behind so many bytes and places of their text
+abbrev pub rows_behind : (bytes places : ℕ) → KeptText → List DrawnRow
+rows_behind bytes places [] = []
+rows_behind bytes places (p ∷ later) =
+    each (shifted bytes places) (rows_beside p) ++ rows_behind (bytes + bytes_in p.points) (places + length p.points) later
+
+-- those of the paragraphs from this number on, where they stand in the text
+abbrev pub rows_from : KeptText → ℕ → List DrawnRow
+rows_from kept number = rows_behind (bytes_in (text_in (take number kept))) (length (text_in (take number kept))) (drop number kept)
+
+-- the window that is shown
+abbrev pub window_in : KeptText → Shown → DrawnWindow
+window_in kept s = record { rows = take s.count (drop s.skip (rows_from kept s.first)); number = s.number }
+
+-- nothing is shown
+abbrev pub no_window : DrawnWindow
+no_window = record { rows = []; number = 0 }
+
+-- all its rows are kept
+abbrev pub IsAtHand : KeptText → Shown → Type 0
+IsAtHand kept s = s.skip + s.count ≤ length (rows_from kept s.first)
+
+-- the row of a place, among so many of the paragraph in which the place stands
+pub record IsRowOf (tables : TableValues) (width : ℕ) (base : Base) (texts : List (List ℕ)) (place number row rows : ℕ) : Type 0 where
+  pub is : row ≡ row_at (rows_of_text tables width base (get_or texts number [])) (place - length (concat (take number texts)))
+  pub count : rows ≡ length (rows_of_text tables width base (get_or texts number []))
+  pub within : row < rows
+
+-- rows are read behind so many of those that are kept from a paragraph on, and so many of them are left
+pub record IsReadable (kept : KeptText) (number row left : ℕ) : Type 0 where
+  pub tables : TableValues
+  pub width : ℕ
+  pub base : Base
+  pub kept_at : IsKeptAt tables width base kept
+  pub enough : row + left ≤ length (rows_from kept number)

@@ -1,0 +1,348 @@
+//! A text that a desk edits and that is shown by windows.
+
+ghost use Rattle.std.specs.Prelude.{◌≡◌, ◌≤◌, ◌<◌, ◌+◌, ◌-◌, ◌++◌, ℕ, false, take, drop, length, All, OnOk, OnErr, IfOk, IfErr, string_bytes, encode_utf8_all, vec_len, vec_capacity};
+ghost use Rattle.std.specs.Str.{chars};
+ghost use Rattle.bg_types.specs.OperationSet.{size, next};
+ghost use Rattle.bg_types.specs.WellFormed.{IsWellFormed};
+ghost use Rattle.rga_tree.specs.TextOf.{text, visible};
+ghost use Rattle.desk_replica.specs.Desk.{fresh};
+ghost use Rattle.desk_replica.specs.Merging.{with_operations};
+ghost use Rattle.desk_replica.specs.Stretch.{typed_text, deletions, replacement, IsTextRefusal, IsTextRefused, IsRangeRefused, IsReplaceRefusal, IsReplaceRefused};
+ghost use Rattle.desk_replica.specs.declared.answer.TypeFault.{TypeFault as Untyped};
+ghost use Rattle.live_document.specs.Documents.{window_round, IsDrawnAlike, IsWindowOf};
+ghost use Rattle.live_document.specs.Showing.{no_window};
+
+use crate::following::{buffer_of, catch_up, follow};
+use crate::keeping::forget_rows;
+use crate::showing::lay_window_out;
+use crate::shown::Shown;
+use crate::window::Window;
+use bg_types::{Base, Memory, Op};
+use cell_grid::Row;
+use desk_replica::laws::told_changes;
+use desk_replica::{Replica, TypeFault};
+use rga_sequence::Blocks;
+use std::alloc::Global;
+use std::marker::Model;
+use std::rc::Rc;
+use text_buffer::Buffer;
+use unicode_tables::Tables;
+
+/// The desk of a document.
+pub type Desk = Replica<Blocks>;
+
+/// A desk, its text in paragraphs, and the rows that are shown of it. An edit needs the memory of the desk alone: where the
+/// paragraphs could not be changed with it, the next `show` makes them anew.
+///
+/// Places count visible characters, from 0.
+#[derive(Drop)]
+pub struct Document {
+    alloc: Global,
+    desk: Desk,
+    tables: Rc<Tables>,
+    width: u16,
+    base: Base,
+    buffer: Buffer<Vec<Row>>,
+    /// The paragraphs are not those of the desk's text.
+    behind: bool,
+    shown: Shown,
+    laid: usize,
+}
+
+impl Model for Document {
+    ghost use Rattle.live_document.specs.Documents.{LiveDocument, live_code};
+
+    ghost Value = { LiveDocument };
+
+    ghost coded = { live_code };
+
+    ghost use Rattle.live_document.specs.Documents.{kept_flags, IsLive};
+    ghost use Rattle.live_document.specs.Showing.{window_in};
+
+    ghost view = { λ d. record {
+      desk = d.desk;
+      tables = d.tables.value;
+      width = d.width;
+      base = d.base;
+      kept = kept_flags d.behind d.buffer;
+      window = window_in d.buffer d.shown;
+      laid = d.laid;
+    } };
+
+    ghost invariant = { λ d. IsLive d.desk d.tables.value d.width d.base d.behind d.buffer d.shown };
+}
+
+impl Document {
+    /// A document of a site (at least 1) without operations, drawn by these tables at a width in columns and a base
+    /// direction. The key is that of the desk's tables: where it is secret, only one who measures the times of many calls
+    /// can choose identifiers that make them slow.
+    pub fn new(
+        alloc: Global,
+        site: u16,
+        tables: Rc<Tables>,
+        width: u16,
+        base: Base,
+        key: u128,
+    ) -> Result<Document, Memory>
+        requires site { 0 < site }
+        requires at_least { 2 ≤ width }
+        requires at_most { width ≤ 500 }
+        ensures desk { IfOk result (λ document. document.desk ≡ fresh site) }
+        ensures tables { IfOk result (λ document. document.tables ≡ tables.value) }
+        ensures width { IfOk result (λ document. document.width ≡ width) }
+        ensures base { IfOk result (λ document. document.base ≡ base) }
+        ensures window { IfOk result (λ document. document.window ≡ no_window) }
+        ensures laid { IfOk result (λ document. document.laid ≡ 0) }
+    {
+        told_changes();
+        let buffer = buffer_of(alloc, &tables, "")?;
+        let desk = Replica::new(alloc, site, Blocks::keyed(alloc, key), key);
+        Ok(Document {
+            alloc,
+            desk,
+            tables,
+            width,
+            base,
+            buffer,
+            behind: false,
+            shown: Shown::nothing(),
+            laid: 0,
+        })
+    }
+
+    /// Its desk, whose operations another desk may merge.
+    #[inline]
+    pub fn desk(&self) -> &Desk
+        ensures { result.now ≡ self.now.desk }
+    {
+        &self.desk
+    }
+
+    /// Its tables.
+    #[inline]
+    pub fn tables(&self) -> &Tables
+        ensures { result.now ≡ self.now.tables }
+    {
+        &self.tables
+    }
+
+    /// The width that it is drawn at, in columns.
+    #[inline]
+    pub fn width(&self) -> u16
+        ensures { result ≡ self.now.width }
+    {
+        self.width
+    }
+
+    /// The base direction that it is drawn at.
+    #[inline]
+    pub fn base(&self) -> Base
+        ensures { result ≡ self.now.base }
+    {
+        self.base
+    }
+
+    /// How many characters are visible.
+    pub fn len(&self) -> usize
+        ensures { result ≡ length (visible self.now.desk.set) }
+    {
+        self.desk.len()
+    }
+
+    /// The visible characters in order, at most 1,000,000.
+    pub fn text(&self) -> Result<String, Memory>
+        ensures ok { IfOk result (λ t. string_bytes t ≡ encode_utf8_all (text self.now.desk.set)) }
+        ensures limited { length (text self.now.desk.set) ≤ 1_000_000 }
+    {
+        self.desk.text()
+    }
+
+    /// Types characters at a place, as the desk's `type_text` does. Then nothing is shown.
+    pub fn type_text(
+        &mut self,
+        place: usize,
+        characters: &str,
+        made: &mut Vec<Op>,
+    ) -> Result<(), TypeFault>
+        requires { place ≤ length (visible self.old.desk.set) }
+        ensures made { OnOk result (made.new.items ≡ made.old.items ++ typed_text self.old.desk.set self.old.desk.site place (chars characters.now)) }
+        ensures well_formed { OnOk result (All IsWellFormed (typed_text self.old.desk.set self.old.desk.site place (chars characters.now))) }
+        ensures ok { OnOk result (self.new.desk.set ≡ with_operations self.old.desk.set (typed_text self.old.desk.set self.old.desk.site place (chars characters.now))) }
+        ensures typed { OnOk result (text self.new.desk.set ≡ take place (text self.old.desk.set) ++ (chars characters.now ++ drop place (text self.old.desk.set))) }
+        ensures accepted { OnOk result ((fault : Untyped) → ¬ (IsTextRefusal self.old.desk.set (length (chars characters.now)) fault)) }
+        ensures fault { IfErr result (IsTextRefused self.old.desk.set (length (chars characters.now))) }
+        ensures err { OnErr result (self.new ≡ self.old) }
+        ensures unmade { OnErr result (made.new.items ≡ made.old.items) }
+        ensures site { self.new.desk.site ≡ self.old.desk.site }
+        ensures spare { size self.old.desk.set + self.old.desk.spare ≤ size self.new.desk.set + self.new.desk.spare }
+        ensures unpaid { vec_len made.old + length (chars characters.now) ≤ vec_capacity made.old
+            → IfErr result (λ fault. fault ≡ TypeFault.Memory → self.old.desk.spare < length (chars characters.now)) }
+        ensures drawn { IsDrawnAlike self.old self.new }
+        ensures window { OnOk result (self.new.window ≡ no_window) }
+    {
+        self.desk.type_text(place, characters, made)?;
+        self.behind = follow(
+            &self.tables,
+            &mut self.buffer,
+            self.behind,
+            place,
+            place,
+            characters,
+        );
+        self.shown = Shown::nothing();
+        Ok(())
+    }
+
+    /// Erases the visible characters from one place up to another, as the desk's `erase_range` does. Then nothing is shown.
+    pub fn erase_range(
+        &mut self,
+        from: usize,
+        to: usize,
+        made: &mut Vec<Op>,
+    ) -> Result<(), TypeFault>
+        requires order { from ≤ to }
+        requires within { to ≤ length (visible self.old.desk.set) }
+        ensures made { OnOk result (made.new.items ≡ made.old.items ++ deletions self.old.desk.set from (to - from)) }
+        ensures ok { OnOk result (self.new.desk.set ≡ with_operations self.old.desk.set (deletions self.old.desk.set from (to - from))) }
+        ensures erased { OnOk result (text self.new.desk.set ≡ take from (text self.old.desk.set) ++ drop to (text self.old.desk.set)) }
+        ensures visible { OnOk result (visible self.new.desk.set ≡ take from (visible self.old.desk.set) ++ drop to (visible self.old.desk.set)) }
+        ensures counter { OnOk result (next self.new.desk.set ≡ next self.old.desk.set) }
+        ensures size { OnOk result (size self.new.desk.set ≡ size self.old.desk.set + (to - from)) }
+        ensures accepted { OnOk result (size self.old.desk.set + (to - from) ≤ 1_000_000) }
+        ensures fault { IfErr result (IsRangeRefused self.old.desk.set (to - from)) }
+        ensures err { OnErr result (self.new ≡ self.old) }
+        ensures unmade { OnErr result (made.new.items ≡ made.old.items) }
+        ensures site { self.new.desk.site ≡ self.old.desk.site }
+        ensures spare { size self.old.desk.set + self.old.desk.spare ≤ size self.new.desk.set + self.new.desk.spare }
+        ensures unpaid { vec_len made.old + (to - from) ≤ vec_capacity made.old → IfErr result (λ fault. fault ≡ TypeFault.Full) }
+        ensures drawn { IsDrawnAlike self.old self.new }
+        ensures window { OnOk result (self.new.window ≡ no_window) }
+    {
+        self.desk.erase_range(from, to, made)?;
+        self.behind = follow(&self.tables, &mut self.buffer, self.behind, from, to, "");
+        self.shown = Shown::nothing();
+        Ok(())
+    }
+
+    /// Erases the visible characters from one place up to another and types others where they began, as the desk's
+    /// `replace` does, in one step. Then nothing is shown.
+    pub fn replace(
+        &mut self,
+        from: usize,
+        to: usize,
+        characters: &str,
+        made: &mut Vec<Op>,
+    ) -> Result<(), TypeFault>
+        requires order { from ≤ to }
+        requires within { to ≤ length (visible self.old.desk.set) }
+        ensures made { OnOk result (made.new.items ≡ made.old.items ++ replacement self.old.desk.set self.old.desk.site from (to - from) (chars characters.now)) }
+        ensures well_formed { OnOk result (All IsWellFormed (replacement self.old.desk.set self.old.desk.site from (to - from) (chars characters.now))) }
+        ensures ok { OnOk result (self.new.desk.set ≡ with_operations self.old.desk.set (replacement self.old.desk.set self.old.desk.site from (to - from) (chars characters.now))) }
+        ensures replaced { OnOk result (text self.new.desk.set ≡ take from (text self.old.desk.set) ++ (chars characters.now ++ drop to (text self.old.desk.set))) }
+        ensures counter { OnOk result (next self.new.desk.set ≡ next self.old.desk.set + length (chars characters.now)) }
+        ensures size { OnOk result (size self.new.desk.set ≡ size self.old.desk.set + ((to - from) + length (chars characters.now))) }
+        ensures accepted { OnOk result ((fault : Untyped) → ¬ (IsReplaceRefusal self.old.desk.set (to - from) (length (chars characters.now)) fault)) }
+        ensures fault { IfErr result (IsReplaceRefused self.old.desk.set (to - from) (length (chars characters.now))) }
+        ensures err { OnErr result (self.new ≡ self.old) }
+        ensures unmade { OnErr result (made.new.items ≡ made.old.items) }
+        ensures site { self.new.desk.site ≡ self.old.desk.site }
+        ensures spare { size self.old.desk.set + self.old.desk.spare ≤ size self.new.desk.set + self.new.desk.spare }
+        ensures unpaid { vec_len made.old + ((to - from) + length (chars characters.now)) ≤ vec_capacity made.old
+            → IfErr result (λ fault. fault ≡ TypeFault.Memory → self.old.desk.spare < length (chars characters.now)) }
+        ensures drawn { IsDrawnAlike self.old self.new }
+        ensures window { OnOk result (self.new.window ≡ no_window) }
+    {
+        self.desk.replace(from, to, characters, made)?;
+        self.behind = follow(
+            &self.tables,
+            &mut self.buffer,
+            self.behind,
+            from,
+            to,
+            characters,
+        );
+        self.shown = Shown::nothing();
+        Ok(())
+    }
+
+    /// Draws at another width in columns from now on. Then nothing is shown.
+    pub fn resize(&mut self, width: u16)
+        requires at_least { 2 ≤ width }
+        requires at_most { width ≤ 500 }
+        ensures width { self.new.width ≡ width }
+        ensures base { self.new.base ≡ self.old.base }
+        ensures tables { self.new.tables ≡ self.old.tables }
+        ensures desk { self.new.desk ≡ self.old.desk }
+        ensures window { self.new.window ≡ no_window }
+    {
+        forget_rows(&mut self.buffer);
+        self.width = width;
+        self.shown = Shown::nothing();
+    }
+
+    /// Draws at another base direction from now on. Then nothing is shown.
+    pub fn set_base(&mut self, base: Base)
+        ensures base { self.new.base ≡ base }
+        ensures width { self.new.width ≡ self.old.width }
+        ensures tables { self.new.tables ≡ self.old.tables }
+        ensures desk { self.new.desk ≡ self.old.desk }
+        ensures window { self.new.window ≡ no_window }
+    {
+        forget_rows(&mut self.buffer);
+        self.base = base;
+        self.shown = Shown::nothing();
+    }
+
+    /// Lays out what is not kept of a window: the rows from so many above the row of a place to so many below it, each at
+    /// most 1,000. `window` shows it then. After `Memory` nothing is shown, and the next call goes on from there.
+    pub fn show(&mut self, place: usize, above: usize, below: usize) -> Result<(), Memory>
+        requires place { place ≤ length (visible self.old.desk.set) }
+        requires above { above ≤ 1_000 }
+        requires below { below ≤ 1_000 }
+        ensures window { OnOk result (self.new.window ≡ window_round self.old place above below) }
+        ensures nothing { OnErr result (self.new.window ≡ no_window) }
+        ensures desk { self.new.desk ≡ self.old.desk }
+        ensures drawn { IsDrawnAlike self.old self.new }
+    {
+        self.shown = Shown::nothing();
+        catch_up(
+            self.alloc,
+            &self.tables,
+            &self.desk,
+            &mut self.buffer,
+            self.behind,
+        )?;
+        self.behind = false;
+        let outcome = lay_window_out(
+            self.alloc,
+            &self.tables,
+            self.width,
+            self.base,
+            &mut self.buffer,
+            place,
+            above,
+            below,
+        )?;
+        self.shown = outcome.shown;
+        self.laid = outcome.laid;
+        Ok(())
+    }
+
+    /// What is shown: the window of the last `show`, and none before the first and after a change.
+    #[inline]
+    pub fn window(&self) -> Window<'_>
+        ensures window { result ≡ self.now.window }
+        // Whatever came before, it is none of an older text, nor of another width or base.
+        ensures of_now { IsWindowOf self.now.desk.set self.now.tables self.now.width self.now.base self.now.window }
+    {
+        Window::of(&self.buffer, self.shown)
+    }
+
+    /// How many paragraphs the last `show` that answered Ok laid out, or 0 before the first.
+    #[inline]
+    pub fn laid(&self) -> usize
+        ensures { result ≡ self.now.laid }
+    {
+        self.laid
+    }
+}

@@ -1,0 +1,162 @@
+//! Rows that are kept beside paragraphs.
+
+ghost use Rattle.std.specs.Prelude.{◌≡◌, ◌+◌, ◌≤◌, ◌<◌, ◌⊎◌, ℕ, [], true, All, length, not, get_or, slice_set, slice_range, count_by, IfOk, OnOk, OnErr, if◌then◌else◌};
+ghost use Rattle.bg_types.specs.declared.class.Base.{Base};
+ghost use Rattle.unicode_tables.specs.Tables.{TableValues};
+ghost use Rattle.text_buffer.specs.Buffers.{paragraphs_in};
+ghost use Rattle.live_document.specs.Keeping.{flags, is_kept, rows_at, rows_of_text, rows_of_texts, IsLaid, IsKeptAt, IsMarked};
+
+use crate::laws_below::laws_below;
+use bg_types::{Base, Memory};
+use cell_grid::{Row, rows};
+use std::alloc::Global;
+use text_buffer::Buffer;
+use unicode_tables::Tables;
+
+/// The rows that are kept of a paragraph, counted from its start; none where none are.
+pub fn kept_rows(buffer: &Buffer<Vec<Row>>, number: usize) -> &[Row]
+    requires { number < length buffer.now }
+    ensures { result.now ≡ rows_at buffer.now number }
+{
+    match buffer.kept(number) {
+        Some(rows) => rows.as_slice(),
+        None => &[],
+    }
+}
+
+/// Drops all rows, which others at another width or base direction may stand for then.
+pub fn forget_rows(buffer: &mut Buffer<Vec<Row>>)
+    ensures paragraphs { paragraphs_in buffer.new ≡ paragraphs_in buffer.old }
+    ensures none { (tables : TableValues) (width : ℕ) (base : Base) → All (IsLaid tables width base) buffer.new }
+{
+    buffer.forget_but(0, 0);
+}
+
+/// How many rows a paragraph has, and how many paragraphs it took to lay out: 0 or 1.
+#[derive(Clone, Copy)]
+pub struct LaidOut {
+    pub rows: usize,
+    pub laid: usize,
+}
+
+/// Lays a paragraph out where its rows are not kept, and keeps them.
+pub fn lay_out(
+    alloc: Global,
+    tables: &Tables,
+    width: u16,
+    base: Base,
+    buffer: &mut Buffer<Vec<Row>>,
+    number: usize,
+) -> Result<LaidOut, Memory>
+    requires kept { IsKeptAt tables.now width base buffer.old }
+    requires number { number < length buffer.old }
+    ensures kept { IsKeptAt tables.now width base buffer.new }
+    ensures paragraphs { paragraphs_in buffer.new ≡ paragraphs_in buffer.old }
+    ensures marks { OnOk result (flags buffer.new ≡ slice_set (flags buffer.old) number true) }
+    ensures rows { IfOk result (λ out. out.rows ≡ length (rows_of_text tables.now width base (get_or (paragraphs_in buffer.old) number []))) }
+    ensures few { IfOk result (λ out. out.rows ≤ 4_000_001) }
+    ensures laid { IfOk result (λ out. out.laid ≡ (if is_kept (flags buffer.old) number then 0 else 1)) }
+    ensures err { OnErr result (buffer.new ≡ buffer.old) }
+{
+    laws_below();
+    // The text has no more bytes than it may.
+    let _bytes = buffer.bytes();
+    if let Some(rows) = buffer.kept(number) {
+        return Ok(LaidOut {
+            rows: rows.len(),
+            laid: 0,
+        });
+    }
+    let made = rows(alloc, tables, width, base, &buffer.paragraph(number))?;
+    let rows = made.len();
+    buffer.keep(number, made);
+    Ok(LaidOut { rows, laid: 1 })
+}
+
+/// Paragraphs that a window reaches: up to which number, how many rows they have, and how many of them were laid out.
+#[derive(Clone, Copy)]
+pub struct Reach {
+    pub number: usize,
+    pub rows: usize,
+    pub laid: usize,
+}
+
+/// Lays out the paragraphs in front of one, going up, until they have so many rows or there are no more.
+pub fn reach_up(
+    alloc: Global,
+    tables: &Tables,
+    width: u16,
+    base: Base,
+    buffer: &mut Buffer<Vec<Row>>,
+    number: usize,
+    wanted: usize,
+) -> Result<Reach, Memory>
+    requires kept { IsKeptAt tables.now width base buffer.old }
+    requires number { number ≤ length buffer.old }
+    requires wanted { wanted ≤ 1_000 }
+    ensures kept { IsKeptAt tables.now width base buffer.new }
+    ensures paragraphs { paragraphs_in buffer.new ≡ paragraphs_in buffer.old }
+    ensures order { IfOk result (λ reach. reach.number ≤ number) }
+    ensures marked { IfOk result (λ reach. IsMarked (flags buffer.old) reach.number number (flags buffer.new)) }
+    ensures rows { IfOk result (λ reach. reach.rows ≡ length (rows_of_texts tables.now width base (slice_range (paragraphs_in buffer.old) reach.number number))) }
+    ensures enough { IfOk result (λ reach. (wanted ≤ reach.rows) ⊎ (reach.number ≡ 0)) }
+    ensures few { IfOk result (λ reach. reach.rows ≤ 5_000_000) }
+    ensures laid { IfOk result (λ reach. reach.laid ≡ count_by not (slice_range (flags buffer.old) reach.number number)) }
+    ensures once { IfOk result (λ reach. reach.laid + reach.number ≤ number) }
+{
+    let mut first = number;
+    let mut rows = 0;
+    let mut laid = 0;
+    while first > 0 && rows < wanted {
+        first -= 1;
+        let out = lay_out(alloc, tables, width, base, buffer, first)?;
+        rows += out.rows;
+        laid += out.laid;
+    }
+    Ok(Reach {
+        number: first,
+        rows,
+        laid,
+    })
+}
+
+/// Lays out the paragraphs from one on, going down, until they have so many rows or there are no more.
+pub fn reach_down(
+    alloc: Global,
+    tables: &Tables,
+    width: u16,
+    base: Base,
+    buffer: &mut Buffer<Vec<Row>>,
+    number: usize,
+    wanted: usize,
+) -> Result<Reach, Memory>
+    requires kept { IsKeptAt tables.now width base buffer.old }
+    requires number { number ≤ length buffer.old }
+    requires wanted { wanted ≤ 1_001 }
+    ensures kept { IsKeptAt tables.now width base buffer.new }
+    ensures paragraphs { paragraphs_in buffer.new ≡ paragraphs_in buffer.old }
+    ensures order { IfOk result (λ reach. number ≤ reach.number) }
+    ensures within { IfOk result (λ reach. reach.number ≤ length buffer.old) }
+    ensures marked { IfOk result (λ reach. IsMarked (flags buffer.old) number reach.number (flags buffer.new)) }
+    ensures rows { IfOk result (λ reach. reach.rows ≡ length (rows_of_texts tables.now width base (slice_range (paragraphs_in buffer.old) number reach.number))) }
+    ensures enough { IfOk result (λ reach. (wanted ≤ reach.rows) ⊎ (reach.number ≡ length buffer.old)) }
+    ensures few { IfOk result (λ reach. reach.rows ≤ 5_000_000) }
+    ensures laid { IfOk result (λ reach. reach.laid ≡ count_by not (slice_range (flags buffer.old) number reach.number)) }
+    ensures once { IfOk result (λ reach. reach.laid + number ≤ reach.number) }
+{
+    let count = buffer.paragraph_count();
+    let mut end = number;
+    let mut rows = 0;
+    let mut laid = 0;
+    while end < count && rows < wanted {
+        let out = lay_out(alloc, tables, width, base, buffer, end)?;
+        rows += out.rows;
+        laid += out.laid;
+        end += 1;
+    }
+    Ok(Reach {
+        number: end,
+        rows,
+        laid,
+    })
+}

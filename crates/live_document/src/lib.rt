@@ -1,0 +1,13 @@
+//! A text that a desk edits and that is shown by windows: a keystroke costs what it changes and what is shown.
+#![tactic(auto)]
+
+mod document;
+mod following;
+mod keeping;
+mod laws_below;
+mod showing;
+mod shown;
+mod window;
+
+pub use document::{Desk, Document};
+pub use window::{Window, WindowRow, WindowRows};

@@ -1,0 +1,146 @@
+//! The rows of a window are laid out and kept.
+
+ghost use Rattle.std.specs.Prelude.{◌≡◌, ◌≤◌, ◌<◌, ◌+◌, ◌-◌, true, min, length, not, count_by, slice_range, slice_set, encode_utf8_all, IfOk, if◌then◌else◌};
+ghost use Rattle.cell_grid.specs.Grids.{grid_rows};
+ghost use Rattle.cell_grid.specs.Windows.{window_of};
+ghost use Rattle.text_buffer.specs.Buffers.{paragraphs_in, text_in};
+ghost use Rattle.text_buffer.specs.Edits.{IsParagraphOf};
+ghost use Rattle.live_document.specs.Keeping.{flags, is_kept, IsKeptAt, IsMarked};
+ghost use Rattle.live_document.specs.Showing.{window_in, IsAtHand, IsRowOf};
+
+use crate::keeping::{Reach, kept_rows, lay_out, reach_down, reach_up};
+use crate::laws_below::laws_below;
+use crate::shown::Shown;
+use bg_types::{Base, Memory};
+use caret::row_at;
+use cell_grid::Row;
+use std::alloc::Global;
+use text_buffer::Buffer;
+use unicode_tables::Tables;
+
+/// A window, the number behind that of its last paragraph, and how many paragraphs were laid out for it.
+#[derive(Clone, Copy)]
+pub struct Outcome {
+    pub shown: Shown,
+    pub end: usize,
+    pub laid: usize,
+}
+
+/// The row of a place in its paragraph, which is laid out.
+#[derive(Clone, Copy)]
+pub struct OwnRow {
+    /// The number of the paragraph.
+    pub number: usize,
+    /// Which of its rows has the place.
+    pub row: usize,
+    /// How many rows it has.
+    pub rows: usize,
+    /// How many paragraphs were laid out: 0 or 1.
+    pub laid: usize,
+}
+
+/// Lays out the paragraph of a place, and finds the place's row in it.
+fn own_row(
+    alloc: Global,
+    tables: &Tables,
+    width: u16,
+    base: Base,
+    buffer: &mut Buffer<Vec<Row>>,
+    place: usize,
+) -> Result<OwnRow, Memory>
+    requires kept { IsKeptAt tables.now width base buffer.old }
+    requires place { place ≤ length (text_in buffer.old) }
+    ensures kept { IsKeptAt tables.now width base buffer.new }
+    ensures paragraphs { paragraphs_in buffer.new ≡ paragraphs_in buffer.old }
+    ensures number { IfOk result (λ own. IsParagraphOf (paragraphs_in buffer.old) place own.number) }
+    ensures marks { IfOk result (λ own. flags buffer.new ≡ slice_set (flags buffer.old) own.number true) }
+    ensures row { IfOk result (λ own. IsRowOf tables.now width base (paragraphs_in buffer.old) place own.number own.row own.rows) }
+    ensures few { IfOk result (λ own. own.rows ≤ 4_000_001) }
+    ensures laid { IfOk result (λ own. own.laid ≡ (if is_kept (flags buffer.old) own.number then 0 else 1)) }
+{
+    let number = buffer.paragraph_of(place);
+    let out = lay_out(alloc, tables, width, base, buffer, number)?;
+    laws_below();
+    let _bytes = buffer.bytes();
+    let first_place = buffer.paragraph(number).first_place();
+    let rows = kept_rows(buffer, number);
+    Ok(OwnRow {
+        number,
+        row: row_at(rows, place - first_place),
+        rows: out.rows,
+        laid: out.laid,
+    })
+}
+
+/// Lays out what isn't kept of the window round the row of a place.
+pub fn lay_window_out(
+    alloc: Global,
+    tables: &Tables,
+    width: u16,
+    base: Base,
+    buffer: &mut Buffer<Vec<Row>>,
+    place: usize,
+    above: usize,
+    below: usize,
+) -> Result<Outcome, Memory>
+    requires kept { IsKeptAt tables.now width base buffer.old }
+    requires place { place ≤ length (text_in buffer.old) }
+    requires above { above ≤ 1_000 }
+    requires below { below ≤ 1_000 }
+    ensures kept { IsKeptAt tables.now width base buffer.new }
+    ensures paragraphs { paragraphs_in buffer.new ≡ paragraphs_in buffer.old }
+    ensures window { IfOk result (λ outcome. window_in buffer.new outcome.shown
+        ≡ window_of above below place (grid_rows tables.now width base (encode_utf8_all (text_in buffer.old)))) }
+    ensures at_hand { IfOk result (λ outcome. IsAtHand buffer.new outcome.shown) }
+    ensures within { IfOk result (λ outcome. outcome.end ≤ length buffer.old) }
+    ensures marked { IfOk result (λ outcome. IsMarked (flags buffer.old) outcome.shown.first outcome.end (flags buffer.new)) }
+    ensures laid { IfOk result (λ outcome. outcome.laid ≡ count_by not (slice_range (flags buffer.old) outcome.shown.first outcome.end)) }
+{
+    // There are no more paragraphs than a number can tell.
+    let _count = buffer.paragraph_count();
+    let own = own_row(alloc, tables, width, base, buffer, place)?;
+    let wanted_up = above.saturating_sub(own.row);
+    let wanted_down = (below + own.row + 1).saturating_sub(own.rows);
+    let up = reach_up(alloc, tables, width, base, buffer, own.number, wanted_up)?;
+    let down = reach_down(
+        alloc,
+        tables,
+        width,
+        base,
+        buffer,
+        own.number + 1,
+        wanted_down,
+    )?;
+    laws_below();
+    let _bytes = buffer.bytes();
+    Ok(Outcome {
+        shown: cut_out(up, own, down, above, below),
+        end: down.number,
+        laid: own.laid + up.laid + down.laid,
+    })
+}
+
+/// Where the window stands in the rows of what was reached.
+fn cut_out(up: Reach, own: OwnRow, down: Reach, above: usize, below: usize) -> Shown
+    requires above { above ≤ 1_000 }
+    requires below { below ≤ 1_000 }
+    requires row { own.row < own.rows }
+    requires up { up.rows ≤ 5_000_000 }
+    requires own { own.rows ≤ 4_000_001 }
+    requires down { down.rows ≤ 5_000_000 }
+    ensures first { result.first ≡ up.number }
+    ensures skip { result.skip ≡ up.rows + own.row - above }
+    ensures count { result.count ≡ min (up.rows + (own.rows + down.rows)) (up.rows + own.row + below + 1) - (up.rows + own.row - above) }
+    ensures number { result.number ≡ up.rows + own.row - (up.rows + own.row - above) }
+{
+    let at = up.rows + own.row;
+    let rows = up.rows + (own.rows + down.rows);
+    let skip = at.saturating_sub(above);
+    let end = rows.min(at + below + 1);
+    Shown {
+        first: up.number,
+        skip,
+        count: end - skip,
+        number: at - skip,
+    }
+}

@@ -1,0 +1,250 @@
+//! A window over the rows that a document keeps.
+
+ghost use Rattle.std.specs.Prelude.{◌≡◌, ◌<◌, ℕ, Some, drop, length, slice_get};
+ghost use Rattle.live_document.specs.Keeping.{rows_at};
+ghost use Rattle.live_document.specs.Showing.{rows_from, window_in, IsReadable};
+
+use crate::keeping::kept_rows;
+use crate::laws_below::laws_below;
+use crate::shown::Shown;
+use cell_grid::{Cells, Entry, Row, Span};
+use std::marker::Model;
+use text_buffer::Buffer;
+
+/// The rows round a place, as `Document::show` laid them out. It borrows the document and copies nothing.
+#[derive(Drop)]
+pub struct Window<'a> {
+    buffer: &'a Buffer<Vec<Row>>,
+    shown: Shown,
+}
+
+impl<'a> Model for Window<'a> {
+    ghost use Rattle.cell_grid.specs.Windows.{DrawnWindow};
+
+    ghost Value = { DrawnWindow };
+
+    ghost use Rattle.live_document.specs.Showing.{window_in, IsReadable};
+
+    ghost view = { λ w. window_in w.buffer.now w.shown };
+
+    ghost invariant = { λ w. IsReadable w.buffer.now w.shown.first w.shown.skip w.shown.count };
+}
+
+impl<'a> Window<'a> {
+    pub(crate) fn of(buffer: &'a Buffer<Vec<Row>>, shown: Shown) -> Window<'a>
+        requires { IsReadable buffer.now shown.first shown.skip shown.count }
+        ensures { result ≡ window_in buffer.now shown }
+    {
+        Window { buffer, shown }
+    }
+
+    /// How many rows it has: none before the first `show`, and after a change.
+    #[inline]
+    pub fn len(&self) -> usize
+        ensures { result ≡ length self.now.rows }
+    {
+        self.shown.count
+    }
+
+    /// Which of its rows is the row of the place that was asked for, from 0.
+    #[inline]
+    pub fn number(&self) -> usize
+        ensures { result ≡ self.now.number }
+    {
+        self.shown.number
+    }
+
+    /// Its rows from the top.
+    #[inline]
+    pub fn rows(&self) -> WindowRows<'a>
+        ensures { result ≡ self.now.rows }
+    {
+        WindowRows {
+            buffer: self.buffer,
+            number: self.shown.first,
+            row: self.shown.skip,
+            left: self.shown.count,
+        }
+    }
+}
+
+/// Iterates over the rows of a window, from the top. Takes no memory.
+#[derive(Drop)]
+pub struct WindowRows<'a> {
+    buffer: &'a Buffer<Vec<Row>>,
+    /// The number of the paragraph from which the rows are counted.
+    number: usize,
+    /// How many rows from there on stand above the next one.
+    row: usize,
+    /// How many are still to come.
+    left: usize,
+}
+
+impl<'a> Model for WindowRows<'a> {
+    ghost use Rattle.std.specs.Prelude.{List, take, drop};
+    ghost use Rattle.cell_grid.specs.Rows.{DrawnRow};
+
+    // The rows still to come.
+    ghost Value = { List DrawnRow };
+
+    ghost use Rattle.live_document.specs.Showing.{rows_from, IsReadable};
+
+    ghost view = { λ s. take s.left (drop s.row (rows_from s.buffer.now s.number)) };
+
+    ghost invariant = { λ s. IsReadable s.buffer.now s.number s.row s.left };
+}
+
+impl<'a> Iterator for WindowRows<'a> {
+    ghost use Rattle.std.specs.Iterator.{YieldsFirst, item_count};
+
+    type Item = WindowRow<'a>;
+
+    ghost next_gives = { YieldsFirst (λ left. left) };
+
+    ghost remaining = { item_count (λ left. left) };
+
+    fn next(&mut self) -> Option<WindowRow<'a>> {
+        if self.left == 0 {
+            return None;
+        }
+        let buffer = self.buffer;
+        let spot = spot_of(buffer, self.number, self.row);
+        let row = row_there(buffer, spot);
+        self.number = spot.number;
+        self.row = spot.row + 1;
+        self.left -= 1;
+        Some(row)
+    }
+}
+
+/// A row among those that are kept of a paragraph.
+#[derive(Clone, Copy)]
+struct Spot {
+    number: usize,
+    row: usize,
+}
+
+/// The paragraph in which a row stands that is counted from a paragraph on.
+fn spot_of(buffer: &Buffer<Vec<Row>>, number: usize, row: usize) -> Spot
+    requires { row < length (rows_from buffer.now number) }
+    ensures within { result.number < length buffer.now }
+    ensures inside { result.row < length (rows_at buffer.now result.number) }
+    ensures same { drop result.row (rows_from buffer.now result.number) ≡ drop row (rows_from buffer.now number) }
+{
+    // There are no more paragraphs than a number can tell.
+    let _paragraphs = buffer.paragraph_count();
+    let mut number = number;
+    let mut row = row;
+    let mut count = kept_rows(buffer, number).len();
+    while row >= count {
+        row -= count;
+        number += 1;
+        count = kept_rows(buffer, number).len();
+    }
+    Spot { number, row }
+}
+
+/// The row there, where it stands in the text.
+fn row_there<'a>(buffer: &'a Buffer<Vec<Row>>, spot: Spot) -> WindowRow<'a>
+    requires readable { (left : ℕ) × IsReadable buffer.now spot.number spot.row left }
+    requires within { spot.number < length buffer.now }
+    requires inside { spot.row < length (rows_at buffer.now spot.number) }
+    ensures { slice_get (rows_from buffer.now spot.number) spot.row ≡ Some result }
+{
+    laws_below();
+    let _bytes = buffer.bytes();
+    let para = buffer.paragraph(spot.number);
+    let rows = kept_rows(buffer, spot.number);
+    WindowRow {
+        row: &rows[spot.row],
+        bytes: para.first_byte() as u32,
+        places: para.first_place() as u32,
+    }
+}
+
+/// A row of a window: a row as it is kept, and how many bytes and places stand before its paragraph. Clauses see the row of
+/// the text's grid.
+#[derive(Drop)]
+pub struct WindowRow<'a> {
+    row: &'a Row,
+    bytes: u32,
+    places: u32,
+}
+
+impl<'a> Model for WindowRow<'a> {
+    ghost use Rattle.cell_grid.specs.Rows.{DrawnRow, shifted};
+    ghost use Rattle.cell_grid.specs.Shifting.{MayShiftRow};
+
+    ghost Value = { DrawnRow };
+
+    ghost view = { λ r. shifted r.bytes r.places r.row.now };
+
+    ghost invariant = { λ r. MayShiftRow r.bytes r.places r.row.now };
+}
+
+impl<'a> WindowRow<'a> {
+    /// The place of its first code point. An empty row has its own place.
+    #[inline]
+    pub fn first_place(&self) -> usize
+        ensures { result ≡ self.now.first_place }
+    {
+        self.row.first_place() + self.places as usize
+    }
+
+    /// The place after its last code point, a separator included.
+    #[inline]
+    pub fn last_place(&self) -> usize
+        ensures { result ≡ self.now.last_place }
+    {
+        self.row.last_place() + self.places as usize
+    }
+
+    /// The level of its paragraph, 0 or 1.
+    #[inline]
+    pub fn para_level(&self) -> u8
+        ensures { result ≡ self.now.para_level }
+    {
+        self.row.para_level()
+    }
+
+    /// How many columns it has, each with a cell.
+    #[inline]
+    pub fn width(&self) -> u16
+        ensures { result ≡ length self.now.cells }
+    {
+        self.row.width()
+    }
+
+    /// Its cells from left to right, one for each column.
+    #[inline]
+    pub fn cells(&self) -> Cells<'a>
+        ensures { result ≡ self.now.cells }
+    {
+        self.row.cells()
+    }
+
+    /// How many entries it has, one for each cluster of the line.
+    #[inline]
+    pub fn entry_count(&self) -> usize
+        ensures { result ≡ length self.now.entries }
+    {
+        self.row.entries().len()
+    }
+
+    /// The entry with this number, counted from the left, from 0.
+    pub fn entry(&self, number: usize) -> Entry
+        requires { number < length self.now.entries }
+        ensures { slice_get self.now.entries number ≡ Some result }
+    {
+        let entry = self.row.entries()[number];
+        Entry {
+            span: Span {
+                first_byte: entry.span.first_byte + self.bytes,
+                end_byte: entry.span.end_byte + self.bytes,
+                first_place: entry.span.first_place + self.places,
+                end_place: entry.span.end_place + self.places,
+            },
+            ..entry
+        }
+    }
+}
