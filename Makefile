@@ -1,51 +1,91 @@
-# The C library: make lib, make check-c, make install. What each target does: make help.
+# The C library: make lib, make check-c, make install, make dist. What each target does: make help.
+
+VERSION := $(shell cat VERSION)
+MAJOR := $(firstword $(subst ., ,$(VERSION)))
 
 PREFIX ?= /usr/local
+libdir ?= $(PREFIX)/lib
+includedir ?= $(PREFIX)/include
+docdir ?= $(PREFIX)/share/doc/bidigrid
 DESTDIR ?=
 CC ?= cc
-VERSION = 0.1.0
+CFLAGS ?= -O2
+LDFLAGS ?=
+# The program that check-c compares the library with; where another is named, none is proved for it.
+BIDIGRID ?= build/bin/bidigrid
 
 LIB = build/lib
-SOURCES = crates.txt $(shell find crates -name out -prune -o -type f \( -name '*.rt' -o -name '*.antt' \) -print)
-PKG_CONFIG_FILE = sed -e 's|@PREFIX@|$(PREFIX)|; s|@VERSION@|$(VERSION)|' c/bidigrid.pc.in
+ARCHIVE = $(LIB)/libbidigrid.a
+SHARED = libbidigrid.so.$(VERSION)
+SONAME = libbidigrid.so.$(MAJOR)
+PAGES = C.md C_REFERENCE.md FORMATS.md
 
-.PHONY: help lib check-c install deps clean
+.DELETE_ON_ERROR:
+.PHONY: help lib program check-symbols check-c install uninstall dist deps clean FORCE
 
 help:
-	@echo 'make lib       proves the core and builds build/lib: libbidigrid.a, libbidigrid.so.0, bidigrid.pc'
-	@echo 'make check-c   builds the library and tries it from C'
-	@echo 'make install   copies library and header below PREFIX ($(PREFIX)), or below DESTDIR where it is set'
-	@echo 'make deps      installs the packages of Debian that these need'
-	@echo 'make clean     removes build/'
+	@echo 'make lib         proves the core and builds build/lib: libbidigrid.a and $(SHARED)'
+	@echo 'make program     proves and builds the program, build/bin/bidigrid'
+	@echo 'make check-c     builds both and tries the library from C; with BIDIGRID=FILE it compares with that program, and'
+	@echo '                 proves none'
+	@echo 'make install     copies library, header and pages below PREFIX ($(PREFIX)), or below DESTDIR where it is set;'
+	@echo '                 libdir, includedir and docdir can be set too'
+	@echo 'make uninstall   removes what make install copied'
+	@echo 'make dist        builds both and packs them as build/bidigrid-$(VERSION).tar.gz, which needs no rt'
+	@echo 'make deps        installs the packages of Debian that these need'
+	@echo 'make clean       removes build/'
 
-lib: $(LIB)/libbidigrid.so $(LIB)/bidigrid.pc
+lib: $(LIB)/$(SHARED) $(LIB)/libbidigrid.so check-symbols
 
-# The archive is one object, in which only the exports can be named from outside.
-$(LIB)/libbidigrid.a: $(SOURCES) tools/make-c-archive
-	tools/make-c-archive $@
+program: build/bin/bidigrid
 
-$(LIB)/libbidigrid.so.0: $(LIB)/libbidigrid.a c/bidigrid.map
-	$(CC) -shared -o $@ -Wl,--whole-archive $< -Wl,--no-whole-archive \
-	    -Wl,--version-script=c/bidigrid.map -Wl,-soname,libbidigrid.so.0 -Wl,-z,defs
-	tools/check-symbols $@
+# What is proved is built anew where the contents of its sources changed.
+build/proved/libbidigrid_c.a: FORCE
+	@tools/build-proved bidigrid_c $@
 
-$(LIB)/libbidigrid.so: $(LIB)/libbidigrid.so.0
-	ln -sf libbidigrid.so.0 $@
+build/bin/bidigrid: FORCE
+	@tools/build-proved replay_cli $@
 
-$(LIB)/bidigrid.pc: c/bidigrid.pc.in Makefile
-	mkdir -p $(LIB)
-	$(PKG_CONFIG_FILE) >$@
+# The archive is one object, in which only the calls of the header can be named from outside.
+$(ARCHIVE): build/proved/libbidigrid_c.a include/bidigrid.h tools/make-c-archive tools/make-c-entries
+	CC='$(CC)' CFLAGS='$(CFLAGS)' tools/make-c-archive $@ $<
 
-check-c: lib
-	c/check
+$(LIB)/$(SHARED): $(ARCHIVE) c/bidigrid.map VERSION
+	$(CC) $(CFLAGS) $(LDFLAGS) -shared -o $@ -Wl,--whole-archive $< -Wl,--no-whole-archive \
+	    -Wl,--version-script=c/bidigrid.map -Wl,-soname,$(SONAME) -Wl,-z,defs
+
+$(LIB)/libbidigrid.so: $(LIB)/$(SHARED)
+	ln -sf $(SHARED) $(LIB)/$(SONAME)
+	ln -sf $(SONAME) $@
+
+check-symbols: $(ARCHIVE) $(LIB)/$(SHARED) include/bidigrid.h
+	@tools/check-symbols $(ARCHIVE) $(LIB)/$(SHARED)
+
+check-c: lib $(BIDIGRID)
+	BIDIGRID='$(abspath $(BIDIGRID))' c/check
 
 install: lib
-	install -d $(DESTDIR)$(PREFIX)/include $(DESTDIR)$(PREFIX)/lib/pkgconfig
-	install -m 644 include/bidigrid.h $(DESTDIR)$(PREFIX)/include
-	install -m 644 $(LIB)/libbidigrid.a $(DESTDIR)$(PREFIX)/lib
-	install -m 755 $(LIB)/libbidigrid.so.0 $(DESTDIR)$(PREFIX)/lib
-	ln -sf libbidigrid.so.0 $(DESTDIR)$(PREFIX)/lib/libbidigrid.so
-	$(PKG_CONFIG_FILE) >$(DESTDIR)$(PREFIX)/lib/pkgconfig/bidigrid.pc
+	install -d '$(DESTDIR)$(includedir)' '$(DESTDIR)$(libdir)/pkgconfig' '$(DESTDIR)$(docdir)'
+	install -m 644 include/bidigrid.h '$(DESTDIR)$(includedir)'
+	install -m 644 $(ARCHIVE) '$(DESTDIR)$(libdir)'
+	install -m 755 $(LIB)/$(SHARED) '$(DESTDIR)$(libdir)'
+	ln -sf $(SHARED) '$(DESTDIR)$(libdir)/$(SONAME)'
+	ln -sf $(SONAME) '$(DESTDIR)$(libdir)/libbidigrid.so'
+	sed -e 's|@PREFIX@|$(PREFIX)|; s|@VERSION@|$(VERSION)|; s|@LIBDIR@|$(libdir:$(PREFIX)/%=$${prefix}/%)|' \
+	    -e 's|@INCLUDEDIR@|$(includedir:$(PREFIX)/%=$${prefix}/%)|' c/bidigrid.pc.in \
+	    >'$(DESTDIR)$(libdir)/pkgconfig/bidigrid.pc'
+	install -m 644 $(PAGES:%=docs/%) '$(DESTDIR)$(docdir)'
+
+uninstall:
+	rm -f '$(DESTDIR)$(includedir)/bidigrid.h' '$(DESTDIR)$(libdir)/libbidigrid.a' '$(DESTDIR)$(libdir)/$(SHARED)' \
+	    '$(DESTDIR)$(libdir)/$(SONAME)' '$(DESTDIR)$(libdir)/libbidigrid.so' \
+	    '$(DESTDIR)$(libdir)/pkgconfig/bidigrid.pc'
+	rm -f $(PAGES:%='$(DESTDIR)$(docdir)/%')
+	[ ! -d '$(DESTDIR)$(docdir)' ] || rmdir --ignore-fail-on-non-empty '$(DESTDIR)$(docdir)'
+
+dist: lib program
+	tools/make-dist build/bidigrid-$(VERSION).tar.gz
+	c/try-dist build/bidigrid-$(VERSION).tar.gz
 
 # As Debian 12 names them.
 deps:

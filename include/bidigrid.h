@@ -7,21 +7,34 @@
  *
  * Handles. A handle begins as { 0 }, BIDIGRID_NONE, and is passed by its address. `new` fills it, `free` empties it;
  * a handle that is empty may be freed again, and one that is full may be made anew, which frees what it held. Don't
- * copy a handle, and don't touch what `held` points to.
+ * copy a handle, and don't touch what `held` points to. NULL may be freed too.
  *
- * Answers. Each call but `free` answers 0, BIDIGRID_OK, or the number of a fault. After a fault each handle holds what
- * it held before, where the call doesn't say more.
+ * Answers. Each call whose result is a uint32_t answers 0, BIDIGRID_OK, or the number of a fault; bidigrid_version
+ * alone answers its number. After a fault each handle holds what it held before, where the call doesn't say more, and
+ * one that was empty is empty.
+ *
+ * Out values. What a call tells it writes on every way out: the answer, or zeros after a fault. NULL may be passed
+ * for what isn't wanted. A caret that is moved is read first; it stays as it was after a fault.
  *
  * Buffers. A call that writes bytes is given a buffer and its length, and tells in `*size` how many bytes there are.
- * Where the buffer is too short nothing is written, and the answer is BIDIGRID_SHORT_BUFFER; so ask with NULL and 0
- * first. What is read may also be NULL where its length is 0.
+ * Where the buffer is too short nothing is written, and the answer is BIDIGRID_FAULT_SHORT_BUFFER with the size that
+ * is wanted; so ask with NULL and 0 first. Where there are no bytes at all, as of an empty text, that is answered
+ * with BIDIGRID_OK and 0. After every other fault the size is 0. What is read may also be NULL where its length is 0.
  *
  * Places count code points from 0, rows from the top, columns and entries from the left; bytes count bytes of UTF-8.
+ * Numbers aren't narrowed on their way in: a width, a base or a site out of range is a fault.
  *
- * What the library can't see is up to you. Every other pointer leads to what its type says, and is not NULL. What one
- * call is given doesn't overlap, but for bytes that are only read; so one handle is not passed twice. A handle is in
- * one call at a time, and so are tables together with all pictures that were drawn by them: keep these on one thread,
- * or under one lock. No call comes from a signal handler. malloc, realloc and free are those of one allocator.
+ * What the library can't see is up to you:
+ * - Every other pointer leads to what its type says, and is not NULL; what it leads to need not have been written,
+ *   where the library only writes. A bool is 0 or 1.
+ * - What one call is given doesn't overlap, but for bytes that are only read. The one handle that may be passed twice
+ *   is that of a desk which is merged with itself.
+ * - A handle, and tables together with all pictures that were drawn by them, stay on the thread that made them: no
+ *   lock makes it safe to use them from another one. A call empties its handles for its time, those that only read
+ *   too, though they take const handles: a handle itself must not be const.
+ * - No call comes from a signal handler, or in the child of a fork of a process that had more threads than one.
+ * - malloc, realloc and free are those of one allocator, which aligns what it gives to 16 bytes; a size_t has 64
+ *   bits.
  */
 #ifndef BIDIGRID_H
 #define BIDIGRID_H
@@ -36,56 +49,69 @@ extern "C" {
 
 #define BIDIGRID_NONE { 0 }
 
-/* The greatest text that is drawn, in bytes, and the widths in columns. */
-#define BIDIGRID_MOST_BYTES 4000000
-#define BIDIGRID_LEAST_WIDTH 2
-#define BIDIGRID_MOST_WIDTH 500
+/* The widths, in columns; the longest text that is drawn, and the longest message that is read, in bytes; the greatest
+ * site; and the most operations that a desk keeps, deletions included. */
+#define BIDIGRID_MIN_WIDTH 2
+#define BIDIGRID_MAX_WIDTH 500
+#define BIDIGRID_MAX_TEXT_SIZE 4000000
+#define BIDIGRID_MAX_MESSAGE_SIZE 67108864
+#define BIDIGRID_MAX_SITE 65535
+#define BIDIGRID_MAX_OPERATIONS 1000000
 
 /* What the calls answer. */
 enum {
     BIDIGRID_OK = 0,
-    BIDIGRID_MEMORY = 9,               /* malloc or realloc answered NULL */
-    BIDIGRID_EMPTY_HANDLE = 101,       /* a handle holds nothing */
-    BIDIGRID_SHORT_BUFFER = 102,       /* the buffer is too short; *size tells what is wanted */
-    BIDIGRID_NOT_UTF8 = 103,           /* the text's bytes are not UTF-8 */
-    BIDIGRID_TEXT_TOO_LONG = 104,      /* the text has more than BIDIGRID_MOST_BYTES */
-    BIDIGRID_BAD_WIDTH = 105,          /* the width is not BIDIGRID_LEAST_WIDTH to BIDIGRID_MOST_WIDTH */
-    BIDIGRID_BAD_BASE = 106,           /* the base is none of the three */
-    BIDIGRID_BAD_PLACE = 107,          /* the place lies behind the text's end */
-    BIDIGRID_BAD_ROW = 108,            /* there is no such row */
-    BIDIGRID_BAD_ENTRY = 109,          /* the row has no such entry */
-    BIDIGRID_BAD_CARET = 110,          /* the picture has no such row, or the row no such gap */
-    BIDIGRID_BAD_CHARACTER = 111,      /* the character is no Unicode scalar */
-    BIDIGRID_BAD_SITE = 112,           /* the site is 0 */
-    BIDIGRID_BAD_IDENTIFIER = 113,     /* the identifier's counter or site is 0 */
-    BIDIGRID_NOT_PLACED = 114,         /* the desk has no such character yet */
-    BIDIGRID_TOO_MANY = 115,           /* more than BIDIGRID_MOST_OPERATIONS */
-    BIDIGRID_IDENTIFIER_REUSED = 201,  /* an operation: its identifier is kept with another parent or character */
-    BIDIGRID_FULL = 202,               /* more than BIDIGRID_MOST_OPERATIONS would be kept */
-    BIDIGRID_COUNTER_SPENT = 203,      /* the next counter is above 4294967295 */
-    BIDIGRID_BAD_MAGIC = 301,          /* a message: it begins with other bytes than BGOP */
-    BIDIGRID_BAD_VERSION = 302,        /* a version other than 1 and 2 */
-    BIDIGRID_TRUNCATED = 303,          /* a byte is missing */
-    BIDIGRID_UNKNOWN_KIND = 304,       /* a frame of another kind */
-    BIDIGRID_BAD_LENGTH = 305,         /* a length that isn't that of its kind */
-    BIDIGRID_ZERO_FIELD = 306,         /* a counter or a site is 0 */
-    BIDIGRID_PARENT_NOT_BEFORE = 307,  /* the parent's counter isn't below the insertion's */
-    BIDIGRID_NOT_A_SCALAR = 308,       /* a character that is no Unicode scalar */
-    BIDIGRID_COUNTER_OVERFLOW = 310,   /* the last counter of a run is above 4294967295 */
-    BIDIGRID_NOT_JOINED = 311,         /* an insertion that belongs to the run before it */
-    BIDIGRID_BAD_UTF8 = 401,           /* a data file: bytes that are not UTF-8 */
-    BIDIGRID_BAD_CODE = 402,           /* a code that is none */
-    BIDIGRID_BAD_RANGE = 403,          /* a range whose first code is above its last */
-    BIDIGRID_MISSING_FIELD = 404,      /* a field is missing or empty */
-    BIDIGRID_UNKNOWN_VALUE = 405       /* a value that the file may not have */
+    BIDIGRID_FAULT_MEMORY = 9,               /* malloc or realloc answered NULL */
+    BIDIGRID_FAULT_EMPTY_HANDLE = 101,       /* a handle holds nothing */
+    BIDIGRID_FAULT_SHORT_BUFFER = 102,       /* the buffer is too short; what is wanted is told */
+    BIDIGRID_FAULT_NOT_UTF8 = 103,           /* the text's bytes are not UTF-8 */
+    BIDIGRID_FAULT_TEXT_TOO_LONG = 104,      /* the text has more than BIDIGRID_MAX_TEXT_SIZE bytes */
+    BIDIGRID_FAULT_BAD_WIDTH = 105,          /* the width is not BIDIGRID_MIN_WIDTH to BIDIGRID_MAX_WIDTH */
+    BIDIGRID_FAULT_BAD_BASE = 106,           /* the base is none of the three */
+    BIDIGRID_FAULT_BAD_PLACE = 107,          /* the place lies behind the text's end, or behind where it should end */
+    BIDIGRID_FAULT_BAD_ROW = 108,            /* there is no such row */
+    BIDIGRID_FAULT_BAD_ENTRY = 109,          /* the row has no such entry */
+    BIDIGRID_FAULT_BAD_CARET = 110,          /* the picture has no such row, or the row no such gap */
+    BIDIGRID_FAULT_BAD_CHARACTER = 111,      /* the character is no Unicode scalar */
+    BIDIGRID_FAULT_BAD_SITE = 112,           /* the site is not 1 to BIDIGRID_MAX_SITE */
+    BIDIGRID_FAULT_BAD_IDENTIFIER = 113,     /* the identifier's counter is 0, or its site none */
+    BIDIGRID_FAULT_NOT_PLACED = 114,         /* the desk has no such character yet */
+    BIDIGRID_FAULT_TOO_MANY = 115,           /* more than BIDIGRID_MAX_OPERATIONS */
+    BIDIGRID_FAULT_MESSAGE_TOO_LONG = 116,   /* a message: more than BIDIGRID_MAX_MESSAGE_SIZE bytes; it is not read */
+    BIDIGRID_FAULT_IDENTIFIER_REUSED = 201,  /* an operation: its identifier is kept with another parent or character */
+    BIDIGRID_FAULT_FULL = 202,               /* more than BIDIGRID_MAX_OPERATIONS would be kept */
+    BIDIGRID_FAULT_COUNTER_SPENT = 203,      /* the next counter is above 4294967295 */
+    BIDIGRID_FAULT_BAD_MAGIC = 301,          /* a message: it begins with other bytes than BGOP */
+    BIDIGRID_FAULT_BAD_VERSION = 302,        /* a version other than 1 and 2 */
+    BIDIGRID_FAULT_TRUNCATED = 303,          /* a byte is missing */
+    BIDIGRID_FAULT_UNKNOWN_KIND = 304,       /* a frame of another kind */
+    BIDIGRID_FAULT_BAD_LENGTH = 305,         /* a length that isn't that of its kind */
+    BIDIGRID_FAULT_ZERO_FIELD = 306,         /* a counter or a site is 0 */
+    BIDIGRID_FAULT_PARENT_NOT_BEFORE = 307,  /* the parent's counter isn't below the insertion's */
+    BIDIGRID_FAULT_NOT_A_SCALAR = 308,       /* a character that is no Unicode scalar */
+    BIDIGRID_FAULT_COUNTER_OVERFLOW = 310,   /* the last counter of a run is above 4294967295 */
+    BIDIGRID_FAULT_NOT_JOINED = 311,         /* an insertion that belongs to the run before it */
+    BIDIGRID_FAULT_BAD_UTF8 = 401,           /* a data file: bytes that are not UTF-8 */
+    BIDIGRID_FAULT_BAD_CODE = 402,           /* a code that is none */
+    BIDIGRID_FAULT_BAD_RANGE = 403,          /* a range whose first code is above its last */
+    BIDIGRID_FAULT_MISSING_FIELD = 404,      /* a field is missing or empty */
+    BIDIGRID_FAULT_UNKNOWN_VALUE = 405       /* a value that the file may not have */
 };
 
-/* The version: 10000 * major + 100 * minor + patch. */
-#define BIDIGRID_VERSION 100
-uint32_t bidigrid_version(void);
+/* The name of an answer, as "ShortBuffer", "Ok" of BIDIGRID_OK and "Unknown" of what no call answers: at most 32 bytes
+ * with the zero at its end. It is there for good, and is not to be freed. */
+const char *bidigrid_fault_name(uint32_t answer);
 
-/* The name of an answer in ASCII, as "ShortBuffer", without a zero at its end: at most 32 bytes. */
-uint32_t bidigrid_fault_name(uint32_t answer, uint8_t *name, size_t room, size_t *size);
+/* The version of this header, and that of the Unicode Standard which it lays out by. */
+#define BIDIGRID_VERSION_MAJOR 0
+#define BIDIGRID_VERSION_MINOR 1
+#define BIDIGRID_VERSION_PATCH 0
+#define BIDIGRID_VERSION_STRING "0.1.0"
+#define BIDIGRID_VERSION (10000 * BIDIGRID_VERSION_MAJOR + 100 * BIDIGRID_VERSION_MINOR + BIDIGRID_VERSION_PATCH)
+#define BIDIGRID_UNICODE_VERSION "15.0"
+
+/* The version of the library, by which BIDIGRID_VERSION counts. */
+uint32_t bidigrid_version(void);
 
 /* ---- Tables ---- */
 
@@ -97,19 +123,32 @@ typedef struct bidigrid_tables {
  * wide or narrow. It reads the files that come inside the library, so make them once. */
 uint32_t bidigrid_tables_unicode(bidigrid_tables *out, bool wide_ambiguous);
 
-/* Where a data file is faulty: its number, 1 to 5 as they are passed, and the line from 1; else 0 and 0. */
+/* Bytes that are only read. */
+typedef struct bidigrid_bytes {
+    const void *bytes;
+    size_t size;
+} bidigrid_bytes;
+
+/* The five data files, by their places in the list that is handed in: DerivedBidiClass.txt, BidiBrackets.txt,
+ * BidiMirroring.txt, LineBreak.txt and EastAsianWidth.txt. */
+enum {
+    BIDIGRID_DATA_BIDI_CLASS = 0,
+    BIDIGRID_DATA_BRACKETS = 1,
+    BIDIGRID_DATA_MIRRORING = 2,
+    BIDIGRID_DATA_LINE_BREAK = 3,
+    BIDIGRID_DATA_EAST_ASIAN_WIDTH = 4,
+    BIDIGRID_DATA_FILES = 5
+};
+
+/* Where a data file is faulty: one more than its place in the list, and the line from 1; else 0 and 0. */
 typedef struct bidigrid_data_fault {
     size_t line;
     uint32_t file;
 } bidigrid_data_fault;
 
-/* The tables of your own DerivedBidiClass.txt, BidiBrackets.txt, BidiMirroring.txt, LineBreak.txt and
- * EastAsianWidth.txt, of which the bytes are passed. A fault of theirs is 401 to 405, and `*fault` tells where. */
-uint32_t bidigrid_tables_new(bidigrid_tables *out, const uint8_t *bidi_class, size_t bidi_class_size,
-                             const uint8_t *brackets, size_t brackets_size, const uint8_t *mirroring,
-                             size_t mirroring_size, const uint8_t *line_break, size_t line_break_size,
-                             const uint8_t *east_asian_width, size_t east_asian_width_size, bool wide_ambiguous,
-                             bidigrid_data_fault *fault);
+/* The tables of your own data files. A fault of theirs is 401 to 405, and `*fault` tells where. */
+uint32_t bidigrid_tables_new(bidigrid_tables *out, const bidigrid_bytes files[BIDIGRID_DATA_FILES],
+                             bool wide_ambiguous, bidigrid_data_fault *fault);
 
 /* Pictures that were drawn by the tables keep them. */
 void bidigrid_tables_free(bidigrid_tables *tables);
@@ -121,46 +160,55 @@ typedef struct bidigrid_picture {
 } bidigrid_picture;
 
 /* The direction of each paragraph: by its first strong letter, left to right, or right to left. */
-enum { BIDIGRID_AUTO = 0, BIDIGRID_LEFT_TO_RIGHT = 1, BIDIGRID_RIGHT_TO_LEFT = 2 };
+enum { BIDIGRID_BASE_AUTO = 0, BIDIGRID_BASE_LEFT_TO_RIGHT = 1, BIDIGRID_BASE_RIGHT_TO_LEFT = 2 };
 
 /* Lays a text in UTF-8 out in rows of `width` columns. The picture keeps a copy of the text, and its share in the
  * tables. */
-uint32_t bidigrid_picture_new(bidigrid_picture *out, bidigrid_tables *tables, uint16_t width, uint8_t base,
-                              const uint8_t *text, size_t text_size);
+uint32_t bidigrid_picture_new(bidigrid_picture *out, const bidigrid_tables *tables, uint32_t width, uint32_t base,
+                              const char *text, size_t text_size);
 void bidigrid_picture_free(bidigrid_picture *picture);
 
 /* How many rows there are, at least one. */
-uint32_t bidigrid_picture_rows(bidigrid_picture *picture, size_t *rows);
+uint32_t bidigrid_picture_rows(const bidigrid_picture *picture, size_t *rows);
 
 typedef struct bidigrid_row {
     size_t first_place; /* the place of its first code point */
     size_t last_place;  /* the place behind its last one, a line feed included */
     size_t entries;     /* how many entries it has */
     size_t column;      /* the column where they begin */
-    uint8_t level;      /* of its paragraph: 0 from left to right, 1 from right to left */
+    uint32_t level;     /* of its paragraph: 0 from left to right, 1 from right to left */
 } bidigrid_row;
 
-uint32_t bidigrid_picture_row(bidigrid_picture *picture, size_t row, bidigrid_row *out);
+uint32_t bidigrid_picture_row(const bidigrid_picture *picture, size_t row, bidigrid_row *out);
 
-/* An entry is a cluster, as a letter with its marks, where it is seen. Its bytes and places are those of the text. */
+/* An entry is a cluster, as a letter with its marks, where it is seen. Its bytes and places are those of the text:
+ * what is shown of it, mirrored where its level is odd, as ( for ), stands in the row's print. There each column
+ * before the first entry is one space; an entry without columns has nothing; one that begins with a tab has a space
+ * for each column; and any other has as many code points as places. */
 typedef struct bidigrid_entry {
     uint32_t first_byte;
     uint32_t end_byte;
     uint32_t first_place;
     uint32_t end_place;
-    uint16_t column; /* of its first cell */
-    uint8_t level;   /* odd: read from right to left */
-    uint8_t columns; /* 0 to 2 cells */
+    uint32_t column;  /* of its first cell */
+    uint32_t level;   /* odd: read from right to left */
+    uint32_t columns; /* 0 to 2 cells */
 } bidigrid_entry;
 
-uint32_t bidigrid_picture_entry(bidigrid_picture *picture, size_t row, size_t entry, bidigrid_entry *out);
+uint32_t bidigrid_picture_entry(const bidigrid_picture *picture, size_t row, size_t entry, bidigrid_entry *out);
+
+/* All entries of a row from left to right, into a list with room for as many as `room` says. How many there are is
+ * told, also where the answer is BIDIGRID_FAULT_SHORT_BUFFER and nothing was written. */
+uint32_t bidigrid_picture_entries(const bidigrid_picture *picture, size_t row, bidigrid_entry *entries, size_t room,
+                                  size_t *count);
 
 /* The cells of a row from left to right in UTF-8, mirrored where they are read from right to left, and a line feed.
  * Show them as they stand: a terminal that reorders Hebrew and Arabic by itself has to be told not to. */
-uint32_t bidigrid_picture_row_print(bidigrid_picture *picture, size_t row, uint8_t *out, size_t room, size_t *size);
+uint32_t bidigrid_picture_row_print(const bidigrid_picture *picture, size_t row, char *out, size_t room,
+                                    size_t *size);
 
-/* The same of all rows. */
-uint32_t bidigrid_picture_print(bidigrid_picture *picture, uint8_t *out, size_t room, size_t *size);
+/* The same of all rows, a whole screen in one call. */
+uint32_t bidigrid_picture_print(const bidigrid_picture *picture, char *out, size_t room, size_t *size);
 
 /* A caret stands in a gap of a row: gap g left of entry g, the last gap right of the last entry. Its place is where
  * the next character goes. */
@@ -170,18 +218,18 @@ typedef struct bidigrid_caret {
     size_t place;
 } bidigrid_caret;
 
-/* The caret at a place, 0 to the text's length. */
-uint32_t bidigrid_picture_caret(bidigrid_picture *picture, size_t place, bidigrid_caret *out);
+/* The caret at a place, 0 to the text's length; where the place lies inside a cluster, at the cluster's first place. */
+uint32_t bidigrid_caret_at(const bidigrid_picture *picture, size_t place, bidigrid_caret *out);
 
-/* The caret where a mouse points: in this row, the last gap that isn't right of the column. */
-uint32_t bidigrid_picture_caret_under(bidigrid_picture *picture, size_t row, size_t column, bidigrid_caret *out);
+/* The caret where a mouse points: in this row, the last gap that isn't right of the column; gap 0 where all are. */
+uint32_t bidigrid_caret_under(const bidigrid_picture *picture, size_t row, size_t column, bidigrid_caret *out);
 
-/* Moves a caret one step as the eye sees it; at an end of the text it stays. Its row and gap decide, and its place is
- * told anew. */
-uint32_t bidigrid_picture_right(bidigrid_picture *picture, bidigrid_caret *caret);
-uint32_t bidigrid_picture_left(bidigrid_picture *picture, bidigrid_caret *caret);
-uint32_t bidigrid_picture_up(bidigrid_picture *picture, bidigrid_caret *caret);
-uint32_t bidigrid_picture_down(bidigrid_picture *picture, bidigrid_caret *caret);
+/* Moves a caret one step as the eye sees it. Its row and gap decide. Where there is no further step, at an end of the
+ * text, at the first row or at the last one, it stays all as it is, a wrong place included. */
+uint32_t bidigrid_caret_right(const bidigrid_picture *picture, bidigrid_caret *caret);
+uint32_t bidigrid_caret_left(const bidigrid_picture *picture, bidigrid_caret *caret);
+uint32_t bidigrid_caret_up(const bidigrid_picture *picture, bidigrid_caret *caret);
+uint32_t bidigrid_caret_down(const bidigrid_picture *picture, bidigrid_caret *caret);
 
 /* ---- Desks ---- */
 
@@ -192,35 +240,6 @@ typedef struct bidigrid_desk {
     struct bidigrid_opaque *held;
 } bidigrid_desk;
 
-/* The most operations that a desk keeps. */
-#define BIDIGRID_MOST_OPERATIONS 1000000
-
-/* A desk without operations. No two desks of a text may have the same site, 1 to 65535. The key, 16 bytes, is that of
- * its hash tables: where others choose what is taken, draw it at random. */
-uint32_t bidigrid_desk_new(bidigrid_desk *out, uint16_t site, uint64_t key_high, uint64_t key_low);
-void bidigrid_desk_free(bidigrid_desk *desk);
-
-/* How many bytes the message of one character has. */
-#define BIDIGRID_TYPED_SIZE 24
-#define BIDIGRID_ERASED_SIZE 14
-
-/* Types a character, a Unicode scalar, at a place, 0 to the text's length, and writes the message to send. After
- * BIDIGRID_SHORT_BUFFER nothing was typed. */
-uint32_t bidigrid_desk_type(bidigrid_desk *desk, size_t place, uint32_t character, uint8_t *message, size_t room,
-                            size_t *size);
-
-/* Erases the character at a place, and writes the message to send. */
-uint32_t bidigrid_desk_erase(bidigrid_desk *desk, size_t place, uint8_t *message, size_t room, size_t *size);
-
-/* How many bytes the message has that erases and types so many characters. */
-#define BIDIGRID_REPLACED_SIZE(erased, typed) (5 + 9 * (size_t)(erased) + 19 * (size_t)(typed))
-
-/* Erases the characters from one place up to another, which is left out, types a text in UTF-8 where they began, and
- * writes the message to send: all of it, or nothing. Where the places are the same it only types; where the text is
- * empty it only erases. */
-uint32_t bidigrid_desk_replace(bidigrid_desk *desk, size_t from, size_t to, const uint8_t *text, size_t text_size,
-                               uint8_t *message, size_t room, size_t *size);
-
 /* What became of a message: how many operations it has, and how many of them were taken; or its faulty frame, counted
  * from 1, or 0 for its header. */
 typedef struct bidigrid_taken {
@@ -229,37 +248,77 @@ typedef struct bidigrid_taken {
     size_t frame;
 } bidigrid_taken;
 
-/* Takes a message, an operation file of any version (docs/FORMATS.md). Its bytes are read whole first: a fault in them,
+/* A desk without operations. No two desks of a text may have the same site, 1 to BIDIGRID_MAX_SITE. The key, 16
+ * bytes, is that of its hash tables: where others choose what is taken, draw it at random. */
+uint32_t bidigrid_desk_new(bidigrid_desk *out, uint32_t site, uint64_t key_high, uint64_t key_low);
+
+/* A desk that goes on from a file which bidigrid_desk_file wrote, as `new` and then `take`; after a fault it is not
+ * made. Under its own site it types on behind its last counter. So a site is reopened from a file that holds all
+ * messages of its own that went out: from an older one it would give identifiers twice, and others would answer
+ * BIDIGRID_FAULT_IDENTIFIER_REUSED for good. Save before you send, or take a new site. */
+uint32_t bidigrid_desk_open(bidigrid_desk *out, uint32_t site, uint64_t key_high, uint64_t key_low,
+                            const uint8_t *file, size_t file_size, bidigrid_taken *told);
+void bidigrid_desk_free(bidigrid_desk *desk);
+
+/* How many bytes the message has that types one character, or erases one. */
+#define BIDIGRID_TYPED_SIZE 24
+#define BIDIGRID_ERASED_SIZE 14
+
+/* How many bytes the message has that erases and types so many characters. */
+#define BIDIGRID_REPLACED_SIZE(erased, typed) (5 + 9 * (size_t)(erased) + 19 * (size_t)(typed))
+
+/* Types a character, a Unicode scalar, at a place, 0 to the text's length, and writes the message to send. After
+ * BIDIGRID_FAULT_SHORT_BUFFER nothing was typed. While an operation is spare it takes no memory. */
+uint32_t bidigrid_desk_type(bidigrid_desk *desk, size_t place, uint32_t character, uint8_t *message, size_t room,
+                            size_t *size);
+
+/* Types a text in UTF-8 at a place, and writes the message to send: all of it, or nothing. */
+uint32_t bidigrid_desk_insert(bidigrid_desk *desk, size_t place, const char *text, size_t text_size,
+                              uint8_t *message, size_t room, size_t *size);
+
+/* Erases the characters from one place up to another, which is left out, and writes the message to send: all of it, or
+ * nothing. Erasing one takes no memory. */
+uint32_t bidigrid_desk_erase(bidigrid_desk *desk, size_t from, size_t to, uint8_t *message, size_t room,
+                             size_t *size);
+
+/* Erases the characters from one place up to another, types a text in UTF-8 where they began, and writes the
+ * message to send: all of it, or nothing. */
+uint32_t bidigrid_desk_replace(bidigrid_desk *desk, size_t from, size_t to, const char *text, size_t text_size,
+                               uint8_t *message, size_t room, size_t *size);
+
+/* Takes a message, an operation file of any version (FORMATS.md). Its bytes are read whole first: a fault in them,
  * 301 to 311, changes nothing. Then its operations are taken in order; the first that is refused ends it, and those
  * before it stand. A message may come again, and before those that it builds on. */
 uint32_t bidigrid_desk_take(bidigrid_desk *desk, const uint8_t *message, size_t message_size, bidigrid_taken *told);
 
-/* Takes all that another desk holds. After BIDIGRID_IDENTIFIER_REUSED nothing has changed; after BIDIGRID_FULL and
- * BIDIGRID_MEMORY some of it is taken. */
-uint32_t bidigrid_desk_merge(bidigrid_desk *desk, bidigrid_desk *other);
+/* Takes all that another desk holds; a desk that is merged with itself stays as it is. After
+ * BIDIGRID_FAULT_IDENTIFIER_REUSED nothing has changed; after BIDIGRID_FAULT_FULL and BIDIGRID_FAULT_MEMORY some of
+ * it is taken. */
+uint32_t bidigrid_desk_merge(bidigrid_desk *desk, const bidigrid_desk *other);
 
-/* Pays in advance for new operations, at most BIDIGRID_MOST_OPERATIONS. While one is spare, typing, erasing and taking
- * one need no memory but that of the message. */
+/* Pays in advance for new operations, at most BIDIGRID_MAX_OPERATIONS, also at a desk that has no room for as many.
+ * While one is spare, typing a character needs no memory, nor does taking an operation but that for reading its
+ * message. */
 uint32_t bidigrid_desk_reserve(bidigrid_desk *desk, size_t operations);
 
 /* The text in UTF-8, and how many characters it has. */
-uint32_t bidigrid_desk_text(bidigrid_desk *desk, uint8_t *out, size_t room, size_t *size);
-uint32_t bidigrid_desk_length(bidigrid_desk *desk, size_t *places);
+uint32_t bidigrid_desk_text(const bidigrid_desk *desk, char *out, size_t room, size_t *size);
+uint32_t bidigrid_desk_length(const bidigrid_desk *desk, size_t *places);
 
 /* All that the desk holds, as a message: to save it, or for a desk that is new. */
-uint32_t bidigrid_desk_file(bidigrid_desk *desk, uint8_t *out, size_t room, size_t *size);
+uint32_t bidigrid_desk_file(const bidigrid_desk *desk, uint8_t *out, size_t room, size_t *size);
 
 /* An identifier names one character for good, at every desk: a place changes when something is typed before it, its
  * identifier doesn't. */
 typedef struct bidigrid_id {
     uint32_t counter;
-    uint16_t site;
+    uint32_t site;
 } bidigrid_id;
 
-uint32_t bidigrid_desk_id_at(bidigrid_desk *desk, size_t place, bidigrid_id *out);
+uint32_t bidigrid_desk_id_at(const bidigrid_desk *desk, size_t place, bidigrid_id *out);
 
 /* The place of a character by its identifier; where it was erased, the place where it stood. */
-uint32_t bidigrid_desk_place_of(bidigrid_desk *desk, const bidigrid_id *id, size_t *place);
+uint32_t bidigrid_desk_place_of(const bidigrid_desk *desk, const bidigrid_id *id, size_t *place);
 
 #ifdef __cplusplus
 }

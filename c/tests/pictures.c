@@ -3,7 +3,7 @@
 
 typedef struct print_row {
     const char *text;
-    uint16_t width;
+    uint32_t width;
     const char *print;
 } print_row;
 
@@ -24,29 +24,29 @@ static const print_row PRINTS[] = {
     {"\u062712", 4, " 12\u0627\n"},
 };
 
-static bidigrid_picture drawn(bidigrid_tables *tables, uint16_t width, uint8_t base, const char *text)
+static bidigrid_picture drawn(bidigrid_tables *tables, uint32_t width, uint32_t base, const char *text)
 {
     bidigrid_picture picture = BIDIGRID_NONE;
-    CHECK(bidigrid_picture_new(&picture, tables, width, base, utf8(text), strlen(text)) == BIDIGRID_OK);
+    CHECK(bidigrid_picture_new(&picture, tables, width, base, text, strlen(text)) == BIDIGRID_OK);
     return picture;
 }
 
 static void tries_prints(bidigrid_tables *tables)
 {
     for (size_t i = 0; i < sizeof PRINTS / sizeof *PRINTS; i++) {
-        bidigrid_picture picture = drawn(tables, PRINTS[i].width, BIDIGRID_AUTO, PRINTS[i].text);
-        uint8_t out[64];
+        bidigrid_picture picture = drawn(tables, PRINTS[i].width, BIDIGRID_BASE_AUTO, PRINTS[i].text);
+        char out[64];
         size_t size = 0;
         CHECK(bidigrid_picture_print(&picture, out, sizeof out, &size) == BIDIGRID_OK);
         if (!is_text(out, size, PRINTS[i].print)) {
-            fprintf(stderr, "row %zu: %.*s", i, (int)size, (const char *)out);
+            fprintf(stderr, "row %zu: %.*s", i, (int)size, out);
             exit(1);
         }
         /* The rows one by one are the whole. */
         size_t rows = 0, at = 0;
         CHECK(bidigrid_picture_rows(&picture, &rows) == BIDIGRID_OK);
         for (size_t row = 0; row < rows; row++) {
-            uint8_t line[64];
+            char line[64];
             size_t length = 0;
             CHECK(bidigrid_picture_row_print(&picture, row, line, sizeof line, &length) == BIDIGRID_OK);
             CHECK(at + length <= size && !memcmp(line, out + at, length));
@@ -59,28 +59,28 @@ static void tries_prints(bidigrid_tables *tables)
 
 static void tries_buffers(bidigrid_tables *tables)
 {
-    bidigrid_picture picture = drawn(tables, 4, BIDIGRID_AUTO, "ab\ncd");
+    bidigrid_picture picture = drawn(tables, 4, BIDIGRID_BASE_AUTO, "ab\ncd");
     size_t size = 0;
-    CHECK(bidigrid_picture_print(&picture, NULL, 0, &size) == BIDIGRID_SHORT_BUFFER && size == 10);
-    uint8_t out[12];
+    CHECK(bidigrid_picture_print(&picture, NULL, 0, &size) == BIDIGRID_FAULT_SHORT_BUFFER && size == 10);
+    char out[12];
     for (size_t room = 0; room <= sizeof out; room++) {
         memset(out, '?', sizeof out);
         size = 0;
         uint32_t answer = bidigrid_picture_print(&picture, out, room, &size);
         CHECK(size == 10);
-        CHECK(answer == (room < 10 ? BIDIGRID_SHORT_BUFFER : BIDIGRID_OK));
+        CHECK(answer == (room < 10 ? BIDIGRID_FAULT_SHORT_BUFFER : BIDIGRID_OK));
         CHECK(!memcmp(out, room < 10 ? "????????????" : "ab  \ncd  \n??", 12));
     }
     size = 0;
-    CHECK(bidigrid_picture_row_print(&picture, 1, NULL, 0, &size) == BIDIGRID_SHORT_BUFFER && size == 5);
-    CHECK(bidigrid_picture_row_print(&picture, 2, out, sizeof out, &size) == BIDIGRID_BAD_ROW);
-    CHECK(bidigrid_picture_row_print(&picture, SIZE_MAX, out, sizeof out, &size) == BIDIGRID_BAD_ROW);
+    CHECK(bidigrid_picture_row_print(&picture, 1, NULL, 0, &size) == BIDIGRID_FAULT_SHORT_BUFFER && size == 5);
+    CHECK(bidigrid_picture_row_print(&picture, 2, out, sizeof out, &size) == BIDIGRID_FAULT_BAD_ROW && size == 0);
+    CHECK(bidigrid_picture_row_print(&picture, SIZE_MAX, out, sizeof out, &size) == BIDIGRID_FAULT_BAD_ROW);
     bidigrid_picture_free(&picture);
 }
 
 static void tries_rows(bidigrid_tables *tables)
 {
-    bidigrid_picture picture = drawn(tables, 5, BIDIGRID_AUTO, "a\u05D0\n\u05D0\u05D1\n");
+    bidigrid_picture picture = drawn(tables, 5, BIDIGRID_BASE_AUTO, "a\u05D0\n\u05D0\u05D1\n");
     size_t rows = 0;
     bidigrid_row row;
     bidigrid_entry entry;
@@ -97,13 +97,25 @@ static void tries_rows(bidigrid_tables *tables)
     CHECK(entry.column == 3 && entry.columns == 1 && entry.level == 1);
     CHECK(bidigrid_picture_entry(&picture, 1, 2, &entry) == BIDIGRID_OK && entry.first_place == 3);
     CHECK(bidigrid_picture_row(&picture, 2, &row) == BIDIGRID_OK && row.entries == 0 && row.first_place == 6);
-    bidigrid_row as_before = row;
-    CHECK(bidigrid_picture_row(&picture, 3, &row) == BIDIGRID_BAD_ROW);
-    CHECK(row.first_place == as_before.first_place && row.level == as_before.level);
-    CHECK(bidigrid_picture_entry(&picture, 3, 0, &entry) == BIDIGRID_BAD_ROW);
-    CHECK(bidigrid_picture_entry(&picture, 1, 3, &entry) == BIDIGRID_BAD_ENTRY);
-    CHECK(bidigrid_picture_entry(&picture, 2, 0, &entry) == BIDIGRID_BAD_ENTRY);
+    CHECK(bidigrid_picture_row(&picture, 3, &row) == BIDIGRID_FAULT_BAD_ROW);
+    CHECK(row.first_place == 0 && row.last_place == 0 && row.entries == 0 && row.column == 0 && row.level == 0);
+    CHECK(bidigrid_picture_entry(&picture, 3, 0, &entry) == BIDIGRID_FAULT_BAD_ROW && entry.first_place == 0);
+    CHECK(bidigrid_picture_entry(&picture, 1, 3, &entry) == BIDIGRID_FAULT_BAD_ENTRY);
+    CHECK(bidigrid_picture_entry(&picture, 2, 0, &entry) == BIDIGRID_FAULT_BAD_ENTRY);
+    /* All entries of a row at once. */
+    bidigrid_entry entries[4];
+    size_t count = 7;
+    memset(entries, '?', sizeof entries);
+    CHECK(bidigrid_picture_entries(&picture, 1, NULL, 0, &count) == BIDIGRID_FAULT_SHORT_BUFFER && count == 3);
+    CHECK(bidigrid_picture_entries(&picture, 1, entries, 2, &count) == BIDIGRID_FAULT_SHORT_BUFFER && count == 3);
+    CHECK(entries[0].level == 0x3F3F3F3F && bidigrid_picture_entries(&picture, 1, entries, 4, &count) == BIDIGRID_OK);
+    CHECK(count == 3 && entries[3].level == 0x3F3F3F3F);
+    for (size_t i = 0; i < count; i++)
+        CHECK(bidigrid_picture_entry(&picture, 1, i, &entry) == BIDIGRID_OK && !memcmp(&entry, &entries[i], sizeof entry));
+    CHECK(bidigrid_picture_entries(&picture, 2, NULL, 0, &count) == BIDIGRID_OK && count == 0);
+    CHECK(bidigrid_picture_entries(&picture, 3, entries, 4, &count) == BIDIGRID_FAULT_BAD_ROW && count == 0);
     bidigrid_picture_free(&picture);
+    bidigrid_picture_free(NULL);
 }
 
 static bool is_at(bidigrid_caret caret, size_t row, size_t gap, size_t place)
@@ -113,56 +125,58 @@ static bool is_at(bidigrid_caret caret, size_t row, size_t gap, size_t place)
 
 static void tries_carets(bidigrid_tables *tables)
 {
-    bidigrid_picture picture = drawn(tables, 8, BIDIGRID_AUTO, "ab \u05D0\u05D1\u05D2");
+    bidigrid_picture picture = drawn(tables, 8, BIDIGRID_BASE_AUTO, "ab \u05D0\u05D1\u05D2");
     bidigrid_caret caret;
-    CHECK(bidigrid_picture_caret(&picture, 3, &caret) == BIDIGRID_OK && is_at(caret, 0, 6, 3));
-    CHECK(bidigrid_picture_left(&picture, &caret) == BIDIGRID_OK && is_at(caret, 0, 5, 4));
-    CHECK(bidigrid_picture_left(&picture, &caret) == BIDIGRID_OK && is_at(caret, 0, 4, 5));
-    CHECK(bidigrid_picture_left(&picture, &caret) == BIDIGRID_OK && is_at(caret, 0, 3, 6));
-    CHECK(bidigrid_picture_left(&picture, &caret) == BIDIGRID_OK && is_at(caret, 0, 2, 2));
-    CHECK(bidigrid_picture_right(&picture, &caret) == BIDIGRID_OK && is_at(caret, 0, 3, 3));
-    CHECK(bidigrid_picture_caret(&picture, 7, &caret) == BIDIGRID_BAD_PLACE && is_at(caret, 0, 3, 3));
-    CHECK(bidigrid_picture_caret(&picture, 6, &caret) == BIDIGRID_OK && is_at(caret, 0, 3, 6));
+    CHECK(bidigrid_caret_at(&picture, 3, &caret) == BIDIGRID_OK && is_at(caret, 0, 6, 3));
+    CHECK(bidigrid_caret_left(&picture, &caret) == BIDIGRID_OK && is_at(caret, 0, 5, 4));
+    CHECK(bidigrid_caret_left(&picture, &caret) == BIDIGRID_OK && is_at(caret, 0, 4, 5));
+    CHECK(bidigrid_caret_left(&picture, &caret) == BIDIGRID_OK && is_at(caret, 0, 3, 6));
+    CHECK(bidigrid_caret_left(&picture, &caret) == BIDIGRID_OK && is_at(caret, 0, 2, 2));
+    CHECK(bidigrid_caret_right(&picture, &caret) == BIDIGRID_OK && is_at(caret, 0, 3, 3));
+    CHECK(bidigrid_caret_at(&picture, 7, &caret) == BIDIGRID_FAULT_BAD_PLACE && is_at(caret, 0, 0, 0));
+    CHECK(bidigrid_caret_at(&picture, 6, &caret) == BIDIGRID_OK && is_at(caret, 0, 3, 6));
     bidigrid_caret wrong = {0, 7, 0};
-    CHECK(bidigrid_picture_right(&picture, &wrong) == BIDIGRID_BAD_CARET && is_at(wrong, 0, 7, 0));
+    CHECK(bidigrid_caret_right(&picture, &wrong) == BIDIGRID_FAULT_BAD_CARET && is_at(wrong, 0, 7, 0));
     wrong = (bidigrid_caret){1, 0, 0};
-    CHECK(bidigrid_picture_left(&picture, &wrong) == BIDIGRID_BAD_CARET);
-    CHECK(bidigrid_picture_up(&picture, &wrong) == BIDIGRID_BAD_CARET);
+    CHECK(bidigrid_caret_left(&picture, &wrong) == BIDIGRID_FAULT_BAD_CARET);
+    CHECK(bidigrid_caret_up(&picture, &wrong) == BIDIGRID_FAULT_BAD_CARET);
     wrong = (bidigrid_caret){SIZE_MAX, SIZE_MAX, SIZE_MAX};
-    CHECK(bidigrid_picture_down(&picture, &wrong) == BIDIGRID_BAD_CARET);
+    CHECK(bidigrid_caret_down(&picture, &wrong) == BIDIGRID_FAULT_BAD_CARET);
     bidigrid_picture_free(&picture);
-    picture = drawn(tables, 4, BIDIGRID_AUTO, "abc\nd\n\u4E16e");
-    CHECK(bidigrid_picture_caret_under(&picture, 0, 2, &caret) == BIDIGRID_OK && is_at(caret, 0, 2, 2));
-    CHECK(bidigrid_picture_down(&picture, &caret) == BIDIGRID_OK && caret.row == 1);
-    CHECK(bidigrid_picture_down(&picture, &caret) == BIDIGRID_OK && caret.row == 2);
-    CHECK(bidigrid_picture_down(&picture, &caret) == BIDIGRID_OK && caret.row == 2);
-    CHECK(bidigrid_picture_up(&picture, &caret) == BIDIGRID_OK && caret.row == 1);
-    CHECK(bidigrid_picture_caret_under(&picture, 2, 1, &caret) == BIDIGRID_OK && is_at(caret, 2, 0, 6));
-    CHECK(bidigrid_picture_caret_under(&picture, 2, 400, &caret) == BIDIGRID_OK && is_at(caret, 2, 2, 8));
-    CHECK(bidigrid_picture_caret_under(&picture, 3, 0, &caret) == BIDIGRID_BAD_ROW && is_at(caret, 2, 2, 8));
+    picture = drawn(tables, 4, BIDIGRID_BASE_AUTO, "abc\nd\n\u4E16e");
+    CHECK(bidigrid_caret_under(&picture, 0, 2, &caret) == BIDIGRID_OK && is_at(caret, 0, 2, 2));
+    CHECK(bidigrid_caret_down(&picture, &caret) == BIDIGRID_OK && caret.row == 1);
+    CHECK(bidigrid_caret_down(&picture, &caret) == BIDIGRID_OK && caret.row == 2);
+    CHECK(bidigrid_caret_down(&picture, &caret) == BIDIGRID_OK && caret.row == 2);
+    CHECK(bidigrid_caret_up(&picture, &caret) == BIDIGRID_OK && caret.row == 1);
+    CHECK(bidigrid_caret_under(&picture, 2, 1, &caret) == BIDIGRID_OK && is_at(caret, 2, 0, 6));
+    CHECK(bidigrid_caret_under(&picture, 2, 400, &caret) == BIDIGRID_OK && is_at(caret, 2, 2, 8));
+    CHECK(bidigrid_caret_under(&picture, 3, 0, &caret) == BIDIGRID_FAULT_BAD_ROW && is_at(caret, 0, 0, 0));
     bidigrid_picture_free(&picture);
 }
 
 static void tries_wrong_texts(bidigrid_tables *tables)
 {
-    bidigrid_picture picture = drawn(tables, 2, BIDIGRID_LEFT_TO_RIGHT, "a");
+    bidigrid_picture picture = drawn(tables, 2, BIDIGRID_BASE_LEFT_TO_RIGHT, "a");
     void *held = picture.held;
-    CHECK(bidigrid_picture_new(&picture, tables, 1, 0, utf8("a"), 1) == BIDIGRID_BAD_WIDTH);
-    CHECK(bidigrid_picture_new(&picture, tables, 501, 0, utf8("a"), 1) == BIDIGRID_BAD_WIDTH);
-    CHECK(bidigrid_picture_new(&picture, tables, 2, 3, utf8("a"), 1) == BIDIGRID_BAD_BASE);
-    CHECK(bidigrid_picture_new(&picture, tables, 2, 255, utf8("a"), 1) == BIDIGRID_BAD_BASE);
-    CHECK(bidigrid_picture_new(&picture, tables, 2, 0, utf8("\xC3"), 1) == BIDIGRID_NOT_UTF8);
-    CHECK(bidigrid_picture_new(&picture, tables, 2, 0, utf8("\xED\xA0\x80"), 3) == BIDIGRID_NOT_UTF8);
-    uint8_t *large = malloc(BIDIGRID_MOST_BYTES + 1);
+    CHECK(bidigrid_picture_new(&picture, tables, 1, 0, "a", 1) == BIDIGRID_FAULT_BAD_WIDTH);
+    CHECK(bidigrid_picture_new(&picture, tables, 65616, 0, "a", 1) == BIDIGRID_FAULT_BAD_WIDTH);
+    CHECK(bidigrid_picture_new(&picture, tables, 501, 0, "a", 1) == BIDIGRID_FAULT_BAD_WIDTH);
+    CHECK(bidigrid_picture_new(&picture, tables, 2, 3, "a", 1) == BIDIGRID_FAULT_BAD_BASE);
+    CHECK(bidigrid_picture_new(&picture, tables, 2, 256, "a", 1) == BIDIGRID_FAULT_BAD_BASE);
+    CHECK(bidigrid_picture_new(&picture, tables, 2, 255, "a", 1) == BIDIGRID_FAULT_BAD_BASE);
+    CHECK(bidigrid_picture_new(&picture, tables, 2, 0, "\xC3", 1) == BIDIGRID_FAULT_NOT_UTF8);
+    CHECK(bidigrid_picture_new(&picture, tables, 2, 0, "\xED\xA0\x80", 3) == BIDIGRID_FAULT_NOT_UTF8);
+    char *large = malloc(BIDIGRID_MAX_TEXT_SIZE + 1);
     CHECK(large);
-    memset(large, 'a', BIDIGRID_MOST_BYTES + 1);
-    CHECK(bidigrid_picture_new(&picture, tables, 2, 0, large, BIDIGRID_MOST_BYTES + 1) == BIDIGRID_TEXT_TOO_LONG);
+    memset(large, 'a', BIDIGRID_MAX_TEXT_SIZE + 1);
+    CHECK(bidigrid_picture_new(&picture, tables, 2, 0, large, BIDIGRID_MAX_TEXT_SIZE + 1) == BIDIGRID_FAULT_TEXT_TOO_LONG);
     free(large);
     CHECK(picture.held == held);
     bidigrid_tables none = BIDIGRID_NONE;
-    CHECK(bidigrid_picture_new(&picture, &none, 2, 0, utf8("a"), 1) == BIDIGRID_EMPTY_HANDLE && picture.held == held);
+    CHECK(bidigrid_picture_new(&picture, &none, 2, 0, "a", 1) == BIDIGRID_FAULT_EMPTY_HANDLE && picture.held == held);
     /* A picture that is made anew; and one of nothing. */
-    CHECK(bidigrid_picture_new(&picture, tables, 500, BIDIGRID_RIGHT_TO_LEFT, NULL, 0) == BIDIGRID_OK);
+    CHECK(bidigrid_picture_new(&picture, tables, 500, BIDIGRID_BASE_RIGHT_TO_LEFT, NULL, 0) == BIDIGRID_OK);
     bidigrid_row row;
     CHECK(bidigrid_picture_row(&picture, 0, &row) == BIDIGRID_OK && row.level == 1 && row.column == 500);
     bidigrid_picture_free(&picture);
@@ -174,28 +188,33 @@ static void tries_empty_handles(void)
 {
     bidigrid_picture none = BIDIGRID_NONE;
     size_t size = 7;
-    uint8_t out[4];
+    char out[4];
     bidigrid_row row;
     bidigrid_entry entry;
     bidigrid_caret caret = {0, 0, 0};
-    CHECK(bidigrid_picture_rows(&none, &size) == BIDIGRID_EMPTY_HANDLE);
-    CHECK(bidigrid_picture_row(&none, 0, &row) == BIDIGRID_EMPTY_HANDLE);
-    CHECK(bidigrid_picture_entry(&none, 0, 0, &entry) == BIDIGRID_EMPTY_HANDLE);
-    CHECK(bidigrid_picture_print(&none, out, sizeof out, &size) == BIDIGRID_EMPTY_HANDLE);
-    CHECK(bidigrid_picture_row_print(&none, 0, out, sizeof out, &size) == BIDIGRID_EMPTY_HANDLE);
-    CHECK(bidigrid_picture_caret(&none, 0, &caret) == BIDIGRID_EMPTY_HANDLE);
-    CHECK(bidigrid_picture_caret_under(&none, 0, 0, &caret) == BIDIGRID_EMPTY_HANDLE);
-    CHECK(bidigrid_picture_right(&none, &caret) == BIDIGRID_EMPTY_HANDLE);
-    CHECK(bidigrid_picture_left(&none, &caret) == BIDIGRID_EMPTY_HANDLE);
-    CHECK(bidigrid_picture_up(&none, &caret) == BIDIGRID_EMPTY_HANDLE);
-    CHECK(bidigrid_picture_down(&none, &caret) == BIDIGRID_EMPTY_HANDLE);
+    CHECK(bidigrid_picture_rows(&none, &size) == BIDIGRID_FAULT_EMPTY_HANDLE && size == 0);
+    size = 7;
+    CHECK(bidigrid_picture_entries(&none, 0, NULL, 0, &size) == BIDIGRID_FAULT_EMPTY_HANDLE && size == 0);
+    size = 7;
+    CHECK(bidigrid_picture_row(&none, 0, &row) == BIDIGRID_FAULT_EMPTY_HANDLE);
+    CHECK(bidigrid_picture_entry(&none, 0, 0, &entry) == BIDIGRID_FAULT_EMPTY_HANDLE);
+    CHECK(bidigrid_picture_print(&none, out, sizeof out, &size) == BIDIGRID_FAULT_EMPTY_HANDLE && size == 0);
+    CHECK(bidigrid_picture_row_print(&none, 0, out, sizeof out, &size) == BIDIGRID_FAULT_EMPTY_HANDLE);
+    CHECK(bidigrid_caret_at(&none, 0, &caret) == BIDIGRID_FAULT_EMPTY_HANDLE);
+    CHECK(bidigrid_caret_under(&none, 0, 0, &caret) == BIDIGRID_FAULT_EMPTY_HANDLE);
+    CHECK(bidigrid_caret_right(&none, &caret) == BIDIGRID_FAULT_EMPTY_HANDLE);
+    CHECK(bidigrid_caret_left(&none, &caret) == BIDIGRID_FAULT_EMPTY_HANDLE);
+    CHECK(bidigrid_caret_up(&none, &caret) == BIDIGRID_FAULT_EMPTY_HANDLE);
+    CHECK(bidigrid_caret_down(&none, &caret) == BIDIGRID_FAULT_EMPTY_HANDLE);
     bidigrid_picture_free(&none);
 }
 
-static uint32_t load(bidigrid_tables *out, const bytes file[5], bidigrid_data_fault *fault)
+static uint32_t load(bidigrid_tables *out, const bytes file[BIDIGRID_DATA_FILES], bidigrid_data_fault *fault)
 {
-    return bidigrid_tables_new(out, file[0].at, file[0].size, file[1].at, file[1].size, file[2].at, file[2].size,
-                               file[3].at, file[3].size, file[4].at, file[4].size, false, fault);
+    bidigrid_bytes files[BIDIGRID_DATA_FILES];
+    for (size_t i = 0; i < BIDIGRID_DATA_FILES; i++)
+        files[i] = (bidigrid_bytes){file[i].at, file[i].size};
+    return bidigrid_tables_new(out, files, false, fault);
 }
 
 /* The tables inside the library are those of the data files, by what they draw. */
@@ -210,8 +229,8 @@ static void tries_tables(bidigrid_tables *tables, const char *folder)
     bidigrid_tables read = BIDIGRID_NONE;
     bidigrid_data_fault fault = {7, 7};
     CHECK(load(&read, file, &fault) == BIDIGRID_OK && fault.file == 0 && fault.line == 0);
-    bidigrid_picture one = drawn(tables, 7, BIDIGRID_AUTO, TEXT), other = drawn(&read, 7, BIDIGRID_AUTO, TEXT);
-    uint8_t first[256], second[256];
+    bidigrid_picture one = drawn(tables, 7, BIDIGRID_BASE_AUTO, TEXT), other = drawn(&read, 7, BIDIGRID_BASE_AUTO, TEXT);
+    char first[256], second[256];
     size_t size = 0, same = 0;
     CHECK(bidigrid_picture_print(&one, first, sizeof first, &size) == BIDIGRID_OK);
     CHECK(bidigrid_picture_print(&other, second, sizeof second, &same) == BIDIGRID_OK);
@@ -219,9 +238,9 @@ static void tries_tables(bidigrid_tables *tables, const char *folder)
     /* A picture keeps its tables. */
     void *held = read.held;
     static const struct { size_t file; const char *bytes; uint32_t answer; size_t line; } FAULTS[] = {
-        {0, "0041;L\n0042;Q\n", BIDIGRID_UNKNOWN_VALUE, 2}, {1, "0028; 0029\n", BIDIGRID_MISSING_FIELD, 1},
-        {2, "28; 0029\n", BIDIGRID_BAD_CODE, 1},            {3, "\n\n0042..0041;AL\n", BIDIGRID_BAD_RANGE, 3},
-        {4, "\xFF;W\n", BIDIGRID_BAD_UTF8, 1},
+        {0, "0041;L\n0042;Q\n", BIDIGRID_FAULT_UNKNOWN_VALUE, 2}, {1, "0028; 0029\n", BIDIGRID_FAULT_MISSING_FIELD, 1},
+        {2, "28; 0029\n", BIDIGRID_FAULT_BAD_CODE, 1},            {3, "\n\n0042..0041;AL\n", BIDIGRID_FAULT_BAD_RANGE, 3},
+        {4, "\xFF;W\n", BIDIGRID_FAULT_BAD_UTF8, 1},
     };
     for (size_t i = 0; i < 5; i++) {
         bytes kept = file[FAULTS[i].file];
@@ -253,9 +272,9 @@ static void tries_width_of_ambiguous(void)
     for (int wide = 0; wide < 2; wide++) {
         bidigrid_tables tables = BIDIGRID_NONE;
         CHECK(bidigrid_tables_unicode(&tables, wide) == BIDIGRID_OK);
-        bidigrid_picture picture = drawn(&tables, 4, BIDIGRID_AUTO, "\u03B1");
+        bidigrid_picture picture = drawn(&tables, 4, BIDIGRID_BASE_AUTO, "\u03B1");
         bidigrid_entry entry;
-        CHECK(bidigrid_picture_entry(&picture, 0, 0, &entry) == BIDIGRID_OK && entry.columns == 1 + wide);
+        CHECK(bidigrid_picture_entry(&picture, 0, 0, &entry) == BIDIGRID_OK && entry.columns == (wide ? 2u : 1u));
         bidigrid_picture_free(&picture);
         bidigrid_tables_free(&tables);
     }
@@ -263,34 +282,31 @@ static void tries_width_of_ambiguous(void)
 
 static bool is_named(uint32_t answer, const char *name)
 {
-    uint8_t out[32];
-    size_t size = 0;
-    return bidigrid_fault_name(answer, out, sizeof out, &size) == BIDIGRID_OK && is_text(out, size, name);
+    return !strcmp(bidigrid_fault_name(answer), name) && strlen(name) < 32;
 }
 
 static void tries_names(void)
 {
     CHECK(bidigrid_version() == BIDIGRID_VERSION);
-    CHECK(is_named(BIDIGRID_OK, "Ok") && is_named(BIDIGRID_MEMORY, "Memory"));
-    CHECK(is_named(BIDIGRID_EMPTY_HANDLE, "EmptyHandle") && is_named(BIDIGRID_SHORT_BUFFER, "ShortBuffer"));
-    CHECK(is_named(BIDIGRID_NOT_UTF8, "NotUtf8") && is_named(BIDIGRID_TEXT_TOO_LONG, "TextTooLong"));
-    CHECK(is_named(BIDIGRID_BAD_WIDTH, "BadWidth") && is_named(BIDIGRID_BAD_BASE, "BadBase"));
-    CHECK(is_named(BIDIGRID_BAD_PLACE, "BadPlace") && is_named(BIDIGRID_BAD_ROW, "BadRow"));
-    CHECK(is_named(BIDIGRID_BAD_ENTRY, "BadEntry") && is_named(BIDIGRID_BAD_CARET, "BadCaret"));
-    CHECK(is_named(BIDIGRID_BAD_CHARACTER, "BadCharacter") && is_named(BIDIGRID_BAD_SITE, "BadSite"));
-    CHECK(is_named(BIDIGRID_BAD_IDENTIFIER, "BadIdentifier") && is_named(BIDIGRID_NOT_PLACED, "NotPlaced"));
-    CHECK(is_named(BIDIGRID_TOO_MANY, "TooMany") && is_named(BIDIGRID_IDENTIFIER_REUSED, "IdentifierReused"));
-    CHECK(is_named(BIDIGRID_FULL, "Full") && is_named(BIDIGRID_COUNTER_SPENT, "CounterSpent"));
-    CHECK(is_named(BIDIGRID_BAD_MAGIC, "BadMagic") && is_named(BIDIGRID_BAD_VERSION, "BadVersion"));
-    CHECK(is_named(BIDIGRID_TRUNCATED, "Truncated") && is_named(BIDIGRID_UNKNOWN_KIND, "UnknownKind"));
-    CHECK(is_named(BIDIGRID_BAD_LENGTH, "BadLength") && is_named(BIDIGRID_ZERO_FIELD, "ZeroField"));
-    CHECK(is_named(BIDIGRID_PARENT_NOT_BEFORE, "ParentNotBefore") && is_named(BIDIGRID_NOT_A_SCALAR, "NotAScalar"));
-    CHECK(is_named(BIDIGRID_COUNTER_OVERFLOW, "CounterOverflow") && is_named(BIDIGRID_NOT_JOINED, "NotJoined"));
-    CHECK(is_named(BIDIGRID_BAD_UTF8, "BadUtf8") && is_named(BIDIGRID_BAD_CODE, "BadCode"));
-    CHECK(is_named(BIDIGRID_BAD_RANGE, "BadRange") && is_named(BIDIGRID_MISSING_FIELD, "MissingField"));
-    CHECK(is_named(BIDIGRID_UNKNOWN_VALUE, "UnknownValue") && is_named(12345, "Unknown"));
-    size_t size = 0;
-    CHECK(bidigrid_fault_name(BIDIGRID_OK, NULL, 0, &size) == BIDIGRID_SHORT_BUFFER && size == 2);
+    CHECK(is_named(BIDIGRID_OK, "Ok") && is_named(BIDIGRID_FAULT_MEMORY, "Memory"));
+    CHECK(is_named(BIDIGRID_FAULT_EMPTY_HANDLE, "EmptyHandle") && is_named(BIDIGRID_FAULT_SHORT_BUFFER, "ShortBuffer"));
+    CHECK(is_named(BIDIGRID_FAULT_NOT_UTF8, "NotUtf8") && is_named(BIDIGRID_FAULT_TEXT_TOO_LONG, "TextTooLong"));
+    CHECK(is_named(BIDIGRID_FAULT_BAD_WIDTH, "BadWidth") && is_named(BIDIGRID_FAULT_BAD_BASE, "BadBase"));
+    CHECK(is_named(BIDIGRID_FAULT_BAD_PLACE, "BadPlace") && is_named(BIDIGRID_FAULT_BAD_ROW, "BadRow"));
+    CHECK(is_named(BIDIGRID_FAULT_BAD_ENTRY, "BadEntry") && is_named(BIDIGRID_FAULT_BAD_CARET, "BadCaret"));
+    CHECK(is_named(BIDIGRID_FAULT_BAD_CHARACTER, "BadCharacter") && is_named(BIDIGRID_FAULT_BAD_SITE, "BadSite"));
+    CHECK(is_named(BIDIGRID_FAULT_BAD_IDENTIFIER, "BadIdentifier") && is_named(BIDIGRID_FAULT_NOT_PLACED, "NotPlaced"));
+    CHECK(is_named(BIDIGRID_FAULT_MESSAGE_TOO_LONG, "MessageTooLong"));
+    CHECK(is_named(BIDIGRID_FAULT_TOO_MANY, "TooMany") && is_named(BIDIGRID_FAULT_IDENTIFIER_REUSED, "IdentifierReused"));
+    CHECK(is_named(BIDIGRID_FAULT_FULL, "Full") && is_named(BIDIGRID_FAULT_COUNTER_SPENT, "CounterSpent"));
+    CHECK(is_named(BIDIGRID_FAULT_BAD_MAGIC, "BadMagic") && is_named(BIDIGRID_FAULT_BAD_VERSION, "BadVersion"));
+    CHECK(is_named(BIDIGRID_FAULT_TRUNCATED, "Truncated") && is_named(BIDIGRID_FAULT_UNKNOWN_KIND, "UnknownKind"));
+    CHECK(is_named(BIDIGRID_FAULT_BAD_LENGTH, "BadLength") && is_named(BIDIGRID_FAULT_ZERO_FIELD, "ZeroField"));
+    CHECK(is_named(BIDIGRID_FAULT_PARENT_NOT_BEFORE, "ParentNotBefore") && is_named(BIDIGRID_FAULT_NOT_A_SCALAR, "NotAScalar"));
+    CHECK(is_named(BIDIGRID_FAULT_COUNTER_OVERFLOW, "CounterOverflow") && is_named(BIDIGRID_FAULT_NOT_JOINED, "NotJoined"));
+    CHECK(is_named(BIDIGRID_FAULT_BAD_UTF8, "BadUtf8") && is_named(BIDIGRID_FAULT_BAD_CODE, "BadCode"));
+    CHECK(is_named(BIDIGRID_FAULT_BAD_RANGE, "BadRange") && is_named(BIDIGRID_FAULT_MISSING_FIELD, "MissingField"));
+    CHECK(is_named(BIDIGRID_FAULT_UNKNOWN_VALUE, "UnknownValue") && is_named(12345, "Unknown"));
 }
 
 int main(int count, char **words)

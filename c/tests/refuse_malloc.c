@@ -1,38 +1,51 @@
-/* malloc, calloc and realloc in which one call fails: the k-th after refuse_at(k). */
+/* malloc, calloc and realloc in which some calls fail. */
 #include "refuse_malloc.h"
 
-void *__libc_malloc(size_t size);
-void *__libc_realloc(void *block, size_t size);
-void *__libc_calloc(size_t count, size_t size);
+void *__real_malloc(size_t size);
+void *__real_calloc(size_t count, size_t size);
+void *__real_realloc(void *block, size_t size);
+void *__wrap_malloc(size_t size);
+void *__wrap_calloc(size_t count, size_t size);
+void *__wrap_realloc(void *block, size_t size);
 
 static long left = 0;
+static bool all = false, met = false;
 
 void refuse_at(long call)
 {
     left = call;
+    all = met = false;
+}
+
+void refuse_all(void)
+{
+    refuse_at(0);
+    all = true;
 }
 
 bool was_refused(void)
 {
-    return left == 0;
+    return met;
 }
 
 static bool refuses(void)
 {
-    return left > 0 && --left == 0;
+    bool refused = all || (left > 0 && --left == 0);
+    met |= refused;
+    return refused;
 }
 
-void *malloc(size_t size)
+void *__wrap_malloc(size_t size)
 {
-    return refuses() ? NULL : __libc_malloc(size);
+    return refuses() ? NULL : __real_malloc(size);
 }
 
-void *realloc(void *block, size_t size)
+void *__wrap_calloc(size_t count, size_t size)
 {
-    return refuses() ? NULL : __libc_realloc(block, size);
+    return refuses() ? NULL : __real_calloc(count, size);
 }
 
-void *calloc(size_t count, size_t size)
+void *__wrap_realloc(void *block, size_t size)
 {
-    return refuses() ? NULL : __libc_calloc(count, size);
+    return refuses() ? NULL : __real_realloc(block, size);
 }

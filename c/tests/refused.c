@@ -1,15 +1,25 @@
-/* Memory that is refused: each call that takes some is made with each of its growths refused in turn. It answers
- * BIDIGRID_MEMORY, changes nothing, and does its work when it is called again; or it does its work without. */
+/* Memory that is refused: each call that takes some is made with each of its requests refused in turn, at desks whose
+ * sequences have many blocks. Either it answers BIDIGRID_FAULT_MEMORY, nothing has changed, and it does its work when
+ * it is called again; or it does its work without. What desks and pictures answer is compared whole. Argument: how many
+ * sizes of a text a character is typed into, 300 where none is given. */
 #include "check.h"
 #include "refuse_malloc.h"
 
-static const char TEXT[] = "one (\u05D0\u05D1) two\nthree \u0627 12, four and five\n";
+/* How many operations the larger desks have: some blocks, of 512 elements at most; and from how many characters on one
+ * is typed into them, before the first block is full. */
+#define MANY 700
+#define FEW 500
 
 static bidigrid_tables tables = BIDIGRID_NONE;
 static bidigrid_picture picture = BIDIGRID_NONE;
 static bidigrid_desk desk = BIDIGRID_NONE, other = BIDIGRID_NONE;
-static uint8_t out[512];
+static uint8_t out[BIDIGRID_REPLACED_SIZE(MANY, MANY)];
 static size_t size;
+
+/* Texts of as many characters at random, and messages of desks that typed them here and there. */
+static bytes text[2], message[2];
+
+/* The calls. */
 
 static uint32_t makes_tables(void)
 {
@@ -18,25 +28,24 @@ static uint32_t makes_tables(void)
 
 static uint32_t reads_tables(void)
 {
-    static const uint8_t BIDI[] = "0041;L\n", LB[] = "0041;AL\n";
-    bidigrid_data_fault fault;
-    return bidigrid_tables_new(&tables, BIDI, sizeof BIDI - 1, NULL, 0, NULL, 0, LB, sizeof LB - 1, NULL, 0, false,
-                               &fault);
+    static const bidigrid_bytes FILES[BIDIGRID_DATA_FILES] = {
+        {"0041;L\n", 7}, {NULL, 0}, {NULL, 0}, {"0041;AL\n", 8}, {NULL, 0}};
+    return bidigrid_tables_new(&tables, FILES, false, NULL);
 }
 
 static uint32_t draws(void)
 {
-    return bidigrid_picture_new(&picture, &tables, 12, BIDIGRID_AUTO, utf8(TEXT), sizeof TEXT - 1);
+    return bidigrid_picture_new(&picture, &tables, 12, BIDIGRID_BASE_AUTO, chars(text[0]), text[0].size);
 }
 
 static uint32_t prints(void)
 {
-    return bidigrid_picture_print(&picture, out, sizeof out, &size);
+    return bidigrid_picture_print(&picture, (char *)out, sizeof out, &size);
 }
 
 static uint32_t prints_a_row(void)
 {
-    return bidigrid_picture_row_print(&picture, 1, out, sizeof out, &size);
+    return bidigrid_picture_row_print(&picture, 1, (char *)out, sizeof out, &size);
 }
 
 static uint32_t makes_a_desk(void)
@@ -49,50 +58,61 @@ static uint32_t types(void)
     return bidigrid_desk_type(&desk, 0, 'a', out, sizeof out, &size);
 }
 
-static uint32_t erases(void)
+static uint32_t types_inside(void)
 {
-    return bidigrid_desk_erase(&desk, 0, out, sizeof out, &size);
+    size_t places;
+    return bidigrid_desk_length(&desk, &places) ? BIDIGRID_FAULT_EMPTY_HANDLE
+                                                : bidigrid_desk_type(&desk, places / 3, 'a', out, sizeof out, &size);
 }
 
-static uint32_t replaces(void)
+static uint32_t erases(void)
 {
-    return bidigrid_desk_replace(&desk, 0, 1, utf8("bc"), 2, out, sizeof out, &size);
+    return bidigrid_desk_erase(&desk, 0, 1, out, sizeof out, &size);
+}
+
+static uint32_t erases_many(void)
+{
+    return bidigrid_desk_erase(&desk, 3, MANY - 3, out, sizeof out, &size);
+}
+
+static uint32_t inserts_many(void)
+{
+    return bidigrid_desk_insert(&desk, 7, chars(text[1]), text[1].size, out, sizeof out, &size);
+}
+
+static uint32_t replaces_many(void)
+{
+    return bidigrid_desk_replace(&desk, 1, MANY / 2, chars(text[1]), text[1].size, out, sizeof out, &size);
 }
 
 static uint32_t takes(void)
 {
-    static const uint8_t MESSAGE[] = "BGOP\x02\x00\x15\x03\x00\x00\x00\x01\x00\x07\x00\x00\x00\x00\x00\x00\x00\x00\x00"
-                                     "a\x00\x00\x00" "b";
-    bidigrid_taken told;
-    return bidigrid_desk_take(&desk, MESSAGE, sizeof MESSAGE - 1, &told);
+    return bidigrid_desk_take(&desk, message[1].at, message[1].size, NULL);
+}
+
+static uint32_t opens(void)
+{
+    return bidigrid_desk_open(&desk, 3, 2, 3, message[0].at, message[0].size, NULL);
 }
 
 static uint32_t reserves(void)
 {
-    return bidigrid_desk_reserve(&desk, 1000);
+    return bidigrid_desk_reserve(&desk, 5 * MANY);
 }
 
 static uint32_t merges(void)
 {
-    return bidigrid_desk_merge(&other, &desk);
+    return bidigrid_desk_merge(&desk, &other);
 }
 
 static uint32_t reads(void)
 {
-    return bidigrid_desk_text(&desk, out, sizeof out, &size);
+    return bidigrid_desk_text(&desk, (char *)out, sizeof out, &size);
 }
 
 static uint32_t saves(void)
 {
     return bidigrid_desk_file(&desk, out, sizeof out, &size);
-}
-
-/* How many characters a desk has; none where there is no desk. */
-static size_t length_of(bidigrid_desk *it)
-{
-    size_t places = 0;
-    bidigrid_desk_length(it, &places);
-    return places;
 }
 
 /* What is made before each try. */
@@ -106,70 +126,249 @@ static void a_fresh_desk(void)
     CHECK(bidigrid_desk_new(&desk, 1, 2, 3) == BIDIGRID_OK);
 }
 
-static void a_letter(void)
+static void a_small_picture(void)
+{
+    CHECK(bidigrid_picture_new(&picture, &tables, 4, BIDIGRID_BASE_AUTO, "x", 1) == BIDIGRID_OK);
+}
+
+static void a_large_desk(void)
+{
+    bidigrid_taken told;
+    a_fresh_desk();
+    CHECK(bidigrid_desk_take(&desk, message[0].at, message[0].size, &told) == BIDIGRID_OK && told.taken == MANY);
+}
+
+static void two_large_desks(void)
+{
+    bidigrid_taken told;
+    a_large_desk();
+    CHECK(bidigrid_desk_new(&other, 2, 0, 0) == BIDIGRID_OK);
+    CHECK(bidigrid_desk_take(&other, message[1].at, message[1].size, &told) == BIDIGRID_OK);
+}
+
+static size_t characters;
+
+/* A desk with so many characters, of which each other one was typed in front of the last. */
+static void a_desk_of_characters(void)
 {
     a_fresh_desk();
-    CHECK(types() == BIDIGRID_OK);
+    for (size_t number = 0; number < characters; number++)
+        CHECK(bidigrid_desk_type(&desk, number / 2, 'b', out, sizeof out, &size) == BIDIGRID_OK);
 }
 
-static void a_letter_for_another(void)
+/* What all handles answer. */
+typedef struct state {
+    bytes text, file, other_file, print;
+    size_t places;
+} state;
+
+/* What a call writes of a handle; of an empty one nothing. */
+static bytes told_by(writes call, const void *handle, const void *held)
 {
-    a_letter();
-    CHECK(bidigrid_desk_new(&other, 2, 0, 0) == BIDIGRID_OK);
+    return held ? written(call, handle) : copied((bytes){NULL, 0});
 }
 
-/* Makes a call with each growth refused in turn, until it meets none; returns for how many it answered
- * BIDIGRID_MEMORY. */
-static long tried(const char *name, void (*before)(void), uint32_t (*call)(void))
+static state as_it_is(void)
 {
-    long refused = 0;
-    for (long number = 1;; number++) {
-        before();
-        void *held[] = {tables.held, picture.held, desk.held, other.held};
-        size_t length = length_of(&desk), other_length = length_of(&other);
-        memset(out, '?', sizeof out);
-        refuse_at(number);
-        uint32_t answer = call();
-        bool met = was_refused();
-        refuse_at(0);
-        if (!met) {
-            CHECK(answer == BIDIGRID_OK);
-            printf("%s: %ld growths refused in turn, %ld times BIDIGRID_MEMORY\n", name, number - 1, refused);
-            return refused;
-        }
-        if (answer == BIDIGRID_OK)
-            continue;
-        refused++;
-        if (answer != BIDIGRID_MEMORY) {
-            fprintf(stderr, "%s: growth %ld refused, answer %u\n", name, number, (unsigned)answer);
-            exit(1);
-        }
-        CHECK(tables.held == held[0] && picture.held == held[1] && desk.held == held[2] && other.held == held[3]);
-        /* A message that was read, and a merge, stand as far as they were taken. */
-        CHECK(call == takes || call == merges || (length_of(&desk) == length && length_of(&other) == other_length));
-        CHECK(out[0] == '?' && call() == BIDIGRID_OK);
+    state now = {told_by(writes_text, &desk, desk.held), told_by(writes_file, &desk, desk.held),
+                 told_by(writes_file, &other, other.held), told_by(writes_print, &picture, picture.held), 0};
+    CHECK(bidigrid_desk_length(&desk, &now.places) == (desk.held ? BIDIGRID_OK : BIDIGRID_FAULT_EMPTY_HANDLE));
+    return now;
+}
+
+static void drop(state it)
+{
+    free(it.text.at);
+    free(it.file.at);
+    free(it.other_file.at);
+    free(it.print.at);
+}
+
+static bool is_same(bytes one, bytes same)
+{
+    return one.size == same.size && !memcmp(one.at, same.at, one.size);
+}
+
+static bool is_state(const state *it)
+{
+    state now = as_it_is();
+    bool same = is_same(now.text, it->text) && is_same(now.file, it->file) && now.places == it->places &&
+                is_same(now.other_file, it->other_file) && is_same(now.print, it->print);
+    drop(now);
+    return same;
+}
+
+/* How many characters the desk still types while all memory is refused. */
+static size_t spare(void)
+{
+    uint8_t typed[BIDIGRID_TYPED_SIZE];
+    size_t count = 0, typed_size;
+    refuse_all();
+    while (desk.held && count < 8 * MANY &&
+           bidigrid_desk_type(&desk, 0, 'z', typed, sizeof typed, &typed_size) == BIDIGRID_OK)
+        count++;
+    refuse_at(0);
+    return count;
+}
+
+typedef struct row {
+    const char *name;
+    void (*before)(void);
+    uint32_t (*call)(void);
+    bool in_part; /* whether a part of it may have been done where memory was refused */
+} row;
+
+/* What there is before a call and after it in peace. */
+typedef struct peace {
+    state before, done;
+    size_t spare_before;
+    uint8_t out[sizeof out];
+} peace;
+
+static void make_in_peace(const row *it, peace *all)
+{
+    it->before();
+    all->before = as_it_is();
+    all->spare_before = spare();
+    it->before();
+    memset(out, '?', sizeof out);
+    CHECK(it->call() == BIDIGRID_OK);
+    memcpy(all->out, out, sizeof out);
+    all->done = as_it_is();
+}
+
+/* Makes the call with one request refused, and tells whether it met that. */
+static uint32_t refused_at(const row *it, long number, bool *met)
+{
+    it->before();
+    memset(out, '?', sizeof out);
+    refuse_at(number);
+    uint32_t answer = it->call();
+    *met = was_refused();
+    refuse_at(0);
+    return answer;
+}
+
+/* After BIDIGRID_FAULT_MEMORY: nothing has changed, and the call does its work when it is made again. */
+static void is_kept(const row *it, long number, const peace *all)
+{
+    bool met;
+    CHECK(it->in_part || is_state(&all->before));
+    for (size_t at = 0; at < sizeof out; at++)
+        CHECK(out[at] == '?');
+    CHECK(it->call() == BIDIGRID_OK && is_state(&all->done));
+    /* None that was spare is lost; a reserve that is refused may leave what it got before. */
+    CHECK(refused_at(it, number, &met) == BIDIGRID_FAULT_MEMORY && (it->in_part || spare() >= all->spare_before));
+}
+
+/* One request is refused; returns whether the call met it. */
+static bool try_one(const row *it, long number, const peace *all, long *refused)
+{
+    bool met;
+    uint32_t answer = refused_at(it, number, &met);
+    if (answer == BIDIGRID_OK) {
+        CHECK(is_state(&all->done) && !memcmp(out, all->out, sizeof out));
+        return met;
     }
+    if (answer != BIDIGRID_FAULT_MEMORY || !met) {
+        fprintf(stderr, "%s: request %ld refused, answer %u\n", it->name, number, (unsigned)answer);
+        exit(1);
+    }
+    ++*refused;
+    is_kept(it, number, all);
+    return true;
 }
 
-int main(void)
+static long all_requests = 0, all_refused = 0;
+
+static void tried(const row *it)
 {
-    CHECK(tried("bidigrid_tables_new", nothing, reads_tables) > 0);
-    CHECK(tried("bidigrid_tables_unicode", nothing, makes_tables) > 0);
-    CHECK(tried("bidigrid_picture_new", nothing, draws) > 0);
-    CHECK(tried("bidigrid_picture_print", nothing, prints) > 0);
-    CHECK(tried("bidigrid_picture_row_print", nothing, prints_a_row) > 0);
-    CHECK(tried("bidigrid_desk_new", nothing, makes_a_desk) > 0);
-    CHECK(tried("bidigrid_desk_take", a_fresh_desk, takes) > 0 && length_of(&desk) == 2);
-    CHECK(tried("bidigrid_desk_type", a_fresh_desk, types) > 0 && length_of(&desk) == 1);
-    CHECK(tried("bidigrid_desk_erase", a_letter, erases) > 0 && length_of(&desk) == 0);
-    CHECK(tried("bidigrid_desk_replace", a_letter, replaces) > 0 && length_of(&desk) == 2);
-    CHECK(tried("bidigrid_desk_reserve", a_fresh_desk, reserves) > 0);
-    CHECK(tried("bidigrid_desk_text", a_letter, reads) > 0);
-    CHECK(tried("bidigrid_desk_file", a_letter, saves) > 0);
-    CHECK(tried("bidigrid_desk_merge", a_letter_for_another, merges) > 0 && length_of(&other) == 1);
+    static peace all;
+    make_in_peace(it, &all);
+    long number = 1, refused = 0;
+    while (try_one(it, number, &all, &refused))
+        number++;
+    drop(all.before);
+    drop(all.done);
+    all_requests += number - 1;
+    all_refused += refused;
+    if (it->before != a_desk_of_characters)
+        printf("%s: %ld requests refused in turn, %ld times BIDIGRID_FAULT_MEMORY\n", it->name, number - 1, refused);
+    /* Erasing one character asks for none, and so does typing one into most texts. */
+    CHECK(number > 1 || it->call == erases || (it->call == types && it->before == a_large_desk) ||
+          it->before == a_desk_of_characters);
+}
+
+/* A message of so many characters at random, each typed at random, and a text of them. */
+static bytes typed_at_random(uint32_t site, bytes *all)
+{
+    bidigrid_desk typist = BIDIGRID_NONE;
+    uint8_t *at = all->at = malloc(4 * MANY);
+    CHECK(at);
+    CHECK(bidigrid_desk_new(&typist, site, 5, 6) == BIDIGRID_OK);
+    for (size_t places = 0; places < MANY; places++) {
+        uint32_t letter = random_letter();
+        at = put_utf8(at, letter);
+        CHECK(bidigrid_desk_type(&typist, below(places + 1), letter, out, sizeof out, &size) == BIDIGRID_OK);
+    }
+    all->size = (size_t)(at - all->at);
+    bytes file = written(writes_file, &typist);
+    bidigrid_desk_free(&typist);
+    return file;
+}
+
+static const row ROWS[] = {
+    {"bidigrid_tables_new", nothing, reads_tables, false},
+    {"bidigrid_tables_unicode", nothing, makes_tables, false},
+    {"bidigrid_picture_new", a_small_picture, draws, false},
+    {"bidigrid_picture_print", nothing, prints, false},
+    {"bidigrid_picture_row_print", nothing, prints_a_row, false},
+    {"bidigrid_desk_new", a_large_desk, makes_a_desk, false},
+    {"bidigrid_desk_type, a first character", a_fresh_desk, types, false},
+    {"bidigrid_desk_type", a_large_desk, types, false},
+    {"bidigrid_desk_erase", a_large_desk, erases, false},
+    {"bidigrid_desk_erase, many", a_large_desk, erases_many, false},
+    {"bidigrid_desk_insert", a_large_desk, inserts_many, false},
+    {"bidigrid_desk_replace", a_large_desk, replaces_many, false},
+    {"bidigrid_desk_take, by a fresh desk", a_fresh_desk, takes, true},
+    {"bidigrid_desk_take", a_large_desk, takes, true},
+    {"bidigrid_desk_open", a_fresh_desk, opens, false},
+    {"bidigrid_desk_reserve", a_large_desk, reserves, false},
+    {"bidigrid_desk_text", a_large_desk, reads, false},
+    {"bidigrid_desk_file", a_large_desk, saves, false},
+    {"bidigrid_desk_merge", two_large_desks, merges, true},
+};
+
+/* While operations are spare, characters are typed and erased though all memory is refused. */
+static void types_what_is_spare(void)
+{
+    a_large_desk();
+    CHECK(bidigrid_desk_reserve(&desk, 2 * MANY) == BIDIGRID_OK && spare() >= 2 * MANY);
+    CHECK(bidigrid_desk_length(&desk, &size) == BIDIGRID_OK && size >= 3 * MANY);
+    puts("bidigrid_desk_type: what is spare is typed, though all memory is refused");
+}
+
+int main(int count, char **words)
+{
+    size_t sizes = count > 1 ? strtoul(words[1], NULL, 10) : 300;
+    seed_random(1);
+    for (int number = 0; number < 2; number++)
+        message[number] = typed_at_random((uint32_t)number + 3, &text[number]);
+    for (size_t number = 0; number < sizeof ROWS / sizeof *ROWS; number++)
+        tried(&ROWS[number]);
+    const row into_texts = {"bidigrid_desk_type, into texts of many sizes", a_desk_of_characters, types_inside, false};
+    for (characters = FEW; characters < FEW + sizes; characters++)
+        tried(&into_texts);
+    printf("%s: %zu\n", into_texts.name, sizes);
+    types_what_is_spare();
+    printf("refused: %ld requests in turn, %ld times BIDIGRID_FAULT_MEMORY, else done\n", all_requests, all_refused);
     bidigrid_desk_free(&desk);
     bidigrid_desk_free(&other);
     bidigrid_picture_free(&picture);
     bidigrid_tables_free(&tables);
+    for (int number = 0; number < 2; number++) {
+        free(message[number].at);
+        free(text[number].at);
+    }
     return 0;
 }

@@ -7,10 +7,7 @@
 /* Ends the program with the name of a fault. */
 static void stop(uint32_t fault)
 {
-    uint8_t name[32];
-    size_t size = 0;
-    bidigrid_fault_name(fault, name, sizeof name, &size);
-    fprintf(stderr, "chat: %.*s\n", (int)size, (const char *)name);
+    fprintf(stderr, "chat: %s\n", bidigrid_fault_name(fault));
     exit(1);
 }
 
@@ -27,11 +24,11 @@ int main(void)
     bidigrid_tables tables = BIDIGRID_NONE;
     bidigrid_picture picture = BIDIGRID_NONE;
     must(bidigrid_tables_unicode(&tables, false));
-    must(bidigrid_picture_new(&picture, &tables, 40, BIDIGRID_LEFT_TO_RIGHT, (const uint8_t *)line, strlen(line)));
+    must(bidigrid_picture_new(&picture, &tables, 40, BIDIGRID_BASE_LEFT_TO_RIGHT, line, strlen(line)));
 
     size_t size = 0;
-    bidigrid_picture_print(&picture, NULL, 0, &size); /* answers BIDIGRID_SHORT_BUFFER, and tells the size */
-    uint8_t *print = malloc(size);
+    bidigrid_picture_print(&picture, NULL, 0, &size); /* answers BIDIGRID_FAULT_SHORT_BUFFER, and tells the size */
+    char *print = malloc(size);
     if (!print)
         return 1;
     must(bidigrid_picture_print(&picture, print, size, &size));
@@ -39,9 +36,9 @@ int main(void)
     free(print);
 
     bidigrid_caret caret;
-    must(bidigrid_picture_caret_under(&picture, 0, 18, &caret));
+    must(bidigrid_caret_under(&picture, 0, 18, &caret));
     printf("row 0, column 18: gap %zu, place %zu\n", caret.gap, caret.place);
-    must(bidigrid_picture_right(&picture, &caret));
+    must(bidigrid_caret_right(&picture, &caret));
     printf("one step to the right: gap %zu, place %zu\n", caret.gap, caret.place);
 
     bidigrid_picture_free(&picture);

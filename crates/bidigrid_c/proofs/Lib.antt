@@ -1,2 +1,6 @@
+mod Erased
+mod Filled
 mod InTurn
 mod Messages
+mod Sized
+mod Texts

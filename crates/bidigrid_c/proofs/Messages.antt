@@ -1,5 +1,5 @@
 -- How many bytes the messages of operations have.
-use Rattle.std.proofs.Common.{◌≡◌, ◌≤◌, ◌+◌, ◌*◌, ℕ, suc, List, [], ◌∷◌, ◌++◌, length, take, drop, refl, ap, length-append, length-drop, arith}
+use Rattle.std.proofs.Common.{◌≡◌, ◌≤◌, ◌+◌, ◌*◌, ℕ, suc, List, [], ◌∷◌, ◌++◌, length, take, drop, refl, ap, subst, length-append, length-drop, arith}
 use Rattle.std.specs.Prelude.{map as each}
 use Rattle.std.specs.List.{flat_map}
 use Rattle.std.proofs.lemmas.List.{length-map, length-take-le}
@@ -14,11 +14,27 @@ use Rattle.op_codec.specs.Spelling.{frame, spelling}
 use Rattle.desk_replica.specs.Typing.{parent_at}
 use Rattle.desk_replica.specs.Stretch.{next_id, id_after, insertions, typed_text, deletions, replacement}
 use Rattle.desk_replica.specs.Merging.{with_operations}
+use Rattle.bidigrid_c.specs.Copying.{IsCopied}
 use Rattle.bidigrid_c.specs.Desks.{replaced_size}
 
 pub frame_most : (op : OpView) → length (frame op) ≤ 19
 frame_most (Insert id parent ch) = omega arith
 frame_most (Erase target) = omega arith
+
+-- the message of one operation
+pub one_most : (op : OpView) → length (spelling (op ∷ [])) ≤ 24
+one_most (Insert id parent ch) = omega arith
+one_most (Erase target) = omega arith
+
+-- it is written to the front of a buffer
+pub copied_one : (op made : OpView) (before after : List ℕ) (told : ℕ) → op ≡ made → length (spelling (op ∷ [])) ≤ length before
+    → after ≡ spelling (op ∷ []) ++ drop (length (spelling (op ∷ []))) before → told ≡ length (spelling (op ∷ [])) → IsCopied (spelling (made ∷ [])) before after told 0
+copied_one op made before after told is room written size =
+    subst (λ (o : OpView). IsCopied (spelling (o ∷ [])) before after told 0) is (record {
+      told = size;
+      fits = λ _. (refl, written);
+      short = λ wrong. absurd (omega (arith, wrong, room));
+    })
 
 frames-append : (xs ys : List OpView) → length (flat_map frame (xs ++ ys)) ≡ length (flat_map frame xs) + length (flat_map frame ys)
 frames-append [] ys = omega arith

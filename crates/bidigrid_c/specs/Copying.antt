@@ -8,6 +8,16 @@ pub record IsCopied (bytes before after : List ℕ) (size answer : ℕ) : Type 0
   pub fits : length bytes ≤ length before → (answer ≡ 0) × (after ≡ bytes ++ drop (length bytes) before)
   pub short : length before < length bytes → (answer ≡ 102) × (after ≡ before)
 
--- the same of bytes that take memory to make: where it was refused, the answer is 9, Memory, and the buffer is as it was
+-- nothing was written, for a fault that is told: the buffer is as it was, and the size is 0
+abbrev pub IsLeft : (before after : List ℕ) → (size : ℕ) → Type 0
+IsLeft before after size = (after ≡ before) × (size ≡ 0)
+
+-- bytes that take memory to make were asked for: where it was refused, the answer is 9, Memory
 abbrev pub IsWritten : (bytes before after : List ℕ) → (size answer : ℕ) → Type 0
-IsWritten bytes before after size answer = IsCopied bytes before after size answer ⊎ ((answer ≡ 9) × (after ≡ before))
+IsWritten bytes before after size answer = IsCopied bytes before after size answer ⊎ ((answer ≡ 9) × IsLeft before after size)
+
+-- how many bytes there are was asked for, with no buffer for them
+abbrev pub IsSized : (bytes : List ℕ) → (size answer : ℕ) → Type 0
+IsSized bytes size answer =
+    ((size ≡ length bytes) × (0 < size → answer ≡ 102) × (size ≡ 0 → answer ≡ 0))
+    ⊎ ((answer ≡ 9) × (size ≡ 0))

@@ -25,14 +25,18 @@ file_number Mirror = 3
 file_number Lb = 4
 file_number Ea = 5
 
+-- no file is faulty
+abbrev pub no_data_fault : DataFault
+no_data_fault = record { line = 0; file = 0 }
+
 -- where a fault is: its file and line; of lack of memory 0 and 0
 abbrev pub data_fault : UcdFault → DataFault
 data_fault (At file line cause) = record { line = line; file = file_number file }
-data_fault Memory = record { line = 0; file = 0 }
+data_fault Memory = no_data_fault
 
 -- files whose first fault this is were refused with the number, and where it is was told; or memory was
 abbrev pub IsRefusedData : Option UcdFault → (answer : ℕ) → DataFault → Type 0
-IsRefusedData first answer told = (answer ≡ 9) ⊎ ((fault : UcdFault) × (first ≡ Some fault) × (answer ≡ data_number fault) × (told ≡ data_fault fault))
+IsRefusedData first answer told = ((answer ≡ 9) × (told ≡ no_data_fault)) ⊎ ((fault : UcdFault) × (first ≡ Some fault) × (answer ≡ data_number fault) × (told ≡ data_fault fault))
 
 -- a message's fault is 300 and its cause's number
 abbrev pub message_number : CodecFault → ℕ

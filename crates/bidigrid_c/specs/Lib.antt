@@ -1,8 +1,9 @@
--- The modules of this crate's definitions.
 pub mod Bases
 pub mod Copying
 pub mod Desks
 pub mod Drawing
+pub mod Entries
 pub mod Faults
+pub mod Files
 pub mod Numbers
 pub mod Rows

@@ -1,5 +1,5 @@
 -- What the structs of C have of the core's.
-use Rattle.std.specs.Prelude.{◌≡◌, ℕ, length}
+use Rattle.std.specs.Prelude.{◌≡◌, ◌<◌, ℕ, length}
 use Rattle.cell_grid.specs.declared.entry.Entry.{Entry}
 use Rattle.cell_grid.specs.Rows.{DrawnRow}
 use Rattle.caret.specs.declared.caret.Caret.{Caret}
@@ -7,6 +7,8 @@ use Rattle.caret.specs.Gaps.{gap_column}
 use Rattle.bidigrid_c.specs.declared.numbers.RowNumbers.{RowNumbers}
 use Rattle.bidigrid_c.specs.declared.numbers.EntryNumbers.{EntryNumbers}
 use Rattle.bidigrid_c.specs.declared.numbers.CaretNumbers.{CaretNumbers}
+use Rattle.bidigrid_c.specs.declared.numbers.IdentifierNumbers.{IdentifierNumbers}
+use Rattle.bidigrid_c.specs.declared.numbers.Taken.{Taken}
 
 -- the column is where the entries begin, that of gap 0
 abbrev pub row_numbers : DrawnRow → RowNumbers
@@ -35,7 +37,28 @@ caret_numbers c = record { row = c.row; gap = c.gap; place = c.place }
 abbrev pub caret_of : CaretNumbers → Caret
 caret_of c = record { row = c.row; gap = c.gap; place = c.place }
 
--- where the condition holds, these numbers were told; else the answer is the fault, and what stood there stands
-abbrev pub IsTold : {X : Type 0} → Type 0 → X → (fault : ℕ) → (before after : X) → (answer : ℕ) → Type 0
-IsTold Holds numbers fault before after answer =
-    (Holds → (answer ≡ 0) × (after ≡ numbers)) × (¬ Holds → (answer ≡ fault) × (after ≡ before))
+-- where there is nothing to tell, all numbers are 0
+abbrev pub no_row : RowNumbers
+no_row = record { first_place = 0; last_place = 0; entries = 0; column = 0; level = 0 }
+
+abbrev pub no_entry : EntryNumbers
+no_entry = record { first_byte = 0; end_byte = 0; first_place = 0; end_place = 0; column = 0; level = 0; columns = 0 }
+
+abbrev pub no_caret : CaretNumbers
+no_caret = record { row = 0; gap = 0; place = 0 }
+
+abbrev pub no_identifier : IdentifierNumbers
+no_identifier = record { counter = 0; site = 0 }
+
+-- a message that was not read, or whose fault is in this frame
+abbrev pub none_taken : ℕ → Taken
+none_taken frame = record { operations = 0; taken = 0; frame = frame }
+
+-- a site is 1 to 65,535
+abbrev pub IsSite : ℕ → Type 0
+IsSite site = (0 < site) × (site < 65_536)
+
+-- where the condition holds, these numbers were told; else the answer is the fault, and those of none were told
+abbrev pub IsTold : {X : Type 0} → Type 0 → (numbers none : X) → (fault : ℕ) → (told : X) → (answer : ℕ) → Type 0
+IsTold Holds numbers none fault told answer =
+    (Holds → (answer ≡ 0) × (told ≡ numbers)) × (¬ Holds → (answer ≡ fault) × (told ≡ none))

@@ -33,14 +33,16 @@ pub const BAD_ENTRY: u32 = 109;
 pub const BAD_CARET: u32 = 110;
 /// A character is above 10FFFF or a surrogate.
 pub const BAD_CHARACTER: u32 = 111;
-/// A site is 0.
+/// A site is not 1 to 65,535.
 pub const BAD_SITE: u32 = 112;
-/// An identifier's counter or site is 0.
+/// An identifier's counter is 0, or its site not 1 to 65,535.
 pub const BAD_IDENTIFIER: u32 = 113;
 /// An identifier stands nowhere in the text's walk.
 pub const NOT_PLACED: u32 = 114;
 /// More than 1,000,000 operations are asked room for.
 pub const TOO_MANY: u32 = 115;
+/// A message has more than 67,108,864 bytes.
+pub const MESSAGE_TOO_LONG: u32 = 116;
 /// An identifier is kept with another parent or character.
 pub const IDENTIFIER_REUSED: u32 = 201;
 /// 1,000,000 operations are kept.
@@ -83,47 +85,5 @@ pub(crate) fn take_number(fault: TakeFault) -> u32
         TakeFault::IdentifierReused => IDENTIFIER_REUSED,
         TakeFault::Full => FULL,
         TakeFault::Memory => MEMORY,
-    }
-}
-
-/// The bare name of a fault, or that of no fault.
-pub(crate) fn name_of(number: u32) -> &'static str {
-    match number {
-        OK => "Ok",
-        MEMORY => "Memory",
-        EMPTY_HANDLE => "EmptyHandle",
-        SHORT_BUFFER => "ShortBuffer",
-        NOT_UTF8 => "NotUtf8",
-        TEXT_TOO_LONG => "TextTooLong",
-        BAD_WIDTH => "BadWidth",
-        BAD_BASE => "BadBase",
-        BAD_PLACE => "BadPlace",
-        BAD_ROW => "BadRow",
-        BAD_ENTRY => "BadEntry",
-        BAD_CARET => "BadCaret",
-        BAD_CHARACTER => "BadCharacter",
-        BAD_SITE => "BadSite",
-        BAD_IDENTIFIER => "BadIdentifier",
-        NOT_PLACED => "NotPlaced",
-        TOO_MANY => "TooMany",
-        IDENTIFIER_REUSED => "IdentifierReused",
-        FULL => "Full",
-        COUNTER_SPENT => "CounterSpent",
-        301 => "BadMagic",
-        302 => "BadVersion",
-        303 => "Truncated",
-        304 => "UnknownKind",
-        305 => "BadLength",
-        306 => "ZeroField",
-        307 => "ParentNotBefore",
-        308 => "NotAScalar",
-        310 => "CounterOverflow",
-        311 => "NotJoined",
-        401 => "BadUtf8",
-        402 => "BadCode",
-        403 => "BadRange",
-        404 => "MissingField",
-        405 => "UnknownValue",
-        _ => "Unknown",
     }
 }

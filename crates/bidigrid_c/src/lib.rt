@@ -2,6 +2,7 @@
 #![tactic(auto)]
 
 mod about;
+mod carets;
 mod copying;
 mod desk;
 mod desk_handle;
@@ -9,13 +10,19 @@ mod fault;
 mod numbers;
 mod picture;
 mod picture_handle;
+mod printing;
+mod reading;
 mod replacing;
 mod tables;
 mod tables_handle;
+mod taking;
+mod typing;
 
-pub use about::{bidigrid_fault_name, bidigrid_version};
+pub use about::bidigrid_version;
 pub use desk::Desk;
 pub use desk_handle::DeskHandle;
-pub use numbers::{CaretNumbers, DataFault, EntryNumbers, IdentifierNumbers, RowNumbers, Taken};
+pub use numbers::{
+    CaretNumbers, DataFault, DataFiles, EntryNumbers, IdentifierNumbers, RowNumbers, Taken,
+};
 pub use picture_handle::PictureHandle;
 pub use tables_handle::TablesHandle;

@@ -1,8 +1,8 @@
 //! The structs of numbers that C reads.
 
 ghost use Rattle.std.specs.Prelude.{◌≡◌};
-ghost use Rattle.bidigrid_c.specs.Numbers.{row_numbers, entry_numbers, caret_numbers, caret_of};
-ghost use Rattle.bidigrid_c.specs.Faults.{data_fault, file_number};
+ghost use Rattle.bidigrid_c.specs.Numbers.{row_numbers, no_row, entry_numbers, no_entry, caret_numbers, no_caret, caret_of, no_identifier, none_taken};
+ghost use Rattle.bidigrid_c.specs.Faults.{data_fault, file_number, no_data_fault};
 
 use caret::{Caret, gap_column};
 use cell_grid::{Entry, Row};
@@ -16,7 +16,7 @@ pub struct RowNumbers {
     pub last_place: usize,
     pub entries: usize,
     pub column: usize,
-    pub level: u8,
+    pub level: u32,
 }
 
 /// An entry of a row: `bidigrid_entry` of the header.
@@ -27,9 +27,9 @@ pub struct EntryNumbers {
     pub end_byte: u32,
     pub first_place: u32,
     pub end_place: u32,
-    pub column: u16,
-    pub level: u8,
-    pub columns: u8,
+    pub column: u32,
+    pub level: u32,
+    pub columns: u32,
 }
 
 /// A caret: `bidigrid_caret` of the header.
@@ -46,7 +46,7 @@ pub struct CaretNumbers {
 #[repr(C)]
 pub struct IdentifierNumbers {
     pub counter: u32,
-    pub site: u16,
+    pub site: u32,
 }
 
 /// What became of a message: `bidigrid_taken` of the header.
@@ -56,6 +56,17 @@ pub struct Taken {
     pub operations: usize,
     pub taken: usize,
     pub frame: usize,
+}
+
+/// The bytes of the five data files: `bidigrid_bytes` of the header, five of them in this order.
+#[derive(Clone, Copy)]
+#[repr(C)]
+pub struct DataFiles<'a> {
+    pub bidi: &'a [u8],
+    pub brackets: &'a [u8],
+    pub mirror: &'a [u8],
+    pub lb: &'a [u8],
+    pub ea: &'a [u8],
 }
 
 /// Where a data file is faulty: `bidigrid_data_fault` of the header.
@@ -75,7 +86,20 @@ pub(crate) fn row_numbers(row: &Row) -> RowNumbers
         last_place: row.last_place(),
         entries: row.entries().len(),
         column: gap_column(row, 0),
-        level: row.para_level(),
+        level: u32::from(row.para_level()),
+    }
+}
+
+/// The numbers where there is no row.
+pub(crate) fn no_row() -> RowNumbers
+    ensures { result ≡ no_row }
+{
+    RowNumbers {
+        first_place: 0,
+        last_place: 0,
+        entries: 0,
+        column: 0,
+        level: 0,
     }
 }
 
@@ -89,9 +113,24 @@ pub(crate) fn entry_numbers(entry: &Entry) -> EntryNumbers
         end_byte: span.end_byte,
         first_place: span.first_place,
         end_place: span.end_place,
-        column: entry.column,
-        level: entry.level,
-        columns: entry.columns,
+        column: u32::from(entry.column),
+        level: u32::from(entry.level),
+        columns: u32::from(entry.columns),
+    }
+}
+
+/// The numbers where there is no entry.
+pub(crate) fn no_entry() -> EntryNumbers
+    ensures { result ≡ no_entry }
+{
+    EntryNumbers {
+        first_byte: 0,
+        end_byte: 0,
+        first_place: 0,
+        end_place: 0,
+        column: 0,
+        level: 0,
+        columns: 0,
     }
 }
 
@@ -106,6 +145,17 @@ pub(crate) fn caret_numbers(caret: Caret) -> CaretNumbers
     }
 }
 
+/// The numbers where there is no caret.
+pub(crate) fn no_caret() -> CaretNumbers
+    ensures { result ≡ no_caret }
+{
+    CaretNumbers {
+        row: 0,
+        gap: 0,
+        place: 0,
+    }
+}
+
 /// The caret with these numbers.
 pub(crate) fn caret_of(numbers: &CaretNumbers) -> Caret
     ensures { result ≡ caret_of numbers.now }
@@ -117,12 +167,40 @@ pub(crate) fn caret_of(numbers: &CaretNumbers) -> Caret
     }
 }
 
+/// The numbers where there is no identifier.
+pub(crate) fn no_identifier() -> IdentifierNumbers
+    ensures { result ≡ no_identifier }
+{
+    IdentifierNumbers {
+        counter: 0,
+        site: 0,
+    }
+}
+
+/// What became of a message that was not read, or whose fault is in this frame.
+pub(crate) fn none_taken(frame: usize) -> Taken
+    ensures { result ≡ none_taken frame }
+{
+    Taken {
+        operations: 0,
+        taken: 0,
+        frame,
+    }
+}
+
+/// Where no data file is faulty.
+pub(crate) fn no_data_fault() -> DataFault
+    ensures { result ≡ no_data_fault }
+{
+    DataFault { line: 0, file: 0 }
+}
+
 /// Where a data file's fault is.
 pub(crate) fn data_fault(fault: UcdFault) -> DataFault
     ensures { result ≡ data_fault fault }
 {
     match fault {
-        UcdFault::Memory => DataFault { line: 0, file: 0 },
+        UcdFault::Memory => no_data_fault(),
         UcdFault::At { file, line, .. } => DataFault {
             line,
             file: file_number(file),

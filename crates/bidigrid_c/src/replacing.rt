@@ -1,12 +1,12 @@
-//! Replacing characters of a desk's text.
+//! Typing a text, and putting one in the place of characters.
 
 ghost use Rattle.std.specs.Prelude.{◌≡◌, ◌≤◌, ◌<◌, ◌+◌, ◌*◌, ◌++◌, [], None, length, IfOk, vec_len};
 ghost use Rattle.std.specs.List.{flat_map};
 ghost use Rattle.std.specs.Option.{IfSome};
-ghost use Rattle.std.specs.Str.{chars};
+ghost use Rattle.std.specs.Str.{chars, IsUtf8};
 ghost use Rattle.std.specs.Vec.{vec_capacity};
 ghost use Rattle.op_codec.specs.Spelling.{frame, spelling};
-ghost use Rattle.bidigrid_c.specs.Desks.{IsReplaced, IsRefusedReplacing};
+ghost use Rattle.bidigrid_c.specs.Desks.{IsReplaced, IsRefusedExchange, IsRefusedReplacing, IsUnwritten};
 
 use crate::copying::copy_out;
 use crate::desk::{Desk, MOST};
@@ -26,6 +26,32 @@ const ERASURE: usize = 9;
 /// How many bytes an insertion has in a message.
 const INSERTION: usize = 19;
 
+/// Types a text at a place, and writes the message for the other desks: all of it, or nothing.
+#[unsafe(no_mangle)]
+pub extern "C" fn bidigrid_desk_insert(
+    alloc: Global,
+    desk: &mut DeskHandle,
+    place: usize,
+    text: &[u8],
+    out: &mut [u8],
+    size: &mut usize,
+) -> u32
+    ensures ok { result ≡ 0 → IfSome desk.old.held (λ d. IfSome desk.new.held (λ e. IsReplaced d place place (chars text.now) e out.old out.new size.new)) }
+    ensures utf8 { result ≡ 0 → IsUtf8 text.now }
+    ensures err { (result ≡ 0 → ⊥) → (desk.new.held ≡ desk.old.held) × IsUnwritten out.old out.new size.new result }
+    ensures fault { (result ≡ 0 → ⊥) → IfSome desk.old.held (λ d. IsRefusedReplacing d.set place place text.now (length out.old) size.new result) }
+    ensures empty { desk.old.held ≡ None → (result ≡ 101) × (desk.new.held ≡ None) }
+    ensures held { desk.new.held ≡ None → desk.old.held ≡ None }
+{
+    let Some(mut held) = desk.take(alloc) else {
+        *size = 0;
+        return EMPTY_HANDLE;
+    };
+    let answer = replace_in(alloc, &mut held, place, place, text, out, size);
+    desk.put(alloc, held);
+    answer
+}
+
 /// Erases the characters from one place up to another, types a text where they began, and writes the message for the
 /// other desks: all of it, or nothing.
 #[unsafe(no_mangle)]
@@ -39,12 +65,14 @@ pub extern "C" fn bidigrid_desk_replace(
     size: &mut usize,
 ) -> u32
     ensures ok { result ≡ 0 → IfSome desk.old.held (λ d. IfSome desk.new.held (λ e. IsReplaced d from to (chars text.now) e out.old out.new size.new)) }
-    ensures err { (result ≡ 0 → ⊥) → (desk.new.held ≡ desk.old.held) × (out.new ≡ out.old) }
+    ensures utf8 { result ≡ 0 → IsUtf8 text.now }
+    ensures err { (result ≡ 0 → ⊥) → (desk.new.held ≡ desk.old.held) × IsUnwritten out.old out.new size.new result }
     ensures fault { (result ≡ 0 → ⊥) → IfSome desk.old.held (λ d. IsRefusedReplacing d.set from to text.now (length out.old) size.new result) }
-    ensures empty { desk.old.held ≡ None → result ≡ 101 }
+    ensures empty { desk.old.held ≡ None → (result ≡ 101) × (desk.new.held ≡ None) }
     ensures held { desk.new.held ≡ None → desk.old.held ≡ None }
 {
     let Some(mut held) = desk.take(alloc) else {
+        *size = 0;
         return EMPTY_HANDLE;
     };
     let answer = replace_in(alloc, &mut held, from, to, text, out, size);
@@ -52,6 +80,7 @@ pub extern "C" fn bidigrid_desk_replace(
     answer
 }
 
+/// Puts the bytes of a text in the place of characters.
 fn replace_in(
     alloc: Global,
     desk: &mut Desk,
@@ -62,12 +91,32 @@ fn replace_in(
     size: &mut usize,
 ) -> u32
     ensures ok { result ≡ 0 → IsReplaced desk.old from to (chars text.now) desk.new out.old out.new size.new }
-    ensures err { (result ≡ 0 → ⊥) → (desk.new ≡ desk.old) × (out.new ≡ out.old) }
+    ensures utf8 { result ≡ 0 → IsUtf8 text.now }
+    ensures err { (result ≡ 0 → ⊥) → (desk.new ≡ desk.old) × IsUnwritten out.old out.new size.new result }
     ensures fault { (result ≡ 0 → ⊥) → IsRefusedReplacing desk.old.set from to text.now (length out.old) size.new result }
 {
     let Ok(text) = std::str::from_utf8(text) else {
+        *size = 0;
         return NOT_UTF8;
     };
+    exchange_in(alloc, desk, from, to, text, out, size)
+}
+
+/// Puts a text in the place of characters.
+pub(crate) fn exchange_in(
+    alloc: Global,
+    desk: &mut Desk,
+    from: usize,
+    to: usize,
+    text: &str,
+    out: &mut [u8],
+    size: &mut usize,
+) -> u32
+    ensures ok { result ≡ 0 → IsReplaced desk.old from to (chars text.now) desk.new out.old out.new size.new }
+    ensures err { (result ≡ 0 → ⊥) → (desk.new ≡ desk.old) × IsUnwritten out.old out.new size.new result }
+    ensures fault { (result ≡ 0 → ⊥) → IsRefusedExchange desk.old.set from to (length (chars text.now)) (length out.old) size.new result }
+{
+    *size = 0;
     if from > to || to > desk.len() {
         return BAD_PLACE;
     }
@@ -76,8 +125,9 @@ fn replace_in(
     if erased > room || typed > room - erased {
         return FULL;
     }
-    *size = HEADER + ERASURE * erased + INSERTION * typed;
-    if out.len() < *size {
+    let wanted = HEADER + ERASURE * erased + INSERTION * typed;
+    if out.len() < wanted {
+        *size = wanted;
         return SHORT_BUFFER;
     }
     let Ok((mut message, mut ops)) = room_for(alloc, erased + typed) else {

@@ -1,50 +1,47 @@
 //! Tables.
 
 ghost use Rattle.std.specs.Prelude.{◌≡◌, ◌≢◌, Some, None, IfOk, IfErr, OnOk};
-ghost use Rattle.std.specs.Option.{IfSome};
 ghost use Rattle.unicode_tables.specs.Tables.{with_width};
-ghost use Rattle.ucd_files.specs.Faults.{fault_of};
 ghost use Rattle.ucd_files.specs.Ucd.{tables_of, tables_of_ucd, fault_of_ucd};
-ghost use Rattle.bidigrid_c.specs.Faults.{IsRefusedData};
+ghost use Rattle.bidigrid_c.specs.Faults.{IsRefusedData, no_data_fault};
+ghost use Rattle.bidigrid_c.specs.Files.{tables_of_files, fault_of_files};
 
-use crate::fault::{OK, data_number};
-use crate::numbers::{DataFault, data_fault};
+use crate::fault::{MEMORY, OK, data_number};
+use crate::numbers::{DataFault, DataFiles, data_fault, no_data_fault};
 use crate::tables_handle::TablesHandle;
 use pictures::SharedTables;
 use std::alloc::Global;
 use ucd_files::{Ucd, UcdFault};
-use unicode_data::unicode_15_0;
+use unicode_data::{
+    BIDI_BRACKETS, BIDI_CLASS, BIDI_MIRRORING, EAST_ASIAN_WIDTH, LINE_BREAK, unicode_15_0,
+};
 
 /// Makes tables of the five data files. What the handle held is freed.
 #[unsafe(no_mangle)]
 pub extern "C" fn bidigrid_tables_new(
     alloc: Global,
     out: &mut TablesHandle,
-    bidi: &[u8],
-    brackets: &[u8],
-    mirror: &[u8],
-    lb: &[u8],
-    ea: &[u8],
+    files: &DataFiles,
     wide_ambiguous: bool,
     told: &mut DataFault,
 ) -> u32
-    ensures ok { result ≡ 0 → out.new.held ≡ Some (with_width (tables_of bidi.now brackets.now mirror.now lb.now ea.now) wide_ambiguous) }
-    ensures sound { result ≡ 0 → fault_of bidi.now brackets.now mirror.now lb.now ea.now ≡ None }
+    ensures ok { result ≡ 0 → out.new.held ≡ Some (with_width (tables_of_files files.now) wide_ambiguous) }
+    ensures sound { result ≡ 0 → (fault_of_files files.now ≡ None) × (told.new ≡ no_data_fault) }
     ensures err { (result ≡ 0 → ⊥) → out.new.held ≡ out.old.held }
-    ensures fault { (result ≡ 0 → ⊥) → IsRefusedData (fault_of bidi.now brackets.now mirror.now lb.now ea.now) result told.new }
+    ensures fault { (result ≡ 0 → ⊥) → IsRefusedData (fault_of_files files.now) result told.new }
 {
     let ucd = Ucd {
-        bidi,
-        brackets,
-        mirror,
-        lb,
-        ea,
+        bidi: files.bidi,
+        brackets: files.brackets,
+        mirror: files.mirror,
+        lb: files.lb,
+        ea: files.ea,
         wide_ambiguous,
     };
     match load(alloc, &ucd) {
         Ok(tables) => {
             out.put(alloc, tables);
-            *told = DataFault { line: 0, file: 0 };
+            *told = no_data_fault();
             OK
         }
         Err(fault) => {
@@ -61,16 +58,16 @@ pub extern "C" fn bidigrid_tables_unicode(
     out: &mut TablesHandle,
     wide_ambiguous: bool,
 ) -> u32
-    ensures ok { result ≡ 0 → IfSome out.new.held (λ t. t.wide_ambiguous ≡ wide_ambiguous) }
-    ensures held { result ≡ 0 → out.new.held ≡ None → ⊥ }
-    ensures err { (result ≡ 0 → ⊥) → out.new.held ≡ out.old.held }
+    ensures ok { result ≡ 0 → out.new.held ≡ Some (with_width (tables_of BIDI_CLASS.now BIDI_BRACKETS.now BIDI_MIRRORING.now LINE_BREAK.now EAST_ASIAN_WIDTH.now) wide_ambiguous) }
+    ensures err { (result ≡ 0 → ⊥) → (out.new.held ≡ out.old.held) × (result ≡ 9) }
 {
     match load(alloc, &unicode_15_0(wide_ambiguous)) {
         Ok(tables) => {
             out.put(alloc, tables);
             OK
         }
-        Err(fault) => data_number(fault),
+        // The files inside are sound, as the tests see, so only memory can be wanting.
+        Err(_) => MEMORY,
     }
 }
 

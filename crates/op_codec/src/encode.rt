@@ -1,13 +1,13 @@
 //! Writing one frame, and a whole operation file.
 
-ghost use Rattle.std.specs.Prelude.{◌≡◌, ◌≤◌, ◌+◌, ◌-◌, ◌^◌, ◌++◌, min, length, drop, OnOk, OnErr, IsOk, IfOk, vec_len};
+ghost use Rattle.std.specs.Prelude.{◌≡◌, ◌≤◌, ◌+◌, ◌-◌, ◌^◌, ◌++◌, ◌∷◌, [], min, length, drop, OnOk, OnErr, IsOk, IfOk, vec_len};
 ghost use Rattle.std.specs.Vec.{vec_capacity};
 ghost use Rattle.bg_types.specs.WellFormed.{IsWellFormed};
 ghost use Rattle.op_codec.specs.Spelling.{frame, spelling, SpellsIn, parent_identifier, identifier_bytes};
 
 use crate::format::{
-    ERASURE, ERASURE_LENGTH, ERASURE_SIZE, HEADER_SIZE, INSERTION, INSERTION_LENGTH,
-    INSERTION_SIZE, MAGIC,
+    ERASURE, ERASURE_FILE_SIZE, ERASURE_LENGTH, ERASURE_SIZE, HEADER_SIZE, INSERTION,
+    INSERTION_FILE_SIZE, INSERTION_LENGTH, INSERTION_SIZE, MAGIC,
 };
 use crate::position::Version;
 use bg_types::{Id, Memory, Op, OpView, Place};
@@ -33,6 +33,50 @@ pub fn encode_op(op: &Op, out: &mut Vec<u8>) -> Result<(), Memory>
         OpView::Erase { target } => out.extend_from_slice(&erasure_frame(target))?,
     }
     Ok(())
+}
+
+/// Writes the file of one operation, in version 1 (docs/FORMATS.md), to the front of `out`, and returns how many bytes it
+/// has: 24 of an insertion, 14 of a deletion. Takes no memory.
+pub fn encode_one(op: &Op, out: &mut [u8]) -> usize
+    requires room { length (spelling (op.now ∷ [])) ≤ length out.old }
+    ensures written { out.new ≡ spelling (op.now ∷ []) ++ drop (length (spelling (op.now ∷ []))) out.old }
+    ensures size { result ≡ length (spelling (op.now ∷ [])) }
+{
+    match op.view() {
+        OpView::Insert { id, parent, ch } => put_front(&insertion_file(id, &parent, ch), out),
+        OpView::Erase { target } => put_front(&erasure_file(target), out),
+    }
+}
+
+/// Writes bytes to the front of `out`, and returns how many they are.
+fn put_front(bytes: &[u8], out: &mut [u8]) -> usize
+    requires room { length bytes.now ≤ length out.old }
+    ensures written { out.new ≡ bytes.now ++ drop (length bytes.now) out.old }
+    ensures size { result ≡ length bytes.now }
+{
+    let count = bytes.len();
+    out[..count].copy_from_slice(bytes);
+    count
+}
+
+fn insertion_file(id: Id, parent: &Place, ch: char) -> [u8; INSERTION_FILE_SIZE]
+    ensures { result ≡ spelling (OpView.Insert id parent.now ch ∷ []) }
+{
+    let mut file = [0; INSERTION_FILE_SIZE];
+    file[..4].copy_from_slice(&MAGIC);
+    file[4] = Version::One.number();
+    file[HEADER_SIZE..].copy_from_slice(&insertion_frame(id, parent, ch));
+    file
+}
+
+fn erasure_file(target: Id) -> [u8; ERASURE_FILE_SIZE]
+    ensures { result ≡ spelling (OpView.Erase target ∷ []) }
+{
+    let mut file = [0; ERASURE_FILE_SIZE];
+    file[..4].copy_from_slice(&MAGIC);
+    file[4] = Version::One.number();
+    file[HEADER_SIZE..].copy_from_slice(&erasure_frame(target));
+    file
 }
 
 /// The file of the operations, in version 1 (docs/FORMATS.md). Memory is taken once.

@@ -15,6 +15,9 @@ pub const INSERTION_LENGTH: u16 = 17;
 /// How many bytes an insertion's frame has, its length included.
 pub const INSERTION_SIZE: usize = 19;
 
+/// How many bytes the file of one insertion has in version 1.
+pub const INSERTION_FILE_SIZE: usize = 24;
+
 /// The kind of a deletion's frame.
 pub const ERASURE: u8 = 2;
 
@@ -23,6 +26,9 @@ pub const ERASURE_LENGTH: u16 = 7;
 
 /// How many bytes a deletion's frame has, its length included.
 pub const ERASURE_SIZE: usize = 9;
+
+/// How many bytes the file of one deletion has.
+pub const ERASURE_FILE_SIZE: usize = 14;
 
 /// The kind of a run's frame, of version 2.
 pub const RUN: u8 = 3;

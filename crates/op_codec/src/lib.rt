@@ -22,7 +22,7 @@ mod source;
 mod stream;
 
 pub use decode::decode_file;
-pub use encode::{encode_file, encode_op};
+pub use encode::{encode_file, encode_one, encode_op};
 pub use encode_v2::encode_file_v2;
 pub use fault::{Cause, CodecFault};
 pub use feed::Feed;

@@ -1,1 +1,2 @@
 mod LastRow
+mod Prints

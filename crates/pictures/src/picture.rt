@@ -1,6 +1,6 @@
 //! A picture of a text.
 
-ghost use Rattle.std.specs.Prelude.{◌≡◌, ◌<◌, ◌≤◌, length, IfOk};
+ghost use Rattle.std.specs.Prelude.{◌≡◌, ◌+◌, ◌<◌, ◌≤◌, length, IfOk};
 ghost use Rattle.std.specs.Bool.{OnTrue, OnFalse};
 ghost use Rattle.std.specs.Str.{chars};
 ghost use Rattle.cell_grid.specs.Grids.{grid_of, IsDrawn};
@@ -132,6 +132,20 @@ impl Picture {
         }
     }
 
+    /// How many bytes its print has, of which no more than a row is made at a time. `Memory` too where they are more than
+    /// can be counted.
+    pub fn print_size(&mut self) -> Result<usize, Memory>
+        ensures size { IfOk result (λ size. size ≡ length (printed self.old)) }
+        ensures unchanged { self.new ≡ self.old }
+    {
+        let mut size = 0usize;
+        for number in 0..self.rows.len() {
+            let row = self.printed_row(number)?;
+            size = added(size, row.len())?;
+        }
+        Ok(size)
+    }
+
     /// The print of the row with this number, counted from 0, with its LF.
     pub fn printed_row(&mut self, number: usize) -> Result<Vec<u8>, Memory>
         requires { number < length self.old.rows }
@@ -232,4 +246,11 @@ impl Picture {
         self.rows = grid.into_rows();
         moved
     }
+}
+
+/// A size with so many bytes more, or `Memory` where it can't be counted.
+fn added(size: usize, more: usize) -> Result<usize, Memory>
+    ensures { IfOk result (λ sum. sum ≡ size + more) }
+{
+    size.checked_add(more).ok_or(Memory)
 }

@@ -1,0 +1,105 @@
+//! Prints of pictures.
+
+ghost use Rattle.std.specs.Prelude.{◌≡◌, None, slice_get};
+ghost use Rattle.std.specs.Option.{IfSome, MatchOption};
+ghost use Rattle.cell_grid.specs.Print.{printed, printed_row};
+ghost use Rattle.bidigrid_c.specs.Copying.{IsLeft, IsSized, IsWritten};
+
+use crate::copying::copy_out;
+use crate::fault::{BAD_ROW, EMPTY_HANDLE, MEMORY, OK, SHORT_BUFFER};
+use crate::picture_handle::PictureHandle;
+use pictures::Picture;
+use std::alloc::Global;
+
+/// Writes a picture: the cells of each row in UTF-8, and a line feed after each.
+#[unsafe(no_mangle)]
+pub extern "C" fn bidigrid_picture_print(
+    alloc: Global,
+    picture: &mut PictureHandle,
+    out: &mut [u8],
+    size: &mut usize,
+) -> u32
+    ensures told { IfSome picture.old.held (λ g. IsWritten (printed g) out.old out.new size.new result) }
+    ensures same { picture.new.held ≡ picture.old.held }
+    ensures empty { picture.old.held ≡ None → (result ≡ 101) × IsLeft out.old out.new size.new }
+{
+    let Some(mut held) = picture.take(alloc) else {
+        *size = 0;
+        return EMPTY_HANDLE;
+    };
+    let answer = tell_print(&mut held, out, size);
+    picture.put(alloc, held);
+    answer
+}
+
+#[tactic(auto, using(crate::proofs::Sized::written_nowhere))]
+fn tell_print(picture: &mut Picture, out: &mut [u8], size: &mut usize) -> u32
+    ensures told { IsWritten (printed picture.old) out.old out.new size.new result }
+    ensures same { picture.new ≡ picture.old }
+{
+    *size = 0;
+    if out.is_empty() {
+        return tell_print_size(picture, size);
+    }
+    match picture.printed() {
+        Ok(bytes) => copy_out(&bytes, out, size),
+        Err(_) => MEMORY,
+    }
+}
+
+/// Tells how many bytes a picture has, and makes no print of more than a row for it.
+fn tell_print_size(picture: &mut Picture, size: &mut usize) -> u32
+    ensures told { IsSized (printed picture.old) size.new result }
+    ensures same { picture.new ≡ picture.old }
+{
+    match picture.print_size() {
+        Ok(0) => {
+            *size = 0;
+            OK
+        }
+        Ok(bytes) => {
+            *size = bytes;
+            SHORT_BUFFER
+        }
+        Err(_) => {
+            *size = 0;
+            MEMORY
+        }
+    }
+}
+
+/// Writes a row: its cells in UTF-8, and a line feed.
+#[unsafe(no_mangle)]
+pub extern "C" fn bidigrid_picture_row_print(
+    alloc: Global,
+    picture: &mut PictureHandle,
+    number: usize,
+    out: &mut [u8],
+    size: &mut usize,
+) -> u32
+    ensures told { IfSome picture.old.held (λ g. MatchOption (slice_get g.rows number) ((result ≡ 108) × IsLeft out.old out.new size.new) (λ _. IsWritten (printed_row g number) out.old out.new size.new result)) }
+    ensures same { picture.new.held ≡ picture.old.held }
+    ensures empty { picture.old.held ≡ None → (result ≡ 101) × IsLeft out.old out.new size.new }
+{
+    let Some(mut held) = picture.take(alloc) else {
+        *size = 0;
+        return EMPTY_HANDLE;
+    };
+    let answer = tell_row_print(&mut held, number, out, size);
+    picture.put(alloc, held);
+    answer
+}
+
+fn tell_row_print(picture: &mut Picture, number: usize, out: &mut [u8], size: &mut usize) -> u32
+    ensures told { MatchOption (slice_get picture.old.rows number) ((result ≡ 108) × IsLeft out.old out.new size.new) (λ _. IsWritten (printed_row picture.old number) out.old out.new size.new result) }
+    ensures same { picture.new ≡ picture.old }
+{
+    *size = 0;
+    if number >= picture.rows().len() {
+        return BAD_ROW;
+    }
+    match picture.printed_row(number) {
+        Ok(bytes) => copy_out(&bytes, out, size),
+        Err(_) => MEMORY,
+    }
+}

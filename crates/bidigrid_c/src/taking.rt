@@ -1,0 +1,140 @@
+//! Taking messages, and all that another desk holds.
+
+ghost use Rattle.std.specs.Prelude.{◌≡◌, ◌<◌, None, length};
+ghost use Rattle.std.specs.Option.{IfSome};
+ghost use Rattle.desk_replica.specs.Merging.{IsMerge};
+ghost use Rattle.bidigrid_c.specs.Numbers.{none_taken};
+ghost use Rattle.bidigrid_c.specs.Desks.{IsTakenUpTo, IsMessageTaken, IsTooLong, IsMergedWith, merge_number};
+
+use crate::desk::Desk;
+use crate::desk_handle::DeskHandle;
+use crate::fault::{EMPTY_HANDLE, MESSAGE_TOO_LONG, OK, message_number, take_number};
+use crate::numbers::{Taken, none_taken};
+use bg_types::Op;
+use desk_replica::TakeFault;
+use op_codec::decode_file;
+use std::alloc::Global;
+
+/// The most bytes of a message that is read.
+const LONGEST: usize = 67_108_864;
+
+/// Lets a desk take operations in order, up to the first that it refuses, and tells how many it took.
+fn take_each(desk: &mut Desk, ops: &[Op], taken: &mut usize) -> u32
+    ensures { IsTakenUpTo desk.old ops.now desk.new taken.new result }
+{
+    for (number, op) in ops.iter().enumerate() {
+        if let Err(fault) = desk.take(op) {
+            *taken = number;
+            return take_number(fault);
+        }
+    }
+    *taken = ops.len();
+    OK
+}
+
+/// Lets a desk take a message: its bytes are read whole first, and then its operations are taken in order, up to
+/// the first that the desk refuses.
+#[unsafe(no_mangle)]
+pub extern "C" fn bidigrid_desk_take(
+    alloc: Global,
+    desk: &mut DeskHandle,
+    bytes: &[u8],
+    told: &mut Taken,
+) -> u32
+    ensures taken { IfSome desk.old.held (λ d. IfSome desk.new.held (λ e. IsMessageTaken d bytes.now e told.new result)) }
+    ensures too_long { IfSome desk.old.held (λ _. IsTooLong bytes.now → result ≡ 116) }
+    ensures empty { desk.old.held ≡ None → (result ≡ 101) × (desk.new.held ≡ None) × (told.new ≡ none_taken 0) }
+    ensures held { desk.new.held ≡ None → desk.old.held ≡ None }
+{
+    let Some(mut held) = desk.take(alloc) else {
+        *told = none_taken(0);
+        return EMPTY_HANDLE;
+    };
+    let answer = take_in(alloc, &mut held, bytes, told);
+    desk.put(alloc, held);
+    answer
+}
+
+pub(crate) fn take_in(alloc: Global, desk: &mut Desk, bytes: &[u8], told: &mut Taken) -> u32
+    ensures taken { IsMessageTaken desk.old bytes.now desk.new told.new result }
+    ensures too_long { IsTooLong bytes.now → result ≡ 116 }
+{
+    if bytes.len() > LONGEST {
+        *told = none_taken(0);
+        return MESSAGE_TOO_LONG;
+    }
+    match decode_file(alloc, bytes) {
+        Ok(ops) => {
+            let mut taken = 0;
+            let answer = take_each(desk, &ops, &mut taken);
+            *told = Taken {
+                operations: ops.len(),
+                taken,
+                frame: 0,
+            };
+            answer
+        }
+        Err(fault) => {
+            *told = none_taken(fault.frame().unwrap_or(0));
+            message_number(fault)
+        }
+    }
+}
+
+/// Lets a desk take all that another one holds.
+#[unsafe(no_mangle)]
+pub extern "C" fn bidigrid_desk_merge(
+    alloc: Global,
+    desk: &mut DeskHandle,
+    other: &mut DeskHandle,
+) -> u32
+    ensures merged { IfSome other.old.held (λ o. IfSome desk.old.held (λ d. IfSome desk.new.held (λ e. IsMergedWith d o e result))) }
+    ensures other { other.new.held ≡ other.old.held }
+    ensures empty { desk.old.held ≡ None → (result ≡ 101) × (desk.new.held ≡ None) }
+    ensures empty_other { other.old.held ≡ None → (result ≡ 101) × (desk.new.held ≡ desk.old.held) }
+    ensures held { desk.new.held ≡ None → desk.old.held ≡ None }
+{
+    let Some(from) = other.take(alloc) else {
+        return EMPTY_HANDLE;
+    };
+    let answer = merge_from(alloc, desk, &from);
+    other.put(alloc, from);
+    answer
+}
+
+/// Lets the desk of a handle take all that another one holds.
+fn merge_from(alloc: Global, desk: &mut DeskHandle, other: &Desk) -> u32
+    ensures merged { IfSome desk.old.held (λ d. IfSome desk.new.held (λ e. IsMergedWith d other.now e result)) }
+    ensures empty { desk.old.held ≡ None → (result ≡ 101) × (desk.new.held ≡ None) }
+    ensures held { desk.new.held ≡ None → desk.old.held ≡ None }
+{
+    let Some(mut held) = desk.take(alloc) else {
+        return EMPTY_HANDLE;
+    };
+    let answer = merge_in(&mut held, other);
+    desk.put(alloc, held);
+    answer
+}
+
+fn merge_in(desk: &mut Desk, other: &Desk) -> u32
+    ensures { IsMergedWith desk.old other.now desk.new result }
+{
+    let met = meet(desk, other);
+    merge_number(met)
+}
+
+fn meet(desk: &mut Desk, other: &Desk) -> Result<u32, TakeFault>
+    ensures { IsMerge desk.old other.now desk.new result }
+{
+    desk.merge(other)
+}
+
+/// The number of what a merge answers.
+fn merge_number(answer: Result<u32, TakeFault>) -> u32
+    ensures { result ≡ merge_number answer }
+{
+    match answer {
+        Ok(_) => OK,
+        Err(fault) => take_number(fault),
+    }
+}

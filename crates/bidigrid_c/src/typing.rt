@@ -1,0 +1,144 @@
+//! Keystrokes: typing a character, and erasing characters.
+
+ghost use Rattle.std.specs.Prelude.{◌≡◌, ◌<◌, ◌+◌, None, length};
+ghost use Rattle.std.specs.Option.{IfSome};
+ghost use Rattle.rga_tree.specs.TextOf.{visible};
+ghost use Rattle.bidigrid_c.specs.Desks.{IsTyped, IsErased, IsRefusedTyping, IsRefusedErasing, IsUnwritten};
+
+use crate::desk::Desk;
+use crate::desk_handle::DeskHandle;
+use crate::fault::{
+    BAD_CHARACTER, BAD_PLACE, COUNTER_SPENT, EMPTY_HANDLE, FULL, MEMORY, OK, SHORT_BUFFER,
+};
+use crate::replacing::exchange_in;
+use desk_replica::TypeFault;
+use op_codec::encode_one;
+use std::alloc::Global;
+
+/// How many bytes the message of an insertion has.
+const TYPED: usize = 24;
+
+/// How many bytes the message of a deletion has.
+const ERASED: usize = 14;
+
+/// Types a character, and writes the message for the other desks. While an operation is spare it takes no memory.
+#[unsafe(no_mangle)]
+pub extern "C" fn bidigrid_desk_type(
+    alloc: Global,
+    desk: &mut DeskHandle,
+    place: usize,
+    ch: u32,
+    out: &mut [u8],
+    size: &mut usize,
+) -> u32
+    ensures ok { result ≡ 0 → IfSome desk.old.held (λ d. IfSome desk.new.held (λ e. IsTyped d place ch e out.old out.new size.new)) }
+    ensures err { (result ≡ 0 → ⊥) → (desk.new.held ≡ desk.old.held) × IsUnwritten out.old out.new size.new result }
+    ensures fault { (result ≡ 0 → ⊥) → IfSome desk.old.held (λ d. IsRefusedTyping d place ch (length out.old) size.new result) }
+    ensures empty { desk.old.held ≡ None → (result ≡ 101) × (desk.new.held ≡ None) }
+    ensures held { desk.new.held ≡ None → desk.old.held ≡ None }
+{
+    let Some(mut held) = desk.take(alloc) else {
+        *size = 0;
+        return EMPTY_HANDLE;
+    };
+    let answer = type_in(&mut held, place, ch, out, size);
+    desk.put(alloc, held);
+    answer
+}
+
+#[tactic(auto, using(crate::proofs::Messages::one_most, crate::proofs::Messages::copied_one))]
+fn type_in(desk: &mut Desk, place: usize, ch: u32, out: &mut [u8], size: &mut usize) -> u32
+    ensures ok { result ≡ 0 → IsTyped desk.old place ch desk.new out.old out.new size.new }
+    ensures err { (result ≡ 0 → ⊥) → (desk.new ≡ desk.old) × IsUnwritten out.old out.new size.new result }
+    ensures fault { (result ≡ 0 → ⊥) → IsRefusedTyping desk.old place ch (length out.old) size.new result }
+{
+    *size = 0;
+    let Some(ch) = char::from_u32(ch) else {
+        return BAD_CHARACTER;
+    };
+    if place > desk.len() {
+        return BAD_PLACE;
+    }
+    if out.len() < TYPED {
+        *size = TYPED;
+        return SHORT_BUFFER;
+    }
+    match desk.type_char(place, ch) {
+        Ok(op) => {
+            *size = encode_one(&op, out);
+            OK
+        }
+        Err(TypeFault::CounterSpent) => COUNTER_SPENT,
+        Err(TypeFault::Full) => FULL,
+        Err(TypeFault::Memory) => MEMORY,
+    }
+}
+
+/// Erases the characters from one place up to another, and writes the message for the other desks. Erasing one takes no
+/// memory.
+#[unsafe(no_mangle)]
+pub extern "C" fn bidigrid_desk_erase(
+    alloc: Global,
+    desk: &mut DeskHandle,
+    from: usize,
+    to: usize,
+    out: &mut [u8],
+    size: &mut usize,
+) -> u32
+    ensures ok { result ≡ 0 → IfSome desk.old.held (λ d. IfSome desk.new.held (λ e. IsErased d from to e out.old out.new size.new)) }
+    ensures err { (result ≡ 0 → ⊥) → (desk.new.held ≡ desk.old.held) × IsUnwritten out.old out.new size.new result }
+    ensures fault { (result ≡ 0 → ⊥) → IfSome desk.old.held (λ d. IsRefusedErasing d from to (length out.old) size.new result) }
+    ensures empty { desk.old.held ≡ None → (result ≡ 101) × (desk.new.held ≡ None) }
+    ensures held { desk.new.held ≡ None → desk.old.held ≡ None }
+{
+    let Some(mut held) = desk.take(alloc) else {
+        *size = 0;
+        return EMPTY_HANDLE;
+    };
+    let answer = erase_in(alloc, &mut held, from, to, out, size);
+    desk.put(alloc, held);
+    answer
+}
+
+fn erase_in(
+    alloc: Global,
+    desk: &mut Desk,
+    from: usize,
+    to: usize,
+    out: &mut [u8],
+    size: &mut usize,
+) -> u32
+    ensures ok { result ≡ 0 → IsErased desk.old from to desk.new out.old out.new size.new }
+    ensures err { (result ≡ 0 → ⊥) → (desk.new ≡ desk.old) × IsUnwritten out.old out.new size.new result }
+    ensures fault { (result ≡ 0 → ⊥) → IsRefusedErasing desk.old from to (length out.old) size.new result }
+{
+    if from > to || to > desk.len() {
+        *size = 0;
+        return BAD_PLACE;
+    }
+    if to - from == 1 {
+        return erase_one_in(desk, from, out, size);
+    }
+    exchange_in(alloc, desk, from, to, "", out, size)
+}
+
+/// Erases the character at a place.
+fn erase_one_in(desk: &mut Desk, place: usize, out: &mut [u8], size: &mut usize) -> u32
+    requires { place < length (visible desk.old.set) }
+    ensures ok { result ≡ 0 → IsErased desk.old place (place + 1) desk.new out.old out.new size.new }
+    ensures err { (result ≡ 0 → ⊥) → (desk.new ≡ desk.old) × IsUnwritten out.old out.new size.new result }
+    ensures fault { (result ≡ 0 → ⊥) → IsRefusedErasing desk.old place (place + 1) (length out.old) size.new result }
+{
+    *size = 0;
+    if out.len() < ERASED {
+        *size = ERASED;
+        return SHORT_BUFFER;
+    }
+    match desk.erase_at(place) {
+        Ok(op) => {
+            *size = encode_one(&op, out);
+            OK
+        }
+        Err(_) => FULL,
+    }
+}
