@@ -41,14 +41,14 @@ program: build/bin/bidigrid
 
 # What is proved is built anew where the contents of its sources changed.
 build/proved/libbidigrid_c.a: FORCE
-	@tools/build-proved bidigrid_c $@
+	@tools/make/build-proved bidigrid_c $@
 
 build/bin/bidigrid: FORCE
-	@tools/build-proved replay_cli $@
+	@tools/make/build-proved replay_cli $@
 
 # The archive is one object, in which only the calls of the header can be named from outside.
-$(ARCHIVE): build/proved/libbidigrid_c.a include/bidigrid.h tools/make-c-archive tools/make-c-entries
-	CC='$(CC)' CFLAGS='$(CFLAGS)' tools/make-c-archive $@ $<
+$(ARCHIVE): build/proved/libbidigrid_c.a include/bidigrid.h tools/make/c-archive tools/make/c-entries
+	CC='$(CC)' CFLAGS='$(CFLAGS)' tools/make/c-archive $@ $<
 
 $(LIB)/$(SHARED): $(ARCHIVE) c/bidigrid.map VERSION
 	$(CC) $(CFLAGS) $(LDFLAGS) -shared -o $@ -Wl,--whole-archive $< -Wl,--no-whole-archive \
@@ -59,7 +59,7 @@ $(LIB)/libbidigrid.so: $(LIB)/$(SHARED)
 	ln -sf $(SONAME) $@
 
 check-symbols: $(ARCHIVE) $(LIB)/$(SHARED) include/bidigrid.h
-	@tools/check-symbols $(ARCHIVE) $(LIB)/$(SHARED)
+	@tools/check/symbols $(ARCHIVE) $(LIB)/$(SHARED)
 
 check-c: lib $(BIDIGRID)
 	BIDIGRID='$(abspath $(BIDIGRID))' c/check
@@ -84,7 +84,7 @@ uninstall:
 	[ ! -d '$(DESTDIR)$(docdir)' ] || rmdir --ignore-fail-on-non-empty '$(DESTDIR)$(docdir)'
 
 dist: lib program
-	tools/make-dist build/bidigrid-$(VERSION).tar.gz
+	tools/make/dist build/bidigrid-$(VERSION).tar.gz
 	c/try-dist build/bidigrid-$(VERSION).tar.gz
 
 # As Debian 12 names them.
