@@ -1,12 +1,15 @@
-# The C library: make lib, make check-c, make install, make dist. What each target does: make help.
+# Program and C library: make; the whole test: make check. What each target does: make help.
 
 VERSION := $(shell cat VERSION)
 MAJOR := $(firstword $(subst ., ,$(VERSION)))
 
 PREFIX ?= /usr/local
+bindir ?= $(PREFIX)/bin
 libdir ?= $(PREFIX)/lib
+libexecdir ?= $(PREFIX)/libexec
 includedir ?= $(PREFIX)/include
-docdir ?= $(PREFIX)/share/doc/bidigrid
+datadir ?= $(PREFIX)/share
+docdir ?= $(datadir)/doc/bidigrid
 DESTDIR ?=
 CC ?= cc
 CFLAGS ?= -O2
@@ -14,37 +17,53 @@ LDFLAGS ?=
 # The program that check-c compares the library with; where another is named, none is proved for it.
 BIDIGRID ?= build/bin/bidigrid
 
+PROGRAM = build/bin/bidigrid
 LIB = build/lib
 ARCHIVE = $(LIB)/libbidigrid.a
 SHARED = libbidigrid.so.$(VERSION)
 SONAME = libbidigrid.so.$(MAJOR)
+DIST = build/bidigrid-$(VERSION).tar.gz
+MAN = build/bidigrid.1
 PAGES = C.md C_REFERENCE.md FORMATS.md
 
+# The parts of the whole test, each a target.
+PARTS = check-gate check-c \
+    $(if $(wildcard python/pyproject.toml),check-python) $(if $(wildcard python/bidigrid/edit),check-edit)
+
+# Packages of Debian 12: of the gate and the C library. Those of other parts follow, a line each.
+DEPS = binutils clang g++ gcc libc6-dev libclang-rt-14-dev make pkg-config python3 util-linux valgrind xxd
+
 .DELETE_ON_ERROR:
-.PHONY: help lib program check-symbols check-c install uninstall dist deps clean FORCE
+.PHONY: all help program lib check-symbols check check-gate check-c install install-program install-lib uninstall dist deps \
+    clean FORCE
+
+all: program lib
 
 help:
-	@echo 'make lib         proves the core and builds build/lib: libbidigrid.a and $(SHARED)'
-	@echo 'make program     proves and builds the program, build/bin/bidigrid'
-	@echo 'make check-c     builds both and tries the library from C; with BIDIGRID=FILE it compares with that program, and'
-	@echo '                 proves none'
-	@echo 'make install     copies library, header and pages below PREFIX ($(PREFIX)), or below DESTDIR where it is set;'
-	@echo '                 libdir, includedir and docdir can be set too'
+	@echo 'make             proves the core and builds the program, build/bin/bidigrid, and the C library, build/lib;'
+	@echo '                 make program and make lib do one of the two'
+	@echo 'make check       is the whole test: $(strip $(PARTS)), one after the other;'
+	@echo '                 a part that lacks a package is left out, and told'
+	@echo 'make check-gate  compares the pages with the tree, and proves and tests every crate'
+	@echo 'make check-c     tries the library from C; with BIDIGRID=FILE it compares with that program, and proves none'
+	@echo 'make install     copies program and library below PREFIX ($(PREFIX)), or below DESTDIR where it is set;'
+	@echo '                 install-program and install-lib copy one of the two; bindir, libdir, libexecdir, includedir,'
+	@echo '                 datadir and docdir can be set too'
 	@echo 'make uninstall   removes what make install copied'
-	@echo 'make dist        builds both and packs them as build/bidigrid-$(VERSION).tar.gz, which needs no rt'
+	@echo 'make dist        packs both as $(DIST), which needs no rt'
 	@echo 'make deps        installs the packages of Debian that these need'
 	@echo 'make clean       removes build/'
 
+program: $(PROGRAM)
+
 lib: $(LIB)/$(SHARED) $(LIB)/libbidigrid.so check-symbols
 
-program: build/bin/bidigrid
-
 # What is proved is built anew where the contents of its sources changed.
+$(PROGRAM): FORCE
+	@tools/make/build-proved replay_cli $@
+
 build/proved/libbidigrid_c.a: FORCE
 	@tools/make/build-proved bidigrid_c $@
-
-build/bin/bidigrid: FORCE
-	@tools/make/build-proved replay_cli $@
 
 # The archive is one object, in which only the calls of the header can be named from outside.
 $(ARCHIVE): build/proved/libbidigrid_c.a include/bidigrid.h tools/make/c-archive tools/make/c-entries
@@ -61,10 +80,30 @@ $(LIB)/libbidigrid.so: $(LIB)/$(SHARED)
 check-symbols: $(ARCHIVE) $(LIB)/$(SHARED) include/bidigrid.h
 	@tools/check/symbols $(ARCHIVE) $(LIB)/$(SHARED)
 
+check:
+	@tools/check/all $(PARTS)
+
+check-gate:
+	.ci/run
+
 check-c: lib $(BIDIGRID)
 	BIDIGRID='$(abspath $(BIDIGRID))' c/check
 
-install: lib
+$(MAN): $(PROGRAM) tools/make/man-page
+	tools/make/man-page $< >$@
+
+install: install-program install-lib
+
+install-program: $(PROGRAM) $(MAN)
+	install -d '$(DESTDIR)$(bindir)' '$(DESTDIR)$(libexecdir)' '$(DESTDIR)$(datadir)/bidigrid/unicode-15.0' \
+	    '$(DESTDIR)$(datadir)/man/man1'
+	sed 's|@LIBEXECDIR@|$(libexecdir)|; s|@DATADIR@|$(datadir)|' tools/make/installed-bidigrid >'$(DESTDIR)$(bindir)/bidigrid'
+	chmod 755 '$(DESTDIR)$(bindir)/bidigrid'
+	install -m 755 $(PROGRAM) '$(DESTDIR)$(libexecdir)/bidigrid'
+	install -m 644 data/unicode-15.0/* '$(DESTDIR)$(datadir)/bidigrid/unicode-15.0'
+	install -m 644 $(MAN) '$(DESTDIR)$(datadir)/man/man1'
+
+install-lib: lib
 	install -d '$(DESTDIR)$(includedir)' '$(DESTDIR)$(libdir)/pkgconfig' '$(DESTDIR)$(docdir)'
 	install -m 644 include/bidigrid.h '$(DESTDIR)$(includedir)'
 	install -m 644 $(ARCHIVE) '$(DESTDIR)$(libdir)'
@@ -75,22 +114,25 @@ install: lib
 	    -e 's|@INCLUDEDIR@|$(includedir:$(PREFIX)/%=$${prefix}/%)|' c/bidigrid.pc.in \
 	    >'$(DESTDIR)$(libdir)/pkgconfig/bidigrid.pc'
 	install -m 644 $(PAGES:%=docs/%) '$(DESTDIR)$(docdir)'
+	install -m 644 data/unicode-15.0/README.md '$(DESTDIR)$(docdir)/UNICODE_DATA.md'
 
 uninstall:
+	rm -f '$(DESTDIR)$(bindir)/bidigrid' '$(DESTDIR)$(libexecdir)/bidigrid' '$(DESTDIR)$(datadir)/man/man1/bidigrid.1'
+	rm -rf '$(DESTDIR)$(datadir)/bidigrid/unicode-15.0'
 	rm -f '$(DESTDIR)$(includedir)/bidigrid.h' '$(DESTDIR)$(libdir)/libbidigrid.a' '$(DESTDIR)$(libdir)/$(SHARED)' \
 	    '$(DESTDIR)$(libdir)/$(SONAME)' '$(DESTDIR)$(libdir)/libbidigrid.so' \
 	    '$(DESTDIR)$(libdir)/pkgconfig/bidigrid.pc'
-	rm -f $(PAGES:%='$(DESTDIR)$(docdir)/%')
-	[ ! -d '$(DESTDIR)$(docdir)' ] || rmdir --ignore-fail-on-non-empty '$(DESTDIR)$(docdir)'
+	rm -f $(PAGES:%='$(DESTDIR)$(docdir)/%') '$(DESTDIR)$(docdir)/UNICODE_DATA.md'
+	for folder in '$(DESTDIR)$(datadir)/bidigrid' '$(DESTDIR)$(docdir)'; do \
+	    [ ! -d "$$folder" ] || rmdir --ignore-fail-on-non-empty "$$folder"; \
+	done
 
-dist: lib program
-	tools/make/dist build/bidigrid-$(VERSION).tar.gz
-	c/try-dist build/bidigrid-$(VERSION).tar.gz
+dist: program lib
+	tools/make/dist $(DIST)
+	c/try-dist $(DIST)
 
-# As Debian 12 names them.
 deps:
-	apt-get install -y --no-install-recommends binutils clang g++ gcc libc6-dev libclang-rt-14-dev make pkg-config \
-	    python3 valgrind
+	apt-get install -y --no-install-recommends $(DEPS)
 
 clean:
 	rm -rf build

@@ -104,9 +104,9 @@ const char *bidigrid_fault_name(uint32_t answer);
 
 /* The version of this header, and that of the Unicode Standard which it lays out by. */
 #define BIDIGRID_VERSION_MAJOR 0
-#define BIDIGRID_VERSION_MINOR 1
+#define BIDIGRID_VERSION_MINOR 2
 #define BIDIGRID_VERSION_PATCH 0
-#define BIDIGRID_VERSION_STRING "0.1.0"
+#define BIDIGRID_VERSION_STRING "0.2.0"
 #define BIDIGRID_VERSION (10000 * BIDIGRID_VERSION_MAJOR + 100 * BIDIGRID_VERSION_MINOR + BIDIGRID_VERSION_PATCH)
 #define BIDIGRID_UNICODE_VERSION "15.0"
 

@@ -5,7 +5,7 @@ pub const ABOUT: &str = "Replays the editing operations of several desks.\n\n\
     the same operations show the same text, whatever the order in which these came.";
 
 /// What `--version` writes after the program's name.
-pub const VERSION: &str = "0.1.0, Unicode 15.0";
+pub const VERSION: &str = "0.2.0, Unicode 15.0";
 
 pub const TEXT_ABOUT: &str = "Writes the text that the operations of the files make";
 
