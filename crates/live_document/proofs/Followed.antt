@@ -1,6 +1,6 @@
 -- Paragraphs that follow the text of a desk.
-use Rattle.std.proofs.Common.{◌≡◌, ℕ, ◌+◌, ◌≤◌, Bool, false, inl, List, [], ◌∷◌, length, take, drop, map, sym, ap, subst, ◌∙◌, arith}
-use Rattle.std.proofs.lemmas.List.{length-map}
+use Rattle.std.proofs.Common.{◌≡◌, ℕ, ◌+◌, ◌-◌, ◌≤◌, Bool, false, inl, List, [], ◌∷◌, length, take, drop, map, sym, ap, subst, ◌∙◌, arith}
+use Rattle.std.proofs.lemmas.List.{length-map, take_rest}
 use Rattle.std.specs.List.{All, concat}
 use Rattle.std.specs.Prelude.{Result, Ok, Err, is_err, IfOk, IfErr, OnOk, OnErr, true}
 use Rattle.bg_types.specs.Identifier.{Identifier}
@@ -102,6 +102,10 @@ live-followed old new tables width base behind later kept now s nothing from to 
   at_hand = nothing-at_hand now nothing none;
   of_now = inl (nothing-window now nothing none);
 }
+
+-- what stands behind older changes, as a slice of all
+pub told-behind : (old new all : List Change) (n : ℕ) → n ≡ length old → all ≡ new → take (length all - n) (drop n all) ≡ drop (length old) new
+told-behind old new all n is same = take_rest all n ∙ ap (drop n) same ∙ ap (λ m. drop m new) is
 
 -- what is told behind older changes leads from the text to the next
 pub told-edit : (change : (s t : OperationSet) (old new : List Change) → IsTold s t old new → IsEdit (text s) (drop (length old) new) (text t)) (s t : OperationSet)

@@ -39,7 +39,8 @@ impl Document {
         }
     }
 
-    /// Takes an operation, as the desk's `take_telling` does. Then nothing is shown.
+    /// Takes an operation, and appends to the list how the text changed by it, as the desk's `take_telling` does. A fault
+    /// changes nothing, and nothing in the list. Then nothing is shown.
     pub fn take_telling(&mut self, op: &Op, changes: &mut Vec<Change>) -> Result<Taken, TakeFault>
         ensures answer { MatchResult result (IsTaken self.old.desk.set op.now) (IsUntaken self.old.desk.set op.now) }
         ensures accepted { OnOk result ((fault : Fault) → ¬ (IsRefusal self.old.desk.set op.now fault)) }
@@ -114,7 +115,8 @@ impl Document {
         self.merge_telling(other, &mut changes)
     }
 
-    /// Takes all operations of another desk, as the desk's `merge_telling` does. Then nothing is shown.
+    /// Takes all operations of another desk, and appends to the list how the text changed by them, as the desk's
+    /// `merge_telling` does: after `Full` and `Memory` too, by those that are taken. Then nothing is shown.
     pub fn merge_telling(
         &mut self,
         other: &Desk,
