@@ -99,6 +99,7 @@ pub live-followed : (old new : Desk) (tables : TableValues) (width : ℕ) (base 
 live-followed old new tables width base behind later kept now s nothing from to points live none stays before same changed = record {
   kept_at = stays width base live.kept_at;
   text_is = λ h. same h ∙ ap (λ t. replaced t from to points) (live.text_is (before h)) ∙ sym changed;
+  unshown = λ h. nothing-window now nothing none;
   at_hand = nothing-at_hand now nothing none;
   of_now = inl (nothing-window now nothing none);
 }
@@ -126,6 +127,7 @@ pub live-told : (old new : Desk) (tables : TableValues) (width : ℕ) (base : Ba
 live-told old new tables width base behind later kept now s nothing changes live none stays before same edit = record {
   kept_at = stays width base live.kept_at;
   text_is = λ h. same h ∙ ap (λ t. all_changed t changes) (live.text_is (before h)) ∙ sym (changed-all changes (text old.set) (text new.set) edit).1;
+  unshown = λ h. nothing-window now nothing none;
   at_hand = nothing-at_hand now nothing none;
   of_now = inl (nothing-window now nothing none);
 }
@@ -136,6 +138,7 @@ pub live-behind : (desk : Desk) (tables : TableValues) (width : ℕ) (base : Bas
 live-behind desk tables width base kept nothing at none = record {
   kept_at = at;
   text_is = λ h. cc;
+  unshown = λ h. nothing-window kept nothing none;
   at_hand = nothing-at_hand kept nothing none;
   of_now = inl (nothing-window kept nothing none);
 }
@@ -146,6 +149,7 @@ pub live-alike : (old new : Desk) (tables : TableValues) (width : ℕ) (base : B
 live-alike old new tables width base behind kept s live same = record {
   kept_at = live.kept_at;
   text_is = λ h. live.text_is h ∙ sym (ap text same);
+  unshown = live.unshown;
   at_hand = live.at_hand;
   of_now = subst (λ (set : OperationSet). IsWindowOf set tables width base (window_in kept s)) (sym same) live.of_now;
 }
@@ -157,6 +161,7 @@ pub live-turned : (desk : Desk) (tables : TableValues) (width : ℕ) (base : Bas
 live-turned desk tables width base behind kept now s nothing wider turned live least most none same laid = record {
   kept_at = record { at_least = least; at_most = most; split = subst (IsSplit tables) (sym same) live.kept_at.split; laid = laid };
   text_is = λ h. ap concat same ∙ live.text_is h;
+  unshown = λ h. nothing-window now nothing none;
   at_hand = nothing-at_hand now nothing none;
   of_now = inl (nothing-window now nothing none);
 }
