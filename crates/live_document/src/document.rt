@@ -13,6 +13,9 @@ ghost use Rattle.live_document.specs.Documents.{window_round, IsDrawnAlike, IsWi
 ghost use Rattle.live_document.specs.Showing.{no_window};
 
 mod taking;
+mod taking_all;
+
+pub use taking_all::TakenAll;
 
 use crate::following::{buffer_of, catch_up, follow};
 use crate::keeping::forget_rows;
