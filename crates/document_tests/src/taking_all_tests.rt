@@ -2,7 +2,7 @@
 
 use bg_types::{Base, Id, Memory, Op, Place};
 use desk_replica::{Replica, TakeFault};
-use live_document::{Document, TakenAll};
+use live_document::Document;
 use rga_sequence::Blocks;
 use std::alloc::Global;
 use std::rc::Rc;
@@ -24,12 +24,12 @@ fn reused() -> Result<Op, Memory> {
     Op::insert(id, Place::Root, 'x').ok_or(Memory)
 }
 
-/// What became of the operations, how many changes were told, how many rows are shown then, and whether the text is this.
-fn take_all(
-    alloc: Global,
-    ops: &[Op],
-    text: &str,
-) -> Result<(TakenAll, usize, usize, bool), Memory> {
+/// What a document was left with.
+type Left = (usize, Option<TakeFault>, usize, bool);
+
+/// How many operations were taken, why the next one was not, how many rows are shown then, and whether the text is this and a
+/// change was told of each or, for lack of memory, of none.
+fn take_all(alloc: Global, ops: &[Op], text: &str) -> Result<Left, Memory> {
     let Ok(tables) = SMALL.load(alloc) else {
         return Err(Memory);
     };
@@ -38,18 +38,22 @@ fn take_all(
     document.show(0, 9, 9)?;
     let mut changes = Vec::new(alloc);
     let outcome = document.take_all(ops, &mut changes);
+    if outcome.fault == Some(TakeFault::Memory) {
+        return Err(Memory);
+    }
     document.show(0, 9, 9)?;
     let rows = document.window().len();
-    let same = document.text()?.as_str() == text;
-    Ok((outcome, changes.len(), rows, same))
+    let told = if outcome.told { outcome.taken } else { 0 };
+    let right = document.text()?.as_str() == text && changes.len() == told;
+    Ok((outcome.taken, outcome.fault, rows, right))
 }
 
-fn burst(alloc: Global) -> Result<(TakenAll, usize, usize, bool), Memory> {
+fn burst(alloc: Global) -> Result<Left, Memory> {
     let ops = typed(alloc, "ab\ncd")?;
     take_all(alloc, &ops, "ab\ncd")
 }
 
-fn burst_with_a_refused_one(alloc: Global) -> Result<(TakenAll, usize, usize, bool), Memory> {
+fn burst_with_a_refused_one(alloc: Global) -> Result<Left, Memory> {
     let mut ops = typed(alloc, "ab\ncd")?;
     if ops.len() < 2 {
         return Err(Memory);
@@ -60,22 +64,12 @@ fn burst_with_a_refused_one(alloc: Global) -> Result<(TakenAll, usize, usize, bo
 
 #[test]
 fn a_burst_is_taken_and_told_whole(rt: HostRuntime) {
-    let outcome = burst(rt.alloc());
-    let wanted = TakenAll {
-        taken: 5,
-        fault: None,
-        told: true,
-    };
-    assert_eq!(rt; outcome, Ok((wanted, 5, 2, true)));
+    let left = burst(rt.alloc());
+    assert_eq!(rt; left, Ok((5, None, 2, true)));
 }
 
 #[test]
 fn operations_before_a_refused_one_stand(rt: HostRuntime) {
-    let outcome = burst_with_a_refused_one(rt.alloc());
-    let wanted = TakenAll {
-        taken: 2,
-        fault: Some(TakeFault::IdentifierReused),
-        told: true,
-    };
-    assert_eq!(rt; outcome, Ok((wanted, 2, 1, true)));
+    let left = burst_with_a_refused_one(rt.alloc());
+    assert_eq!(rt; left, Ok((2, Some(TakeFault::IdentifierReused), 1, true)));
 }
