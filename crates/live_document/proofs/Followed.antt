@@ -150,22 +150,6 @@ live-alike old new tables width base behind kept s live same = record {
   of_now = subst (λ (set : OperationSet). IsWindowOf set tables width base (window_in kept s)) (sym same) live.of_now;
 }
 
--- the desk's text is the same, and the paragraphs are its own
-pub live-caught : (desk : Desk) (tables : TableValues) (width : ℕ) (base : Base) (behind : Bool) (now : KeptText) (s : Shown)
-    → IsKeptAt tables width base now → text_in now ≡ text desk.set → IsAtHand now s → IsWindowOf desk.set tables width base (window_in now s)
-    → IsLive desk tables width base behind now s
-live-caught desk tables width base behind now s at is hand shown = record { kept_at = at; text_is = λ h. is; at_hand = hand; of_now = shown }
-
--- nothing has changed but what is shown
-pub live-same : (desk : Desk) (tables : TableValues) (width : ℕ) (base : Base) (behind : Bool) (kept now : KeptText) (s nothing : Shown)
-    → IsLive desk tables width base behind kept s → nothing ≡ record { first = 0; skip = 0; count = 0; number = 0 } → now ≡ kept → IsLive desk tables width base behind now nothing
-live-same desk tables width base behind kept now s nothing live none same = record {
-  kept_at = subst (IsKeptAt tables width base) (sym same) live.kept_at;
-  text_is = λ h. ap text_in same ∙ live.text_is h;
-  at_hand = nothing-at_hand now nothing none;
-  of_now = inl (nothing-window now nothing none);
-}
-
 -- nothing is kept any more, and the width or the base may be another
 pub live-turned : (desk : Desk) (tables : TableValues) (width : ℕ) (base : Base) (behind : Bool) (kept now : KeptText) (s nothing : Shown) (wider : ℕ) (turned : Base)
     → IsLive desk tables width base behind kept s → 2 ≤ wider → wider ≤ 500 → nothing ≡ record { first = 0; skip = 0; count = 0; number = 0 }
