@@ -7,3 +7,4 @@ mod Windows
 mod Spots
 mod Printed
 mod Followed
+mod Taking

@@ -14,6 +14,7 @@ ghost use Rattle.live_document.specs.Showing.{no_window};
 
 mod prints;
 mod taking;
+mod taking_all;
 
 use crate::following::{buffer_of, catch_up, follow};
 use crate::keeping::forget_rows;
@@ -27,6 +28,7 @@ use rga_sequence::Blocks;
 use std::alloc::Global;
 use std::marker::Model;
 use std::rc::Rc;
+pub use taking_all::TakenAll;
 use text_buffer::Buffer;
 use unicode_tables::Tables;
 

@@ -11,5 +11,5 @@ mod shown;
 mod window;
 
 pub use caret::Position;
-pub use document::{Desk, Document};
+pub use document::{Desk, Document, TakenAll};
 pub use window::{Window, WindowRow, WindowRows};
