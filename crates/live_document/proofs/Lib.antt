@@ -6,4 +6,6 @@ mod Placing
 mod Windows
 mod Spots
 mod Printed
+mod Round
+mod Positions
 mod Followed
