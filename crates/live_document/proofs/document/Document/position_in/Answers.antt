@@ -1,5 +1,5 @@
 -- The place's row is the one that is shown.
-use Rattle.std.proofs.Common.{◌≡◌, ◌≤◌, ◌<◌, List, length, sym, ap, ap₂, subst, ◌∙◌}
+use Rattle.std.proofs.Common.{◌≤◌, ◌<◌, List, length, sym, ap, ap₂, subst, ◌∙◌}
 use Rattle.rga_tree.specs.TextOf.{visible}
 use Rattle.desk_replica.specs.Desk.{Desk}
 use Rattle.cell_grid.specs.Rows.{DrawnRow}

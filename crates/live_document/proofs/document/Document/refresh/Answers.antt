@@ -1,5 +1,5 @@
 -- The paragraphs' text is one that is drawn.
-use Rattle.std.proofs.Common.{◌≡◌, ◌≤◌, inl, length, refl, sym, ap, subst, arith}
+use Rattle.std.proofs.Common.{◌≡◌, inl, length, refl, sym, ap, subst, arith}
 use Rattle.std.specs.Prelude.{encode_utf8_all}
 use Rattle.std.specs.Str.{IsUtf8}
 use Rattle.unicode_tables.specs.Tables.{TableValues}

@@ -1,5 +1,5 @@
 -- The move looks at no row but the neighbours.
-use Rattle.std.proofs.Common.{◌≡◌, ◌≤◌, List, length, sym, ap, ap₂, subst, ◌∙◌}
+use Rattle.std.proofs.Common.{◌≤◌, List, length, sym, ap, ap₂, subst, ◌∙◌}
 use Rattle.rga_tree.specs.TextOf.{visible}
 use Rattle.desk_replica.specs.Desk.{Desk}
 use Rattle.cell_grid.specs.Rows.{DrawnRow}
