@@ -10,6 +10,10 @@ mod live_document_tests;
 #[cfg(test)]
 mod other;
 #[cfg(test)]
+mod positions_tests;
+#[cfg(test)]
+mod prints_tests;
+#[cfg(test)]
 mod taking_all_tests;
 #[cfg(test)]
 mod walking;

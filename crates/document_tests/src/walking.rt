@@ -24,30 +24,48 @@ const PARAGRAPHS: usize = 600;
 /// the window is not the stretch of the rows of `cell_grid::draw` that it should be, or the number of steps where there is
 /// none.
 pub fn walk(alloc: Global, tables: Rc<Tables>, seed: u64, steps: usize) -> Result<usize, Memory> {
-    let mut document = begun(alloc, tables)?;
-    let mut other = Other::new(alloc);
-    let mut chance = Chance::new(seed);
+    let mut walker = Walker::begin(alloc, tables, seed)?;
     for step in 0..steps {
-        go_on(alloc, &mut document, &mut other, &mut chance)?;
-        if !shows(alloc, &mut document, &mut chance)? {
+        if !walker.step()? {
             return Ok(step);
         }
     }
     Ok(steps)
 }
 
-/// A step: at the document, or between it and another desk.
-fn go_on(
+/// A document, another desk, and what chance has in store.
+#[derive(Drop)]
+struct Walker {
     alloc: Global,
-    document: &mut Document,
-    other: &mut Other,
-    chance: &mut Chance,
-) -> Result<(), Memory> {
-    if chance.one_in(2) {
-        return other.step(document, chance);
+    document: Document,
+    other: Other,
+    chance: Chance,
+}
+
+impl Walker {
+    fn begin(alloc: Global, tables: Rc<Tables>, seed: u64) -> Result<Walker, Memory> {
+        Ok(Walker {
+            alloc,
+            document: begun(alloc, tables)?,
+            other: Other::new(alloc),
+            chance: Chance::new(seed),
+        })
     }
-    let mut made = Vec::new(alloc);
-    change(document, chance, &mut made)
+
+    /// Goes on by one step, and tells whether the window is right then.
+    fn step(&mut self) -> Result<bool, Memory> {
+        self.go_on()?;
+        shows(self.alloc, &mut self.document, &mut self.chance)
+    }
+
+    /// A step: at the document, or between it and another desk.
+    fn go_on(&mut self) -> Result<(), Memory> {
+        if self.chance.one_in(2) {
+            return self.other.step(&mut self.document, &mut self.chance);
+        }
+        let mut made = Vec::new(self.alloc);
+        change(&mut self.document, &mut self.chance, &mut made)
+    }
 }
 
 /// A document over a desk that holds the first text.
