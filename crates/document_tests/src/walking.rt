@@ -25,12 +25,7 @@ const PARAGRAPHS: usize = 600;
 /// none.
 pub fn walk(alloc: Global, tables: Rc<Tables>, seed: u64, steps: usize) -> Result<usize, Memory> {
     let mut walker = Walker::begin(alloc, tables, seed)?;
-    for step in 0..steps {
-        if !walker.step()? {
-            return Ok(step);
-        }
-    }
-    Ok(steps)
+    walker.walk(steps)
 }
 
 /// A document, another desk, and what chance has in store.
@@ -50,6 +45,16 @@ impl Walker {
             other: Other::new(alloc),
             chance: Chance::new(seed),
         })
+    }
+
+    /// Goes on by so many steps, or up to the first after which the window is wrong.
+    fn walk(&mut self, steps: usize) -> Result<usize, Memory> {
+        for step in 0..steps {
+            if !self.step()? {
+                return Ok(step);
+            }
+        }
+        Ok(steps)
     }
 
     /// Goes on by one step, and tells whether the window is right then.
