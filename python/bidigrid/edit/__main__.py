@@ -1,0 +1,117 @@
+"""bidigrid-edit: an editor in the terminal that people write in together."""
+
+from __future__ import annotations
+
+import argparse
+import getpass
+import locale
+import os
+import select
+import signal
+import sys
+
+from bidigrid.edit.channel import Channel
+from bidigrid.edit.desk import Desk
+from bidigrid.edit.editor import Editor
+from bidigrid.edit.fault import EditFault
+from bidigrid.edit.folder import Folder
+from bidigrid.edit.keys import WAIT, Keys
+from bidigrid.edit.log import Log
+from bidigrid.edit.screen import Screen
+from bidigrid.edit.view import view_of
+
+STATUS_FAULT = 3  # as the program's, where a file can't be read
+PIECE = 1 << 16  # bytes of keys that are read at once
+
+
+def asked(words: list[str] | None) -> argparse.Namespace:
+    """What the command line asks for."""
+    parser = argparse.ArgumentParser("bidigrid-edit", description=__doc__)
+    parser.add_argument("text", help="the text's name: its log is TEXT.bgop, its plain text TEXT.txt")
+    way = parser.add_mutually_exclusive_group()
+    way.add_argument("--folder", metavar="PATH", help="write it with others over a shared or synchronised folder")
+    way.add_argument("--redis", metavar="URL", help="write it with others over Redis, as redis://127.0.0.1:6379/0")
+    parser.add_argument("--log", metavar="FILE", help="another log than TEXT.bgop")
+    parser.add_argument("--site", type=int, choices=range(1, 65536), metavar="N", help="the site, 1 to 65535")
+    parser.add_argument("--name", default=getpass.getuser(), help="your name, as the others see it")
+    parser.add_argument("--base", choices=("auto", "left", "right"), default="auto", help="the base direction")
+    parser.add_argument("--logical", action="store_true", help="for a terminal that can't stop reordering")
+    return parser.parse_args(words)
+
+
+def channel_of(wanted: argparse.Namespace) -> Channel | None:
+    """The way to the others, if there is one."""
+    name = os.path.basename(wanted.text)
+    if wanted.folder is not None:
+        return Folder(wanted.folder, name, wanted.name)
+    if wanted.redis is not None:
+        try:
+            from bidigrid.edit.redis_stream import RedisStream
+        except ImportError:
+            raise EditFault("--redis needs the package redis (Debian: python3-redis)") from None
+        return RedisStream(wanted.redis, name, wanted.name)
+    return None
+
+
+def run(editor: Editor, screen: Screen, waker: int, is_ended: list[int]) -> None:
+    """Goes on until one leaves. A key is seen before the log is flushed, and more keys that wait come first."""
+    desk, keys = editor.desk, Keys()
+    while not editor.is_left and not is_ended:
+        if desk.is_changed:
+            desk.is_changed = False
+            screen.draw(view_of(editor))
+        patience = 0 if desk.log.waiting and not desk.failed_at else desk.patience()
+        if keys.is_waiting():
+            patience = WAIT if patience is None else min(WAIT, patience)
+        ready, _, _ = select.select([0, waker, *desk.readers()], desk.writers(), [], patience)
+        if waker in ready:
+            os.read(waker, PIECE)
+            screen.resize()
+            editor.resize(*screen.size())
+        typed = keys.feed(read_keys()) if 0 in ready else [] if ready else keys.give_up()
+        for key in typed:
+            editor.press(key)
+            if key.name == "ctrl-l":
+                screen.redraw()
+        if desk.turn(is_quiet=0 not in ready):
+            editor.follow()
+
+
+def read_keys() -> bytes:
+    """What has come of keys; a terminal that is gone ends it all."""
+    data = os.read(0, PIECE)
+    if not data:
+        raise EOFError
+    return data
+
+
+def main(words: list[str] | None = None) -> int:
+    """Edits a text, and answers the status."""
+    wanted = asked(words)
+    locale.setlocale(locale.LC_ALL, "")
+    try:
+        desk = Desk(Log(wanted.log or f"{wanted.text}.bgop"), channel_of(wanted), wanted.site, base=wanted.base)
+    except EditFault as fault:
+        print(f"bidigrid-edit: {fault}", file=sys.stderr)
+        return STATUS_FAULT
+    waker, wake = os.pipe2(os.O_NONBLOCK | os.O_CLOEXEC)
+    signal.set_wakeup_fd(wake, warn_on_full_buffer=False)
+    is_ended: list[int] = []
+    signal.signal(signal.SIGWINCH, lambda number, frame: None)
+    for number in (signal.SIGTERM, signal.SIGHUP):
+        signal.signal(number, lambda number, frame: is_ended.append(number))
+    screen = Screen(wanted.logical)
+    try:
+        width, height = screen.size()
+        desk.document.resize(min(500, width))
+        run(Editor(desk, height, f"{wanted.text}.txt"), screen, waker, is_ended)
+    except EOFError:
+        pass
+    finally:
+        screen.close()
+        desk.close()
+    return 0
+
+
+if __name__ == "__main__":
+    sys.exit(main())

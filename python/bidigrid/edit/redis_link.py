@@ -1,0 +1,85 @@
+"""A connection to Redis whose answers are read when select says that they are there."""
+
+from __future__ import annotations
+
+import collections
+import errno
+import socket
+from collections.abc import Callable
+from typing import Any
+
+import redis
+
+from bidigrid.edit.fault import EditFault
+
+TIMEOUT = 2.0  # seconds, of a connection that is made and of an answer whose beginning is there
+
+Answer = Callable[[Any], None]
+
+
+class Link:
+    """One connection: commands are sent in a row, and each answer goes to who asked."""
+
+    def __init__(self, url: str) -> None:
+        try:
+            pool = redis.ConnectionPool.from_url(url, socket_timeout=TIMEOUT, socket_connect_timeout=TIMEOUT)
+        except ValueError as error:
+            raise EditFault(f"{url}: {error}") from None
+        self.connection = pool.make_connection()
+        self.waiting: collections.deque[Answer] = collections.deque()
+        self.connection.connect()
+
+    def ask(self, answer: Answer, *words: object) -> None:
+        """Sends a command. Its answer comes later."""
+        self.connection.send_command(*words)
+        self.waiting.append(answer)
+
+    def call(self, *words: object) -> Any:
+        """Sends a command, and waits for its answer, behind those that were asked for before."""
+        while self.waiting:
+            self.waiting.popleft()(self.connection.read_response())
+        self.connection.send_command(*words)
+        return self.connection.read_response()
+
+    def read(self) -> None:
+        """Gives the answers that are there to those who asked."""
+        while self.waiting and self.connection.can_read(timeout=0):
+            said = self.connection.read_response()
+            self.waiting.popleft()(said)
+
+    def fileno(self) -> int:
+        """What select waits for."""
+        found: int = self.connection._sock.fileno()
+        return found
+
+    def close(self) -> None:
+        """Ends the connection."""
+        self.connection.disconnect()
+
+
+class Knock:
+    """Whether a Redis that went away is back, asked without waiting for it."""
+
+    def __init__(self, url: str) -> None:
+        about = redis.ConnectionPool.from_url(url).connection_kwargs
+        if "path" in about:
+            self.socket = socket.socket(socket.AF_UNIX, socket.SOCK_STREAM)
+            self.address: Any = about["path"]
+        else:
+            found = socket.getaddrinfo(about.get("host", "localhost"), about.get("port", 6379), type=socket.SOCK_STREAM)
+            self.socket = socket.socket(found[0][0], socket.SOCK_STREAM)
+            self.address = found[0][4]
+        self.socket.setblocking(False)
+        self.socket.connect_ex(self.address)
+
+    def is_open(self) -> bool:
+        """Whether someone has opened by now."""
+        return self.socket.connect_ex(self.address) in (0, errno.EISCONN)
+
+    def fileno(self) -> int:
+        """What select waits for, to be written."""
+        return self.socket.fileno()
+
+    def close(self) -> None:
+        """Leaves."""
+        self.socket.close()

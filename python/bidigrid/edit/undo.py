@@ -1,0 +1,75 @@
+"""One's own edits, taken back from the last on: by new operations, so that what others wrote stays."""
+
+from __future__ import annotations
+
+import dataclasses
+
+from bidigrid import Document, Identifier
+from bidigrid.edit.carets import is_seen, place_behind
+from bidigrid.edit.frames import operations
+
+
+@dataclasses.dataclass
+class Edit:
+    """What was typed and erased at once: its identifiers, and of what was erased the characters too."""
+
+    typed: list[Identifier]
+    erased: list[tuple[Identifier, str]]
+    is_open: bool = False
+
+
+class Edits:
+    """The edits that can be taken back."""
+
+    def __init__(self) -> None:
+        self.made: list[Edit] = []
+
+    def add(self, message: bytes, erased: str, typed: str) -> None:
+        """Keeps what a message says. Characters of a word that are typed one after the other are one edit."""
+        found = list(operations(message))
+        gone = [it.identifier for it in found if it.character is None]
+        edit = Edit([it.identifier for it in found if it.character is not None], list(zip(gone, erased)))
+        last = self.made[-1] if self.made else None
+        if last and last.is_open and len(typed) == 1 and not erased and found[0].parent == last.typed[-1]:
+            last.typed += edit.typed
+            last.is_open = not typed.isspace()
+        else:
+            edit.is_open = len(typed) == 1 and not erased
+            self.made.append(edit)
+
+    def close(self) -> None:
+        """Has what is typed next be an edit of its own."""
+        if self.made:
+            self.made[-1].is_open = False
+
+    def last(self) -> Edit | None:
+        """The last edit, which is kept no longer."""
+        return self.made.pop() if self.made else None
+
+
+def stretches(document: Document, typed: list[Identifier]) -> list[tuple[int, int]]:
+    """Where characters stand now that were not erased since: from one place up to another, the last first."""
+    found: list[tuple[int, int]] = []
+    for identifier in typed:
+        place = document.place_of(identifier)
+        if not is_seen(document, identifier, place):
+            continue
+        if found and found[-1][1] == place:
+            found[-1] = (found[-1][0], place + 1)
+        else:
+            found.append((place, place + 1))
+    return sorted(found, reverse=True)
+
+
+def returns(document: Document, erased: list[tuple[Identifier, str]]) -> list[tuple[int, str]]:
+    """What is to be typed again, and where it stood, the last first."""
+    found: list[tuple[int, str]] = []
+    for identifier, character in erased:
+        place = place_behind(document, identifier)
+        if place is None or is_seen(document, identifier, place - 1):
+            continue
+        if found and found[-1][0] == place:
+            found[-1] = (place, found[-1][1] + character)
+        else:
+            found.append((place, character))
+    return sorted(found, reverse=True)

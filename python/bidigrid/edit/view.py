@@ -1,0 +1,56 @@
+"""What is to be seen of an editor: rows and carets, and the line about it all."""
+
+from __future__ import annotations
+
+from typing import NamedTuple
+
+from bidigrid import Row
+from bidigrid.edit import carets
+from bidigrid.edit.editor import Editor
+
+
+class View(NamedTuple):
+    """Rows, the caret's line and column, the selected stretch, and others' carets: line, column, site."""
+
+    rows: tuple[Row, ...]
+    line: int
+    column: int
+    selected: tuple[int, int]
+    others: tuple[tuple[int, int, int], ...]
+    status: str
+
+
+def view_of(editor: Editor) -> View:
+    """What is to be seen now."""
+    rows = editor.shown()
+    column = carets.column_of_gap(rows[editor.line], editor.at.gap)
+    return View(rows, editor.line, column, editor.selected(), tuple(others(editor, rows)), status(editor))
+
+
+def others(editor: Editor, rows: tuple[Row, ...]) -> list[tuple[int, int, int]]:
+    """Where the others' carets are seen on the screen."""
+    found = []
+    for site, here in sorted(editor.desk.here().items()):
+        place = carets.place_behind(editor.document, here.caret)
+        line = None if place is None else carets.row_of_place(rows, place)
+        if place is not None and line is not None:
+            column = carets.column_of_place(rows[line], place)
+            if column is not None:
+                found.append((line, column, site))
+    return found
+
+
+def status(editor: Editor) -> str:
+    """The site, the connection, how long the text is, how it is laid out, who else is here, and what is to be told."""
+    desk = editor.desk
+    names = [f"{here.name or '?'} ({site})" for site, here in sorted(desk.here().items())]
+    parts = [
+        f"site {desk.site}",
+        desk.state(),
+        f"{len(editor.document):,} characters",
+        f"F2 base {editor.document.base}",
+        f"F3 ambiguous {'wide' if desk.wide_ambiguous else 'narrow'}",
+        f"here: {', '.join(names)}" if names else "nobody else here",
+    ]
+    line = " | ".join(parts)
+    return f"{desk.notice} | {line}" if desk.notice else line
