@@ -10,15 +10,15 @@ import select
 import signal
 import sys
 
-from bidigrid.edit.channel import Channel
-from bidigrid.edit.desk import Desk
-from bidigrid.edit.editor import Editor
-from bidigrid.edit.fault import EditFault
-from bidigrid.edit.folder import Folder
-from bidigrid.edit.keys import WAIT, Keys
-from bidigrid.edit.log import Log
-from bidigrid.edit.screen import Screen
-from bidigrid.edit.view import view_of
+from .channel import Channel
+from .desk import Desk
+from .editor import Editor
+from .fault import EditFault
+from .folder import Folder
+from .keys import WAIT, Keys
+from .log import Log
+from .screen import Screen
+from .view import view_of
 
 STATUS_FAULT = 3  # as the program's, where a file can't be read
 PIECE = 1 << 16  # bytes of keys that are read at once
@@ -46,7 +46,7 @@ def channel_of(wanted: argparse.Namespace) -> Channel | None:
         return Folder(wanted.folder, name, wanted.name)
     if wanted.redis is not None:
         try:
-            from bidigrid.edit.redis_stream import RedisStream
+            from .redis_stream import RedisStream
         except ImportError:
             raise EditFault("--redis needs the package redis (Debian: python3-redis)") from None
         return RedisStream(wanted.redis, name, wanted.name)
@@ -63,7 +63,7 @@ def run(editor: Editor, screen: Screen, waker: int, is_ended: list[int]) -> None
         patience = 0 if desk.log.waiting and not desk.failed_at else desk.patience()
         if keys.is_waiting():
             patience = WAIT if patience is None else min(WAIT, patience)
-        ready, _, _ = select.select([0, waker, *desk.readers()], desk.writers(), [], patience)
+        ready, _, _ = select.select([0, waker, *desk.readers()], [], [], patience)
         if waker in ready:
             os.read(waker, PIECE)
             screen.resize()

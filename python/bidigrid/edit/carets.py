@@ -4,7 +4,7 @@ from __future__ import annotations
 
 from collections.abc import Sequence
 
-from bidigrid import Document, Fault, Identifier, Row
+from .. import Document, Fault, Identifier, Row
 
 
 def is_seen(document: Document, identifier: Identifier, place: int) -> bool:

@@ -6,8 +6,8 @@ import dataclasses
 import time
 from typing import NamedTuple, Protocol
 
-from bidigrid import Identifier
-from bidigrid.edit.log import Log
+from .. import Identifier
+from .log import Log
 
 GONE_AFTER = 30.0  # seconds without a sign
 
@@ -54,10 +54,7 @@ class Channel(Protocol):
         """Whether all that is flushed went out."""
 
     def readers(self) -> list[int]:
-        """What select may wait for to be read .."""
-
-    def writers(self) -> list[int]:
-        """.. and to be written."""
+        """What select may wait for."""
 
     def patience(self) -> float:
         """How many seconds the next turn may be waited for at most."""

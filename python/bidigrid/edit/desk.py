@@ -5,12 +5,13 @@ from __future__ import annotations
 import random
 import time
 
-from bidigrid import Document, Fault, Identifier
-from bidigrid.edit.channel import Channel, Here, Message
-from bidigrid.edit.fault import EditFault, reason
-from bidigrid.edit.frames import HEADER, operations, spelled, without_frame
-from bidigrid.edit.log import Log
-from bidigrid.edit.undo import Edits, returns, stretches
+from .. import Document, Fault, Identifier
+from ..given import Base
+from .channel import Channel, Here, Message
+from .fault import EditFault, reason
+from .frames import HEADER, operations, spelled, without_frame
+from .log import Log
+from .undo import Edits, returns, stretches
 
 MAX_SITE = 65535
 GATHER = 0.02  # seconds for which the first of some keys waits for its flush at most, while others come
@@ -29,7 +30,7 @@ class Desk:
         channel: Channel | None = None,
         site: int | None = None,
         width: int = 80,
-        base: str = "auto",
+        base: Base = "auto",
         wide_ambiguous: bool = False,
     ) -> None:
         self.log = log
@@ -41,14 +42,21 @@ class Desk:
         self.signs: object = None
         self.unsaved_since = self.typed_at = self.failed_at = 0.0
         self.wide_ambiguous = wide_ambiguous
-        self.site = self.site_of(site)
-        # What is flushed already is nobody's edit, so an empty log is begun before anything is typed.
         try:
-            log.flush()
+            self.begin(site, width, base)
+        except EditFault:
+            log.discard()
+            raise
+
+    def begin(self, site: int | None, width: int, base: Base) -> None:
+        """Finds the site, and makes the document of the log and of what the others have written."""
+        self.site = self.site_of(site)
+        try:
+            self.log.flush()
         except OSError as error:
-            raise EditFault(f"cannot write {log.path}: {reason(error)}") from None
-        came = channel.open(log, self.site) if channel else []
-        self.document = self.loaded(log.read(0, log.size), came, width, base)
+            raise EditFault(f"cannot write {self.log.path}: {reason(error)}") from None
+        came = self.channel.open(self.log, self.site) if self.channel else []
+        self.document = self.loaded(self.log.read(0, self.log.size), came, width, base)
 
     def site_of(self, wanted: int | None) -> int:
         """The site of the log: that of its insertions. Where there are none, or others' too, a new one is drawn."""
@@ -63,26 +71,32 @@ class Desk:
             return self.channel.draw_site()
         return random.SystemRandom().choice([it for it in range(1, MAX_SITE + 1) if it not in self.log.sites])
 
-    def loaded(self, own: bytes, came: list[Message], width: int, base: str) -> Document:
-        """The document of the log and of what came. The longest file is read first, since it's the cheapest so."""
-        how = {"wide_ambiguous": self.wide_ambiguous}
-        longest = max(came, key=lambda message: len(message.data), default=None)
+    def loaded(self, own: bytes, came: list[Message], width: int, base: Base) -> Document:
+        """The document of the log and of what came. The longest file is loaded, which is the cheapest; the others are
+        taken."""
+        longest = max(came, key=lambda message: len(message.data), default=Message("", b""))
+        self.document = Document(self.site, width, base, wide_ambiguous=self.wide_ambiguous)
         try:
-            if longest and len(longest.data) > len(own):
-                self.document = Document.load(longest.data, self.site, width, base, **how)
-                came = [it for it in came if it is not longest] + [Message(self.log.path, own)]
-            else:
-                self.document = Document.load(own, self.site, width, base, **how)
+            if len(longest.data) > len(own) and self.load(longest.data):
+                came = [it for it in came if it is not longest]
+                self.document.take(own)
+            elif not self.load(own):
+                self.document.take(own)
         except Fault as fault:
-            if not longest or len(longest.data) <= len(own):
-                raise EditFault(f"{self.log.path}: {fault}") from None
-            self.document = Document.load(own, self.site, width, base, **how)
+            raise EditFault(f"{self.log.path}: {fault}") from None
         for message in came:
             self.take(message)
-        signs = self.state(), {site: (here.name, here.caret) for site, here in self.here().items()}
-        if came or signs != self.signs:
-            self.signs, self.is_changed = signs, True
         return self.document
+
+    def load(self, data: bytes) -> bool:
+        """Puts a document of a whole file in the place of the one that is there; answers whether the file is sound."""
+        old, how = self.document, self.wide_ambiguous
+        try:
+            self.document = Document.load(data, self.site, old.width, old.base, wide_ambiguous=how)
+        except Fault:
+            return False
+        old.close()
+        return True
 
     def replace(self, start: int, stop: int, text: str) -> None:
         """Erases a stretch and types a text where it began."""
@@ -142,10 +156,7 @@ class Desk:
     def change_ambiguous(self) -> None:
         """Characters of ambiguous width take two cells where they took one, and one where they took two."""
         self.wide_ambiguous = not self.wide_ambiguous
-        old = self.document
-        how = {"wide_ambiguous": self.wide_ambiguous}
-        self.document = Document.load(old.save(), self.site, old.width, old.base, **how)
-        old.close()
+        self.load(self.document.save())
 
     def turn(self, is_quiet: bool = True) -> bool:
         """Flushes what was typed, if no more keys wait or the first waits for long; sends, and takes what has come.
@@ -174,12 +185,8 @@ class Desk:
         return self.channel.state() if self.channel else "alone"
 
     def readers(self) -> list[int]:
-        """What select may wait for to be read .."""
+        """What select may wait for."""
         return self.channel.readers() if self.channel else []
-
-    def writers(self) -> list[int]:
-        """.. and to be written."""
-        return self.channel.writers() if self.channel else []
 
     def flush(self, now: float) -> None:
         """Brings the log to the disk. Where that fails it is told, and tried again."""

@@ -4,14 +4,16 @@ from __future__ import annotations
 
 import os
 from collections.abc import Callable
+from typing import get_args
 
-from bidigrid import Document, Fault, Identifier, Position, Row
-from bidigrid.edit import carets, moves
-from bidigrid.edit.desk import Desk
-from bidigrid.edit.fault import reason
-from bidigrid.edit.keys import Key
+from .. import Document, Fault, Identifier, Position, Row
+from ..given import Base
+from . import carets, moves
+from .desk import Desk
+from .fault import reason
+from .keys import Key
 
-BASES = ("auto", "left", "right")
+BASES: tuple[Base, ...] = get_args(Base)
 FRONT = Identifier(0, 0)  # the text's front, where a place stands behind no character
 
 

@@ -9,11 +9,11 @@ import random
 import re
 import time
 
-from bidigrid import Identifier
-from bidigrid.edit.channel import Here, Message, plain_name
-from bidigrid.edit.fault import EditFault, reason
-from bidigrid.edit.frames import HEADER_SIZE, whole_end
-from bidigrid.edit.log import Log
+from .. import Identifier
+from .channel import Here, Message, plain_name
+from .fault import EditFault, reason
+from .frames import HEADER_SIZE, whole_end
+from .log import Log
 
 POLL = 0.05  # seconds between two looks into the folder
 SIGN = 10.0  # seconds between two signs of being here
@@ -194,10 +194,6 @@ class Folder:
 
     def readers(self) -> list[int]:
         """Nothing: a folder is looked into again and again, since a synchronised one gives no sign."""
-        return []
-
-    def writers(self) -> list[int]:
-        """Nothing."""
         return []
 
     def patience(self) -> float:

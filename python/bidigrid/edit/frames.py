@@ -6,7 +6,7 @@ import struct
 from collections.abc import Iterable, Iterator
 from typing import NamedTuple
 
-from bidigrid import Identifier
+from .. import Identifier
 
 HEADER_SIZE = 5
 HEADER = b"BGOP\x01"

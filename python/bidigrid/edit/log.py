@@ -5,8 +5,8 @@ from __future__ import annotations
 import fcntl
 import os
 
-from bidigrid.edit.fault import EditFault, reason
-from bidigrid.edit.frames import HEADER, HEADER_2, HEADER_SIZE, operations, sites, spelled, whole_end
+from .fault import EditFault, reason
+from .frames import HEADER, HEADER_2, HEADER_SIZE, operations, sites, spelled, whole_end
 
 
 class Log:
@@ -105,3 +105,9 @@ class Log:
     def close(self) -> None:
         """Gives the file back, and its lock."""
         os.close(self.file)
+
+    def discard(self) -> None:
+        """Gives the file back, and takes it away where nothing was ever written to it."""
+        if self.size <= HEADER_SIZE:
+            os.unlink(self.path)
+        self.close()

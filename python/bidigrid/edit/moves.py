@@ -4,8 +4,8 @@ from __future__ import annotations
 
 from collections.abc import Callable
 
-from bidigrid import Document, Position, Row
-from bidigrid.edit.carets import column_of_gap
+from .. import Document, Position, Row
+from .carets import column_of_gap
 
 Move = Callable[[Position], Position]
 

@@ -4,17 +4,20 @@ from __future__ import annotations
 
 import collections
 import errno
+import re
 import socket
 from collections.abc import Callable
 from typing import Any
 
-import redis
+import redis  # type: ignore[import]
 
-from bidigrid.edit.fault import EditFault
+from .fault import EditFault
 
 TIMEOUT = 2.0  # seconds, of a connection that is made and of an answer whose beginning is there
 
 Answer = Callable[[Any], None]
+AWAY = (redis.RedisError, OSError)
+"""What goes wrong where Redis is away, or refuses."""
 
 
 class Link:
@@ -62,6 +65,8 @@ class Knock:
 
     def __init__(self, url: str) -> None:
         about = redis.ConnectionPool.from_url(url).connection_kwargs
+        self.is_secret = url.startswith("rediss:")
+        self.is_asked = self.is_secret
         if "path" in about:
             self.socket = socket.socket(socket.AF_UNIX, socket.SOCK_STREAM)
             self.address: Any = about["path"]
@@ -73,13 +78,29 @@ class Knock:
         self.socket.connect_ex(self.address)
 
     def is_open(self) -> bool:
-        """Whether someone has opened by now."""
-        return self.socket.connect_ex(self.address) in (0, errno.EISCONN)
-
-    def fileno(self) -> int:
-        """What select waits for, to be written."""
-        return self.socket.fileno()
+        """Whether someone has answered by now: a word, or where that would be no TLS the connection itself."""
+        if self.socket.connect_ex(self.address) not in (0, errno.EISCONN):
+            return False
+        try:
+            if not self.is_asked:
+                self.is_asked = True
+                self.socket.send(b"PING\r\n")
+            return self.is_secret or bool(self.socket.recv(100))
+        except OSError:
+            return False
 
     def close(self) -> None:
         """Leaves."""
         self.socket.close()
+
+
+def said(error: Exception) -> str:
+    """What an error says, in one line."""
+    if isinstance(error, redis.AuthenticationError) or "WRONGPASS" in str(error):
+        return "it wants a password, as redis://:PASSWORD@HOST:PORT/0"
+    return str(error).splitlines()[0] if str(error) else type(error).__name__
+
+
+def without_password(url: str) -> str:
+    """An address as it may be shown."""
+    return re.sub("//[^/@]*@", "//", url)

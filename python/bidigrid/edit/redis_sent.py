@@ -5,19 +5,21 @@ from __future__ import annotations
 import binascii
 from typing import Any
 
-import redis
-
-from bidigrid.edit.fault import EditFault
-from bidigrid.edit.frames import HEADER_SIZE, gathered, whole_end
-from bidigrid.edit.log import Log
-from bidigrid.edit.redis_link import Link
+from .fault import EditFault
+from .frames import HEADER_SIZE, gathered, whole_end
+from .log import Log
+from .redis_link import Link
 
 PIECE = 1 << 16  # bytes of the log that go out in one message
 
+# A Redis that forgot which sites were drawn must not give one again that is in use.
+CLAIM = """
+if tonumber(redis.call('GET', KEYS[1]) or '0') < tonumber(ARGV[1]) then redis.call('SET', KEYS[1], ARGV[1]) end
+"""
 # Whatever Redis lost is sent again, and nothing is sent on behind bytes that another desk of this site sent.
-SEND = """
+SEND = CLAIM + """
 if (redis.call('HGET', KEYS[2], ARGV[1]) or '0:0') ~= ARGV[2] then return 0 end
-redis.call('XADD', KEYS[1], '*', 'by', ARGV[4], 'site', ARGV[1], 'message', ARGV[5])
+redis.call('XADD', KEYS[3], '*', 'by', ARGV[4], 'site', ARGV[1], 'message', ARGV[5])
 redis.call('HSET', KEYS[2], ARGV[1], ARGV[3])
 return 1
 """
@@ -26,16 +28,18 @@ return 1
 class Sent:
     """What of the log went out, by the bytes and their CRC-32."""
 
-    def __init__(self, stream: str, key: str, by: bytes) -> None:
+    def __init__(self, stream: str, key: str, sites: str, by: bytes) -> None:
         self.stream = stream
         self.key = key
+        self.sites = sites
         self.by = by
         self.size = 0
         self.sum = 0
         self.is_sending = False
 
     def agree(self, link: Link, log: Log, site: int) -> bool:
-        """Takes over what Redis says; answers whether it has forgotten some."""
+        """Takes over what Redis says, and has it give nobody else this site; answers whether it has forgotten some."""
+        link.call("EVAL", CLAIM, 1, self.sites, site)
         told = (link.call("HGET", self.key, site) or b"0:0").decode()
         size = int(told.partition(":")[0])
         total = binascii.crc32(log.read(0, min(size, log.size)))
@@ -62,11 +66,12 @@ class Sent:
 
         def answered(answer: Any) -> None:
             if answer != 1:
-                raise redis.ConnectionError("what went out is to be compared")
+                raise ConnectionError("what went out is to be compared")
             self.size, self.sum, self.is_sending = end, total, False
 
         old, new = mark(self.size, self.sum), mark(end, total)
-        link.ask(answered, "EVAL", SEND, 2, self.stream, self.key, site, old, new, self.by, gathered(piece))
+        keys = (self.sites, self.key, self.stream)
+        link.ask(answered, "EVAL", SEND, 3, *keys, site, old, new, self.by, gathered(piece))
 
 
 def mark(size: int, total: int) -> str:

@@ -4,9 +4,9 @@ from __future__ import annotations
 
 import time
 
-from bidigrid import Identifier
-from bidigrid.edit.channel import Here, plain_name
-from bidigrid.edit.redis_link import Link
+from .. import Identifier
+from .channel import Here, plain_name
+from .redis_link import Link
 
 SIGN = 10.0  # seconds between two signs of being here
 MOVED = 0.1  # seconds between two signs while the caret moves

@@ -6,15 +6,13 @@ import os
 import time
 from typing import Any
 
-import redis
-
-from bidigrid import Identifier
-from bidigrid.edit.channel import Message, plain_name
-from bidigrid.edit.fault import EditFault
-from bidigrid.edit.log import Log
-from bidigrid.edit.redis_link import Knock, Link
-from bidigrid.edit.redis_sent import Sent
-from bidigrid.edit.redis_signs import GONE, Signs
+from .. import Identifier
+from .channel import Message, plain_name
+from .fault import EditFault
+from .log import Log
+from .redis_link import AWAY, Knock, Link, said, without_password
+from .redis_sent import Sent
+from .redis_signs import GONE, Signs
 
 MAX_SITE = 65535
 POLL = 0.1  # seconds between two turns while nothing comes
@@ -23,18 +21,13 @@ SILENCE = 5.0  # seconds, after which a reader that has nothing to read says so
 AT_ONCE = 1000  # messages of one answer
 SNAPSHOT_AFTER = 2000  # messages behind the last snapshot
 
-# A Redis that forgot which sites were drawn must not give one again that is in use.
-CLAIM = """
-if tonumber(redis.call('GET', KEYS[1]) or '0') < tonumber(ARGV[1]) then redis.call('SET', KEYS[1], ARGV[1]) end
-return 1
-"""
-
 
 class RedisStream:
     """The text NAME in a Redis: keys that begin with `bidigrid:{NAME}:`, all in one slot of a cluster."""
 
     def __init__(self, url: str, name: str, who: str) -> None:
         self.url = url
+        self.shown_url = without_password(url)
         self.by = os.urandom(8).hex().encode()
         self.site = 0
         self.upto = b"0"
@@ -48,31 +41,34 @@ class RedisStream:
         self.stream, self.sites, self.snapshot_key, sent, signs = (
             f"bidigrid:{{{name}}}:{key}" for key in ("stream", "sites", "snapshot", "sent", "carets")
         )
-        self.sent = Sent(self.stream, sent, self.by)
+        self.sent = Sent(self.stream, sent, self.sites, self.by)
         self.signs = Signs(signs, self.by, who)
         self.here = self.signs.here
         try:
             self.writer = Link(url)
             self.writer.call("PING")
-        except (redis.RedisError, OSError) as error:
+        except AWAY as error:
             self.trouble = said(error)
             self.drop()
 
     def draw_site(self) -> int:
         """A site that Redis has given to nobody."""
         if not self.writer:
-            raise EditFault(f"cannot reach {self.url}, which gives a new desk its site: {self.trouble}")
-        site: int = self.writer.call("INCR", self.sites)
+            raise EditFault(f"{self.shown_url}, which gives a new desk its site: {self.trouble}")
+        try:
+            site: int = self.writer.call("INCR", self.sites)
+        except AWAY as error:
+            raise EditFault(f"{self.shown_url}: {said(error)}") from None
         if site > MAX_SITE:
-            raise EditFault(f"{self.url}: all {MAX_SITE} sites of this text are used")
+            raise EditFault(f"{self.shown_url}: all {MAX_SITE} sites of this text are used")
         return site
 
     def open(self, log: Log, site: int) -> list[Message]:
         """Looks how much of the log went out, and reads the snapshot and all behind it."""
         self.site = self.signs.site = site
         if not self.writer:
-            if "assword" in self.trouble or "uthentication" in self.trouble:
-                raise EditFault(f"{self.url}: {self.trouble}")
+            if "password" in self.trouble:
+                raise EditFault(f"{self.shown_url}: {self.trouble}")
             return []
         try:
             self.agree(log)
@@ -82,17 +78,16 @@ class RedisStream:
             while answer := self.writer.call("XREAD", "COUNT", AT_ONCE, "STREAMS", self.stream, self.upto):
                 found += self.messages(answer[0][1])
             self.listen()
-        except (redis.RedisError, OSError) as error:
-            raise EditFault(f"{self.url}: {said(error)}") from None
+        except AWAY as error:
+            raise EditFault(f"{self.shown_url}: {said(error)}") from None
         return found
 
     def agree(self, log: Log) -> None:
-        """Compares the log with what went out, and has nobody else be given this site."""
+        """Compares the log with what went out."""
         assert self.writer
         if self.sent.agree(self.writer, log, self.site):
             # Others may never come back to say again what was forgotten of them.
             self.since_snapshot = SNAPSHOT_AFTER
-        self.writer.call("EVAL", CLAIM, 1, self.sites, self.site)
 
     def listen(self) -> None:
         """Has the second connection wait for what comes."""
@@ -134,13 +129,10 @@ class RedisStream:
                 self.writer.read()
                 self.reader.read()
                 if now - self.heard > 2 * SILENCE:
-                    raise redis.TimeoutError("no answer")
+                    raise TimeoutError("no answer")
                 self.sent.send(self.writer, log, self.site)
                 self.signs.give(self.writer, caret, now)
-        except EditFault as fault:
-            self.trouble = str(fault)
-            self.drop()
-        except (redis.RedisError, OSError) as error:
+        except (EditFault, *AWAY) as error:
             self.trouble = said(error)
             self.drop()
         found, self.found = self.found, []
@@ -181,16 +173,12 @@ class RedisStream:
         return self.sent.is_all(log)
 
     def readers(self) -> list[int]:
-        """What select may wait for to be read .."""
+        """What select may wait for."""
         return [link.fileno() for link in (self.writer, self.reader) if link]
-
-    def writers(self) -> list[int]:
-        """.. and to be written."""
-        return [self.knock.fileno()] if self.knock else []
 
     def patience(self) -> float:
         """How many seconds the next turn may be waited for at most."""
-        return POLL if self.reader else AGAIN
+        return POLL
 
     def wants_snapshot(self, operations: int) -> bool:
         """Whether much came behind the last snapshot, beside what the text has."""
@@ -202,7 +190,7 @@ class RedisStream:
         try:
             if self.writer and self.writer.call("SET", self.snapshot_key + ":lock", self.by, "NX", "EX", 5):
                 self.writer.call("HSET", self.snapshot_key, "upto", self.upto, "file", save)
-        except (redis.RedisError, OSError) as error:
+        except AWAY as error:
             self.trouble = said(error)
             self.drop()
 
@@ -211,11 +199,6 @@ class RedisStream:
         try:
             if self.writer:
                 self.signs.add(self.writer, GONE, 0)
-        except (redis.RedisError, OSError):
+        except AWAY:
             pass
         self.drop()
-
-
-def said(error: Exception) -> str:
-    """What an error says, in one line."""
-    return str(error).splitlines()[0] if str(error) else type(error).__name__

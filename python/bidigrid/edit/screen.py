@@ -7,8 +7,8 @@ import functools
 import os
 import re
 
-from bidigrid import Entry, Row, layout
-from bidigrid.edit.view import View
+from .. import Entry, Row, layout
+from .view import View
 
 # Bracketed paste, a bar as a caret, and for terminals that know it no reordering: ECMA-48's BDSM, and mlterm's own.
 BEGIN = b"\x1b[?2004h\x1b[6 q\x1b[8l\x1b]5379;use_bidi=false\x07"

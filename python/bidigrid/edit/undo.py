@@ -4,9 +4,9 @@ from __future__ import annotations
 
 import dataclasses
 
-from bidigrid import Document, Identifier
-from bidigrid.edit.carets import is_seen, place_behind
-from bidigrid.edit.frames import operations
+from .. import Document, Identifier
+from .carets import is_seen, place_behind
+from .frames import operations
 
 
 @dataclasses.dataclass

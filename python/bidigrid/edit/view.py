@@ -4,9 +4,9 @@ from __future__ import annotations
 
 from typing import NamedTuple
 
-from bidigrid import Row
-from bidigrid.edit import carets
-from bidigrid.edit.editor import Editor
+from .. import Row
+from . import carets
+from .editor import Editor
 
 
 class View(NamedTuple):
