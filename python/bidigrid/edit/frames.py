@@ -87,11 +87,15 @@ def without_frame(message: bytes, number: int) -> bytes:
 
 
 def last_identifier(message: bytes) -> Identifier | None:
-    """The identifier that the last operation of a sound message names: there its writer's caret stands."""
-    last = None
-    for last in operations(message):
-        pass
-    return last.identifier if last else None
+    """The identifier that the last operation of a message names: there its writer's caret stands. None in a faulty one."""
+    at, last = HEADER_SIZE, 0
+    while at + 9 <= len(message):
+        last, at = at, at + 2 + (message[at] << 8 | message[at + 1])
+    if not last or at != len(message):
+        return None
+    counter, site = struct.unpack_from(">IH", message, last + 3)
+    further = (at - last - 19) // 4 if message[last + 2] == 3 else 0
+    return Identifier(counter + further, site)
 
 
 def gathered(frames: bytes) -> bytes:

@@ -5,8 +5,9 @@ from __future__ import annotations
 import binascii
 from typing import Any
 
+from .. import Identifier
 from .fault import EditFault
-from .frames import HEADER_SIZE, gathered, whole_end
+from .frames import HEADER_SIZE, gathered, last_identifier, whole_end
 from .log import Log
 from .redis_link import Link
 
@@ -36,6 +37,7 @@ class Sent:
         self.size = 0
         self.sum = 0
         self.is_sending = False
+        self.last: Identifier | None = None
 
     def agree(self, link: Link, log: Log, site: int) -> bool:
         """Takes over what Redis says, and has it give nobody else this site; answers whether it has forgotten some."""
@@ -70,8 +72,10 @@ class Sent:
             self.size, self.sum, self.is_sending = end, total, False
 
         old, new = mark(self.size, self.sum), mark(end, total)
+        message = gathered(piece)
+        self.last = last_identifier(message)
         keys = (self.sites, self.key, self.stream)
-        link.ask(answered, "EVAL", SEND, 3, *keys, site, old, new, self.by, gathered(piece))
+        link.ask(answered, "EVAL", SEND, 3, *keys, site, old, new, self.by, message)
 
 
 def mark(size: int, total: int) -> str:

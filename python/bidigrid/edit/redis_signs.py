@@ -6,6 +6,7 @@ import time
 
 from .. import Identifier
 from .channel import Here, plain_name
+from .frames import last_identifier
 from .redis_link import Link
 
 SIGN = 10.0  # seconds between two signs of being here
@@ -45,12 +46,21 @@ class Signs:
                 caret = Identifier(counter, caret_site) if counter else None
                 self.here[site] = Here(site, name, caret, time.monotonic())
 
-    def give(self, link: Link, caret: Identifier | None, now: float) -> None:
-        """Tells the others where the caret stands, at once where it has moved, and now and then where it stays."""
+    def give(self, link: Link, caret: Identifier | None, sent: Identifier | None, now: float) -> None:
+        """Tells the others where the caret stands, at once where it has moved, and now and then where it stays. Behind what
+        was sent last they see it by that."""
         sign = (caret.counter, caret.site) if caret else (0, 0)
+        if sign != self.last and caret is not None and caret == sent:
+            self.last, self.given = sign, now
         if now - self.given >= (MOVED if sign != self.last else SIGN):
             self.last, self.given = sign, now
             self.add(link, *sign)
+
+    def wrote(self, site: bytes, message: bytes) -> None:
+        """Keeps that another desk wrote a message, where its caret stands then."""
+        here = self.here.get(int(site)) if site.isdigit() else None
+        if here:
+            here.caret, here.seen = last_identifier(message), time.monotonic()
 
     def add(self, link: Link, counter: int, site: int) -> None:
         """Adds a sign: the identifier of the character before the caret, 0 at the front, GONE at the end."""

@@ -115,8 +115,9 @@ class RedisStream:
         for number, fields in entries:
             named = dict(zip(fields[::2], fields[1::2]))
             if named.get(b"by") != self.by:
-                site = named.get(b"site", b"?").decode(errors="replace")
-                found.append(Message(f"site {plain_name(site)}, {number.decode()}", named.get(b"message", b"")))
+                site, message = named.get(b"site", b"?"), named.get(b"message", b"")
+                found.append(Message(f"site {plain_name(site.decode(errors='replace'))}, {number.decode()}", message))
+                self.signs.wrote(site, message)
         return found
 
     def turn(self, log: Log, caret: Identifier | None) -> list[Message]:
@@ -131,7 +132,7 @@ class RedisStream:
                 if now - self.heard > 2 * SILENCE:
                     raise TimeoutError("no answer")
                 self.sent.send(self.writer, log, self.site)
-                self.signs.give(self.writer, caret, now)
+                self.signs.give(self.writer, caret, self.sent.last, now)
         except (EditFault, *AWAY) as error:
             self.trouble = said(error)
             self.drop()

@@ -48,9 +48,10 @@ def status(editor: Editor) -> str:
         f"site {desk.site}",
         desk.state(),
         f"{len(editor.document):,} characters",
-        f"F2 base {editor.document.base}",
-        f"F3 ambiguous {'wide' if desk.wide_ambiguous else 'narrow'}",
-        f"here: {', '.join(names)}" if names else "nobody else here",
+        f"F2 {editor.document.base}",
+        f"F3 {'wide' if desk.wide_ambiguous else 'narrow'}",
     ]
+    if names:
+        parts.append(f"with {', '.join(names)}")
     line = " | ".join(parts)
     return f"{desk.notice} | {line}" if desk.notice else line

@@ -5,6 +5,7 @@ from pathlib import Path
 
 import pytest
 from servers import Server
+from terminal import Terminal
 
 
 @pytest.fixture
@@ -13,3 +14,11 @@ def server(tmp_path: Path) -> Iterator[Server]:
     made = Server(tmp_path)
     yield made
     made.stop()
+
+
+@pytest.fixture
+def terminal(tmp_path: Path) -> Iterator[Terminal]:
+    """A tmux of three panes of 60 columns and 14 lines."""
+    made = Terminal(tmp_path, 182, 14)
+    yield made
+    made.close()

@@ -1,0 +1,155 @@
+"""Editors in panes side by side: people write one text at once, one is killed, Redis goes away and comes back."""
+
+import random
+import time
+from pathlib import Path
+
+import pytest
+from bidigrid import layout
+from program import rows_of, text_of
+from servers import Server
+from terminal import Pane, Terminal
+from waiting import until
+
+HEBREW = "תה (2), חלב"
+ARABIC = "شاي (2), حليب ١٢٣"
+LATIN = "tea (2), milk"
+
+
+def have_met(*panes: Pane) -> None:
+    """Waits until all panes of one width show the same rows, and these are what `bidigrid` says of the logs."""
+    logs = [pane.log for pane in panes]
+
+    def is_so() -> bool:
+        text = text_of(logs)
+        return all(pane.rows() == rows_at(text, pane) for pane in panes)
+
+    until(is_so, lambda: "\n".join([text_of(logs), *(pane.screen() for pane in panes)]))
+    if len({pane.width() for pane in panes}) == 1 and len(panes) > 1:
+        assert len({tuple(pane.rows()) for pane in panes}) == 1
+        # `replay` draws each desk after all have met, one after the other.
+        drawn = rows_of(logs, panes[0].width() - 1)
+        text = text_of(logs)
+        count = len(str(layout(text, panes[0].width() - 1)).split("\n"))
+        assert [row.rstrip() for row in drawn[-count:]] == panes[0].rows()[:count]
+
+
+def rows_at(text: str, pane: Pane) -> list[str]:
+    """The rows of a short text as a pane has to show them."""
+    rows = [row.rstrip() for row in str(layout(text, pane.width() - 1)).split("\n")]
+    return rows + [""] * (len(pane.lines()) - 1 - len(rows))
+
+
+def test_two_desks_over_a_folder(terminal: Terminal, tmp_path: Path) -> None:
+    shared = tmp_path / "shared"
+    shared.mkdir()
+    terminal.size = ("-x", "121", "-y", "12")
+    dana, omar = (terminal.run(name, "--folder", str(shared)).started() for name in ("dana", "omar"))
+    dana.tells("omar")
+    omar.tells("dana")
+    # Both write at the front, and neither has seen what the other writes.
+    dana.type(HEBREW)
+    omar.type(ARABIC)
+    have_met(dana, omar)
+    # Each erases in the other's word.
+    dana.press("C-Home")
+    omar.press("C-End")
+    for _ in range(4):
+        dana.press("DC")
+        omar.press("BSpace")
+    have_met(dana, omar)
+    dana.press("End", "Enter")
+    dana.type("ab")
+    have_met(dana, omar)
+    dana.leave()
+    until(lambda: "with" not in omar.status(), omar.screen)
+    omar.press("C-a", "BSpace")
+    omar.shows("")
+    dana.start()
+    dana.started().shows("")
+    omar.press("C-z")
+    have_met(dana, omar)
+
+
+def test_three_desks_over_redis_that_is_stopped_and_started(terminal: Terminal, server: Server) -> None:
+    panes = [terminal.run(name, "--redis", server.url).started() for name in ("dana", "omar", "eve")]
+    for pane, words in zip(panes, (HEBREW, ARABIC, LATIN)):
+        pane.type(words)
+    have_met(*panes)
+    server.stop()
+    for pane, words in zip(panes, ("חם ", "٤٥ ", "hot ")):
+        pane.tells("redis away")
+        pane.press("Home")
+        pane.type(words)
+        pane.press("Right", "Right", "DC")
+    server.start()
+    have_met(*panes)
+    for pane in panes:
+        pane.tells("| redis |")
+        pane.leave()
+        pane.start()
+        pane.started()
+    have_met(*panes)
+
+
+def test_one_is_killed_and_started_again(terminal: Terminal, server: Server) -> None:
+    chance = random.Random(71)
+    dana, omar = (terminal.run(name, "--redis", server.url).started() for name in ("dana", "omar"))
+    for _ in range(4):
+        omar.type(ARABIC[: chance.randint(1, 8)])
+        for word in HEBREW.split():
+            dana.type(word)
+            until(lambda: dana.rows() != [""] * len(dana.rows()))
+        seen = len("".join(dana.rows()))
+        time.sleep(0.05)  # what is typed so long before a kill is never lost
+        dana.kill()
+        held = len(text_of([dana.log, omar.log]))
+        assert held >= seen - sum(row.count(" ") for row in dana.rows())
+        dana.start()
+        dana.started()
+        have_met(dana, omar)
+
+
+def test_a_narrower_pane_shows_the_same_text(terminal: Terminal, server: Server) -> None:
+    dana, omar = (terminal.run(name, "--redis", server.url).started() for name in ("dana", "omar"))
+    dana.type(f"{HEBREW} and {ARABIC}")
+    have_met(dana, omar)
+    for width in (20, 12, 40):
+        terminal.tmux("resize-pane", "-t", dana.number, "-x", str(width))
+        until(lambda width=width: dana.width() == width)  # type: ignore[misc]
+        omar.type("x ")
+        have_met(dana, omar)
+    terminal.tmux("select-layout", "even-horizontal")
+    have_met(dana, omar)
+
+
+def test_a_caret_stays_at_its_character(terminal: Terminal, server: Server) -> None:
+    dana, omar = (terminal.run(name, "--redis", server.url).started() for name in ("dana", "omar"))
+    dana.type("tea milk")
+    have_met(dana, omar)
+    dana.press("Home", "C-Right", "Right")
+    until(lambda: dana.cursor() == (0, 4))
+    omar.press("Home")
+    omar.type("hot ")
+    have_met(dana, omar)
+    until(lambda: dana.cursor() == (0, 8), dana.screen)
+    dana.type("and ")
+    have_met(dana, omar)
+    assert dana.rows()[0] == "hot tea and milk"
+
+
+@pytest.mark.parametrize("way", ["folder", "redis"])
+def test_others_carets_are_seen_in_their_colour(terminal: Terminal, server: Server, tmp_path: Path, way: str) -> None:
+    words = ("--redis", server.url) if way == "redis" else ("--folder", str(tmp_path))
+    dana, omar = (terminal.run(name, *words).started() for name in ("dana", "omar"))
+    dana.type("tea")
+    have_met(dana, omar)
+    omar.press("Home", "Right")
+
+    def is_coloured() -> bool:
+        line = terminal.tmux("capture-pane", "-e", "-p", "-t", dana.number).split("\n")[0]
+        # A background colour before the second letter, and none behind it.
+        before, letter, _ = line.partition("e")
+        return bool(letter) and "\x1b[" in before and before.rstrip("m0123456789;[\x1b") == "t" and "4" in before
+
+    until(is_coloured, dana.screen)
