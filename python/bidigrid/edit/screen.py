@@ -17,7 +17,6 @@ END = b"\x1b[?2004l\x1b[0 q\x1b[8h\x1b]5379;use_bidi=true\x07"
 # What every terminal shows in one column.
 PLAIN = re.compile("[ -~\u00a1-\u00ac\u00ae-\u02ff\u0370-\u0482\u048a-\u0590\u05be\u05c0\u05c3\u05c6\u05d0-\u05f4"
                    "\u061b-\u064a\u0660-\u066f\u0671-\u06d5\u06ee-\u070d]*")  # fmt: skip
-SPACE_OF_CONTROLS = {code: "\ufffd" for code in [*range(32), *range(127, 160)]}
 COLOURS = (curses.COLOR_RED, curses.COLOR_GREEN, curses.COLOR_YELLOW, curses.COLOR_BLUE, curses.COLOR_MAGENTA,
            curses.COLOR_CYAN)  # fmt: skip
 
@@ -96,7 +95,7 @@ class Screen:
         else:
             for entry in row.entries:
                 if entry.columns and entry.column < columns:
-                    self.put(number, entry.column, entry.shown.translate(SPACE_OF_CONTROLS))
+                    self.put(number, entry.column, entry.shown)
         if self.is_logical:
             return
         first, last = view.selected
