@@ -5,13 +5,15 @@ from __future__ import annotations
 import secrets
 from typing import Any, NamedTuple, Self
 
-from . import given, position
+from . import given
 from ._bidigrid import ffi, lib
-from .change import Change, changes_in
+from .change import Change
 from .fault import fault, must
-from .position import Position
+from .given import Base, Message
+from .position import Positions
 from .row import Row, written
-from .thread import Held, here
+from .taking import faulty_frame, merged, taken
+from .thread import here
 from .window import Window, shown_row
 
 
@@ -26,7 +28,7 @@ class Identifier(NamedTuple):
     site: int
 
 
-class Document(Held):
+class Document(Positions):
     """One copy of a text that several write, laid out in rows of cells.
 
     site: 1 to 65535, and of no other document of this text; else a ValueError.
@@ -56,7 +58,7 @@ class Document(Held):
         self,
         site: int,
         width: int = 80,
-        base: str = "auto",
+        base: Base = "auto",
         *,
         wide_ambiguous: bool = False,
         key: bytes | None = None,
@@ -66,10 +68,10 @@ class Document(Held):
     @classmethod
     def load(
         cls,
-        data: bytes | bytearray | memoryview,
+        data: Message,
         site: int,
         width: int = 80,
-        base: str = "auto",
+        base: Base = "auto",
         *,
         wide_ambiguous: bool = False,
         key: bytes | None = None,
@@ -85,10 +87,10 @@ class Document(Held):
 
     def _make(
         self,
-        data: bytes | bytearray | memoryview | None,
+        data: Message | None,
         site: int,
         width: int,
-        base: str,
+        base: Base,
         wide_ambiguous: bool,
         key: bytes | None,
     ) -> None:
@@ -102,7 +104,7 @@ class Document(Held):
             file, told = given.message(data), ffi.new("bidigrid_taken *")
             answer = lib.bidigrid_document_open(handle, *how, file, len(file), told)
             if answer:
-                raise fault(answer, _frame(answer, told))
+                raise fault(answer, faulty_frame(answer, told))
         self._hold(home, handle, lib.bidigrid_document_free)
         self._site, self._width, self._base = int(site), int(width), base
         self._around = (0, 0)
@@ -123,12 +125,12 @@ class Document(Held):
         self._width = int(width)
 
     @property
-    def base(self) -> str:
+    def base(self) -> Base:
         """The direction of each paragraph: "auto", "left" or "right". It can be set; anything else is a ValueError."""
         return self._base
 
     @base.setter
-    def base(self, base: str) -> None:
+    def base(self, base: Base) -> None:
         must(lib.bidigrid_document_set_base(self._full(), given.base(base)))
         self._base = base
 
@@ -160,19 +162,14 @@ class Document(Held):
         characters = given.characters(text)
         return written(call, "uint8_t[]", 5 + 9 * erased + 19 * len(text), handle, *places, characters, len(characters))
 
-    def take(self, message: bytes | bytearray | memoryview) -> list[Change]:
+    def take(self, message: Message) -> list[Change]:
         """Takes a message of another document, and returns what it changed in the text, in order. It may come again, and
         before those that it builds on: then it changes the text once they have come.
 
         A Fault tells what is wrong with it. Where a frame of it is faulty, nothing is taken. Where an operation is refused,
         those before it stand: the Fault has their number, `taken`, and their `changes`.
         """
-        handle, given_message = self._full(), given.message(message)
-        told = ffi.new("bidigrid_taken *")
-        answer = lib.bidigrid_document_take(handle, given_message, len(given_message), told)
-        if answer and not told.taken:
-            raise fault(answer, _frame(answer, told))
-        return self._told(handle, answer, told.taken, told.operations)
+        return taken(self._full(), given.message(message))
 
     def merge(self, other: Document) -> list[Change]:
         """Takes all that another document of this thread holds, and returns what that changed in the text, in order. After
@@ -180,19 +177,7 @@ class Document(Held):
         and the Fault has its `changes`."""
         if not isinstance(other, Document):
             raise TypeError(f"a Document is merged with a Document, not with {type(other).__name__}")
-        handle = self._full()
-        return self._told(handle, lib.bidigrid_document_merge(handle, other._full()), 0, 64)
-
-    def _told(self, handle: Any, answer: int, taken: int, guess: int) -> list[Change]:
-        """What the last take or merge changed, or its fault with that."""
-        changes: list[Change] | None = None
-        try:
-            changes = changes_in(written(lib.bidigrid_document_changes, "bidigrid_change[]", guess, handle))
-        except MemoryError:
-            answer = answer or lib.BIDIGRID_FAULT_MEMORY
-        if answer or changes is None:
-            raise fault(answer, None, taken, changes)
-        return changes
+        return merged(self._full(), other._full())
 
     @property
     def text(self) -> str:
@@ -261,37 +246,5 @@ class Document(Held):
             shown_row(handle, number + 1, self._width) if number + 1 < rows else None,
         )
 
-    def position_at(self, place: int) -> Position:
-        """The position of a caret at a place, 0 to the text's length; within a cluster, at the cluster's first place. An
-        IndexError where there is no such place."""
-        return position.position_at(self._near, place, len(self))
-
-    def position_in(self, row: int, column: int) -> Position:
-        """The position where a mouse points: in the row that begins at the place `row`, the last gap that isn't right of
-        the column; gap 0 where all are. An IndexError where no row begins there."""
-        return position.position_in(self._near, row, column)
-
-    def right(self, at: Position) -> Position:
-        """One step to the right as the eye sees it; the same position at an end of the text. Its row and gap decide; an
-        IndexError where there are none such, as for the other moves."""
-        return position.right(self._near, at)
-
-    def left(self, at: Position) -> Position:
-        """One step to the left."""
-        return position.left(self._near, at)
-
-    def up(self, at: Position) -> Position:
-        """To the row above, as near to the column as may be; the same position in the first row."""
-        return position.up(self._near, at)
-
-    def down(self, at: Position) -> Position:
-        """To the row below; the same position in the last row."""
-        return position.down(self._near, at)
-
     def __repr__(self) -> str:
         return f"<Document of site {self._site}, {self._width} columns wide>"
-
-
-def _frame(answer: int, told: Any) -> int | None:
-    """The faulty frame, where an answer is of a message's bytes."""
-    return int(told.frame) if lib.BIDIGRID_FAULT_BAD_MAGIC <= answer < lib.BIDIGRID_FAULT_BAD_UTF8 else None

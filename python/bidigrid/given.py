@@ -3,11 +3,16 @@
 from __future__ import annotations
 
 from operator import index
+from typing import Literal, TypeAlias, get_args
 
 _MOST = 2**64 - 1
 _MOST_OF_32_BITS = 2**32 - 1
 
-_BASES = {"auto": 0, "left": 1, "right": 2}
+Message: TypeAlias = bytes | bytearray | memoryview
+
+# In the order of their numbers in C.
+Base: TypeAlias = Literal["auto", "left", "right"]
+_BASES = {word: number for number, word in enumerate(get_args(Base))}
 
 
 def count(number: int) -> int:
@@ -22,7 +27,7 @@ def small(number: int) -> int:
     return it if 0 <= it <= _MOST_OF_32_BITS else _MOST_OF_32_BITS
 
 
-def base(word: str) -> int:
+def base(word: Base) -> int:
     """The number of a base direction."""
     if not isinstance(word, str):
         raise TypeError(f"a base direction is a str, not {type(word).__name__}")
@@ -36,14 +41,14 @@ def characters(text: str) -> bytes:
     return text.encode("utf-8")
 
 
-def message(data: bytes | bytearray | memoryview) -> bytes:
+def message(data: Message) -> bytes:
     """The bytes of a message, which nobody else can change meanwhile."""
     return data if isinstance(data, bytes) else bytes(memoryview(data))
 
 
-def key(given: bytes) -> tuple[int, int]:
+def key(secret: Message) -> tuple[int, int]:
     """A key of 16 bytes as two numbers, the higher one first."""
-    whole = message(given)
+    whole = message(secret)
     if len(whole) != 16:
         raise ValueError(f"a key has 16 bytes, not {len(whole)}")
     return int.from_bytes(whole[:8], "big"), int.from_bytes(whole[8:], "big")

@@ -8,6 +8,7 @@ from typing import Any, NamedTuple
 from . import given
 from ._bidigrid import ffi, lib
 from .fault import must
+from .given import Base
 from .row import Row, row_of, written
 from .thread import Held, here
 
@@ -35,9 +36,7 @@ class Picture(Held):
 
     _unpickled = "a Picture can't be pickled or copied: the library holds it; its text, rows and str() can"
 
-    def __init__(
-        self, text: str, width: int, base: str = "auto", wide_ambiguous: bool = False
-    ) -> None:
+    def __init__(self, text: str, width: int, base: Base = "auto", wide_ambiguous: bool = False) -> None:
         characters = given.characters(text)
         home = here()
         made = ffi.new("bidigrid_picture *")
@@ -123,7 +122,7 @@ class Picture(Held):
         return Caret(out.row, out.gap, out.place)
 
 
-def layout(text: str, width: int, base: str = "auto", wide_ambiguous: bool = False) -> Picture:
+def layout(text: str, width: int, base: Base = "auto", wide_ambiguous: bool = False) -> Picture:
     """Lays a text out in rows of cells.
 
     text: at most 4,000,000 bytes in UTF-8; a ValueError where it is longer or has a lone surrogate.

@@ -6,15 +6,13 @@ its first place.
 
 from __future__ import annotations
 
-from collections.abc import Callable
 from typing import NamedTuple
 
+from . import given
 from ._bidigrid import lib
 from .fault import fault
 from .row import Entry, Row
-
-Near = Callable[[int], tuple[Row | None, Row, Row | None]]
-"""The row of a place, between the one above it and the one below it where there are such."""
+from .thread import Held
 
 
 class Position(NamedTuple):
@@ -30,61 +28,68 @@ class Position(NamedTuple):
     place: int
 
 
-def position_at(near: Near, place: int, length: int) -> Position:
-    """The position at a place of a text of this length."""
-    row = near(place)[1]
-    for gap, entry in enumerate(row.entries):
-        if entry.first_place <= place < entry.end_place:
-            return Position(row.first_place, gap + entry.level % 2, entry.first_place)
-    # The text's end: behind the cluster that is last in it.
-    for gap, entry in enumerate(row.entries):
-        if entry.end_place == length:
-            return Position(row.first_place, gap + 1 - entry.level % 2, place)
-    return Position(row.first_place, 0, place)
+class Positions(Held):
+    """A text in which a caret walks."""
 
+    def __len__(self) -> int:
+        raise NotImplementedError
 
-def position_in(near: Near, place: int, column: int) -> Position:
-    """The position in the row that begins at a place: its last gap that isn't right of the column; gap 0 where all are."""
-    row = near(place)[1]
-    if row.first_place != place:
-        raise fault(lib.BIDIGRID_FAULT_BAD_ROW)
-    return _under(row, column)
+    def _near(self, place: int) -> tuple[Row | None, Row, Row | None]:
+        """The row of a place, between the one above it and the one below it where there are such."""
+        raise NotImplementedError
 
+    def position_at(self, place: int) -> Position:
+        """The position of a caret at a place, 0 to the text's length; within a cluster, at the cluster's first place. An
+        IndexError where there is no such place."""
+        row = self._near(place)[1]
+        for gap, entry in enumerate(row.entries):
+            if entry.first_place <= place < entry.end_place:
+                return Position(row.first_place, gap + entry.level % 2, entry.first_place)
+        # The text's end: behind the cluster that is last in it.
+        for gap, entry in enumerate(row.entries):
+            if entry.end_place == place:
+                return Position(row.first_place, gap + 1 - entry.level % 2, place)
+        return Position(row.first_place, 0, place)
 
-def right(near: Near, position: Position) -> Position:
-    """One step to the right."""
-    above, row, below = _rows(near, position)
-    if position.gap < len(row.entries):
-        return Position(row.first_place, position.gap + 1, _right_side(row.entries[position.gap]))
-    return _beyond(row.level % 2 == 0, above, below, position)
+    def position_in(self, row: int, column: int) -> Position:
+        """The position where a mouse points: in the row that begins at the place `row`, the last gap that isn't right of
+        the column; gap 0 where all are. An IndexError where no row begins there."""
+        it = self._near(row)[1]
+        if it.first_place != row:
+            raise fault(lib.BIDIGRID_FAULT_BAD_ROW)
+        return _under(it, given.count(column))
 
+    def right(self, at: Position) -> Position:
+        """One step to the right as the eye sees it; the same position at an end of the text. Its row and gap decide; an
+        IndexError where there are none such, as for the other moves."""
+        above, row, below = self._rows(at)
+        if at.gap < len(row.entries):
+            return Position(row.first_place, at.gap + 1, _right_side(row.entries[at.gap]))
+        return _beyond(row.level % 2 == 0, above, below, at)
 
-def left(near: Near, position: Position) -> Position:
-    """One step to the left."""
-    above, row, below = _rows(near, position)
-    if position.gap > 0:
-        return Position(row.first_place, position.gap - 1, _left_side(row.entries[position.gap - 1]))
-    return _beyond(row.level % 2 == 1, above, below, position)
+    def left(self, at: Position) -> Position:
+        """One step to the left."""
+        above, row, below = self._rows(at)
+        if at.gap > 0:
+            return Position(row.first_place, at.gap - 1, _left_side(row.entries[at.gap - 1]))
+        return _beyond(row.level % 2 == 1, above, below, at)
 
+    def up(self, at: Position) -> Position:
+        """To the row above, as near to the column as may be; the same position in the first row."""
+        above, row, _ = self._rows(at)
+        return _under(above, _column(row, at.gap)) if above else at
 
-def up(near: Near, position: Position) -> Position:
-    """To the row above."""
-    above, row, _ = _rows(near, position)
-    return _under(above, _column(row, position.gap)) if above else position
+    def down(self, at: Position) -> Position:
+        """To the row below; the same position in the last row."""
+        _, row, below = self._rows(at)
+        return _under(below, _column(row, at.gap)) if below else at
 
-
-def down(near: Near, position: Position) -> Position:
-    """To the row below."""
-    _, row, below = _rows(near, position)
-    return _under(below, _column(row, position.gap)) if below else position
-
-
-def _rows(near: Near, position: Position) -> tuple[Row | None, Row, Row | None]:
-    """The row of a position and its neighbours."""
-    above, row, below = near(position.row)
-    if row.first_place != position.row or not 0 <= position.gap <= len(row.entries):
-        raise fault(lib.BIDIGRID_FAULT_BAD_CARET)
-    return above, row, below
+    def _rows(self, at: Position) -> tuple[Row | None, Row, Row | None]:
+        """The row of a position and its neighbours."""
+        above, row, below = self._near(at.row)
+        if row.first_place != at.row or not 0 <= at.gap <= len(row.entries):
+            raise fault(lib.BIDIGRID_FAULT_BAD_CARET)
+        return above, row, below
 
 
 def _beyond(forward: bool, above: Row | None, below: Row | None, position: Position) -> Position:

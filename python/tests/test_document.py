@@ -1,8 +1,14 @@
 """Documents: each call with right and wrong arguments."""
 
+from collections.abc import Callable
+from typing import Any
+
 import pytest
 from bidigrid import Change, Document, Fault, Identifier, layout
 from frames import A_AT_1, B_AFTER_A, HEADER, deletion, insertion
+
+
+Calls = list[Callable[[], object]]
 
 
 def put(text: str, place: int = 0) -> list[Change]:
@@ -32,7 +38,7 @@ def test_a_replacement_is_one_message() -> None:
 def test_a_place_that_is_none_is_an_index_error(place: int) -> None:
     document = Document(1)
     document.type(0, "abc")
-    for call in (
+    calls: Calls = [
         lambda: document.type(place, "x"),
         lambda: document.erase(place, place + 1),
         lambda: document.erase(0, place),
@@ -40,7 +46,8 @@ def test_a_place_that_is_none_is_an_index_error(place: int) -> None:
         lambda: document.id_at(place),
         lambda: document.rows(place),
         lambda: document.position_at(place),
-    ):
+    ]
+    for call in calls:
         with pytest.raises(IndexError) as raised:
             call()
         assert isinstance(raised.value, Fault) and raised.value.name == "BadPlace"
@@ -60,7 +67,8 @@ def test_a_stretch_ends_behind_its_start() -> None:
 
 @pytest.mark.parametrize("site", [0, 65536, -1, 2**32 + 1])
 def test_a_site_is_1_to_65535(site: int) -> None:
-    for call in (lambda: Document(site), lambda: Document.load(HEADER, site)):
+    calls: Calls = [lambda: Document(site), lambda: Document.load(HEADER, site)]
+    for call in calls:
         with pytest.raises(ValueError) as raised:
             call()
         assert isinstance(raised.value, Fault) and raised.value.number == 112
@@ -69,7 +77,8 @@ def test_a_site_is_1_to_65535(site: int) -> None:
 @pytest.mark.parametrize("width", [1, 501, -2, 2**32 + 80])
 def test_a_width_is_2_to_500(width: int) -> None:
     document = Document(1, 2)
-    for call in (lambda: Document(1, width), lambda: document.resize(width), lambda: layout("", width)):
+    calls: Calls = [lambda: Document(1, width), lambda: document.resize(width), lambda: layout("", width)]
+    for call in calls:
         with pytest.raises(ValueError) as raised:
             call()
         assert isinstance(raised.value, Fault) and raised.value.name == "BadWidth"
@@ -85,7 +94,9 @@ def test_a_base_is_one_of_three_words() -> None:
     assert document.base == "right" and str(document.rows()) == "   a"
     document.base = "left"
     assert str(document.rows()) == "a   "
-    for call in (lambda: Document(1, 80, "middle"), lambda: layout("", 80, "ltr"), lambda: setattr(document, "base", "")):
+    wrong: Any = "ltr"
+    calls: Calls = [lambda: Document(1, 80, wrong), lambda: layout("", 80, wrong), lambda: setattr(document, "base", wrong)]
+    for call in calls:
         with pytest.raises(ValueError) as raised:
             call()
         assert isinstance(raised.value, Fault) and raised.value.name == "BadBase"
@@ -93,8 +104,10 @@ def test_a_base_is_one_of_three_words() -> None:
 
 
 def test_other_types_are_a_type_error() -> None:
-    document = Document(1)
-    for call in (
+    document: Any = Document(1)
+    make: Any = Document
+    lay: Any = layout
+    calls: Calls = [
         lambda: document.type("0", "a"),
         lambda: document.type(0, b"a"),
         lambda: document.type(0.0, "a"),
@@ -106,14 +119,15 @@ def test_other_types_are_a_type_error() -> None:
         lambda: document.rows([]),
         lambda: document.reserve(1.5),
         lambda: document.place_of(7),
-        lambda: Document("1"),
-        lambda: Document(1, base=0),
-        lambda: Document(1, key=7),
-        lambda: Document.load("text", 1),
-        lambda: layout(b"a", 80),
-    ):
+        lambda: make("1"),
+        lambda: make(1, base=0),
+        lambda: make(1, key=7),
+        lambda: make.load("text", 1),
+        lambda: lay(b"a", 80),
+    ]
+    for call in calls:
         with pytest.raises(TypeError):
-            call()  # type: ignore[no-untyped-call]
+            call()
     assert document.text == ""
 
 
@@ -207,7 +221,8 @@ def test_a_closed_document_is_a_value_error() -> None:
     with Document(1) as document:
         document.type(0, "a")
     document.close()
-    for call in (lambda: document.text, lambda: len(document), lambda: document.type(0, "b"), lambda: document.rows()):
+    calls: Calls = [lambda: document.text, lambda: len(document), lambda: document.type(0, "b"), lambda: document.rows()]
+    for call in calls:
         with pytest.raises(ValueError, match="closed"):
             call()
     other = Document(2)

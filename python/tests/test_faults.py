@@ -1,6 +1,7 @@
 """Messages that are refused, and what is told of them."""
 
 import pickle
+from collections.abc import Callable
 
 import pytest
 from bidigrid import Change, Document, Fault
@@ -26,7 +27,8 @@ FAULTY = [
 def test_faulty_bytes_change_nothing(message: bytes, number: int, name: str, frame: int) -> None:
     document = Document(2)
     document.type(0, "x")
-    for call in (document.take, lambda it: Document.load(it, 3)):
+    calls: list[Callable[[bytes], object]] = [document.take, lambda it: Document.load(it, 3)]
+    for call in calls:
         with pytest.raises(Fault) as raised:
             call(message)
         fault = raised.value

@@ -1,5 +1,7 @@
 """Places count code points, as len and indices of a str do."""
 
+from collections.abc import Callable
+
 import pytest
 from bidigrid import Change, Document, layout
 
@@ -34,11 +36,12 @@ def test_rows_and_carets_count_code_points() -> None:
 def test_a_lone_surrogate_is_a_value_error(text: str) -> None:
     document = Document(1)
     document.type(0, "abc")
-    for call in (
+    calls: list[Callable[[], object]] = [
         lambda: document.type(0, text),
         lambda: document.replace(0, 1, text),
         lambda: layout(text, 80),
-    ):
+    ]
+    for call in calls:
         with pytest.raises(ValueError, match="surrogates not allowed"):
             call()
     assert document.text == "abc"

@@ -1,10 +1,14 @@
 """Positions in a document beside carets in a picture of its whole text."""
 
 from random import Random
+from typing import Literal
 
 import pytest
 from bidigrid import Caret, Document, Fault, Picture, Position, layout
 from texts import mixed
+
+
+BASES: list[Literal["auto", "left", "right"]] = ["auto", "left", "right"]
 
 
 def placed(picture: Picture, caret: Caret) -> Position:
@@ -20,7 +24,7 @@ def carets(picture: Picture) -> list[Caret]:
 @pytest.mark.parametrize("seed", range(40))
 def test_positions_are_the_carets_of_the_whole(seed: int) -> None:
     chance = Random(seed)
-    width, base = chance.choice([2, 3, 7, 24]), chance.choice(["auto", "left", "right"])
+    width, base = chance.choice([2, 3, 7, 24]), chance.choice(BASES)
     text = mixed(chance, chance.choice([0, 1, 10, 60]))
     document = Document(1, width, base)
     document.type(0, text)
