@@ -1,4 +1,5 @@
-# The C library: make lib, make check-c, make install, make dist. What each target does: make help.
+# The C library and the Python package: make lib, make check-c, make wheel, make check-python, make install, make dist. What
+# each target does: make help.
 
 VERSION := $(shell cat VERSION)
 MAJOR := $(firstword $(subst ., ,$(VERSION)))
@@ -13,6 +14,8 @@ CFLAGS ?= -O2
 LDFLAGS ?=
 # The program that check-c compares the library with; where another is named, none is proved for it.
 BIDIGRID ?= build/bin/bidigrid
+# Debian's own Python, which has cffi, pytest and the others of make deps.
+PYTHON ?= /usr/bin/python3
 
 LIB = build/lib
 ARCHIVE = $(LIB)/libbidigrid.a
@@ -21,13 +24,16 @@ SONAME = libbidigrid.so.$(MAJOR)
 PAGES = C.md C_REFERENCE.md FORMATS.md
 
 .DELETE_ON_ERROR:
-.PHONY: help lib program check-symbols check-c install uninstall dist deps clean FORCE
+.PHONY: help lib program check-symbols check-c wheel check-python install uninstall dist deps clean FORCE
 
 help:
 	@echo 'make lib         proves the core and builds build/lib: libbidigrid.a and $(SHARED)'
 	@echo 'make program     proves and builds the program, build/bin/bidigrid'
 	@echo 'make check-c     builds both and tries the library from C; with BIDIGRID=FILE it compares with that program, and'
 	@echo '                 proves none'
+	@echo 'make wheel       builds the library and with it the Python package, build/bidigrid-$(VERSION)-*.whl'
+	@echo 'make check-python'
+	@echo '                 builds both and the wheel, and tries the package in a fresh virtual environment; BIDIGRID=FILE as there'
 	@echo 'make install     copies library, header and pages below PREFIX ($(PREFIX)), or below DESTDIR where it is set;'
 	@echo '                 libdir, includedir and docdir can be set too'
 	@echo 'make uninstall   removes what make install copied'
@@ -64,6 +70,12 @@ check-symbols: $(ARCHIVE) $(LIB)/$(SHARED) include/bidigrid.h
 check-c: lib $(BIDIGRID)
 	BIDIGRID='$(abspath $(BIDIGRID))' c/check
 
+wheel: $(ARCHIVE)
+	PYTHON='$(PYTHON)' tools/make-wheel $(ARCHIVE) build
+
+check-python: wheel $(BIDIGRID)
+	PYTHON='$(PYTHON)' BIDIGRID='$(abspath $(BIDIGRID))' python/check build/bidigrid-$(VERSION)-*.whl
+
 install: lib
 	install -d '$(DESTDIR)$(includedir)' '$(DESTDIR)$(libdir)/pkgconfig' '$(DESTDIR)$(docdir)'
 	install -m 644 include/bidigrid.h '$(DESTDIR)$(includedir)'
@@ -91,6 +103,8 @@ dist: lib program
 deps:
 	apt-get install -y --no-install-recommends binutils clang g++ gcc libc6-dev libclang-rt-14-dev make pkg-config \
 	    python3 valgrind
+	apt-get install -y --no-install-recommends mypy python3-bidi python3-cffi python3-dev python3-pip python3-pytest \
+	    python3-setuptools python3-venv python3-wheel
 
 clean:
 	rm -rf build
