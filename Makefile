@@ -24,7 +24,7 @@ SONAME = libbidigrid.so.$(MAJOR)
 PAGES = C.md C_REFERENCE.md FORMATS.md
 
 .DELETE_ON_ERROR:
-.PHONY: help lib program check-symbols check-c wheel check-python install uninstall dist deps clean FORCE
+.PHONY: help lib program check-symbols check-c wheel check-python check-edit install uninstall dist deps clean FORCE
 
 help:
 	@echo 'make lib         proves the core and builds build/lib: libbidigrid.a and $(SHARED)'
@@ -34,6 +34,7 @@ help:
 	@echo 'make wheel       builds the library and with it the Python package, build/bidigrid-$(VERSION)-*.whl'
 	@echo 'make check-python'
 	@echo '                 builds both and the wheel, and tries the package in a fresh virtual environment; BIDIGRID=FILE as there'
+	@echo 'make check-edit  builds the same, and tries the editor in terminals and over Redis; BIDIGRID=FILE as there'
 	@echo 'make install     copies library, header and pages below PREFIX ($(PREFIX)), or below DESTDIR where it is set;'
 	@echo '                 libdir, includedir and docdir can be set too'
 	@echo 'make uninstall   removes what make install copied'
@@ -73,6 +74,9 @@ check-c: lib $(BIDIGRID)
 wheel: $(ARCHIVE)
 	PYTHON='$(PYTHON)' tools/make-wheel $(ARCHIVE) build
 
+check-edit: wheel $(BIDIGRID)
+	PYTHON='$(PYTHON)' BIDIGRID='$(abspath $(BIDIGRID))' python/check-edit build/bidigrid-$(VERSION)-*.whl
+
 check-python: wheel $(BIDIGRID)
 	PYTHON='$(PYTHON)' BIDIGRID='$(abspath $(BIDIGRID))' python/check build/bidigrid-$(VERSION)-*.whl
 
@@ -104,7 +108,7 @@ deps:
 	apt-get install -y --no-install-recommends binutils clang g++ gcc libc6-dev libclang-rt-14-dev make pkg-config \
 	    python3 valgrind
 	apt-get install -y --no-install-recommends mypy python3-bidi python3-cffi python3-dev python3-pip python3-pytest \
-	    python3-setuptools python3-venv python3-wheel
+	    python3-redis python3-setuptools python3-venv python3-wheel redis-server tmux
 
 clean:
 	rm -rf build

@@ -115,6 +115,10 @@ class Pane:
         line, column = self.terminal.tmux("display", "-p", "-t", self.number, "#{cursor_y} #{cursor_x}").split()
         return int(line), int(column)
 
+    def stands(self, line: int, column: int) -> None:
+        """Waits until the caret is there."""
+        until(lambda: self.cursor() == (line, column), lambda: f"{self.cursor()}\n{self.screen()}")
+
     def width(self) -> int:
         """How many columns the pane has."""
         return int(self.terminal.tmux("display", "-p", "-t", self.number, "#{pane_width}"))

@@ -71,7 +71,8 @@ def test_random_keys_at_three_desks(tmp_path: Path, seed: int) -> None:
             seen = view_of(editor)
             assert seen.rows[seen.line].first_place <= editor.at.place <= seen.rows[seen.line].last_place
         if chance.random() < 0.1:
-            deliver(chance, *chance.sample(folders, 2), whole=False)
+            source, target = chance.sample(folders, 2)
+            deliver(chance, source, target, whole=False)
         if chance.random() < 0.1:
             look(editor.desk)
             editor.follow()

@@ -44,18 +44,18 @@ def test_a_caret_goes_as_the_eye_sees_it(terminal: Terminal) -> None:
     assert pane.cursor() == (0, 10)
     for column in range(9, -1, -1):
         pane.press("Left")
-        until(lambda column=column: pane.cursor() == (0, column), pane.screen)
+        pane.stands(0, column)
     for column in range(1, 11):
         pane.press("Right")
-        until(lambda column=column: pane.cursor() == (0, column), pane.screen)
+        pane.stands(0, column)
     pane.press("C-a")
     pane.type("שלום")
     until(lambda: pane.rows()[0] == "םולש".rjust(pane.width() - 1), pane.screen)
     assert pane.cursor() == (0, pane.width() - 5)
     pane.press("Home")
-    until(lambda: pane.cursor() == (0, pane.width() - 1), pane.screen)
+    pane.stands(0, pane.width() - 1)
     pane.press("Left")
-    until(lambda: pane.cursor() == (0, pane.width() - 2), pane.screen)
+    pane.stands(0, pane.width() - 2)
 
 
 def test_a_paste_is_one_edit(terminal: Terminal) -> None:

@@ -128,11 +128,11 @@ def test_a_caret_stays_at_its_character(terminal: Terminal, server: Server) -> N
     dana.type("tea milk")
     have_met(dana, omar)
     dana.press("Home", "C-Right", "Right")
-    until(lambda: dana.cursor() == (0, 4))
+    dana.stands(0, 4)
     omar.press("Home")
     omar.type("hot ")
     have_met(dana, omar)
-    until(lambda: dana.cursor() == (0, 8), dana.screen)
+    dana.stands(0, 8)
     dana.type("and ")
     have_met(dana, omar)
     assert dana.rows()[0] == "hot tea and milk"
