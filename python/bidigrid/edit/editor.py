@@ -25,6 +25,7 @@ class Editor:
         self.height = height
         self.text_path = text_path
         self.line = 0
+        self.top: Identifier | None = None  # what the first row on the screen begins behind
         self.goal: int | None = None
         self.marked: Identifier | None = None
         self.is_marking = False
@@ -54,7 +55,6 @@ class Editor:
         """Does what a key is for. What the core refuses is told."""
         if not self.desk.failed_at:
             self.desk.notice = ""
-        top = carets.before(self.document, self.shown()[0].first_place)
         try:
             if at := self.moved(key.name.removeprefix("shift-")):
                 self.go(at, key.name)
@@ -64,7 +64,7 @@ class Editor:
                 self.edits[key.name]()
         except (Fault, MemoryError) as fault:
             self.desk.notice = str(fault) or "memory"
-        self.scroll(top)
+        self.scroll()
         self.desk.is_changed = True
 
     # Where one stands
@@ -88,13 +88,16 @@ class Editor:
     def shown(self) -> tuple[Row, ...]:
         """The rows on the screen, with the caret's at its line, or above it where fewer rows stand before."""
         self.line = min(self.line, self.height - 1)
-        window = self.document.rows(self.at.row, self.line, self.height - 1)
-        self.line = window.number
-        return tuple(window[: self.height])
+        window = self.document.rows(self.at.row, self.line, self.height - 1 - self.line)
+        if window.number < self.line:
+            self.line = window.number
+            window = self.document.rows(self.at.row, self.line, self.height - 1 - self.line)
+        self.top = carets.before(self.document, window[0].first_place)
+        return tuple(window)
 
-    def scroll(self, top: Identifier | None) -> None:
+    def scroll(self) -> None:
         """Has the screen begin where it began, if the caret is seen there; else shows it at the edge that it went over."""
-        place = carets.place_behind(self.document, top) or 0
+        place = carets.place_behind(self.document, self.top) or 0
         for line, row in enumerate(self.document.rows(place, 0, self.height - 1)):
             if row.first_place == self.at.row:
                 self.line = line

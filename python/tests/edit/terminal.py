@@ -27,8 +27,8 @@ class Terminal:
         assert done.returncode == 0, f"{words}: {done.stderr}"
         return done.stdout
 
-    def run(self, name: str, *words: str) -> "Pane":
-        """A new pane with an editor, whose own folder has this name."""
+    def run(self, name: str, *words: str, is_started: bool = True) -> "Pane":
+        """A new pane with an editor, whose own folder has this name; where it isn't started yet, it sleeps."""
         own = self.folder / name
         own.mkdir(exist_ok=True)
         pane = Pane(self, name, own, [sys.executable, "-m", "bidigrid.edit", "notes", "--name", name, *words])
@@ -39,8 +39,9 @@ class Terminal:
             words = ("split-window", "-h", "-P", "-F", "#{pane_id}", "-c", str(own), "sleep infinity")
             pane.number = self.tmux(*words).strip()
             self.tmux("select-layout", "even-horizontal")
-        pane.start()
         self.panes.append(pane)
+        if is_started:
+            pane.start()
         return pane
 
     def close(self) -> None:

@@ -2,6 +2,7 @@
 
 import os
 import subprocess
+import tempfile
 from collections.abc import Iterator
 from pathlib import Path
 
@@ -39,29 +40,22 @@ def test_a_folder_that_is_none(terminal: Terminal, tmp_path: Path) -> None:
     assert not pane.log.exists()
 
 
-def test_an_unreadable_folder(terminal: Terminal, tmp_path: Path) -> None:
-    shut = tmp_path / "shut"
-    shut.mkdir(mode=0o300)
-    if os.getuid() == 0:
-        # Root reads everything, so nobody tries it.
-        pytest.importorskip("ctypes")
-        os.chown(shut, NOBODY, NOBODY)
-        pane = terminal.run("dana", "--folder", str(shut))
-        pane.words[:0] = ["setpriv", f"--reuid={NOBODY}", f"--regid={NOBODY}", "--clear-groups"]
-        os.chown(pane.own, NOBODY, NOBODY)
-        for above in tmp_path.parents:
-            if above.is_relative_to("/tmp") and above != Path("/tmp"):
-                above.chmod(above.stat().st_mode | 0o011)
-        tmp_path.chmod(0o711)
-        (pane.own / "said").unlink(missing_ok=True)
-        for left in pane.own.iterdir():
-            left.unlink()
-        for left in shut.iterdir():
-            left.unlink()
+def test_an_unreadable_folder() -> None:
+    with tempfile.TemporaryDirectory() as name:
+        folder = Path(name)
+        folder.chmod(0o711)
+        shut = folder / "shut"
+        shut.mkdir(mode=0o300)
+        terminal = Terminal(folder, 80, 14)
+        pane = terminal.run("dana", "--folder", str(shut), is_started=False)
+        if os.getuid() == 0:
+            # Root reads everything, so nobody in particular tries it.
+            pane.words[:0] = ["setpriv", f"--reuid={NOBODY}", f"--regid={NOBODY}", "--clear-groups"]
+            for own in (shut, pane.own):
+                os.chown(own, NOBODY, NOBODY)
         pane.start()
-    else:
-        pane = terminal.run("dana", "--folder", str(shut))
-    assert refused(pane) == f"cannot read {shut}: Permission denied"
+        assert refused(pane) == f"cannot read {shut}: Permission denied"
+        terminal.close()
 
 
 def test_a_full_disk(terminal: Terminal, small_disk: Path) -> None:
