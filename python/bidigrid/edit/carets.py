@@ -37,6 +37,11 @@ def column_of_gap(row: Row, gap: int) -> int:
     return row.column
 
 
+def between(document: Document, place: int) -> tuple[Identifier | None, Identifier | None]:
+    """The characters before a place and behind it; none at an end of the text."""
+    return before(document, place), document.id_at(place) if place < len(document) else None
+
+
 def places_of_gap(row: Row, gap: int) -> set[int]:
     """The places that a gap of a row stands for: that of the character left of it, and that of the one right of it."""
     found = set() if row.entries else {row.first_place}

@@ -120,9 +120,11 @@ class Desk:
         for start, stop in stretches(self.document, edit.typed):
             self.made(self.document.erase(start, stop))
             place = start
-        for start, text in returns(self.document, edit.erased):
-            self.made(self.document.type(start, text))
-            place = start + len(text)
+        for gone in returns(self.document, edit.erased):
+            message = self.document.type(gone.place, gone.text)
+            self.edits.rename(gone.old, message)
+            self.made(message)
+            place = gone.place + len(gone.text)
         return self.undo() if place is None else place
 
     def made(self, message: bytes) -> None:

@@ -14,7 +14,9 @@ from .fault import reason
 from .keys import Key
 
 BASES: tuple[Base, ...] = get_args(Base)
-FRONT = Identifier(0, 0)  # the text's front, where a place stands behind no character
+
+Between = tuple[Identifier | None, Identifier | None]
+"""The characters before a place and behind it."""
 
 
 class Editor:
@@ -27,7 +29,7 @@ class Editor:
         self.line = 0
         self.top: Identifier | None = None  # what the first row on the screen begins behind
         self.goal: int | None = None
-        self.marked: Identifier | None = None
+        self.marked: Between | None = None
         self.is_marking = False
         self.is_left = self.is_warned = False
         self.stand(self.document.position_at(0))
@@ -72,7 +74,8 @@ class Editor:
     def stand(self, at: Position) -> None:
         """Stands at a position, behind a character that it stays with."""
         self.at = at
-        self.desk.caret = carets.before(self.document, at.place)
+        self.between = carets.between(self.document, at.place)
+        self.desk.caret = self.between[0]
 
     def follow(self) -> None:
         """Stays at one's character, and at its edge, after others have changed the text."""
@@ -130,7 +133,7 @@ class Editor:
         """Goes there, selecting on the way where shift is held or a stretch was begun."""
         if name.startswith("shift-"):
             if self.marked is None:
-                self.marked = self.desk.caret or FRONT
+                self.marked = self.between
         elif not self.is_marking:
             self.end_stretch()
         if not name.endswith(("up", "down")):
@@ -142,7 +145,7 @@ class Editor:
 
     def begin_stretch(self) -> None:
         """Selects from here on."""
-        self.marked = self.desk.caret or FRONT
+        self.marked = self.between
         self.is_marking = True
 
     def end_stretch(self) -> None:
@@ -152,16 +155,19 @@ class Editor:
 
     def select_all(self) -> None:
         """Selects the whole text."""
-        self.marked = FRONT
+        self.marked = carets.between(self.document, 0)
         self.stand(self.document.position_at(len(self.document)))
 
     def selected(self) -> tuple[int, int]:
-        """From which place up to which other one; the caret's twice where nothing is selected."""
-        place = self.at.place
+        """From which place up to which other one; the caret's twice where nothing is selected. What others type at an end
+        of the stretch is out of it."""
+        here = self.at.place
         if self.marked is None:
-            return place, place
-        other = carets.place_behind(self.document, None if self.marked == FRONT else self.marked) or 0
-        return min(other, place), max(other, place)
+            return here, here
+        there = carets.place_behind(self.document, self.marked[0]) or 0
+        first = self.marked[1] if there <= here else self.between[1]
+        start, stop = min(here, there), max(here, there)
+        return (start if first is None else min(stop, self.document.place_of(first))), stop
 
     # Edits
 

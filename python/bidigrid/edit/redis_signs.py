@@ -5,7 +5,7 @@ from __future__ import annotations
 import time
 
 from .. import Identifier
-from .channel import Here, plain_name
+from .channel import GONE_AFTER, Here, plain_name
 from .frames import last_identifier
 from .redis_link import Link
 
@@ -27,6 +27,12 @@ class Signs:
         self.here: dict[int, Here] = {}
         self.last: tuple[int, int] | None = None
         self.given = 0.0
+
+    def begin(self, link: Link) -> None:
+        """Leaves signs unread that are so old that whoever gave them is gone."""
+        if self.upto == b"0":
+            seconds = int(link.call("TIME")[0])
+            self.upto = b"%d-0" % (1000 * max(0, seconds - int(GONE_AFTER)))
 
     def came(self, entries: list[tuple[bytes, list[bytes]]]) -> None:
         """Keeps what the others' signs say."""

@@ -83,8 +83,9 @@ class RedisStream:
         return found
 
     def agree(self, log: Log) -> None:
-        """Compares the log with what went out."""
+        """Compares the log with what went out, and has the signs read from a little before now on."""
         assert self.writer
+        self.signs.begin(self.writer)
         if self.sent.agree(self.writer, log, self.site):
             # Others may never come back to say again what was forgotten of them.
             self.since_snapshot = SNAPSHOT_AFTER

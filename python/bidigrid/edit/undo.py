@@ -5,7 +5,7 @@ from __future__ import annotations
 import dataclasses
 
 from .. import Document, Identifier
-from .carets import is_seen, place_behind
+from .carets import is_seen
 from .frames import operations
 
 
@@ -16,6 +16,15 @@ class Edit:
     typed: list[Identifier]
     erased: list[tuple[Identifier, str]]
     is_open: bool = False
+
+
+@dataclasses.dataclass
+class Return:
+    """What was erased in one stretch: where it stood, and under which identifiers."""
+
+    place: int
+    text: str
+    old: list[Identifier]
 
 
 class Edits:
@@ -42,6 +51,12 @@ class Edits:
         if self.made:
             self.made[-1].is_open = False
 
+    def rename(self, old: list[Identifier], message: bytes) -> None:
+        """Has the edits that typed some characters know them under the identifiers that they were typed again under."""
+        new = dict(zip(old, (it.identifier for it in operations(message))))
+        for edit in self.made:
+            edit.typed = [new.get(identifier, identifier) for identifier in edit.typed]
+
     def last(self) -> Edit | None:
         """The last edit, which is kept no longer."""
         return self.made.pop() if self.made else None
@@ -61,15 +76,14 @@ def stretches(document: Document, typed: list[Identifier]) -> list[tuple[int, in
     return sorted(found, reverse=True)
 
 
-def returns(document: Document, erased: list[tuple[Identifier, str]]) -> list[tuple[int, str]]:
-    """What is to be typed again, and where it stood, the last first."""
-    found: list[tuple[int, str]] = []
+def returns(document: Document, erased: list[tuple[Identifier, str]]) -> list[Return]:
+    """What is to be typed again, the last first."""
+    found: list[Return] = []
     for identifier, character in erased:
-        place = place_behind(document, identifier)
-        if place is None or is_seen(document, identifier, place - 1):
-            continue
-        if found and found[-1][0] == place:
-            found[-1] = (place, found[-1][1] + character)
+        place = document.place_of(identifier)
+        if found and found[-1].place == place:
+            found[-1].text += character
+            found[-1].old.append(identifier)
         else:
-            found.append((place, character))
-    return sorted(found, reverse=True)
+            found.append(Return(place, character, [identifier]))
+    return found[::-1]
