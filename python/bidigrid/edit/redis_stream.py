@@ -15,6 +15,7 @@ from .redis_sent import Sent
 from .redis_signs import GONE, Signs
 
 MAX_SITE = 65535
+PAUSE = 0.01  # seconds from one reading to the next at least: what comes meanwhile is read at once
 POLL = 0.1  # seconds between two turns while nothing comes
 AGAIN = 0.5  # seconds between two tries to reach a Redis that is away
 SILENCE = 5.0  # seconds, after which a reader that has nothing to read says so
@@ -36,7 +37,8 @@ class RedisStream:
         self.reader: Link | None = None
         self.knock: Knock | None = None
         self.trouble = ""
-        self.tried = self.heard = 0.0
+        self.tried = self.heard = self.listens_at = 0.0
+        self.is_listening = False
         self.found: list[Message] = []
         self.stream, self.sites, self.snapshot_key, sent, signs = (
             f"bidigrid:{{{name}}}:{key}" for key in ("stream", "sites", "snapshot", "sent", "carets")
@@ -95,18 +97,21 @@ class RedisStream:
         if not self.reader:
             self.reader = Link(self.url)
         self.heard = time.monotonic()
+        self.is_listening = True
         block = int(SILENCE * 1000)
         keys = (self.stream, self.signs.key, self.upto, self.signs.upto)
         self.reader.ask(self.came, "XREAD", "COUNT", AT_ONCE, "BLOCK", block, "STREAMS", *keys)
 
     def came(self, answer: Any) -> None:
-        """Keeps what the reader read, and has it read on."""
+        """Keeps what the reader read. It reads on at the next turn, or where much comes after a pause."""
         for key, entries in answer or []:
             if key == self.stream.encode():
                 self.found += self.messages(entries)
             else:
                 self.signs.came(entries)
-        self.listen()
+        now = time.monotonic()
+        self.listens_at = max(now, self.heard + PAUSE)
+        self.heard, self.is_listening = now, False
 
     def messages(self, entries: list[tuple[bytes, list[bytes]]]) -> list[Message]:
         """The messages of entries, but those that this desk sent."""
@@ -130,6 +135,8 @@ class RedisStream:
             if self.reader and self.writer:
                 self.writer.read()
                 self.reader.read()
+                if not self.is_listening and time.monotonic() >= self.listens_at:
+                    self.listen()
                 if now - self.heard > 2 * SILENCE:
                     raise TimeoutError("no answer")
                 self.sent.send(self.writer, log, self.site)
@@ -180,7 +187,7 @@ class RedisStream:
 
     def patience(self) -> float:
         """How many seconds the next turn may be waited for at most."""
-        return POLL
+        return POLL if self.is_listening or not self.reader else min(POLL, max(0.0, self.listens_at - time.monotonic()))
 
     def wants_snapshot(self, operations: int) -> bool:
         """Whether much came behind the last snapshot, beside what the text has."""
