@@ -79,18 +79,34 @@ def run(editor: Editor, screen: Screen, waker: int, is_ended: list[int]) -> None
 
 def read_keys() -> bytes:
     """What has come of keys; a terminal that is gone ends it all."""
-    data = os.read(0, PIECE)
+    try:
+        data = os.read(0, PIECE)
+    except OSError:
+        data = b""
     if not data:
         raise EOFError
     return data
 
 
+def speak_utf_8() -> None:
+    """Has curses write UTF-8, whatever the locale is or is missing."""
+    try:
+        locale.setlocale(locale.LC_ALL, "")
+    except locale.Error:
+        pass
+    if locale.nl_langinfo(locale.CODESET) != "UTF-8":
+        locale.setlocale(locale.LC_CTYPE, "C.UTF-8")
+
+
 def main(words: list[str] | None = None) -> int:
     """Edits a text, and answers the status."""
     wanted = asked(words)
-    locale.setlocale(locale.LC_ALL, "")
+    speak_utf_8()
     try:
-        desk = Desk(Log(wanted.log or f"{wanted.text}.bgop"), channel_of(wanted), wanted.site, base=wanted.base)
+        if not (os.isatty(0) and os.isatty(1)):
+            raise EditFault("it needs a terminal")
+        channel = channel_of(wanted)
+        desk = Desk(Log(wanted.log or f"{wanted.text}.bgop"), channel, wanted.site, base=wanted.base)
     except EditFault as fault:
         print(f"bidigrid-edit: {fault}", file=sys.stderr)
         return STATUS_FAULT
@@ -108,8 +124,8 @@ def main(words: list[str] | None = None) -> int:
     except EOFError:
         pass
     finally:
-        screen.close()
         desk.close()
+        screen.close()
     return 0
 
 

@@ -18,9 +18,9 @@ def place_behind(document: Document, before: Identifier | None) -> int | None:
         return 0
     try:
         place = document.place_of(before)
-    except (Fault, LookupError):
+    except (Fault, ValueError, OverflowError):
         return None
-    return None if place is None else place + is_seen(document, before, place)
+    return place + is_seen(document, before, place)
 
 
 def before(document: Document, place: int) -> Identifier | None:

@@ -4,6 +4,7 @@ from __future__ import annotations
 
 import codecs
 import re
+import time
 from typing import NamedTuple
 
 WAIT = 0.05  # seconds, after which an escape that nothing follows is the key itself
@@ -36,12 +37,14 @@ class Keys:
 
     def __init__(self) -> None:
         self.rest = b""
+        self.fed = 0.0
         self.pasted: bytearray | None = None
         self.decoder = codecs.getincrementaldecoder("utf-8")(errors="replace")
 
     def feed(self, data: bytes) -> list[Key]:
         """The keys that these bytes finish."""
         self.rest += data
+        self.fed = time.monotonic()
         found: list[Key] = []
         while self.rest:
             if self.pasted is not None:
@@ -101,10 +104,12 @@ class Keys:
         """Whether an escape may still become a sequence."""
         return self.pasted is None and bool(self.rest)
 
-    def give_up(self) -> list[Key]:
-        """The keys of what has come, where nothing follows."""
+    def give_up(self, after: float = WAIT) -> list[Key]:
+        """The keys of what has come, where nothing has followed for a while."""
+        if not self.is_waiting() or time.monotonic() - self.fed < after:
+            return []
         rest, self.rest = self.rest, b""
-        return [Key("escape"), *self.feed(rest[1:])] if rest else []
+        return [Key("escape"), *self.feed(rest[1:])]
 
 
 def named(match: re.Match[bytes]) -> str | None:

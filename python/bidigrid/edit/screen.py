@@ -119,11 +119,14 @@ class Screen:
             return
 
     def close(self) -> None:
-        """Gives the terminal back."""
-        curses.noraw()
-        curses.echo()
-        curses.endwin()
-        os.write(1, END)
+        """Gives the terminal back, if it is still there."""
+        try:
+            curses.noraw()
+            curses.echo()
+            curses.endwin()
+            os.write(1, END)
+        except (curses.error, OSError):
+            return
 
 
 @functools.lru_cache(1000)

@@ -42,8 +42,8 @@ def test_bytes_are_keys(data: bytes, wanted: list[Key]) -> None:
 def test_an_escape_that_nothing_follows_is_the_key() -> None:
     keys = Keys()
     assert keys.feed(b"a\x1b") == [Key("text", "a")] and keys.is_waiting()
-    assert keys.give_up() == [Key("escape")] and not keys.is_waiting()
-    assert keys.feed(b"\x1b[") == [] and keys.give_up() == [Key("escape"), Key("text", "[")]
+    assert keys.give_up(0) == [Key("escape")] and not keys.is_waiting()
+    assert keys.feed(b"\x1b[") == [] and keys.give_up(0) == [Key("escape"), Key("text", "[")]
 
 
 def test_bytes_that_are_no_utf_8_are_replaced() -> None:
