@@ -81,12 +81,12 @@ class Editor:
         """Stays at one's character, and at its edge, after others have changed the text."""
         place = carets.place_behind(self.document, self.desk.caret) or 0
         row = self.at.row + place - self.at.place
-        if 0 <= row <= len(self.document):
-            there = self.document.rows(row, 0, 0)[0]
-            if there.first_place == row and place in carets.places_of_gap(there, self.at.gap):
-                self.at = Position(row, self.at.gap, place)
-                return
-        self.at = self.document.position_at(place)
+        there = self.document.rows(row, 0, 0)[0] if 0 <= row <= len(self.document) else None
+        if there and there.first_place == row and place in carets.places_of_gap(there, self.at.gap):
+            self.at = Position(row, self.at.gap, place)
+        else:
+            self.at = self.document.position_at(place)
+        self.scroll()
 
     def shown(self) -> tuple[Row, ...]:
         """The rows on the screen, with the caret's at its line, or above it where fewer rows stand before."""
@@ -218,6 +218,7 @@ class Editor:
         self.height = max(1, height)
         self.document.resize(max(2, min(500, width)))
         self.at = self.document.position_at(self.at.place)
+        self.scroll()
         self.desk.is_changed = True
 
     def write_text(self) -> None:

@@ -9,6 +9,9 @@ from . import carets
 from .editor import Editor
 
 
+NAMED = 3  # of those who are here
+
+
 class View(NamedTuple):
     """Rows, the caret's line and column, the selected stretch, and others' carets: line, column, site."""
 
@@ -43,15 +46,11 @@ def others(editor: Editor, rows: tuple[Row, ...]) -> list[tuple[int, int, int]]:
 def status(editor: Editor) -> str:
     """The site, the connection, how long the text is, how it is laid out, who else is here, and what is to be told."""
     desk = editor.desk
-    names = [f"{here.name or '?'} ({site})" for site, here in sorted(desk.here().items())]
-    parts = [
-        f"site {desk.site}",
-        desk.state(),
-        f"{len(editor.document):,} characters",
-        f"F2 {editor.document.base}",
-        f"F3 {'wide' if desk.wide_ambiguous else 'narrow'}",
-    ]
-    if names:
-        parts.append(f"with {', '.join(names)}")
+    here = [f"{here.name or '?'} ({site})" for site, here in sorted(desk.here().items())]
+    parts = [f"site {desk.site}", desk.state(), f"{len(editor.document):,} characters"]
+    if here:
+        more = f" and {len(here) - NAMED} more" if len(here) > NAMED else ""
+        parts.append(f"with {', '.join(here[:NAMED])}{more}")
+    parts += [f"F2 {editor.document.base}", f"F3 {'wide' if desk.wide_ambiguous else 'narrow'}"]
     line = " | ".join(parts)
     return f"{desk.notice} | {line}" if desk.notice else line

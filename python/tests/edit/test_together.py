@@ -45,8 +45,8 @@ def test_two_desks_over_a_folder(terminal: Terminal, tmp_path: Path) -> None:
     shared.mkdir()
     terminal.size = ("-x", "121", "-y", "12")
     dana, omar = (terminal.run(name, "--folder", str(shared)).started() for name in ("dana", "omar"))
-    dana.tells("omar")
-    omar.tells("dana")
+    dana.tells("with omar")
+    omar.tells("with dana")
     # Both write at the front, and neither has seen what the other writes.
     dana.type(HEBREW)
     omar.type(ARABIC)
