@@ -91,17 +91,17 @@ class Folder:
         """Writes the rest of the log, and reads what others wrote, if the last look is long enough ago."""
         now = time.monotonic()
         is_due = now - self.looked >= POLL
+        found: list[Message] = []
         try:
-            if self.sent < log.size and (is_due or not self.trouble):
+            if is_due:
+                self.looked, self.trouble = now, ""
+                found = self.read_others()
+            if not self.is_sent(log) and (is_due or not self.trouble):
                 self.append(log)
-            found = self.read_others() if is_due else []
             if is_due:
                 self.give_sign(caret, now)
-            self.trouble = ""
         except OSError as error:
-            found, self.trouble = [], reason(error)
-        if is_due:
-            self.looked = now
+            self.trouble = reason(error)
         return found
 
     def append(self, log: Log) -> None:
@@ -115,7 +115,7 @@ class Folder:
             os.close(file)
 
     def read_others(self) -> list[Message]:
-        """A piece of each file of another that has grown."""
+        """A piece of each file of another that has grown. One that can't be read is told, and keeps no other from it."""
         found = []
         with os.scandir(self.path) as entries:
             named = [(entry, self.pattern.fullmatch(entry.name)) for entry in entries]
@@ -123,8 +123,8 @@ class Folder:
             if match and int(match[1]) != self.site:
                 try:
                     found += self.read_file(entry.name, entry.path)
-                except FileNotFoundError:
-                    continue
+                except OSError as error:
+                    self.trouble = f"{entry.name}: {reason(error)}"
         return found
 
     def read_file(self, name: str, path: str) -> list[Message]:
@@ -159,9 +159,9 @@ class Folder:
         for name in self.others:
             site = int(name.split(".")[-2])
             try:
-                with open(self.sign_of(site), encoding="utf-8") as file:
+                with open(self.sign_of(site), encoding="utf-8", errors="replace") as file:
                     self.note(site, file.read(1000), now)
-            except FileNotFoundError:
+            except OSError:
                 self.here.pop(site, None)
 
     def note(self, site: int, sign: str, now: float) -> None:

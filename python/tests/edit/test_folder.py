@@ -4,8 +4,10 @@ import os
 from pathlib import Path
 
 import pytest
+from bidigrid.edit.editor import Editor
 from bidigrid.edit.fault import EditFault
 from bidigrid.edit.folder import Folder
+from bidigrid.edit.view import view_of
 from desks import desk_at, have_met, in_folder
 from waiting import until
 
@@ -107,6 +109,16 @@ def test_a_folder_that_is_none_is_told(tmp_path: Path) -> None:
             desk_at(tmp_path / "one.bgop", Folder(str(path), "notes", "someone"))
 
 
+def test_a_file_that_can_not_be_read_is_told_and_stops_nobody(tmp_path: Path) -> None:
+    one, other = in_folder(tmp_path / "one.bgop", tmp_path), in_folder(tmp_path / "other.bgop", tmp_path)
+    (tmp_path / "notes.9.bgop").mkdir()
+    one.replace(0, 0, "tea")
+    have_met(one, other)
+    assert other.document.text == "tea" and other.state() == "folder: notes.9.bgop: Is a directory"
+    one.close()
+    other.close()
+
+
 def test_typing_goes_on_while_the_folder_is_away(tmp_path: Path) -> None:
     shared = tmp_path / "shared"
     shared.mkdir()
@@ -120,6 +132,21 @@ def test_typing_goes_on_while_the_folder_is_away(tmp_path: Path) -> None:
     (tmp_path / "away").rename(shared)
     have_met(one, other)
     assert one.document.text == "a team" and one.state() == "folder"
+    one.close()
+    other.close()
+
+
+@pytest.mark.parametrize("sign", ["", "{", "[]", '{"name": 1, "caret": [1, 2, 3]}', '{"name": 1, "caret": ["x", 1]}',
+                                  '{"name": "x", "caret": [-1, 1e300]}', "\x00" * 2000, "\udcff"])  # fmt: skip
+def test_hostile_signs_do_no_harm(tmp_path: Path, sign: str) -> None:
+    one, other = in_folder(tmp_path / "one.bgop", tmp_path), in_folder(tmp_path / "other.bgop", tmp_path)
+    one.replace(0, 0, "tea")
+    have_met(one, other)
+    one.close()
+    (tmp_path / f".notes.{one.site}.here").write_text(sign, errors="surrogateescape")
+    one = in_folder(tmp_path / "third.bgop", tmp_path)
+    until(lambda: (one.turn(), other.turn()) and one.site in other.here())
+    assert one.site in [site for _, _, site in view_of(Editor(other, 5, "")).others]
     one.close()
     other.close()
 

@@ -5,7 +5,9 @@ from pathlib import Path
 
 import pytest
 import redis  # type: ignore[import]
+from bidigrid.edit.editor import Editor
 from bidigrid.edit.fault import EditFault
+from bidigrid.edit.view import view_of
 from desks import desk_at, have_met, over_redis
 from servers import Server
 from waiting import until
@@ -163,6 +165,21 @@ def test_who_is_here_is_seen_and_where(tmp_path: Path, server: Server) -> None:
     until(lambda: (one.turn(), other.turn()) and other.here() and other.here()[1].caret == one.caret)
     one.close()
     until(lambda: other.turn() or not other.here())
+    other.close()
+
+
+def test_hostile_signs_do_no_harm(tmp_path: Path, server: Server) -> None:
+    one, other = over_redis(tmp_path / "one.bgop", server), over_redis(tmp_path / "other.bgop", server)
+    one.replace(0, 0, "tea")
+    have_met(one, other)
+    store = redis.Redis.from_url(server.url)
+    for site, counter, caret in (("x", 1, 1), (7, "", 1), (7, -5, 70000), (7, 10**30, 1), (7, 9, 9), (8, 0, 0)):
+        store.xadd("bidigrid:{notes}:carets", {"site": site, "name": "\x1b[2J" * 99, "counter": counter, "caret": caret})
+    store.xadd("bidigrid:{notes}:carets", {"site": 9})
+    until(lambda: other.turn() or 8 in other.here())
+    seen = view_of(Editor(other, 5, ""))
+    assert [site for _, _, site in seen.others if site not in (1, 8)] == [] and "\x1b" not in seen.status
+    one.close()
     other.close()
 
 
