@@ -45,10 +45,12 @@ class Link:
         return self.connection.read_response()
 
     def read(self) -> None:
-        """Gives the answers that are there to those who asked."""
-        while self.waiting and self.connection.can_read(timeout=0):
-            said = self.connection.read_response()
-            self.waiting.popleft()(said)
+        """Gives the answers that are there to those who asked. A connection that was closed is told by an error."""
+        while self.connection.can_read(timeout=0):
+            answer = self.connection.read_response()
+            if not self.waiting:
+                raise ConnectionError("an answer that nobody asked for")
+            self.waiting.popleft()(answer)
 
     def fileno(self) -> int:
         """What select waits for."""

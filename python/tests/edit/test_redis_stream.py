@@ -168,6 +168,19 @@ def test_who_is_here_is_seen_and_where(tmp_path: Path, server: Server) -> None:
     other.close()
 
 
+def test_a_connection_that_is_closed_is_made_anew(tmp_path: Path, server: Server) -> None:
+    one, other = over_redis(tmp_path / "one.bgop", server), over_redis(tmp_path / "other.bgop", server)
+    store = redis.Redis.from_url(server.url)
+    for kind in ("normal", "normal"):
+        store.execute_command("CLIENT", "KILL", "TYPE", kind, "SKIPME", "yes")
+        one.replace(0, 0, "tea ")
+        other.replace(0, 0, "hot ")
+        have_met(one, other)
+    assert len(one.document) == 16
+    one.close()
+    other.close()
+
+
 def test_hostile_signs_do_no_harm(tmp_path: Path, server: Server) -> None:
     one, other = over_redis(tmp_path / "one.bgop", server), over_redis(tmp_path / "other.bgop", server)
     one.replace(0, 0, "tea")
