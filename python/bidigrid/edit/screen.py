@@ -90,7 +90,7 @@ class Screen:
         cells = str(row)
         if self.is_logical:
             self.put(number, 0, "".join(in_reading_order(row)))
-        elif PLAIN.fullmatch(cells):
+        elif len(cells) == view.width and PLAIN.fullmatch(cells):
             self.put(number, 0, cells.rstrip())
         else:
             for entry in row.entries:

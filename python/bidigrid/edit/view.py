@@ -13,8 +13,9 @@ NAMED = 3  # of those who are here
 
 
 class View(NamedTuple):
-    """Rows, the caret's line and column, the selected stretch, and others' carets: line, column, site."""
+    """Rows of a width, the caret's line and column, the selected stretch, and others' carets: line, column, site."""
 
+    width: int
     rows: tuple[Row, ...]
     line: int
     column: int
@@ -27,7 +28,8 @@ def view_of(editor: Editor) -> View:
     """What is to be seen now."""
     rows = editor.shown()
     column = carets.column_of_gap(rows[editor.line], editor.at.gap)
-    return View(rows, editor.line, column, editor.selected(), tuple(others(editor, rows)), status(editor))
+    seen = tuple(others(editor, rows))
+    return View(editor.document.width, rows, editor.line, column, editor.selected(), seen, status(editor))
 
 
 def others(editor: Editor, rows: tuple[Row, ...]) -> list[tuple[int, int, int]]:
