@@ -64,14 +64,16 @@ def test_a_caret_stays_behind_its_character(pair: Pair) -> None:
 
 
 def test_a_caret_stays_at_its_edge(pair: Pair) -> None:
-    pair.press("'ab שלום'", "left", "left", "left", "left")
-    # Left of the Hebrew word is where it ends; the step before led there from its right.
-    seen = view_of(pair.editor)
-    assert (pair.text(), seen.column) == ("ab שלום|", 3) or (pair.text(), seen.column) == ("ab |שלום", 3)
+    # A Hebrew word ends at its left, and begins at its right.
+    pair.press("'ab שלום'")
     pair.meet()
-    before = pair.text()
+    assert (pair.text(), view_of(pair.editor).column) == ("ab שלום|", 3)
     pair.take(pair.other.type(0, "x"))
-    assert (pair.text(), view_of(pair.editor).column) == ("x" + before, 4)
+    assert (pair.text(), view_of(pair.editor).column) == ("xab שלום|", 4)
+    pair.press("right", "right", "right", "right")
+    assert (pair.text(), view_of(pair.editor).column) == ("xab |שלום", 8)
+    pair.take(pair.other.type(0, "y"))
+    assert (pair.text(), view_of(pair.editor).column) == ("yxab |שלום", 9)
 
 
 def test_what_one_typed_is_erased_where_it_stands_now(pair: Pair) -> None:

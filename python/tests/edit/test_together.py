@@ -99,15 +99,19 @@ def test_one_is_killed_and_started_again(terminal: Terminal, server: Server) -> 
         omar.type(ARABIC[: chance.randint(1, 8)])
         for word in HEBREW.split():
             dana.type(word)
-            until(lambda: dana.rows() != [""] * len(dana.rows()))
-        seen = len("".join(dana.rows()))
-        time.sleep(0.05)  # what is typed so long before a kill is never lost
+        seen = letters("".join(dana.rows()))
+        time.sleep(0.05)  # what is seen so long before a kill is never lost
         dana.kill()
-        held = len(text_of([dana.log, omar.log]))
-        assert held >= seen - sum(row.count(" ") for row in dana.rows())
+        held = letters(text_of([dana.log, omar.log]))
+        assert all(held.count(letter) >= seen.count(letter) for letter in seen)
         dana.start()
         dana.started()
         have_met(dana, omar)
+
+
+def letters(text: str) -> str:
+    """A text without what parts its words."""
+    return "".join(text.split())
 
 
 def test_a_narrower_pane_shows_the_same_text(terminal: Terminal, server: Server) -> None:
