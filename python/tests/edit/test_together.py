@@ -110,8 +110,8 @@ def test_one_is_killed_and_started_again(terminal: Terminal, server: Server) -> 
 
 
 def letters(text: str) -> str:
-    """A text without what parts its words."""
-    return "".join(text.split())
+    """The letters and digits of a text, which no row shows mirrored."""
+    return "".join(filter(str.isalnum, text))
 
 
 def test_a_narrower_pane_shows_the_same_text(terminal: Terminal, server: Server) -> None:
