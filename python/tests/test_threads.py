@@ -5,6 +5,7 @@ import resource
 import threading
 from collections.abc import Callable
 from concurrent.futures import ThreadPoolExecutor
+from pathlib import Path
 from random import Random
 
 import pytest
@@ -99,8 +100,8 @@ def test_eight_threads_at_one_document() -> None:
 
 
 def held() -> int:
-    """The most memory that this process has held so far, in bytes."""
-    return 1024 * resource.getrusage(resource.RUSAGE_SELF).ru_maxrss
+    """The memory that this process holds now, in bytes."""
+    return int(Path("/proc/self/statm").read_text(encoding="ascii").split()[1]) * resource.getpagesize()
 
 
 LARGE = "אבג tea\n" * 20_000
