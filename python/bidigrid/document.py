@@ -1,7 +1,5 @@
 """One copy of a text that several write, laid out in rows of cells."""
 
-from __future__ import annotations
-
 import secrets
 from typing import Any, NamedTuple, Self
 
@@ -171,7 +169,7 @@ class Document(Positions):
         """
         return taken(self._full(), given.message(message))
 
-    def merge(self, other: Document) -> list[Change]:
+    def merge(self, other: "Document") -> list[Change]:
         """Takes all that another document of this thread holds, and returns what that changed in the text, in order. After
         a Fault whose name is "IdentifierReused" nothing has changed; after "Full", and a MemoryError, some of it is taken,
         and the Fault has its `changes`."""
@@ -216,7 +214,7 @@ class Document(Positions):
         """The place of a character; where it was erased, the place where it stood. A Fault whose name is "NotPlaced" where
         it hasn't come yet, a ValueError where it is no identifier."""
         counter, site = identifier
-        named = ffi.new("bidigrid_id *", (given.small(counter), given.small(site)))
+        named = ffi.new("bidigrid_id *", (given.counter(counter), given.small(site)))
         place = ffi.new("size_t *")
         must(lib.bidigrid_document_place_of(self._full(), named, place))
         return int(place[0])

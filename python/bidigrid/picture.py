@@ -1,7 +1,5 @@
 """A text laid out in rows of cells, and a caret that walks through them."""
 
-from __future__ import annotations
-
 from collections.abc import Callable
 from typing import Any, NamedTuple
 
@@ -131,7 +129,7 @@ def layout(text: str, width: int, base: Base = "auto", wide_ambiguous: bool = Fa
         first strong letter.
     wide_ambiguous: whether characters of ambiguous width take two cells.
 
-    >>> print(layout("tea (2), תה (2)", 20))
+    >>> print(layout("tea (2), תה (2)", 15))
     tea (2), (2) הת
     """
     return Picture(text, width, base, wide_ambiguous)

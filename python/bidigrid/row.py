@@ -1,7 +1,5 @@
 """Rows of cells, and the clusters in them."""
 
-from __future__ import annotations
-
 from collections.abc import Callable
 from struct import iter_unpack
 from typing import Any, NamedTuple

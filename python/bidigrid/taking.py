@@ -1,7 +1,5 @@
 """What a message or another document brings, and what is told of it."""
 
-from __future__ import annotations
-
 from typing import Any
 
 from ._bidigrid import ffi, lib

@@ -1,7 +1,5 @@
 """What is shown of a document: some rows of its text."""
 
-from __future__ import annotations
-
 from collections.abc import Sequence
 from typing import Any, overload
 
