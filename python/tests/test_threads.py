@@ -2,6 +2,8 @@
 
 import gc
 import resource
+import subprocess
+import sys
 import threading
 from collections.abc import Callable
 from concurrent.futures import ThreadPoolExecutor
@@ -156,3 +158,22 @@ def test_a_thread_that_ends_frees_what_it_made() -> None:
         with pytest.raises(ThreadFault):
             str(picture)
     kept.clear()
+
+
+ENDING = """
+import threading
+from bidigrid import Document, layout
+kept = [Document(1), layout("abc", 8)]
+kept.append(kept)
+thread = threading.Thread(target=lambda: kept.append(Document(2)))
+thread.start()
+thread.join()
+ready = threading.Event()
+threading.Thread(target=lambda: (kept.append(Document(3)), ready.set(), threading.Event().wait()), daemon=True).start()
+ready.wait()
+"""
+
+
+def test_a_program_may_end_with_all_of_it() -> None:
+    done = subprocess.run([sys.executable, "-c", ENDING], capture_output=True, timeout=60)
+    assert (done.returncode, done.stdout, done.stderr) == (0, b"", b"")
