@@ -201,8 +201,8 @@ class Document(Positions):
         return written(lib.bidigrid_document_file, "uint8_t", 0, self._full())
 
     def reserve(self, operations: int) -> None:
-        """Pays in advance for so many characters and erasures, at most 1,000,000: while one is spare, the core takes no
-        memory to type or take one but that of its message. A Fault where they are more."""
+        """Pays in advance for so many characters and erasures, at most 1,000,000, so that what they are kept in needn't grow
+        as they come. A Fault where they are more."""
         must(lib.bidigrid_document_reserve(self._full(), given.count(operations)))
 
     def id_at(self, place: int) -> Identifier:
