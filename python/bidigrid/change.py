@@ -1,7 +1,5 @@
 """What a message or a merge changed in a text."""
 
-from __future__ import annotations
-
 from struct import iter_unpack
 from typing import NamedTuple
 

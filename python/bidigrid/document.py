@@ -1,7 +1,5 @@
 """One copy of a text that several write, laid out in rows of cells."""
 
-from __future__ import annotations
-
 import secrets
 from typing import Any, NamedTuple, Self
 
@@ -11,10 +9,11 @@ from .change import Change
 from .fault import fault, must
 from .given import Base, Message
 from .position import Positions
-from .row import Row, written
+from .room import written
+from .row import Row
 from .taking import faulty_frame, merged, taken
 from .thread import here
-from .window import Window, shown_row
+from .window import Window, shown_rows
 
 
 class Identifier(NamedTuple):
@@ -158,9 +157,9 @@ class Document(Positions):
         # Where more are to be erased than there can be, the call refuses it whatever room there is.
         erased = min(max(erased, 0), lib.BIDIGRID_MAX_OPERATIONS)
         if text is None:
-            return written(call, "uint8_t[]", 5 + 9 * erased, handle, *places)
+            return written(call, "uint8_t", 5 + 9 * erased, handle, *places)
         characters = given.characters(text)
-        return written(call, "uint8_t[]", 5 + 9 * erased + 19 * len(text), handle, *places, characters, len(characters))
+        return written(call, "uint8_t", 5 + 9 * erased + 19 * len(text), handle, *places, characters, len(characters))
 
     def take(self, message: Message) -> list[Change]:
         """Takes a message of another document, and returns what it changed in the text, in order. It may come again, and
@@ -171,7 +170,7 @@ class Document(Positions):
         """
         return taken(self._full(), given.message(message))
 
-    def merge(self, other: Document) -> list[Change]:
+    def merge(self, other: "Document") -> list[Change]:
         """Takes all that another document of this thread holds, and returns what that changed in the text, in order. After
         a Fault whose name is "IdentifierReused" nothing has changed; after "Full", and a MemoryError, some of it is taken,
         and the Fault has its `changes`."""
@@ -183,7 +182,7 @@ class Document(Positions):
     def text(self) -> str:
         """The text, whole."""
         handle = self._full()
-        return written(lib.bidigrid_document_text, "char[]", 4 * self._length(handle), handle).decode("utf-8")
+        return written(lib.bidigrid_document_text, "char", 4 * self._length(handle), handle).decode("utf-8")
 
     def __len__(self) -> int:
         return self._length(self._full())
@@ -199,11 +198,11 @@ class Document(Positions):
 
     def save(self) -> bytes:
         """All that it holds, as a message: to keep it, or for a document that is new."""
-        return written(lib.bidigrid_document_file, "uint8_t[]", 0, self._full())
+        return written(lib.bidigrid_document_file, "uint8_t", 0, self._full())
 
     def reserve(self, operations: int) -> None:
-        """Pays in advance for so many characters and erasures, at most 1,000,000: while one is spare, the core takes no
-        memory to type or take one but that of its message. A Fault where they are more."""
+        """Pays in advance for so many characters and erasures, at most 1,000,000, so that what they are kept in needn't grow
+        as they come. A Fault where they are more."""
         must(lib.bidigrid_document_reserve(self._full(), given.count(operations)))
 
     def id_at(self, place: int) -> Identifier:
@@ -216,7 +215,7 @@ class Document(Positions):
         """The place of a character; where it was erased, the place where it stood. A Fault whose name is "NotPlaced" where
         it hasn't come yet, a ValueError where it is no identifier."""
         counter, site = identifier
-        named = ffi.new("bidigrid_id *", (given.small(counter), given.small(site)))
+        named = ffi.new("bidigrid_id *", (given.counter(counter), given.small(site)))
         place = ffi.new("size_t *")
         must(lib.bidigrid_document_place_of(self._full(), named, place))
         return int(place[0])
@@ -228,7 +227,7 @@ class Document(Positions):
         handle, around = self._full(), (given.count(above), given.count(below))
         rows, number = self._show(handle, given.count(place), *around)
         self._around = around
-        return Window([shown_row(handle, row, self._width) for row in range(rows)], number)
+        return Window(shown_rows(handle, range(rows), self._width), number)
 
     def _show(self, handle: Any, place: int, above: int, below: int) -> tuple[int, int]:
         """Has the library show some rows, and tells how many they are, and which of them is that of the place."""
@@ -240,11 +239,10 @@ class Document(Positions):
         """The row of a place and its neighbours. As many are shown as the caller showed, so that they stay laid out."""
         handle, (above, below) = self._full(), self._around
         rows, number = self._show(handle, given.count(place), max(above, 1), max(below, 1))
-        return (
-            shown_row(handle, number - 1, self._width) if number > 0 else None,
-            shown_row(handle, number, self._width),
-            shown_row(handle, number + 1, self._width) if number + 1 < rows else None,
-        )
+        first = max(number - 1, 0)
+        near = shown_rows(handle, range(first, min(number + 2, rows)), self._width)
+        row = number - first
+        return near[0] if row else None, near[row], near[row + 1] if row + 1 < len(near) else None
 
     def __repr__(self) -> str:
         return f"<Document of site {self._site}, {self._width} columns wide>"

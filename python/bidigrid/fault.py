@@ -1,7 +1,5 @@
 """What goes wrong, and how it is told."""
 
-from __future__ import annotations
-
 from collections.abc import Sequence
 
 from ._bidigrid import ffi, lib

@@ -1,7 +1,5 @@
 """What calls are given, as the library takes it. A number too great for it becomes one that it refuses by name."""
 
-from __future__ import annotations
-
 from operator import index
 from typing import Literal, TypeAlias, get_args
 
@@ -22,9 +20,15 @@ def count(number: int) -> int:
 
 
 def small(number: int) -> int:
-    """A width, a site, or a part of an identifier."""
+    """A width or a site."""
     it = index(number)
     return it if 0 <= it <= _MOST_OF_32_BITS else _MOST_OF_32_BITS
+
+
+def counter(number: int) -> int:
+    """The counter of an identifier, which has 32 bits; 0 is none."""
+    it = index(number)
+    return it if 0 <= it <= _MOST_OF_32_BITS else 0
 
 
 def base(word: Base) -> int:

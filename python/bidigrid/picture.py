@@ -1,15 +1,13 @@
 """A text laid out in rows of cells, and a caret that walks through them."""
 
-from __future__ import annotations
-
-from collections.abc import Callable
 from typing import Any, NamedTuple
 
 from . import given
 from ._bidigrid import ffi, lib
 from .fault import must
 from .given import Base
-from .row import Row, row_of, written
+from .room import Call, written
+from .row import Row, rows_of
 from .thread import Held, here
 
 _CALLS = (lib.bidigrid_picture_row, lib.bidigrid_picture_entries, lib.bidigrid_picture_row_print)
@@ -65,7 +63,7 @@ class Picture(Held):
         """The rows from the top, at least one."""
         if self._rows is None:
             handle = self._full()
-            self._rows = tuple(row_of(handle, row, self._width, _CALLS) for row in range(self._count(handle)))
+            self._rows = tuple(rows_of(handle, range(self._count(handle)), self._width, _CALLS))
         return self._rows
 
     def _count(self, handle: Any) -> int:
@@ -76,7 +74,7 @@ class Picture(Held):
     def __str__(self) -> str:
         handle = self._full()
         guess = self._count(handle) * (self._width + 1) + 4 * len(self._text)
-        return written(lib.bidigrid_picture_print, "char[]", guess, handle)[:-1].decode("utf-8")
+        return written(lib.bidigrid_picture_print, "char", guess, handle)[:-1].decode("utf-8")
 
     def __repr__(self) -> str:
         return f"<Picture of {len(self._text)} code points, {self._width} columns wide>"
@@ -108,13 +106,13 @@ class Picture(Held):
         """To the row below; the same caret in the last row."""
         return self._moved(lib.bidigrid_caret_down, caret)
 
-    def _caret(self, call: Callable[..., int], *numbers: int) -> Caret:
+    def _caret(self, call: Call, *numbers: int) -> Caret:
         handle = self._full()
         out = ffi.new("bidigrid_caret *")
         must(call(handle, *numbers, out))
         return Caret(out.row, out.gap, out.place)
 
-    def _moved(self, call: Callable[..., int], caret: Caret) -> Caret:
+    def _moved(self, call: Call, caret: Caret) -> Caret:
         handle = self._full()
         row, gap, place = caret
         out = ffi.new("bidigrid_caret *", (given.count(row), given.count(gap), given.count(place)))
@@ -131,7 +129,7 @@ def layout(text: str, width: int, base: Base = "auto", wide_ambiguous: bool = Fa
         first strong letter.
     wide_ambiguous: whether characters of ambiguous width take two cells.
 
-    >>> print(layout("tea (2), תה (2)", 20))
+    >>> print(layout("tea (2), תה (2)", 15))
     tea (2), (2) הת
     """
     return Picture(text, width, base, wide_ambiguous)

@@ -4,8 +4,6 @@ The moves are those of a picture of the whole text (`Picture.right`, ..): a row 
 its first place.
 """
 
-from __future__ import annotations
-
 from typing import NamedTuple
 
 from . import given

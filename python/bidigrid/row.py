@@ -1,15 +1,12 @@
 """Rows of cells, and the clusters in them."""
 
-from __future__ import annotations
-
-from collections.abc import Callable
+from collections.abc import Iterable
 from struct import iter_unpack
 from typing import Any, NamedTuple
 
-from ._bidigrid import ffi, lib
+from ._bidigrid import ffi
 from .fault import must
-
-_new = ffi.new_allocator(should_clear_after_alloc=False)
+from .room import Call, Room
 
 
 class Entry(NamedTuple):
@@ -85,29 +82,18 @@ class Row:
         return hash(self._value())
 
 
-Call = Callable[..., int]
-
-_SIZES = {kind: ffi.sizeof(ffi.typeof(kind).item) for kind in ("char[]", "uint8_t[]", "bidigrid_entry[]", "bidigrid_change[]")}
-
-
-def written(call: Call, kind: str, guess: int, *given: Any) -> bytes:
-    """The bytes of all that a call writes into a list of a kind. Where there is less room than is guessed, the call tells
-    how much it wants."""
-    count = ffi.new("size_t *")
-    while True:
-        out = _new(kind, guess)
-        answer = call(*given, out, guess, count)
-        if answer != lib.BIDIGRID_FAULT_SHORT_BUFFER:
-            must(answer)
-            return bytes(ffi.buffer(out, count[0] * _SIZES[kind]))
-        guess = count[0]
+Calls = tuple[Call, Call, Call]
+"""The calls that tell of a row its places, its entries and its cells."""
 
 
-def row_of(handle: Any, number: int, width: int, calls: tuple[Call, Call, Call]) -> Row:
-    """A row of a picture or of what a document shows, by the calls that tell its places, its entries and its cells."""
+def rows_of(handle: Any, numbers: Iterable[int], width: int, calls: Calls) -> list[Row]:
+    """Rows of a picture or of what a document shows."""
     tell_row, tell_entries, tell_cells = calls
-    row = ffi.new("bidigrid_row *")
-    must(tell_row(handle, number, row))
-    packed = written(tell_entries, "bidigrid_entry[]", row.entries, handle, number)
-    cells = written(tell_cells, "char[]", 4 * width + 1, handle, number)
-    return Row(row.first_place, row.last_place, row.column, row.level, cells[:-1].decode("utf-8"), packed)
+    row, made = ffi.new("bidigrid_row *"), []
+    entries, cells = Room("bidigrid_entry", width), Room("char", 4 * width)
+    for number in numbers:
+        must(tell_row(handle, number, row))
+        packed = entries.written(tell_entries, handle, number)
+        shown = cells.written(tell_cells, handle, number)[:-1].decode("utf-8")
+        made.append(Row(row.first_place, row.last_place, row.column, row.level, shown, packed))
+    return made

@@ -1,13 +1,11 @@
 """What a message or another document brings, and what is told of it."""
 
-from __future__ import annotations
-
 from typing import Any
 
 from ._bidigrid import ffi, lib
 from .change import Change, changes_in
 from .fault import fault
-from .row import written
+from .room import written
 
 
 def taken(handle: Any, message: bytes) -> list[Change]:
@@ -33,7 +31,7 @@ def _told(handle: Any, answer: int, taken: int, guess: int) -> list[Change]:
     """What the last take or merge changed, or its fault with that."""
     changes: list[Change] | None = None
     try:
-        changes = changes_in(written(lib.bidigrid_document_changes, "bidigrid_change[]", guess, handle))
+        changes = changes_in(written(lib.bidigrid_document_changes, "bidigrid_change", guess, handle))
     except MemoryError:
         answer = answer or lib.BIDIGRID_FAULT_MEMORY
     if answer or changes is None:

@@ -1,7 +1,5 @@
 """What a thread made stays on it: its tables, and what the library holds for its objects."""
 
-from __future__ import annotations
-
 import threading
 from collections import deque
 from collections.abc import Callable

@@ -1,12 +1,10 @@
 """What is shown of a document: some rows of its text."""
 
-from __future__ import annotations
-
-from collections.abc import Sequence
+from collections.abc import Iterable, Sequence
 from typing import Any, overload
 
 from ._bidigrid import lib
-from .row import Row, row_of
+from .row import Row, rows_of
 
 _CALLS = (lib.bidigrid_document_row, lib.bidigrid_document_entries, lib.bidigrid_document_row_print)
 
@@ -51,6 +49,6 @@ class Window(Sequence[Row]):
         return hash((self._rows, self.number))
 
 
-def shown_row(handle: Any, number: int, width: int) -> Row:
-    """A row that a document shows, from 0."""
-    return row_of(handle, number, width, _CALLS)
+def shown_rows(handle: Any, numbers: Iterable[int], width: int) -> list[Row]:
+    """Rows that a document shows, by their numbers from 0."""
+    return rows_of(handle, numbers, width, _CALLS)

@@ -1,10 +1,12 @@
 """Messages that are refused, and what is told of them."""
 
 import pickle
+import subprocess
+import sys
 from collections.abc import Callable
 
 import pytest
-from bidigrid import Change, Document, Fault
+from bidigrid import Change, Document, Fault, taking
 from frames import A_AT_1, B_AFTER_A, C_IN_ITS_PLACE, HEADER, insertion
 
 # Faulty bytes as FORMATS.md has them: the message, the fault's number and name, and its frame.
@@ -115,3 +117,40 @@ def test_a_fault_can_be_pickled() -> None:
         Document(2).take(HEADER + A_AT_1 + C_IN_ITS_PLACE)
     again = pickle.loads(pickle.dumps(raised.value))
     assert type(again) is type(raised.value) and vars(again) == vars(raised.value) and str(again) == str(raised.value)
+
+
+SHORT_OF_MEMORY = """
+import resource
+from pathlib import Path
+from bidigrid import Document, Fault
+document = Document(1)
+document.type(0, "abc")
+pages = int(Path("/proc/self/statm").read_text().split()[0])
+resource.setrlimit(resource.RLIMIT_AS, (pages * resource.getpagesize() + 4_000_000, -1))
+try:
+    document.reserve(1_000_000)
+except MemoryError as refused:
+    assert isinstance(refused, Fault) and (refused.number, refused.name) == (9, "Memory"), refused
+else:
+    raise SystemExit("not refused")
+document.type(3, "d")
+assert document.text == "abcd"
+"""
+
+
+def test_a_lack_of_memory_is_a_memory_error() -> None:
+    subprocess.run([sys.executable, "-c", SHORT_OF_MEMORY], check=True, timeout=60)
+
+
+def test_what_stands_is_told_where_its_changes_are_not(monkeypatch: pytest.MonkeyPatch) -> None:
+    def refuse(*_: object) -> bytes:
+        raise MemoryError
+
+    document = Document(2)
+    monkeypatch.setattr(taking, "written", refuse)
+    with pytest.raises(MemoryError) as raised:
+        document.take(HEADER + A_AT_1 + B_AFTER_A)
+    fault = raised.value
+    assert isinstance(fault, Fault) and (fault.number, fault.taken, fault.changes) == (9, 2, None)
+    monkeypatch.undo()
+    assert document.text == "ab"

@@ -2,9 +2,12 @@
 
 import gc
 import resource
+import subprocess
+import sys
 import threading
 from collections.abc import Callable
 from concurrent.futures import ThreadPoolExecutor
+from pathlib import Path
 from random import Random
 
 import pytest
@@ -99,8 +102,8 @@ def test_eight_threads_at_one_document() -> None:
 
 
 def held() -> int:
-    """The most memory that this process has held so far, in bytes."""
-    return 1024 * resource.getrusage(resource.RUSAGE_SELF).ru_maxrss
+    """The memory that this process holds now, in bytes."""
+    return int(Path("/proc/self/statm").read_text(encoding="ascii").split()[1]) * resource.getpagesize()
 
 
 LARGE = "אבג tea\n" * 20_000
@@ -155,3 +158,22 @@ def test_a_thread_that_ends_frees_what_it_made() -> None:
         with pytest.raises(ThreadFault):
             str(picture)
     kept.clear()
+
+
+ENDING = """
+import threading
+from bidigrid import Document, layout
+kept = [Document(1), layout("abc", 8)]
+kept.append(kept)
+thread = threading.Thread(target=lambda: kept.append(Document(2)))
+thread.start()
+thread.join()
+ready = threading.Event()
+threading.Thread(target=lambda: (kept.append(Document(3)), ready.set(), threading.Event().wait()), daemon=True).start()
+ready.wait()
+"""
+
+
+def test_a_program_may_end_with_all_of_it() -> None:
+    done = subprocess.run([sys.executable, "-c", ENDING], capture_output=True, timeout=60)
+    assert (done.returncode, done.stdout, done.stderr) == (0, b"", b"")
