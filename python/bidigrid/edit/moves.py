@@ -30,10 +30,10 @@ def step(document: Document, at: Position, move: Move) -> Position:
 
 
 def word(document: Document, at: Position, move: Move, is_left: bool) -> Position:
-    """To the end of the next word in a direction."""
+    """To the end of the next word in a direction, or over the edge of the row: rows of both directions lead to and fro."""
+    entries = row_of(document, at).entries
     has_word = False
     while True:
-        entries = row_of(document, at).entries
         gap = at.gap - is_left
         crossed = entries[gap].shown if 0 <= gap < len(entries) else ""
         is_word = any(character.isalnum() for character in crossed)
@@ -41,7 +41,7 @@ def word(document: Document, at: Position, move: Move, is_left: bool) -> Positio
             return at
         has_word = has_word or is_word
         last, at = at, move(at)
-        if at == last:
+        if at == last or at.row != last.row:
             return at
 
 

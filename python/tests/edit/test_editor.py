@@ -76,6 +76,14 @@ def test_a_caret_stays_at_its_edge(pair: Pair) -> None:
     assert (pair.text(), view_of(pair.editor).column) == ("yxab |שלום", 9)
 
 
+def test_a_word_that_is_not_there_is_not_sought_for_ever(pair: Pair) -> None:
+    # Left of a row from right to left comes the next row, and left of one from left to right the row above.
+    pair.press("'\u2067(('", "enter", "'\u2066))'")
+    for key in ("ctrl-left", "ctrl-right", "ctrl-left"):
+        pair.press(key, key, key, key)
+        assert pair.desk.document.rows(pair.editor.at.row, 0, 0)[0].first_place == pair.editor.at.row
+
+
 def test_what_one_typed_is_erased_where_it_stands_now(pair: Pair) -> None:
     pair.press("'tea'")
     pair.meet()
