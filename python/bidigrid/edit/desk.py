@@ -102,14 +102,9 @@ class Desk:
         """Erases a stretch and types a text where it began."""
         if start == stop and not text:
             return
-        erased = self.stretch(start, stop)
         message = self.document.replace(start, stop, text)
-        self.edits.add(message, erased, text)
+        self.edits.add(message, text)
         self.made(message)
-
-    def stretch(self, start: int, stop: int) -> str:
-        """The characters from one place up to another."""
-        return self.document.text[start:stop] if start < stop else ""
 
     def undo(self) -> int | None:
         """Takes one's last edit back; answers where that was, or nothing where there is none."""

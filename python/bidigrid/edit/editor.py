@@ -20,19 +20,22 @@ Between = tuple[Identifier | None, Identifier | None]
 
 
 class Editor:
-    """A desk, and where one stands in its text. `line` is the caret's on the screen, so that no rows are counted."""
+    """A desk, and where one stands in its text. `shown` are the rows on the screen, and `line` is that of the caret among
+    them, so that no rows of the text are counted."""
 
     def __init__(self, desk: Desk, height: int, text_path: str) -> None:
         self.desk = desk
         self.height = height
         self.text_path = text_path
         self.line = 0
-        self.top: Identifier | None = None  # what the first row on the screen begins behind
+        self.shown: tuple[Row, ...] = ()
+        self.top: Identifier | None = None  # what the first row that is shown begins behind
         self.goal: int | None = None
         self.marked: Between | None = None
         self.is_marking = False
         self.is_left = self.is_warned = False
         self.stand(self.document.position_at(0))
+        self.scroll()
         self.edits: dict[str, Callable[[], None]] = {
             "backspace": self.backspace,
             "delete": self.delete,
@@ -88,24 +91,19 @@ class Editor:
             self.at = self.document.position_at(place)
         self.scroll()
 
-    def shown(self) -> tuple[Row, ...]:
-        """The rows on the screen, with the caret's at its line, or above it where fewer rows stand before."""
-        self.line = min(self.line, self.height - 1)
-        window = self.document.rows(self.at.row, self.line, self.height - 1 - self.line)
-        if window.number < self.line:
-            self.line = window.number
-            window = self.document.rows(self.at.row, self.line, self.height - 1 - self.line)
-        self.top = carets.before(self.document, window[0].first_place)
-        return tuple(window)
-
     def scroll(self) -> None:
         """Has the screen begin where it began, if the caret is seen there; else shows it at the edge that it went over."""
         place = carets.place_behind(self.document, self.top) or 0
-        for line, row in enumerate(self.document.rows(place, 0, self.height - 1)):
-            if row.first_place == self.at.row:
-                self.line = line
-                return
-        self.line = 0 if self.at.row < place else self.height - 1
+        rows = self.document.rows(place, 0, self.height - 1)
+        lines = [line for line, row in enumerate(rows) if row.first_place == self.at.row]
+        if lines:
+            self.line = lines[0]
+        else:
+            above = 0 if self.at.row < place else self.height - 1
+            rows = self.document.rows(self.at.row, above, self.height - 1 - above)
+            self.line = rows.number
+        self.shown = tuple(rows)
+        self.top = carets.before(self.document, rows[0].first_place)
 
     # Moves
 

@@ -3,6 +3,7 @@
 from __future__ import annotations
 
 import struct
+from bisect import bisect_left
 from collections.abc import Iterable, Iterator
 from typing import NamedTuple
 
@@ -126,6 +127,25 @@ def run_end(frames: bytes, at: int) -> int:
             break
         end += 19
     return end
+
+
+def characters_of(file: bytes, wanted: list[Identifier]) -> dict[Identifier, str]:
+    """The characters that a sound file inserts under some identifiers."""
+    counters: dict[int, list[int]] = {}
+    for counter, site in sorted(wanted):
+        counters.setdefault(site, []).append(counter)
+    found = {}
+    at = HEADER_SIZE
+    while at < len(file):
+        end = at + 2 + (file[at] << 8 | file[at + 1])
+        first, site = struct.unpack_from(">IH", file, at + 3)
+        if file[at + 2] != 2 and site in counters:
+            named, behind = counters[site], first + (end - at - 15) // 4
+            for counter in named[bisect_left(named, first) : bisect_left(named, behind)]:
+                (scalar,) = struct.unpack_from(">I", file, at + 15 + 4 * (counter - first))
+                found[Identifier(counter, site)] = chr(scalar)
+        at = end
+    return found
 
 
 def sites(data: bytes) -> set[int]:

@@ -6,15 +6,15 @@ import dataclasses
 
 from .. import Document, Identifier
 from .carets import is_seen
-from .frames import operations
+from .frames import characters_of, operations
 
 
 @dataclasses.dataclass
 class Edit:
-    """What was typed and erased at once: its identifiers, and of what was erased the characters too."""
+    """What was typed and erased at once, by its identifiers."""
 
     typed: list[Identifier]
-    erased: list[tuple[Identifier, str]]
+    erased: list[Identifier]
     is_open: bool = False
 
 
@@ -33,11 +33,11 @@ class Edits:
     def __init__(self) -> None:
         self.made: list[Edit] = []
 
-    def add(self, message: bytes, erased: str, typed: str) -> None:
+    def add(self, message: bytes, typed: str) -> None:
         """Keeps what a message says. Characters of a word that are typed one after the other are one edit."""
         found = list(operations(message))
-        gone = [it.identifier for it in found if it.character is None]
-        edit = Edit([it.identifier for it in found if it.character is not None], list(zip(gone, erased)))
+        erased = [it.identifier for it in found if it.character is None]
+        edit = Edit([it.identifier for it in found if it.character is not None], erased)
         last = self.made[-1] if self.made else None
         if last and last.is_open and len(typed) == 1 and not erased and found[0].parent == last.typed[-1]:
             last.typed += edit.typed
@@ -76,14 +76,15 @@ def stretches(document: Document, typed: list[Identifier]) -> list[tuple[int, in
     return sorted(found, reverse=True)
 
 
-def returns(document: Document, erased: list[tuple[Identifier, str]]) -> list[Return]:
-    """What is to be typed again, the last first."""
+def returns(document: Document, erased: list[Identifier]) -> list[Return]:
+    """What is to be typed again, the last first. What was erased is kept by the document, and is sought only now."""
+    characters = characters_of(document.save(), erased) if erased else {}
     found: list[Return] = []
-    for identifier, character in erased:
+    for identifier in erased:
         place = document.place_of(identifier)
         if found and found[-1].place == place:
-            found[-1].text += character
+            found[-1].text += characters[identifier]
             found[-1].old.append(identifier)
         else:
-            found.append(Return(place, character, [identifier]))
+            found.append(Return(place, characters[identifier], [identifier]))
     return found[::-1]

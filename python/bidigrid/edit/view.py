@@ -26,7 +26,7 @@ class View(NamedTuple):
 
 def view_of(editor: Editor) -> View:
     """What is to be seen now."""
-    rows = editor.shown()
+    rows = editor.shown
     column = carets.column_of_gap(rows[editor.line], editor.at.gap)
     seen = tuple(others(editor, rows))
     return View(editor.document.width, rows, editor.line, column, editor.selected(), seen, status(editor))

@@ -17,6 +17,14 @@ def server(tmp_path: Path) -> Iterator[Server]:
 
 
 @pytest.fixture
+def locked_server(tmp_path: Path) -> Iterator[Server]:
+    """A running redis-server that wants a password."""
+    made = Server(tmp_path, "--requirepass", "secret")
+    yield made
+    made.stop()
+
+
+@pytest.fixture
 def terminal(tmp_path: Path) -> Iterator[Terminal]:
     """A tmux of three panes of 60 columns and 14 lines."""
     made = Terminal(tmp_path, 182, 14)

@@ -126,19 +126,17 @@ def test_a_faulty_message_is_told_and_stops_nobody(tmp_path: Path, server: Serve
     other.close()
 
 
-def test_a_redis_that_wants_a_password_is_told(tmp_path: Path) -> None:
-    server = Server(tmp_path, "--requirepass", "secret")
-    address = f"127.0.0.1:{server.port}/0"
+def test_a_redis_that_wants_a_password_is_told(tmp_path: Path, locked_server: Server) -> None:
+    address = f"127.0.0.1:{locked_server.port}/0"
     for url in (f"redis://{address}", f"redis://:wrong@{address}"):
-        server.url = url
+        locked_server.url = url
         with pytest.raises(EditFault, match=f"^redis://{address}.*: it wants a password, as redis://:PASSWORD@HOST:PORT/0$"):
-            over_redis(tmp_path / "one.bgop", server)
-    server.url = f"redis://:secret@{address}"
-    desk = over_redis(tmp_path / "one.bgop", server)
+            over_redis(tmp_path / "one.bgop", locked_server)
+    locked_server.url = f"redis://:secret@{address}"
+    desk = over_redis(tmp_path / "one.bgop", locked_server)
     desk.replace(0, 0, "tea")
     have_met(desk)
     desk.close()
-    server.stop()
 
 
 def test_a_log_that_is_older_than_what_went_out_is_told(tmp_path: Path, server: Server) -> None:

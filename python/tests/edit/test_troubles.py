@@ -113,14 +113,14 @@ def test_a_log_that_is_open(terminal: Terminal) -> None:
     assert refused(second) == "notes.bgop is open in another editor: name another log by --log"
 
 
-def test_a_redis_that_wants_a_password(terminal: Terminal, tmp_path: Path) -> None:
-    server = Server(tmp_path, "--requirepass", "secret")
-    pane = terminal.run("dana", "--redis", server.url)
-    assert refused(pane) == f"{server.url}, which gives a new desk its site: it wants a password, as redis://:PASSWORD@HOST:PORT/0"
-    pane.words[-1] = server.url.replace("//", "//:secret@")
+def test_a_redis_that_wants_a_password(terminal: Terminal, locked_server: Server) -> None:
+    url = locked_server.url
+    pane = terminal.run("dana", "--redis", url)
+    wanted = "it wants a password, as redis://:PASSWORD@HOST:PORT/0"
+    assert refused(pane) == f"{url}, which gives a new desk its site: {wanted}"
+    pane.words[-1] = url.replace("//", "//:secret@")
     pane.start()
     pane.started().tells("| redis |")
-    server.stop()
 
 
 def test_no_redis_for_a_new_desk(terminal: Terminal, tmp_path: Path) -> None:
