@@ -11,7 +11,7 @@ import signal
 import sys
 
 from .channel import Channel
-from .desk import Desk
+from .desk import MAX_SITE, Desk
 from .editor import Editor
 from .fault import EditFault
 from .folder import Folder
@@ -32,11 +32,29 @@ def asked(words: list[str] | None) -> argparse.Namespace:
     way.add_argument("--folder", metavar="PATH", help="write it with others over a shared or synchronised folder")
     way.add_argument("--redis", metavar="URL", help="write it with others over Redis, as redis://127.0.0.1:6379/0")
     parser.add_argument("--log", metavar="FILE", help="another log than TEXT.bgop")
-    parser.add_argument("--site", type=int, choices=range(1, 65536), metavar="N", help="the site, 1 to 65535")
-    parser.add_argument("--name", default=getpass.getuser(), help="your name, as the others see it")
+    parser.add_argument("--site", type=site, metavar="N", help="the site, 1 to 65535; else that of the log, or a new one")
+    parser.add_argument("--name", default=own_name(), help="your name, as the others see it")
     parser.add_argument("--base", choices=("auto", "left", "right"), default="auto", help="the base direction")
     parser.add_argument("--logical", action="store_true", help="for a terminal that can't stop reordering")
-    return parser.parse_args(words)
+    wanted = parser.parse_args(words)
+    if not os.path.basename(wanted.text):
+        parser.error("TEXT ends without a name")
+    return wanted
+
+
+def site(word: str) -> int:
+    """A site that the command line names."""
+    if not word.isdecimal() or not 1 <= int(word) <= MAX_SITE:
+        raise argparse.ArgumentTypeError(f"a site is 1 to {MAX_SITE}")
+    return int(word)
+
+
+def own_name() -> str:
+    """The name that the system has for who is here."""
+    try:
+        return getpass.getuser()
+    except (KeyError, OSError):
+        return "someone"
 
 
 def channel_of(wanted: argparse.Namespace) -> Channel | None:
@@ -98,6 +116,12 @@ def speak_utf_8() -> None:
         locale.setlocale(locale.LC_CTYPE, "C.UTF-8")
 
 
+def refuse(fault: EditFault) -> int:
+    """Says why there is nothing to edit."""
+    print(f"bidigrid-edit: {fault}", file=sys.stderr)
+    return STATUS_FAULT
+
+
 def main(words: list[str] | None = None) -> int:
     """Edits a text, and answers the status."""
     wanted = asked(words)
@@ -108,15 +132,18 @@ def main(words: list[str] | None = None) -> int:
         channel = channel_of(wanted)
         desk = Desk(Log(wanted.log or f"{wanted.text}.bgop"), channel, wanted.site, base=wanted.base)
     except EditFault as fault:
-        print(f"bidigrid-edit: {fault}", file=sys.stderr)
-        return STATUS_FAULT
+        return refuse(fault)
     waker, wake = os.pipe2(os.O_NONBLOCK | os.O_CLOEXEC)
     signal.set_wakeup_fd(wake, warn_on_full_buffer=False)
     is_ended: list[int] = []
     signal.signal(signal.SIGWINCH, lambda number, frame: None)
     for number in (signal.SIGTERM, signal.SIGHUP):
         signal.signal(number, lambda number, frame: is_ended.append(number))
-    screen = Screen(wanted.logical)
+    try:
+        screen = Screen(wanted.logical)
+    except EditFault as fault:
+        desk.close()
+        return refuse(fault)
     try:
         width, height = screen.size()
         desk.document.resize(min(500, width))

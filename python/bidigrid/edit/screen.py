@@ -8,11 +8,13 @@ import os
 import re
 
 from .. import Entry, Row, layout
+from .fault import EditFault
 from .view import View
 
-# Bracketed paste, a bar as a caret, and for terminals that know it no reordering: ECMA-48's BDSM, and mlterm's own.
-BEGIN = b"\x1b[?2004h\x1b[6 q\x1b[8l\x1b]5379;use_bidi=false\x07"
-END = b"\x1b[?2004l\x1b[0 q\x1b[8h\x1b]5379;use_bidi=true\x07"
+# Bracketed paste, and a bar as a caret.
+BEGIN, END = b"\x1b[?2004h\x1b[6 q", b"\x1b[?2004l\x1b[0 q"
+# No reordering, for terminals that know it: ECMA-48's BDSM, and mlterm's own word.
+AS_IT_STANDS, AS_IT_IS_READ = b"\x1b[8l\x1b]5379;use_bidi=false\x07", b"\x1b[8h\x1b]5379;use_bidi=true\x07"
 
 # What every terminal shows in one column.
 PLAIN = re.compile("[ -~\u00a1-\u00ac\u00ae-\u02ff\u0370-\u0482\u048a-\u0590\u05be\u05c0\u05c3\u05c6\u05d0-\u05f4"
@@ -27,15 +29,22 @@ class Screen:
     def __init__(self, is_logical: bool = False) -> None:
         self.is_logical = is_logical
         self.drawn: list[object] = []
-        os.write(1, END if is_logical else BEGIN)
-        self.window = curses.initscr()
+        try:
+            self.window = curses.initscr()
+        except curses.error as error:
+            raise EditFault(f"cannot use the terminal: {error}") from None
+        os.write(1, BEGIN if is_logical else BEGIN + AS_IT_STANDS)
         curses.raw()
         curses.noecho()
         curses.nonl()
-        curses.start_color()
-        curses.use_default_colors()
-        for number, colour in enumerate(COLOURS, 1):
-            curses.init_pair(number, curses.COLOR_WHITE if colour == curses.COLOR_BLUE else curses.COLOR_BLACK, colour)
+        self.looks = [curses.A_UNDERLINE]
+        if curses.has_colors():
+            curses.start_color()
+            curses.use_default_colors()
+            for number, colour in enumerate(COLOURS, 1):
+                ink = curses.COLOR_WHITE if colour == curses.COLOR_BLUE else curses.COLOR_BLACK
+                curses.init_pair(number, ink, colour)
+            self.looks = [curses.color_pair(1 + number) for number in range(len(COLOURS))]
 
     def size(self) -> tuple[int, int]:
         """The columns and the rows for the text: a caret behind the last column has one, and the status a line."""
@@ -45,7 +54,8 @@ class Screen:
     def resize(self) -> None:
         """Takes the terminal's new size."""
         columns, lines = os.get_terminal_size(0)
-        curses.resizeterm(lines, columns)
+        if columns and lines:
+            curses.resizeterm(lines, columns)
         self.redraw()
 
     def redraw(self) -> None:
@@ -105,7 +115,7 @@ class Screen:
                     self.window.chgat(number, entry.column, entry.columns, curses.A_REVERSE)
         for line, column, site in view.others:
             if line == number:
-                self.window.chgat(number, min(column, columns - 1), 1, curses.color_pair(1 + site % len(COLOURS)))
+                self.window.chgat(number, min(column, columns - 1), 1, self.looks[site % len(self.looks)])
 
     def draw_status(self, number: int, columns: int, status: str) -> None:
         """Draws the last line."""
@@ -124,7 +134,7 @@ class Screen:
             curses.noraw()
             curses.echo()
             curses.endwin()
-            os.write(1, END)
+            os.write(1, END if self.is_logical else END + AS_IT_IS_READ)
         except (curses.error, OSError):
             return
 

@@ -94,9 +94,23 @@ def test_base_and_width_are_changed_at_once(terminal: Terminal) -> None:
         pane.shows(*rows_at(width, base))
     pane.press("F2", "F3")
     pane.tells("F3 wide")
-    for width in (30, 17, 60):
+    for width in (30, 17, 3, 2, 60):
         terminal.tmux("resize-window", "-x", str(width))
-        pane.shows(*rows_at(width - 1, "auto"))
+        if width > 10:
+            pane.shows(*rows_at(width - 1, "auto"))
+
+
+def test_a_terminal_without_colours_or_size_will_do(terminal: Terminal) -> None:
+    pane = terminal.run("dana", is_started=False)
+    pane.words[:0] = ["env", "TERM=vt100", "LANG=C"]
+    pane.start()
+    pane.started().type("tea תה")
+    pane.shows("tea הת")
+    pane.leave()
+    pane.words[1] = "TERM=nonesuch"
+    pane.start()
+    until(pane.is_dead, pane.screen)
+    assert pane.said() == "bidigrid-edit: cannot use the terminal: setupterm: could not find terminal\n"
 
 
 def rows_at(width: int, base: str) -> list[str]:
