@@ -107,20 +107,19 @@ class Desk:
         self.made(message)
 
     def undo(self) -> int | None:
-        """Takes one's last edit back; answers where that was, or nothing where there is none."""
-        edit = self.edits.last()
-        if edit is None:
-            return None
+        """Takes one's last edit back that is still to be seen; answers where that was, or nothing where there is none."""
         place = None
-        for start, stop in stretches(self.document, edit.typed):
-            self.made(self.document.erase(start, stop))
-            place = start
-        for gone in returns(self.document, edit.erased):
-            message = self.document.type(gone.place, gone.text)
-            self.edits.rename(gone.old, message)
-            self.made(message)
-            place = gone.place + len(gone.text)
-        return self.undo() if place is None else place
+        while place is None and (edit := self.edits.last()):
+            typed, erased = edit
+            for start, stop in stretches(self.document, typed):
+                self.made(self.document.erase(start, stop))
+                place = start
+            for gone in returns(self.document, erased):
+                message = self.document.type(gone.place, gone.text)
+                self.edits.rename(gone.old, message)
+                self.made(message)
+                place = gone.place + len(gone.text)
+        return place
 
     def made(self, message: bytes) -> None:
         """Has an own message wait for its flush."""

@@ -6,16 +6,15 @@ import dataclasses
 
 from .. import Document, Identifier
 from .carets import is_seen
-from .frames import characters_of, operations
+from .frames import characters_of, last_identifier, operations
 
 
 @dataclasses.dataclass
 class Edit:
-    """What was typed and erased at once, by its identifiers."""
+    """The messages of what was typed and erased at once; an open one is a word that is still typed."""
 
-    typed: list[Identifier]
-    erased: list[Identifier]
-    is_open: bool = False
+    messages: list[bytes]
+    is_open: bool
 
 
 @dataclasses.dataclass
@@ -28,38 +27,45 @@ class Return:
 
 
 class Edits:
-    """The edits that can be taken back."""
+    """The edits that can be taken back. What is typed again after it was erased has another identifier then."""
 
     def __init__(self) -> None:
         self.made: list[Edit] = []
+        self.renamed: dict[Identifier, Identifier] = {}
 
     def add(self, message: bytes, typed: str) -> None:
         """Keeps what a message says. Characters of a word that are typed one after the other are one edit."""
-        found = list(operations(message))
-        erased = [it.identifier for it in found if it.character is None]
-        edit = Edit([it.identifier for it in found if it.character is not None], erased)
+        first = next(operations(message))
+        is_key = len(typed) == 1 and first.character is not None
         last = self.made[-1] if self.made else None
-        if last and last.is_open and len(typed) == 1 and not erased and found[0].parent == last.typed[-1]:
-            last.typed += edit.typed
+        if last and last.is_open and is_key and first.parent == last_identifier(last.messages[-1]):
+            last.messages.append(message)
             last.is_open = not typed.isspace()
         else:
-            edit.is_open = len(typed) == 1 and not erased
-            self.made.append(edit)
+            self.made.append(Edit([message], is_key))
 
     def close(self) -> None:
         """Has what is typed next be an edit of its own."""
         if self.made:
             self.made[-1].is_open = False
 
-    def rename(self, old: list[Identifier], message: bytes) -> None:
-        """Has the edits that typed some characters know them under the identifiers that they were typed again under."""
-        new = dict(zip(old, (it.identifier for it in operations(message))))
-        for edit in self.made:
-            edit.typed = [new.get(identifier, identifier) for identifier in edit.typed]
+    def last(self) -> tuple[list[Identifier], list[Identifier]] | None:
+        """What the last edit typed, and what it erased; it is kept no longer."""
+        if not self.made:
+            return None
+        found = [it for message in self.made.pop().messages for it in operations(message)]
+        typed = [self.now(it.identifier) for it in found if it.character is not None]
+        return typed, [it.identifier for it in found if it.character is None]
 
-    def last(self) -> Edit | None:
-        """The last edit, which is kept no longer."""
-        return self.made.pop() if self.made else None
+    def rename(self, old: list[Identifier], message: bytes) -> None:
+        """Keeps under which identifiers some characters were typed again."""
+        self.renamed.update(zip(old, (it.identifier for it in operations(message))))
+
+    def now(self, identifier: Identifier) -> Identifier:
+        """The identifier that a character has by now."""
+        while identifier in self.renamed:
+            identifier = self.renamed[identifier]
+        return identifier
 
 
 def stretches(document: Document, typed: list[Identifier]) -> list[tuple[int, int]]:
@@ -79,12 +85,11 @@ def stretches(document: Document, typed: list[Identifier]) -> list[tuple[int, in
 def returns(document: Document, erased: list[Identifier]) -> list[Return]:
     """What is to be typed again, the last first. What was erased is kept by the document, and is sought only now."""
     characters = characters_of(document.save(), erased) if erased else {}
-    found: list[Return] = []
+    found: list[tuple[int, list[Identifier]]] = []
     for identifier in erased:
         place = document.place_of(identifier)
-        if found and found[-1].place == place:
-            found[-1].text += characters[identifier]
-            found[-1].old.append(identifier)
+        if found and found[-1][0] == place:
+            found[-1][1].append(identifier)
         else:
-            found.append(Return(place, characters[identifier], [identifier]))
-    return found[::-1]
+            found.append((place, [identifier]))
+    return [Return(place, "".join(characters[it] for it in old), old) for place, old in reversed(found)]
