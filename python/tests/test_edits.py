@@ -55,8 +55,8 @@ class Desk:
 
 def program(*words: str | Path) -> str:
     """What the program writes."""
-    done = subprocess.run([os.environ["BIDIGRID"], *words], stdout=subprocess.PIPE, check=True, encoding="utf-8")
-    return done.stdout
+    done = subprocess.run([os.environ["BIDIGRID"], *words], stdout=subprocess.PIPE, check=True)
+    return done.stdout.decode("utf-8")
 
 
 @pytest.mark.skipif("BIDIGRID" not in os.environ, reason="BIDIGRID names no program to compare with")
@@ -75,10 +75,10 @@ def test_three_documents_become_one(seed: int, tmp_path: Path) -> None:
             for other in desks:
                 if other is not desk:
                     other.waiting.append(message)
+            if edits % 1_000 == 0:
+                compare(desk.document, tmp_path)
         if chance.randrange(10) == 0:
             desk.check(chance)
-        if edits % 1_000 == 0:
-            compare(desk.document, tmp_path)
     for desk in desks[:2]:
         while desk.waiting:
             desk.take(chance)

@@ -1,17 +1,16 @@
 """What a thread made stays on it."""
 
 import gc
-import resource
 import subprocess
 import sys
 import threading
 from collections.abc import Callable
 from concurrent.futures import ThreadPoolExecutor
-from pathlib import Path
 from random import Random
 
 import pytest
 from bidigrid import Document, Picture, ThreadFault, layout
+from process import held
 from texts import follow, mixed
 
 
@@ -99,11 +98,6 @@ def test_eight_threads_at_one_document() -> None:
     for thread in threads:
         thread.join()
     assert document.text == "a" * 500 and len(refused) == 16_000
-
-
-def held() -> int:
-    """The memory that this process holds now, in bytes."""
-    return int(Path("/proc/self/statm").read_text(encoding="ascii").split()[1]) * resource.getpagesize()
 
 
 LARGE = "אבג tea\n" * 20_000
