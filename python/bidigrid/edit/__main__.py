@@ -1,0 +1,160 @@
+"""bidigrid-edit: an editor in the terminal that people write in together."""
+
+from __future__ import annotations
+
+import argparse
+import getpass
+import locale
+import os
+import select
+import signal
+import sys
+
+from .channel import Channel
+from .desk import MAX_SITE, Desk
+from .editor import Editor
+from .fault import EditFault
+from .folder import Folder
+from .keys import WAIT, Keys
+from .log import Log
+from .screen import Screen
+from .view import view_of
+
+STATUS_FAULT = 3  # as the program's, where a file can't be read
+PIECE = 1 << 16  # bytes of keys that are read at once
+
+
+def asked(words: list[str] | None) -> argparse.Namespace:
+    """What the command line asks for."""
+    parser = argparse.ArgumentParser("bidigrid-edit", description=__doc__)
+    parser.add_argument("text", help="the text's name: its log is TEXT.bgop, its plain text TEXT.txt")
+    way = parser.add_mutually_exclusive_group()
+    way.add_argument("--folder", metavar="PATH", help="write it with others over a shared or synchronised folder")
+    way.add_argument("--redis", metavar="URL", help="write it with others over Redis, as redis://127.0.0.1:6379/0")
+    parser.add_argument("--log", metavar="FILE", help="another log than TEXT.bgop")
+    parser.add_argument("--site", type=site, metavar="N", help="the site, 1 to 65535; else that of the log, or a new one")
+    parser.add_argument("--name", default=own_name(), help="your name, as the others see it")
+    parser.add_argument("--base", choices=("auto", "left", "right"), default="auto", help="the base direction")
+    parser.add_argument("--logical", action="store_true", help="for a terminal that can't stop reordering")
+    wanted = parser.parse_args(words)
+    if not os.path.basename(wanted.text):
+        parser.error("TEXT ends without a name")
+    return wanted
+
+
+def site(word: str) -> int:
+    """A site that the command line names."""
+    if not word.isdecimal() or not 1 <= int(word) <= MAX_SITE:
+        raise argparse.ArgumentTypeError(f"a site is 1 to {MAX_SITE}")
+    return int(word)
+
+
+def own_name() -> str:
+    """The name that the system has for who is here."""
+    try:
+        return getpass.getuser()
+    except (KeyError, OSError):
+        return "someone"
+
+
+def channel_of(wanted: argparse.Namespace) -> Channel | None:
+    """The way to the others, if there is one."""
+    name = os.path.basename(wanted.text)
+    if wanted.folder is not None:
+        return Folder(wanted.folder, name, wanted.name)
+    if wanted.redis is not None:
+        try:
+            from .redis_stream import RedisStream
+        except ImportError:
+            raise EditFault("--redis needs the package redis (Debian: python3-redis)") from None
+        return RedisStream(wanted.redis, name, wanted.name)
+    return None
+
+
+def run(editor: Editor, screen: Screen, waker: int, is_ended: list[int]) -> None:
+    """Goes on until one leaves. A key is seen before the log is flushed, and more keys that wait come first."""
+    desk, keys = editor.desk, Keys()
+    while not editor.is_left and not is_ended:
+        if desk.is_changed:
+            desk.is_changed = False
+            screen.draw(view_of(editor))
+        patience = 0 if desk.log.waiting and not desk.failed_at else desk.patience()
+        if keys.is_waiting():
+            patience = WAIT if patience is None else min(WAIT, patience)
+        ready, _, _ = select.select([0, waker, *desk.readers()], [], [], patience)
+        if waker in ready:
+            os.read(waker, PIECE)
+            screen.resize()
+            editor.resize(*screen.size())
+        typed = keys.feed(read_keys()) if 0 in ready else [] if ready else keys.give_up()
+        for key in typed:
+            editor.press(key)
+            if key.name == "ctrl-l":
+                screen.redraw()
+        if desk.turn(is_quiet=0 not in ready):
+            editor.follow()
+
+
+def read_keys() -> bytes:
+    """What has come of keys; a terminal that is gone ends it all."""
+    try:
+        data = os.read(0, PIECE)
+    except OSError:
+        data = b""
+    if not data:
+        raise EOFError
+    return data
+
+
+def speak_utf_8() -> None:
+    """Has curses write UTF-8, whatever the locale is or is missing."""
+    try:
+        locale.setlocale(locale.LC_ALL, "")
+    except locale.Error:
+        pass
+    if locale.nl_langinfo(locale.CODESET) != "UTF-8":
+        locale.setlocale(locale.LC_CTYPE, "C.UTF-8")
+
+
+def refuse(fault: EditFault) -> int:
+    """Says why there is nothing to edit."""
+    print(f"bidigrid-edit: {fault}", file=sys.stderr)
+    return STATUS_FAULT
+
+
+def main(words: list[str] | None = None) -> int:
+    """Edits a text, and answers the status."""
+    wanted = asked(words)
+    speak_utf_8()
+    try:
+        if not (os.isatty(0) and os.isatty(1)):
+            raise EditFault("it needs a terminal")
+        channel = channel_of(wanted)
+        desk = Desk(Log(wanted.log or f"{wanted.text}.bgop"), channel, wanted.site, base=wanted.base)
+    except EditFault as fault:
+        return refuse(fault)
+    waker, wake = os.pipe2(os.O_NONBLOCK | os.O_CLOEXEC)
+    signal.set_wakeup_fd(wake, warn_on_full_buffer=False)
+    is_ended: list[int] = []
+    signal.signal(signal.SIGWINCH, lambda number, frame: None)
+    for number in (signal.SIGTERM, signal.SIGHUP):
+        signal.signal(number, lambda number, frame: is_ended.append(number))
+    try:
+        screen = Screen(wanted.logical)
+    except EditFault as fault:
+        desk.close()
+        return refuse(fault)
+    try:
+        width, height = screen.size()
+        desk.document.resize(min(500, width))
+        run(Editor(desk, height, f"{wanted.text}.txt"), screen, waker, is_ended)
+    except EOFError:
+        pass
+    finally:
+        desk.close()
+        screen.close()
+    return 0
+
+
+if __name__ == "__main__":
+    sys.exit(main())

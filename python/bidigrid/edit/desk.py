@@ -1,0 +1,224 @@
+"""A desk: one's copy of a text, whose own operations are logged, and sent, and which takes what others send."""
+
+from __future__ import annotations
+
+import random
+import time
+
+from .. import Document, Fault, Identifier
+from ..given import Base
+from .channel import Channel, Here, Message
+from .fault import EditFault, reason
+from .frames import HEADER, operations, spelled, without_frame
+from .log import Log
+from .undo import Edits, returns, stretches
+
+MAX_SITE = 65535
+GATHER = 0.02  # seconds for which the first of some keys waits for its flush at most, while others come
+AGAIN = 1.0  # seconds between two tries to write a log that could not be written
+QUIET = 2.0  # seconds without an edit, after which a whole file may be written for others
+MOST_FAULTS = 10  # of one message
+
+
+class Desk:
+    """One's copy of a text. `notice` is what is to be told, `caret` the character that one's caret stands behind, and
+    `is_changed` is set where there is something new to be seen."""
+
+    def __init__(
+        self,
+        log: Log,
+        channel: Channel | None = None,
+        site: int | None = None,
+        width: int = 80,
+        base: Base = "auto",
+        wide_ambiguous: bool = False,
+    ) -> None:
+        self.log = log
+        self.channel = channel
+        self.edits = Edits()
+        self.notice = ""
+        self.caret: Identifier | None = None
+        self.is_changed = True
+        self.signs: object = None
+        self.unsaved_since = self.typed_at = self.failed_at = 0.0
+        self.wide_ambiguous = wide_ambiguous
+        try:
+            self.begin(site, width, base)
+        except EditFault:
+            log.discard()
+            raise
+
+    def begin(self, site: int | None, width: int, base: Base) -> None:
+        """Finds the site, and makes the document of the log and of what the others have written."""
+        self.site = self.site_of(site)
+        try:
+            self.log.flush()
+        except OSError as error:
+            raise EditFault(f"cannot write {self.log.path}: {reason(error)}") from None
+        came = self.channel.open(self.log, self.site) if self.channel else []
+        self.document = self.loaded(self.log.read(0, self.log.size), came, width, base)
+
+    def site_of(self, wanted: int | None) -> int:
+        """The site of the log: that of its insertions. Where there are none, or others' too, a new one is drawn."""
+        if wanted is not None:
+            if self.log.sites - {wanted}:
+                others = ", ".join(map(str, sorted(self.log.sites - {wanted})[:5]))
+                raise EditFault(f"{self.log.path} is the log of site {others}, not of {wanted}: name another by --log")
+            return wanted
+        if len(self.log.sites) == 1:
+            return min(self.log.sites)
+        if self.channel:
+            return self.channel.draw_site()
+        return random.SystemRandom().choice([it for it in range(1, MAX_SITE + 1) if it not in self.log.sites])
+
+    def loaded(self, own: bytes, came: list[Message], width: int, base: Base) -> Document:
+        """The document of the log and of what came. The longest file is loaded, which is the cheapest; the others are
+        taken."""
+        longest = max(came, key=lambda message: len(message.data), default=Message("", b""))
+        self.document = Document(self.site, width, base, wide_ambiguous=self.wide_ambiguous)
+        try:
+            if len(longest.data) > len(own) and self.load(longest.data):
+                came = [it for it in came if it is not longest]
+                self.document.take(own)
+            elif not self.load(own):
+                self.document.take(own)
+        except Fault as fault:
+            raise EditFault(f"{self.log.path}: {fault}") from None
+        for message in came:
+            self.take(message)
+        return self.document
+
+    def load(self, data: bytes) -> bool:
+        """Puts a document of a whole file in the place of the one that is there; answers whether the file is sound."""
+        old, how = self.document, self.wide_ambiguous
+        try:
+            self.document = Document.load(data, self.site, old.width, old.base, wide_ambiguous=how)
+        except Fault:
+            return False
+        old.close()
+        return True
+
+    def replace(self, start: int, stop: int, text: str) -> None:
+        """Erases a stretch and types a text where it began."""
+        if start == stop and not text:
+            return
+        message = self.document.replace(start, stop, text)
+        self.edits.add(message, text)
+        self.made(message)
+
+    def undo(self) -> int | None:
+        """Takes one's last edit back that is still to be seen; answers where that was, or nothing where there is none."""
+        place = None
+        while place is None and (edit := self.edits.last()):
+            typed, erased = edit
+            for start, stop in stretches(self.document, typed):
+                self.made(self.document.erase(start, stop))
+                place = start
+            for gone in returns(self.document, erased):
+                message = self.document.type(gone.place, gone.text)
+                self.edits.rename(gone.old, message)
+                self.made(message)
+                place = gone.place + len(gone.text)
+        return place
+
+    def made(self, message: bytes) -> None:
+        """Has an own message wait for its flush."""
+        self.typed_at = time.monotonic()
+        if not self.log.waiting:
+            self.unsaved_since = self.typed_at
+        self.log.append(message)
+        self.is_changed = True
+
+    def take(self, message: Message) -> None:
+        """Takes a message of another. What is wrong with it is told, and left out; what else it has is taken."""
+        data = message.data
+        for _ in range(MOST_FAULTS):
+            try:
+                self.document.take(data)
+                return
+            except Fault as fault:
+                self.notice = f"{message.sender}: {fault}; left out"
+                data = self.rest(data, fault)
+        self.notice = f"{message.sender}: faulty again and again; left out"
+
+    def rest(self, data: bytes, fault: Fault) -> bytes:
+        """What a message has beside what a fault is about."""
+        if fault.name == "Full":
+            return HEADER
+        if fault.frame is None:
+            return spelled(list(operations(data))[fault.taken + 1 :])
+        return without_frame(data, fault.frame)
+
+    def change_ambiguous(self) -> None:
+        """Characters of ambiguous width take two cells where they took one, and one where they took two."""
+        self.wide_ambiguous = not self.wide_ambiguous
+        self.load(self.document.save())
+
+    def turn(self, is_quiet: bool = True) -> bool:
+        """Flushes what was typed, if no more keys wait or the first waits for long; sends, and takes what has come.
+        Answers whether any has."""
+        now = time.monotonic()
+        if self.log.waiting and (is_quiet or now - self.unsaved_since >= GATHER):
+            self.flush(now)
+        if not self.channel:
+            return False
+        came = self.channel.turn(self.log, self.caret)
+        for message in came:
+            self.take(message)
+        signs = self.state(), {site: (here.name, here.caret) for site, here in self.here().items()}
+        if came or signs != self.signs:
+            self.signs, self.is_changed = signs, True
+        if now - self.typed_at >= QUIET and self.channel.wants_snapshot(len(self.document)):
+            self.channel.snapshot(self.document.save())
+        return bool(came)
+
+    def here(self) -> dict[int, Here]:
+        """Who else is here, by site."""
+        return {site: here for site, here in self.channel.here.items() if not here.is_gone()} if self.channel else {}
+
+    def state(self) -> str:
+        """The connection in a few words."""
+        return self.channel.state() if self.channel else "alone"
+
+    def readers(self) -> list[int]:
+        """What select may wait for."""
+        return self.channel.readers() if self.channel else []
+
+    def flush(self, now: float) -> None:
+        """Brings the log to the disk. Where that fails it is told, and tried again."""
+        if now - self.failed_at < AGAIN:
+            return
+        try:
+            self.log.flush()
+            if self.failed_at:
+                self.notice, self.failed_at, self.is_changed = "the log is written again", 0.0, True
+        except OSError as error:
+            self.failed_at = now
+            self.notice = f"{self.log.path} is not written, what you type is kept: {reason(error)}"
+            self.is_changed = True
+
+    def is_saved(self) -> bool:
+        """Tries to write what waits; answers whether none waits then."""
+        self.failed_at = 0.0
+        self.flush(time.monotonic())
+        return not self.log.waiting
+
+    def patience(self) -> float | None:
+        """How many seconds the next turn may be waited for at most; None for as long as nothing is typed."""
+        if self.failed_at:
+            return AGAIN
+        return self.channel.patience() if self.channel else None
+
+    def is_idle(self) -> bool:
+        """Whether all that was typed is flushed and sent."""
+        return not self.log.waiting and (not self.channel or self.channel.is_sent(self.log))
+
+    def close(self) -> None:
+        """Flushes and sends what is left, if it can, and leaves."""
+        until = time.monotonic() + AGAIN
+        while self.is_saved() and not self.is_idle() and time.monotonic() < until:
+            self.turn()
+            time.sleep(0.005)
+        if self.channel:
+            self.channel.close()
+        self.log.close()

@@ -1,0 +1,125 @@
+"""Keys as a terminal sends them: bytes become the names of keys, typed text, and pasted text."""
+
+from __future__ import annotations
+
+import codecs
+import re
+import time
+from typing import NamedTuple
+
+WAIT = 0.05  # seconds, after which an escape that nothing follows is the key itself
+
+PASTE_BEGINS, PASTE_ENDS = b"\x1b[200~", b"\x1b[201~"
+SEQUENCE = re.compile(rb"\x1b(?:\[([0-9;?<]*)([@-~])|O([ -~]))")
+UNFINISHED = re.compile(rb"\x1b(?:\[[0-9;?<]*|O)?")
+BY_LETTER = {
+    "A": "up", "B": "down", "C": "right", "D": "left", "F": "end", "H": "home",
+    "P": "f1", "Q": "f2", "R": "f3", "S": "f4", "Z": "shift-tab",
+}  # fmt: skip
+BY_NUMBER = {
+    1: "home", 2: "insert", 3: "delete", 4: "end", 5: "page-up", 6: "page-down", 7: "home", 8: "end",
+    11: "f1", 12: "f2", 13: "f3", 14: "f4",
+}  # fmt: skip
+BY_RXVT_LETTER = {"a": "ctrl-up", "b": "ctrl-down", "c": "ctrl-right", "d": "ctrl-left"}
+MODIFIERS = ("shift-", "alt-", "ctrl-")
+CONTROLS = {0: "mark", 8: "backspace", 9: "tab", 10: "enter", 13: "enter", 127: "backspace"}
+
+
+class Key(NamedTuple):
+    """A key by its name; of "text" and "paste" with the characters."""
+
+    name: str
+    text: str = ""
+
+
+class Keys:
+    """What has come of keys so far: a sequence or a paste may come in pieces."""
+
+    def __init__(self) -> None:
+        self.rest = b""
+        self.fed = 0.0
+        self.pasted: bytearray | None = None
+        self.decoder = codecs.getincrementaldecoder("utf-8")(errors="replace")
+
+    def feed(self, data: bytes) -> list[Key]:
+        """The keys that these bytes finish."""
+        self.rest += data
+        self.fed = time.monotonic()
+        found: list[Key] = []
+        while self.rest:
+            if self.pasted is not None:
+                if not self.end_paste(found):
+                    break
+            elif self.rest.startswith(b"\x1b"):
+                if not self.escape(found):
+                    break
+            elif self.rest[0] < 32 or self.rest[0] == 127:
+                code, self.rest = self.rest[0], self.rest[1:]
+                found.append(Key(CONTROLS.get(code) or f"ctrl-{chr(code | 96)}"))
+            else:
+                self.type(found)
+        return found
+
+    def type(self, found: list[Key]) -> None:
+        """Characters up to the next key that is none, as one text."""
+        end = re.search(rb"[\x00-\x1f\x7f]", self.rest)
+        plain = self.rest[: end.start()] if end else self.rest
+        self.rest = self.rest[len(plain) :]
+        if text := self.decoder.decode(plain):
+            found.append(Key("text", text))
+
+    def escape(self, found: list[Key]) -> bool:
+        """A sequence, if it is all there."""
+        match = SEQUENCE.match(self.rest)
+        if match:
+            self.rest = self.rest[match.end() :]
+            if match[0] == PASTE_BEGINS:
+                self.pasted = bytearray()
+            elif name := named(match):
+                found.append(Key(name))
+            return True
+        if UNFINISHED.fullmatch(self.rest):
+            return False
+        found.append(Key("escape"))
+        self.rest = self.rest[1:]
+        return True
+
+    def end_paste(self, found: list[Key]) -> bool:
+        """What is pasted, if its end is there. Line ends are line feeds then."""
+        assert self.pasted is not None
+        # The end may come in pieces, so as much as that is looked at again.
+        before = len(self.pasted)
+        self.pasted += self.rest
+        self.rest = b""
+        at = self.pasted.find(PASTE_ENDS, max(0, before - len(PASTE_ENDS)))
+        if at < 0:
+            return False
+        text = self.pasted[:at].decode(errors="replace")
+        self.rest = bytes(self.pasted[at + len(PASTE_ENDS) :])
+        self.pasted = None
+        found.append(Key("paste", text.replace("\r\n", "\n").replace("\r", "\n")))
+        return True
+
+    def is_waiting(self) -> bool:
+        """Whether an escape may still become a sequence."""
+        return self.pasted is None and bool(self.rest)
+
+    def give_up(self, after: float = WAIT) -> list[Key]:
+        """The keys of what has come, where nothing has followed for a while."""
+        if not self.is_waiting() or time.monotonic() - self.fed < after:
+            return []
+        rest, self.rest = self.rest, b""
+        return [Key("escape"), *self.feed(rest[1:])]
+
+
+def named(match: re.Match[bytes]) -> str | None:
+    """The name of a sequence's key, with what was held down; none if it has no meaning here."""
+    numbers, letter, application = ((part or b"").decode() for part in match.groups())
+    if application:
+        return BY_RXVT_LETTER.get(application) or BY_LETTER.get(application)
+    given = [int(number) if number.isdecimal() else 1 for number in numbers.split(";")]
+    name = BY_NUMBER.get(given[0]) if letter in "~^$" else BY_LETTER.get(letter)
+    if name is None:
+        return None
+    held = given[1] - 1 if len(given) > 1 else {"^": 4, "$": 1}.get(letter, 0)
+    return "".join(word for bit, word in enumerate(MODIFIERS) if held >> bit & 1) + name

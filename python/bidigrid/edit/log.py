@@ -1,0 +1,113 @@
+"""The log of a desk: a file of its own operations, each flushed before anyone hears of it."""
+
+from __future__ import annotations
+
+import fcntl
+import os
+
+from .fault import EditFault, reason
+from .frames import HEADER, HEADER_2, HEADER_SIZE, operations, sites, spelled, whole_end
+
+
+class Log:
+    """An operation file of version 1, where what is appended leaves all as it is that stands there.
+
+    Opening it locks it, and cuts off a last frame that was not written to its end: it was never flushed, so nobody
+    has seen it. `size` is how many bytes are flushed, `waiting` what is still to be.
+    """
+
+    def __init__(self, path: str) -> None:
+        self.path = path
+        self.waiting = bytearray()
+        self.size = 0
+        try:
+            self.file = os.open(path, os.O_RDWR | os.O_CREAT | os.O_CLOEXEC, 0o666)
+        except OSError as error:
+            raise EditFault(f"cannot open {path}: {reason(error)}") from None
+        try:
+            self.lock()
+            self.size = self.sound_size()
+            self.sites = sites(self.read(0, self.size))
+            if not self.size:
+                self.waiting += HEADER
+        except OSError as error:
+            self.close()
+            raise EditFault(f"cannot read {path}: {reason(error)}") from None
+        except EditFault:
+            self.close()
+            raise
+
+    def lock(self) -> None:
+        """Keeps other editors from this file."""
+        try:
+            fcntl.flock(self.file, fcntl.LOCK_EX | fcntl.LOCK_NB)
+        except BlockingIOError:
+            raise EditFault(f"{self.path} is open in another editor: name another log by --log") from None
+
+    def sound_size(self) -> int:
+        """How many bytes of whole frames the file has. What stands behind them is cut off."""
+        data = self.read(0, os.fstat(self.file).st_size)
+        head = data[:HEADER_SIZE]
+        if head == HEADER_2:
+            return self.spell_anew(data)
+        if not HEADER.startswith(head):
+            raise EditFault(f"{self.path} is no operation file")
+        end, is_cut = whole_end(data, HEADER_SIZE, 1) if head == HEADER else (0, True)
+        # A power cut can leave zeros where bytes were to come.
+        if not is_cut and any(data[end:]):
+            raise EditFault(f"{self.path} is damaged behind its first {end} bytes")
+        os.ftruncate(self.file, end)
+        return end
+
+    def spell_anew(self, data: bytes) -> int:
+        """Puts a file of version 1 with the same operations in the place of one of version 2."""
+        end, is_cut = whole_end(data, HEADER_SIZE, 2)
+        if not is_cut:
+            raise EditFault(f"{self.path} is damaged behind its first {end} bytes")
+        anew = spelled(operations(data[:end]))
+        with open(f"{self.path}.new", "wb") as file:
+            file.write(anew)
+            file.flush()
+            os.fsync(file.fileno())
+            os.replace(file.name, self.path)
+        os.close(self.file)
+        self.file = os.open(self.path, os.O_RDWR | os.O_CLOEXEC)
+        self.lock()
+        return len(anew)
+
+    def append(self, message: bytes) -> None:
+        """Has the operations of a message of version 1 wait for the next flush."""
+        self.waiting += message[HEADER_SIZE:]
+
+    def flush(self) -> None:
+        """Writes what waits, and has the system bring it to the disk. After an error it still waits."""
+        if not self.waiting:
+            return
+        try:
+            written = 0
+            while written < len(self.waiting):
+                written += os.pwrite(self.file, self.waiting[written:], self.size + written)
+            os.fdatasync(self.file)
+        except OSError:
+            os.ftruncate(self.file, self.size)
+            raise
+        self.size += len(self.waiting)
+        self.waiting.clear()
+
+    def read(self, start: int, end: int) -> bytes:
+        """The bytes of the file from one place up to another."""
+        parts = []
+        while start < end and (part := os.pread(self.file, end - start, start)):
+            parts.append(part)
+            start += len(part)
+        return b"".join(parts)
+
+    def close(self) -> None:
+        """Gives the file back, and its lock."""
+        os.close(self.file)
+
+    def discard(self) -> None:
+        """Gives the file back, and takes it away where nothing was ever written to it."""
+        if self.size <= HEADER_SIZE:
+            os.unlink(self.path)
+        self.close()

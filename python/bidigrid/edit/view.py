@@ -1,0 +1,58 @@
+"""What is to be seen of an editor: rows and carets, and the line about it all."""
+
+from __future__ import annotations
+
+from typing import NamedTuple
+
+from .. import Row
+from . import carets
+from .editor import Editor
+
+
+NAMED = 3  # of those who are here
+
+
+class View(NamedTuple):
+    """Rows of a width, the caret's line and column, the selected stretch, and others' carets: line, column, site."""
+
+    width: int
+    rows: tuple[Row, ...]
+    line: int
+    column: int
+    selected: tuple[int, int]
+    others: tuple[tuple[int, int, int], ...]
+    status: str
+
+
+def view_of(editor: Editor) -> View:
+    """What is to be seen now."""
+    rows = editor.shown
+    column = carets.column_of_gap(rows[editor.line], editor.at.gap)
+    seen = tuple(others(editor, rows))
+    return View(editor.document.width, rows, editor.line, column, editor.selected(), seen, status(editor))
+
+
+def others(editor: Editor, rows: tuple[Row, ...]) -> list[tuple[int, int, int]]:
+    """Where the others' carets are seen on the screen."""
+    found = []
+    for site, here in sorted(editor.desk.here().items()):
+        place = carets.place_behind(editor.document, here.caret)
+        line = None if place is None else carets.row_of_place(rows, place)
+        if place is not None and line is not None:
+            column = carets.column_of_place(rows[line], place)
+            if column is not None:
+                found.append((line, column, site))
+    return found
+
+
+def status(editor: Editor) -> str:
+    """The site, the connection, how long the text is, how it is laid out, who else is here, and what is to be told."""
+    desk = editor.desk
+    here = [f"{here.name or '?'} ({site})" for site, here in sorted(desk.here().items())]
+    parts = [f"site {desk.site}", desk.state(), f"{len(editor.document):,} characters"]
+    if here:
+        more = f" and {len(here) - NAMED} more" if len(here) > NAMED else ""
+        parts.append(f"with {', '.join(here[:NAMED])}{more}")
+    parts += [f"F2 {editor.document.base}", f"F3 {'wide' if desk.wide_ambiguous else 'narrow'}"]
+    line = " | ".join(parts)
+    return f"{desk.notice} | {line}" if desk.notice else line

@@ -1,0 +1,99 @@
+"""Rows of cells, and the clusters in them."""
+
+from collections.abc import Iterable
+from struct import iter_unpack
+from typing import Any, NamedTuple
+
+from ._bidigrid import ffi
+from .fault import must
+from .room import Call, Room
+
+
+class Entry(NamedTuple):
+    """A cluster, as a letter with its marks, where it is seen.
+
+    first_place, end_place: its code points in the text, the second left out.
+    column: of its first cell, from 0.
+    columns: how many cells it takes, 0 to 2.
+    level: of UAX #9; odd where it is read from right to left.
+    shown: the characters in its cells, mirrored where the level is odd, as ( for ); "" where it takes no cell, and spaces
+        for a tab.
+    """
+
+    first_place: int
+    end_place: int
+    column: int
+    columns: int
+    level: int
+    shown: str
+
+
+class Row:
+    """A row of cells; `str(row)` has its cells from left to right, as they are to be shown.
+
+    first_place, last_place: its code points in the text, the second left out; a line feed is among them.
+    column: where its entries begin.
+    level: of its paragraph, 0 from left to right, 1 from right to left.
+    """
+
+    __slots__ = ("first_place", "last_place", "column", "level", "_cells", "_packed", "_entries")
+
+    def __init__(
+        self, first_place: int, last_place: int, column: int, level: int, cells: str, packed: bytes
+    ) -> None:
+        self.first_place = first_place
+        self.last_place = last_place
+        self.column = column
+        self.level = level
+        self._cells = cells
+        self._packed = packed
+        self._entries: tuple[Entry, ...] | None = None
+
+    @property
+    def entries(self) -> tuple[Entry, ...]:
+        """Its clusters from left to right, the visual order."""
+        if self._entries is None:
+            self._entries = tuple(self._unpacked())
+        return self._entries
+
+    def _unpacked(self) -> list[Entry]:
+        at, made = self.column, []
+        for _, _, first, end, column, level, columns in iter_unpack("=7I", self._packed):
+            after = at + (end - first if columns else 0)
+            made.append(Entry(first, end, column, columns, level, self._cells[at:after]))
+            at = after
+        return made
+
+    def __str__(self) -> str:
+        return self._cells
+
+    def __repr__(self) -> str:
+        return f"<Row of places {self.first_place} to {self.last_place}: {self._cells!r}>"
+
+    def _value(self) -> tuple[int, int, int, int, str, bytes]:
+        return self.first_place, self.last_place, self.column, self.level, self._cells, self._packed
+
+    def __eq__(self, other: object) -> bool:
+        if not isinstance(other, Row):
+            return NotImplemented
+        return self._value() == other._value()
+
+    def __hash__(self) -> int:
+        return hash(self._value())
+
+
+Calls = tuple[Call, Call, Call]
+"""The calls that tell of a row its places, its entries and its cells."""
+
+
+def rows_of(handle: Any, numbers: Iterable[int], width: int, calls: Calls) -> list[Row]:
+    """Rows of a picture or of what a document shows."""
+    tell_row, tell_entries, tell_cells = calls
+    row, made = ffi.new("bidigrid_row *"), []
+    entries, cells = Room("bidigrid_entry", width), Room("char", 4 * width)
+    for number in numbers:
+        must(tell_row(handle, number, row))
+        packed = entries.written(tell_entries, handle, number)
+        shown = cells.written(tell_cells, handle, number)[:-1].decode("utf-8")
+        made.append(Row(row.first_place, row.last_place, row.column, row.level, shown, packed))
+    return made

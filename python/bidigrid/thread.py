@@ -1,0 +1,135 @@
+"""What a thread made stays on it: its tables, and what the library holds for its objects."""
+
+import threading
+from collections import deque
+from collections.abc import Callable
+from types import TracebackType
+from typing import Any, NoReturn, Self
+
+from ._bidigrid import ffi, lib
+from .fault import ThreadFault, must
+
+
+class Home:
+    """What one thread made. No handle of the library may be used on another thread, not even to free it: what is
+    collected elsewhere is left for this one to free, at its next call or at its end."""
+
+    def __init__(self) -> None:
+        self._tables: dict[bool, Any] = {}
+        self._held: dict[int, tuple[Any, Callable[[Any], None]]] = {}
+        self.left: deque[int] = deque()
+
+    def tables(self, wide_ambiguous: bool) -> Any:
+        """The tables of Unicode, made once."""
+        wide = bool(wide_ambiguous)
+        if wide not in self._tables:
+            made = ffi.new("bidigrid_tables *")
+            must(lib.bidigrid_tables_unicode(made, wide))
+            self._tables[wide] = made
+        return self._tables[wide]
+
+    def hold(self, handle: Any, free: Callable[[Any], None]) -> int:
+        """Keeps a full handle until it is freed, and returns the number that it is kept under."""
+        number = id(handle)
+        self._held[number] = handle, free
+        return number
+
+    def free(self, number: int) -> None:
+        """Frees what is kept under a number, if it still is."""
+        handle, free = self._held.pop(number, (None, None))
+        if free is not None:
+            free(handle)
+
+    def free_left(self) -> None:
+        """Frees what other threads left."""
+        while self.left:
+            self.free(self.left.popleft())
+
+    def end(self) -> None:
+        """Frees all, at the end of the thread."""
+        for number in list(self._held):
+            self.free(number)
+        for made in self._tables.values():
+            lib.bidigrid_tables_free(made)
+        self._tables.clear()
+
+
+class _End:
+    """Goes with its thread, on that thread, and takes along what the thread made."""
+
+    def __init__(self, home: Home) -> None:
+        self.home = home
+
+    def __del__(self) -> None:
+        self.home.end()
+
+
+class _Here(threading.local):
+    """The home of the thread that asks."""
+
+    def __init__(self) -> None:
+        self.home = Home()
+        self.end = _End(self.home)
+
+
+_here = _Here()
+
+
+def here() -> Home:
+    """The home of this thread."""
+    home = _here.home
+    if home.left:
+        home.free_left()
+    return home
+
+
+class Held:
+    """An object that the library holds something for. It belongs to the thread that made it: another thread that uses it
+    gets a ThreadFault, and nothing is done. What it holds is freed with it, or earlier by `close`."""
+
+    _home: Home | None = None
+    _handle: Any = None
+    _number: int = 0
+
+    def _hold(self, home: Home, handle: Any, free: Callable[[Any], None]) -> None:
+        self._number = home.hold(handle, free)
+        self._home, self._handle = home, handle
+
+    def _full(self) -> Any:
+        """Its handle, for the thread that made it."""
+        if here() is not self._home:
+            raise ThreadFault(f"this {type(self).__name__} belongs to the thread that made it")
+        if self._handle is None:
+            raise ValueError(f"this {type(self).__name__} is closed")
+        return self._handle
+
+    def close(self) -> None:
+        """Frees what it holds. Every later call but this one is a ValueError."""
+        home = here()
+        if home is not self._home:
+            raise ThreadFault(f"this {type(self).__name__} belongs to the thread that made it")
+        home.free(self._number)
+        self._handle = None
+
+    def __enter__(self) -> Self:
+        self._full()
+        return self
+
+    def __exit__(
+        self, kind: type[BaseException] | None, raised: BaseException | None, trace: TracebackType | None
+    ) -> None:
+        self.close()
+
+    def __del__(self) -> None:
+        # An object whose making failed, or that is closed, has no handle.
+        if self._home is None or self._handle is None:
+            return
+        if _here.home is self._home:
+            self._home.free(self._number)
+        else:
+            self._home.left.append(self._number)
+
+    def __reduce__(self) -> NoReturn:
+        raise TypeError(self._unpickled)
+
+    _unpickled = "it can't be pickled or copied: the library holds it"

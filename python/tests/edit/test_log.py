@@ -1,0 +1,104 @@
+"""The log: what is flushed stays, what was cut is cut off, and no site is used twice."""
+
+import os
+from pathlib import Path
+
+import pytest
+from bidigrid import Document
+from bidigrid.edit.fault import EditFault
+from bidigrid.edit.log import Log
+from desks import desk_at
+
+TEA = bytes.fromhex(
+    "42474f5001" "0011 01 00000001 0001 00000000 0000 00000074" "0011 01 00000002 0001 00000001 0001 00000065"
+    "0011 01 00000003 0001 00000002 0001 00000061"
+)  # fmt: skip
+
+
+def test_a_desk_goes_on_from_its_log(tmp_path: Path) -> None:
+    path = tmp_path / "notes.bgop"
+    path.write_bytes(TEA)
+    desk = desk_at(path)
+    assert (desk.site, desk.document.text) == (1, "tea")
+    desk.replace(3, 3, "m")
+    desk.close()
+    assert path.read_bytes() == TEA + bytes.fromhex("0011 01 00000004 0001 00000003 0001 0000006d")
+
+
+@pytest.mark.parametrize("cut", range(len(TEA)))
+def test_a_cut_frame_is_cut_off(tmp_path: Path, cut: int) -> None:
+    path = tmp_path / "notes.bgop"
+    path.write_bytes(TEA[:cut])
+    whole = max(0, (cut - 5) // 19)
+    desk = desk_at(path, site=1)
+    assert desk.document.text == "tea"[:whole]
+    desk.replace(whole, whole, "tea"[whole:])
+    desk.close()
+    assert path.read_bytes() == TEA
+
+
+def test_zeros_of_a_power_cut_are_cut_off(tmp_path: Path) -> None:
+    path = tmp_path / "notes.bgop"
+    path.write_bytes(TEA + bytes(100))
+    desk_at(path).close()
+    assert path.read_bytes() == TEA
+
+
+def test_a_file_of_version_2_is_spelled_anew(tmp_path: Path) -> None:
+    path = tmp_path / "notes.bgop"
+    path.write_bytes(bytes.fromhex("42474f5002 0019 03 00000001 0001 00000000 0000 00000074 00000065 00000061"))
+    desk_at(path).close()
+    assert path.read_bytes() == TEA
+
+
+@pytest.mark.parametrize(
+    ("data", "said"),
+    [
+        (b"Dear all", "is no operation file"),
+        (TEA + b"\x00\x05\x09hello", "is damaged behind its first 62 bytes"),
+        (TEA[:20] + b"\xff" + TEA[21:], "8 NotAScalar"),
+    ],
+)
+def test_a_faulty_file_is_told_and_left(tmp_path: Path, data: bytes, said: str) -> None:
+    path = tmp_path / "notes.bgop"
+    path.write_bytes(data)
+    with pytest.raises(EditFault, match=said):
+        desk_at(path)
+    assert path.read_bytes() == data
+
+
+def test_a_log_is_open_once(tmp_path: Path) -> None:
+    first = Log(str(tmp_path / "notes.bgop"))
+    with pytest.raises(EditFault, match="open in another editor"):
+        Log(first.path)
+    first.close()
+    Log(first.path).close()
+
+
+def test_a_log_of_another_site_is_told(tmp_path: Path) -> None:
+    path = tmp_path / "notes.bgop"
+    path.write_bytes(TEA)
+    with pytest.raises(EditFault, match="is the log of site 1, not of 2"):
+        desk_at(path, site=2)
+    assert path.read_bytes() == TEA
+
+
+def test_a_log_of_several_sites_is_gone_on_with_as_a_new_one(tmp_path: Path) -> None:
+    path = tmp_path / "notes.bgop"
+    other = Document(2)
+    other.take(TEA)
+    path.write_bytes(TEA + other.type(3, "m")[5:])
+    desk = desk_at(path)
+    assert desk.site not in (1, 2) and desk.document.text == "team"
+    desk.close()
+
+
+def test_a_log_that_is_gone_makes_a_new_site(tmp_path: Path) -> None:
+    sites = set()
+    for _ in range(5):
+        desk = desk_at(tmp_path / "notes.bgop")
+        sites.add(desk.site)
+        desk.replace(0, 0, "a")
+        desk.close()
+        os.unlink(tmp_path / "notes.bgop")
+    assert len(sites) > 1

@@ -1,0 +1,99 @@
+"""Random keys at three desks, whose folders are brought together by someone who copies at random moments and lengths."""
+
+import random
+import shutil
+from pathlib import Path
+
+import pytest
+from bidigrid import layout
+from bidigrid.edit.desk import Desk
+from bidigrid.edit.editor import Editor
+from bidigrid.edit.keys import Key
+from bidigrid.edit.view import view_of
+from desks import in_folder
+from program import text_of
+
+KEYS = 10_000
+HEIGHT = 12
+WORDS = ["tea", "milk ", "שלום", "חלב ", "شاي", "حليب ", "١٢٣", "42", " ", "(", ")", "é", "e\u0301", "茶", "\u200f", "\u2067",
+         "\u2069", "ש\u05b8", "👩\u200d👧"]  # fmt: skip
+MOVES = ["left", "right", "up", "down", "home", "end", "ctrl-left", "ctrl-right", "page-up", "page-down", "ctrl-home",
+         "ctrl-end"]  # fmt: skip
+EDITS = ["backspace", "delete", "enter", "tab", "ctrl-z"]
+
+
+def drawn_key(chance: random.Random) -> Key:
+    """A key: half of them type."""
+    kind = chance.random()
+    if kind < 0.5:
+        return Key("text", chance.choice(WORDS))
+    if kind < 0.75:
+        return Key(chance.choice(MOVES))
+    if kind < 0.8:
+        return Key("shift-" + chance.choice(MOVES[:8]))
+    if kind < 0.98:
+        return Key(chance.choice(EDITS))
+    return chance.choice([Key("paste", "".join(chance.choices(WORDS, k=30))), Key("f2"), Key("escape"), Key("mark")])
+
+
+def deliver(chance: random.Random, source: Path, target: Path, whole: bool) -> None:
+    """Brings the files of one desk's folder to another's: some not at all, some cut anywhere."""
+    for file in source.glob("notes.*.bgop"):
+        there = target / file.name
+        held = there.stat().st_size if there.exists() else 0
+        size = file.stat().st_size
+        if size > held and (whole or chance.random() < 0.7):
+            end = size if whole else chance.randint(held, size)
+            with open(file, "rb") as read, open(there, "ab") as written:
+                read.seek(held)
+                written.write(read.read(end - held))
+
+
+def look(desk: Desk) -> None:
+    """A turn that looks into the folder now."""
+    desk.channel.looked = 0.0  # type: ignore[union-attr]
+    desk.turn()
+
+
+@pytest.mark.parametrize("seed", [71, 72])
+def test_random_keys_at_three_desks(tmp_path: Path, seed: int) -> None:
+    chance = random.Random(seed)
+    folders = [tmp_path / name for name in ("one", "two", "three")]
+    for folder in folders:
+        folder.mkdir()
+    desks = [in_folder(folder / "own.bgop", folder, number) for number, folder in enumerate(folders, 1)]
+    editors = [Editor(desk, HEIGHT, str(desk.log.path)) for desk in desks]
+    for _ in range(KEYS):
+        editor = chance.choice(editors)
+        editor.press(drawn_key(chance))
+        assert editor.selected()[1] <= len(editor.document)
+        if chance.random() < 0.1:
+            seen = view_of(editor)
+            assert seen.rows[seen.line].first_place <= editor.at.place <= seen.rows[seen.line].last_place
+        if chance.random() < 0.1:
+            source, target = chance.sample(folders, 2)
+            deliver(chance, source, target, whole=False)
+        if chance.random() < 0.1:
+            look(editor.desk)
+            editor.follow()
+    for _ in range(2):
+        for desk in desks:
+            look(desk)
+        for source in folders:
+            for target in folders:
+                if source != target:
+                    deliver(chance, source, target, whole=True)
+    for desk in desks:
+        look(desk)
+        assert desk.notice == "" or "take back" in desk.notice
+    text = desks[0].document.text
+    assert text == text_of([Path(desk.log.path) for desk in desks])
+    for width in (12, 40):
+        for desk in desks:
+            desk.document.base = "auto"
+            desk.document.resize(width)
+            assert desk.document.text == text
+            assert str(desk.document.rows(0, 0, 1000)) == str(layout(text, width))[: len(str(desk.document.rows(0, 0, 1000)))]
+    for desk in desks:
+        desk.close()
+    shutil.rmtree(tmp_path)
