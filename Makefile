@@ -1,4 +1,4 @@
-# Program and C library: make; the whole test: make check. What each target does: make help.
+# Program and C library: make; the Python package: make wheel; the whole test: make check. What each target does: make help.
 
 VERSION := $(shell cat VERSION)
 MAJOR := $(firstword $(subst ., ,$(VERSION)))
@@ -16,6 +16,8 @@ CFLAGS ?= -O2
 LDFLAGS ?=
 # The program that check-c compares the library with; where another is named, none is proved for it.
 BIDIGRID ?= build/bin/bidigrid
+# Debian's own Python, which has cffi, pytest and the others of make deps.
+PYTHON ?= /usr/bin/python3
 
 PROGRAM = build/bin/bidigrid
 LIB = build/lib
@@ -27,15 +29,16 @@ MAN = build/bidigrid.1
 PAGES = C.md C_REFERENCE.md FORMATS.md
 
 # The parts of the whole test, each a target.
-PARTS = check-gate check-c \
-    $(if $(wildcard python/pyproject.toml),check-python) $(if $(wildcard python/bidigrid/edit),check-edit)
+PARTS = check-gate check-c check-python check-edit
 
-# Packages of Debian 12: of the gate and the C library. Those of other parts follow, a line each.
-DEPS = binutils clang g++ gcc libc6-dev libclang-rt-14-dev make pkg-config python3 util-linux valgrind xxd
+# Packages of Debian 12: of the gate and the C library, of the Python package, of the editor.
+DEPS = binutils clang g++ gcc libc6-dev libclang-rt-14-dev make pkg-config python3 util-linux valgrind xxd \
+    mypy python3-bidi python3-cffi python3-dev python3-pip python3-pytest python3-setuptools python3-venv python3-wheel \
+    python3-redis redis-server tmux
 
 .DELETE_ON_ERROR:
-.PHONY: all help program lib check-symbols check check-gate check-c install install-program install-lib uninstall dist deps \
-    clean FORCE
+.PHONY: all help program lib check-symbols check check-gate check-c check-python check-edit wheel install install-program \
+    install-lib uninstall dist deps clean FORCE
 
 all: program lib
 
@@ -46,6 +49,9 @@ help:
 	@echo '                 a part that lacks a package is left out, and told'
 	@echo 'make check-gate  compares the pages with the tree, and proves and tests every crate'
 	@echo 'make check-c     tries the library from C; with BIDIGRID=FILE it compares with that program, and proves none'
+	@echo 'make wheel       builds the Python package with the library in it, build/bidigrid-$(VERSION)-*.whl'
+	@echo 'make check-python, make check-edit'
+	@echo '                 try the package, and the editor in terminals and over Redis; BIDIGRID=FILE as there'
 	@echo 'make install     copies program and library below PREFIX ($(PREFIX)), or below DESTDIR where it is set;'
 	@echo '                 install-program and install-lib copy one of the two; bindir, libdir, libexecdir, includedir,'
 	@echo '                 datadir and docdir can be set too'
@@ -88,6 +94,15 @@ check-gate:
 
 check-c: lib $(BIDIGRID)
 	BIDIGRID='$(abspath $(BIDIGRID))' c/check
+
+wheel: $(ARCHIVE)
+	PYTHON='$(PYTHON)' tools/make/wheel $(ARCHIVE) build
+
+check-python: wheel $(BIDIGRID)
+	PYTHON='$(PYTHON)' BIDIGRID='$(abspath $(BIDIGRID))' python/check build/bidigrid-$(VERSION)-*.whl
+
+check-edit: wheel $(BIDIGRID)
+	PYTHON='$(PYTHON)' BIDIGRID='$(abspath $(BIDIGRID))' python/check-edit build/bidigrid-$(VERSION)-*.whl
 
 $(MAN): $(PROGRAM) tools/make/man-page
 	tools/make/man-page $< >$@
