@@ -1,5 +1,5 @@
 -- What a call leaves in a buffer of C.
-use Rattle.std.specs.Prelude.{◌≡◌, ◌⊎◌, ◌<◌, ◌≤◌, ℕ, List, ◌++◌, drop, length}
+use Rattle.std.specs.Prelude.{◌≡◌, ◌⊎◌, ◌<◌, ◌≤◌, ℕ, List, ◌++◌, drop, length, map}
 
 -- the bytes were asked for: their number is told, and they stand at the front of the buffer, if it has room for them; else the
 -- answer is 102, ShortBuffer, and the buffer is as it was
@@ -7,6 +7,13 @@ pub record IsCopied (bytes before after : List ℕ) (size answer : ℕ) : Type 0
   pub told : size ≡ length bytes
   pub fits : length bytes ≤ length before → (answer ≡ 0) × (after ≡ bytes ++ drop (length bytes) before)
   pub short : length before < length bytes → (answer ≡ 102) × (after ≡ before)
+
+-- how many there are was told, and what they come to stands at the front of the list, if it has room for them; else the answer
+-- is 102, ShortBuffer, and the list is as it was
+pub record AreListed {X Y : Type 0} (shown : X → Y) (items : List X) (before after : List Y) (count answer : ℕ) : Type 0 where
+  pub told : count ≡ length items
+  pub fits : length items ≤ length before → (answer ≡ 0) × (after ≡ map shown items ++ drop (length items) before)
+  pub short : length before < length items → (answer ≡ 102) × (after ≡ before)
 
 -- nothing was written, for a fault that is told: the buffer is as it was, and the size is 0
 abbrev pub IsLeft : (before after : List ℕ) → (size : ℕ) → Type 0

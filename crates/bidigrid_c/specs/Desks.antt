@@ -132,14 +132,18 @@ pub record IsTakenUpTo (desk : Desk) (ops : List OpView) (new : Desk) (told answ
 abbrev pub IsTooLong : List ℕ → Type 0
 IsTooLong bytes = 67_108_864 < length bytes
 
--- a message was taken: its bytes spell operations, taken in order as far as was told; or they are faulty, too many, or couldn't
--- be read for lack of memory, and the desk is as it was
+-- a message was not read: its bytes are faulty, or there was no memory for its operations, or they are too many
+abbrev pub IsUnread : (bytes : List ℕ) → Taken → (answer : ℕ) → Type 0
+IsUnread bytes told answer =
+    ((fault : CodecFault) × TellsFault bytes fault × (answer ≡ message_number fault) × (told ≡ none_taken (unwrap_or (frame_number fault) 0)))
+    ⊎ ((answer ≡ 116) × IsTooLong bytes × (told ≡ none_taken 0))
+
+-- a message was taken: its bytes spell operations, taken in order as far as was told; or it was not read, and the desk is as it
+-- was
 abbrev pub IsMessageTaken : Desk → (bytes : List ℕ) → Desk → Taken → (answer : ℕ) → Type 0
 IsMessageTaken desk bytes new told answer =
     ((ops : List OpView) × Spells bytes ops × (told.operations ≡ length ops) × (told.frame ≡ 0) × IsTakenUpTo desk ops new told.taken answer)
-    ⊎ (((fault : CodecFault) × TellsFault bytes fault × (new ≡ desk) × (answer ≡ message_number fault)
-    × (told ≡ none_taken (unwrap_or (frame_number fault) 0)))
-    ⊎ ((answer ≡ 116) × IsTooLong bytes × (new ≡ desk) × (told ≡ none_taken 0)))
+    ⊎ ((new ≡ desk) × IsUnread bytes told answer)
 
 -- why a desk of a site was not made of a file
 abbrev pub IsRefusedOpening : (site : ℕ) → (file : List ℕ) → Taken → (answer : ℕ) → Type 0
