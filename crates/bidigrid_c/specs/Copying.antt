@@ -23,8 +23,6 @@ IsLeft before after size = (after ≡ before) × (size ≡ 0)
 abbrev pub IsWritten : (bytes before after : List ℕ) → (size answer : ℕ) → Type 0
 IsWritten bytes before after size answer = IsCopied bytes before after size answer ⊎ ((answer ≡ 9) × IsLeft before after size)
 
--- how many bytes there are was asked for, with no buffer for them
-abbrev pub IsSized : (bytes : List ℕ) → (size answer : ℕ) → Type 0
-IsSized bytes size answer =
-    ((size ≡ length bytes) × (0 < size → answer ≡ 102) × (size ≡ 0 → answer ≡ 0))
-    ⊎ ((answer ≡ 9) × (size ≡ 0))
+-- how many bytes there are was told, with no buffer for them
+abbrev pub IsSize : (count size answer : ℕ) → Type 0
+IsSize count size answer = (size ≡ count) × (0 < size → answer ≡ 102) × (size ≡ 0 → answer ≡ 0)

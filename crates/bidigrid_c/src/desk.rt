@@ -60,12 +60,7 @@ fn new_desk(alloc: Global, site: u32, key_high: u64, key_low: u64) -> Result<Box
 }
 
 /// A desk of a site without operations, or the number of the fault.
-pub(crate) fn fresh_desk(
-    alloc: Global,
-    site: u32,
-    key_high: u64,
-    key_low: u64,
-) -> Result<Desk, u32>
+pub(crate) fn fresh_desk(alloc: Global, site: u32, key_high: u64, key_low: u64) -> Result<Desk, u32>
     ensures ok { IfOk result (λ desk. (desk ≡ fresh site) × IsSite site) }
     ensures fault { IfErr result (λ fault. (fault ≡ 112) × (¬ (IsSite site))) }
 {

@@ -8,7 +8,7 @@ ghost use Rattle.bidigrid_c.specs.Documents.{IsEdited};
 
 use crate::document_handle::DocumentHandle;
 use crate::draft::Draft;
-use crate::fault::{EMPTY_HANDLE, NOT_UTF8, type_number};
+use crate::fault::{EMPTY_HANDLE, NOT_UTF8, OK, type_number};
 use crate::told_document::ToldDocument;
 use std::alloc::Global;
 
@@ -150,7 +150,8 @@ fn exchange_in(
     match held.document.replace(from, to, text, &mut draft.ops) {
         Ok(()) => {
             held.forget();
-            draft.write(out, size)
+            draft.write(out, size);
+            OK
         }
         Err(fault) => type_number(fault),
     }

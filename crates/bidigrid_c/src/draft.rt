@@ -90,14 +90,15 @@ impl Draft {
         }
     }
 
-    /// Writes the message of its operations to the front of a buffer.
-    pub(crate) fn write(&mut self, out: &mut [u8], size: &mut usize) -> u32
+    /// Writes the message of its operations to the front of a buffer, which has room for it.
+    pub(crate) fn write(&mut self, out: &mut [u8], size: &mut usize)
         requires message { self.old.message.items ≡ spelling [] }
-        requires bytes { vec_len self.old.message + 19 * vec_len self.old.ops ≤ vec_capacity self.old.message }
-        ensures { IsCopied (spelling self.old.ops.items) out.old out.new size.new result }
+        requires bytes { vec_len self.old.message + 19 * length self.old.ops.items ≤ vec_capacity self.old.message }
+        requires room { length (spelling self.old.ops.items) ≤ length out.old }
+        ensures { IsCopied (spelling self.old.ops.items) out.old out.new size.new 0 }
     {
         add_each(&self.ops, &mut self.message);
-        copy_out(&self.message, out, size)
+        let _written = copy_out(&self.message, out, size);
     }
 }
 

@@ -8,7 +8,7 @@ ghost use Rattle.bidigrid_c.specs.Desks.{IsReplaced, IsRefusedExchange, IsRefuse
 use crate::desk::Desk;
 use crate::desk_handle::DeskHandle;
 use crate::draft::Draft;
-use crate::fault::{EMPTY_HANDLE, NOT_UTF8, type_number};
+use crate::fault::{EMPTY_HANDLE, NOT_UTF8, OK, type_number};
 use std::alloc::Global;
 
 /// Types a text at a place, and writes the message for the other desks: all of it, or nothing.
@@ -106,7 +106,10 @@ pub(crate) fn exchange_in(
         Err(fault) => return fault,
     };
     match desk.replace(from, to, text, &mut draft.ops) {
-        Ok(()) => draft.write(out, size),
+        Ok(()) => {
+            draft.write(out, size);
+            OK
+        }
         Err(fault) => type_number(fault),
     }
 }

@@ -67,11 +67,7 @@ pub(crate) fn take_in(alloc: Global, desk: &mut Desk, bytes: &[u8], told: &mut T
 }
 
 /// The operations of a message, of which none is told to be taken yet; or the number of its fault, which is told.
-pub(crate) fn read_message(
-    alloc: Global,
-    bytes: &[u8],
-    told: &mut Taken,
-) -> Result<Vec<Op>, u32>
+pub(crate) fn read_message(alloc: Global, bytes: &[u8], told: &mut Taken) -> Result<Vec<Op>, u32>
     ensures ok { IfOk result (λ ops. Spells bytes.now ops.items) }
     ensures told { IfOk result (λ ops. told.new ≡ record { operations = vec_len ops; taken = 0; frame = 0 }) }
     ensures fault { IfErr result (IsUnread bytes.now told.new) }
@@ -131,6 +127,20 @@ fn merge_from(alloc: Global, desk: &mut DeskHandle, other: &Desk) -> u32
     let answer = merge_in(&mut held, other);
     desk.put(alloc, held);
     answer
+}
+
+/// Lets a desk take all that it holds itself: it stays as it is.
+#[unsafe(no_mangle)]
+pub extern "C" fn bidigrid_desk_merge_itself(alloc: Global, desk: &mut DeskHandle) -> u32
+    ensures merged { IfSome desk.old.held (λ _. result ≡ 0) }
+    ensures same { desk.new.held ≡ desk.old.held }
+    ensures empty { desk.old.held ≡ None → result ≡ 101 }
+{
+    let Some(held) = desk.take(alloc) else {
+        return EMPTY_HANDLE;
+    };
+    desk.put(alloc, held);
+    OK
 }
 
 fn merge_in(desk: &mut Desk, other: &Desk) -> u32
