@@ -1,5 +1,5 @@
 -- What the calls do to a document.
-use Rattle.std.specs.Prelude.{◌≡◌, ◌⊎◌, ◌<◌, ◌≤◌, ℕ, true, false, List, [], ◌∷◌, length, take, None, Some}
+use Rattle.std.specs.Prelude.{◌≡◌, ◌⊎◌, ◌<◌, ◌≤◌, ℕ, max, true, false, List, [], ◌∷◌, length, take, None, Some}
 use Rattle.bg_types.specs.declared.class.Base.{Base}
 use Rattle.bg_types.specs.declared.change.Change.{Change}
 use Rattle.bg_types.specs.declared.op.OpView.{OpView}
@@ -64,6 +64,16 @@ pub record IsDrawnAt (old : ToldDocument) (width : ℕ) (base : Base) (new : Tol
   pub width : new.document.width ≡ width
   pub base : new.document.base ≡ base
   pub hidden : new.document.window ≡ no_window
+  pub alike : TellAlike old new
+
+-- so many new operations are paid for; all else stays, what is shown and told too
+pub record IsPaidFor (old : ToldDocument) (operations : ℕ) (new : ToldDocument) : Type 0 where
+  pub set : new.document.desk.set ≡ old.document.desk.set
+  pub site : new.document.desk.site ≡ old.document.desk.site
+  pub waiting : new.document.desk.waiting ≡ old.document.desk.waiting
+  pub spare : new.document.desk.spare ≡ max old.document.desk.spare operations
+  pub drawn : IsDrawnAlike old.document new.document
+  pub shown : new.document.window ≡ old.document.window
   pub alike : TellAlike old new
 
 -- ---- edited
