@@ -6,3 +6,4 @@ mod Placing
 mod Windows
 mod Spots
 mod Followed
+mod Taking

@@ -9,5 +9,5 @@ mod showing;
 mod shown;
 mod window;
 
-pub use document::{Desk, Document};
+pub use document::{Desk, Document, TakenAll};
 pub use window::{Window, WindowRow, WindowRows};
