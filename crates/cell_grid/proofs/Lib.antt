@@ -28,4 +28,5 @@ pub mod LastBelow
 pub mod Windows
 pub mod Rising
 pub mod Moving
+pub mod Elsewhere
 pub mod Interface

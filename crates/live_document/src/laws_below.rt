@@ -3,7 +3,7 @@
 ghost use Rattle.live_document.specs.LawsBelow.{LawsBelow};
 
 use cell_grid::laws::{
-    first_places_rise, rows_may_shift, rows_of_paragraphs, windows_in_stretches,
+    first_places_rise, rows_may_shift, rows_of_paragraphs, rows_print_alike, windows_in_stretches,
 };
 use paragraphs::laws::paragraphs_join;
 
@@ -16,5 +16,6 @@ pub fn laws_below()
     first_places_rise();
     rows_of_paragraphs();
     rows_may_shift();
+    rows_print_alike();
     windows_in_stretches();
 }

@@ -5,6 +5,7 @@ mod document;
 mod following;
 mod keeping;
 mod laws_below;
+mod printing;
 mod showing;
 mod shown;
 mod window;

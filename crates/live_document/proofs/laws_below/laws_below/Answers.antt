@@ -10,5 +10,7 @@ returns c = record {
   rows_behind = c.rows_of_paragraphs.ensures.behind;
   some_rows = c.rows_of_paragraphs.ensures.some;
   may_shift = c.rows_may_shift.ensures;
+  slices = c.rows_print_alike.ensures.slices;
+  prints_alike = c.rows_print_alike.ensures.alike;
   in_stretch = c.windows_in_stretches.ensures;
 }
