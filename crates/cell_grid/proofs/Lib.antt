@@ -10,6 +10,7 @@ pub mod Lookups
 pub mod Covering
 pub mod Celled
 pub mod Printing
+pub mod Sizes
 pub mod Fitting
 pub mod Parts
 pub mod LineBounds

@@ -1,9 +1,9 @@
 //! How many bytes a row prints.
 
-ghost use Rattle.std.specs.Prelude.{◌≡◌, length, IfOk};
+ghost use Rattle.std.specs.Prelude.{◌≡◌, ◌+◌, length, IfOk, Some};
 ghost use Rattle.std.specs.List.{All, flat_map};
 ghost use Rattle.paragraphs.specs.Text.{code_points};
-ghost use Rattle.cell_grid.specs.Print.{mirrored_text, own_text, row_text};
+ghost use Rattle.cell_grid.specs.Print.{mirrored_text, entry_text, own_text, row_text};
 ghost use Rattle.cell_grid.specs.Printable.{IsSlice};
 
 use crate::entry::Entry;
@@ -21,9 +21,9 @@ pub fn row_print_size(tables: &Tables, text: &str, row: &Row) -> Result<usize, M
 {
     let (left, right) = row.blanks();
     let blanks = usize::from(left) + usize::from(right);
-    let shown = entries_size(tables, text, row.entries())?;
+    let size = entries_size(tables, text, row.entries())?;
     // The LF is one more.
-    shown.checked_add(blanks + 1).ok_or(Memory)
+    added(size, blanks + 1)
 }
 
 /// How many bytes the cells of entries print.
@@ -34,7 +34,7 @@ fn entries_size(tables: &Tables, text: &str, entries: &[Entry]) -> Result<usize,
     let mut size = 0usize;
     for entry in entries {
         let own = cells_size(tables, text, *entry)?;
-        size = size.checked_add(own).ok_or(Memory)?;
+        size = added(size, own)?;
     }
     Ok(size)
 }
@@ -47,11 +47,20 @@ fn cells_size(tables: &Tables, text: &str, entry: Entry) -> Result<usize, Memory
     if entry.columns == 0 {
         return Ok(0);
     }
+    entry_size(tables, text, entry)
+}
+
+/// How many bytes an entry has as it is shown.
+fn entry_size(tables: &Tables, text: &str, entry: Entry) -> Result<usize, Memory>
+    requires { IsSlice text.now entry.span }
+    ensures { IfOk result (λ size. size ≡ length (entry_text tables.now text.now (Some entry))) }
+{
     let cluster = &text[entry.span.first_byte as usize..entry.span.end_byte as usize];
     if begins_with_tab(tables, cluster) {
-        return Ok(usize::from(entry.columns));
+        Ok(usize::from(entry.columns))
+    } else {
+        mirrored_size(tables, cluster, entry.level)
     }
-    mirrored_size(tables, cluster, entry.level)
 }
 
 /// How many bytes a cluster has as it is shown at a level (L4).
@@ -63,8 +72,15 @@ fn mirrored_size(tables: &Tables, cluster: &str, level: u8) -> Result<usize, Mem
     }
     let mut size = 0usize;
     for c in cluster.chars() {
-        let own = mirrored(tables, c, level).len_utf8();
-        size = size.checked_add(own).ok_or(Memory)?;
+        let shown = mirrored(tables, c, level);
+        size = added(size, shown.len_utf8())?;
     }
     Ok(size)
+}
+
+/// A size with so many bytes more, or `Memory` where it can't be counted.
+fn added(size: usize, more: usize) -> Result<usize, Memory>
+    ensures { IfOk result (λ sum. sum ≡ size + more) }
+{
+    size.checked_add(more).ok_or(Memory)
 }

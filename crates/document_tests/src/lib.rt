@@ -6,6 +6,8 @@ mod chance;
 #[cfg(test)]
 mod edits;
 #[cfg(test)]
+mod prints_tests;
+#[cfg(test)]
 mod walking;
 #[cfg(test)]
 mod walking_tests;

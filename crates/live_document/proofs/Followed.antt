@@ -1,5 +1,6 @@
 -- Paragraphs that follow the text of a desk.
-use Rattle.std.proofs.Common.{◌≡◌, ℕ, ◌+◌, ◌≤◌, Bool, false, inl, List, length, map, sym, ap, subst, ◌∙◌, arith}
+use Rattle.std.proofs.Common.{◌≡◌, ℕ, ◌+◌, ◌≤◌, Bool, false, inl, List, length, map, refl, sym, ap, subst, ◌∙◌, arith}
+use Rattle.std.proofs.lemmas.Bool.{both_ways}
 use Rattle.std.proofs.lemmas.List.{length-map}
 use Rattle.std.specs.List.{All, concat}
 use Rattle.std.specs.Prelude.{Result, Ok, Err, is_err, IfOk, OnOk, OnErr}
@@ -72,15 +73,16 @@ pub live-followed : (old new : Desk) (tables : TableValues) (width : ℕ) (base 
 live-followed old new tables width base behind later kept now s nothing from to points live none stays before same changed = record {
   kept_at = stays width base live.kept_at;
   text_is = λ h. same h ∙ ap (λ t. replaced t from to points) (live.text_is (before h)) ∙ sym changed;
+  unshown = λ h. nothing-window now nothing none;
   at_hand = nothing-at_hand now nothing none;
   of_now = inl (nothing-window now nothing none);
 }
 
 -- the desk's text is the same, and the paragraphs are its own
-pub live-caught : (desk : Desk) (tables : TableValues) (width : ℕ) (base : Base) (behind : Bool) (now : KeptText) (s : Shown)
+pub live-caught : (desk : Desk) (tables : TableValues) (width : ℕ) (base : Base) (now : KeptText) (s : Shown)
     → IsKeptAt tables width base now → text_in now ≡ text desk.set → IsAtHand now s → IsWindowOf desk.set tables width base (window_in now s)
-    → IsLive desk tables width base behind now s
-live-caught desk tables width base behind now s at is hand shown = record { kept_at = at; text_is = λ h. is; at_hand = hand; of_now = shown }
+    → IsLive desk tables width base false now s
+live-caught desk tables width base now s at is hand shown = record { kept_at = at; text_is = λ h. is; unshown = λ h. absurd (both_ways false refl h); at_hand = hand; of_now = shown }
 
 -- nothing has changed but what is shown
 pub live-same : (desk : Desk) (tables : TableValues) (width : ℕ) (base : Base) (behind : Bool) (kept now : KeptText) (s nothing : Shown)
@@ -88,6 +90,7 @@ pub live-same : (desk : Desk) (tables : TableValues) (width : ℕ) (base : Base)
 live-same desk tables width base behind kept now s nothing live none same = record {
   kept_at = subst (IsKeptAt tables width base) (sym same) live.kept_at;
   text_is = λ h. ap text_in same ∙ live.text_is h;
+  unshown = λ h. nothing-window now nothing none;
   at_hand = nothing-at_hand now nothing none;
   of_now = inl (nothing-window now nothing none);
 }
@@ -99,6 +102,7 @@ pub live-turned : (desk : Desk) (tables : TableValues) (width : ℕ) (base : Bas
 live-turned desk tables width base behind kept now s nothing wider turned live least most none same laid = record {
   kept_at = record { at_least = least; at_most = most; split = subst (IsSplit tables) (sym same) live.kept_at.split; laid = laid };
   text_is = λ h. ap concat same ∙ live.text_is h;
+  unshown = λ h. nothing-window now nothing none;
   at_hand = nothing-at_hand now nothing none;
   of_now = inl (nothing-window now nothing none);
 }

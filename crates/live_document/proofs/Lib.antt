@@ -5,4 +5,5 @@ mod Stretches
 mod Placing
 mod Windows
 mod Spots
+mod Printed
 mod Followed

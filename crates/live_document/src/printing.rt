@@ -35,9 +35,10 @@ fn text_there<'a>(buffer: &'a Buffer<Vec<Row>>, spot: Spot) -> OwnText<'a>
 {
     laws_below();
     let _bytes = buffer.bytes();
+    let para = buffer.paragraph(spot.number);
     let rows = kept_rows(buffer, spot.number);
     OwnText {
-        text: buffer.paragraph(spot.number).text(),
+        text: para.text(),
         row: &rows[spot.row],
     }
 }

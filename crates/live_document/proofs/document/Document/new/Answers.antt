@@ -13,7 +13,7 @@ invariant_of-result c =
     let kept = c.in_ok-buffer.buffer in
     let width = c.args.width in
     let base = c.args.base in
-    live-caught c.new-desk.result c.args.tables.value width base false kept c.nothing.result
+    live-caught c.new-desk.result c.args.tables.value width base kept c.nothing.result
     (subst (λ (tables : TableValues). IsKeptAt tables width base kept) c.deref.ensures (c.in_ok-buffer.ensures.kept width base c.requires.at_least c.requires.at_most))
     (c.in_ok-buffer.ensures.text ∙ chars-nil ∙ sym c.told_changes.ensures.nothing ∙ sym (ap (λ (d : Desk). text d.set) c.new-desk.ensures))
     (nothing-at_hand kept c.nothing.result c.nothing.ensures)
