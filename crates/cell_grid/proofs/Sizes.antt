@@ -19,12 +19,14 @@ pub row-size : (tables : TableValues) (text : List ℕ) (r : DrawnRow) (left rig
 row-size tables text r left right is =
     let own = flat_map (own_text tables text) r.entries in
     let whole = ap (λ (cs : List Cell). flat_map (cell_text tables text r.entries) cs ++ 10 ∷ []) is ∙ row-text tables text r.entries left right in
-    let all = ap length whole in
-    let a = length-append (replicate left 32) (own ++ (replicate right 32 ++ 10 ∷ [])) in
-    let b = length-append own (replicate right 32 ++ 10 ∷ []) in
-    let c = length-append (replicate right 32) (10 ∷ []) in
-    let m = length-replicate left 32 in
-    let n = length-replicate right 32 in
+    let before : List ℕ = replicate left 32 in
+    let after : List ℕ = replicate right 32 in
+    let all : length (row_text tables text r) ≡ length (before ++ (own ++ (after ++ 10 ∷ []))) = ap length whole in
+    let a = length-append before (own ++ (after ++ 10 ∷ [])) in
+    let b = length-append own (after ++ 10 ∷ []) in
+    let c : length (after ++ 10 ∷ []) ≡ length after + 1 = length-append after (10 ∷ []) in
+    let m : length before ≡ left = length-replicate left 32 in
+    let n : length after ≡ right = length-replicate right 32 in
     omega arith
 
 -- one piece more

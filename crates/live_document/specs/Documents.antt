@@ -11,7 +11,7 @@ use Rattle.desk_replica.specs.Desk.{Desk, coded_desk}
 use Rattle.text_buffer.specs.Buffers.{text_in}
 use Rattle.cell_grid.specs.Rows.{DrawnRow}
 use Rattle.cell_grid.specs.contracts.row.Row.{the_row as drawn_row}
-use Rattle.cell_grid.specs.Grids.{DrawnGrid, grid_rows}
+use Rattle.cell_grid.specs.Grids.{DrawnGrid, grid_of, grid_rows}
 use Rattle.cell_grid.specs.Windows.{DrawnWindow, window_of}
 use Rattle.live_document.specs.declared.shown.Shown.{Shown}
 use Rattle.live_document.specs.Keeping.{KeptText, IsKeptAt, flags}
@@ -46,9 +46,16 @@ pub record IsLive (desk : Desk) (tables : TableValues) (width : ℕ) (base : Bas
   pub at_hand : IsAtHand kept s
   pub of_now : IsWindowOf desk.set tables width base (window_in kept s)
 
--- the rows of *Grid* of the desk's text, from so many above the row of a place to so many below it
+-- *Grid* of the desk's text
+abbrev pub whole_grid : LiveDocument → DrawnGrid
+whole_grid d = grid_of d.tables d.width d.base (encode_utf8_all (text d.desk.set))
+
+abbrev pub whole_rows : LiveDocument → List DrawnRow
+whole_rows d = (whole_grid d).rows
+
+-- its rows from so many above the row of a place to so many below it
 abbrev pub window_round : LiveDocument → (place above below : ℕ) → DrawnWindow
-window_round d place above below = window_of above below place (grid_rows d.tables d.width d.base (encode_utf8_all (text d.desk.set)))
+window_round d place above below = window_of above below place (whole_rows d)
 
 -- what is shown, as a part of the grid of the desk's text
 abbrev pub shown_grid : LiveDocument → DrawnGrid

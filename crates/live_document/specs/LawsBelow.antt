@@ -13,6 +13,8 @@ use Rattle.cell_grid.specs.Shifting.{MayShiftRow}
 use Rattle.cell_grid.specs.Grids.{DrawnGrid, IsDrawn, paragraph_rows}
 use Rattle.cell_grid.specs.Laws.{RowsFollow}
 use Rattle.cell_grid.specs.Windows.{FirstPlacesRise, window_of, HasWindow}
+use Rattle.caret.specs.declared.position.Position.{Position}
+use Rattle.caret.specs.Positions.{position_at, IsPositionOf, PositionsAreCarets, MovesInWindow}
 
 pub record LawsBelow : Type 0 where
   -- paragraphs, as `paragraphs` promises of them
@@ -35,3 +37,11 @@ pub record LawsBelow : Type 0 where
       → row_text tables (before ++ (text ++ after)) (shifted (length before) places row) ≡ row_text tables text row
   pub in_stretch : (before rows after : List DrawnRow) (above below place : ℕ) → HasWindow before rows after above below place
       → window_of above below place (before ++ (rows ++ after)) ≡ window_of above below place rows
+  pub whole_some : (g : DrawnGrid) → IsDrawn g → 0 < length g.rows
+  pub whole_follow : (g : DrawnGrid) → IsDrawn g → RowsFollow 0 g.rows (length (code_points g.text))
+  -- and carets, as `caret` does
+  pub positions : (rows : List DrawnRow) → FirstPlacesRise rows → PositionsAreCarets rows
+  pub place_in_stretch : (before rows after : List DrawnRow) (above below place : ℕ) → HasWindow before rows after above below place
+      → position_at (before ++ (rows ++ after)) place ≡ position_at rows place
+  pub moves_in_stretch : (before rows after : List DrawnRow) (position : Position) → HasWindow before rows after 1 1 position.row → IsPositionOf rows position
+      → MovesInWindow before rows after position

@@ -10,5 +10,6 @@ mod showing;
 mod shown;
 mod window;
 
+pub use caret::Position;
 pub use document::{Desk, Document};
 pub use window::{Window, WindowRow, WindowRows};

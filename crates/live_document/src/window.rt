@@ -1,13 +1,15 @@
 //! A window over the rows that a document keeps.
 
-ghost use Rattle.std.specs.Prelude.{◌≡◌, ◌+◌, ◌<◌, ℕ, Some, drop, length, slice_get};
+ghost use Rattle.std.specs.Prelude.{◌≡◌, ◌+◌, ◌<◌, ℕ, Some, drop, length, slice_get, IfOk};
 ghost use Rattle.live_document.specs.Keeping.{rows_at};
 ghost use Rattle.live_document.specs.Showing.{rows_from, window_in, IsReadable};
 
 use crate::keeping::kept_rows;
 use crate::laws_below::laws_below;
 use crate::shown::Shown;
+use bg_types::Memory;
 use cell_grid::{Cells, Entry, Row, Span};
+use std::alloc::Global;
 use std::marker::Model;
 use text_buffer::Buffer;
 
@@ -61,6 +63,17 @@ impl<'a> Window<'a> {
     {
         let spot = spot_behind(self.buffer, self.shown, number);
         row_there(self.buffer, spot)
+    }
+
+    /// Copies of its rows, where they stand in the text.
+    pub fn to_rows(&self, alloc: Global) -> Result<Vec<Row>, Memory>
+        ensures { IfOk result (λ rows. rows.items ≡ self.now.rows) }
+    {
+        let mut rows = Vec::with_capacity(alloc, self.len())?;
+        for row in self.rows() {
+            rows.push(row.to_row(alloc)?)?;
+        }
+        Ok(rows)
     }
 
     /// Its rows from the top.
@@ -214,6 +227,13 @@ impl<'a> Model for WindowRow<'a> {
 }
 
 impl<'a> WindowRow<'a> {
+    /// A copy of it, where it stands in the text.
+    pub fn to_row(&self, alloc: Global) -> Result<Row, Memory>
+        ensures { IfOk result (λ row. row ≡ self.now) }
+    {
+        self.row.shifted(alloc, self.bytes, self.places)
+    }
+
     /// The place of its first code point. An empty row has its own place.
     #[inline]
     pub fn first_place(&self) -> usize
