@@ -10,6 +10,8 @@ mod live_document_tests;
 #[cfg(test)]
 mod other;
 #[cfg(test)]
+mod prints_tests;
+#[cfg(test)]
 mod walking;
 #[cfg(test)]
 mod walking_tests;
