@@ -7,11 +7,8 @@ use Rattle.bg_types.specs.OperationSet.{OperationSet, with_operation}
 use Rattle.bg_types.specs.declared.op.OpView.{OpView}
 use Rattle.desk_replica.specs.Merging.{with_operations}
 use Rattle.desk_replica.specs.Reply.{IsRefusal}
-use Rattle.bg_types.specs.declared.change.Change.{Change}
-use Rattle.desk_replica.specs.Telling.{IsTold}
 use Rattle.desk_replica.specs.declared.answer.TakeFault.{TakeFault}
-use Rattle.bidigrid_c.specs.Desks.{AreAccepted}
-use Rattle.bidigrid_c.specs.Documents.{AreTold}
+use Rattle.live_document.specs.Taking.{AreAccepted}
 
 with-append_one : (s : OperationSet) (ops : List OpView) (op : OpView) → with_operations s (ops ++ op ∷ []) ≡ with_operation (with_operations s ops) op
 with-append_one s [] op = refl
@@ -37,9 +34,3 @@ accepted_at s u ops j op is taken accepted before k q fault within (inr last) at
 pub accepted_next : (s u : OperationSet) (ops : List OpView) (j : ℕ) (op : OpView) → op ≡ get_or ops j op → u ≡ with_operations s (take j ops) → ((fault : TakeFault) → ¬ (IsRefusal u op fault))
     → AreAccepted s ops j → AreAccepted s ops (j + 1)
 accepted_next s u ops j op is taken accepted before k q fault within at = accepted_at s u ops j op is taken accepted before k q fault within (cases_lt k j) at
-
--- what is told of one more
-pub told_next : (s : OperationSet) (ops : List OpView) (op : OpView) (told mid new : List Change) → AreTold s ops told mid
-    → IsTold (with_operations s ops) (with_operation (with_operations s ops) op) mid new → AreTold s (ops ++ op ∷ []) told new
-told_next s [] op told mid new same more = (new, (subst (λ (m : List Change). IsTold s (with_operation s op) m new) same more, refl))
-told_next s (x ∷ ops) op told mid new (first, (is, rest)) more = (first, (is, told_next (with_operation s x) ops op first mid new rest more))

@@ -17,12 +17,11 @@ use Rattle.desk_replica.specs.Desk.{Desk, fresh}
 use Rattle.desk_replica.specs.Typing.{typed, insertion, IsTypedAt, IsTypeRefusal}
 use Rattle.desk_replica.specs.Stretch.{deletions, replacement, IsReplaceRefusal}
 use Rattle.desk_replica.specs.Merging.{with_operations, IsMerge}
-use Rattle.desk_replica.specs.Reply.{IsRefused, IsRefusal}
 use Rattle.desk_replica.specs.Listed.{listed}
 use Rattle.desk_replica.specs.declared.answer.TakeFault.{TakeFault}
-use Rattle.desk_replica.specs.declared.answer.TakeFault.TheVariants.{Memory}
 use Rattle.desk_replica.specs.declared.answer.TypeFault.{TypeFault}
 use Rattle.desk_replica.specs.declared.answer.TypeFault.TheVariants.{CounterSpent, Full}
+use Rattle.live_document.specs.Taking.{AreTaken, IsRefusedNext}
 use Rattle.bidigrid_c.specs.Copying.{IsCopied, IsLeft}
 use Rattle.bidigrid_c.specs.Faults.{take_number, message_number}
 use Rattle.bidigrid_c.specs.declared.numbers.IdentifierNumbers.{IdentifierNumbers}
@@ -113,20 +112,11 @@ IsRefusedReplacing s from to bytes room told answer =
 
 -- ---- taking and merging
 
--- a desk that keeps s refuses none of the first operations of a list that it takes in order
-abbrev pub AreAccepted : OperationSet → List OpView → ℕ → Type 0
-AreAccepted s ops count = (k : ℕ) (op : OpView) (fault : TakeFault) → k < count → slice_get ops k ≡ Some op → ¬ (IsRefusal (with_operations s (take k ops)) op fault)
-
--- a desk took the first operations of a list, as many as were told: all, or those before the one that it refused. Where an
--- operation is spare it is not lack of memory
+-- a desk took the first operations of a list, as many as were told: all, or those before the one that it refused
 pub record IsTakenUpTo (desk : Desk) (ops : List OpView) (new : Desk) (told answer : ℕ) : Type 0 where
-  pub within : told ≤ length ops
-  pub set : new.set ≡ with_operations desk.set (take told ops)
-  pub accepted : AreAccepted desk.set ops told
-  pub site : new.site ≡ desk.site
-  pub spare : KeepsSpare desk new
+  pub taken : AreTaken desk ops told new
   pub all : answer ≡ 0 → told ≡ length ops
-  pub refused : (answer ≡ 0 → ⊥) → (op : OpView) × (fault : TakeFault) × (slice_get ops told ≡ Some op) × IsRefused new.set op fault × (fault ≡ Memory → new.spare ≡ 0) × (answer ≡ take_number fault)
+  pub refused : (answer ≡ 0 → ⊥) → (fault : TakeFault) × IsRefusedNext new ops told fault × (answer ≡ take_number fault)
 
 -- a message is longer than any that is read
 abbrev pub IsTooLong : List ℕ → Type 0

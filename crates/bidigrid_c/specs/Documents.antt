@@ -1,10 +1,8 @@
 -- What the calls do to a document.
 use Rattle.std.specs.Prelude.{◌≡◌, ◌⊎◌, ◌<◌, ◌≤◌, ℕ, max, true, false, List, [], ◌∷◌, length, take, None, Some}
 use Rattle.bg_types.specs.declared.class.Base.{Base}
-use Rattle.bg_types.specs.declared.change.Change.{Change}
 use Rattle.bg_types.specs.declared.op.OpView.{OpView}
 use Rattle.bg_types.specs.Edit.{IsEdit}
-use Rattle.bg_types.specs.OperationSet.{OperationSet, with_operation}
 use Rattle.unicode_tables.specs.Tables.{TableValues}
 use Rattle.op_codec.specs.Spelling.{Spells}
 use Rattle.rga_tree.specs.TextOf.{text, visible}
@@ -12,6 +10,7 @@ use Rattle.desk_replica.specs.Desk.{Desk, fresh}
 use Rattle.desk_replica.specs.Telling.{IsTold}
 use Rattle.live_document.specs.Documents.{LiveDocument, window_round, IsDrawnAlike}
 use Rattle.live_document.specs.Showing.{no_window}
+use Rattle.live_document.specs.Taking.{AreTold}
 use Rattle.bidigrid_c.specs.declared.told_document.ToldDocument.{ToldDocument}
 use Rattle.bidigrid_c.specs.declared.numbers.ChangeNumbers.{ChangeNumbers}
 use Rattle.bidigrid_c.specs.declared.numbers.Taken.{Taken}
@@ -36,10 +35,10 @@ pub record TellAlike (old new : ToldDocument) : Type 0 where
 
 -- a new document of a desk, drawn by these tables at this width and the base with this number
 pub record IsLaidOut (tables : TableValues) (width base : ℕ) (desk : Desk) (new : ToldDocument) : Type 0 where
-  pub desk : new.document.desk ≡ desk
-  pub tables : new.document.tables ≡ tables
-  pub width : new.document.width ≡ width
-  pub base : base_of base ≡ Some new.document.base
+  pub desk_is : new.document.desk ≡ desk
+  pub tables_are : new.document.tables ≡ tables
+  pub width_is : new.document.width ≡ width
+  pub base_is : base_of base ≡ Some new.document.base
   pub hidden : new.document.window ≡ no_window
   pub silent : IsSilent new
 
@@ -61,8 +60,8 @@ IsNotOpened site width base file told answer =
 pub record IsDrawnAt (old : ToldDocument) (width : ℕ) (base : Base) (new : ToldDocument) : Type 0 where
   pub desk : new.document.desk ≡ old.document.desk
   pub tables : new.document.tables ≡ old.document.tables
-  pub width : new.document.width ≡ width
-  pub base : new.document.base ≡ base
+  pub width_is : new.document.width ≡ width
+  pub base_is : new.document.base ≡ base
   pub hidden : new.document.window ≡ no_window
   pub alike : TellAlike old new
 
@@ -85,11 +84,6 @@ pub record IsEdited (old new : ToldDocument) : Type 0 where
   pub silent : IsSilent new
 
 -- ---- taking and merging
-
--- the list has grown by what is told of operations that a desk which keeps S takes one after the other
-abbrev pub AreTold : OperationSet → List OpView → (told new : List Change) → Type 0
-AreTold s [] told new = new ≡ told
-AreTold s (op ∷ ops) told new = (more : List Change) × IsTold s (with_operation s op) told more × AreTold (with_operation s op) ops more new
 
 -- a document took the first operations of a list, as a desk does. Unless there was no memory to tell all, it tells of each of
 -- them how the text changed, and these changes lead from the text before to the text now
