@@ -12,6 +12,7 @@ mod document_edits;
 mod document_handle;
 mod document_merging;
 mod document_reading;
+mod document_taking;
 mod draft;
 mod fault;
 mod numbers;
@@ -26,6 +27,8 @@ mod taking;
 mod told_document;
 mod typing;
 mod window;
+mod window_prints;
+mod window_rows;
 
 pub use about::bidigrid_version;
 pub use desk::Desk;

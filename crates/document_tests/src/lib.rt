@@ -12,6 +12,8 @@ mod other;
 #[cfg(test)]
 mod prints_tests;
 #[cfg(test)]
+mod taking_all_tests;
+#[cfg(test)]
 mod walking;
 #[cfg(test)]
 mod walking_tests;

@@ -20,9 +20,7 @@ fn last_typed(alloc: Global) -> Result<Option<(u32, u16)>, Memory> {
     }
     document.reserve(3)?;
     let mut made = Vec::new(alloc);
-    document
-        .type_text(0, "abc", &mut made)
-        .map_err(|_| Memory)?;
+    document.type_text(0, "abc", &mut made).map_err(|_| Memory)?;
     if document.len() < 3 {
         return Ok(None);
     }

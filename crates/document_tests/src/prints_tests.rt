@@ -40,7 +40,12 @@ fn prints_row(document: &Document, number: usize, row: &str) -> bool {
 }
 
 /// Whether the rows that are shown round a place from so many above to so many below print these rows of the whole text.
-fn shows(document: &mut Document, place: usize, around: usize, rows: &[&str]) -> Result<bool, Memory> {
+fn shows(
+    document: &mut Document,
+    place: usize,
+    around: usize,
+    rows: &[&str],
+) -> Result<bool, Memory> {
     if place > document.len() || around > 1_000 {
         return Ok(false);
     }
@@ -63,7 +68,10 @@ fn right_windows(alloc: Global) -> Result<[bool; 5], Memory> {
     document.type_text(0, TEXT, &mut made).map_err(|_| Memory)?;
     let unshown = prints(&document, "");
     let whole = shows(&mut document, 0, 9, &SHOWN)?;
-    let together = prints(&document, "ab                      \nThe word \u{5DD}\u{5D5}\u{5DC}\u{5E9} (peace)   \nand 120 \u{62F}\u{62F}\u{639}\u{644}\u{627} (a number)\nin one paragraph.       \n");
+    let together = prints(
+        &document,
+        "ab                      \nThe word \u{5DD}\u{5D5}\u{5DC}\u{5E9} (peace)   \nand 120 \u{62F}\u{62F}\u{639}\u{644}\u{627} (a number)\nin one paragraph.       \n",
+    );
     let third = shows(&mut document, 30, 0, &SHOWN[2..3])?;
     let around = shows(&mut document, 30, 1, &SHOWN[1..4])?;
     Ok([unshown, whole, together, third, around])

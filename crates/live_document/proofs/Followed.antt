@@ -1,6 +1,5 @@
 -- Paragraphs that follow the text of a desk.
-use Rattle.std.proofs.Common.{◌≡◌, ℕ, ◌+◌, ◌-◌, ◌≤◌, Bool, false, inl, List, [], ◌∷◌, length, take, drop, map, refl, sym, ap, subst, ◌∙◌, arith}
-use Rattle.std.proofs.lemmas.Bool.{both_ways}
+use Rattle.std.proofs.Common.{◌≡◌, ℕ, ◌+◌, ◌-◌, ◌≤◌, Bool, false, inl, List, [], ◌∷◌, length, take, drop, map, sym, ap, subst, ◌∙◌, arith}
 use Rattle.std.proofs.lemmas.List.{length-map, take_rest}
 use Rattle.std.specs.List.{All, concat}
 use Rattle.std.specs.Prelude.{Result, Ok, Err, is_err, IfOk, IfErr, OnOk, OnErr, true}
@@ -128,7 +127,7 @@ pub live-told : (old new : Desk) (tables : TableValues) (width : ℕ) (base : Ba
 live-told old new tables width base behind later kept now s nothing changes live none stays before same edit = record {
   kept_at = stays width base live.kept_at;
   text_is = λ h. same h ∙ ap (λ t. all_changed t changes) (live.text_is (before h)) ∙ sym (changed-all changes (text old.set) (text new.set) edit).1;
-  unshown = λ _. nothing-window now nothing none;
+  unshown = λ h. nothing-window now nothing none;
   at_hand = nothing-at_hand now nothing none;
   of_now = inl (nothing-window now nothing none);
 }
@@ -139,7 +138,7 @@ pub live-behind : (desk : Desk) (tables : TableValues) (width : ℕ) (base : Bas
 live-behind desk tables width base kept nothing at none = record {
   kept_at = at;
   text_is = λ h. cc;
-  unshown = λ _. nothing-window kept nothing none;
+  unshown = λ h. nothing-window kept nothing none;
   at_hand = nothing-at_hand kept nothing none;
   of_now = inl (nothing-window kept nothing none);
 }
@@ -153,23 +152,6 @@ live-alike old new tables width base behind kept s live same = record {
   unshown = live.unshown;
   at_hand = live.at_hand;
   of_now = subst (λ (set : OperationSet). IsWindowOf set tables width base (window_in kept s)) (sym same) live.of_now;
-}
-
--- the desk's text is the same, and the paragraphs are its own
-pub live-caught : (desk : Desk) (tables : TableValues) (width : ℕ) (base : Base) (now : KeptText) (s : Shown)
-    → IsKeptAt tables width base now → text_in now ≡ text desk.set → IsAtHand now s → IsWindowOf desk.set tables width base (window_in now s)
-    → IsLive desk tables width base false now s
-live-caught desk tables width base now s at is hand shown = record { kept_at = at; text_is = λ h. is; unshown = λ h. absurd (both_ways false refl h); at_hand = hand; of_now = shown }
-
--- nothing has changed but what is shown
-pub live-same : (desk : Desk) (tables : TableValues) (width : ℕ) (base : Base) (behind : Bool) (kept now : KeptText) (s nothing : Shown)
-    → IsLive desk tables width base behind kept s → nothing ≡ record { first = 0; skip = 0; count = 0; number = 0 } → now ≡ kept → IsLive desk tables width base behind now nothing
-live-same desk tables width base behind kept now s nothing live none same = record {
-  kept_at = subst (IsKeptAt tables width base) (sym same) live.kept_at;
-  text_is = λ h. ap text_in same ∙ live.text_is h;
-  unshown = λ h. nothing-window now nothing none;
-  at_hand = nothing-at_hand now nothing none;
-  of_now = inl (nothing-window now nothing none);
 }
 
 -- nothing is kept any more, and the width or the base may be another

@@ -2,7 +2,7 @@
 use Rattle.std.proofs.Common.{◌≡◌, ℕ, ◌+◌, ◌<◌, ◌≤◌, Bool, true, false, Some, List, [], ◌++◌, length, get_or, take, drop, refl, sym, ap, ap₂, subst, ◌∙◌, arith, take-append-drop}
 use Rattle.std.proofs.lemmas.List.{length-take-le}
 use Rattle.std.proofs.lemmas.List.Folds.{drop_split}
-use Rattle.std.proofs.lemmas.Option.{slice_get-get_or}
+use Rattle.std.proofs.lemmas.Option.{slice_get-get_or, slice_get_past}
 use Rattle.std.specs.List.{All, concat}
 use Rattle.std.specs.Option.{option_map_or}
 use Rattle.std.specs.Prelude.{slice_get, encode_utf8_all}
@@ -17,7 +17,7 @@ use Rattle.cell_grid.specs.Windows.{DrawnWindow}
 use Rattle.cell_grid.proofs.Interface.{all_at}
 use Rattle.rga_tree.specs.TextOf as desk_text
 use Rattle.desk_replica.specs.Desk.{Desk}
-use Rattle.text_buffer.specs.Buffers.{bytes_in, paragraphs_in, text_in}
+use Rattle.text_buffer.specs.Buffers.{bytes_in, text_in}
 use Rattle.live_document.specs.declared.shown.Shown.{Shown}
 use Rattle.live_document.specs.Documents.{IsLive}
 use Rattle.live_document.specs.Keeping.{KeptText, rows_at, IsKeptAt, flags, is_kept}
@@ -105,11 +105,15 @@ live-printed desk tables width base true kept s live =
 live-printed desk tables width base false kept s live =
     ap (λ points. printed (record { tables = tables; text = encode_utf8_all points; rows = (window_in kept s).rows })) (live.text_is refl)
 
+none-row : (tables : TableValues) (text : List ℕ) (number : ℕ) → printed_row (record { tables = tables; text = text; rows = [] }) number ≡ []
+none-row tables text number = ap (λ o. option_map_or (row_text tables text) o []) (slice_get_past [] number (omega arith))
+
 pub live-printed_row : (desk : Desk) (tables : TableValues) (width : ℕ) (base : Base) (behind : Bool) (kept : KeptText) (s : Shown) (number : ℕ) → IsLive desk tables width base behind kept s
     → printed_row (shown_in tables kept s) number ≡ printed_row (record { tables = tables; text = encode_utf8_all (desk_text.text desk.set); rows = (window_in kept s).rows }) number
 live-printed_row desk tables width base true kept s number live =
     let none = live.unshown refl in
     ap (λ (w : DrawnWindow). printed_row (record { tables = tables; text = encode_utf8_all (text_in kept); rows = w.rows }) number) none
+    ∙ none-row tables (encode_utf8_all (text_in kept)) number ∙ sym (none-row tables (encode_utf8_all (desk_text.text desk.set)) number)
     ∙ sym (ap (λ (w : DrawnWindow). printed_row (record { tables = tables; text = encode_utf8_all (desk_text.text desk.set); rows = w.rows }) number) none)
 live-printed_row desk tables width base false kept s number live =
     ap (λ points. printed_row (record { tables = tables; text = encode_utf8_all points; rows = (window_in kept s).rows }) number) (live.text_is refl)

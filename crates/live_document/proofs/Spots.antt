@@ -2,7 +2,7 @@
 use Rattle.std.proofs.Common.{◌≡◌, ℕ, zero, suc, ◌+◌, ◌-◌, ◌<◌, ◌≤◌, List, [], ◌∷◌, ◌++◌, length, map, take, drop, Some, refl, sym, ap, ◌∙◌, arith, length-append, inl, inr}
 use Rattle.std.proofs.lemmas.Bool.{cases_lt}
 use Rattle.std.proofs.lemmas.List.{length-map, length-drop, length-take-le, drop-drop}
-use Rattle.std.proofs.lemmas.Option.{same_Some}
+use Rattle.std.proofs.lemmas.Option.{same_Some, slice_get_past}
 use Rattle.std.proofs.Math.Seq.{drop-append-add}
 use Rattle.std.specs.Prelude.{slice_get}
 use Rattle.cell_grid.specs.Rows.{DrawnRow, shifted}
@@ -72,26 +72,26 @@ further-in xs ys m n k same within =
     let b = length-drop n ys in
     omega arith
 
+get-take : {X : Type 0} (n k : ℕ) (l : List X) → k < n → slice_get (take n l) k ≡ slice_get l k
+get-take zero k l lt = absurd (omega arith)
+get-take (suc n) k [] lt = refl
+get-take (suc n) zero (x ∷ l) lt = refl
+get-take (suc n) (suc k) (x ∷ l) lt = get-take n k l (omega arith)
+
+get-drop : {X : Type 0} (n k : ℕ) (l : List X) → slice_get (drop n l) k ≡ slice_get l (n + k)
+get-drop zero k l = let e : k ≡ 0 + k = omega arith in ap (slice_get l) e
+get-drop (suc n) k [] = slice_get_past [] k (omega arith) ∙ sym (slice_get_past [] (suc n + k) (omega arith))
+get-drop (suc n) k (x ∷ l) = let e : suc (n + k) ≡ suc n + k = omega arith in get-drop n k l ∙ ap (slice_get (x ∷ l)) e
+
+get-next : {X : Type 0} (n : ℕ) (l : List X) → slice_get (drop n l) 0 ≡ slice_get l n
+get-next n l = let e : n + 0 ≡ n = omega arith in get-drop n 0 l ∙ ap (slice_get l) e
+
 -- the row that is next there is that of the window with this number
 pub row-in_window : {X : Type 0} (xs ys : List X) (row skip count number : ℕ) → drop row xs ≡ drop (skip + number) ys → number < count
     → slice_get (take count (drop skip ys)) number ≡ slice_get xs row
 row-in_window xs ys row skip count number same within =
     get-take count number (drop skip ys) within ∙ get-drop skip number ys
     ∙ sym (sym (get-next row xs) ∙ ap (λ l. slice_get l 0) same ∙ get-next (skip + number) ys)
-  where
-    get-take : (n k : ℕ) (l : List X) → k < n → slice_get (take n l) k ≡ slice_get l k
-    get-take zero k l lt = absurd (omega arith)
-    get-take (suc n) k [] lt = refl
-    get-take (suc n) zero (x ∷ l) lt = refl
-    get-take (suc n) (suc k) (x ∷ l) lt = get-take n k l (omega arith)
-
-    get-drop : (n k : ℕ) (l : List X) → slice_get (drop n l) k ≡ slice_get l (n + k)
-    get-drop zero k l = let e : k ≡ 0 + k = omega arith in ap (slice_get l) e
-    get-drop (suc n) k [] = refl
-    get-drop (suc n) k (x ∷ l) = let e : suc (n + k) ≡ suc n + k = omega arith in get-drop n k l ∙ ap (slice_get (x ∷ l)) e
-
-    get-next : (n : ℕ) (l : List X) → slice_get (drop n l) 0 ≡ slice_get l n
-    get-next n l = let e : n + 0 ≡ n = omega arith in get-drop n 0 l ∙ ap (slice_get l) e
 
 -- a window has no more rows than it counts, and as many where they are there
 pub window-size : {X : Type 0} (xs : List X) (skip count : ℕ) → skip + count ≤ length xs → length (take count (drop skip xs)) ≡ count

@@ -16,8 +16,6 @@ mod prints;
 mod taking;
 mod taking_all;
 
-pub use taking_all::TakenAll;
-
 use crate::following::{buffer_of, catch_up, follow};
 use crate::keeping::forget_rows;
 use crate::showing::lay_window_out;
@@ -30,6 +28,7 @@ use rga_sequence::Blocks;
 use std::alloc::Global;
 use std::marker::Model;
 use std::rc::Rc;
+pub use taking_all::TakenAll;
 use text_buffer::Buffer;
 use unicode_tables::Tables;
 

@@ -4,7 +4,8 @@ ghost use Rattle.live_document.specs.LawsBelow.{LawsBelow};
 
 use caret::laws::{moves_in_windows, places_in_windows, positions_are_carets};
 use cell_grid::laws::{
-    first_places_rise, rows_follow, rows_may_shift, rows_of_paragraphs, rows_print_alike, windows_in_stretches,
+    first_places_rise, rows_follow, rows_may_shift, rows_of_paragraphs, rows_print_alike,
+    windows_in_stretches,
 };
 use paragraphs::laws::paragraphs_join;
 

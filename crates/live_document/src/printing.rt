@@ -114,9 +114,16 @@ pub fn shown_size(tables: &Tables, buffer: &Buffer<Vec<Row>>, shown: Shown) -> R
         let spot = spot_of(buffer, number, row);
         let own = text_there(buffer, spot);
         let more = row_print_size(tables, own.text, own.row)?;
-        size = size.checked_add(more).ok_or(Memory)?;
+        size = added(size, more)?;
         number = spot.number;
         row = spot.row + 1;
     }
     Ok(size)
+}
+
+/// A size with so many bytes more, or `Memory` where it can't be counted.
+fn added(size: usize, more: usize) -> Result<usize, Memory>
+    ensures { IfOk result (λ sum. sum ≡ size + more) }
+{
+    size.checked_add(more).ok_or(Memory)
 }

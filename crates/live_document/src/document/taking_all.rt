@@ -1,6 +1,6 @@
 //! Taking many operations in order, whose changes the paragraphs follow at once.
 
-ghost use Rattle.std.specs.Prelude.{◌≡◌, ◌<◌, true, false, None, take, drop, length, vec_len, OnErr, IfSome};
+ghost use Rattle.std.specs.Prelude.{◌≡◌, ◌<◌, true, false, None, take, drop, length, OnErr, IfSome};
 ghost use Rattle.bg_types.specs.Edit.{IsEdit};
 ghost use Rattle.rga_tree.specs.TextOf.{text};
 ghost use Rattle.desk_replica.specs.Reply.{IsTake};
@@ -36,7 +36,7 @@ impl Document {
         ensures all { result.fault ≡ None → result.taken ≡ length ops.now }
         ensures fault { IfSome result.fault (IsRefusedNext self.new.desk ops.now result.taken) }
         ensures told { result.told ≡ true → AreTold self.old.desk.set (take result.taken ops.now) changes.old.items changes.new.items }
-        ensures edit { result.told ≡ true → IsEdit (text self.old.desk.set) (drop (vec_len changes.old) changes.new.items) (text self.new.desk.set) }
+        ensures edit { result.told ≡ true → IsEdit (text self.old.desk.set) (drop (length changes.old.items) changes.new.items) (text self.new.desk.set) }
         ensures untold { result.told ≡ false → changes.new.items ≡ changes.old.items }
         ensures some { result.told ≡ false → 0 < result.taken }
         ensures none { result.taken ≡ 0 → self.new ≡ self.old }
@@ -72,7 +72,7 @@ fn take_each(desk: &mut Desk, ops: &[Op], changes: &mut Vec<Change>) -> TakenAll
     ensures all { result.fault ≡ None → result.taken ≡ length ops.now }
     ensures fault { IfSome result.fault (IsRefusedNext desk.new ops.now result.taken) }
     ensures told { result.told ≡ true → AreTold desk.old.set (take result.taken ops.now) changes.old.items changes.new.items }
-    ensures behind { take (vec_len changes.old) changes.new.items ≡ changes.old.items }
+    ensures behind { take (length changes.old.items) changes.new.items ≡ changes.old.items }
     ensures some { result.told ≡ false → 0 < result.taken }
 {
     let mut told = true;

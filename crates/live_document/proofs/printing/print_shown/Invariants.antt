@@ -10,6 +10,6 @@ use Rattle.live_document.proofs.printing.print_shown.Given as goal
 abbrev pub invariant-loop : goal.invariant-loop
 invariant-loop g l = record {
   working : g.W.Sink.has_failed l.sink ≡ false;
-  same : drop l.row (rows_from l.buffer l.number) ≡ drop (l.shown.skip + l.counter) (rows_from l.buffer l.shown.first);
-  so_far : Appends (g.W.Sink.written l.fn.sink) (g.W.Sink.written l.sink) (flat_map (row_text l.tables (encode_utf8_all (text_in l.buffer))) (take l.counter (window_in l.buffer l.shown).rows));
+  same : drop l.row (rows_from l.buffer l.number) ≡ drop (l.fn.shown.skip + l.counter) (rows_from l.buffer l.fn.shown.first);
+  so_far : Appends (g.W.Sink.written l.fn.sink) (g.W.Sink.written l.sink) (flat_map (row_text l.tables (encode_utf8_all (text_in l.buffer))) (take l.counter (window_in l.buffer l.fn.shown).rows));
 }

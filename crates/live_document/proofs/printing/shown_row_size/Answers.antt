@@ -1,5 +1,5 @@
 -- The row is the one that is shown with this number.
-use Rattle.std.proofs.Common.{◌≡◌, ◌+◌, ◌<◌, ◌≤◌, length, ap, sym, subst, ◌∙◌, arith}
+use Rattle.std.proofs.Common.{◌≡◌, length, ap, sym, subst, ◌∙◌, arith}
 use Rattle.std.specs.Prelude.{IfOk}
 use Rattle.live_document.proofs.Spots.{readable-there}
 use Rattle.live_document.proofs.Printed.{shown-there}

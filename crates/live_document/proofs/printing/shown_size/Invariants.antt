@@ -8,6 +8,6 @@ use Rattle.live_document.proofs.printing.shown_size.Given as goal
 
 abbrev pub invariant-loop : goal.invariant-loop
 invariant-loop l = record {
-  same : drop l.row (rows_from l.buffer l.number) ≡ drop (l.shown.skip + l.counter) (rows_from l.buffer l.shown.first);
-  so_far : l.size ≡ length (flat_map (row_text l.tables (encode_utf8_all (text_in l.buffer))) (take l.counter (window_in l.buffer l.shown).rows));
+  same : drop l.row (rows_from l.buffer l.number) ≡ drop (l.fn.shown.skip + l.counter) (rows_from l.buffer l.fn.shown.first);
+  so_far : l.size ≡ length (flat_map (row_text l.tables (encode_utf8_all (text_in l.buffer))) (take l.counter (window_in l.buffer l.fn.shown).rows));
 }

@@ -1,7 +1,6 @@
 -- The row and its paragraph's text, as the text's grid has them.
 use Rattle.std.proofs.Common.{◌≡◌, ◌≤◌, ℕ, Some, List, refl, length, sym, ap, subst, ◌∙◌, arith}
 use Rattle.std.proofs.lemmas.Option.{slice_get_read}
-use Rattle.std.specs.List.{All}
 use Rattle.std.specs.Prelude.{slice_get}
 use Rattle.text_buffer.specs.Buffers.{bytes_in, text_in}
 use Rattle.cell_grid.specs.Print.{row_text}

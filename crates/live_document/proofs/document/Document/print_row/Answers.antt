@@ -1,5 +1,5 @@
 -- What is shown is of the desk's text.
-use Rattle.std.proofs.Common.{◌≡◌, ◌+◌, ◌<◌, ◌≤◌, length, ap, sym, subst, ◌∙◌, arith}
+use Rattle.std.proofs.Common.{length, ap, subst, ◌∙◌, arith}
 use Rattle.std.specs.Io.KnownBytes.{Appends}
 use Rattle.std.specs.Prelude.{OnOk, OnErr}
 use Rattle.bg_types.specs.Sink.{AppendsBeginning}
@@ -9,7 +9,7 @@ use Rattle.live_document.specs.Documents.{LiveDocument, shown_grid}
 use Rattle.live_document.specs.Showing.{rows_from, shown_in}
 use Rattle.live_document.proofs.Spots.{window-size}
 use Rattle.live_document.proofs.Printed.{live-printed_row}
-use Rattle.live_document.proofs.document.prints.Document.print_row.Goals as goal
+use Rattle.live_document.proofs.document.Document.print_row.Goals as goal
 
 pub print_shown_row-requires-clause-row : goal.print_shown_row-requires-clause-row
 print_shown_row-requires-clause-row g c =
@@ -23,9 +23,9 @@ returns-clause-ok g c =
     let i = c.self.inside in
     let n = c.args.number in
     let is =
-        ap (λ (t : TableValues). printed_row (shown_in t i.buffer i.shown) n) c.deref.ensures
-        ∙ live-printed_row i.desk i.tables.value i.width i.base i.behind i.buffer i.shown n c.self.invariant
-        ∙ ap (λ (d : LiveDocument). printed_row (shown_grid d) n) c.self.view_is in
+    ap (λ (t : TableValues). printed_row (shown_in t i.buffer i.shown) n) c.deref.ensures
+    ∙ live-printed_row i.desk i.tables.value i.width i.base i.behind i.buffer i.shown n c.self.invariant
+    ∙ ap (λ (d : LiveDocument). printed_row (shown_grid d) n) c.self.view_is in
     subst (λ t. OnOk c.print_shown_row.result (Appends (g.W.Sink.written c.args.sink.now) (g.W.Sink.written c.print_shown_row.new.sink) t)) is c.print_shown_row.ensures.ok
 
 pub returns-clause-err : goal.returns-clause-err
@@ -33,7 +33,7 @@ returns-clause-err g c =
     let i = c.self.inside in
     let n = c.args.number in
     let is =
-        ap (λ (t : TableValues). printed_row (shown_in t i.buffer i.shown) n) c.deref.ensures
-        ∙ live-printed_row i.desk i.tables.value i.width i.base i.behind i.buffer i.shown n c.self.invariant
-        ∙ ap (λ (d : LiveDocument). printed_row (shown_grid d) n) c.self.view_is in
+    ap (λ (t : TableValues). printed_row (shown_in t i.buffer i.shown) n) c.deref.ensures
+    ∙ live-printed_row i.desk i.tables.value i.width i.base i.behind i.buffer i.shown n c.self.invariant
+    ∙ ap (λ (d : LiveDocument). printed_row (shown_grid d) n) c.self.view_is in
     subst (λ t. OnErr c.print_shown_row.result (AppendsBeginning (g.W.Sink.written c.args.sink.now) (g.W.Sink.written c.print_shown_row.new.sink) t)) is c.print_shown_row.ensures.err
