@@ -145,6 +145,19 @@ def test_what_comes_early_waits() -> None:
     assert document.take(HEADER + A_AT_1 + B_AFTER_A) == []
 
 
+def test_changes_are_as_a_list() -> None:
+    document = Document(2)
+    document.type(0, "xyz")
+    changes = document.take(HEADER + deletion(1, 2) + A_AT_1 + B_AFTER_A)
+    told = [Change(0, None), Change(2, "a"), Change(3, "b")]
+    assert changes == told and list(changes) == told and len(changes) == 3 and repr(changes) == repr(told)
+    assert changes[0] == told[0] and changes[-1] == told[-1] and changes[1:] == told[1:] and changes[::-1] == told[::-1]
+    assert changes != told[:2] and not document.take(HEADER)
+    for none in (3, -4):
+        with pytest.raises(IndexError):
+            changes[none]
+
+
 def test_a_message_may_be_any_bytes() -> None:
     for kind in (bytes, bytearray, memoryview):
         document = Document(2)
