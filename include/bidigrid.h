@@ -1,9 +1,10 @@
 /*
  * bidigrid: mixed Hebrew, Arabic and Latin text on a grid of character cells.
  *
+ * bidigrid_document  one copy of a text that several write, laid out in rows of cells: what an editor holds
  * bidigrid_tables    what Unicode says of each character
  * bidigrid_picture   a text laid out in rows of cells: what a chat tool or a terminal shows
- * bidigrid_desk      one copy of a text that several write
+ * bidigrid_desk      one copy of a text that several write, and no more
  *
  * Handles. A handle begins as { 0 }, BIDIGRID_NONE, and is passed by its address. `new` fills it, `free` empties it;
  * a handle that is empty may be freed again, and one that is full may be made anew, which frees what it held. Don't
@@ -28,10 +29,10 @@
  * - Every other pointer leads to what its type says, and is not NULL; what it leads to need not have been written,
  *   where the library only writes. A bool is 0 or 1.
  * - What one call is given doesn't overlap, but for bytes that are only read. The one handle that may be passed twice
- *   is that of a desk which is merged with itself.
- * - A handle, and tables together with all pictures that were drawn by them, stay on the thread that made them: no
- *   lock makes it safe to use them from another one. A call empties its handles for its time, those that only read
- *   too, though they take const handles: a handle itself must not be const.
+ *   is that of a document or desk which is merged with itself.
+ * - A handle, and tables together with all pictures and documents that are drawn by them, stay on the thread that made
+ *   them: no lock makes it safe to use them from another one. A call empties its handles for its time, those that only
+ *   read too, though they take const handles: a handle itself must not be const.
  * - No call comes from a signal handler, or in the child of a fork of a process that had more threads than one.
  * - malloc, realloc and free are those of one allocator, which aligns what it gives to 16 bytes; a size_t has 64
  *   bits.
@@ -69,7 +70,7 @@ enum {
     BIDIGRID_FAULT_BAD_WIDTH = 105,          /* the width is not BIDIGRID_MIN_WIDTH to BIDIGRID_MAX_WIDTH */
     BIDIGRID_FAULT_BAD_BASE = 106,           /* the base is none of the three */
     BIDIGRID_FAULT_BAD_PLACE = 107,          /* the place lies behind the text's end, or behind where it should end */
-    BIDIGRID_FAULT_BAD_ROW = 108,            /* there is no such row */
+    BIDIGRID_FAULT_BAD_ROW = 108,            /* there is no such row, or too many are to be shown */
     BIDIGRID_FAULT_BAD_ENTRY = 109,          /* the row has no such entry */
     BIDIGRID_FAULT_BAD_CARET = 110,          /* the picture has no such row, or the row no such gap */
     BIDIGRID_FAULT_BAD_CHARACTER = 111,      /* the character is no Unicode scalar */
@@ -150,7 +151,7 @@ typedef struct bidigrid_data_fault {
 uint32_t bidigrid_tables_new(bidigrid_tables *out, const bidigrid_bytes files[BIDIGRID_DATA_FILES],
                              bool wide_ambiguous, bidigrid_data_fault *fault);
 
-/* Pictures that were drawn by the tables keep them. */
+/* Pictures and documents that are drawn by the tables keep them. */
 void bidigrid_tables_free(bidigrid_tables *tables);
 
 /* ---- Pictures ---- */
@@ -231,14 +232,18 @@ uint32_t bidigrid_caret_left(const bidigrid_picture *picture, bidigrid_caret *ca
 uint32_t bidigrid_caret_up(const bidigrid_picture *picture, bidigrid_caret *caret);
 uint32_t bidigrid_caret_down(const bidigrid_picture *picture, bidigrid_caret *caret);
 
-/* ---- Desks ---- */
+/* ---- Messages ---- */
 
-/* A desk is one copy of a text that several write: a set of operations, each the insertion or the deletion of one
- * character. Desks that hold the same operations show the same text, in whatever order and however often these came.
- * A message has operations of a desk for the others; how it travels is up to you. */
-typedef struct bidigrid_desk {
-    struct bidigrid_opaque *held;
-} bidigrid_desk;
+/* A text that several write is a set of operations, each the insertion or the deletion of one character. Copies
+ * that hold the same operations show the same text, in whatever order and however often these came. A message has
+ * operations of one copy for the others; how it travels is up to you. */
+
+/* How many bytes the message has that types one character, or erases one. */
+#define BIDIGRID_TYPED_SIZE 24
+#define BIDIGRID_ERASED_SIZE 14
+
+/* How many bytes the message has that erases and types so many characters. */
+#define BIDIGRID_REPLACED_SIZE(erased, typed) (5 + 9 * (size_t)(erased) + 19 * (size_t)(typed))
 
 /* What became of a message: how many operations it has, and how many of them were taken; or its faulty frame, counted
  * from 1, or 0 for its header. */
@@ -247,6 +252,107 @@ typedef struct bidigrid_taken {
     size_t taken;
     size_t frame;
 } bidigrid_taken;
+
+/* An identifier names one character for good, in every copy: a place changes when something is typed before it, its
+ * identifier doesn't. */
+typedef struct bidigrid_id {
+    uint32_t counter;
+    uint32_t site;
+} bidigrid_id;
+
+/* ---- Documents ---- */
+
+/* A document is a desk with its text laid out: what an editor holds. It is shown by windows, a stretch of the rows
+ * of the whole text round a place; a keystroke or a message costs what it changes and what is shown. */
+typedef struct bidigrid_document {
+    struct bidigrid_opaque *held;
+} bidigrid_document;
+
+/* A document without operations. Site and key as of bidigrid_desk_new, width and base as of bidigrid_picture_new.
+ * It keeps its share in the tables. */
+uint32_t bidigrid_document_new(bidigrid_document *out, const bidigrid_tables *tables, uint32_t site, uint32_t width,
+                               uint32_t base, uint64_t key_high, uint64_t key_low);
+
+/* A document that goes on from a file, as bidigrid_desk_open. */
+uint32_t bidigrid_document_open(bidigrid_document *out, const bidigrid_tables *tables, uint32_t site, uint32_t width,
+                                uint32_t base, uint64_t key_high, uint64_t key_low, const uint8_t *file,
+                                size_t file_size, bidigrid_taken *told);
+void bidigrid_document_free(bidigrid_document *document);
+
+/* Another width, or another base direction, from now on. Then nothing is shown. */
+uint32_t bidigrid_document_resize(bidigrid_document *document, uint32_t width);
+uint32_t bidigrid_document_set_base(bidigrid_document *document, uint32_t base);
+
+/* As bidigrid_desk_insert, _erase and _replace, but that erasing one character takes memory too. Then nothing is
+ * shown. */
+uint32_t bidigrid_document_insert(bidigrid_document *document, size_t place, const char *text, size_t text_size,
+                                  uint8_t *message, size_t room, size_t *size);
+uint32_t bidigrid_document_erase(bidigrid_document *document, size_t from, size_t to, uint8_t *message, size_t room,
+                                 size_t *size);
+uint32_t bidigrid_document_replace(bidigrid_document *document, size_t from, size_t to, const char *text,
+                                   size_t text_size, uint8_t *message, size_t room, size_t *size);
+
+/* As bidigrid_desk_take and _merge. Then nothing is shown, but after a message of which nothing was taken. What it changed
+ * in the text is kept for bidigrid_document_changes. */
+uint32_t bidigrid_document_take(bidigrid_document *document, const uint8_t *message, size_t message_size,
+                                bidigrid_taken *told);
+uint32_t bidigrid_document_merge(bidigrid_document *document, const bidigrid_document *other);
+
+/* One change of a text: a character was put at a place, or the one there was cut. Each place counts in the text as
+ * the changes before it left it. */
+typedef struct bidigrid_change {
+    uint32_t place;
+    uint32_t character; /* the code point that was put; 0 where one was cut */
+    uint32_t put;       /* 1: put, 0: cut */
+} bidigrid_change;
+
+/* What the last take or merge changed in the text, in order: nothing where it took nothing, and after an insert,
+ * erase or replace. How many changes there are is told, also where the answer is BIDIGRID_FAULT_SHORT_BUFFER and
+ * nothing was written. Where there was no memory to keep them, the answer is BIDIGRID_FAULT_MEMORY: the operations
+ * stand, and the text is to be read anew. */
+uint32_t bidigrid_document_changes(const bidigrid_document *document, bidigrid_change *changes, size_t room,
+                                   size_t *count);
+
+/* As bidigrid_desk_reserve, _text, _length, _file, _id_at and _place_of. */
+uint32_t bidigrid_document_reserve(bidigrid_document *document, size_t operations);
+uint32_t bidigrid_document_text(const bidigrid_document *document, char *out, size_t room, size_t *size);
+uint32_t bidigrid_document_length(const bidigrid_document *document, size_t *places);
+uint32_t bidigrid_document_file(const bidigrid_document *document, uint8_t *out, size_t room, size_t *size);
+uint32_t bidigrid_document_id_at(const bidigrid_document *document, size_t place, bidigrid_id *out);
+uint32_t bidigrid_document_place_of(const bidigrid_document *document, const bidigrid_id *id, size_t *place);
+
+/* The most rows above or below the row of the place that is shown. */
+#define BIDIGRID_MAX_WINDOW_ROWS 1000
+
+/* What is shown: how many rows, and which of them, from 0, is the row of the place that was asked for. */
+typedef struct bidigrid_window {
+    size_t rows;
+    size_t number;
+} bidigrid_window;
+
+/* Shows the rows of the text from so many above the row of a place to so many below it, fewer at the text's ends,
+ * and lays out those of their paragraphs that are not kept. They stay shown until the document changes, or is to
+ * show others. More than BIDIGRID_MAX_WINDOW_ROWS is BIDIGRID_FAULT_BAD_ROW. After BIDIGRID_FAULT_MEMORY nothing is
+ * shown. */
+uint32_t bidigrid_document_show(bidigrid_document *document, size_t place, size_t above, size_t below,
+                                bidigrid_window *out);
+
+/* Of a row that is shown, from 0: what bidigrid_picture_row, _entries and _row_print tell of a picture's, with
+ * places and bytes of the whole text; and the print of all rows that are shown. BIDIGRID_FAULT_BAD_ROW where there
+ * is no such row, as before the first bidigrid_document_show and after a change. */
+uint32_t bidigrid_document_row(const bidigrid_document *document, size_t row, bidigrid_row *out);
+uint32_t bidigrid_document_entries(const bidigrid_document *document, size_t row, bidigrid_entry *entries, size_t room,
+                                   size_t *count);
+uint32_t bidigrid_document_row_print(const bidigrid_document *document, size_t row, char *out, size_t room,
+                                     size_t *size);
+uint32_t bidigrid_document_print(const bidigrid_document *document, char *out, size_t room, size_t *size);
+
+/* ---- Desks ---- */
+
+/* A desk is one copy of a text that several write, without rows. */
+typedef struct bidigrid_desk {
+    struct bidigrid_opaque *held;
+} bidigrid_desk;
 
 /* A desk without operations. No two desks of a text may have the same site, 1 to BIDIGRID_MAX_SITE. The key, 16
  * bytes, is that of its hash tables: where others choose what is taken, draw it at random. */
@@ -260,13 +366,6 @@ uint32_t bidigrid_desk_open(bidigrid_desk *out, uint32_t site, uint64_t key_high
                             const uint8_t *file, size_t file_size, bidigrid_taken *told);
 void bidigrid_desk_free(bidigrid_desk *desk);
 
-/* How many bytes the message has that types one character, or erases one. */
-#define BIDIGRID_TYPED_SIZE 24
-#define BIDIGRID_ERASED_SIZE 14
-
-/* How many bytes the message has that erases and types so many characters. */
-#define BIDIGRID_REPLACED_SIZE(erased, typed) (5 + 9 * (size_t)(erased) + 19 * (size_t)(typed))
-
 /* Types a character, a Unicode scalar, at a place, 0 to the text's length, and writes the message to send. After
  * BIDIGRID_FAULT_SHORT_BUFFER nothing was typed. While an operation is spare it takes no memory. */
 uint32_t bidigrid_desk_type(bidigrid_desk *desk, size_t place, uint32_t character, uint8_t *message, size_t room,
@@ -276,8 +375,8 @@ uint32_t bidigrid_desk_type(bidigrid_desk *desk, size_t place, uint32_t characte
 uint32_t bidigrid_desk_insert(bidigrid_desk *desk, size_t place, const char *text, size_t text_size,
                               uint8_t *message, size_t room, size_t *size);
 
-/* Erases the characters from one place up to another, which is left out, and writes the message to send: all of it, or
- * nothing. Erasing one takes no memory. */
+/* Erases the characters from one place up to another, which is left out, and writes the message to send: all of it,
+ * or nothing. Erasing one takes no memory. */
 uint32_t bidigrid_desk_erase(bidigrid_desk *desk, size_t from, size_t to, uint8_t *message, size_t room,
                              size_t *size);
 
@@ -307,13 +406,6 @@ uint32_t bidigrid_desk_length(const bidigrid_desk *desk, size_t *places);
 
 /* All that the desk holds, as a message: to save it, or for a desk that is new. */
 uint32_t bidigrid_desk_file(const bidigrid_desk *desk, uint8_t *out, size_t room, size_t *size);
-
-/* An identifier names one character for good, at every desk: a place changes when something is typed before it, its
- * identifier doesn't. */
-typedef struct bidigrid_id {
-    uint32_t counter;
-    uint32_t site;
-} bidigrid_id;
 
 uint32_t bidigrid_desk_id_at(const bidigrid_desk *desk, size_t place, bidigrid_id *out);
 

@@ -1,5 +1,5 @@
-/* What the tests share: a check that tells its line, numbers at random, files read whole, and what a desk or a picture
- * answers as bytes. */
+/* What the tests share: a check that tells its line, numbers at random, files read whole, and what a desk, a document or a
+ * picture answers as bytes. */
 #ifndef CHECK_H
 #define CHECK_H
 
@@ -115,6 +115,21 @@ static inline uint32_t writes_text(const void *desk, void *out, size_t room, siz
 static inline uint32_t writes_file(const void *desk, void *out, size_t room, size_t *size)
 {
     return bidigrid_desk_file(desk, out, room, size);
+}
+
+static inline uint32_t writes_document_text(const void *document, void *out, size_t room, size_t *size)
+{
+    return bidigrid_document_text(document, out, room, size);
+}
+
+static inline uint32_t writes_document_file(const void *document, void *out, size_t room, size_t *size)
+{
+    return bidigrid_document_file(document, out, room, size);
+}
+
+static inline uint32_t writes_window(const void *document, void *out, size_t room, size_t *size)
+{
+    return bidigrid_document_print(document, out, room, size);
 }
 
 static inline uint32_t writes_print(const void *picture, void *out, size_t room, size_t *size)

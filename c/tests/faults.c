@@ -187,6 +187,27 @@ static void tries_a_full_desk(void)
     bidigrid_desk_free(&other);
 }
 
+/* A document of as many characters in one paragraph shows a window in its middle, and takes one more and no two. */
+static void tries_a_full_document(void)
+{
+    bidigrid_document document = BIDIGRID_NONE;
+    bidigrid_window window;
+    bidigrid_row row;
+    bytes most = typed_in_a_row(BIDIGRID_MAX_OPERATIONS - 1);
+    ANSWERS(bidigrid_document_open(&document, &tables, 2, 80, 0, 1, 2, most.at, most.size, &told), BIDIGRID_OK);
+    CHECK(told.taken == BIDIGRID_MAX_OPERATIONS - 1);
+    ANSWERS(bidigrid_document_show(&document, 500000, 2, 1, &window), BIDIGRID_OK);
+    CHECK(window.rows == 4 && window.number == 2);
+    ANSWERS(bidigrid_document_row(&document, 2, &row), BIDIGRID_OK);
+    CHECK(row.first_place == 500000 && row.last_place == 500080 && row.entries == 80);
+    ANSWERS(bidigrid_document_show(&document, 0, BIDIGRID_MAX_WINDOW_ROWS + 1, 0, &window), BIDIGRID_FAULT_BAD_ROW);
+    ANSWERS(bidigrid_document_insert(&document, 0, "z", 1, message, sizeof message, &size), BIDIGRID_OK);
+    ANSWERS(bidigrid_document_insert(&document, 0, "z", 1, message, sizeof message, &size), BIDIGRID_FAULT_FULL);
+    ANSWERS(bidigrid_document_erase(&document, 0, 1, message, sizeof message, &size), BIDIGRID_FAULT_FULL);
+    free(most.at);
+    bidigrid_document_free(&document);
+}
+
 static void tries_data_files(void)
 {
     static const struct {
@@ -213,6 +234,7 @@ int main(void)
     tries_small_desks();
     tries_messages();
     tries_a_full_desk();
+    tries_a_full_document();
     tries_data_files();
     bidigrid_tables_free(&tables);
     for (size_t number = 0; number < FAULTS; number++)

@@ -1,8 +1,9 @@
-/* Memory that is refused: each call that takes some is made with each of its requests refused in turn, at desks whose
- * sequences have many blocks. Either it answers BIDIGRID_FAULT_MEMORY, nothing has changed, and it does its work when
- * it is called again; or it does its work without. What desks and pictures answer is compared whole. Argument: how many
- * sizes of a text a character is typed into, 300 where none is given. */
-#include "check.h"
+/* Memory that is refused: each call that takes some is made with each of its requests refused in turn, at desks and
+ * documents whose sequences have many blocks. Either it answers BIDIGRID_FAULT_MEMORY, nothing has changed, and it does
+ * its work when it is called again; or it does its work without. What desks, documents and pictures answer is compared
+ * whole; a document that had no memory to tell its changes says so. Argument: how many sizes of a text a character is
+ * typed into, 300 where none is given. */
+#include "answers.h"
 #include "refuse_malloc.h"
 
 /* How many operations the larger desks have: some blocks, of 512 elements at most; and from how many characters on one
@@ -10,9 +11,6 @@
 #define MANY 700
 #define FEW 500
 
-static bidigrid_tables tables = BIDIGRID_NONE;
-static bidigrid_picture picture = BIDIGRID_NONE;
-static bidigrid_desk desk = BIDIGRID_NONE, other = BIDIGRID_NONE;
 static uint8_t out[BIDIGRID_REPLACED_SIZE(MANY, MANY)];
 static size_t size;
 
@@ -115,6 +113,72 @@ static uint32_t saves(void)
     return bidigrid_desk_file(&desk, out, sizeof out, &size);
 }
 
+static uint32_t makes_a_document(void)
+{
+    return bidigrid_document_new(&document, &tables, 1, 20, BIDIGRID_BASE_AUTO, 2, 3);
+}
+
+static uint32_t opens_a_document(void)
+{
+    return bidigrid_document_open(&document, &tables, 3, 20, BIDIGRID_BASE_AUTO, 2, 3, message[0].at, message[0].size,
+                                  NULL);
+}
+
+static uint32_t document_inserts(void)
+{
+    return bidigrid_document_insert(&document, 7, chars(text[1]), text[1].size, out, sizeof out, &size);
+}
+
+static uint32_t document_erases(void)
+{
+    return bidigrid_document_erase(&document, 3, MANY - 3, out, sizeof out, &size);
+}
+
+static uint32_t document_replaces(void)
+{
+    return bidigrid_document_replace(&document, 1, MANY / 2, chars(text[1]), text[1].size, out, sizeof out, &size);
+}
+
+static uint32_t document_takes(void)
+{
+    return bidigrid_document_take(&document, message[1].at, message[1].size, NULL);
+}
+
+static uint32_t document_meets(void)
+{
+    return bidigrid_document_merge(&document, &met);
+}
+
+static uint32_t document_reserves(void)
+{
+    return bidigrid_document_reserve(&document, 5 * MANY);
+}
+
+static uint32_t document_shows(void)
+{
+    return bidigrid_document_show(&document, 0, 0, BIDIGRID_MAX_WINDOW_ROWS, NULL);
+}
+
+static uint32_t document_prints(void)
+{
+    return bidigrid_document_print(&document, (char *)out, sizeof out, &size);
+}
+
+static uint32_t document_prints_a_row(void)
+{
+    return bidigrid_document_row_print(&document, 1, (char *)out, sizeof out, &size);
+}
+
+static uint32_t document_reads(void)
+{
+    return bidigrid_document_text(&document, (char *)out, sizeof out, &size);
+}
+
+static uint32_t document_saves(void)
+{
+    return bidigrid_document_file(&document, out, sizeof out, &size);
+}
+
 /* What is made before each try. */
 
 static void nothing(void)
@@ -146,6 +210,28 @@ static void two_large_desks(void)
     CHECK(bidigrid_desk_take(&other, message[1].at, message[1].size, &told) == BIDIGRID_OK);
 }
 
+/* A document that shows nothing, and tells what it took. */
+static void a_large_document(void)
+{
+    bidigrid_taken told;
+    bidigrid_desk_free(&desk);
+    bidigrid_desk_free(&other);
+    CHECK(makes_a_document() == BIDIGRID_OK);
+    CHECK(bidigrid_document_take(&document, message[0].at, message[0].size, &told) == BIDIGRID_OK && told.taken == MANY);
+}
+
+static void a_shown_document(void)
+{
+    a_large_document();
+    CHECK(document_shows() == BIDIGRID_OK);
+}
+
+static void two_large_documents(void)
+{
+    a_shown_document();
+    CHECK(bidigrid_document_open(&met, &tables, 2, 9, 0, 0, 0, message[1].at, message[1].size, NULL) == BIDIGRID_OK);
+}
+
 static size_t characters;
 
 /* A desk with so many characters, of which each other one was typed in front of the last. */
@@ -154,48 +240,6 @@ static void a_desk_of_characters(void)
     a_fresh_desk();
     for (size_t number = 0; number < characters; number++)
         CHECK(bidigrid_desk_type(&desk, number / 2, 'b', out, sizeof out, &size) == BIDIGRID_OK);
-}
-
-/* What all handles answer. */
-typedef struct state {
-    bytes text, file, other_file, print;
-    size_t places;
-} state;
-
-/* What a call writes of a handle; of an empty one nothing. */
-static bytes told_by(writes call, const void *handle, const void *held)
-{
-    return held ? written(call, handle) : copied((bytes){NULL, 0});
-}
-
-static state as_it_is(void)
-{
-    state now = {told_by(writes_text, &desk, desk.held), told_by(writes_file, &desk, desk.held),
-                 told_by(writes_file, &other, other.held), told_by(writes_print, &picture, picture.held), 0};
-    CHECK(bidigrid_desk_length(&desk, &now.places) == (desk.held ? BIDIGRID_OK : BIDIGRID_FAULT_EMPTY_HANDLE));
-    return now;
-}
-
-static void drop(state it)
-{
-    free(it.text.at);
-    free(it.file.at);
-    free(it.other_file.at);
-    free(it.print.at);
-}
-
-static bool is_same(bytes one, bytes same)
-{
-    return one.size == same.size && !memcmp(one.at, same.at, one.size);
-}
-
-static bool is_state(const state *it)
-{
-    state now = as_it_is();
-    bool same = is_same(now.text, it->text) && is_same(now.file, it->file) && now.places == it->places &&
-                is_same(now.other_file, it->other_file) && is_same(now.print, it->print);
-    drop(now);
-    return same;
 }
 
 /* How many characters the desk still types while all memory is refused. */
@@ -337,6 +381,19 @@ static const row ROWS[] = {
     {"bidigrid_desk_text", a_large_desk, reads, false},
     {"bidigrid_desk_file", a_large_desk, saves, false},
     {"bidigrid_desk_merge", two_large_desks, merges, true},
+    {"bidigrid_document_new", a_shown_document, makes_a_document, false},
+    {"bidigrid_document_open", a_shown_document, opens_a_document, false},
+    {"bidigrid_document_insert", a_shown_document, document_inserts, false},
+    {"bidigrid_document_erase", a_shown_document, document_erases, false},
+    {"bidigrid_document_replace", a_shown_document, document_replaces, false},
+    {"bidigrid_document_take", a_shown_document, document_takes, true},
+    {"bidigrid_document_merge", two_large_documents, document_meets, true},
+    {"bidigrid_document_reserve", a_shown_document, document_reserves, false},
+    {"bidigrid_document_show", a_large_document, document_shows, false},
+    {"bidigrid_document_print", a_shown_document, document_prints, false},
+    {"bidigrid_document_row_print", a_shown_document, document_prints_a_row, false},
+    {"bidigrid_document_text", a_shown_document, document_reads, false},
+    {"bidigrid_document_file", a_shown_document, document_saves, false},
 };
 
 /* While operations are spare, characters are typed and erased though all memory is refused. */
@@ -362,8 +419,12 @@ int main(int count, char **words)
     printf("%s: %zu\n", into_texts.name, sizes);
     types_what_is_spare();
     printf("refused: %ld requests in turn, %ld times BIDIGRID_FAULT_MEMORY, else done\n", all_requests, all_refused);
+    /* Some of them were for changes, and the operations were taken without telling them. */
+    CHECK(all_lost > 0);
     bidigrid_desk_free(&desk);
     bidigrid_desk_free(&other);
+    bidigrid_document_free(&document);
+    bidigrid_document_free(&met);
     bidigrid_picture_free(&picture);
     bidigrid_tables_free(&tables);
     for (int number = 0; number < 2; number++) {

@@ -20,6 +20,7 @@ static void *works(void *result)
     bidigrid_tables tables = BIDIGRID_NONE;
     bidigrid_picture picture = BIDIGRID_NONE;
     bidigrid_desk one = BIDIGRID_NONE, other = BIDIGRID_NONE;
+    bidigrid_document document = BIDIGRID_NONE;
     seed_random(1);
     CHECK(bidigrid_tables_unicode(&tables, false) == BIDIGRID_OK);
     CHECK(bidigrid_desk_new(&one, 1, 2, 3) == BIDIGRID_OK && bidigrid_desk_new(&other, 2, 3, 4) == BIDIGRID_OK);
@@ -28,9 +29,17 @@ static void *works(void *result)
     CHECK(bidigrid_desk_merge(&one, &other) == BIDIGRID_OK);
     bytes text = written(writes_text, &one);
     CHECK(bidigrid_picture_new(&picture, &tables, 20, BIDIGRID_BASE_AUTO, chars(text), text.size) == BIDIGRID_OK);
+    bytes file = written(writes_file, &one);
+    CHECK(bidigrid_document_open(&document, &tables, 3, 20, BIDIGRID_BASE_AUTO, 4, 5, file.at, file.size, NULL) ==
+          BIDIGRID_OK);
     bidigrid_tables_free(&tables);
-    *(bytes *)result = written(writes_print, &picture);
+    CHECK(bidigrid_document_show(&document, 0, 0, BIDIGRID_MAX_WINDOW_ROWS, NULL) == BIDIGRID_OK);
+    bytes print = written(writes_print, &picture);
+    CHECK(same_bytes(written(writes_window, &document), copied(print)));
+    *(bytes *)result = print;
     free(text.at);
+    free(file.at);
+    bidigrid_document_free(&document);
     bidigrid_picture_free(&picture);
     bidigrid_desk_free(&one);
     bidigrid_desk_free(&other);

@@ -15,7 +15,7 @@ A Document or a Picture belongs to the thread that made it: another one gets a T
 
 from ._bidigrid import ffi as _ffi
 from ._bidigrid import lib as _lib
-from .change import Change
+from .change import Change, Changes
 from .document import Document, Identifier
 from .fault import Fault, ThreadFault
 from .picture import Caret, Picture, layout
@@ -26,6 +26,7 @@ from .window import Window
 __all__ = [
     "Caret",
     "Change",
+    "Changes",
     "Document",
     "Entry",
     "Fault",

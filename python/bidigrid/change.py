@@ -1,7 +1,13 @@
 """What a message or a merge changed in a text."""
 
-from struct import iter_unpack
-from typing import NamedTuple
+from collections.abc import Iterator, Sequence
+from struct import calcsize, iter_unpack
+from typing import NamedTuple, overload
+
+
+# The numbers of a bidigrid_change.
+_FORM = "=3I"
+_SIZE = calcsize(_FORM)
 
 
 class Change(NamedTuple):
@@ -34,7 +40,44 @@ class Change(NamedTuple):
         return place - (self.place < place)
 
 
-def changes_in(packed: bytes) -> list[Change]:
+class Changes(Sequence[Change]):
+    """What a message or a merge changed in a text, in order: a sequence that is equal to a list of the same changes. Each is
+    made when it is asked for, so that one who doesn't ask pays nothing."""
+
+    __slots__ = ("_packed",)
+
+    def __init__(self, packed: bytes = b"") -> None:
+        """packed: the bytes of a list of `bidigrid_change`."""
+        self._packed = packed
+
+    def __len__(self) -> int:
+        return len(self._packed) // _SIZE
+
+    @overload
+    def __getitem__(self, which: int) -> Change: ...
+
+    @overload
+    def __getitem__(self, which: slice) -> list[Change]: ...
+
+    def __getitem__(self, which: int | slice) -> Change | list[Change]:
+        numbers = range(len(self))[which]
+        if isinstance(numbers, range):
+            return [self[number] for number in numbers]
+        return next(_changes(self._packed[_SIZE * numbers : _SIZE * (numbers + 1)]))
+
+    def __iter__(self) -> Iterator[Change]:
+        return _changes(self._packed)
+
+    def __eq__(self, other: object) -> bool:
+        if isinstance(other, (Changes, list)):
+            return list(self) == list(other)
+        return NotImplemented
+
+    def __repr__(self) -> str:
+        return repr(list(self))
+
+
+def _changes(packed: bytes) -> Iterator[Change]:
     """The changes in the bytes of a list of `bidigrid_change`."""
-    made = tuple.__new__
-    return [made(Change, (place, chr(code) if put else None)) for place, code, put in iter_unpack("=3I", packed)]
+    for place, code, put in iter_unpack(_FORM, packed):
+        yield Change(place, chr(code) if put else None)

@@ -5,7 +5,7 @@ from typing import Any, NamedTuple, Self
 
 from . import given
 from ._bidigrid import ffi, lib
-from .change import Change
+from .change import Changes
 from .fault import fault, must
 from .given import Base, Message
 from .position import Positions
@@ -45,8 +45,8 @@ class Document(Positions):
 
     >>> one, other = Document(site=1, width=16), Document(site=2, width=16)
     >>> message = one.type(0, "tea תה")
-    >>> other.take(message) == [Change(place, character) for place, character in enumerate("tea תה")]
-    True
+    >>> other.take(message)[0]
+    Change(place=0, character='t')
     >>> print(other.rows(0))
     tea הת          
     """
@@ -161,7 +161,7 @@ class Document(Positions):
         characters = given.characters(text)
         return written(call, "uint8_t", 5 + 9 * erased + 19 * len(text), handle, *places, characters, len(characters))
 
-    def take(self, message: Message) -> list[Change]:
+    def take(self, message: Message) -> Changes:
         """Takes a message of another document, and returns what it changed in the text, in order. It may come again, and
         before those that it builds on: then it changes the text once they have come.
 
@@ -170,7 +170,7 @@ class Document(Positions):
         """
         return taken(self._full(), given.message(message))
 
-    def merge(self, other: "Document") -> list[Change]:
+    def merge(self, other: "Document") -> Changes:
         """Takes all that another document of this thread holds, and returns what that changed in the text, in order. After
         a Fault whose name is "IdentifierReused" nothing has changed; after "Full", and a MemoryError, some of it is taken,
         and the Fault has its `changes`."""

@@ -1,9 +1,9 @@
 """What goes wrong, and how it is told."""
 
-from collections.abc import Sequence
-
 from ._bidigrid import ffi, lib
-from .change import Change
+from .change import Changes
+
+_NONE = Changes()
 
 
 class Fault(Exception):
@@ -18,14 +18,14 @@ class Fault(Exception):
     """
 
     def __init__(
-        self, number: int, frame: int | None = None, taken: int = 0, changes: Sequence[Change] | None = ()
+        self, number: int, frame: int | None = None, taken: int = 0, changes: Changes | None = _NONE
     ) -> None:
         super().__init__(number, frame, taken, changes)
         self.number = number
         self.name: str = ffi.string(lib.bidigrid_fault_name(number)).decode("ascii")
         self.frame = frame
         self.taken = taken
-        self.changes = None if changes is None else list(changes)
+        self.changes = changes
 
     def __str__(self) -> str:
         words: str = ffi.string(lib.bidigrid_python_words(self.number)).decode("ascii")
@@ -62,7 +62,7 @@ _KINDS: dict[int, type[Fault]] = {
 }
 
 
-def fault(number: int, frame: int | None = None, taken: int = 0, changes: Sequence[Change] | None = ()) -> Fault:
+def fault(number: int, frame: int | None = None, taken: int = 0, changes: Changes | None = _NONE) -> Fault:
     """The exception of an answer of the library."""
     return _KINDS.get(number, Fault)(number, frame, taken, changes)
 

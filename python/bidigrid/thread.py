@@ -124,7 +124,8 @@ class Held:
         # An object whose making failed, or that is closed, has no handle.
         if self._home is None or self._handle is None:
             return
-        if _here.home is self._home:
+        # A thread that is just beginning, which has no home yet, may collect it too.
+        if getattr(_here, "home", None) is self._home:
             self._home.free(self._number)
         else:
             self._home.left.append(self._number)

@@ -11,11 +11,6 @@ from frames import A_AT_1, B_AFTER_A, HEADER, deletion, insertion
 Calls = list[Callable[[], object]]
 
 
-def put(text: str, place: int = 0) -> list[Change]:
-    """What a text that is typed at a place changes."""
-    return [Change(place + number, character) for number, character in enumerate(text)]
-
-
 def test_typing_and_erasing_give_messages_byte_by_byte() -> None:
     document = Document(3)
     assert document.type(0, "a") == HEADER + insertion(1, 3, (0, 0), "a")
@@ -137,30 +132,6 @@ def test_a_key_has_16_bytes() -> None:
         Document(1, key=b"abc")
 
 
-def test_what_comes_early_waits() -> None:
-    document = Document(2)
-    assert document.take(HEADER) == []
-    assert document.take(HEADER + B_AFTER_A) == [] and document.text == ""
-    assert document.take(HEADER + A_AT_1) == put("ab") and document.text == "ab"
-    assert document.take(HEADER + A_AT_1 + B_AFTER_A) == []
-
-
-def test_a_message_may_be_any_bytes() -> None:
-    for kind in (bytes, bytearray, memoryview):
-        document = Document(2)
-        assert document.take(kind(HEADER + A_AT_1)) == put("a")
-        assert Document.load(kind(document.save()), 3).text == "a"
-
-
-def test_documents_merge() -> None:
-    one, other = Document(1), Document(2)
-    one.type(0, "a")
-    other.type(0, "b")
-    assert one.merge(other) == put("b") and one.text == "ba" and other.text == "b"
-    assert other.merge(one) == put("a", 1) and other.text == "ba"
-    assert one.merge(one) == [] and one.text == "ba"
-
-
 def test_a_document_goes_on_from_what_was_saved() -> None:
     document = Document(4)
     document.type(0, "abcde")
@@ -171,7 +142,7 @@ def test_a_document_goes_on_from_what_was_saved() -> None:
     assert (again.site, again.width, again.base) == (4, 10, "right")
     again.type(4, "z")
     assert again.id_at(4) == Identifier(6, 4)
-    assert again.take(HEADER + A_AT_1) == put("ab", 5)
+    assert again.take(HEADER + A_AT_1) == [Change(5, "a"), Change(6, "b")]
 
 
 def test_identifiers_stay_with_their_characters() -> None:

@@ -7,7 +7,7 @@ import tracemalloc
 from collections.abc import Callable
 
 import pytest
-from bidigrid import Change, Document, Entry, Fault, Identifier, Position, Window, layout
+from bidigrid import Document, Entry, Fault, Identifier, Position, Window, layout
 from process import held
 
 CALLS = 100_000
@@ -29,7 +29,8 @@ def test_values_are_pickled() -> None:
     window = document.rows()
     again = pickle.loads(pickle.dumps(window))
     assert isinstance(again, Window) and again == window and again[0].entries == window[0].entries
-    for value in (Change(1, "a"), Identifier(1, 2), Position(0, 0, 0), window[0].entries[0], window[0]):
+    told = Document(2).take(document.save())
+    for value in (told, told[0], Identifier(1, 2), Position(0, 0, 0), window[0].entries[0], window[0]):
         assert pickle.loads(pickle.dumps(value)) == value == copy.deepcopy(value)
     assert isinstance(window[0].entries[0], Entry)
 

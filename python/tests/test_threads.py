@@ -10,6 +10,7 @@ from random import Random
 
 import pytest
 from bidigrid import Document, Picture, ThreadFault, layout
+from bidigrid.thread import Home
 from process import held
 from texts import follow, mixed
 
@@ -132,6 +133,26 @@ def test_cycles_are_collected_on_any_thread() -> None:
     finally:
         gc.enable()
     assert layout("abc", 8).rows and Document(1).text == ""
+
+
+def test_a_collection_may_come_while_a_thread_begins(monkeypatch: pytest.MonkeyPatch) -> None:
+    begin, ignored = Home.__init__, list[object]()
+
+    def collect_and_begin(home: Home) -> None:
+        gc.collect()
+        begin(home)
+
+    cycle: list[object] = [Document(1)]
+    cycle.append(cycle)
+    del cycle
+    monkeypatch.setattr(sys, "unraisablehook", ignored.append)
+    monkeypatch.setattr(Home, "__init__", collect_and_begin)
+    gc.disable()
+    try:
+        assert on_another_thread(lambda: str(layout("abc", 3))) == "abc"
+    finally:
+        gc.enable()
+    assert ignored == []
 
 
 def test_a_thread_that_ends_frees_what_it_made() -> None:

@@ -1,5 +1,5 @@
 -- How many bytes the messages of operations have.
-use Rattle.std.proofs.Common.{◌≡◌, ◌≤◌, ◌+◌, ◌*◌, ℕ, suc, List, [], ◌∷◌, ◌++◌, length, take, drop, refl, ap, subst, length-append, length-drop, arith}
+use Rattle.std.proofs.Common.{◌≡◌, inl, inr, ◌≤◌, ◌+◌, ◌-◌, ◌*◌, ℕ, suc, List, [], ◌∷◌, ◌++◌, length, take, drop, refl, ap, subst, length-append, length-drop, arith}
 use Rattle.std.specs.Prelude.{map as each}
 use Rattle.std.specs.List.{flat_map}
 use Rattle.std.proofs.lemmas.List.{length-map, length-take-le}
@@ -12,10 +12,13 @@ use Rattle.bg_types.specs.declared.op.OpView.TheVariants.{Insert, Erase}
 use Rattle.rga_tree.specs.TextOf.{visible, visible_ids}
 use Rattle.op_codec.specs.Spelling.{frame, spelling}
 use Rattle.desk_replica.specs.Typing.{parent_at}
-use Rattle.desk_replica.specs.Stretch.{next_id, id_after, insertions, typed_text, deletions, replacement}
+use Rattle.desk_replica.specs.Stretch.{next_id, id_after, insertions, typed_text, deletions, replacement, IsReplaceRefused}
 use Rattle.desk_replica.specs.Merging.{with_operations}
+use Rattle.desk_replica.specs.declared.answer.TypeFault.{TypeFault}
+use Rattle.desk_replica.specs.declared.answer.TypeFault.TheVariants.{CounterSpent, Full, Memory}
 use Rattle.bidigrid_c.specs.Copying.{IsCopied}
-use Rattle.bidigrid_c.specs.Desks.{replaced_size}
+use Rattle.bidigrid_c.specs.Desks.{replaced_size, IsRefusedExchange}
+use Rattle.bidigrid_c.specs.Faults.{type_number}
 
 pub frame_most : (op : OpView) → length (frame op) ≤ 19
 frame_most (Insert id parent ch) = omega arith
@@ -81,3 +84,26 @@ replaced_count s site from n chs within =
       length-typed chs (next_id t site) (parent_at (visible_ids t) from),
       gone,
     )
+
+-- a message that fits is written whole
+pub copied_whole : (bytes before after : List ℕ) (told answer : ℕ) → length bytes ≤ length before → IsCopied bytes before after told answer → IsCopied bytes before after told 0
+copied_whole bytes before after told answer room copied = record {
+  told = copied.told;
+  fits = λ _. (refl, (copied.fits room).1);
+  short = λ wrong. absurd (omega (arith, wrong, room));
+}
+
+-- the message of a replacement fits where there is room for its size
+pub replaced_fits : (s : OperationSet) (site from to : ℕ) (chs : List ℕ) (room : ℕ) → from ≤ to → to ≤ length (visible s) → replaced_size (to - from) (length chs) ≤ room
+    → length (spelling (replacement s site from (to - from) chs)) ≤ room
+replaced_fits s site from to chs room order within fits = omega (arith, replaced_bytes s site from (to - from) chs (omega (arith, order, within)), fits)
+
+pub replaced_length : (s : OperationSet) (site from to : ℕ) (chs : List ℕ) → from ≤ to → to ≤ length (visible s) → length (replacement s site from (to - from) chs) ≡ (to - from) + length chs
+replaced_length s site from to chs order within = replaced_count s site from (to - from) chs (omega (arith, order, within))
+
+-- why nothing was put in the place of others, by the core's fault
+pub not_exchanged : (s : OperationSet) (from to n room told answer : ℕ) (fault : TypeFault) → answer ≡ type_number fault → IsReplaceRefused s (to - from) n fault
+    → IsRefusedExchange s from to n room told answer
+not_exchanged s from to n room told answer CounterSpent is spent = inr (inr (inr (inl (is, spent))))
+not_exchanged s from to n room told answer Full is full = inr (inr (inr (inr (is, full.1))))
+not_exchanged s from to n room told answer Memory is memory = inl is

@@ -17,12 +17,11 @@ use Rattle.desk_replica.specs.Desk.{Desk, fresh}
 use Rattle.desk_replica.specs.Typing.{typed, insertion, IsTypedAt, IsTypeRefusal}
 use Rattle.desk_replica.specs.Stretch.{deletions, replacement, IsReplaceRefusal}
 use Rattle.desk_replica.specs.Merging.{with_operations, IsMerge}
-use Rattle.desk_replica.specs.Reply.{IsRefused, IsRefusal}
 use Rattle.desk_replica.specs.Listed.{listed}
 use Rattle.desk_replica.specs.declared.answer.TakeFault.{TakeFault}
-use Rattle.desk_replica.specs.declared.answer.TakeFault.TheVariants.{Memory}
 use Rattle.desk_replica.specs.declared.answer.TypeFault.{TypeFault}
 use Rattle.desk_replica.specs.declared.answer.TypeFault.TheVariants.{CounterSpent, Full}
+use Rattle.live_document.specs.Taking.{AreTaken, IsRefusedNext}
 use Rattle.bidigrid_c.specs.Copying.{IsCopied, IsLeft}
 use Rattle.bidigrid_c.specs.Faults.{take_number, message_number}
 use Rattle.bidigrid_c.specs.declared.numbers.IdentifierNumbers.{IdentifierNumbers}
@@ -113,33 +112,28 @@ IsRefusedReplacing s from to bytes room told answer =
 
 -- ---- taking and merging
 
--- a desk that keeps s refuses none of the first operations of a list that it takes in order
-abbrev pub AreAccepted : OperationSet → List OpView → ℕ → Type 0
-AreAccepted s ops count = (k : ℕ) (op : OpView) (fault : TakeFault) → k < count → slice_get ops k ≡ Some op → ¬ (IsRefusal (with_operations s (take k ops)) op fault)
-
--- a desk took the first operations of a list, as many as were told: all, or those before the one that it refused. Where an
--- operation is spare it is not lack of memory
+-- a desk took the first operations of a list, as many as were told: all, or those before the one that it refused
 pub record IsTakenUpTo (desk : Desk) (ops : List OpView) (new : Desk) (told answer : ℕ) : Type 0 where
-  pub within : told ≤ length ops
-  pub set : new.set ≡ with_operations desk.set (take told ops)
-  pub accepted : AreAccepted desk.set ops told
-  pub site : new.site ≡ desk.site
-  pub spare : KeepsSpare desk new
+  pub taken : AreTaken desk ops told new
   pub all : answer ≡ 0 → told ≡ length ops
-  pub refused : (answer ≡ 0 → ⊥) → (op : OpView) × (fault : TakeFault) × (slice_get ops told ≡ Some op) × IsRefused new.set op fault × (fault ≡ Memory → new.spare ≡ 0) × (answer ≡ take_number fault)
+  pub refused : (answer ≡ 0 → ⊥) → (fault : TakeFault) × IsRefusedNext new ops told fault × (answer ≡ take_number fault)
 
 -- a message is longer than any that is read
 abbrev pub IsTooLong : List ℕ → Type 0
 IsTooLong bytes = 67_108_864 < length bytes
 
--- a message was taken: its bytes spell operations, taken in order as far as was told; or they are faulty, too many, or couldn't
--- be read for lack of memory, and the desk is as it was
+-- a message was not read: its bytes are faulty, or there was no memory for its operations, or they are too many
+abbrev pub IsUnread : (bytes : List ℕ) → Taken → (answer : ℕ) → Type 0
+IsUnread bytes told answer =
+    ((fault : CodecFault) × TellsFault bytes fault × (answer ≡ message_number fault) × (told ≡ none_taken (unwrap_or (frame_number fault) 0)))
+    ⊎ ((answer ≡ 116) × IsTooLong bytes × (told ≡ none_taken 0))
+
+-- a message was taken: its bytes spell operations, taken in order as far as was told; or it was not read, and the desk is as it
+-- was
 abbrev pub IsMessageTaken : Desk → (bytes : List ℕ) → Desk → Taken → (answer : ℕ) → Type 0
 IsMessageTaken desk bytes new told answer =
     ((ops : List OpView) × Spells bytes ops × (told.operations ≡ length ops) × (told.frame ≡ 0) × IsTakenUpTo desk ops new told.taken answer)
-    ⊎ (((fault : CodecFault) × TellsFault bytes fault × (new ≡ desk) × (answer ≡ message_number fault)
-    × (told ≡ none_taken (unwrap_or (frame_number fault) 0)))
-    ⊎ ((answer ≡ 116) × IsTooLong bytes × (new ≡ desk) × (told ≡ none_taken 0)))
+    ⊎ ((new ≡ desk) × IsUnread bytes told answer)
 
 -- why a desk of a site was not made of a file
 abbrev pub IsRefusedOpening : (site : ℕ) → (file : List ℕ) → Taken → (answer : ℕ) → Type 0

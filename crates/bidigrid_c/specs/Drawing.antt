@@ -1,10 +1,14 @@
 -- What a call that draws answers.
-use Rattle.std.specs.Prelude.{◌≡◌, ◌⊎◌, ◌<◌, ℕ, List, length, Some, None}
+use Rattle.std.specs.Prelude.{◌≡◌, ◌⊎◌, ◌<◌, ◌≤◌, ℕ, List, length, Some, None}
 use Rattle.std.specs.Str.{IsUtf8}
 use Rattle.bg_types.specs.declared.class.Base.{Base}
 use Rattle.unicode_tables.specs.Tables.{TableValues}
 use Rattle.cell_grid.specs.Grids.{DrawnGrid, grid_of}
 use Rattle.bidigrid_c.specs.Bases.{base_of}
+
+-- a width is 2 to 500 columns
+abbrev pub IsWidth : ℕ → Type 0
+IsWidth width = (2 ≤ width) × (width ≤ 500)
 
 -- these bytes, which are a text that can be drawn, were drawn at the width and the base with this number
 pub record IsDrawnBy (tables : TableValues) (width base : ℕ) (text : List ℕ) (grid : DrawnGrid) : Type 0 where
@@ -16,7 +20,7 @@ pub record IsDrawnBy (tables : TableValues) (width base : ℕ) (text : List ℕ)
 abbrev pub IsRefusedDrawing : (width base : ℕ) → List ℕ → (fault : ℕ) → Type 0
 IsRefusedDrawing width base text fault =
     (fault ≡ 9)
-    ⊎ (((fault ≡ 105) × ((width < 2) ⊎ (500 < width)))
+    ⊎ (((fault ≡ 105) × (¬ (IsWidth width)))
     ⊎ (((fault ≡ 106) × (base_of base ≡ None))
     ⊎ (((fault ≡ 104) × (4_000_000 < length text))
     ⊎ ((fault ≡ 103) × (¬ (IsUtf8 text))))))

@@ -10,6 +10,8 @@ use Rattle.op_codec.specs.declared.fault.CodecFault.TheVariants as codec
 use Rattle.op_codec.specs.Code.{cause_code as message_cause}
 use Rattle.desk_replica.specs.declared.answer.TakeFault.{TakeFault}
 use Rattle.desk_replica.specs.declared.answer.TakeFault.TheVariants as taking
+use Rattle.desk_replica.specs.declared.answer.TypeFault.{TypeFault}
+use Rattle.desk_replica.specs.declared.answer.TypeFault.TheVariants as typing
 use Rattle.bidigrid_c.specs.declared.numbers.DataFault.{DataFault}
 
 -- a data file's fault is 400 and its cause's number; lack of memory is 9
@@ -47,3 +49,8 @@ abbrev pub take_number : TakeFault → ℕ
 take_number taking.IdentifierReused = 201
 take_number taking.Full = 202
 take_number taking.Memory = 9
+
+abbrev pub type_number : TypeFault → ℕ
+type_number typing.CounterSpent = 203
+type_number typing.Full = 202
+type_number typing.Memory = 9

@@ -1,8 +1,8 @@
 pub mod Bases
 pub mod Copying
 pub mod Desks
+pub mod Documents
 pub mod Drawing
-pub mod Entries
 pub mod Faults
 pub mod Files
 pub mod Numbers

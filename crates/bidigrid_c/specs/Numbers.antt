@@ -1,6 +1,9 @@
 -- What the structs of C have of the core's.
-use Rattle.std.specs.Prelude.{◌≡◌, ◌<◌, ℕ, length}
+use Rattle.std.specs.Prelude.{◌≡◌, ◌<◌, ℕ, min, length}
+use Rattle.bg_types.specs.declared.change.Change.{Change}
+use Rattle.bg_types.specs.declared.change.Change.TheVariants.{Put, Cut}
 use Rattle.cell_grid.specs.declared.entry.Entry.{Entry}
+use Rattle.cell_grid.specs.Windows.{DrawnWindow}
 use Rattle.cell_grid.specs.Rows.{DrawnRow}
 use Rattle.caret.specs.declared.caret.Caret.{Caret}
 use Rattle.caret.specs.Gaps.{gap_column}
@@ -9,6 +12,8 @@ use Rattle.bidigrid_c.specs.declared.numbers.EntryNumbers.{EntryNumbers}
 use Rattle.bidigrid_c.specs.declared.numbers.CaretNumbers.{CaretNumbers}
 use Rattle.bidigrid_c.specs.declared.numbers.IdentifierNumbers.{IdentifierNumbers}
 use Rattle.bidigrid_c.specs.declared.numbers.Taken.{Taken}
+use Rattle.bidigrid_c.specs.declared.numbers.ChangeNumbers.{ChangeNumbers}
+use Rattle.bidigrid_c.specs.declared.numbers.WindowNumbers.{WindowNumbers}
 
 -- the column is where the entries begin, that of gap 0
 abbrev pub row_numbers : DrawnRow → RowNumbers
@@ -53,6 +58,17 @@ no_identifier = record { counter = 0; site = 0 }
 -- a message that was not read, or whose fault is in this frame
 abbrev pub none_taken : ℕ → Taken
 none_taken frame = record { operations = 0; taken = 0; frame = frame }
+
+-- a place that 32 bits can't tell would be their greatest number: no text has one
+abbrev pub change_numbers : Change → ChangeNumbers
+change_numbers (Put place ch) = record { place = min place 4_294_967_295; character = ch; put = 1 }
+change_numbers (Cut place) = record { place = min place 4_294_967_295; character = 0; put = 0 }
+
+abbrev pub window_numbers : DrawnWindow → WindowNumbers
+window_numbers w = record { rows = length w.rows; number = w.number }
+
+abbrev pub nothing_shown : WindowNumbers
+nothing_shown = record { rows = 0; number = 0 }
 
 -- a site is 1 to 65,535
 abbrev pub IsSite : ℕ → Type 0

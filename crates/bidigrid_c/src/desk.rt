@@ -1,9 +1,9 @@
 //! Desks: made, opened from a file, paid for, freed.
 
-ghost use Rattle.std.specs.Prelude.{◌≡◌, ◌⊎◌, ◌<◌, max, Some, None, IfOk, IfErr};
+ghost use Rattle.std.specs.Prelude.{◌≡◌, ◌⊎◌, ◌<◌, ◌+◌, ◌*◌, max, Some, None, IfOk, IfErr};
 ghost use Rattle.std.specs.Option.{IfSome};
 ghost use Rattle.desk_replica.specs.Desk.{fresh};
-ghost use Rattle.bidigrid_c.specs.Numbers.{IsSite, none_taken};
+ghost use Rattle.bidigrid_c.specs.Numbers.{IsSite};
 ghost use Rattle.bidigrid_c.specs.Desks.{IsMessageTaken, IsRefusedOpening};
 
 use crate::desk_handle::DeskHandle;
@@ -52,16 +52,31 @@ fn new_desk(alloc: Global, site: u32, key_high: u64, key_low: u64) -> Result<Box
     ensures ok { IfOk result (λ boxed. (boxed.value ≡ fresh site) × IsSite site) }
     ensures fault { IfErr result (λ fault. ((fault ≡ 112) × (¬ (IsSite site))) ⊎ ((fault ≡ 9) × IsSite site)) }
 {
-    if site == 0 || site > MOST_SITE {
-        return Err(BAD_SITE);
-    }
-    let site = site as u16;
-    let key = (u128::from(key_high) << 64) | u128::from(key_low);
-    let desk = Replica::new(alloc, site, Blocks::keyed(alloc, key), key);
+    let desk = fresh_desk(alloc, site, key_high, key_low)?;
     match Box::new(alloc, desk) {
         Ok(boxed) => Ok(boxed),
         Err(_) => Err(MEMORY),
     }
+}
+
+/// A desk of a site without operations, or the number of the fault.
+pub(crate) fn fresh_desk(alloc: Global, site: u32, key_high: u64, key_low: u64) -> Result<Desk, u32>
+    ensures ok { IfOk result (λ desk. (desk ≡ fresh site) × IsSite site) }
+    ensures fault { IfErr result (λ fault. (fault ≡ 112) × (¬ (IsSite site))) }
+{
+    if site == 0 || site > MOST_SITE {
+        return Err(BAD_SITE);
+    }
+    let site = site as u16;
+    let key = key_of(key_high, key_low);
+    Ok(Replica::new(alloc, site, Blocks::keyed(alloc, key), key))
+}
+
+/// The key of 16 bytes, of which C hands in the halves.
+pub(crate) fn key_of(high: u64, low: u64) -> u128
+    ensures { result ≡ 18_446_744_073_709_551_616 * high + low }
+{
+    u128::from(high) * 18_446_744_073_709_551_616 + u128::from(low)
 }
 
 /// Makes a desk of a site that has taken a file. What the handle held is freed.

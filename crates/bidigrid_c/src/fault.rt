@@ -1,9 +1,9 @@
 //! What the calls answer: 0, or the number of a fault.
 
 ghost use Rattle.std.specs.Prelude.{◌≡◌, ◌<◌};
-ghost use Rattle.bidigrid_c.specs.Faults.{data_number, message_number, take_number};
+ghost use Rattle.bidigrid_c.specs.Faults.{data_number, message_number, take_number, type_number};
 
-use desk_replica::TakeFault;
+use desk_replica::{TakeFault, TypeFault};
 use op_codec::CodecFault;
 use ucd_files::UcdFault;
 
@@ -85,5 +85,17 @@ pub(crate) fn take_number(fault: TakeFault) -> u32
         TakeFault::IdentifierReused => IDENTIFIER_REUSED,
         TakeFault::Full => FULL,
         TakeFault::Memory => MEMORY,
+    }
+}
+
+/// The number of why a desk typed nothing.
+pub(crate) fn type_number(fault: TypeFault) -> u32
+    ensures number { result ≡ type_number fault }
+    ensures some { 0 < result }
+{
+    match fault {
+        TypeFault::CounterSpent => COUNTER_SPENT,
+        TypeFault::Full => FULL,
+        TypeFault::Memory => MEMORY,
     }
 }

@@ -6,6 +6,14 @@ mod carets;
 mod copying;
 mod desk;
 mod desk_handle;
+mod document;
+mod document_changes;
+mod document_edits;
+mod document_handle;
+mod document_merging;
+mod document_reading;
+mod document_taking;
+mod draft;
 mod fault;
 mod numbers;
 mod picture;
@@ -16,13 +24,20 @@ mod replacing;
 mod tables;
 mod tables_handle;
 mod taking;
+mod told_document;
 mod typing;
+mod window;
+mod window_prints;
+mod window_rows;
 
 pub use about::bidigrid_version;
 pub use desk::Desk;
 pub use desk_handle::DeskHandle;
+pub use document_handle::DocumentHandle;
 pub use numbers::{
-    CaretNumbers, DataFault, DataFiles, EntryNumbers, IdentifierNumbers, RowNumbers, Taken,
+    CaretNumbers, ChangeNumbers, DataFault, DataFiles, EntryNumbers, IdentifierNumbers, RowNumbers,
+    Taken, WindowNumbers,
 };
 pub use picture_handle::PictureHandle;
 pub use tables_handle::TablesHandle;
+pub use told_document::ToldDocument;

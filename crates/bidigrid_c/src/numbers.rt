@@ -1,11 +1,14 @@
 //! The structs of numbers that C reads.
 
-ghost use Rattle.std.specs.Prelude.{◌≡◌};
-ghost use Rattle.bidigrid_c.specs.Numbers.{row_numbers, no_row, entry_numbers, no_entry, caret_numbers, no_caret, caret_of, no_identifier, none_taken};
+ghost use Rattle.std.specs.Prelude.{◌≡◌, min};
+ghost use Rattle.caret.specs.Gaps.{gap_column};
+ghost use Rattle.bidigrid_c.specs.Numbers.{row_numbers, no_row, entry_numbers, no_entry, caret_numbers, no_caret, caret_of, no_identifier, none_taken, change_numbers, window_numbers, nothing_shown};
 ghost use Rattle.bidigrid_c.specs.Faults.{data_fault, file_number, no_data_fault};
 
+use bg_types::{Change, Id};
 use caret::{Caret, gap_column};
 use cell_grid::{Entry, Row};
+use live_document::{Window, WindowRow};
 use ucd_files::{UcdFault, UcdFile};
 
 /// A row: `bidigrid_row` of the header.
@@ -56,6 +59,23 @@ pub struct Taken {
     pub operations: usize,
     pub taken: usize,
     pub frame: usize,
+}
+
+/// A change of a text: `bidigrid_change` of the header.
+#[derive(Clone, Copy)]
+#[repr(C)]
+pub struct ChangeNumbers {
+    pub place: u32,
+    pub character: u32,
+    pub put: u32,
+}
+
+/// What is shown of a document: `bidigrid_window` of the header.
+#[derive(Clone, Copy)]
+#[repr(C)]
+pub struct WindowNumbers {
+    pub rows: usize,
+    pub number: usize,
 }
 
 /// The bytes of the five data files: `bidigrid_bytes` of the header, five of them in this order.
@@ -167,6 +187,17 @@ pub(crate) fn caret_of(numbers: &CaretNumbers) -> Caret
     }
 }
 
+/// The numbers of an identifier.
+pub(crate) fn identifier_numbers(id: Id) -> IdentifierNumbers
+    ensures counter { result.counter ≡ id.counter }
+    ensures site { result.site ≡ id.site }
+{
+    IdentifierNumbers {
+        counter: id.counter(),
+        site: u32::from(id.site()),
+    }
+}
+
 /// The numbers where there is no identifier.
 pub(crate) fn no_identifier() -> IdentifierNumbers
     ensures { result ≡ no_identifier }
@@ -186,6 +217,74 @@ pub(crate) fn none_taken(frame: usize) -> Taken
         taken: 0,
         frame,
     }
+}
+
+/// The numbers of a change.
+pub(crate) fn change_numbers(change: &Change) -> ChangeNumbers
+    ensures { result ≡ change_numbers change.now }
+{
+    match *change {
+        Change::Put { place, ch } => ChangeNumbers {
+            place: place_number(place),
+            character: u32::from(ch),
+            put: 1,
+        },
+        Change::Cut { place } => ChangeNumbers {
+            place: place_number(place),
+            character: 0,
+            put: 0,
+        },
+    }
+}
+
+/// The number of a place. A text has none that 32 bits can't tell.
+fn place_number(place: usize) -> u32
+    ensures { result ≡ min place 4_294_967_295 }
+{
+    place.min(4_294_967_295) as u32
+}
+
+/// The numbers of a window.
+pub(crate) fn window_numbers(window: &Window) -> WindowNumbers
+    ensures { result ≡ window_numbers window.now }
+{
+    WindowNumbers {
+        rows: window.len(),
+        number: window.number(),
+    }
+}
+
+/// The numbers where nothing is shown.
+pub(crate) fn nothing_shown() -> WindowNumbers
+    ensures { result ≡ nothing_shown }
+{
+    WindowNumbers { rows: 0, number: 0 }
+}
+
+/// The numbers of a row of a window.
+pub(crate) fn window_row_numbers(row: &WindowRow) -> RowNumbers
+    ensures { result ≡ row_numbers row.now }
+{
+    RowNumbers {
+        first_place: row.first_place(),
+        last_place: row.last_place(),
+        entries: row.entry_count(),
+        column: first_column(row),
+        level: u32::from(row.para_level()),
+    }
+}
+
+/// The column where the entries of a row begin; for an empty row, where it starts.
+fn first_column(row: &WindowRow) -> usize
+    ensures { result ≡ gap_column row.now 0 }
+{
+    if row.entry_count() > 0 {
+        return usize::from(row.entry(0).column);
+    }
+    if row.para_level() % 2 == 1 {
+        return usize::from(row.width());
+    }
+    0
 }
 
 /// Where no data file is faulty.

@@ -3,9 +3,9 @@
 ghost use Rattle.std.specs.Prelude.{◌≡◌, ◌<◌, ◌≤◌, ◌++◌, Some, None, drop, length, map, slice_get, IfOk, IfErr};
 ghost use Rattle.std.specs.Option.{IfSome, MatchOption};
 ghost use Rattle.bidigrid_c.specs.Bases.{base_of};
-ghost use Rattle.bidigrid_c.specs.Drawing.{IsDrawnBy, IsRefusedDrawing};
+ghost use Rattle.bidigrid_c.specs.Drawing.{IsDrawnBy, IsRefusedDrawing, IsWidth};
 ghost use Rattle.bidigrid_c.specs.Numbers.{row_numbers, no_row, entry_numbers, no_entry};
-ghost use Rattle.bidigrid_c.specs.Entries.{AreEntriesTold};
+ghost use Rattle.bidigrid_c.specs.Copying.{AreListed};
 
 use crate::fault::{
     BAD_BASE, BAD_ENTRY, BAD_ROW, BAD_WIDTH, EMPTY_HANDLE, MEMORY, NOT_UTF8, OK, SHORT_BUFFER,
@@ -65,10 +65,9 @@ fn draw_text(
     ensures fault { IfErr result (IsRefusedDrawing width base text.now) }
     ensures some { IfErr result (λ fault. 0 < fault) }
 {
-    if width < 2 || width > 500 {
+    let Some(width) = width_of(width) else {
         return Err(BAD_WIDTH);
-    }
-    let width = width as u16;
+    };
     let Some(base) = base_of(base) else {
         return Err(BAD_BASE);
     };
@@ -87,8 +86,18 @@ fn draw_text(
     }
 }
 
+/// The width of this many columns.
+pub(crate) fn width_of(columns: u32) -> Option<u16>
+    ensures { MatchOption result (¬ (IsWidth columns)) (λ width. (width ≡ columns) × IsWidth columns) }
+{
+    if columns < 2 || columns > 500 {
+        return None;
+    }
+    Some(columns as u16)
+}
+
 /// The base direction with this number.
-fn base_of(number: u32) -> Option<Base>
+pub(crate) fn base_of(number: u32) -> Option<Base>
     ensures { result ≡ base_of number }
 {
     match number {
@@ -220,7 +229,7 @@ pub extern "C" fn bidigrid_picture_entries(
     out: &mut [EntryNumbers],
     count: &mut usize,
 ) -> u32
-    ensures told { IfSome picture.old.held (λ g. MatchOption (slice_get g.rows row) ((result ≡ 108) × (out.new ≡ out.old) × (count.new ≡ 0)) (λ r. AreEntriesTold r.entries out.old out.new count.new result)) }
+    ensures told { IfSome picture.old.held (λ g. MatchOption (slice_get g.rows row) ((result ≡ 108) × (out.new ≡ out.old) × (count.new ≡ 0)) (λ r. AreListed entry_numbers r.entries out.old out.new count.new result)) }
     ensures same { picture.new.held ≡ picture.old.held }
     ensures empty { picture.old.held ≡ None → (result ≡ 101) × (out.new ≡ out.old) × (count.new ≡ 0) }
 {
@@ -234,7 +243,7 @@ pub extern "C" fn bidigrid_picture_entries(
 }
 
 fn tell_entries(picture: &Picture, row: usize, out: &mut [EntryNumbers], count: &mut usize) -> u32
-    ensures { MatchOption (slice_get picture.now.rows row) ((result ≡ 108) × (out.new ≡ out.old) × (count.new ≡ 0)) (λ r. AreEntriesTold r.entries out.old out.new count.new result) }
+    ensures { MatchOption (slice_get picture.now.rows row) ((result ≡ 108) × (out.new ≡ out.old) × (count.new ≡ 0)) (λ r. AreListed entry_numbers r.entries out.old out.new count.new result) }
 {
     *count = 0;
     let Some(row) = picture.rows().get(row) else {

@@ -1,13 +1,14 @@
 //! Prints of pictures.
 
-ghost use Rattle.std.specs.Prelude.{◌≡◌, None, slice_get};
+ghost use Rattle.std.specs.Prelude.{◌≡◌, None, slice_get, MatchResult};
 ghost use Rattle.std.specs.Option.{IfSome, MatchOption};
 ghost use Rattle.cell_grid.specs.Print.{printed, printed_row};
-ghost use Rattle.bidigrid_c.specs.Copying.{IsLeft, IsSized, IsWritten};
+ghost use Rattle.bidigrid_c.specs.Copying.{IsLeft, IsSize, IsWritten};
 
 use crate::copying::copy_out;
 use crate::fault::{BAD_ROW, EMPTY_HANDLE, MEMORY, OK, SHORT_BUFFER};
 use crate::picture_handle::PictureHandle;
+use bg_types::Memory;
 use pictures::Picture;
 use std::alloc::Global;
 
@@ -39,7 +40,7 @@ fn tell_print(picture: &mut Picture, out: &mut [u8], size: &mut usize) -> u32
 {
     *size = 0;
     if out.is_empty() {
-        return tell_print_size(picture, size);
+        return tell_size(picture.print_size(), size);
     }
     match picture.printed() {
         Ok(bytes) => copy_out(&bytes, out, size),
@@ -47,12 +48,11 @@ fn tell_print(picture: &mut Picture, out: &mut [u8], size: &mut usize) -> u32
     }
 }
 
-/// Tells how many bytes a picture has, and makes no print of more than a row for it.
-fn tell_print_size(picture: &mut Picture, size: &mut usize) -> u32
-    ensures told { IsSized (printed picture.old) size.new result }
-    ensures same { picture.new ≡ picture.old }
+/// Tells how many bytes there are, where there is no buffer for them.
+pub(crate) fn tell_size(bytes: Result<usize, Memory>, size: &mut usize) -> u32
+    ensures { MatchResult bytes (λ count. IsSize count size.new result) (λ _. (result ≡ 9) × (size.new ≡ 0)) }
 {
-    match picture.print_size() {
+    match bytes {
         Ok(0) => {
             *size = 0;
             OK

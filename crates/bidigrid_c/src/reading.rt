@@ -11,7 +11,7 @@ use crate::copying::copy_out;
 use crate::desk::{Desk, MOST_SITE};
 use crate::desk_handle::DeskHandle;
 use crate::fault::{BAD_IDENTIFIER, BAD_PLACE, EMPTY_HANDLE, MEMORY, NOT_PLACED, OK};
-use crate::numbers::{IdentifierNumbers, no_identifier};
+use crate::numbers::{IdentifierNumbers, identifier_numbers, no_identifier};
 use bg_types::{Id, Memory};
 use op_codec::encode_file_v2;
 use std::alloc::Global;
@@ -39,7 +39,7 @@ pub extern "C" fn bidigrid_desk_text(
 }
 
 #[tactic(auto, using(crate::proofs::Texts::bytes_of_none))]
-fn tell_text(desk: &Desk, out: &mut [u8], size: &mut usize) -> u32
+pub(crate) fn tell_text(desk: &Desk, out: &mut [u8], size: &mut usize) -> u32
     ensures told { IsWritten (encode_utf8_all (text desk.now.set)) out.old out.new size.new result }
     ensures memory { result ≡ 9 → 0 < length (visible desk.now.set) }
 {
@@ -75,7 +75,7 @@ pub extern "C" fn bidigrid_desk_length(
     answer
 }
 
-fn tell_length(desk: &Desk, places: &mut usize) -> u32
+pub(crate) fn tell_length(desk: &Desk, places: &mut usize) -> u32
     ensures answer { result ≡ 0 }
     ensures places { places.new ≡ length (visible desk.now.set) }
 {
@@ -112,11 +112,7 @@ fn tell_id_at(desk: &mut Desk, place: usize, id: &mut IdentifierNumbers) -> u32
         *id = no_identifier();
         return BAD_PLACE;
     }
-    let found = desk.id_at(place);
-    *id = IdentifierNumbers {
-        counter: found.counter(),
-        site: u32::from(found.site()),
-    };
+    *id = identifier_numbers(desk.id_at(place));
     OK
 }
 
@@ -141,7 +137,7 @@ pub extern "C" fn bidigrid_desk_place_of(
     answer
 }
 
-fn tell_place_of(desk: &Desk, id: &IdentifierNumbers, place: &mut usize) -> u32
+pub(crate) fn tell_place_of(desk: &Desk, id: &IdentifierNumbers, place: &mut usize) -> u32
     ensures { IsPlaceTold desk.now.set id.now place.new result }
 {
     *place = 0;
@@ -181,7 +177,7 @@ pub extern "C" fn bidigrid_desk_file(
     answer
 }
 
-fn tell_file(alloc: Global, desk: &Desk, out: &mut [u8], size: &mut usize) -> u32
+pub(crate) fn tell_file(alloc: Global, desk: &Desk, out: &mut [u8], size: &mut usize) -> u32
     ensures { IsSaved desk.now out.old out.new size.new result }
 {
     *size = 0;

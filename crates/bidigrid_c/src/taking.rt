@@ -1,10 +1,11 @@
 //! Taking messages, and all that another desk holds.
 
-ghost use Rattle.std.specs.Prelude.{◌≡◌, ◌<◌, None, length};
+ghost use Rattle.std.specs.Prelude.{◌≡◌, ◌<◌, None, vec_len, IfOk, IfErr, MatchResult};
 ghost use Rattle.std.specs.Option.{IfSome};
+ghost use Rattle.op_codec.specs.Spelling.{Spells};
 ghost use Rattle.desk_replica.specs.Merging.{IsMerge};
 ghost use Rattle.bidigrid_c.specs.Numbers.{none_taken};
-ghost use Rattle.bidigrid_c.specs.Desks.{IsTakenUpTo, IsMessageTaken, IsTooLong, IsMergedWith, merge_number};
+ghost use Rattle.bidigrid_c.specs.Desks.{IsTakenUpTo, IsMessageTaken, IsUnread, IsTooLong, IsMergedWith, merge_number};
 
 use crate::desk::Desk;
 use crate::desk_handle::DeskHandle;
@@ -59,24 +60,36 @@ pub(crate) fn take_in(alloc: Global, desk: &mut Desk, bytes: &[u8], told: &mut T
     ensures taken { IsMessageTaken desk.old bytes.now desk.new told.new result }
     ensures too_long { IsTooLong bytes.now → result ≡ 116 }
 {
+    match read_message(alloc, bytes, told) {
+        Ok(ops) => take_each(desk, &ops, &mut told.taken),
+        Err(fault) => fault,
+    }
+}
+
+/// The operations of a message, of which none is told to be taken yet; or the number of its fault, which is told.
+pub(crate) fn read_message(alloc: Global, bytes: &[u8], told: &mut Taken) -> Result<Vec<Op>, u32>
+    ensures ok { IfOk result (λ ops. Spells bytes.now ops.items) }
+    ensures told { IfOk result (λ ops. told.new ≡ record { operations = vec_len ops; taken = 0; frame = 0 }) }
+    ensures fault { IfErr result (IsUnread bytes.now told.new) }
+    ensures some { IfErr result (λ fault. 0 < fault) }
+    ensures too_long { IsTooLong bytes.now → MatchResult result (λ _. ⊥) (λ fault. fault ≡ 116) }
+{
     if bytes.len() > LONGEST {
         *told = none_taken(0);
-        return MESSAGE_TOO_LONG;
+        return Err(MESSAGE_TOO_LONG);
     }
     match decode_file(alloc, bytes) {
         Ok(ops) => {
-            let mut taken = 0;
-            let answer = take_each(desk, &ops, &mut taken);
             *told = Taken {
                 operations: ops.len(),
-                taken,
+                taken: 0,
                 frame: 0,
             };
-            answer
+            Ok(ops)
         }
         Err(fault) => {
             *told = none_taken(fault.frame().unwrap_or(0));
-            message_number(fault)
+            Err(message_number(fault))
         }
     }
 }
@@ -116,6 +129,20 @@ fn merge_from(alloc: Global, desk: &mut DeskHandle, other: &Desk) -> u32
     answer
 }
 
+/// Lets a desk take all that it holds itself: it stays as it is.
+#[unsafe(no_mangle)]
+pub extern "C" fn bidigrid_desk_merge_itself(alloc: Global, desk: &mut DeskHandle) -> u32
+    ensures merged { IfSome desk.old.held (λ _. result ≡ 0) }
+    ensures same { desk.new.held ≡ desk.old.held }
+    ensures empty { desk.old.held ≡ None → result ≡ 101 }
+{
+    let Some(held) = desk.take(alloc) else {
+        return EMPTY_HANDLE;
+    };
+    desk.put(alloc, held);
+    OK
+}
+
 fn merge_in(desk: &mut Desk, other: &Desk) -> u32
     ensures { IsMergedWith desk.old other.now desk.new result }
 {
@@ -130,7 +157,7 @@ fn meet(desk: &mut Desk, other: &Desk) -> Result<u32, TakeFault>
 }
 
 /// The number of what a merge answers.
-fn merge_number(answer: Result<u32, TakeFault>) -> u32
+pub(crate) fn merge_number(answer: Result<u32, TakeFault>) -> u32
     ensures { result ≡ merge_number answer }
 {
     match answer {

@@ -32,7 +32,7 @@ const PIECES: [&str; 24] = [
     "one\ntwo\r\nthree\n\nfive ",
 ];
 
-fn piece(chance: &mut Chance) -> &'static str {
+pub fn piece(chance: &mut Chance) -> &'static str {
     PIECES[chance.below(PIECES.len()) % PIECES.len()]
 }
 
@@ -72,7 +72,7 @@ fn turn(document: &mut Document, chance: &mut Chance) {
     }
 }
 
-/// One change: an edit, or now and then another width and base direction.
+/// One change at the document: an edit, or now and then another width and base direction.
 pub fn change(
     document: &mut Document,
     chance: &mut Chance,

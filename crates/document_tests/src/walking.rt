@@ -1,10 +1,13 @@
-//! A walk of edits by chance, after each of which a window is compared with the rows of the whole grid.
+//! A walk of steps by chance, after each of which a window is compared with the rows of the whole grid.
 
 use crate::chance::Chance;
 use crate::edits::change;
+use crate::other::Other;
 use bg_types::{Base, Memory};
 use cell_grid::{Row, draw};
-use live_document::{Document, Window, WindowRow};
+use desk_replica::Replica;
+use live_document::{Desk, Document, Window, WindowRow};
+use rga_sequence::Blocks;
 use std::alloc::Global;
 use std::rc::Rc;
 use ucd_files::Tables;
@@ -17,15 +20,15 @@ const ROWS: usize = 40;
 /// How many paragraphs the text has from the start: more than one block of a buffer.
 const PARAGRAPHS: usize = 600;
 
-/// Makes so many edits by chance, some of the width and the base direction, and shows a window at some place after each. Tells the number of the first edit after which
-/// the window is not the stretch of the rows of `cell_grid::draw` that it should be, or the number of edits where there is
+/// Makes so many steps by chance, and shows a window at some place after each. Tells the number of the first step after which
+/// the window is not the stretch of the rows of `cell_grid::draw` that it should be, or the number of steps where there is
 /// none.
 pub fn walk(alloc: Global, tables: Rc<Tables>, seed: u64, steps: usize) -> Result<usize, Memory> {
     let mut document = begun(alloc, tables)?;
+    let mut other = Other::new(alloc);
     let mut chance = Chance::new(seed);
-    let mut made = Vec::new(alloc);
     for step in 0..steps {
-        change(&mut document, &mut chance, &mut made)?;
+        go_on(alloc, &mut document, &mut other, &mut chance)?;
         if !shows(alloc, &mut document, &mut chance)? {
             return Ok(step);
         }
@@ -33,16 +36,30 @@ pub fn walk(alloc: Global, tables: Rc<Tables>, seed: u64, steps: usize) -> Resul
     Ok(steps)
 }
 
-/// A document with the first text.
+/// A step: at the document, or between it and another desk.
+fn go_on(
+    alloc: Global,
+    document: &mut Document,
+    other: &mut Other,
+    chance: &mut Chance,
+) -> Result<(), Memory> {
+    if chance.one_in(2) {
+        return other.step(document, chance);
+    }
+    let mut made = Vec::new(alloc);
+    change(document, chance, &mut made)
+}
+
+/// A document over a desk that holds the first text.
 fn begun(alloc: Global, tables: Rc<Tables>) -> Result<Document, Memory> {
-    let mut document = Document::new(alloc, 1, tables, 17, Base::Auto, KEY)?;
     let mut text = String::new(alloc);
     for _ in 0..PARAGRAPHS {
         text.push_str("ab \u{5D0}\n")?;
     }
+    let mut desk: Desk = Replica::new(alloc, 1, Blocks::keyed(alloc, KEY), KEY);
     let mut made = Vec::new(alloc);
-    document.type_text(0, &text, &mut made).map_err(|_| Memory)?;
-    Ok(document)
+    desk.type_text(0, &text, &mut made).map_err(|_| Memory)?;
+    Document::of(alloc, desk, tables, 17, Base::Auto)
 }
 
 /// Whether a window at some place is the stretch of the whole grid that it should be.

@@ -1,4 +1,4 @@
-//! Walks of edits by chance.
+//! Walks of steps by chance.
 
 use crate::walking::walk;
 use bg_types::Memory;
@@ -6,7 +6,7 @@ use std::alloc::Global;
 use std::rc::Rc;
 use ucd_files::vectors::SMALL;
 
-/// How many edits a walk has.
+/// How many steps a walk has.
 const STEPS: usize = 40;
 
 /// How far the walks of three seeds come.

@@ -1,18 +1,23 @@
 -- Paragraphs that follow the text of a desk.
-use Rattle.std.proofs.Common.{◌≡◌, ℕ, ◌+◌, ◌≤◌, Bool, false, inl, List, length, map, sym, ap, subst, ◌∙◌, arith}
-use Rattle.std.proofs.lemmas.List.{length-map}
+use Rattle.std.proofs.Common.{◌≡◌, ℕ, ◌+◌, ◌-◌, ◌≤◌, Bool, false, inl, List, [], ◌∷◌, length, take, drop, map, sym, ap, subst, ◌∙◌, arith}
+use Rattle.std.proofs.lemmas.List.{length-map, take_rest}
 use Rattle.std.specs.List.{All, concat}
-use Rattle.std.specs.Prelude.{Result, Ok, Err, is_err, IfOk, OnOk, OnErr}
+use Rattle.std.specs.Prelude.{Result, Ok, Err, is_err, IfOk, IfErr, OnOk, OnErr, true}
 use Rattle.bg_types.specs.Identifier.{Identifier}
 use Rattle.bg_types.specs.OperationSet.{Node, OperationSet}
+use Rattle.bg_types.specs.Edit.{IsEdit}
+use Rattle.bg_types.specs.declared.change.Change.{Change}
 use Rattle.rga_tree.specs.TextOf.{text, visible}
 use Rattle.desk_replica.specs.Desk.{Desk}
+use Rattle.desk_replica.specs.Telling.{IsTold}
 use Rattle.bg_types.specs.declared.class.Base.{Base}
 use Rattle.unicode_tables.specs.Tables.{TableValues}
 use Rattle.text_buffer.specs.Buffers.{paragraphs_in, text_in, IsSplit}
-use Rattle.text_buffer.specs.Edits.{anew, replaced, IsTouched}
+use Rattle.text_buffer.specs.Edits.{anew, replaced, all_changed, AreInRange, IsTouched, IsTouchedInTurn, AreTouched, Step}
 use Rattle.text_buffer.specs.declared.touched.Touched.{Touched}
 use Rattle.text_buffer.specs.declared.fault.BufferFault.{BufferFault}
+use Rattle.text_buffer.specs.declared.fault.Stopped.{Stopped}
+use Rattle.text_buffer.proofs.Interface.{changed-all}
 use Rattle.live_document.specs.Keeping.{KeptText, IsLaid, IsKeptAt, StaysKept}
 use Rattle.live_document.specs.declared.shown.Shown.{Shown}
 use Rattle.live_document.specs.Documents.{IsWindowOf, IsLive}
@@ -48,6 +53,28 @@ pub stays-after : (tables : TableValues) (old new : KeptText) (from to : ℕ) (r
 stays-after tables old new from to (Ok t) touched split same = stays-edited tables old new from to t touched split
 stays-after tables old new from to (Err e) touched split same = stays-same tables old new same
 
+-- so do edits one after the other
+laid-in_turn : (tables : TableValues) (width : ℕ) (base : Base) (old new : KeptText) (steps : List Step) → IsTouchedInTurn old steps new
+    → All (IsLaid tables width base) old → All (IsLaid tables width base) new
+laid-in_turn tables width base old new [] same all = subst (All (IsLaid tables width base)) (sym same) all
+laid-in_turn tables width base old new (s ∷ steps) h all =
+    laid-in_turn tables width base h.0 new steps h.2
+    (laid-replaced tables width base old h.0 s.touched.first (s.touched.first + s.touched.old) h.1.made h.1.paragraphs all)
+
+stays-touched : (tables : TableValues) (old new : KeptText) (changes : List Change) → AreTouched old changes new → IsSplit tables (paragraphs_in new) → StaysKept tables old new
+stays-touched tables old new changes h split = λ width base at. record {
+  at_least = at.at_least;
+  at_most = at.at_most;
+  split = split;
+  laid = laid-in_turn tables width base old new h.steps h.touched at.laid;
+}
+
+-- all changes are made, or the first of them
+pub stays-all : (tables : TableValues) (old new : KeptText) (changes : List Change) (r : Result (Unit {0}) Stopped) → OnOk r (AreTouched old changes new)
+    → IfErr r (λ s. AreTouched old (take s.made changes) new) → IsSplit tables (paragraphs_in new) → StaysKept tables old new
+stays-all tables old new changes (Ok u) all begun split = stays-touched tables old new changes all split
+stays-all tables old new changes (Err s) all begun split = stays-touched tables old new (take s.made changes) begun split
+
 -- what holds after Ok
 pub on-ok : {A E P : Type 0} (r : Result A E) → is_err r ≡ false → OnOk r P → P
 on-ok (Ok v) e h = h
@@ -72,24 +99,59 @@ pub live-followed : (old new : Desk) (tables : TableValues) (width : ℕ) (base 
 live-followed old new tables width base behind later kept now s nothing from to points live none stays before same changed = record {
   kept_at = stays width base live.kept_at;
   text_is = λ h. same h ∙ ap (λ t. replaced t from to points) (live.text_is (before h)) ∙ sym changed;
+  unshown = λ h. nothing-window now nothing none;
   at_hand = nothing-at_hand now nothing none;
   of_now = inl (nothing-window now nothing none);
 }
 
--- the desk's text is the same, and the paragraphs are its own
-pub live-caught : (desk : Desk) (tables : TableValues) (width : ℕ) (base : Base) (behind : Bool) (now : KeptText) (s : Shown)
-    → IsKeptAt tables width base now → text_in now ≡ text desk.set → IsAtHand now s → IsWindowOf desk.set tables width base (window_in now s)
-    → IsLive desk tables width base behind now s
-live-caught desk tables width base behind now s at is hand shown = record { kept_at = at; text_is = λ h. is; at_hand = hand; of_now = shown }
+-- what stands behind older changes, as a slice of all
+pub told-behind : (old new all : List Change) (n : ℕ) → n ≡ length old → all ≡ new → take (length all - n) (drop n all) ≡ drop (length old) new
+told-behind old new all n is same = take_rest all n ∙ ap (drop n) same ∙ ap (λ m. drop m new) is
 
--- nothing has changed but what is shown
-pub live-same : (desk : Desk) (tables : TableValues) (width : ℕ) (base : Base) (behind : Bool) (kept now : KeptText) (s nothing : Shown)
-    → IsLive desk tables width base behind kept s → nothing ≡ record { first = 0; skip = 0; count = 0; number = 0 } → now ≡ kept → IsLive desk tables width base behind now nothing
-live-same desk tables width base behind kept now s nothing live none same = record {
-  kept_at = subst (IsKeptAt tables width base) (sym same) live.kept_at;
-  text_is = λ h. ap text_in same ∙ live.text_is h;
+-- what is told behind older changes leads from the text to the next
+pub told-edit : (change : (s t : OperationSet) (old new : List Change) → IsTold s t old new → IsEdit (text s) (drop (length old) new) (text t)) (s t : OperationSet)
+    (old new told : List Change) → told ≡ drop (length old) new → IsTold s t old new → IsEdit (text s) told (text t)
+told-edit change s t old new told is h = subst (λ (changes : List Change). IsEdit (text s) changes (text t)) (sym is) (change s t old new h)
+
+-- changes of the desk's text are in range in the paragraphs, unless these are behind
+pub live-range : (old : Desk) (tables : TableValues) (width : ℕ) (base : Base) (behind : Bool) (kept : KeptText) (s : Shown) (changes : List Change) (later : List ℕ)
+    → IsLive old tables width base behind kept s → IsEdit (text old.set) changes later → behind ≡ false → AreInRange (text_in kept) changes
+live-range old tables width base behind kept s changes later live edit h =
+    subst (λ (t : List ℕ). AreInRange t changes) (sym (live.text_is h)) (changed-all changes (text old.set) later edit).0
+
+-- the changes of a desk's text are made in the paragraphs too, or these are behind
+pub live-told : (old new : Desk) (tables : TableValues) (width : ℕ) (base : Base) (behind later : Bool) (kept now : KeptText) (s nothing : Shown) (changes : List Change)
+    → IsLive old tables width base behind kept s → nothing ≡ record { first = 0; skip = 0; count = 0; number = 0 } → StaysKept tables kept now
+    → (later ≡ false → behind ≡ false) → (later ≡ false → text_in now ≡ all_changed (text_in kept) changes) → IsEdit (text old.set) changes (text new.set)
+    → IsLive new tables width base later now nothing
+live-told old new tables width base behind later kept now s nothing changes live none stays before same edit = record {
+  kept_at = stays width base live.kept_at;
+  text_is = λ h. same h ∙ ap (λ t. all_changed t changes) (live.text_is (before h)) ∙ sym (changed-all changes (text old.set) (text new.set) edit).1;
+  unshown = λ h. nothing-window now nothing none;
   at_hand = nothing-at_hand now nothing none;
   of_now = inl (nothing-window now nothing none);
+}
+
+-- the paragraphs are behind their desk
+pub live-behind : (desk : Desk) (tables : TableValues) (width : ℕ) (base : Base) (kept : KeptText) (nothing : Shown)
+    → IsKeptAt tables width base kept → nothing ≡ record { first = 0; skip = 0; count = 0; number = 0 } → IsLive desk tables width base true kept nothing
+live-behind desk tables width base kept nothing at none = record {
+  kept_at = at;
+  text_is = λ h. cc;
+  unshown = λ h. nothing-window kept nothing none;
+  at_hand = nothing-at_hand kept nothing none;
+  of_now = inl (nothing-window kept nothing none);
+}
+
+-- the desk's operations are the same
+pub live-alike : (old new : Desk) (tables : TableValues) (width : ℕ) (base : Base) (behind : Bool) (kept : KeptText) (s : Shown)
+    → IsLive old tables width base behind kept s → new.set ≡ old.set → IsLive new tables width base behind kept s
+live-alike old new tables width base behind kept s live same = record {
+  kept_at = live.kept_at;
+  text_is = λ h. live.text_is h ∙ sym (ap text same);
+  unshown = live.unshown;
+  at_hand = live.at_hand;
+  of_now = subst (λ (set : OperationSet). IsWindowOf set tables width base (window_in kept s)) (sym same) live.of_now;
 }
 
 -- nothing is kept any more, and the width or the base may be another
@@ -99,6 +161,7 @@ pub live-turned : (desk : Desk) (tables : TableValues) (width : ℕ) (base : Bas
 live-turned desk tables width base behind kept now s nothing wider turned live least most none same laid = record {
   kept_at = record { at_least = least; at_most = most; split = subst (IsSplit tables) (sym same) live.kept_at.split; laid = laid };
   text_is = λ h. ap concat same ∙ live.text_is h;
+  unshown = λ h. nothing-window now nothing none;
   at_hand = nothing-at_hand now nothing none;
   of_now = inl (nothing-window now nothing none);
 }

@@ -5,4 +5,6 @@ mod Stretches
 mod Placing
 mod Windows
 mod Spots
+mod Printed
 mod Followed
+mod Taking

@@ -1,5 +1,6 @@
 -- The modules of this crate's definitions.
 pub mod Keeping
 pub mod Showing
+pub mod Taking
 pub mod Documents
 pub mod LawsBelow

@@ -1,10 +1,10 @@
 //! A text that a desk edits and that is shown by windows.
 
-ghost use Rattle.std.specs.Prelude.{◌≡◌, ◌≤◌, ◌<◌, ◌+◌, ◌-◌, ◌++◌, ℕ, false, take, drop, length, All, OnOk, OnErr, IfOk, IfErr, string_bytes, encode_utf8_all, vec_len, vec_capacity};
+ghost use Rattle.std.specs.Prelude.{◌≡◌, ◌≤◌, ◌<◌, ◌+◌, ◌-◌, ◌++◌, ℕ, Some, max, take, drop, length, slice_get, All, OnOk, OnErr, IfOk, IfErr, IsOk, string_bytes, encode_utf8_all, vec_len, vec_capacity};
 ghost use Rattle.std.specs.Str.{chars};
 ghost use Rattle.bg_types.specs.OperationSet.{size, next};
 ghost use Rattle.bg_types.specs.WellFormed.{IsWellFormed};
-ghost use Rattle.rga_tree.specs.TextOf.{text, visible};
+ghost use Rattle.rga_tree.specs.TextOf.{text, visible, visible_ids};
 ghost use Rattle.desk_replica.specs.Desk.{fresh};
 ghost use Rattle.desk_replica.specs.Merging.{with_operations};
 ghost use Rattle.desk_replica.specs.Stretch.{typed_text, deletions, replacement, IsTextRefusal, IsTextRefused, IsRangeRefused, IsReplaceRefusal, IsReplaceRefused};
@@ -12,19 +12,23 @@ ghost use Rattle.desk_replica.specs.declared.answer.TypeFault.{TypeFault as Unty
 ghost use Rattle.live_document.specs.Documents.{window_round, IsDrawnAlike, IsWindowOf};
 ghost use Rattle.live_document.specs.Showing.{no_window};
 
+mod prints;
+mod taking;
+mod taking_all;
+
 use crate::following::{buffer_of, catch_up, follow};
 use crate::keeping::forget_rows;
 use crate::showing::lay_window_out;
 use crate::shown::Shown;
 use crate::window::Window;
-use bg_types::{Base, Memory, Op};
+use bg_types::{Base, Id, Memory, Op};
 use cell_grid::Row;
-use desk_replica::laws::told_changes;
 use desk_replica::{Replica, TypeFault};
 use rga_sequence::Blocks;
 use std::alloc::Global;
 use std::marker::Model;
 use std::rc::Rc;
+pub use taking_all::TakenAll;
 use text_buffer::Buffer;
 use unicode_tables::Tables;
 
@@ -94,9 +98,29 @@ impl Document {
         ensures window { IfOk result (λ document. document.window ≡ no_window) }
         ensures laid { IfOk result (λ document. document.laid ≡ 0) }
     {
-        told_changes();
-        let buffer = buffer_of(alloc, &tables, "")?;
         let desk = Replica::new(alloc, site, Blocks::keyed(alloc, key), key);
+        Document::of(alloc, desk, tables, width, base)
+    }
+
+    /// A document over a desk, whose operations it may hold already, drawn by these tables at a width in columns and a base
+    /// direction. The first `show` makes its paragraphs. After `Memory` the desk is dropped.
+    pub fn of(
+        alloc: Global,
+        desk: Desk,
+        tables: Rc<Tables>,
+        width: u16,
+        base: Base,
+    ) -> Result<Document, Memory>
+        requires at_least { 2 ≤ width }
+        requires at_most { width ≤ 500 }
+        ensures desk { IfOk result (λ document. document.desk ≡ desk) }
+        ensures tables { IfOk result (λ document. document.tables ≡ tables.value) }
+        ensures width { IfOk result (λ document. document.width ≡ width) }
+        ensures base { IfOk result (λ document. document.base ≡ base) }
+        ensures window { IfOk result (λ document. document.window ≡ no_window) }
+        ensures laid { IfOk result (λ document. document.laid ≡ 0) }
+    {
+        let buffer = buffer_of(alloc, &tables, "")?;
         Ok(Document {
             alloc,
             desk,
@@ -104,13 +128,28 @@ impl Document {
             width,
             base,
             buffer,
-            behind: false,
+            behind: true,
             shown: Shown::nothing(),
             laid: 0,
         })
     }
 
-    /// Its desk, whose operations another desk may merge.
+    /// Pays in advance for n new operations (at most 1,000,000), as the desk's `reserve` does. What is shown stays.
+    pub fn reserve(&mut self, n: usize) -> Result<(), Memory>
+        requires { n ≤ 1_000_000 }
+        ensures ok { OnOk result (self.new.desk.spare ≡ max self.old.desk.spare n) }
+        ensures set { self.new.desk.set ≡ self.old.desk.set }
+        ensures site { self.new.desk.site ≡ self.old.desk.site }
+        ensures waiting { self.new.desk.waiting ≡ self.old.desk.waiting }
+        ensures err { OnErr result (self.new ≡ self.old) }
+        ensures enough { n ≤ self.old.desk.spare → IsOk result }
+        ensures drawn { IsDrawnAlike self.old self.new }
+        ensures window { self.new.window ≡ self.old.window }
+    {
+        self.desk.reserve(n)
+    }
+
+    /// Its desk, whose operations another desk may merge. Of it are asked `spare`, `place_of`, `op_count` and `op_at` too.
     #[inline]
     pub fn desk(&self) -> &Desk
         ensures { result.now ≡ self.now.desk }
@@ -147,6 +186,15 @@ impl Document {
         ensures { result ≡ length (visible self.now.desk.set) }
     {
         self.desk.len()
+    }
+
+    /// The identifier of the visible character at a place.
+    pub fn id_at(&mut self, place: usize) -> Id
+        requires { place < length (visible self.old.desk.set) }
+        ensures value { slice_get (visible_ids self.old.desk.set) place ≡ Some result }
+        ensures unchanged { self.new ≡ self.old }
+    {
+        self.desk.id_at(place)
     }
 
     /// The visible characters in order, at most 1,000,000.

@@ -5,11 +5,11 @@ ghost use Rattle.bg_types.specs.declared.class.Base.{Base};
 ghost use Rattle.paragraphs.specs.Text.{code_points};
 ghost use Rattle.rga_tree.specs.TextOf.{text};
 ghost use Rattle.text_buffer.specs.Buffers.{paragraphs_in, text_in, IsSplit};
-ghost use Rattle.text_buffer.specs.Edits.{replaced};
+ghost use Rattle.text_buffer.specs.Edits.{replaced, all_changed, AreInRange};
 ghost use Rattle.live_document.specs.Keeping.{StaysKept, IsKeptAt};
 
 use crate::document::Desk;
-use bg_types::Memory;
+use bg_types::{Change, Memory};
 use cell_grid::Row;
 use std::alloc::Global;
 use text_buffer::Buffer;
@@ -47,6 +47,25 @@ pub fn follow(
         return true;
     }
     buffer.edit(tables, from, to, characters).is_err()
+}
+
+/// Makes changes of the text in turn, unless the paragraphs are behind already. Returns whether they are behind then.
+pub fn follow_all(
+    tables: &Tables,
+    buffer: &mut Buffer<Vec<Row>>,
+    behind: bool,
+    changes: &[Change],
+) -> bool
+    requires split { IsSplit tables.now (paragraphs_in buffer.old) }
+    requires places { behind ≡ false → AreInRange (text_in buffer.old) changes.now }
+    ensures before { result ≡ false → behind ≡ false }
+    ensures text { result ≡ false → text_in buffer.new ≡ all_changed (text_in buffer.old) changes.now }
+    ensures kept { StaysKept tables.now buffer.old buffer.new }
+{
+    if behind {
+        return true;
+    }
+    buffer.apply_all(tables, changes).is_err()
 }
 
 /// Makes the paragraphs anew from the text of a desk, where they are behind. After `Memory` they are as they were.

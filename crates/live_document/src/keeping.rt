@@ -24,7 +24,7 @@ pub fn kept_rows(buffer: &Buffer<Vec<Row>>, number: usize) -> &[Row]
     }
 }
 
-/// Drops all rows, which others at another width or base direction may stand for then.
+/// Drops the rows of all paragraphs, as is needed before another width or base direction.
 pub fn forget_rows(buffer: &mut Buffer<Vec<Row>>)
     ensures paragraphs { paragraphs_in buffer.new ≡ paragraphs_in buffer.old }
     ensures none { (tables : TableValues) (width : ℕ) (base : Base) → All (IsLaid tables width base) buffer.new }

@@ -7,14 +7,14 @@ use std::alloc::Global;
 
 /// A sink that keeps the bytes. It fails where a growth is refused.
 #[derive(Drop)]
-pub(crate) struct InMemory {
-    pub(crate) bytes: Vec<u8>,
-    failed: bool,
+pub struct InMemory {
+    pub bytes: Vec<u8>,
+    pub failed: bool,
 }
 
 impl InMemory {
     /// A sink that was put nothing.
-    pub(crate) fn new(alloc: Global) -> InMemory
+    pub fn new(alloc: Global) -> InMemory
         ensures bytes { result.bytes.items ≡ [] }
         ensures working { result.failed ≡ false }
     {

@@ -5,5 +5,6 @@ mod in_memory;
 mod picture;
 mod shared_tables;
 
+pub use in_memory::InMemory;
 pub use picture::Picture;
 pub use shared_tables::SharedTables;

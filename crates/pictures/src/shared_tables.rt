@@ -35,8 +35,16 @@ impl SharedTables {
     pub fn share(&self) -> Result<SharedTables, Memory>
         ensures { IfOk result (λ shared. shared ≡ self.now) }
     {
-        let tables = self.tables.clone()?;
+        let tables = self.to_rc()?;
         Ok(SharedTables { tables })
+    }
+
+    /// The same, for what keeps its tables by an `Rc`.
+    pub fn to_rc(&self) -> Result<Rc<Tables>, Memory>
+        ensures { IfOk result (λ tables. tables.value ≡ self.now) }
+    {
+        let tables = self.tables.clone()?;
+        Ok(tables)
     }
 
     /// The tables.

@@ -4,7 +4,7 @@ use Rattle.std.specs.Prelude.{vec_len}
 use Rattle.std.specs.Vec.{vec_capacity}
 use Rattle.std.specs.List.{flat_map}
 use Rattle.op_codec.specs.Spelling.{frame}
-use Rattle.bidigrid_c.proofs.replacing.add_each.Given as goal
+use Rattle.bidigrid_c.proofs.draft.add_each.Given as goal
 
 abbrev pub invariant-loop-op : goal.invariant-loop-op
 invariant-loop-op l = record {

@@ -1,0 +1,141 @@
+-- What the calls do to a document.
+use Rattle.std.specs.Prelude.{◌≡◌, ◌⊎◌, ◌<◌, ◌≤◌, ℕ, max, true, false, List, [], ◌∷◌, length, take, None, Some}
+use Rattle.bg_types.specs.declared.class.Base.{Base}
+use Rattle.bg_types.specs.declared.op.OpView.{OpView}
+use Rattle.bg_types.specs.Edit.{IsEdit}
+use Rattle.unicode_tables.specs.Tables.{TableValues}
+use Rattle.op_codec.specs.Spelling.{Spells}
+use Rattle.rga_tree.specs.TextOf.{text, visible}
+use Rattle.desk_replica.specs.Desk.{Desk, fresh}
+use Rattle.desk_replica.specs.Telling.{IsTold}
+use Rattle.live_document.specs.Documents.{LiveDocument, window_round, IsDrawnAlike}
+use Rattle.live_document.specs.Showing.{no_window}
+use Rattle.live_document.specs.Taking.{AreTold}
+use Rattle.bidigrid_c.specs.declared.told_document.ToldDocument.{ToldDocument}
+use Rattle.bidigrid_c.specs.declared.numbers.ChangeNumbers.{ChangeNumbers}
+use Rattle.bidigrid_c.specs.declared.numbers.Taken.{Taken}
+use Rattle.bidigrid_c.specs.declared.numbers.WindowNumbers.{WindowNumbers}
+use Rattle.bidigrid_c.specs.Bases.{base_of}
+use Rattle.bidigrid_c.specs.Copying.{AreListed}
+use Rattle.bidigrid_c.specs.Desks.{IsTakenUpTo, IsMessageTaken, IsUnread, IsMergedWith}
+use Rattle.bidigrid_c.specs.Drawing.{IsWidth}
+use Rattle.bidigrid_c.specs.Numbers.{IsSite, change_numbers, none_taken, window_numbers}
+
+-- nothing is told of a take or merge
+pub record IsSilent (d : ToldDocument) : Type 0 where
+  pub told : d.told.items ≡ []
+  pub all : d.lost ≡ false
+
+-- both tell the same
+pub record TellAlike (old new : ToldDocument) : Type 0 where
+  pub told : new.told ≡ old.told
+  pub lost : new.lost ≡ old.lost
+
+-- ---- made and drawn
+
+-- a new document of a desk, drawn by these tables at this width and the base with this number
+pub record IsLaidOut (tables : TableValues) (width base : ℕ) (desk : Desk) (new : ToldDocument) : Type 0 where
+  pub desk_is : new.document.desk ≡ desk
+  pub tables_are : new.document.tables ≡ tables
+  pub width_is : new.document.width ≡ width
+  pub base_is : base_of base ≡ Some new.document.base
+  pub hidden : new.document.window ≡ no_window
+  pub silent : IsSilent new
+
+-- why no document was made
+abbrev pub IsNotMade : (site width base : ℕ) → (answer : ℕ) → Type 0
+IsNotMade site width base answer =
+    (answer ≡ 9)
+    ⊎ (((answer ≡ 112) × (¬ (IsSite site)))
+    ⊎ (((answer ≡ 105) × (¬ (IsWidth width)))
+    ⊎ ((answer ≡ 106) × (base_of base ≡ None))))
+
+-- a new document of a site that has taken a file
+pub record IsOpened (tables : TableValues) (site width base : ℕ) (file : List ℕ) (told : Taken) (new : ToldDocument) : Type 0 where
+  pub desk : Desk
+  pub taken : IsMessageTaken (fresh site) file desk told 0
+  pub laid_out : IsLaidOut tables width base desk new
+
+-- why none was made of a file
+abbrev pub IsNotOpened : (site width base : ℕ) → (file : List ℕ) → Taken → (answer : ℕ) → Type 0
+IsNotOpened site width base file told answer =
+    (IsNotMade site width base answer × (told ≡ none_taken 0))
+    ⊎ ((left : Desk) × IsMessageTaken (fresh site) file left told answer)
+
+-- a document is drawn at this width and base from now on, and nothing is shown; its desk and what it tells stay
+pub record IsDrawnAt (old : ToldDocument) (width : ℕ) (base : Base) (new : ToldDocument) : Type 0 where
+  pub desk : new.document.desk ≡ old.document.desk
+  pub tables : new.document.tables ≡ old.document.tables
+  pub width_is : new.document.width ≡ width
+  pub base_is : new.document.base ≡ base
+  pub hidden : new.document.window ≡ no_window
+  pub alike : TellAlike old new
+
+-- so many new operations are paid for; all else stays, what is shown and told too
+pub record IsPaidFor (old : ToldDocument) (operations : ℕ) (new : ToldDocument) : Type 0 where
+  pub set : new.document.desk.set ≡ old.document.desk.set
+  pub site : new.document.desk.site ≡ old.document.desk.site
+  pub waiting : new.document.desk.waiting ≡ old.document.desk.waiting
+  pub spare : new.document.desk.spare ≡ max old.document.desk.spare operations
+  pub drawn : IsDrawnAlike old.document new.document
+  pub shown : new.document.window ≡ old.document.window
+  pub alike : TellAlike old new
+
+-- ---- edited
+
+-- a document was edited: it is drawn as before, nothing is shown, and nothing told
+pub record IsEdited (old new : ToldDocument) : Type 0 where
+  pub drawn : IsDrawnAlike old.document new.document
+  pub hidden : new.document.window ≡ no_window
+  pub silent : IsSilent new
+
+-- ---- taking and merging
+
+-- a document took the first operations of a list, as a desk does. Unless there was no memory to tell all, it tells of each of
+-- them how the text changed, and these changes lead from the text before to the text now
+pub record IsTakenInTurn (old : ToldDocument) (ops : List OpView) (new : ToldDocument) (count answer : ℕ) : Type 0 where
+  pub desk : IsTakenUpTo old.document.desk ops new.document.desk count answer
+  pub drawn : IsDrawnAlike old.document new.document
+  pub none : count ≡ 0 → new.document ≡ old.document
+  pub hidden : 0 < count → new.document.window ≡ no_window
+  pub told : new.lost ≡ false → AreTold old.document.desk.set (take count ops) [] new.told.items
+  pub edit : new.lost ≡ false → IsEdit (text old.document.desk.set) new.told.items (text new.document.desk.set)
+
+-- a message was taken: its bytes spell operations, taken in order as far as was told; or it was not read, the document is as it
+-- was, and nothing is told
+abbrev pub IsHeard : ToldDocument → (bytes : List ℕ) → ToldDocument → Taken → (answer : ℕ) → Type 0
+IsHeard old bytes new told answer =
+    ((ops : List OpView) × Spells bytes ops × (told.operations ≡ length ops) × (told.frame ≡ 0) × IsTakenInTurn old ops new told.taken answer)
+    ⊎ ((new.document ≡ old.document) × IsSilent new × IsUnread bytes told answer)
+
+-- a document met another one, as desks do, and nothing is shown. Unless there was no memory to tell all, it tells how the text
+-- changed, and these changes lead from the text before to the text now
+pub record IsMetWith (old : ToldDocument) (other : Desk) (new : ToldDocument) (answer : ℕ) : Type 0 where
+  pub desk : IsMergedWith old.document.desk other new.document.desk answer
+  pub drawn : IsDrawnAlike old.document new.document
+  pub hidden : new.document.window ≡ no_window
+  pub told : new.lost ≡ false → IsTold old.document.desk.set new.document.desk.set [] new.told.items
+  pub edit : new.lost ≡ false → IsEdit (text old.document.desk.set) new.told.items (text new.document.desk.set)
+
+-- the changes that a document tells were listed; where there was no memory to tell all, the answer is 9, and none is
+abbrev pub AreChangesTold : ToldDocument → (before after : List ChangeNumbers) → (count answer : ℕ) → Type 0
+AreChangesTold d before after count answer =
+    ((d.lost ≡ false) × AreListed change_numbers d.told.items before after count answer)
+    ⊎ ((d.lost ≡ true) × (answer ≡ 9) × (after ≡ before) × (count ≡ 0))
+
+-- ---- showing
+
+-- the window round a place is shown, and how many rows it has, and which of them is the place's, was told
+pub record IsShown (old : ToldDocument) (place above below : ℕ) (new : ToldDocument) (told : WindowNumbers) : Type 0 where
+  pub window : new.document.window ≡ window_round old.document place above below
+  pub numbers : told ≡ window_numbers new.document.window
+  pub desk : new.document.desk ≡ old.document.desk
+  pub drawn : IsDrawnAlike old.document new.document
+  pub alike : TellAlike old new
+
+-- why it is not: no memory, and nothing is shown; no such place, or more rows than are shown, and the document is as it was
+abbrev pub IsNotShown : (old : ToldDocument) → (place above below : ℕ) → (new : ToldDocument) → (answer : ℕ) → Type 0
+IsNotShown old place above below new answer =
+    ((answer ≡ 9) × (new.document.window ≡ no_window) × (new.document.desk ≡ old.document.desk) × IsDrawnAlike old.document new.document × TellAlike old new)
+    ⊎ (((answer ≡ 107) × (length (visible old.document.desk.set) < place) × (new ≡ old))
+    ⊎ ((answer ≡ 108) × ((1_000 < above) ⊎ (1_000 < below)) × (new ≡ old)))

@@ -1,0 +1,120 @@
+//! A message in the making.
+
+ghost use Rattle.std.specs.Prelude.{◌≡◌, ◌<◌, ◌≤◌, ◌+◌, ◌-◌, ◌*◌, ◌++◌, [], length, IfOk, IfErr, OnOk, vec_len};
+ghost use Rattle.std.specs.List.{flat_map};
+ghost use Rattle.std.specs.Str.{chars};
+ghost use Rattle.std.specs.Vec.{vec_capacity};
+ghost use Rattle.rga_tree.specs.TextOf.{visible};
+ghost use Rattle.op_codec.specs.Spelling.{frame, spelling};
+ghost use Rattle.bidigrid_c.specs.Copying.{IsCopied};
+ghost use Rattle.bidigrid_c.specs.Desks.{replaced_size, IsRefusedExchange};
+
+use crate::copying::copy_out;
+use crate::desk::{Desk, MOST};
+use crate::fault::{BAD_PLACE, FULL, MEMORY, SHORT_BUFFER};
+use bg_types::{Memory, Op};
+use op_codec::{encode_file, encode_op};
+use std::alloc::Global;
+
+/// How many bytes a message has before its operations.
+const HEADER: usize = 5;
+
+/// How many bytes a deletion has in a message.
+const ERASURE: usize = 9;
+
+/// How many bytes an insertion has in a message.
+const INSERTION: usize = 19;
+
+/// A message of nothing yet, and the list of the operations that it will have. Both have the room before an operation is
+/// made, so that nothing is left to refuse then.
+#[derive(Drop)]
+pub(crate) struct Draft {
+    message: Vec<u8>,
+    pub ops: Vec<Op>,
+}
+
+impl Draft {
+    /// A draft with room for so many operations.
+    fn of(alloc: Global, count: usize) -> Result<Draft, Memory>
+        requires { count ≤ 1_000_000 }
+        ensures message { IfOk result (λ draft. draft.message.items ≡ spelling []) }
+        ensures bytes { IfOk result (λ draft. vec_len draft.message + 19 * count ≤ vec_capacity draft.message) }
+        ensures ops { IfOk result (λ draft. draft.ops.items ≡ []) }
+        ensures room { IfOk result (λ draft. count ≤ vec_capacity draft.ops) }
+    {
+        let mut message = encode_file(alloc, &[])?;
+        message.reserve(INSERTION * count)?;
+        let ops = Vec::with_capacity(alloc, count)?;
+        Ok(Draft { message, ops })
+    }
+
+    /// A draft for a desk that puts a text in the place of characters, and a buffer with this room; or the number of the
+    /// fault, and how many bytes are wanted where the buffer is too short.
+    pub(crate) fn of_replacement(
+        alloc: Global,
+        desk: &Desk,
+        from: usize,
+        to: usize,
+        text: &str,
+        room: usize,
+        wanted: &mut usize,
+    ) -> Result<Draft, u32>
+        ensures order { OnOk result (from ≤ to) }
+        ensures within { OnOk result (to ≤ length (visible desk.now.set)) }
+        ensures fits { OnOk result (replaced_size (to - from) (length (chars text.now)) ≤ room) }
+        ensures message { IfOk result (λ draft. draft.message.items ≡ spelling []) }
+        ensures bytes { IfOk result (λ draft. vec_len draft.message + 19 * ((to - from) + length (chars text.now)) ≤ vec_capacity draft.message) }
+        ensures ops { IfOk result (λ draft. draft.ops.items ≡ []) }
+        ensures wanted { IfErr result (λ fault. (fault ≡ 102 → ⊥) → wanted.new ≡ 0) }
+        ensures fault { IfErr result (IsRefusedExchange desk.now.set from to (length (chars text.now)) room wanted.new) }
+        ensures some { IfErr result (λ fault. 0 < fault) }
+        ensures nothing { OnOk result (wanted.new ≡ 0) }
+    {
+        *wanted = 0;
+        if from > to || to > desk.len() {
+            return Err(BAD_PLACE);
+        }
+        let (erased, typed) = (to - from, code_points(text));
+        let left = MOST - desk.op_count();
+        if erased > left || typed > left - erased {
+            return Err(FULL);
+        }
+        let size = HEADER + ERASURE * erased + INSERTION * typed;
+        if room < size {
+            *wanted = size;
+            return Err(SHORT_BUFFER);
+        }
+        match Draft::of(alloc, erased + typed) {
+            Ok(draft) => Ok(draft),
+            Err(Memory) => Err(MEMORY),
+        }
+    }
+
+    /// Writes the message of its operations to the front of a buffer, which has room for it.
+    pub(crate) fn write(&mut self, out: &mut [u8], size: &mut usize)
+        requires message { self.old.message.items ≡ spelling [] }
+        requires bytes { vec_len self.old.message + 19 * length self.old.ops.items ≤ vec_capacity self.old.message }
+        requires room { length (spelling self.old.ops.items) ≤ length out.old }
+        ensures { IsCopied (spelling self.old.ops.items) out.old out.new size.new 0 }
+    {
+        add_each(&self.ops, &mut self.message);
+        let _written = copy_out(&self.message, out, size);
+    }
+}
+
+/// Adds operations to a message, which has room for them.
+fn add_each(ops: &[Op], message: &mut Vec<u8>)
+    requires { vec_len message.old + 19 * length ops.now ≤ vec_capacity message.old }
+    ensures { message.new.items ≡ message.old.items ++ flat_map frame ops.now }
+{
+    for op in ops {
+        encode_op(op, message).unwrap();
+    }
+}
+
+/// How many code points a text has.
+fn code_points(text: &str) -> usize
+    ensures { result ≡ length (chars text.now) }
+{
+    text.chars().count()
+}

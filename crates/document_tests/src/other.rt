@@ -1,0 +1,78 @@
+//! Another desk, and what a document takes of it.
+
+use crate::chance::Chance;
+use crate::edits::piece;
+use bg_types::{Change, Memory, Op};
+use desk_replica::Replica;
+use live_document::{Desk, Document};
+use rga_sequence::Blocks;
+use std::alloc::Global;
+
+const KEY: u128 = 0x5eed;
+
+/// Another desk, the operations that it sent and that did not arrive yet, and what the document was told of those that did.
+#[derive(Drop)]
+pub struct Other {
+    desk: Desk,
+    sent: Vec<Op>,
+    told: Vec<Change>,
+}
+
+impl Other {
+    /// A desk that holds nothing yet.
+    pub fn new(alloc: Global) -> Other {
+        Other {
+            desk: Replica::new(alloc, 2, Blocks::keyed(alloc, KEY), KEY),
+            sent: Vec::new(alloc),
+            told: Vec::new(alloc),
+        }
+    }
+
+    /// One step between the two: the desk types, an operation of it arrives, or both take all that the other holds.
+    pub fn step(&mut self, document: &mut Document, chance: &mut Chance) -> Result<(), Memory> {
+        match chance.below(8) {
+            0 => self.meet(document, chance),
+            1 | 2 | 3 => self.edit(chance),
+            _ => self.arrive(document, chance),
+        }
+    }
+
+    /// The desk types a stretch.
+    fn edit(&mut self, chance: &mut Chance) -> Result<(), Memory> {
+        let length = self.desk.len();
+        let place = chance.below(length.saturating_add(1)).min(length);
+        self.desk
+            .type_text(place, piece(chance), &mut self.sent)
+            .map_err(|_| Memory)
+    }
+
+    /// The document takes one of the operations that were sent, which may be early.
+    fn arrive(&mut self, document: &mut Document, chance: &mut Chance) -> Result<(), Memory> {
+        let number = chance.below(self.sent.len());
+        if number >= self.sent.len() {
+            return Ok(());
+        }
+        let op = self.sent.swap_remove(number);
+        if chance.one_in(2) {
+            document.take(&op).map_err(|_| Memory)?;
+        } else {
+            document
+                .take_telling(&op, &mut self.told)
+                .map_err(|_| Memory)?;
+        }
+        Ok(())
+    }
+
+    /// Both take all that the other holds.
+    fn meet(&mut self, document: &mut Document, chance: &mut Chance) -> Result<(), Memory> {
+        if chance.one_in(2) {
+            document.merge(&self.desk).map_err(|_| Memory)?;
+        } else {
+            document
+                .merge_telling(&self.desk, &mut self.told)
+                .map_err(|_| Memory)?;
+        }
+        self.desk.merge(document.desk()).map_err(|_| Memory)?;
+        Ok(())
+    }
+}

@@ -1,0 +1,9 @@
+-- The paragraphs are behind.
+use Rattle.live_document.proofs.Followed.{live-behind}
+use Rattle.live_document.proofs.document.Document.merge_untold.Goals as goal
+
+pub invariant_of-self : goal.invariant_of-self
+invariant_of-self c =
+    let i = c.self.inside in
+    let n = c.nothing-self-inside in
+    live-behind c.merge-outcome.new.self i.tables.value i.width i.base i.buffer n.result c.self.invariant.kept_at n.ensures

@@ -1,0 +1,15 @@
+-- The paragraphs are behind the desk.
+use Rattle.std.proofs.Common.{subst}
+use Rattle.unicode_tables.specs.Tables.{TableValues}
+use Rattle.live_document.specs.Keeping.{IsKeptAt}
+use Rattle.live_document.proofs.Followed.{live-behind}
+use Rattle.live_document.proofs.document.Document.of.Goals as goal
+
+pub invariant_of-result : goal.invariant_of-result
+invariant_of-result c =
+    let kept = c.in_ok-buffer.buffer in
+    let width = c.args.width in
+    let base = c.args.base in
+    live-behind c.args.desk c.args.tables.value width base kept c.nothing.result
+    (subst (λ (tables : TableValues). IsKeptAt tables width base kept) c.deref.ensures (c.in_ok-buffer.ensures.kept width base c.requires.at_least c.requires.at_most))
+    c.nothing.ensures

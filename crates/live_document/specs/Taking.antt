@@ -1,0 +1,36 @@
+-- Operations that a document takes in order.
+use Rattle.std.specs.Prelude.{◌≡◌, ◌<◌, ◌≤◌, ◌+◌, ℕ, List, [], ◌∷◌, length, take, slice_get, Some}
+use Rattle.bg_types.specs.OperationSet.{OperationSet, with_operation, size}
+use Rattle.bg_types.specs.declared.op.OpView.{OpView}
+use Rattle.bg_types.specs.declared.change.Change.{Change}
+use Rattle.desk_replica.specs.Desk.{Desk}
+use Rattle.desk_replica.specs.Merging.{with_operations}
+use Rattle.desk_replica.specs.Reply.{IsRefused, IsRefusal}
+use Rattle.desk_replica.specs.Telling.{IsTold}
+use Rattle.desk_replica.specs.declared.answer.TakeFault.{TakeFault}
+use Rattle.desk_replica.specs.declared.answer.TakeFault.TheVariants.{Memory}
+
+-- a desk that keeps S refuses none of the first operations of a list that it takes in order
+abbrev pub AreAccepted : OperationSet → List OpView → ℕ → Type 0
+AreAccepted s ops count = (k : ℕ) (op : OpView) (fault : TakeFault) → k < count → slice_get ops k ≡ Some op → ¬ (IsRefusal (with_operations s (take k ops)) op fault)
+
+-- a desk took the first operations of a list, so many, one after the other
+pub record AreTaken (old : Desk) (ops : List OpView) (taken : ℕ) (new : Desk) : Type 0 where
+  pub within : taken ≤ length ops
+  pub set : new.set ≡ with_operations old.set (take taken ops)
+  pub accepted : AreAccepted old.set ops taken
+  pub site : new.site ≡ old.site
+  pub spare : size old.set + old.spare ≤ size new.set + new.spare
+  pub none : taken ≡ 0 → new ≡ old
+
+-- a desk that took so many refuses the next one. Where an operation is spare it is not lack of memory
+pub record IsRefusedNext (desk : Desk) (ops : List OpView) (taken : ℕ) (fault : TakeFault) : Type 0 where
+  pub op : OpView
+  pub next : slice_get ops taken ≡ Some op
+  pub refused : IsRefused desk.set op fault
+  pub unpaid : fault ≡ Memory → desk.spare ≡ 0
+
+-- the list has grown by what is told of operations that a desk which keeps S takes one after the other
+abbrev pub AreTold : OperationSet → List OpView → (old new : List Change) → Type 0
+AreTold s [] old new = new ≡ old
+AreTold s (op ∷ ops) old new = (more : List Change) × IsTold s (with_operation s op) old more × AreTold (with_operation s op) ops more new
