@@ -10,8 +10,6 @@ mod live_document_tests;
 #[cfg(test)]
 mod other;
 #[cfg(test)]
-mod prints_tests;
-#[cfg(test)]
 mod taking_all_tests;
 #[cfg(test)]
 mod walking;

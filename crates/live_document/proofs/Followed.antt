@@ -1,5 +1,6 @@
 -- Paragraphs that follow the text of a desk.
-use Rattle.std.proofs.Common.{◌≡◌, ℕ, ◌+◌, ◌-◌, ◌≤◌, Bool, false, inl, List, [], ◌∷◌, length, take, drop, map, sym, ap, subst, ◌∙◌, arith}
+use Rattle.std.proofs.Common.{◌≡◌, ℕ, ◌+◌, ◌-◌, ◌≤◌, Bool, false, inl, List, [], ◌∷◌, length, take, drop, map, refl, sym, ap, subst, ◌∙◌, arith}
+use Rattle.std.proofs.lemmas.Bool.{both_ways}
 use Rattle.std.proofs.lemmas.List.{length-map, take_rest}
 use Rattle.std.specs.List.{All, concat}
 use Rattle.std.specs.Prelude.{Result, Ok, Err, is_err, IfOk, IfErr, OnOk, OnErr, true}
@@ -103,6 +104,12 @@ live-followed old new tables width base behind later kept now s nothing from to 
   at_hand = nothing-at_hand now nothing none;
   of_now = inl (nothing-window now nothing none);
 }
+
+-- the desk's text is the same, and the paragraphs are its own
+pub live-caught : (desk : Desk) (tables : TableValues) (width : ℕ) (base : Base) (now : KeptText) (s : Shown)
+    → IsKeptAt tables width base now → text_in now ≡ text desk.set → IsAtHand now s → IsWindowOf desk.set tables width base (window_in now s)
+    → IsLive desk tables width base false now s
+live-caught desk tables width base now s at is hand shown = record { kept_at = at; text_is = λ h. is; unshown = λ h. absurd (both_ways false refl h); at_hand = hand; of_now = shown }
 
 -- what stands behind older changes, as a slice of all
 pub told-behind : (old new all : List Change) (n : ℕ) → n ≡ length old → all ≡ new → take (length all - n) (drop n all) ≡ drop (length old) new

@@ -6,5 +6,7 @@ mod Placing
 mod Windows
 mod Spots
 mod Printed
+mod Round
+mod Positions
 mod Followed
 mod Taking
