@@ -15,7 +15,8 @@ use crate::laws_below::laws_below;
 use crate::shown::Shown;
 use bg_types::Memory;
 use caret::{
-    Position, at_column_among, at_place_among, down_among, left_among, right_among, row_at, up_among,
+    Position, at_column_among, at_place_among, down_among, left_among, right_among, row_at,
+    up_among,
 };
 use cell_grid::Row;
 
