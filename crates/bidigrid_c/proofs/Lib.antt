@@ -1,5 +1,6 @@
 mod Erased
 mod Filled
+mod FromNone
 mod InTurn
 mod Messages
 mod Sized

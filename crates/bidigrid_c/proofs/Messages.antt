@@ -102,7 +102,8 @@ pub replaced_length : (s : OperationSet) (site from to : ℕ) (chs : List ℕ) �
 replaced_length s site from to chs order within = replaced_count s site from (to - from) chs (omega (arith, order, within))
 
 -- why nothing was put in the place of others, by the core's fault
-pub not_exchanged : (s : OperationSet) (from to n room told : ℕ) (fault : TypeFault) → IsReplaceRefused s (to - from) n fault → IsRefusedExchange s from to n room told (type_number fault)
-not_exchanged s from to n room told CounterSpent spent = inr (inr (inr (inl (refl, spent))))
-not_exchanged s from to n room told Full full = inr (inr (inr (inr (refl, full.1))))
-not_exchanged s from to n room told Memory memory = inl refl
+pub not_exchanged : (s : OperationSet) (from to n room told answer : ℕ) (fault : TypeFault) → answer ≡ type_number fault → IsReplaceRefused s (to - from) n fault
+    → IsRefusedExchange s from to n room told answer
+not_exchanged s from to n room told answer CounterSpent is spent = inr (inr (inr (inl (is, spent))))
+not_exchanged s from to n room told answer Full is full = inr (inr (inr (inr (is, full.1))))
+not_exchanged s from to n room told answer Memory is memory = inl is

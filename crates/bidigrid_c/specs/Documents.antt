@@ -57,6 +57,12 @@ IsNotMade site width base answer =
     ⊎ (((answer ≡ 105) × (¬ (IsWidth width)))
     ⊎ ((answer ≡ 106) × (base_of base ≡ None))))
 
+-- a new document of a site that has taken a file
+pub record IsOpened (tables : TableValues) (site width base : ℕ) (file : List ℕ) (told : Taken) (new : ToldDocument) : Type 0 where
+  pub desk : Desk
+  pub taken : IsMessageTaken (fresh site) file desk told 0
+  pub laid_out : IsLaidOut tables width base desk new
+
 -- why none was made of a file
 abbrev pub IsNotOpened : (site width base : ℕ) → (file : List ℕ) → Taken → (answer : ℕ) → Type 0
 IsNotOpened site width base file told answer =

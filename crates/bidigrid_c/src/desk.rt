@@ -3,7 +3,7 @@
 ghost use Rattle.std.specs.Prelude.{◌≡◌, ◌⊎◌, ◌<◌, ◌+◌, ◌*◌, max, Some, None, IfOk, IfErr};
 ghost use Rattle.std.specs.Option.{IfSome};
 ghost use Rattle.desk_replica.specs.Desk.{fresh};
-ghost use Rattle.bidigrid_c.specs.Numbers.{IsSite, none_taken};
+ghost use Rattle.bidigrid_c.specs.Numbers.{IsSite};
 ghost use Rattle.bidigrid_c.specs.Desks.{IsMessageTaken, IsRefusedOpening};
 
 use crate::desk_handle::DeskHandle;

@@ -3,10 +3,9 @@
 ghost use Rattle.std.specs.Prelude.{◌≡◌, ◌⊎◌, ◌<◌, Some, None, IfOk, IfErr};
 ghost use Rattle.std.specs.Option.{IfSome};
 ghost use Rattle.bg_types.specs.declared.class.Base.{Base as BaseValue};
-ghost use Rattle.desk_replica.specs.Desk.{Desk as DeskValue, fresh};
+ghost use Rattle.desk_replica.specs.Desk.{fresh};
 ghost use Rattle.bidigrid_c.specs.Bases.{base_of};
-ghost use Rattle.bidigrid_c.specs.Desks.{IsMessageTaken};
-ghost use Rattle.bidigrid_c.specs.Documents.{IsLaidOut, IsNotMade, IsNotOpened, IsDrawnAt, IsPaidFor};
+ghost use Rattle.bidigrid_c.specs.Documents.{IsLaidOut, IsNotMade, IsOpened, IsNotOpened, IsDrawnAt, IsPaidFor};
 ghost use Rattle.bidigrid_c.specs.Drawing.{IsWidth};
 ghost use Rattle.bidigrid_c.specs.Numbers.{IsSite, none_taken};
 
@@ -89,7 +88,7 @@ pub extern "C" fn bidigrid_document_open(
     file: &[u8],
     told: &mut Taken,
 ) -> u32
-    ensures ok { result ≡ 0 → IfSome tables.old.held (λ t. IfSome out.new.held (λ d. (desk : DeskValue) × IsMessageTaken (fresh site) file.now desk told.new 0 × IsLaidOut t width base desk d)) }
+    ensures ok { result ≡ 0 → IfSome tables.old.held (λ t. IfSome out.new.held (IsOpened t site width base file.now told.new)) }
     ensures held { result ≡ 0 → out.new.held ≡ None → ⊥ }
     ensures sound { result ≡ 0 → IsSite site × IsWidth width }
     ensures err { (result ≡ 0 → ⊥) → out.new.held ≡ out.old.held }
@@ -127,7 +126,7 @@ fn opened(
     told: &mut Taken,
 ) -> Result<Box<ToldDocument>, u32>
     requires { told.old ≡ none_taken 0 }
-    ensures ok { IfOk result (λ boxed. ((desk : DeskValue) × IsMessageTaken (fresh site) file.now desk told.new 0 × IsLaidOut tables.now width base desk boxed.value) × IsSite site × IsWidth width) }
+    ensures ok { IfOk result (λ boxed. IsOpened tables.now site width base file.now told.new boxed.value × IsSite site × IsWidth width) }
     ensures fault { IfErr result (IsNotOpened site width base file.now told.new) }
     ensures some { IfErr result (λ fault. 0 < fault) }
 {

@@ -129,6 +129,7 @@ fn erase_in(
 }
 
 /// Puts a text in the place of characters.
+#[tactic(auto, using(crate::proofs::Messages::not_exchanged))]
 fn exchange_in(
     alloc: Global,
     held: &mut ToldDocument,

@@ -62,6 +62,7 @@ fn merge_in(held: &mut ToldDocument, other: &Desk) -> u32
 }
 
 /// Lets a document take all that a desk holds, and keeps what it changes where there is memory to tell it.
+#[tactic(auto, using(crate::proofs::FromNone::told_once, crate::proofs::FromNone::all_edits))]
 fn meet(held: &mut ToldDocument, other: &Desk) -> Result<u32, TakeFault>
     ensures desk { IsMerge held.old.document.desk other.now held.new.document.desk result }
     ensures drawn { IsDrawnAlike held.old.document held.new.document }

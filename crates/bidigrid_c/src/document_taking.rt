@@ -50,6 +50,7 @@ fn take_in(alloc: Global, held: &mut ToldDocument, bytes: &[u8], told: &mut Take
 
 /// Lets a document take operations in order, up to the first that it refuses, tells how many it took, and keeps what they
 /// changed.
+#[tactic(auto, using(crate::proofs::FromNone::all_told, crate::proofs::FromNone::all_edits))]
 fn take_all(held: &mut ToldDocument, ops: &[Op], taken: &mut usize) -> u32
     requires { IsSilent held.old }
     ensures { IsTakenInTurn held.old ops.now held.new taken.new result }

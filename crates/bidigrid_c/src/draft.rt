@@ -1,13 +1,13 @@
 //! A message in the making.
 
-ghost use Rattle.std.specs.Prelude.{◌≡◌, ◌≤◌, ◌+◌, ◌-◌, ◌*◌, ◌++◌, [], length, IfOk, IfErr, OnOk, vec_len};
+ghost use Rattle.std.specs.Prelude.{◌≡◌, ◌<◌, ◌≤◌, ◌+◌, ◌-◌, ◌*◌, ◌++◌, [], length, IfOk, IfErr, OnOk, vec_len};
 ghost use Rattle.std.specs.List.{flat_map};
 ghost use Rattle.std.specs.Str.{chars};
 ghost use Rattle.std.specs.Vec.{vec_capacity};
 ghost use Rattle.rga_tree.specs.TextOf.{visible};
 ghost use Rattle.op_codec.specs.Spelling.{frame, spelling};
 ghost use Rattle.bidigrid_c.specs.Copying.{IsCopied};
-ghost use Rattle.bidigrid_c.specs.Desks.{replaced_size, IsRefusedExchange, IsUnwritten};
+ghost use Rattle.bidigrid_c.specs.Desks.{replaced_size, IsRefusedExchange};
 
 use crate::copying::copy_out;
 use crate::desk::{Desk, MOST};

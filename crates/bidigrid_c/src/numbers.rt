@@ -1,6 +1,6 @@
 //! The structs of numbers that C reads.
 
-ghost use Rattle.std.specs.Prelude.{◌≡◌};
+ghost use Rattle.std.specs.Prelude.{◌≡◌, min};
 ghost use Rattle.caret.specs.Gaps.{gap_column};
 ghost use Rattle.bidigrid_c.specs.Numbers.{row_numbers, no_row, entry_numbers, no_entry, caret_numbers, no_caret, caret_of, position_numbers, no_position, position_with, no_identifier, none_taken, change_numbers, window_numbers, nothing_shown};
 ghost use Rattle.bidigrid_c.specs.Faults.{data_fault, file_number, no_data_fault};
@@ -261,22 +261,29 @@ pub(crate) fn none_taken(frame: usize) -> Taken
     }
 }
 
-/// The numbers of a change. A text has no place that 32 bits can't tell.
+/// The numbers of a change.
 pub(crate) fn change_numbers(change: &Change) -> ChangeNumbers
     ensures { result ≡ change_numbers change.now }
 {
     match *change {
         Change::Put { place, ch } => ChangeNumbers {
-            place: u32::try_from(place).unwrap_or(u32::MAX),
+            place: place_number(place),
             character: u32::from(ch),
             put: 1,
         },
         Change::Cut { place } => ChangeNumbers {
-            place: u32::try_from(place).unwrap_or(u32::MAX),
+            place: place_number(place),
             character: 0,
             put: 0,
         },
     }
+}
+
+/// The number of a place. A text has none that 32 bits can't tell.
+fn place_number(place: usize) -> u32
+    ensures { result ≡ min place 4_294_967_295 }
+{
+    place.min(4_294_967_295) as u32
 }
 
 /// The numbers of a window.

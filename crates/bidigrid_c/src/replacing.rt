@@ -88,6 +88,7 @@ fn replace_in(
 }
 
 /// Puts a text in the place of characters.
+#[tactic(auto, using(crate::proofs::Messages::not_exchanged))]
 pub(crate) fn exchange_in(
     alloc: Global,
     desk: &mut Desk,

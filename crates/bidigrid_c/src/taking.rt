@@ -1,6 +1,6 @@
 //! Taking messages, and all that another desk holds.
 
-ghost use Rattle.std.specs.Prelude.{◌≡◌, ◌<◌, None, length, vec_len, IfOk, IfErr, MatchResult};
+ghost use Rattle.std.specs.Prelude.{◌≡◌, ◌<◌, None, vec_len, IfOk, IfErr, MatchResult};
 ghost use Rattle.std.specs.Option.{IfSome};
 ghost use Rattle.op_codec.specs.Spelling.{Spells};
 ghost use Rattle.desk_replica.specs.Merging.{IsMerge};

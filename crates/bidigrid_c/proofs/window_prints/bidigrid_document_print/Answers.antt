@@ -1,0 +1,15 @@
+-- What is held is what was printed.
+use Rattle.std.proofs.Common.{Some, sym, ap, subst, ◌∙◌}
+use Rattle.std.specs.Prelude.{Option}
+use Rattle.std.specs.Option.{IfSome}
+use Rattle.cell_grid.specs.Print.{printed}
+use Rattle.live_document.specs.Documents.{shown_grid}
+use Rattle.bidigrid_c.specs.Copying.{IsWritten}
+use Rattle.bidigrid_c.specs.declared.told_document.ToldDocument.{ToldDocument}
+use Rattle.bidigrid_c.proofs.window_prints.bidigrid_document_print.Goals as goal
+
+pub returns-clause-told : goal.returns-clause-told
+returns-clause-told c =
+    let it = c.tell_print in
+    subst (λ (o : Option ToldDocument). IfSome o (λ d. IsWritten (printed (shown_grid d.document)) c.args.out.now it.new.out it.new.size it.result))
+    (ap Some c.deref.ensures ∙ sym c.in-Some.ensures.taken) it.ensures
