@@ -318,10 +318,10 @@ static uint32_t refused_at(const row *it, long number, bool *met)
 static void is_kept(const row *it, long number, const peace *all)
 {
     bool met;
-    CHECK(it->in_part || is_state(&all->before));
+    CHECK(it->in_part || is_state(&all->before, false));
     for (size_t at = 0; at < sizeof out; at++)
         CHECK(out[at] == '?');
-    CHECK(it->call() == BIDIGRID_OK && is_state(&all->done));
+    CHECK(it->call() == BIDIGRID_OK && is_state(&all->done, it->in_part));
     /* None that was spare is lost; a reserve that is refused may leave what it got before. */
     CHECK(refused_at(it, number, &met) == BIDIGRID_FAULT_MEMORY && (it->in_part || spare() >= all->spare_before));
 }
@@ -332,7 +332,7 @@ static bool try_one(const row *it, long number, const peace *all, long *refused)
     bool met;
     uint32_t answer = refused_at(it, number, &met);
     if (answer == BIDIGRID_OK) {
-        CHECK(is_state(&all->done) && !memcmp(out, all->out, sizeof out));
+        CHECK(is_state(&all->done, false) && !memcmp(out, all->out, sizeof out));
         return met;
     }
     if (answer != BIDIGRID_FAULT_MEMORY || !met) {

@@ -10,7 +10,7 @@ use Rattle.bidigrid_c.proofs.window_prints.bidigrid_document_row_print.Goals as 
 
 pub returns-clause-told : goal.returns-clause-told
 returns-clause-told c =
-    let it = c.tell_row_print in
+    let it = c.tell_row_print-answer in
     let number = c.args.number in
     let before = c.args.out.now in
     subst (λ (o : Option ToldDocument). IfSome o (λ d. MatchOption (slice_get d.document.window.rows number) ((it.result ≡ 108) × IsLeft before it.new.out it.new.size)
