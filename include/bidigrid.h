@@ -15,7 +15,7 @@
  * one that was empty is empty.
  *
  * Out values. What a call tells it writes on every way out: the answer, or zeros after a fault. NULL may be passed
- * for what isn't wanted. A caret that is moved is read first; it stays as it was after a fault.
+ * for what isn't wanted. A caret or position that is moved is read first; it stays as it was after a fault.
  *
  * Buffers. A call that writes bytes is given a buffer and its length, and tells in `*size` how many bytes there are.
  * Where the buffer is too short nothing is written, and the answer is BIDIGRID_FAULT_SHORT_BUFFER with the size that
@@ -72,7 +72,7 @@ enum {
     BIDIGRID_FAULT_BAD_PLACE = 107,          /* the place lies behind the text's end, or behind where it should end */
     BIDIGRID_FAULT_BAD_ROW = 108,            /* there is no such row, or too many are to be shown */
     BIDIGRID_FAULT_BAD_ENTRY = 109,          /* the row has no such entry */
-    BIDIGRID_FAULT_BAD_CARET = 110,          /* the picture has no such row, or the row no such gap */
+    BIDIGRID_FAULT_BAD_CARET = 110,          /* there is no such row, or the row has no such gap */
     BIDIGRID_FAULT_BAD_CHARACTER = 111,      /* the character is no Unicode scalar */
     BIDIGRID_FAULT_BAD_SITE = 112,           /* the site is not 1 to BIDIGRID_MAX_SITE */
     BIDIGRID_FAULT_BAD_IDENTIFIER = 113,     /* the identifier's counter is 0, or its site none */
@@ -346,6 +346,26 @@ uint32_t bidigrid_document_entries(const bidigrid_document *document, size_t row
 uint32_t bidigrid_document_row_print(const bidigrid_document *document, size_t row, char *out, size_t room,
                                      size_t *size);
 uint32_t bidigrid_document_print(const bidigrid_document *document, char *out, size_t room, size_t *size);
+
+/* Where a caret stands in a document: in a gap of a row, as a bidigrid_caret of the whole text, but that the row is
+ * told by its first place. No two rows have the same one, so it holds whatever is shown. */
+typedef struct bidigrid_position {
+    size_t row; /* the first place of its row */
+    size_t gap;
+    size_t place;
+} bidigrid_position;
+
+/* As bidigrid_caret_at and _under, with the row of a place in place of a row's number. What was shown before is not
+ * shown any more: bidigrid_document_show comes after this call, and so after the moves. */
+uint32_t bidigrid_position_at(bidigrid_document *document, size_t place, bidigrid_position *out);
+uint32_t bidigrid_position_under(bidigrid_document *document, size_t place, size_t column, bidigrid_position *out);
+
+/* As bidigrid_caret_right, _left, _up and _down: its row and gap decide. BIDIGRID_FAULT_BAD_CARET where no row begins
+ * at that place, as may be after a change, or the row has no such gap. */
+uint32_t bidigrid_position_right(bidigrid_document *document, bidigrid_position *position);
+uint32_t bidigrid_position_left(bidigrid_document *document, bidigrid_position *position);
+uint32_t bidigrid_position_up(bidigrid_document *document, bidigrid_position *position);
+uint32_t bidigrid_position_down(bidigrid_document *document, bidigrid_position *position);
 
 /* ---- Desks ---- */
 

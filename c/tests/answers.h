@@ -72,14 +72,15 @@ static bool is_same(bytes one, bytes same)
 
 static long all_lost = 0;
 
-static bool is_state(const state *it)
+/* Where a part of a call was done before, it tells of the rest alone. */
+static bool is_state(const state *it, bool in_part)
 {
     state now = as_it_is();
     bool same = is_same(now.text, it->text) && is_same(now.file, it->file) && now.places == it->places &&
                 is_same(now.other_file, it->other_file) && is_same(now.print, it->print) &&
                 is_same(now.document_text, it->document_text) && is_same(now.document_file, it->document_file) &&
                 is_same(now.shown, it->shown) && is_same(now.whole, it->whole) &&
-                (now.lost || is_same(now.changes, it->changes));
+                (in_part || now.lost || is_same(now.changes, it->changes));
     all_lost += now.lost;
     drop(now);
     return same;

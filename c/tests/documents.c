@@ -54,7 +54,8 @@ static bool shows_nothing(const bidigrid_document *document)
 {
     bidigrid_row row;
     size_t size = 77;
-    CHECK(bidigrid_document_print(document, NULL, 0, &size) == BIDIGRID_OK);
+    uint32_t answer = bidigrid_document_print(document, NULL, 0, &size);
+    CHECK(answer == (size ? BIDIGRID_FAULT_SHORT_BUFFER : BIDIGRID_OK));
     return size == 0 && bidigrid_document_row(document, 0, &row) == BIDIGRID_FAULT_BAD_ROW;
 }
 

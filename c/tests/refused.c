@@ -159,6 +159,27 @@ static uint32_t document_shows(void)
     return bidigrid_document_show(&document, 0, 0, BIDIGRID_MAX_WINDOW_ROWS, NULL);
 }
 
+static uint32_t document_finds_a_place(void)
+{
+    bidigrid_position position;
+    return bidigrid_position_at(&document, MANY / 2, &position);
+}
+
+static uint32_t document_points(void)
+{
+    bidigrid_position position;
+    return bidigrid_position_under(&document, MANY / 2, 7, &position);
+}
+
+/* A position that isn't moved stays as it was. */
+static uint32_t document_moves(void)
+{
+    bidigrid_position position = {0, 0, 77};
+    uint32_t answer = bidigrid_position_down(&document, &position);
+    CHECK(answer == BIDIGRID_OK || (position.row == 0 && position.gap == 0 && position.place == 77));
+    return answer;
+}
+
 static uint32_t document_prints(void)
 {
     return bidigrid_document_print(&document, (char *)out, sizeof out, &size);
@@ -297,10 +318,10 @@ static uint32_t refused_at(const row *it, long number, bool *met)
 static void is_kept(const row *it, long number, const peace *all)
 {
     bool met;
-    CHECK(it->in_part || is_state(&all->before));
+    CHECK(it->in_part || is_state(&all->before, false));
     for (size_t at = 0; at < sizeof out; at++)
         CHECK(out[at] == '?');
-    CHECK(it->call() == BIDIGRID_OK && is_state(&all->done));
+    CHECK(it->call() == BIDIGRID_OK && is_state(&all->done, it->in_part));
     /* None that was spare is lost; a reserve that is refused may leave what it got before. */
     CHECK(refused_at(it, number, &met) == BIDIGRID_FAULT_MEMORY && (it->in_part || spare() >= all->spare_before));
 }
@@ -311,7 +332,7 @@ static bool try_one(const row *it, long number, const peace *all, long *refused)
     bool met;
     uint32_t answer = refused_at(it, number, &met);
     if (answer == BIDIGRID_OK) {
-        CHECK(is_state(&all->done) && !memcmp(out, all->out, sizeof out));
+        CHECK(is_state(&all->done, false) && !memcmp(out, all->out, sizeof out));
         return met;
     }
     if (answer != BIDIGRID_FAULT_MEMORY || !met) {
@@ -390,6 +411,9 @@ static const row ROWS[] = {
     {"bidigrid_document_merge", two_large_documents, document_meets, true},
     {"bidigrid_document_reserve", a_shown_document, document_reserves, false},
     {"bidigrid_document_show", a_large_document, document_shows, false},
+    {"bidigrid_position_at", a_large_document, document_finds_a_place, true},
+    {"bidigrid_position_under", a_large_document, document_points, true},
+    {"bidigrid_position_down", a_shown_document, document_moves, true},
     {"bidigrid_document_print", a_shown_document, document_prints, false},
     {"bidigrid_document_row_print", a_shown_document, document_prints_a_row, false},
     {"bidigrid_document_text", a_shown_document, document_reads, false},

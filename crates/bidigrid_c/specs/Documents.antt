@@ -8,18 +8,25 @@ use Rattle.op_codec.specs.Spelling.{Spells}
 use Rattle.rga_tree.specs.TextOf.{text, visible}
 use Rattle.desk_replica.specs.Desk.{Desk, fresh}
 use Rattle.desk_replica.specs.Telling.{IsTold}
-use Rattle.live_document.specs.Documents.{LiveDocument, window_round, IsDrawnAlike}
+use Rattle.cell_grid.specs.Rows.{DrawnRow}
+use Rattle.cell_grid.specs.Windows.{row_at}
+use Rattle.caret.specs.declared.caret.Caret.{Caret}
+use Rattle.caret.specs.declared.position.Position.{Position}
+use Rattle.caret.specs.Moves.{caret_under}
+use Rattle.caret.specs.Positions.{position_at, position_of, position_moved, IsPositionOf}
+use Rattle.live_document.specs.Documents.{LiveDocument, whole_rows, window_round, IsDrawnAlike}
 use Rattle.live_document.specs.Showing.{no_window}
 use Rattle.live_document.specs.Taking.{AreTold}
 use Rattle.bidigrid_c.specs.declared.told_document.ToldDocument.{ToldDocument}
 use Rattle.bidigrid_c.specs.declared.numbers.ChangeNumbers.{ChangeNumbers}
+use Rattle.bidigrid_c.specs.declared.numbers.PositionNumbers.{PositionNumbers}
 use Rattle.bidigrid_c.specs.declared.numbers.Taken.{Taken}
 use Rattle.bidigrid_c.specs.declared.numbers.WindowNumbers.{WindowNumbers}
 use Rattle.bidigrid_c.specs.Bases.{base_of}
 use Rattle.bidigrid_c.specs.Copying.{AreListed}
 use Rattle.bidigrid_c.specs.Desks.{IsTakenUpTo, IsMessageTaken, IsUnread, IsMergedWith}
 use Rattle.bidigrid_c.specs.Drawing.{IsWidth}
-use Rattle.bidigrid_c.specs.Numbers.{IsSite, change_numbers, none_taken, window_numbers}
+use Rattle.bidigrid_c.specs.Numbers.{IsSite, change_numbers, none_taken, position_numbers, position_with, window_numbers}
 
 -- nothing is told of a take or merge
 pub record IsSilent (d : ToldDocument) : Type 0 where
@@ -139,3 +146,43 @@ IsNotShown old place above below new answer =
     ((answer ≡ 9) × (new.document.window ≡ no_window) × (new.document.desk ≡ old.document.desk) × IsDrawnAlike old.document new.document × TellAlike old new)
     ⊎ (((answer ≡ 107) × (length (visible old.document.desk.set) < place) × (new ≡ old))
     ⊎ ((answer ≡ 108) × ((1_000 < above) ⊎ (1_000 < below)) × (new ≡ old)))
+
+-- ---- positions
+
+-- a document answered where a caret stands: its text, and how it is drawn and what it tells, are as before
+pub record IsAsked (old new : ToldDocument) : Type 0 where
+  pub desk : new.document.desk ≡ old.document.desk
+  pub drawn : IsDrawnAlike old.document new.document
+  pub alike : TellAlike old new
+
+-- this position was told, and the rows from so many above that of a place to so many below it are shown
+pub record IsPositionTold (old : ToldDocument) (position : Position) (place around : ℕ) (new : ToldDocument) (told : PositionNumbers) : Type 0 where
+  pub numbers : told ≡ position_numbers position
+  pub window : new.document.window ≡ window_round old.document place around around
+  pub asked : IsAsked old new
+
+-- the position of a place, or of a column in the row of a place
+abbrev pub IsPlaceTold : ToldDocument → (place : ℕ) → ToldDocument → PositionNumbers → Type 0
+IsPlaceTold old place new told =
+    (place ≤ length (visible old.document.desk.set)) × IsPositionTold old (position_at (whole_rows old.document) place) place 0 new told
+
+abbrev pub IsColumnTold : ToldDocument → (place column : ℕ) → ToldDocument → PositionNumbers → Type 0
+IsColumnTold old place column new told =
+    (place ≤ length (visible old.document.desk.set))
+    × IsPositionTold old (position_of (whole_rows old.document) (caret_under (whole_rows old.document) (row_at (whole_rows old.document) place) column)) place 0 new told
+
+-- why none was told: no memory, or no such place
+abbrev pub IsNoPlace : ToldDocument → (place : ℕ) → ToldDocument → (answer : ℕ) → Type 0
+IsNoPlace old place new answer =
+    ((answer ≡ 9) ⊎ ((answer ≡ 107) × (length (visible old.document.desk.set) < place))) × IsAsked old new
+
+-- a caret of the text's grid was moved by this move
+abbrev pub IsMoved : (List DrawnRow → Caret → Caret) → ToldDocument → (from : PositionNumbers) → ToldDocument → (to : PositionNumbers) → Type 0
+IsMoved move old from new to =
+    IsPositionOf (whole_rows old.document) (position_with from)
+    × IsPositionTold old (position_moved move (whole_rows old.document) (position_with from)) from.row 1 new to
+
+-- why it was not: no memory, or the grid has no such row, or the row no such gap; it is as it was
+abbrev pub IsUnmoved : ToldDocument → (from : PositionNumbers) → ToldDocument → (to : PositionNumbers) → (answer : ℕ) → Type 0
+IsUnmoved old from new to answer =
+    ((answer ≡ 9) ⊎ ((answer ≡ 110) × (¬ (IsPositionOf (whole_rows old.document) (position_with from))))) × (to ≡ from) × IsAsked old new

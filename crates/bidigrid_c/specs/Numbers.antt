@@ -6,10 +6,12 @@ use Rattle.cell_grid.specs.declared.entry.Entry.{Entry}
 use Rattle.cell_grid.specs.Windows.{DrawnWindow}
 use Rattle.cell_grid.specs.Rows.{DrawnRow}
 use Rattle.caret.specs.declared.caret.Caret.{Caret}
+use Rattle.caret.specs.declared.position.Position.{Position}
 use Rattle.caret.specs.Gaps.{gap_column}
 use Rattle.bidigrid_c.specs.declared.numbers.RowNumbers.{RowNumbers}
 use Rattle.bidigrid_c.specs.declared.numbers.EntryNumbers.{EntryNumbers}
 use Rattle.bidigrid_c.specs.declared.numbers.CaretNumbers.{CaretNumbers}
+use Rattle.bidigrid_c.specs.declared.numbers.PositionNumbers.{PositionNumbers}
 use Rattle.bidigrid_c.specs.declared.numbers.IdentifierNumbers.{IdentifierNumbers}
 use Rattle.bidigrid_c.specs.declared.numbers.Taken.{Taken}
 use Rattle.bidigrid_c.specs.declared.numbers.ChangeNumbers.{ChangeNumbers}
@@ -42,6 +44,12 @@ caret_numbers c = record { row = c.row; gap = c.gap; place = c.place }
 abbrev pub caret_of : CaretNumbers → Caret
 caret_of c = record { row = c.row; gap = c.gap; place = c.place }
 
+abbrev pub position_numbers : Position → PositionNumbers
+position_numbers p = record { row = p.row; gap = p.gap; place = p.place }
+
+abbrev pub position_with : PositionNumbers → Position
+position_with p = record { row = p.row; gap = p.gap; place = p.place }
+
 -- where there is nothing to tell, all numbers are 0
 abbrev pub no_row : RowNumbers
 no_row = record { first_place = 0; last_place = 0; entries = 0; column = 0; level = 0 }
@@ -51,6 +59,9 @@ no_entry = record { first_byte = 0; end_byte = 0; first_place = 0; end_place = 0
 
 abbrev pub no_caret : CaretNumbers
 no_caret = record { row = 0; gap = 0; place = 0 }
+
+abbrev pub no_position : PositionNumbers
+no_position = record { row = 0; gap = 0; place = 0 }
 
 abbrev pub no_identifier : IdentifierNumbers
 no_identifier = record { counter = 0; site = 0 }

@@ -29,7 +29,7 @@ pub const BAD_PLACE: u32 = 107;
 pub const BAD_ROW: u32 = 108;
 /// The row has no such entry.
 pub const BAD_ENTRY: u32 = 109;
-/// A caret's row or gap is none of the picture's.
+/// A caret's row or gap is none of the picture's or document's.
 pub const BAD_CARET: u32 = 110;
 /// A character is above 10FFFF or a surrogate.
 pub const BAD_CHARACTER: u32 = 111;

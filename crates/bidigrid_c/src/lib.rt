@@ -7,6 +7,7 @@ mod copying;
 mod desk;
 mod desk_handle;
 mod document;
+mod document_carets;
 mod document_changes;
 mod document_edits;
 mod document_handle;
@@ -35,8 +36,8 @@ pub use desk::Desk;
 pub use desk_handle::DeskHandle;
 pub use document_handle::DocumentHandle;
 pub use numbers::{
-    CaretNumbers, ChangeNumbers, DataFault, DataFiles, EntryNumbers, IdentifierNumbers, RowNumbers,
-    Taken, WindowNumbers,
+    CaretNumbers, ChangeNumbers, DataFault, DataFiles, EntryNumbers, IdentifierNumbers,
+    PositionNumbers, RowNumbers, Taken, WindowNumbers,
 };
 pub use picture_handle::PictureHandle;
 pub use tables_handle::TablesHandle;

@@ -2,13 +2,13 @@
 
 ghost use Rattle.std.specs.Prelude.{◌≡◌, min};
 ghost use Rattle.caret.specs.Gaps.{gap_column};
-ghost use Rattle.bidigrid_c.specs.Numbers.{row_numbers, no_row, entry_numbers, no_entry, caret_numbers, no_caret, caret_of, no_identifier, none_taken, change_numbers, window_numbers, nothing_shown};
+ghost use Rattle.bidigrid_c.specs.Numbers.{row_numbers, no_row, entry_numbers, no_entry, caret_numbers, no_caret, caret_of, position_numbers, no_position, position_with, no_identifier, none_taken, change_numbers, window_numbers, nothing_shown};
 ghost use Rattle.bidigrid_c.specs.Faults.{data_fault, file_number, no_data_fault};
 
 use bg_types::{Change, Id};
 use caret::{Caret, gap_column};
 use cell_grid::{Entry, Row};
-use live_document::{Window, WindowRow};
+use live_document::{Position, Window, WindowRow};
 use ucd_files::{UcdFault, UcdFile};
 
 /// A row: `bidigrid_row` of the header.
@@ -39,6 +39,15 @@ pub struct EntryNumbers {
 #[derive(Clone, Copy)]
 #[repr(C)]
 pub struct CaretNumbers {
+    pub row: usize,
+    pub gap: usize,
+    pub place: usize,
+}
+
+/// A position: `bidigrid_position` of the header.
+#[derive(Clone, Copy)]
+#[repr(C)]
+pub struct PositionNumbers {
     pub row: usize,
     pub gap: usize,
     pub place: usize,
@@ -181,6 +190,39 @@ pub(crate) fn caret_of(numbers: &CaretNumbers) -> Caret
     ensures { result ≡ caret_of numbers.now }
 {
     Caret {
+        row: numbers.row,
+        gap: numbers.gap,
+        place: numbers.place,
+    }
+}
+
+/// The numbers of a position.
+pub(crate) fn position_numbers(position: Position) -> PositionNumbers
+    ensures { result ≡ position_numbers position }
+{
+    PositionNumbers {
+        row: position.row,
+        gap: position.gap,
+        place: position.place,
+    }
+}
+
+/// The numbers where there is no position.
+pub(crate) fn no_position() -> PositionNumbers
+    ensures { result ≡ no_position }
+{
+    PositionNumbers {
+        row: 0,
+        gap: 0,
+        place: 0,
+    }
+}
+
+/// The position with these numbers.
+pub(crate) fn position_with(numbers: &PositionNumbers) -> Position
+    ensures { result ≡ position_with numbers.now }
+{
+    Position {
         row: numbers.row,
         gap: numbers.gap,
         place: numbers.place,

@@ -1,9 +1,10 @@
 //! Carets of a document, told without the numbers of rows: *CaretMoves* on the grid of the whole text.
 
-ghost use Rattle.std.specs.Prelude.{◌≡◌, ◌≤◌, length, IfOk, OnOk};
+ghost use Rattle.std.specs.Prelude.{◌≡◌, ◌≤◌, true, length, IfOk, OnOk};
+ghost use Rattle.std.specs.Bool.{OnTrue, OnFalse};
 ghost use Rattle.rga_tree.specs.TextOf.{visible};
 ghost use Rattle.cell_grid.specs.Grids.{IsDrawn};
-ghost use Rattle.cell_grid.specs.Windows.{row_at};
+ghost use Rattle.cell_grid.specs.Windows.{row_at, begins_by, FirstPlacesRise};
 ghost use Rattle.caret.specs.Moves.{right_of, left_of, up_of, down_of, caret_under};
 ghost use Rattle.caret.specs.Positions.{position_at, position_moved, position_of, IsPositionOf};
 ghost use Rattle.live_document.specs.Documents.{whole_grid, whole_rows, window_round, IsDrawnAlike};
@@ -14,7 +15,8 @@ use crate::laws_below::laws_below;
 use crate::shown::Shown;
 use bg_types::Memory;
 use caret::{
-    Position, at_column_among, at_place_among, down_among, left_among, right_among, up_among,
+    Position, at_column_among, at_place_among, down_among, left_among, right_among, row_at,
+    up_among,
 };
 use cell_grid::Row;
 
@@ -50,6 +52,23 @@ impl Document {
         self.refresh()?;
         let rows = self.rows_round(place, 0)?;
         Ok(Position::of(&rows, at_column_among(&rows, 0, column)))
+    }
+
+    /// Whether a position's row and gap are those of the text's grid. Then the row of this place is shown, if the text has it.
+    pub fn holds(&mut self, position: Position) -> Result<bool, Memory>
+        ensures yes { IfOk result (λ holds. OnTrue holds (IsPositionOf (whole_rows self.old) position)) }
+        ensures no { IfOk result (λ holds. OnFalse holds (¬ (IsPositionOf (whole_rows self.old) position))) }
+        ensures rows { whole_rows self.new ≡ whole_rows self.old }
+        ensures desk { self.new.desk ≡ self.old.desk }
+        ensures drawn { IsDrawnAlike self.old self.new }
+    {
+        laws_below();
+        self.refresh()?;
+        if position.row > self.desk.len() {
+            return Ok(false);
+        }
+        let rows = self.rows_round(position.row, 0)?;
+        Ok(stands_among(&rows, position))
     }
 
     /// The position one step to the right, as `caret::right` answers. Then the row that it came from is shown, with its neighbours.
@@ -152,4 +171,15 @@ impl Document {
         self.show(place, around, around)?;
         self.window().to_rows(self.alloc)
     }
+}
+
+/// Whether a position's row and gap are those of one of these rows.
+fn stands_among(rows: &[Row], position: Position) -> bool
+    requires rises { FirstPlacesRise rows.now }
+    requires begun { begins_by rows.now position.row 0 ≡ true }
+    ensures yes { OnTrue result (IsPositionOf rows.now position) }
+    ensures no { OnFalse result (¬ (IsPositionOf rows.now position)) }
+{
+    let row = &rows[row_at(rows, position.row)];
+    row.first_place() == position.row && position.gap <= row.entries().len()
 }
