@@ -1,5 +1,5 @@
 -- What the calls do to a document.
-use Rattle.std.specs.Prelude.{◌≡◌, ◌⊎◌, ◌<◌, ◌≤◌, ℕ, max, true, false, List, [], ◌∷◌, length, take, None, Some}
+use Rattle.std.specs.Prelude.{◌≡◌, ◌⊎◌, ◌<◌, ℕ, max, true, false, List, [], length, take, None, Some}
 use Rattle.bg_types.specs.declared.class.Base.{Base}
 use Rattle.bg_types.specs.declared.op.OpView.{OpView}
 use Rattle.bg_types.specs.Edit.{IsEdit}
@@ -8,7 +8,7 @@ use Rattle.op_codec.specs.Spelling.{Spells}
 use Rattle.rga_tree.specs.TextOf.{text, visible}
 use Rattle.desk_replica.specs.Desk.{Desk, fresh}
 use Rattle.desk_replica.specs.Telling.{IsTold}
-use Rattle.live_document.specs.Documents.{LiveDocument, window_round, IsDrawnAlike}
+use Rattle.live_document.specs.Documents.{window_round, IsDrawnAlike}
 use Rattle.live_document.specs.Showing.{no_window}
 use Rattle.live_document.specs.Taking.{AreTold}
 use Rattle.bidigrid_c.specs.declared.told_document.ToldDocument.{ToldDocument}
