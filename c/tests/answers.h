@@ -67,7 +67,7 @@ static void drop(state it)
 
 static bool is_same(bytes one, bytes same)
 {
-    return one.size == same.size && !memcmp(one.at, same.at, one.size);
+    return one.size == same.size && (!one.size || !memcmp(one.at, same.at, one.size));
 }
 
 static long all_lost = 0;

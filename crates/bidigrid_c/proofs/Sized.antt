@@ -1,5 +1,5 @@
 -- A size that is told where there is no buffer is that of bytes that are copied into one of no length.
-use Rattle.std.proofs.Common.{◌≡◌, inl, inr, ◌<◌, ℕ, List, [], ◌∷◌, length, refl, ◌∙◌, arith}
+use Rattle.std.proofs.Common.{◌≡◌, inl, inr, ℕ, List, [], ◌∷◌, length, refl, ◌∙◌, arith}
 use Rattle.std.specs.Prelude.{Result, Ok, Err, IfOk, MatchResult}
 use Rattle.bidigrid_c.specs.Copying.{IsCopied, IsSize, IsWritten}
 

@@ -1,5 +1,5 @@
 -- What the calls do to a document.
-use Rattle.std.specs.Prelude.{◌≡◌, ◌⊎◌, ◌<◌, ◌≤◌, ℕ, max, true, false, List, [], ◌∷◌, length, take, None, Some}
+use Rattle.std.specs.Prelude.{◌≡◌, ◌⊎◌, ◌<◌, ℕ, max, true, false, List, [], length, take, None, Some}
 use Rattle.bg_types.specs.declared.class.Base.{Base}
 use Rattle.bg_types.specs.declared.op.OpView.{OpView}
 use Rattle.bg_types.specs.Edit.{IsEdit}
@@ -14,7 +14,7 @@ use Rattle.caret.specs.declared.caret.Caret.{Caret}
 use Rattle.caret.specs.declared.position.Position.{Position}
 use Rattle.caret.specs.Moves.{caret_under}
 use Rattle.caret.specs.Positions.{position_at, position_of, position_moved, IsPositionOf}
-use Rattle.live_document.specs.Documents.{LiveDocument, whole_rows, window_round, IsDrawnAlike}
+use Rattle.live_document.specs.Documents.{whole_rows, window_round, IsDrawnAlike}
 use Rattle.live_document.specs.Showing.{no_window}
 use Rattle.live_document.specs.Taking.{AreTold}
 use Rattle.bidigrid_c.specs.declared.told_document.ToldDocument.{ToldDocument}

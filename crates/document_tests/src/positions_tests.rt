@@ -32,6 +32,7 @@ fn agrees(document: &mut Document, grid: &Grid, place: usize, step: Move) -> Res
         return Ok(false);
     }
     let here = document.position_at(place)?;
+    let stands = document.holds(here)?;
     let moved = match step {
         Move::Right => document.right(here)?,
         Move::Left => document.left(here)?,
@@ -45,7 +46,7 @@ fn agrees(document: &mut Document, grid: &Grid, place: usize, step: Move) -> Res
         Move::Up => up(grid, caret),
         Move::Down => down(grid, caret),
     };
-    Ok(is_that(here, grid, caret) && is_that(moved, grid, beside))
+    Ok(stands && is_that(here, grid, caret) && is_that(moved, grid, beside))
 }
 
 /// Whether the position by a column of a place's row is that of the grid.

@@ -1,5 +1,5 @@
 -- The file is taken by the desk of the document.
-use Rattle.std.proofs.Common.{◌≡◌, inr, ℕ, subst}
+use Rattle.std.proofs.Common.{inr, ℕ, subst}
 use Rattle.desk_replica.specs.Desk.{Desk, fresh}
 use Rattle.bidigrid_c.specs.Desks.{IsMessageTaken}
 use Rattle.bidigrid_c.proofs.document.opened.Goals as goal

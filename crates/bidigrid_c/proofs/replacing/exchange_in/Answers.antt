@@ -1,5 +1,5 @@
 -- The message of the operations fits.
-use Rattle.std.proofs.Common.{◌≡◌, ◌-◌, ◌++◌, List, length, ap, ◌∙◌, subst, sym, arith}
+use Rattle.std.proofs.Common.{◌-◌, ◌++◌, List, length, ap, ◌∙◌, arith}
 use Rattle.std.specs.Str.{chars}
 use Rattle.bg_types.specs.declared.op.OpView.{OpView}
 use Rattle.op_codec.specs.Spelling.{spelling}

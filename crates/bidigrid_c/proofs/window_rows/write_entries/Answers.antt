@@ -1,5 +1,5 @@
 -- One more entry was written.
-use Rattle.std.proofs.Common.{◌≡◌, ◌<◌, ◌+◌, ◌∙◌, ◌++◌, length, map, take, drop, set, sym, ap, arith}
+use Rattle.std.proofs.Common.{◌<◌, ◌+◌, ◌∙◌, ◌++◌, length, map, take, drop, set, sym, ap, arith}
 use Rattle.std.proofs.lemmas.Option.{get_or_from_slice_get}
 use Rattle.cell_grid.specs.declared.entry.Entry.{Entry}
 use Rattle.bidigrid_c.specs.Numbers.{entry_numbers}
