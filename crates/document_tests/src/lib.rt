@@ -6,6 +6,8 @@ mod edits;
 #[cfg(test)]
 mod live_document_tests;
 mod other;
+#[cfg(test)]
+mod paid_tests;
 mod walking;
 #[cfg(test)]
 mod walking_tests;
