@@ -1,17 +1,19 @@
 //! An editor: a live document that types, hears of another desk, and is shown by windows.
 
-ghost use Rattle.std.specs.Prelude.{◌≡◌, ◌≤◌, ◌++◌, false, take, drop, length, OnOk, OnErr};
+ghost use Rattle.std.specs.Prelude.{◌≡◌, ◌≤◌, ◌++◌, false, take, drop, length, IfOk, OnOk, OnErr};
 ghost use Rattle.std.specs.Str.{chars};
 ghost use Rattle.std.specs.Io.KnownBytes.{Appends};
 ghost use Rattle.rga_tree.specs.TextOf.{text, visible};
 ghost use Rattle.desk_replica.specs.Merging.{with_operations};
 ghost use Rattle.cell_grid.specs.Print.{printed};
-ghost use Rattle.calling.specs.Seen.{seen_round};
+ghost use Rattle.caret.specs.Positions.{position_at};
+ghost use Rattle.live_document.specs.Documents.{whole_rows};
+ghost use Rattle.calling.specs.Seen.{seen_round, position_right};
 
 use crate::desks::{Desk, new_desk, take_all};
 use crate::fault::Fault;
-use bg_types::{Base, Op, Sink};
-use live_document::Document;
+use bg_types::{Base, Op, Sink, put_all};
+use live_document::{Document, Position};
 use std::alloc::Global;
 use std::rc::Rc;
 use ucd_files::vectors::SMALL;
@@ -26,8 +28,10 @@ const ABOVE: usize = 1;
 
 const BELOW: usize = 2;
 
-/// Where the other desk types.
+/// Where the other desk types, and how far a caret walks from there.
 const SPOT: usize = 4;
+
+const STEPS: usize = 9;
 
 /// Types words at a place of a document's text, and appends the operations that this makes to `made`, to be sent. A fault
 /// changes nothing.
@@ -73,6 +77,19 @@ pub fn look_round<S: Sink>(
     Ok(())
 }
 
+/// Where a caret stands after a number of steps to the right from a place, as the eye sees it.
+pub fn walk_right(document: &mut Document, place: usize, steps: usize) -> Result<Position, Fault>
+    requires { place ≤ length (visible document.old.desk.set) }
+    ensures position { IfOk result (λ position. position ≡ position_right (whole_rows document.old) steps (position_at (whole_rows document.old) place)) }
+    ensures desk { document.new.desk ≡ document.old.desk }
+{
+    let mut position = document.position_at(place)?;
+    for _ in 0..steps {
+        position = document.right(position)?;
+    }
+    Ok(position)
+}
+
 /// A session: an editor types, hears of what another desk typed, and makes its window narrower.
 pub fn edit<S: Sink>(alloc: Global, key: u128, out: &mut S) -> Result<(), Fault>
     requires { S.has_failed out.old ≡ false }
@@ -100,6 +117,7 @@ fn edit_both<S: Sink>(
     desk.type_text(SPOT.min(desk.len()), "(2) ", &mut burst)?;
     hear(document, &burst)?;
     look_at_spot(document, out)?;
+    walk_from_spot(alloc, document, out)?;
     document.resize(NARROW);
     look_at_spot(document, out)
 }
@@ -111,4 +129,20 @@ fn look_at_spot<S: Sink>(document: &mut Document, out: &mut S) -> Result<(), Fau
 {
     let place = SPOT.min(document.len());
     look_round(document, place, out)
+}
+
+/// Tells where a caret is after some steps to the right from there.
+fn walk_from_spot<S: Sink>(
+    alloc: Global,
+    document: &mut Document,
+    out: &mut S,
+) -> Result<(), Fault>
+    requires { S.has_failed out.old ≡ false }
+    ensures { OnOk result (S.has_failed out.new ≡ false) }
+{
+    let place = SPOT.min(document.len());
+    let position = walk_right(document, place, STEPS)?;
+    let line = format!(in alloc; "caret: gap {}, place {}\n", position.gap, position.place)?;
+    put_all(out, line.as_bytes())?;
+    Ok(())
 }

@@ -14,7 +14,7 @@ mod walk;
 use bg_types::Out;
 pub use buffer::{follow, follow_all, take_into};
 pub use desks::{Desk, meet, new_desk, read_text, take_all, type_words};
-pub use editor::{edit, hear, look_round, type_at};
+pub use editor::{edit, hear, look_round, type_at, walk_right};
 pub use fault::Fault;
 pub use meeting::run;
 pub use mouse::{caret_before, place_under};

@@ -7,3 +7,4 @@ pub mod Finding
 pub mod PlaceLaw
 pub mod Neighbours
 pub mod Positions
+pub mod Interface

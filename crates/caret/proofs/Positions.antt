@@ -23,7 +23,7 @@ a_row = record { first_place = 0; last_place = 0; para_level = 0; entries = []; 
 -- ---- the row of a first place
 
 -- among rows that rise, the row of a row's first place is that row
-row_at-first : (rows : List DrawnRow) (k : ℕ) (row : DrawnRow) → FirstPlacesRise rows → slice_get rows k ≡ Some row → row_at rows row.first_place ≡ k
+pub row_at-first : (rows : List DrawnRow) (k : ℕ) (row : DrawnRow) → FirstPlacesRise rows → slice_get rows k ≡ Some row → row_at rows row.first_place ≡ k
 row_at-first rows k row rises is =
     let within = slice_get_within rows k row is in
     let read = get_or_from_slice_get rows k row row is in

@@ -10,6 +10,7 @@ pub mod Lookups
 pub mod Covering
 pub mod Celled
 pub mod Printing
+pub mod Sizes
 pub mod Fitting
 pub mod Parts
 pub mod LineBounds
@@ -28,4 +29,5 @@ pub mod LastBelow
 pub mod Windows
 pub mod Rising
 pub mod Moving
+pub mod Elsewhere
 pub mod Interface

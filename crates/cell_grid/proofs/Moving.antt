@@ -7,7 +7,6 @@ use Rattle.unicode_tables.specs.Tables.{TableValues}
 use Rattle.paragraphs.specs.Paragraphs.{Paragraph}
 use Rattle.paragraphs.specs.declared.span.Span.{Span}
 use Rattle.cell_grid.specs.declared.entry.Entry.{Entry}
-use Rattle.cell_grid.specs.declared.cell.Cell.{Cell}
 use Rattle.cell_grid.specs.Spans.{shifted_span}
 use Rattle.cell_grid.specs.Rows.{DrawnRow, rows_of, shifted_entry, shifted}
 use Rattle.cell_grid.specs.Grids.{paragraph_rows}

@@ -1,5 +1,5 @@
 -- What is written piece by piece.
-use Rattle.std.proofs.Common.{◌≡◌, ℕ, zero, suc, ◌+◌, ◌-◌, ◌<◌, ◌≤◌, List, [], ◌∷◌, ◌++◌, length, take, drop, get_or, map, map-id, take-append-drop, replicate, encode_utf8, encode_utf8_all, Option, Result, Ok, Err, OnErr, OnOk, flat_map, refl, sym, ap, subst, ◌∙◌, arith, append_assoc, append-nil, inl, inr}
+use Rattle.std.proofs.Common.{◌≡◌, ℕ, zero, suc, ◌+◌, ◌-◌, ◌<◌, ◌≤◌, List, [], ◌∷◌, ◌++◌, length, take, drop, get_or, map, map-id, take-append-drop, replicate, encode_utf8, encode_utf8_all, Option, Result, Ok, Err, OnErr, OnOk, flat_map, refl, sym, ap, subst, ◌∙◌, arith, append_assoc, append-nil, inl, inr, ◌%◌, ◌==◌, chars}
 use Rattle.std.proofs.KnownBytes.{Appends-trans}
 use Rattle.std.proofs.Math.Seq.{take-append-add}
 use Rattle.std.proofs.lemmas.List.{take-append-le}
@@ -7,7 +7,12 @@ use Rattle.std.proofs.lemmas.Bool.Decides.{leb_tells}
 use Rattle.std.specs.Io.KnownBytes.{Appends}
 use Rattle.bg_types.specs.Sink.{AppendsBeginning}
 use Rattle.std.proofs.lemmas.List.{map-append}
-use Rattle.std.proofs.lemmas.Str.{encodes-append}
+use Rattle.std.proofs.lemmas.Str.{encodes-append, encodes-chars}
+use Rattle.std.specs.Prelude.{if◌then◌else◌, unwrap_or}
+use Rattle.std.specs.Str.{IsUtf8}
+use Rattle.unicode_tables.specs.Tables.{TableValues, mirror_of}
+use Rattle.paragraphs.specs.Text.{code_points}
+use Rattle.cell_grid.specs.Print.{mirrored_text}
 use Rattle.cell_grid.proofs.Steps.{take-whole, drop-next, flat_map-take_next, flat_map-split_at}
 
 -- what holds of any fault
@@ -74,6 +79,12 @@ module _ (f : ℕ → ℕ) where
       ap shown whole
       ∙ ap encode_utf8_all (map-append f points (c ∷ drop (length points + 1) all))
       ∙ encodes-append (map f points) (f c ∷ map f (drop (length points + 1) all))
+
+-- at an even level nothing is mirrored
+pub even-text : (tables : TableValues) (level : ℕ) (bytes : List ℕ) → level % 2 ≡ 0 → IsUtf8 bytes → mirrored_text tables level (code_points bytes) ≡ bytes
+even-text tables level bytes even u =
+    ap (λ n. encode_utf8_all (map (λ c. if n == 1 then unwrap_or (mirror_of tables c) c else c) (chars bytes))) even
+    ∙ ap encode_utf8_all (map-id (chars bytes)) ∙ encodes-chars bytes u
 
 -- ---- lists of pieces
 

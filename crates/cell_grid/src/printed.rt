@@ -46,7 +46,15 @@ pub fn print_row_at<W: Sink>(grid: &Grid, number: usize, sink: &mut W) -> Result
     print_row(grid.tables(), grid.text(), &grid.rows()[number], sink)
 }
 
-fn print_row<W: Sink>(tables: &Tables, text: &str, row: &Row, sink: &mut W) -> Result<(), Device>
+/// Writes a row of a text, whose entries are slices of it, as `print` does. Takes no memory.
+///
+/// After `Device` a beginning of it is written.
+pub fn print_row<W: Sink>(
+    tables: &Tables,
+    text: &str,
+    row: &Row,
+    sink: &mut W,
+) -> Result<(), Device>
     requires working { W.has_failed sink.old ≡ false }
     requires entries { All (λ e. IsSlice text.now e.span) row.now.entries }
     ensures ok { OnOk result (Appends (W.written sink.old) (W.written sink.new) (row_text tables.now text.now row.now)) }
@@ -120,7 +128,7 @@ fn print_entry<W: Sink>(
 }
 
 /// Whether a cluster's first code point separates segments, as a tab does.
-fn begins_with_tab(tables: &Tables, cluster: &str) -> bool
+pub(crate) fn begins_with_tab(tables: &Tables, cluster: &str) -> bool
     ensures { result ≡ begins_with_tab tables.now (code_points cluster.now) }
 {
     match cluster.chars().next() {

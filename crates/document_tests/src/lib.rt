@@ -8,6 +8,10 @@ mod live_document_tests;
 mod other;
 #[cfg(test)]
 mod paid_tests;
+#[cfg(test)]
+mod positions_tests;
+#[cfg(test)]
+mod prints_tests;
 mod walking;
 #[cfg(test)]
 mod walking_tests;

@@ -6,30 +6,47 @@ use std::alloc::Global;
 use std::rc::Rc;
 use ucd_files::vectors::SMALL;
 
-/// Counter and site of the last of three characters that a new document's site types.
-fn last_typed(alloc: Global) -> Result<Option<(u32, u16)>, Memory> {
+/// A new document of site 7.
+fn new_document(alloc: Global) -> Result<Document, Memory> {
     let Ok(tables) = SMALL.load(alloc) else {
         return Err(Memory);
     };
     let tables = Rc::new(alloc, tables)?;
-    let mut document = Document::new(alloc, 7, tables, 17, Base::Auto, 0x5eed)?;
+    Document::new(alloc, 7, tables, 17, Base::Auto, 0x5eed)
+}
+
+/// How many rows a window has that might have 19.
+fn rows_shown(document: &mut Document) -> Result<usize, Memory> {
     document.show(0, 9, 9)?;
-    // The empty text has a row.
-    if document.window().len() != 1 {
-        return Ok(None);
-    }
+    Ok(document.window().len())
+}
+
+/// Three characters are typed that are paid for.
+fn type_three(alloc: Global, document: &mut Document) -> Result<(), Memory> {
     document.reserve(3)?;
     let mut made = Vec::new(alloc);
-    document.type_text(0, "abc", &mut made).map_err(|_| Memory)?;
+    document.type_text(0, "abc", &mut made).map_err(|_| Memory)
+}
+
+/// Counter and site of the third character.
+fn third(document: &mut Document) -> Option<(u32, u16)> {
     if document.len() < 3 {
-        return Ok(None);
+        return None;
     }
-    let last = document.id_at(2);
-    Ok(Some((last.counter(), last.site())))
+    let id = document.id_at(2);
+    Some((id.counter(), id.site()))
+}
+
+/// The rows of a new document, and who its third character is.
+fn from_the_start(alloc: Global) -> Result<(usize, Option<(u32, u16)>), Memory> {
+    let mut document = new_document(alloc)?;
+    let rows = rows_shown(&mut document)?;
+    type_three(alloc, &mut document)?;
+    Ok((rows, third(&mut document)))
 }
 
 #[test]
-fn a_new_document_takes_what_its_site_types(rt: HostRuntime) {
-    let last = last_typed(rt.alloc());
-    assert_eq!(rt; last, Ok(Some((3, 7))));
+fn a_new_document_has_a_row_and_takes_what_its_site_types(rt: HostRuntime) {
+    let seen = from_the_start(rt.alloc());
+    assert_eq!(rt; seen, Ok((1, Some((3, 7)))));
 }

@@ -54,25 +54,53 @@ impl Other {
         }
         let op = self.sent.swap_remove(number);
         if chance.one_in(2) {
-            document.take(&op).map_err(|_| Memory)?;
-        } else {
-            document
-                .take_telling(&op, &mut self.told)
-                .map_err(|_| Memory)?;
+            return take(document, &op);
         }
-        Ok(())
+        take_telling(document, &op, &mut self.told)
     }
 
     /// Both take all that the other holds.
     fn meet(&mut self, document: &mut Document, chance: &mut Chance) -> Result<(), Memory> {
         if chance.one_in(2) {
-            document.merge(&self.desk).map_err(|_| Memory)?;
+            merge(document, &self.desk)?;
         } else {
-            document
-                .merge_telling(&self.desk, &mut self.told)
-                .map_err(|_| Memory)?;
+            merge_telling(document, &self.desk, &mut self.told)?;
         }
-        self.desk.merge(document.desk()).map_err(|_| Memory)?;
-        Ok(())
+        match self.desk.merge(document.desk()) {
+            Ok(_) => Ok(()),
+            Err(_) => Err(Memory),
+        }
+    }
+}
+
+fn take(document: &mut Document, op: &Op) -> Result<(), Memory> {
+    match document.take(op) {
+        Ok(_) => Ok(()),
+        Err(_) => Err(Memory),
+    }
+}
+
+fn take_telling(document: &mut Document, op: &Op, told: &mut Vec<Change>) -> Result<(), Memory> {
+    match document.take_telling(op, told) {
+        Ok(_) => Ok(()),
+        Err(_) => Err(Memory),
+    }
+}
+
+fn merge(document: &mut Document, desk: &Desk) -> Result<(), Memory> {
+    match document.merge(desk) {
+        Ok(_) => Ok(()),
+        Err(_) => Err(Memory),
+    }
+}
+
+fn merge_telling(
+    document: &mut Document,
+    desk: &Desk,
+    told: &mut Vec<Change>,
+) -> Result<(), Memory> {
+    match document.merge_telling(desk, told) {
+        Ok(_) => Ok(()),
+        Err(_) => Err(Memory),
     }
 }

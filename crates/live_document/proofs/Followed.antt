@@ -1,5 +1,6 @@
 -- Paragraphs that follow the text of a desk.
-use Rattle.std.proofs.Common.{◌≡◌, ℕ, ◌+◌, ◌-◌, ◌≤◌, Bool, false, inl, List, [], ◌∷◌, length, take, drop, map, sym, ap, subst, ◌∙◌, arith}
+use Rattle.std.proofs.Common.{◌≡◌, ℕ, ◌+◌, ◌-◌, ◌≤◌, Bool, false, inl, List, [], ◌∷◌, length, take, drop, map, refl, sym, ap, subst, ◌∙◌, arith}
+use Rattle.std.proofs.lemmas.Bool.{both_ways}
 use Rattle.std.proofs.lemmas.List.{length-map, take_rest}
 use Rattle.std.specs.List.{All, concat}
 use Rattle.std.specs.Prelude.{Result, Ok, Err, is_err, IfOk, IfErr, OnOk, OnErr, true}
@@ -99,9 +100,16 @@ pub live-followed : (old new : Desk) (tables : TableValues) (width : ℕ) (base 
 live-followed old new tables width base behind later kept now s nothing from to points live none stays before same changed = record {
   kept_at = stays width base live.kept_at;
   text_is = λ h. same h ∙ ap (λ t. replaced t from to points) (live.text_is (before h)) ∙ sym changed;
+  unshown = λ h. nothing-window now nothing none;
   at_hand = nothing-at_hand now nothing none;
   of_now = inl (nothing-window now nothing none);
 }
+
+-- the desk's text is the same, and the paragraphs are its own
+pub live-caught : (desk : Desk) (tables : TableValues) (width : ℕ) (base : Base) (now : KeptText) (s : Shown)
+    → IsKeptAt tables width base now → text_in now ≡ text desk.set → IsAtHand now s → IsWindowOf desk.set tables width base (window_in now s)
+    → IsLive desk tables width base false now s
+live-caught desk tables width base now s at is hand shown = record { kept_at = at; text_is = λ h. is; unshown = λ h. absurd (both_ways false refl h); at_hand = hand; of_now = shown }
 
 -- what stands behind older changes, as a slice of all
 pub told-behind : (old new all : List Change) (n : ℕ) → n ≡ length old → all ≡ new → take (length all - n) (drop n all) ≡ drop (length old) new
@@ -126,6 +134,7 @@ pub live-told : (old new : Desk) (tables : TableValues) (width : ℕ) (base : Ba
 live-told old new tables width base behind later kept now s nothing changes live none stays before same edit = record {
   kept_at = stays width base live.kept_at;
   text_is = λ h. same h ∙ ap (λ t. all_changed t changes) (live.text_is (before h)) ∙ sym (changed-all changes (text old.set) (text new.set) edit).1;
+  unshown = λ h. nothing-window now nothing none;
   at_hand = nothing-at_hand now nothing none;
   of_now = inl (nothing-window now nothing none);
 }
@@ -136,6 +145,7 @@ pub live-behind : (desk : Desk) (tables : TableValues) (width : ℕ) (base : Bas
 live-behind desk tables width base kept nothing at none = record {
   kept_at = at;
   text_is = λ h. cc;
+  unshown = λ h. nothing-window kept nothing none;
   at_hand = nothing-at_hand kept nothing none;
   of_now = inl (nothing-window kept nothing none);
 }
@@ -146,6 +156,7 @@ pub live-alike : (old new : Desk) (tables : TableValues) (width : ℕ) (base : B
 live-alike old new tables width base behind kept s live same = record {
   kept_at = live.kept_at;
   text_is = λ h. live.text_is h ∙ sym (ap text same);
+  unshown = live.unshown;
   at_hand = live.at_hand;
   of_now = subst (λ (set : OperationSet). IsWindowOf set tables width base (window_in kept s)) (sym same) live.of_now;
 }
@@ -157,6 +168,7 @@ pub live-turned : (desk : Desk) (tables : TableValues) (width : ℕ) (base : Bas
 live-turned desk tables width base behind kept now s nothing wider turned live least most none same laid = record {
   kept_at = record { at_least = least; at_most = most; split = subst (IsSplit tables) (sym same) live.kept_at.split; laid = laid };
   text_is = λ h. ap concat same ∙ live.text_is h;
+  unshown = λ h. nothing-window now nothing none;
   at_hand = nothing-at_hand now nothing none;
   of_now = inl (nothing-window now nothing none);
 }

@@ -5,4 +5,7 @@ mod Stretches
 mod Placing
 mod Windows
 mod Spots
+mod Printed
+mod Round
+mod Positions
 mod Followed

@@ -1,14 +1,14 @@
 -- Rows are read one after the other.
-use Rattle.std.proofs.Common.{◌≡◌, ℕ, zero, suc, ◌+◌, ◌-◌, ◌<◌, ◌≤◌, List, [], ◌∷◌, ◌++◌, length, map, take, drop, Some, sym, ap, ◌∙◌, arith, length-append, inl, inr}
+use Rattle.std.proofs.Common.{◌≡◌, ℕ, zero, suc, ◌+◌, ◌-◌, ◌<◌, ◌≤◌, List, [], ◌∷◌, ◌++◌, length, map, take, drop, Some, refl, sym, ap, ◌∙◌, arith, length-append, inl, inr}
 use Rattle.std.proofs.lemmas.Bool.{cases_lt}
-use Rattle.std.proofs.lemmas.List.{length-map}
-use Rattle.std.proofs.lemmas.Option.{same_Some}
+use Rattle.std.proofs.lemmas.List.{length-map, length-drop, length-take-le, drop-drop}
+use Rattle.std.proofs.lemmas.Option.{same_Some, slice_get_past}
 use Rattle.std.proofs.Math.Seq.{drop-append-add}
 use Rattle.std.specs.Prelude.{slice_get}
 use Rattle.cell_grid.specs.Rows.{DrawnRow, shifted}
 use Rattle.text_buffer.specs.Buffers.{bytes_in, text_in}
 use Rattle.live_document.specs.Keeping.{KeptText, rows_at}
-use Rattle.live_document.specs.Showing.{rows_from}
+use Rattle.live_document.specs.Showing.{rows_from, IsReadable}
 use Rattle.live_document.proofs.Stretches.{rows_from-next, rows_from-none}
 
 -- a row stands in a paragraph
@@ -58,3 +58,55 @@ take-first (z ∷ xs) zero zero x h some = absurd (omega arith)
 take-first (z ∷ xs) zero (suc n) x h some = let e : n ≡ suc n - 1 = omega arith in ap (λ y. y ∷ take n xs) (same_Some z x h) ∙ ap (λ m. x ∷ take m xs) e
 take-first (z ∷ xs) (suc k) left x h some =
     let e : suc (k + 1) ≡ suc k + 1 = omega arith in take-first xs k left x h some ∙ ap (λ m. x ∷ take (left - 1) (drop m (z ∷ xs))) e
+
+-- ---- a row by its number behind another one
+
+-- rows that are the same from a row on are so from a later one on
+pub further-same : {X : Type 0} (xs ys : List X) (m n k : ℕ) → drop m xs ≡ drop n ys → drop (m + k) xs ≡ drop (n + k) ys
+further-same xs ys m n k same = sym (drop-drop k m xs) ∙ ap (drop k) same ∙ drop-drop k n ys
+
+pub further-in : {X : Type 0} (xs ys : List X) (m n k : ℕ) → drop m xs ≡ drop n ys → n + k < length ys → m + k < length xs
+further-in xs ys m n k same within =
+    let e = ap length same in
+    let a = length-drop m xs in
+    let b = length-drop n ys in
+    omega arith
+
+get-take : {X : Type 0} (n k : ℕ) (l : List X) → k < n → slice_get (take n l) k ≡ slice_get l k
+get-take zero k l lt = absurd (omega arith)
+get-take (suc n) k [] lt = refl
+get-take (suc n) zero (x ∷ l) lt = refl
+get-take (suc n) (suc k) (x ∷ l) lt = get-take n k l (omega arith)
+
+get-drop : {X : Type 0} (n k : ℕ) (l : List X) → slice_get (drop n l) k ≡ slice_get l (n + k)
+get-drop zero k l = let e : k ≡ 0 + k = omega arith in ap (slice_get l) e
+get-drop (suc n) k [] = slice_get_past [] k (omega arith) ∙ sym (slice_get_past [] (suc n + k) (omega arith))
+get-drop (suc n) k (x ∷ l) = let e : suc (n + k) ≡ suc n + k = omega arith in get-drop n k l ∙ ap (slice_get (x ∷ l)) e
+
+get-next : {X : Type 0} (n : ℕ) (l : List X) → slice_get (drop n l) 0 ≡ slice_get l n
+get-next n l = let e : n + 0 ≡ n = omega arith in get-drop n 0 l ∙ ap (slice_get l) e
+
+-- the row that is next there is that of the window with this number
+pub row-in_window : {X : Type 0} (xs ys : List X) (row skip count number : ℕ) → drop row xs ≡ drop (skip + number) ys → number < count
+    → slice_get (take count (drop skip ys)) number ≡ slice_get xs row
+row-in_window xs ys row skip count number same within =
+    get-take count number (drop skip ys) within ∙ get-drop skip number ys
+    ∙ sym (sym (get-next row xs) ∙ ap (λ l. slice_get l 0) same ∙ get-next (skip + number) ys)
+
+-- a window has no more rows than it counts, and as many where they are there
+pub window-size : {X : Type 0} (xs : List X) (skip count : ℕ) → skip + count ≤ length xs → length (take count (drop skip xs)) ≡ count
+window-size xs skip count enough = let left = length-drop skip xs in length-take-le count (drop skip xs) (omega arith)
+
+-- so it is there
+pub inside-there : (kept : KeptText) (first skip count n k number : ℕ) → IsReadable kept first skip count → number < count
+    → drop k (rows_from kept n) ≡ drop (skip + number) (rows_from kept first) → k < length (rows_from kept n)
+inside-there kept first skip count n k number r within same =
+    let enough = r.enough in
+    let here = further-in (rows_from kept n) (rows_from kept first) k (skip + number) 0 same (omega arith) in
+    omega arith
+
+pub readable-there : (kept : KeptText) (first skip count n k number : ℕ) → IsReadable kept first skip count → number < count
+    → drop k (rows_from kept n) ≡ drop (skip + number) (rows_from kept first) → (left : ℕ) × IsReadable kept n k left
+readable-there kept first skip count n k number r within same =
+    let here = inside-there kept first skip count n k number r within same in
+    (0, record { tables = r.tables; width = r.width; base = r.base; kept_at = r.kept_at; enough = omega arith })

@@ -66,16 +66,16 @@ rises-tail : (r : DrawnRow) (rows : List DrawnRow) → FirstPlacesRise (r ∷ ro
 rises-tail r [] rises = tt
 rises-tail r (s ∷ rows) rises = rises.1
 
-rises-behind : (xs ys : List DrawnRow) → FirstPlacesRise (xs ++ ys) → FirstPlacesRise ys
+pub rises-behind : (xs ys : List DrawnRow) → FirstPlacesRise (xs ++ ys) → FirstPlacesRise ys
 rises-behind [] ys rises = rises
 rises-behind (x ∷ xs) ys rises = rises-behind xs ys (rises-tail x (xs ++ ys) rises)
 
-rises-front : (xs ys : List DrawnRow) → FirstPlacesRise (xs ++ ys) → FirstPlacesRise xs
+pub rises-front : (xs ys : List DrawnRow) → FirstPlacesRise (xs ++ ys) → FirstPlacesRise xs
 rises-front [] ys rises = tt
 rises-front (x ∷ []) ys rises = tt
 rises-front (x ∷ y ∷ xs) ys rises = (rises.0, rises-front (y ∷ xs) ys rises.1)
 
-first-begins : (rows : List DrawnRow) (from to place : ℕ) → RowsFollow from rows to → 0 < length rows → from ≤ place → begins_by rows place 0 ≡ true
+pub first-begins : (rows : List DrawnRow) (from to place : ℕ) → RowsFollow from rows to → 0 < length rows → from ≤ place → begins_by rows place 0 ≡ true
 first-begins [] from to place follow some le = absurd (omega arith)
 first-begins (r ∷ rows) from to place follow some le = let e = follow.0 in le-leb r.first_place place (omega arith)
 

@@ -11,7 +11,7 @@ use Rattle.desk_replica.specs.Desk.{Desk, coded_desk}
 use Rattle.text_buffer.specs.Buffers.{text_in}
 use Rattle.cell_grid.specs.Rows.{DrawnRow}
 use Rattle.cell_grid.specs.contracts.row.Row.{the_row as drawn_row}
-use Rattle.cell_grid.specs.Grids.{grid_rows}
+use Rattle.cell_grid.specs.Grids.{DrawnGrid, grid_of, grid_rows}
 use Rattle.cell_grid.specs.Windows.{DrawnWindow, window_of}
 use Rattle.live_document.specs.declared.shown.Shown.{Shown}
 use Rattle.live_document.specs.Keeping.{KeptText, IsKeptAt, flags}
@@ -38,16 +38,28 @@ abbrev pub IsWindowOf : OperationSet → TableValues → (width : ℕ) → Base 
 IsWindowOf set tables width base window =
     (window ≡ no_window) ⊎ ((place : ℕ) × (above : ℕ) × (below : ℕ) × (window ≡ window_of above below place (grid_rows tables width base (encode_utf8_all (text set)))))
 
--- unless they are behind, the paragraphs are those of the desk's text
+-- unless they are behind, the paragraphs are those of the desk's text; what is behind isn't shown
 pub record IsLive (desk : Desk) (tables : TableValues) (width : ℕ) (base : Base) (behind : Bool) (kept : KeptText) (s : Shown) : Type 0 where
   pub kept_at : IsKeptAt tables width base kept
   pub text_is : behind ≡ false → text_in kept ≡ text desk.set
+  pub unshown : behind ≡ true → window_in kept s ≡ no_window
   pub at_hand : IsAtHand kept s
   pub of_now : IsWindowOf desk.set tables width base (window_in kept s)
 
--- the rows of *Grid* of the desk's text, from so many above the row of a place to so many below it
+-- *Grid* of the desk's text
+abbrev pub whole_grid : LiveDocument → DrawnGrid
+whole_grid d = grid_of d.tables d.width d.base (encode_utf8_all (text d.desk.set))
+
+abbrev pub whole_rows : LiveDocument → List DrawnRow
+whole_rows d = (whole_grid d).rows
+
+-- its rows from so many above the row of a place to so many below it
 abbrev pub window_round : LiveDocument → (place above below : ℕ) → DrawnWindow
-window_round d place above below = window_of above below place (grid_rows d.tables d.width d.base (encode_utf8_all (text d.desk.set)))
+window_round d place above below = window_of above below place (whole_rows d)
+
+-- what is shown, as a part of the grid of the desk's text
+abbrev pub shown_grid : LiveDocument → DrawnGrid
+shown_grid d = record { tables = d.tables; text = encode_utf8_all (text d.desk.set); rows = d.window.rows }
 
 -- a document is stored as the tuple of its parts
 abbrev pub live_code : Coded LiveDocument

@@ -1,10 +1,13 @@
 -- What is shown: a window over rows that are kept.
-use Rattle.std.specs.Prelude.{◌≡◌, ◌+◌, ◌-◌, ◌<◌, ◌≤◌, ◌++◌, ℕ, List, [], ◌∷◌, length, take, drop, get_or, map as each}
+use Rattle.std.specs.Prelude.{◌≡◌, ◌+◌, ◌-◌, ◌<◌, ◌≤◌, ◌++◌, ℕ, List, [], ◌∷◌, length, take, drop, get_or, slice_get, map as each, encode_utf8_all}
 use Rattle.std.specs.List.{concat}
+use Rattle.std.specs.Option.{option_map_or}
 use Rattle.unicode_tables.specs.Tables.{TableValues}
 use Rattle.bg_types.specs.declared.class.Base.{Base}
 use Rattle.text_buffer.specs.Buffers.{bytes_in, text_in}
 use Rattle.cell_grid.specs.Rows.{DrawnRow, shifted}
+use Rattle.cell_grid.specs.Grids.{DrawnGrid}
+use Rattle.cell_grid.specs.Print.{row_text}
 use Rattle.cell_grid.specs.Windows.{DrawnWindow, row_at}
 use Rattle.live_document.specs.declared.shown.Shown.{Shown}
 use Rattle.live_document.specs.Keeping.{KeptText, rows_beside, rows_of_text, IsKeptAt}
@@ -26,6 +29,14 @@ window_in kept s = record { rows = take s.count (drop s.skip (rows_from kept s.f
 -- nothing is shown
 abbrev pub no_window : DrawnWindow
 no_window = record { rows = []; number = 0 }
+
+-- it as a part of the text's grid
+abbrev pub shown_in : TableValues → KeptText → Shown → DrawnGrid
+shown_in tables kept s = record { tables = tables; text = encode_utf8_all (text_in kept); rows = (window_in kept s).rows }
+
+-- what a row prints, by its number among those that are kept from a paragraph on
+abbrev pub there_text : TableValues → KeptText → (number row : ℕ) → List ℕ
+there_text tables kept number row = option_map_or (row_text tables (encode_utf8_all (text_in kept))) (slice_get (rows_from kept number) row) []
 
 -- all its rows are kept
 abbrev pub IsAtHand : KeptText → Shown → Type 0

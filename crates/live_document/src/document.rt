@@ -12,6 +12,8 @@ ghost use Rattle.desk_replica.specs.declared.answer.TypeFault.{TypeFault as Unty
 ghost use Rattle.live_document.specs.Documents.{window_round, IsDrawnAlike, IsWindowOf};
 ghost use Rattle.live_document.specs.Showing.{no_window};
 
+mod positions;
+mod prints;
 mod taking;
 
 use crate::following::{buffer_of, catch_up, follow};

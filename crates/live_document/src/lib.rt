@@ -5,9 +5,11 @@ mod document;
 mod following;
 mod keeping;
 mod laws_below;
+mod printing;
 mod showing;
 mod shown;
 mod window;
 
+pub use caret::Position;
 pub use document::{Desk, Document};
 pub use window::{Window, WindowRow, WindowRows};

@@ -1,13 +1,15 @@
 //! A window over the rows that a document keeps.
 
-ghost use Rattle.std.specs.Prelude.{◌≡◌, ◌<◌, ℕ, Some, drop, length, slice_get};
+ghost use Rattle.std.specs.Prelude.{◌≡◌, ◌+◌, ◌<◌, ℕ, Some, drop, length, slice_get, IfOk};
 ghost use Rattle.live_document.specs.Keeping.{rows_at};
 ghost use Rattle.live_document.specs.Showing.{rows_from, window_in, IsReadable};
 
 use crate::keeping::kept_rows;
 use crate::laws_below::laws_below;
 use crate::shown::Shown;
+use bg_types::Memory;
 use cell_grid::{Cells, Entry, Row, Span};
+use std::alloc::Global;
 use std::marker::Model;
 use text_buffer::Buffer;
 
@@ -52,6 +54,26 @@ impl<'a> Window<'a> {
         ensures { result ≡ self.now.number }
     {
         self.shown.number
+    }
+
+    /// The row with this number, from 0 at the top.
+    pub fn row(&self, number: usize) -> WindowRow<'a>
+        requires { number < length self.now.rows }
+        ensures { slice_get self.now.rows number ≡ Some result }
+    {
+        let spot = spot_behind(self.buffer, self.shown, number);
+        row_there(self.buffer, spot)
+    }
+
+    /// Copies of its rows, where they stand in the text.
+    pub fn to_rows(&self, alloc: Global) -> Result<Vec<Row>, Memory>
+        ensures { IfOk result (λ rows. rows.items ≡ self.now.rows) }
+    {
+        let mut rows = Vec::with_capacity(alloc, self.len())?;
+        for row in self.rows() {
+            rows.push(row.to_row(alloc)?)?;
+        }
+        Ok(rows)
     }
 
     /// Its rows from the top.
@@ -119,13 +141,15 @@ impl<'a> Iterator for WindowRows<'a> {
 
 /// A row among those that are kept of a paragraph.
 #[derive(Clone, Copy)]
-struct Spot {
-    number: usize,
-    row: usize,
+pub struct Spot {
+    /// The number of the paragraph.
+    pub number: usize,
+    /// Which of its rows it is.
+    pub row: usize,
 }
 
 /// The paragraph in which a row stands that is counted from a paragraph on.
-fn spot_of(buffer: &Buffer<Vec<Row>>, number: usize, row: usize) -> Spot
+pub fn spot_of(buffer: &Buffer<Vec<Row>>, number: usize, row: usize) -> Spot
     requires { row < length (rows_from buffer.now number) }
     ensures within { result.number < length buffer.now }
     ensures inside { result.row < length (rows_at buffer.now result.number) }
@@ -142,6 +166,26 @@ fn spot_of(buffer: &Buffer<Vec<Row>>, number: usize, row: usize) -> Spot
         count = kept_rows(buffer, number).len();
     }
     Spot { number, row }
+}
+
+/// The paragraph in which the row stands that is shown with this number.
+pub fn spot_behind(buffer: &Buffer<Vec<Row>>, shown: Shown, number: usize) -> Spot
+    requires { shown.skip + number < length (rows_from buffer.now shown.first) }
+    ensures within { result.number < length buffer.now }
+    ensures inside { result.row < length (rows_at buffer.now result.number) }
+    ensures same { drop result.row (rows_from buffer.now result.number) ≡ drop (shown.skip + number) (rows_from buffer.now shown.first) }
+{
+    // There are no more paragraphs than a number can tell.
+    let _paragraphs = buffer.paragraph_count();
+    let first = spot_of(buffer, shown.first, shown.skip);
+    let left = kept_rows(buffer, first.number).len() - first.row;
+    if number < left {
+        return Spot {
+            number: first.number,
+            row: first.row + number,
+        };
+    }
+    spot_of(buffer, first.number + 1, number - left)
 }
 
 /// The row there, where it stands in the text.
@@ -183,6 +227,13 @@ impl<'a> Model for WindowRow<'a> {
 }
 
 impl<'a> WindowRow<'a> {
+    /// A copy of it, where it stands in the text.
+    pub fn to_row(&self, alloc: Global) -> Result<Row, Memory>
+        ensures { IfOk result (λ row. row ≡ self.now) }
+    {
+        self.row.shifted(alloc, self.bytes, self.places)
+    }
+
     /// The place of its first code point. An empty row has its own place.
     #[inline]
     pub fn first_place(&self) -> usize

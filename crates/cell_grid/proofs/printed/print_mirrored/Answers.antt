@@ -1,26 +1,15 @@
 -- At an even level the bytes as they are, else one code point at a time.
-use Rattle.std.proofs.Common.{◌≡◌, ℕ, List, ◌%◌, ◌==◌, map, ◌++◌, ◌+◌, length, drop, chars, encode_utf8, map-id, ap, sym, subst, ◌∙◌}
+use Rattle.std.proofs.Common.{ℕ, ◌++◌, ◌+◌, length, drop, chars, encode_utf8, map-id, ap, sym, subst, ◌∙◌}
 use Rattle.std.proofs.KnownBytes.{Appends-nil}
 use Rattle.std.proofs.lemmas.Iterator.{YieldsList-from_chars}
 use Rattle.std.proofs.lemmas.Iterator.Consumers.{YieldsList-so_far, YieldsList-turn, YieldsList-end}
-use Rattle.std.proofs.lemmas.Str.{encodes-chars}
-use Rattle.std.specs.Prelude.{if◌then◌else◌, unwrap_or, OnOk, OnErr, encode_utf8_all}
-use Rattle.std.specs.Str.{IsUtf8}
+use Rattle.std.specs.Prelude.{OnOk, OnErr}
 use Rattle.std.specs.Str.Iter.{chars_rest}
 use Rattle.std.specs.Io.KnownBytes.{Appends}
 use Rattle.bg_types.specs.Sink.{AppendsBeginning}
-use Rattle.unicode_tables.specs.Tables.{TableValues, mirror_of}
-use Rattle.paragraphs.specs.Text.{code_points}
 use Rattle.reorder.specs.Mirrored.{mirrored_of}
-use Rattle.cell_grid.specs.Print.{mirrored_text}
-use Rattle.cell_grid.proofs.Writing.{on_err, Appends-on, Begins-on, shown, shown-on, shown-split}
+use Rattle.cell_grid.proofs.Writing.{on_err, Appends-on, Begins-on, even-text, shown, shown-on, shown-split}
 use Rattle.cell_grid.proofs.printed.print_mirrored.Goals as goal
-
--- at an even level nothing is mirrored
-even-text : (tables : TableValues) (level : ℕ) (bytes : List ℕ) → level % 2 ≡ 0 → IsUtf8 bytes → mirrored_text tables level (code_points bytes) ≡ bytes
-even-text tables level bytes even u =
-    ap (λ n. encode_utf8_all (map (λ c. if n == 1 then unwrap_or (mirror_of tables c) c else c) (chars bytes))) even
-    ∙ ap encode_utf8_all (map-id (chars bytes)) ∙ encodes-chars bytes u
 
 pub returns-then-level-eq0-clause-ok : goal.returns-then-level-eq0-clause-ok
 returns-then-level-eq0-clause-ok g c =

@@ -8,7 +8,7 @@ use Rattle.bg_types.specs.Sink.{AppendsBeginning}
 use Rattle.unicode_tables.specs.Tables.{TableValues}
 use Rattle.cell_grid.specs.declared.entry.Entry.{Entry}
 use Rattle.cell_grid.specs.Rows.{DrawnRow}
-use Rattle.cell_grid.specs.Print.{row_text, printed_row}
+use Rattle.cell_grid.specs.Print.{row_text}
 use Rattle.cell_grid.specs.Printable.{IsSlice}
 use Rattle.cell_grid.proofs.Drawn.{slices-rows}
 use Rattle.cell_grid.proofs.Lookups.{All-at}

@@ -10,5 +10,12 @@ returns c = record {
   rows_behind = c.rows_of_paragraphs.ensures.behind;
   some_rows = c.rows_of_paragraphs.ensures.some;
   may_shift = c.rows_may_shift.ensures;
+  slices = c.rows_print_alike.ensures.slices;
+  prints_alike = c.rows_print_alike.ensures.alike;
   in_stretch = c.windows_in_stretches.ensures;
+  whole_some = c.rows_follow.ensures.some;
+  whole_follow = c.rows_follow.ensures.follow;
+  positions = c.positions_are_carets.ensures;
+  place_in_stretch = c.places_in_windows.ensures.stretch;
+  moves_in_stretch = c.moves_in_windows.ensures;
 }

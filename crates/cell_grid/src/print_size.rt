@@ -1,0 +1,86 @@
+//! How many bytes a row prints.
+
+ghost use Rattle.std.specs.Prelude.{◌≡◌, ◌+◌, length, IfOk, Some};
+ghost use Rattle.std.specs.List.{All, flat_map};
+ghost use Rattle.paragraphs.specs.Text.{code_points};
+ghost use Rattle.cell_grid.specs.Print.{mirrored_text, entry_text, own_text, row_text};
+ghost use Rattle.cell_grid.specs.Printable.{IsSlice};
+
+use crate::entry::Entry;
+use crate::printed::begins_with_tab;
+use crate::row::Row;
+use bg_types::Memory;
+use reorder::mirrored;
+use unicode_tables::Tables;
+
+/// How many bytes `print_row` writes of a row of a text, whose entries are slices of it. Takes no memory. `Memory` where they
+/// are more than can be counted.
+pub fn row_print_size(tables: &Tables, text: &str, row: &Row) -> Result<usize, Memory>
+    requires { All (λ e. IsSlice text.now e.span) row.now.entries }
+    ensures { IfOk result (λ size. size ≡ length (row_text tables.now text.now row.now)) }
+{
+    let (left, right) = row.blanks();
+    let blanks = usize::from(left) + usize::from(right);
+    let size = entries_size(tables, text, row.entries())?;
+    // The LF is one more.
+    added(size, blanks + 1)
+}
+
+/// How many bytes the cells of entries print.
+fn entries_size(tables: &Tables, text: &str, entries: &[Entry]) -> Result<usize, Memory>
+    requires { All (λ e. IsSlice text.now e.span) entries.now }
+    ensures { IfOk result (λ size. size ≡ length (flat_map (own_text tables.now text.now) entries.now)) }
+{
+    let mut size = 0usize;
+    for entry in entries {
+        let own = cells_size(tables, text, *entry)?;
+        size = added(size, own)?;
+    }
+    Ok(size)
+}
+
+/// How many bytes the cells of an entry print, if it has any.
+fn cells_size(tables: &Tables, text: &str, entry: Entry) -> Result<usize, Memory>
+    requires { IsSlice text.now entry.span }
+    ensures { IfOk result (λ size. size ≡ length (own_text tables.now text.now entry)) }
+{
+    if entry.columns == 0 {
+        return Ok(0);
+    }
+    entry_size(tables, text, entry)
+}
+
+/// How many bytes an entry has as it is shown.
+fn entry_size(tables: &Tables, text: &str, entry: Entry) -> Result<usize, Memory>
+    requires { IsSlice text.now entry.span }
+    ensures { IfOk result (λ size. size ≡ length (entry_text tables.now text.now (Some entry))) }
+{
+    let cluster = &text[entry.span.first_byte as usize..entry.span.end_byte as usize];
+    if begins_with_tab(tables, cluster) {
+        Ok(usize::from(entry.columns))
+    } else {
+        mirrored_size(tables, cluster, entry.level)
+    }
+}
+
+/// How many bytes a cluster has as it is shown at a level (L4).
+fn mirrored_size(tables: &Tables, cluster: &str, level: u8) -> Result<usize, Memory>
+    ensures { IfOk result (λ size. size ≡ length (mirrored_text tables.now level (code_points cluster.now))) }
+{
+    if level % 2 == 0 {
+        return Ok(cluster.len());
+    }
+    let mut size = 0usize;
+    for c in cluster.chars() {
+        let shown = mirrored(tables, c, level);
+        size = added(size, shown.len_utf8())?;
+    }
+    Ok(size)
+}
+
+/// A size with so many bytes more, or `Memory` where it can't be counted.
+fn added(size: usize, more: usize) -> Result<usize, Memory>
+    ensures { IfOk result (λ sum. sum ≡ size + more) }
+{
+    size.checked_add(more).ok_or(Memory)
+}

@@ -1,0 +1,15 @@
+-- The rows so far are written, and the next one is read there.
+use Rattle.std.proofs.Common.{◌≡◌, ◌+◌, false, drop, take, flat_map}
+use Rattle.std.specs.Io.KnownBytes.{Appends}
+use Rattle.std.specs.Prelude.{encode_utf8_all}
+use Rattle.text_buffer.specs.Buffers.{text_in}
+use Rattle.cell_grid.specs.Print.{row_text}
+use Rattle.live_document.specs.Showing.{rows_from, window_in}
+use Rattle.live_document.proofs.printing.print_shown.Given as goal
+
+abbrev pub invariant-loop : goal.invariant-loop
+invariant-loop g l = record {
+  working : g.W.Sink.has_failed l.sink ≡ false;
+  same : drop l.row (rows_from l.buffer l.number) ≡ drop (l.fn.shown.skip + l.counter) (rows_from l.buffer l.fn.shown.first);
+  so_far : Appends (g.W.Sink.written l.fn.sink) (g.W.Sink.written l.sink) (flat_map (row_text l.tables (encode_utf8_all (text_in l.buffer))) (take l.counter (window_in l.buffer l.fn.shown).rows));
+}

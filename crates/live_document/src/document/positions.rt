@@ -1,0 +1,155 @@
+//! Carets of a document, told without the numbers of rows: *CaretMoves* on the grid of the whole text.
+
+ghost use Rattle.std.specs.Prelude.{◌≡◌, ◌≤◌, length, IfOk, OnOk};
+ghost use Rattle.rga_tree.specs.TextOf.{visible};
+ghost use Rattle.cell_grid.specs.Grids.{IsDrawn};
+ghost use Rattle.cell_grid.specs.Windows.{row_at};
+ghost use Rattle.caret.specs.Moves.{right_of, left_of, up_of, down_of, caret_under};
+ghost use Rattle.caret.specs.Positions.{position_at, position_moved, position_of, IsPositionOf};
+ghost use Rattle.live_document.specs.Documents.{whole_grid, whole_rows, window_round, IsDrawnAlike};
+
+use crate::document::Document;
+use crate::following::catch_up;
+use crate::laws_below::laws_below;
+use crate::shown::Shown;
+use bg_types::Memory;
+use caret::{
+    Position, at_column_among, at_place_among, down_among, left_among, right_among, up_among,
+};
+use cell_grid::Row;
+
+impl Document {
+    /// The position of the caret at a place, as `caret::at_place` answers. Then the place's row is shown.
+    pub fn position_at(&mut self, place: usize) -> Result<Position, Memory>
+        requires { place ≤ length (visible self.old.desk.set) }
+        ensures position { IfOk result (λ position. position ≡ position_at (whole_rows self.old) place) }
+        ensures stands { IfOk result (λ position. IsPositionOf (whole_rows self.old) position) }
+        ensures rows { whole_rows self.new ≡ whole_rows self.old }
+        ensures desk { self.new.desk ≡ self.old.desk }
+        ensures drawn { IsDrawnAlike self.old self.new }
+        ensures window { OnOk result (self.new.window ≡ window_round self.old place 0 0) }
+    {
+        laws_below();
+        self.refresh()?;
+        let rows = self.rows_round(place, 0)?;
+        Ok(Position::of(&rows, at_place_among(&rows, place)))
+    }
+
+    /// The position where a mouse points in the row of a place, as `caret::at_column` answers. Then this row is shown.
+    pub fn position_in(&mut self, place: usize, column: usize) -> Result<Position, Memory>
+        requires { place ≤ length (visible self.old.desk.set) }
+        ensures position { IfOk result (λ position. position
+            ≡ position_of (whole_rows self.old) (caret_under (whole_rows self.old) (row_at (whole_rows self.old) place) column)) }
+        ensures stands { IfOk result (λ position. IsPositionOf (whole_rows self.old) position) }
+        ensures rows { whole_rows self.new ≡ whole_rows self.old }
+        ensures desk { self.new.desk ≡ self.old.desk }
+        ensures drawn { IsDrawnAlike self.old self.new }
+        ensures window { OnOk result (self.new.window ≡ window_round self.old place 0 0) }
+    {
+        laws_below();
+        self.refresh()?;
+        let rows = self.rows_round(place, 0)?;
+        Ok(Position::of(&rows, at_column_among(&rows, 0, column)))
+    }
+
+    /// The position one step to the right, as `caret::right` answers. Then the row that it came from is shown, with its neighbours.
+    pub fn right(&mut self, position: Position) -> Result<Position, Memory>
+        requires { IsPositionOf (whole_rows self.old) position }
+        ensures position { IfOk result (λ moved. moved ≡ position_moved right_of (whole_rows self.old) position) }
+        ensures stands { IfOk result (λ moved. IsPositionOf (whole_rows self.old) moved) }
+        ensures rows { whole_rows self.new ≡ whole_rows self.old }
+        ensures desk { self.new.desk ≡ self.old.desk }
+        ensures drawn { IsDrawnAlike self.old self.new }
+        ensures window { OnOk result (self.new.window ≡ window_round self.old position.row 1 1) }
+    {
+        laws_below();
+        self.refresh()?;
+        let rows = self.rows_round(position.row, 1)?;
+        let caret = position.caret_among(&rows);
+        Ok(Position::of(&rows, right_among(&rows, caret)))
+    }
+
+    /// The position one step to the left, as `caret::left` answers. Then the row that it came from is shown, with its neighbours.
+    pub fn left(&mut self, position: Position) -> Result<Position, Memory>
+        requires { IsPositionOf (whole_rows self.old) position }
+        ensures position { IfOk result (λ moved. moved ≡ position_moved left_of (whole_rows self.old) position) }
+        ensures stands { IfOk result (λ moved. IsPositionOf (whole_rows self.old) moved) }
+        ensures rows { whole_rows self.new ≡ whole_rows self.old }
+        ensures desk { self.new.desk ≡ self.old.desk }
+        ensures drawn { IsDrawnAlike self.old self.new }
+        ensures window { OnOk result (self.new.window ≡ window_round self.old position.row 1 1) }
+    {
+        laws_below();
+        self.refresh()?;
+        let rows = self.rows_round(position.row, 1)?;
+        let caret = position.caret_among(&rows);
+        Ok(Position::of(&rows, left_among(&rows, caret)))
+    }
+
+    /// The position one row higher, as `caret::up` answers. Then the row that it came from is shown, with its neighbours.
+    pub fn up(&mut self, position: Position) -> Result<Position, Memory>
+        requires { IsPositionOf (whole_rows self.old) position }
+        ensures position { IfOk result (λ moved. moved ≡ position_moved up_of (whole_rows self.old) position) }
+        ensures stands { IfOk result (λ moved. IsPositionOf (whole_rows self.old) moved) }
+        ensures rows { whole_rows self.new ≡ whole_rows self.old }
+        ensures desk { self.new.desk ≡ self.old.desk }
+        ensures drawn { IsDrawnAlike self.old self.new }
+        ensures window { OnOk result (self.new.window ≡ window_round self.old position.row 1 1) }
+    {
+        laws_below();
+        self.refresh()?;
+        let rows = self.rows_round(position.row, 1)?;
+        let caret = position.caret_among(&rows);
+        Ok(Position::of(&rows, up_among(&rows, caret)))
+    }
+
+    /// The position one row lower, as `caret::down` answers. Then the row that it came from is shown, with its neighbours.
+    pub fn down(&mut self, position: Position) -> Result<Position, Memory>
+        requires { IsPositionOf (whole_rows self.old) position }
+        ensures position { IfOk result (λ moved. moved ≡ position_moved down_of (whole_rows self.old) position) }
+        ensures stands { IfOk result (λ moved. IsPositionOf (whole_rows self.old) moved) }
+        ensures rows { whole_rows self.new ≡ whole_rows self.old }
+        ensures desk { self.new.desk ≡ self.old.desk }
+        ensures drawn { IsDrawnAlike self.old self.new }
+        ensures window { OnOk result (self.new.window ≡ window_round self.old position.row 1 1) }
+    {
+        laws_below();
+        self.refresh()?;
+        let rows = self.rows_round(position.row, 1)?;
+        let caret = position.caret_among(&rows);
+        Ok(Position::of(&rows, down_among(&rows, caret)))
+    }
+
+    /// Makes the paragraphs anew where they are behind. Then nothing is shown.
+    fn refresh(&mut self) -> Result<(), Memory>
+        ensures whole { OnOk result (IsDrawn (whole_grid self.old)) }
+        ensures desk { self.new.desk ≡ self.old.desk }
+        ensures drawn { IsDrawnAlike self.old self.new }
+    {
+        self.shown = Shown::nothing();
+        catch_up(
+            self.alloc,
+            &self.tables,
+            &self.desk,
+            &mut self.buffer,
+            self.behind,
+        )?;
+        self.behind = false;
+        // The text is no longer than one that is drawn.
+        let _bytes = self.buffer.bytes();
+        Ok(())
+    }
+
+    /// The rows from so many above the row of a place to so many below it, copied. Then they are shown.
+    fn rows_round(&mut self, place: usize, around: usize) -> Result<Vec<Row>, Memory>
+        requires place { place ≤ length (visible self.old.desk.set) }
+        requires around { around ≤ 1_000 }
+        ensures copies { IfOk result (λ rows. rows.items ≡ (window_round self.old place around around).rows) }
+        ensures desk { self.new.desk ≡ self.old.desk }
+        ensures drawn { IsDrawnAlike self.old self.new }
+        ensures window { OnOk result (self.new.window ≡ window_round self.old place around around) }
+    {
+        self.show(place, around, around)?;
+        self.window().to_rows(self.alloc)
+    }
+}
