@@ -2,3 +2,4 @@
 pub mod Made
 pub mod Mouse
 pub mod Picture
+pub mod Seen

@@ -1,8 +1,10 @@
-//! A program on the core: two desks write one text, which is drawn, walked through and pointed at; a third one follows.
+//! A program on the core: two desks write one text, which is drawn, walked through and pointed at; a third one follows; and
+//! an editor shows a live document by windows.
 #![tactic(auto)]
 
 mod buffer;
 mod desks;
+mod editor;
 mod fault;
 mod meeting;
 mod mouse;
@@ -12,6 +14,7 @@ mod walk;
 use bg_types::Out;
 pub use buffer::{follow, follow_all, take_into};
 pub use desks::{Desk, meet, new_desk, read_text, take_all, type_words};
+pub use editor::{edit, hear, look_round, type_at, walk_right};
 pub use fault::Fault;
 pub use meeting::run;
 pub use mouse::{caret_before, place_under};

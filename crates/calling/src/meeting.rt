@@ -9,6 +9,7 @@ ghost use Rattle.calling.specs.Picture.{picture_of};
 
 use crate::buffer::take_into;
 use crate::desks::{Desk, meet, new_desk, read_text, take_all, type_words};
+use crate::editor::edit;
 use crate::fault::Fault;
 use crate::mouse::{caret_before, place_under};
 use crate::picture::{picture, show};
@@ -34,13 +35,15 @@ pub fn run<S: Sink>(alloc: Global, key: u128, out: &mut S) -> Result<(), Fault>
 {
     let tables = load_tables(alloc)?;
     let mut view = View::keyed(alloc, key, &tables, ROOM)?;
-    with_desks(alloc, key, &mut view, out)
+    with_desks(alloc, key, &mut view, out)?;
+    edit(alloc, key, out)
 }
 
 /// Makes three desks, and lets two write and meet. There is one way out: each way out of a function
 /// that owns desks takes its own proof that they are freed.
 fn with_desks<S: Sink>(alloc: Global, key: u128, view: &mut View, out: &mut S) -> Result<(), Fault>
     requires { S.has_failed out.old ≡ false }
+    ensures { OnOk result (S.has_failed out.new ≡ false) }
 {
     let mut one = new_desk(alloc, 1, key);
     let mut other = new_desk(alloc, 2, key);
@@ -60,6 +63,7 @@ fn write_and_meet<S: Sink>(
 ) -> Result<(), Fault>
     requires working { S.has_failed out.old ≡ false }
     requires fresh { reader.old.set ≡ no_operations }
+    ensures { OnOk result (S.has_failed out.new ≡ false) }
 {
     let mut made = Vec::new(alloc);
     write_apart(one, other, &mut made)?;
@@ -95,6 +99,7 @@ fn read_along<S: Sink>(
 ) -> Result<(), Fault>
     requires working { S.has_failed out.old ≡ false }
     requires fresh { reader.old.set ≡ no_operations }
+    ensures { OnOk result (S.has_failed out.new ≡ false) }
 {
     laws::told_changes();
     let mut buffer = Vec::new(alloc);

@@ -2,7 +2,10 @@
 //!
 //! `workloads NAME SEED [SHARE]` does the work of this name, or of all names at `all`, and writes a digest of its
 //! results. Each seed gives other inputs of the same kind and size; with a share they are so many times smaller.
-//! `workloads --help` tells its words.
+//!
+//! `workloads keys FOLLOWS WAY COUNT` presses keys in the text on standard input, and writes for each the nanoseconds that it took
+//! with what follows it, and a number that tells of what is shown; `workloads once WHAT` pastes or opens that text, and writes what
+//! each part took. `workloads --help` tells its words.
 #![tactic(auto)]
 
 mod chance;
@@ -11,18 +14,36 @@ mod draw;
 mod early;
 mod edit;
 mod history;
+mod keys;
+mod keystroke;
 mod listing;
 mod live;
 mod meet;
+mod once;
 mod open;
 mod prose;
+mod timed;
 
 use anyhow::{Result, bail};
 use digest::Digest;
 use std::alloc::Global;
 use std::env;
+use std::io;
 
-const NAMES: [&str; 7] = ["open", "early", "live", "meet", "draw", "edit", "listing"];
+const NAMES: [&str; 8] = [
+    "open",
+    "early",
+    "live",
+    "meet",
+    "draw",
+    "edit",
+    "listing",
+    "keystroke",
+];
+
+const USAGE: &str = "usage: workloads NAME SEED [SHARE]
+       workloads keys window|draw|nothing bursts|elsewhere|remote|corrected COUNT <TEXT
+       workloads once paste|open <TEXT";
 
 /// Does the work of a name.
 fn run(alloc: Global, name: &str, seed: u32, share: usize, digest: &mut Digest) -> Result<()> {
@@ -34,35 +55,64 @@ fn run(alloc: Global, name: &str, seed: u32, share: usize, digest: &mut Digest) 
         "draw" => draw::draw(alloc, seed, share, digest),
         "edit" => edit::edit(alloc, seed, share, digest),
         "listing" => listing::listing(alloc, seed, share, digest),
+        "keystroke" => keystroke::keystroke(alloc, seed, share, digest),
         _ => bail!("no such work"),
     }
 }
 
-const USAGE: &str = "usage: workloads NAME SEED [SHARE]";
-
-fn main(rt: HostRuntime) -> Result<()> {
-    let mut words = env::args(&rt)?.skip(1);
-    let Some(name) = words.next() else {
-        bail!("{USAGE}");
-    };
-    if matches!(name.as_str(), "--help" | "-h") {
-        println!(rt; "{USAGE}")?;
-        return Ok(());
-    }
-    let Some(seed) = words.next() else {
-        bail!("{USAGE}");
-    };
-    let seed = seed.as_str().parse::<u32>()?;
-    let share = match words.next() {
-        Some(word) => word.as_str().parse::<usize>()?.max(1),
-        None => 1,
-    };
+/// Does the works of a name, and writes a digest of each.
+fn digests(rt: &HostRuntime, name: &str, seed: u32, share: usize) -> Result<()> {
     for each in NAMES {
-        if name.as_str() == "all" || name.as_str() == each {
+        if name == "all" || name == each {
             let mut digest = Digest::new();
             run(rt.alloc(), each, seed, share, &mut digest)?;
             println!(rt; "{each} {:016x}", digest.value())?;
         }
     }
     Ok(())
+}
+
+/// A word of the command line.
+fn word(words: &[String], n: usize) -> Result<&str> {
+    match words.get(n) {
+        Some(word) => Ok(word.as_str()),
+        None => bail!("{USAGE}"),
+    }
+}
+
+/// Pastes or opens the text on standard input.
+fn do_once(rt: &HostRuntime, what: &str) -> Result<()> {
+    let text = io::read_to_string(rt.alloc(), rt.reader())?;
+    match what {
+        "paste" => once::paste(rt, &text),
+        "open" => once::open(rt, &text),
+        _ => bail!("{USAGE}"),
+    }
+}
+
+/// Does what the words say.
+fn work(rt: &HostRuntime, words: &[String]) -> Result<()> {
+    match word(words, 0)? {
+        "--help" | "-h" => println!(rt; "{USAGE}")?,
+        "keys" => {
+            let count = word(words, 3)?.parse::<usize>()?;
+            let text = io::read_to_string(rt.alloc(), rt.reader())?;
+            timed::keys(rt, word(words, 1)?, word(words, 2)?, count, &text)?;
+        }
+        "once" => do_once(rt, word(words, 1)?)?,
+        name => {
+            let seed = word(words, 1)?.parse::<u32>()?;
+            let share = match words.get(2) {
+                Some(word) => word.as_str().parse::<usize>()?.max(1),
+                None => 1,
+            };
+            digests(rt, name, seed, share)?;
+        }
+    }
+    Ok(())
+}
+
+fn main(rt: HostRuntime) -> Result<()> {
+    let words = env::args(&rt)?.skip(1).collect::<Vec<String>>(rt.alloc())?;
+    work(&rt, &words)
 }

@@ -1,0 +1,129 @@
+//! What is done to a whole text at once: it is pasted, told by another desk, and opened.
+
+use crate::digest::Digest;
+use crate::keys::{KEY, desk_of};
+use crate::keystroke::{WIDTH, document_of, shared_tables, show};
+use anyhow::Result;
+use bg_types::{Base, Op};
+use live_document::{Desk, Document};
+use op_codec::{decode_file, encode_file};
+use std::alloc::Global;
+use std::rc::Rc;
+use std::time::Instant;
+use ucd_files::Tables;
+
+/// Pastes a text at a desk and into a document, and lets another desk and another document merge it. Writes what each took.
+pub fn paste(rt: &HostRuntime, text: &str) -> Result<()> {
+    let alloc = rt.alloc();
+    let tables = shared_tables(alloc)?;
+    let mut desk = desk_of(alloc, 1);
+    let mut document = document_of(alloc, tables.clone()?)?;
+    type_both(rt, &mut desk, &mut document, text)?;
+    let mut other_desk = desk_of(alloc, 2);
+    let mut other = document_of(alloc, tables)?;
+    merge_both(rt, &mut other_desk, &mut other, &desk)
+}
+
+fn type_both(rt: &HostRuntime, desk: &mut Desk, document: &mut Document, text: &str) -> Result<()> {
+    let mut made = Vec::new(rt.alloc());
+    let start = Instant::now(rt)?;
+    type_at_desk(desk, text, &mut made)?;
+    tell(rt, "typed at a desk", start)?;
+    let mut made = Vec::new(rt.alloc());
+    let start = Instant::now(rt)?;
+    type_into(document, text, &mut made)?;
+    tell(rt, "typed into a document", start)?;
+    let start = Instant::now(rt)?;
+    show(document, 0)?;
+    tell(rt, "its window", start)
+}
+
+fn merge_both(rt: &HostRuntime, desk: &mut Desk, document: &mut Document, from: &Desk) -> Result<()> {
+    let start = Instant::now(rt)?;
+    merge_at_desk(desk, from)?;
+    tell(rt, "merged by a desk", start)?;
+    let start = Instant::now(rt)?;
+    merge_into(document, from)?;
+    tell(rt, "merged by a document", start)?;
+    let start = Instant::now(rt)?;
+    show(document, 0)?;
+    tell(rt, "its window", start)
+}
+
+#[inline(never)]
+fn type_at_desk(desk: &mut Desk, text: &str, made: &mut Vec<Op>) -> Result<()> {
+    desk.type_text(0, text, made)?;
+    Ok(())
+}
+
+#[inline(never)]
+fn type_into(document: &mut Document, text: &str, made: &mut Vec<Op>) -> Result<()> {
+    document.type_text(0, text, made)?;
+    Ok(())
+}
+
+#[inline(never)]
+fn merge_at_desk(desk: &mut Desk, from: &Desk) -> Result<()> {
+    desk.merge(from)?;
+    Ok(())
+}
+
+#[inline(never)]
+fn merge_into(document: &mut Document, from: &Desk) -> Result<()> {
+    document.merge(from)?;
+    Ok(())
+}
+
+/// Opens the operation file of a text: a desk takes it, of which a document is made, and it is read as text. Writes what each
+/// took.
+pub fn open(rt: &HostRuntime, text: &str) -> Result<()> {
+    let alloc = rt.alloc();
+    let tables = shared_tables(alloc)?;
+    let file = file_of(alloc, text)?;
+    let start = Instant::now(rt)?;
+    let desk = taken(alloc, &file)?;
+    tell(rt, "taken by a desk", start)?;
+    let start = Instant::now(rt)?;
+    let mut document = document_over(alloc, desk, tables)?;
+    show(&mut document, 0)?;
+    tell(rt, "a document of it with its window", start)?;
+    let mut digest = Digest::new();
+    let start = Instant::now(rt)?;
+    read_as_text(alloc, &[file], &mut digest)?;
+    tell(rt, "read as text", start)
+}
+
+/// The operation file of one who typed a text.
+fn file_of(alloc: Global, text: &str) -> Result<Vec<u8>> {
+    let mut desk = desk_of(alloc, 2);
+    let mut made = Vec::new(alloc);
+    desk.type_text(0, text, &mut made)?;
+    Ok(encode_file(alloc, &made)?)
+}
+
+#[inline(never)]
+fn read_as_text(alloc: Global, files: &[Vec<u8>], digest: &mut Digest) -> Result<()> {
+    desk_files::text(alloc, KEY, files, digest)?;
+    Ok(())
+}
+
+#[inline(never)]
+fn taken(alloc: Global, file: &[u8]) -> Result<Desk> {
+    let ops = decode_file(alloc, file)?;
+    let mut desk = desk_of(alloc, 1);
+    for op in &ops {
+        desk.take(op)?;
+    }
+    Ok(desk)
+}
+
+#[inline(never)]
+fn document_over(alloc: Global, desk: Desk, tables: Rc<Tables>) -> Result<Document> {
+    Ok(Document::of(alloc, desk, tables, WIDTH, Base::Auto)?)
+}
+
+fn tell(rt: &HostRuntime, what: &str, start: Instant) -> Result<()> {
+    let micros = start.elapsed(rt)?.as_micros();
+    println!(rt; "{what}: {micros} us")?;
+    Ok(())
+}
