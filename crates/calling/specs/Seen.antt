@@ -13,6 +13,6 @@ abbrev pub seen_round : LiveDocument → (place : ℕ) → DrawnGrid
 seen_round d place = record { tables = d.tables; text = encode_utf8_all (text d.desk.set); rows = (window_round d place 1 2).rows }
 
 -- the position after this many steps to the right
-pub position_right : List DrawnRow → (steps : ℕ) → Position → Position
+abbrev pub position_right : List DrawnRow → (steps : ℕ) → Position → Position
 position_right rows zero position = position
 position_right rows (suc steps) position = position_moved right_of rows (position_right rows steps position)

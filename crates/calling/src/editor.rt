@@ -61,11 +61,7 @@ pub fn hear(document: &mut Document, ops: &[Op]) -> Result<(), Fault>
 }
 
 /// Shows the rows round a place, and writes them: they are those of the picture of the whole text.
-pub fn look_round<S: Sink>(
-    document: &mut Document,
-    place: usize,
-    out: &mut S,
-) -> Result<(), Fault>
+pub fn look_round<S: Sink>(document: &mut Document, place: usize, out: &mut S) -> Result<(), Fault>
     requires place { place ≤ length (visible document.old.desk.set) }
     requires working { S.has_failed out.old ≡ false }
     ensures written { OnOk result (Appends (S.written out.old) (S.written out.new) (printed (seen_round document.old place))) }
@@ -132,11 +128,7 @@ fn look_at_spot<S: Sink>(document: &mut Document, out: &mut S) -> Result<(), Fau
 }
 
 /// Tells where a caret is after some steps to the right from there.
-fn walk_from_spot<S: Sink>(
-    alloc: Global,
-    document: &mut Document,
-    out: &mut S,
-) -> Result<(), Fault>
+fn walk_from_spot<S: Sink>(alloc: Global, document: &mut Document, out: &mut S) -> Result<(), Fault>
     requires { S.has_failed out.old ≡ false }
     ensures { OnOk result (S.has_failed out.new ≡ false) }
 {
