@@ -10,7 +10,6 @@ from .fault import fault, must
 from .given import Base, Message
 from .position import Positions
 from .room import written
-from .row import Row
 from .taking import faulty_frame, merged, taken
 from .thread import here
 from .window import Window, shown_rows
@@ -106,7 +105,6 @@ class Document(Positions):
                 raise fault(answer, faulty_frame(answer, told))
         self._hold(home, handle, lib.bidigrid_document_free)
         self._site, self._width, self._base = int(site), int(width), base
-        self._around = (0, 0)
 
     @property
     def site(self) -> int:
@@ -224,25 +222,10 @@ class Document(Positions):
         """The rows from so many above the row of a place to so many below it, at most 1,000 each, and fewer at the text's
         ends. They cost what is shown, whatever the size of the text. An IndexError where there is no such place, or more
         rows are asked for."""
-        handle, around = self._full(), (given.count(above), given.count(below))
-        rows, number = self._show(handle, given.count(place), *around)
-        self._around = around
-        return Window(shown_rows(handle, range(rows), self._width), number)
-
-    def _show(self, handle: Any, place: int, above: int, below: int) -> tuple[int, int]:
-        """Has the library show some rows, and tells how many they are, and which of them is that of the place."""
+        handle = self._full()
         window = ffi.new("bidigrid_window *")
-        must(lib.bidigrid_document_show(handle, place, above, below, window))
-        return window.rows, window.number
-
-    def _near(self, place: int) -> tuple[Row | None, Row, Row | None]:
-        """The row of a place and its neighbours. As many are shown as the caller showed, so that they stay laid out."""
-        handle, (above, below) = self._full(), self._around
-        rows, number = self._show(handle, given.count(place), max(above, 1), max(below, 1))
-        first = max(number - 1, 0)
-        near = shown_rows(handle, range(first, min(number + 2, rows)), self._width)
-        row = number - first
-        return near[0] if row else None, near[row], near[row + 1] if row + 1 < len(near) else None
+        must(lib.bidigrid_document_show(handle, given.count(place), given.count(above), given.count(below), window))
+        return Window(shown_rows(handle, range(window.rows), self._width), window.number)
 
     def __repr__(self) -> str:
         return f"<Document of site {self._site}, {self._width} columns wide>"
