@@ -37,8 +37,6 @@ fn type_anew(rt: &HostRuntime, tables: Rc<Tables>, text: &str) -> Result<()> {
 
 fn time_typing(rt: &HostRuntime, document: &mut Document, text: &str) -> Result<()> {
     let mut made = Vec::new(rt.alloc());
-    // Its paragraphs are made by its first window.
-    open_window(document)?;
     let start = Instant::now(rt)?;
     type_into(document, text, &mut made)?;
     tell(rt, "typed into a document", start)?;
@@ -58,7 +56,6 @@ fn merge_anew(rt: &HostRuntime, tables: Rc<Tables>, from: &Desk) -> Result<()> {
 }
 
 fn time_merging(rt: &HostRuntime, document: &mut Document, from: &Desk) -> Result<()> {
-    open_window(document)?;
     let start = Instant::now(rt)?;
     merge_into(document, from)?;
     tell(rt, "merged by a document", start)?;
@@ -93,11 +90,6 @@ fn merge_at_desk(desk: &mut Desk, from: &Desk) -> Result<()> {
 fn merge_into(document: &mut Document, from: &Desk) -> Result<()> {
     document.merge(from)?;
     Ok(())
-}
-
-#[inline(never)]
-fn open_window(document: &mut Document) -> Result<()> {
-    show(document, 0)
 }
 
 /// Opens the operation file of a text: it is shown by a document, and read as text. Writes what each took.
