@@ -27,8 +27,7 @@ mod timed;
 use anyhow::{Result, bail};
 use digest::Digest;
 use std::alloc::Global;
-use std::env;
-use std::io;
+use std::{env, io};
 
 const NAMES: [&str; 8] = [
     "open",

@@ -14,37 +14,55 @@ use ucd_files::Tables;
 
 /// Pastes a text at a desk and into a document, and lets another desk and another document merge it. Writes what each took.
 pub fn paste(rt: &HostRuntime, text: &str) -> Result<()> {
-    let alloc = rt.alloc();
-    let tables = shared_tables(alloc)?;
-    let mut desk = desk_of(alloc, 1);
-    let mut document = document_of(alloc, tables.clone()?)?;
-    type_both(rt, &mut desk, &mut document, text)?;
-    let mut other_desk = desk_of(alloc, 2);
-    let mut other = document_of(alloc, tables)?;
-    merge_both(rt, &mut other_desk, &mut other, &desk)
+    let mut desk = desk_of(rt.alloc(), 1);
+    paste_from(rt, &mut desk, text)
 }
 
-fn type_both(rt: &HostRuntime, desk: &mut Desk, document: &mut Document, text: &str) -> Result<()> {
+/// The same with a desk that holds nothing yet.
+fn paste_from(rt: &HostRuntime, desk: &mut Desk, text: &str) -> Result<()> {
+    let tables = shared_tables(rt.alloc())?;
     let mut made = Vec::new(rt.alloc());
     let start = Instant::now(rt)?;
     type_at_desk(desk, text, &mut made)?;
     tell(rt, "typed at a desk", start)?;
+    type_anew(rt, tables.clone()?, text)?;
+    merge_at_another(rt, desk)?;
+    merge_anew(rt, tables, desk)
+}
+
+fn type_anew(rt: &HostRuntime, tables: Rc<Tables>, text: &str) -> Result<()> {
+    let mut document = document_of(rt.alloc(), tables)?;
+    time_typing(rt, &mut document, text)
+}
+
+fn time_typing(rt: &HostRuntime, document: &mut Document, text: &str) -> Result<()> {
     let mut made = Vec::new(rt.alloc());
     let start = Instant::now(rt)?;
     type_into(document, text, &mut made)?;
     tell(rt, "typed into a document", start)?;
-    let start = Instant::now(rt)?;
-    show(document, 0)?;
-    tell(rt, "its window", start)
+    time_window(rt, document)
 }
 
-fn merge_both(rt: &HostRuntime, desk: &mut Desk, document: &mut Document, from: &Desk) -> Result<()> {
+fn merge_at_another(rt: &HostRuntime, from: &Desk) -> Result<()> {
+    let mut desk = desk_of(rt.alloc(), 2);
     let start = Instant::now(rt)?;
-    merge_at_desk(desk, from)?;
-    tell(rt, "merged by a desk", start)?;
+    merge_at_desk(&mut desk, from)?;
+    tell(rt, "merged by a desk", start)
+}
+
+fn merge_anew(rt: &HostRuntime, tables: Rc<Tables>, from: &Desk) -> Result<()> {
+    let mut document = document_of(rt.alloc(), tables)?;
+    time_merging(rt, &mut document, from)
+}
+
+fn time_merging(rt: &HostRuntime, document: &mut Document, from: &Desk) -> Result<()> {
     let start = Instant::now(rt)?;
     merge_into(document, from)?;
     tell(rt, "merged by a document", start)?;
+    time_window(rt, document)
+}
+
+fn time_window(rt: &HostRuntime, document: &mut Document) -> Result<()> {
     let start = Instant::now(rt)?;
     show(document, 0)?;
     tell(rt, "its window", start)
@@ -74,23 +92,24 @@ fn merge_into(document: &mut Document, from: &Desk) -> Result<()> {
     Ok(())
 }
 
-/// Opens the operation file of a text: a desk takes it, of which a document is made, and it is read as text. Writes what each
-/// took.
+/// Opens the operation file of a text: it is shown by a document, and read as text. Writes what each took.
 pub fn open(rt: &HostRuntime, text: &str) -> Result<()> {
-    let alloc = rt.alloc();
-    let tables = shared_tables(alloc)?;
-    let file = file_of(alloc, text)?;
+    let tables = shared_tables(rt.alloc())?;
+    let file = file_of(rt.alloc(), text)?;
     let start = Instant::now(rt)?;
-    let desk = taken(alloc, &file)?;
-    tell(rt, "taken by a desk", start)?;
-    let start = Instant::now(rt)?;
-    let mut document = document_over(alloc, desk, tables)?;
-    show(&mut document, 0)?;
-    tell(rt, "a document of it with its window", start)?;
+    show_file(rt.alloc(), &file, tables)?;
+    tell(rt, "a document of the file with its window", start)?;
     let mut digest = Digest::new();
     let start = Instant::now(rt)?;
-    read_as_text(alloc, &[file], &mut digest)?;
-    tell(rt, "read as text", start)
+    read_as_text(rt.alloc(), &[file], &mut digest)?;
+    tell(rt, "the file read as text", start)
+}
+
+/// Lets a desk take a file, and shows the first window of a document of it.
+fn show_file(alloc: Global, file: &[u8], tables: Rc<Tables>) -> Result<()> {
+    let desk = taken(alloc, file)?;
+    let mut document = document_over(alloc, desk, tables)?;
+    show(&mut document, 0)
 }
 
 /// The operation file of one who typed a text.

@@ -97,13 +97,7 @@ fn draw(view: &mut View, desk: &Desk) -> Result<usize> {
     Ok(grid.rows().len())
 }
 
-fn press_each(
-    rt: &HostRuntime,
-    desk: &mut Desk,
-    way: Way,
-    count: usize,
-    text: &str,
-) -> Result<()> {
+fn press_each(rt: &HostRuntime, desk: &mut Desk, way: Way, count: usize, text: &str) -> Result<()> {
     let mut made = Vec::new(rt.alloc());
     desk.type_text(0, text, &mut made)?;
     for key in &keys_of(rt.alloc(), desk, way, count)? {
