@@ -12,7 +12,7 @@ use std::alloc::Global;
 use std::rc::Rc;
 use ucd_files::Tables;
 
-pub const KEY: u128 = 0x5eed;
+const KEY: u128 = 0x5eed;
 
 /// The most rows of a window above and below its own, and one more.
 const ROWS: usize = 40;
@@ -87,23 +87,10 @@ fn begun(alloc: Global, tables: Rc<Tables>) -> Result<Document, Memory> {
 
 /// Whether a window at some place is the stretch of the whole grid that it should be.
 fn shows(alloc: Global, document: &mut Document, chance: &mut Chance) -> Result<bool, Memory> {
-    let place = chance.below(document.len().saturating_add(1));
-    let above = chance.below(ROWS);
-    let below = chance.below(ROWS);
-    shows_round(alloc, document, place, above, below)
-}
-
-/// Whether a window round a place, or round the end of a shorter text, is the stretch of the whole grid that it should be.
-pub fn shows_round(
-    alloc: Global,
-    document: &mut Document,
-    place: usize,
-    above: usize,
-    below: usize,
-) -> Result<bool, Memory> {
-    let place = place.min(document.len());
-    let above = above.min(ROWS);
-    let below = below.min(ROWS);
+    let length = document.len();
+    let place = chance.below(length.saturating_add(1)).min(length);
+    let above = chance.below(ROWS).min(ROWS);
+    let below = chance.below(ROWS).min(ROWS);
     document.show(place, above, below)?;
     let text = document.text()?;
     let width = document.width();
