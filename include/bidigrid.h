@@ -292,8 +292,8 @@ uint32_t bidigrid_document_erase(bidigrid_document *document, size_t from, size_
 uint32_t bidigrid_document_replace(bidigrid_document *document, size_t from, size_t to, const char *text,
                                    size_t text_size, uint8_t *message, size_t room, size_t *size);
 
-/* As bidigrid_desk_take and _merge. Then nothing is shown, but after a message of which nothing was taken. What it changed
- * in the text is kept for bidigrid_document_changes. */
+/* As bidigrid_desk_take and _merge. Then nothing is shown, but after a message of which nothing was taken. What it
+ * changed in the text is kept for bidigrid_document_changes. */
 uint32_t bidigrid_document_take(bidigrid_document *document, const uint8_t *message, size_t message_size,
                                 bidigrid_taken *told);
 uint32_t bidigrid_document_merge(bidigrid_document *document, const bidigrid_document *other);
