@@ -12,7 +12,7 @@ bring_crates() {
         crate=$(basename "$crate")
         kept=()
         [ ! -d "$to/crates/$crate/out" ] || kept=(--exclude=out)
-        tar -C "$top/crates" "${kept[@]}" "$@" --exclude=must-fail --exclude=by-hand -cf - "$crate" | tar -C "$to/crates" -xf -
+        tar -C "$top/crates" "${kept[@]}" "$@" --exclude=must-fail --exclude=more-must-fail -cf - "$crate" | tar -C "$to/crates" -xf -
     done
     cp "$top/HANDLES" "$top/crates.txt" "$to/"
 }
