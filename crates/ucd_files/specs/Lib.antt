@@ -13,6 +13,5 @@ pub mod EaNames
 pub mod BracketKind
 pub mod Files
 pub mod Faults
-pub mod UnsetPlaces
 pub mod Ucd
 pub use Rattle.unicode_tables.specs.Tables

@@ -4,7 +4,7 @@ ghost use Rattle.std.specs.Prelude.{◌≡◌};
 ghost use Rattle.ucd_files.specs.declared.fault.UcdFault.TheVariants.{Memory as memory};
 ghost use Rattle.ucd_files.specs.FaultCode.{cause_code, fault_code};
 
-use std::alloc::AllocError;
+use bg_types::Memory;
 use thiserror::Error;
 
 /// One of the five files. Each prints its name among the five arguments of a load.
@@ -81,10 +81,10 @@ impl UcdFault {
     }
 }
 
-impl From<AllocError> for UcdFault {
+impl From<Memory> for UcdFault {
     ghost from_gives = { λ _ e. e ≡ memory };
 
-    fn from(_error: AllocError) -> UcdFault {
+    fn from(_error: Memory) -> UcdFault {
         UcdFault::Memory
     }
 }

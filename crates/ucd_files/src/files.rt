@@ -40,7 +40,7 @@ impl Ucd<'_> {
         let mirror = read(alloc, UcdFile::Mirror, self.mirror)?;
         let lb = read(alloc, UcdFile::Lb, self.lb)?;
         let ea = read(alloc, UcdFile::Ea, self.ea)?;
-        let tables = Tables::new(bidi, brackets, mirror, lb, ea);
+        let tables = Tables::new(alloc, bidi, brackets, mirror, lb, ea)?;
         Ok(tables.with_wide_ambiguous(self.wide_ambiguous))
     }
 }

@@ -11,10 +11,9 @@ mod line;
 mod lines;
 mod names;
 mod read;
-mod unset;
 mod values;
 pub mod vectors;
 
 pub use fault::{Cause, UcdFault, UcdFile};
 pub use files::Ucd;
-pub use unicode_tables::{Bracket, Tables};
+pub use unicode_tables::{Bracket, Tables, Word};

@@ -1,6 +1,6 @@
 //! The parts of a line.
 
-ghost use Rattle.std.specs.Prelude.{◌≡◌, ◌≤◌, ◌<◌, ◌-◌, ◌==◌, ℕ, false, length, count_by, slice_index_or};
+ghost use Rattle.std.specs.Prelude.{◌≡◌, ◌≤◌, ◌==◌, length, count_by};
 ghost use Rattle.std.specs.List.{before_first, after_first, position_or_len, prefix_len};
 ghost use Rattle.ucd_files.specs.Line.{trimmed, end_trimmed, is_among, text_of, comment_of, field, fields_of};
 
@@ -29,19 +29,6 @@ pub(crate) fn number_of(bytes: &[u8], at: u8) -> usize
         }
     }
     number
-}
-
-/// Where the last line begins.
-pub(crate) fn last_line(bytes: &[u8]) -> usize
-    ensures bound { result ≤ length bytes.now }
-    ensures line { (k : ℕ) → result ≤ k → k < length bytes.now → (slice_index_or bytes.now k 0 == 10) ≡ false }
-    ensures feed { 0 < result → slice_index_or bytes.now (result - 1) 0 ≡ 10 }
-{
-    let mut start = bytes.len();
-    while start > 0 && bytes[start - 1] != b'\n' {
-        start -= 1;
-    }
-    start
 }
 
 /// What stands before the first of these bytes, and what stands after it.

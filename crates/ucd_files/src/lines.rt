@@ -1,10 +1,10 @@
 //! The lines of a file.
 
-ghost use Rattle.std.specs.Prelude.{◌≡◌, reverse};
+ghost use Rattle.std.specs.Prelude.{◌≡◌};
 ghost use Rattle.std.specs.Iterator.{YieldsFirstRef, item_count};
 ghost use Rattle.ucd_files.specs.Line.{lines_of, lines_left};
 
-use crate::line::{last_line, place_of};
+use crate::line::place_of;
 
 /// The lines that are left of a file.
 #[derive(Drop)]
@@ -37,39 +37,5 @@ impl<'a> Iterator for Lines<'a> {
         }
         self.rest = Some(&text[place + 1..]);
         Some(&text[..place])
-    }
-}
-
-/// The lines that are left of a file, the last first.
-#[derive(Drop)]
-pub(crate) struct LinesBack<'a> {
-    rest: Option<&'a [u8]>,
-}
-
-impl<'a> LinesBack<'a> {
-    /// All lines of a file.
-    pub(crate) fn of(bytes: &'a [u8]) -> LinesBack<'a>
-        ensures { lines_left result.rest ≡ lines_of bytes.now }
-    {
-        LinesBack { rest: Some(bytes) }
-    }
-}
-
-impl<'a> Iterator for LinesBack<'a> {
-    type Item = &'a [u8];
-
-    ghost next_gives = { YieldsFirstRef (λ s. reverse (lines_left s.rest)) };
-
-    ghost remaining = { item_count (λ s. reverse (lines_left s.rest)) };
-
-    fn next(&mut self) -> Option<&'a [u8]> {
-        let text = self.rest?;
-        let start = last_line(text);
-        if start == 0 {
-            self.rest = None;
-            return Some(text);
-        }
-        self.rest = Some(&text[..start - 1]);
-        Some(&text[start..])
     }
 }

@@ -1,65 +1,67 @@
 //! The tables, and the looking up.
 
-ghost use Rattle.std.specs.Prelude.{◌≡◌, map, IfOk, slice_index_or};
+ghost use Rattle.std.specs.Prelude.{◌≡◌, map, IfOk};
 ghost use Rattle.std.specs.Str.{chars};
 
 use crate::bracket::Bracket;
+use crate::property::Property;
+use crate::word::{Properties, Word};
+use crate::words::Words;
 use bg_types::{Bidi, Ea, Lb, Memory};
 use std::alloc::Global;
 use std::marker::Model;
 
-/// What the five data files say of each code point, and how wide ambiguous characters are.
+/// What the five data files say of each code point, and how wide ambiguous characters are. A look-up reads one word, and
+/// the few code points that it marks have their bracket or their mirrored character beside it.
 #[derive(Drop)]
 pub struct Tables {
-    bidi: Vec<Bidi>,
-    bracket: Vec<Bracket>,
-    mirror: Vec<Option<char>>,
-    lb: Vec<Lb>,
-    ea: Vec<Ea>,
+    words: Words,
+    bracket: Property<Bracket>,
+    mirror: Property<Option<char>>,
     wide_ambiguous: bool,
 }
 
 impl Model for Tables {
-    ghost use Rattle.unicode_tables.specs.Tables.{TableValues, tables_of_lists, with_width};
+    ghost use Rattle.unicode_tables.specs.Tables.{TableValues, with_width};
 
     ghost Value = { TableValues };
 
-    ghost view = { λ t. with_width (tables_of_lists t.bidi.items t.bracket.items t.mirror.items t.lb.items t.ea.items) t.wide_ambiguous };
-}
+    ghost use Rattle.unicode_tables.specs.Words.{tables_of_words, IsWordTable, HasMarks};
 
-/// The value at a character, or the absent one after the table's end.
-#[inline]
-fn at<V: Copy>(table: &[V], c: char, absent: V) -> V
-    ensures { result ≡ slice_index_or table.now c absent }
-{
-    match table.get(c as usize) {
-        Some(value) => *value,
-        None => absent,
-    }
+    ghost view = { λ t. with_width (tables_of_words t.words t.bracket t.mirror) t.wide_ambiguous };
+
+    ghost invariant = { λ t. IsWordTable t.words × HasMarks t.words t.bracket t.mirror };
 }
 
 impl Tables {
     ghost use Rattle.unicode_tables.specs.Tables.{tables_of_lists, with_width, bidi_of, bracket_of, mirror_of, lb_of, ea_of};
+    ghost use Rattle.unicode_tables.specs.Word.{word_of};
 
-    /// The tables of five lists: at a code point the element with its number, after a list's end the default of
-    /// the data files (L, no bracket, no mirror, XX, N). Ambiguous characters are narrow. Takes no memory.
+    /// The tables of five properties. Ambiguous characters are narrow.
     pub fn new(
-        bidi: Vec<Bidi>,
-        bracket: Vec<Bracket>,
-        mirror: Vec<Option<char>>,
-        lb: Vec<Lb>,
-        ea: Vec<Ea>,
-    ) -> Tables
-        ensures { result ≡ tables_of_lists bidi.items bracket.items mirror.items lb.items ea.items }
+        alloc: Global,
+        bidi: Property<Bidi>,
+        bracket: Property<Bracket>,
+        mirror: Property<Option<char>>,
+        lb: Property<Lb>,
+        ea: Property<Ea>,
+    ) -> Result<Tables, Memory>
+        ensures { IfOk result (λ tables. tables ≡ tables_of_lists bidi bracket mirror lb ea) }
     {
-        Tables {
-            bidi,
+        let properties = Properties {
+            bidi: &bidi,
+            bracket: &bracket,
+            mirror: &mirror,
+            lb: &lb,
+            ea: &ea,
+        };
+        let words = Words::of(alloc, &properties)?;
+        Ok(Tables {
+            words,
             bracket,
             mirror,
-            lb,
-            ea,
             wide_ambiguous: false,
-        }
+        })
     }
 
     /// The same tables, in which characters of East_Asian_Width A are wide or not (UAX #11, 5: the
@@ -79,12 +81,20 @@ impl Tables {
         self.wide_ambiguous
     }
 
+    /// All that the tables say of a character, but for the characters that it pairs with and mirrors to.
+    #[inline]
+    pub fn word(&self, c: char) -> Word
+        ensures { result ≡ word_of self.now c }
+    {
+        self.words.at(c as usize)
+    }
+
     /// Bidi_Class of a character.
     #[inline]
     pub fn bidi(&self, c: char) -> Bidi
         ensures { result ≡ bidi_of self.now c }
     {
-        at(&self.bidi, c, Bidi::L)
+        self.words.at(c as usize).bidi
     }
 
     /// Bidi_Class of each of these characters.
@@ -106,7 +116,10 @@ impl Tables {
     pub fn bracket(&self, c: char) -> Bracket
         ensures { result ≡ bracket_of self.now c }
     {
-        at(&self.bracket, c, Bracket::None)
+        if !self.words.at(c as usize).is_bracket {
+            return Bracket::None;
+        }
+        self.bracket.get(c)
     }
 
     /// The mirrored character, where the file lists one.
@@ -114,7 +127,10 @@ impl Tables {
     pub fn mirror(&self, c: char) -> Option<char>
         ensures { result ≡ mirror_of self.now c }
     {
-        at(&self.mirror, c, None)
+        if !self.words.at(c as usize).has_mirror {
+            return None;
+        }
+        self.mirror.get(c)
     }
 
     /// Line_Break of a character.
@@ -122,7 +138,7 @@ impl Tables {
     pub fn lb(&self, c: char) -> Lb
         ensures { result ≡ lb_of self.now c }
     {
-        at(&self.lb, c, Lb::Xx)
+        self.words.at(c as usize).lb
     }
 
     /// East_Asian_Width of a character.
@@ -130,6 +146,6 @@ impl Tables {
     pub fn ea(&self, c: char) -> Ea
         ensures { result ≡ ea_of self.now c }
     {
-        at(&self.ea, c, Ea::N)
+        self.words.at(c as usize).ea
     }
 }

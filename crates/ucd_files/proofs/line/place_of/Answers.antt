@@ -1,6 +1,4 @@
 -- The goals of `place_of` that are answered by hand.
-use Rattle.std.proofs.Common.{subst, sym, arith}
-use Rattle.memchr.specs.Find.{IsFirstByte, is_byte}
 use Rattle.ucd_files.proofs.Places.{place-found, place-none}
 use Rattle.ucd_files.proofs.line.place_of.Goals as goal
 

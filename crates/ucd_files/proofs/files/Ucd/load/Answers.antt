@@ -10,7 +10,7 @@ pub returns-clause-ok : goal.returns-clause-ok
 returns-clause-ok c =
     let ucd = c.args.self.now in
     c.with_wide_ambiguous.ensures
-    ∙ ap (λ tables. with_width tables ucd.wide_ambiguous) (c.new-tables.ensures
+    ∙ ap (λ tables. with_width tables ucd.wide_ambiguous) (c.in_ok-tables.ensures
     ∙ tables_of_lists-read ucd.bidi.now ucd.brackets.now ucd.mirror.now ucd.lb.now ucd.ea.now _ _ _ _ _
     c.in_ok-bidi.ensures.values c.in_ok-brackets.ensures.values c.in_ok-mirror.ensures.values c.in_ok-lb.ensures.values c.in_ok-ea.ensures.values)
 

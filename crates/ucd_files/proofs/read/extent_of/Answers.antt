@@ -1,8 +1,0 @@
--- The goals of `extent_of` that are answered by hand.
-use Rattle.std.proofs.Common.{length, ap, arith}
-use Rattle.ucd_files.proofs.LinesOf.{length-lines_of-le}
-use Rattle.ucd_files.proofs.read.extent_of.Goals as goal
-
-pub overflow_add-number : goal.overflow_add-number
-overflow_add-number g c =
-    omega (arith, c.loop-line.invariant.2, length-lines_of-le c.args.bytes.now, ap length c.in-Some.ensures.steps)

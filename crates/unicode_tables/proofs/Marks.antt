@@ -1,0 +1,84 @@
+-- The tables that words make, and what look-ups find in them.
+use Rattle.std.proofs.Common.{◌≡◌, ℕ, ◌<◌, Bool, false, List, Option, Some, None, get_or, refl, ap, ◌∙◌, sym}
+use Rattle.std.specs.Prelude.{is_some}
+use Rattle.bg_types.specs.declared.class.Bidi.{Bidi}
+use Rattle.bg_types.specs.declared.class.Bidi.TheVariants.{L}
+use Rattle.bg_types.specs.declared.class.Lb.{Lb}
+use Rattle.bg_types.specs.declared.class.Lb.TheVariants.{Xx}
+use Rattle.bg_types.specs.declared.class.Ea.{Ea}
+use Rattle.bg_types.specs.declared.class.Ea.TheVariants.{N}
+use Rattle.unicode_tables.specs.declared.bracket.Bracket.{Bracket}
+use Rattle.unicode_tables.specs.declared.bracket.Bracket.TheVariants.{None as no_bracket, Open, Close}
+use Rattle.unicode_tables.specs.declared.word.Word.{Word}
+use Rattle.unicode_tables.specs.declared.word.Properties.{Properties}
+use Rattle.unicode_tables.specs.declared.words.Words.{Words}
+use Rattle.unicode_tables.specs.Tables.{TableValues, tables_of_lists, bracket_of, mirror_of}
+use Rattle.unicode_tables.specs.Word.{is_bracket, word_of_lists, word_of, word_with}
+use Rattle.unicode_tables.specs.Words.{word_in, HasMarks, tables_of_words}
+use Rattle.unicode_tables.proofs.CodePoints.{each_below-at, each_below-same}
+
+same_tables : {b b' : List Bidi} {k : List Bracket} {m : List (Option ℕ)} {l l' : List Lb} {e e' : List Ea} {wide : Bool}
+    → b ≡ b' → l ≡ l' → e ≡ e'
+    → ◌≡◌ {A = TableValues} (record { bidi = b; bracket = k; mirror = m; lb = l; ea = e; wide_ambiguous = wide }) (record { bidi = b'; bracket = k; mirror = m; lb = l'; ea = e'; wide_ambiguous = wide })
+same_tables p q r = cc
+
+-- the words of five properties make their tables
+pub words-tables : (bidi : List Bidi) (bracket : List Bracket) (mirror : List (Option ℕ)) (lb : List Lb) (ea : List Ea) (words : Words)
+    → ((c : ℕ) → c < 0x110000 → word_in words c ≡ word_of_lists bidi bracket mirror lb ea c)
+    → tables_of_words words bracket mirror ≡ tables_of_lists bidi bracket mirror lb ea
+words-tables bidi bracket mirror lb ea words is = same_tables
+    (each_below-same 0x110000 _ _ L (λ c h. ap (λ w. w.bidi) (is c h)))
+    (each_below-same 0x110000 _ _ Xx (λ c h. ap (λ w. w.lb) (is c h)))
+    (each_below-same 0x110000 _ _ N (λ c h. ap (λ w. w.ea) (is c h)))
+
+pub words-marks : (bidi : List Bidi) (bracket : List Bracket) (mirror : List (Option ℕ)) (lb : List Lb) (ea : List Ea) (words : Words)
+    → ((c : ℕ) → c < 0x110000 → word_in words c ≡ word_of_lists bidi bracket mirror lb ea c)
+    → HasMarks words bracket mirror
+words-marks bidi bracket mirror lb ea words is = record {
+  brackets = λ c h. ap (λ w. w.is_bracket) (is c h);
+  mirrors = λ c h. ap (λ w. w.has_mirror) (is c h);
+}
+
+pub not_bracket : (bracket : Bracket) → is_bracket bracket ≡ false → bracket ≡ no_bracket
+not_bracket no_bracket h = refl
+not_bracket (Open c) h = absurd cc
+not_bracket (Close c) h = absurd cc
+
+pub not_mirror : (mirror : Option ℕ) → is_some mirror ≡ false → mirror ≡ None
+not_mirror None h = refl
+not_mirror (Some c) h = absurd cc
+
+pub same_word : {b b' : Bidi} {l l' : Lb} {e e' : Ea} {k k' m m' : Bool} → b ≡ b' → l ≡ l' → e ≡ e' → k ≡ k' → m ≡ m'
+    → ◌≡◌ {A = Word} (record { bidi = b; lb = l; ea = e; is_bracket = k; has_mirror = m }) (record { bidi = b'; lb = l'; ea = e'; is_bracket = k'; has_mirror = m' })
+same_word p q r s t = cc
+
+-- what a look-up finds is what the tables of the words say
+pub word-found : (words : Words) (bracket : List Bracket) (mirror : List (Option ℕ)) (c : ℕ) → c < 0x110000 → HasMarks words bracket mirror
+    → word_in words c ≡ word_of (tables_of_words words bracket mirror) c
+word-found words bracket mirror c h marks = same_word
+    (sym (each_below-at 0x110000 (λ k. (word_in words k).bidi) c L h))
+    (sym (each_below-at 0x110000 (λ k. (word_in words k).lb) c Xx h))
+    (sym (each_below-at 0x110000 (λ k. (word_in words k).ea) c N h))
+    (marks.brackets c h ∙ ap is_bracket (sym (each_below-at 0x110000 (λ k. get_or bracket k no_bracket) c no_bracket h)))
+    (marks.mirrors c h ∙ ap is_some (sym (each_below-at 0x110000 (λ k. get_or mirror k None) c None h)))
+
+-- a code point whose word has no mark has no bracket, or no mirror
+pub bracket-absent : (words : Words) (bracket : List Bracket) (mirror : List (Option ℕ)) (c : ℕ) → c < 0x110000 → HasMarks words bracket mirror
+    → (word_in words c).is_bracket ≡ false → no_bracket ≡ bracket_of (tables_of_words words bracket mirror) c
+bracket-absent words bracket mirror c h marks off =
+    sym (each_below-at 0x110000 (λ k. get_or bracket k no_bracket) c no_bracket h ∙ not_bracket (get_or bracket c no_bracket) (sym (marks.brackets c h) ∙ off))
+
+pub mirror-absent : (words : Words) (bracket : List Bracket) (mirror : List (Option ℕ)) (c : ℕ) → c < 0x110000 → HasMarks words bracket mirror
+    → (word_in words c).has_mirror ≡ false → None ≡ mirror_of (tables_of_words words bracket mirror) c
+mirror-absent words bracket mirror c h marks off =
+    sym (each_below-at 0x110000 (λ k. get_or mirror k None) c None h ∙ not_mirror (get_or mirror c None) (sym (marks.mirrors c h) ∙ off))
+
+-- where five properties are the same, the words are
+pub words-same : (properties : Properties) (n m : ℕ)
+    → get_or properties.bidi.now n L ≡ get_or properties.bidi.now m L
+    → get_or properties.bracket.now n no_bracket ≡ get_or properties.bracket.now m no_bracket
+    → get_or properties.mirror.now n None ≡ get_or properties.mirror.now m None
+    → get_or properties.lb.now n Xx ≡ get_or properties.lb.now m Xx
+    → get_or properties.ea.now n N ≡ get_or properties.ea.now m N
+    → word_with properties n ≡ word_with properties m
+words-same properties n m p q r s t = cc

@@ -1,0 +1,6 @@
+-- What stays true in the loop of `push_page`.
+use Rattle.unicode_tables.proofs.Pages.{IsPut}
+use Rattle.unicode_tables.proofs.words.push_page.Given as goal
+
+abbrev pub invariant-loop-k : goal.invariant-loop-k
+invariant-loop-k l = IsPut l.properties l.block l.initial.pages.items l.pages.items l.k
