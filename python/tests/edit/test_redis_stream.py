@@ -81,28 +81,6 @@ def test_a_desk_that_starts_while_redis_is_away_goes_on_from_its_log(tmp_path: P
     other.close()
 
 
-def test_a_newcomer_reads_the_snapshot_and_the_tail(tmp_path: Path, server: Server) -> None:
-    one = over_redis(tmp_path / "one.bgop", server)
-    one.replace(0, 0, "tea")
-    have_met(one)
-    assert one.channel
-    until(lambda: one.turn() or one.channel.upto != b"0")  # type: ignore[union-attr]
-    one.channel.snapshot(one.document.save())
-    one.replace(3, 3, "m")
-    have_met(one)
-    store = redis.Redis.from_url(server.url)
-    # Nobody needs what stands before the snapshot.
-    store.xtrim("bidigrid:{notes}:stream", maxlen=1, approximate=False)
-    late = over_redis(tmp_path / "late.bgop", server)
-    have_met(one, late)
-    assert late.document.text == "team"
-    store.hset("bidigrid:{notes}:snapshot", "file", b"Dear all")
-    later = over_redis(tmp_path / "later.bgop", server)
-    assert "the snapshot: 301 BadMagic" in later.notice
-    for desk in (one, late, later):
-        desk.close()
-
-
 @pytest.mark.parametrize(
     ("message", "said"),
     [
