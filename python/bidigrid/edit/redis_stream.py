@@ -171,7 +171,7 @@ class RedisStream:
             self.found += file
             self.listen()
             self.trouble = ""
-        elif now - self.tried >= 4 * AGAIN:
+        elif now - self.tried >= 4 * AGAIN and self.knock.is_over():
             self.knock.close()
             self.knock = None
 
