@@ -225,7 +225,7 @@ class Document(Positions):
         handle = self._full()
         window = ffi.new("bidigrid_window *")
         must(lib.bidigrid_document_show(handle, given.count(place), given.count(above), given.count(below), window))
-        return Window(shown_rows(handle, range(window.rows), self._width), window.number)
+        return Window(shown_rows(handle, window.rows, self._width), window.number)
 
     def __repr__(self) -> str:
         return f"<Document of site {self._site}, {self._width} columns wide>"

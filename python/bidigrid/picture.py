@@ -10,7 +10,7 @@ from .room import Call, written
 from .row import Row, rows_of
 from .thread import Held, here
 
-_CALLS = (lib.bidigrid_picture_row, lib.bidigrid_picture_entries, lib.bidigrid_picture_row_print)
+_CALLS = (lib.bidigrid_picture_row, lib.bidigrid_picture_entries, lib.bidigrid_picture_print)
 
 
 class Caret(NamedTuple):
@@ -63,7 +63,7 @@ class Picture(Held):
         """The rows from the top, at least one."""
         if self._rows is None:
             handle = self._full()
-            self._rows = tuple(rows_of(handle, range(self._count(handle)), self._width, _CALLS))
+            self._rows = tuple(rows_of(handle, self._count(handle), self._width, _CALLS))
         return self._rows
 
     def _count(self, handle: Any) -> int:

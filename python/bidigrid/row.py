@@ -1,12 +1,11 @@
 """Rows of cells, and the clusters in them."""
 
-from collections.abc import Iterable
 from struct import iter_unpack
 from typing import Any, NamedTuple
 
 from ._bidigrid import ffi
 from .fault import must
-from .room import Call, Room
+from .room import Call, Room, written
 
 
 class Entry(NamedTuple):
@@ -83,17 +82,16 @@ class Row:
 
 
 Calls = tuple[Call, Call, Call]
-"""The calls that tell of a row its places, its entries and its cells."""
+"""The calls that tell the places of a row, its entries, and the cells of all rows."""
 
 
-def rows_of(handle: Any, numbers: Iterable[int], width: int, calls: Calls) -> list[Row]:
-    """Rows of a picture or of what a document shows."""
+def rows_of(handle: Any, count: int, width: int, calls: Calls) -> list[Row]:
+    """The rows of a picture, or of what a document shows."""
     tell_row, tell_entries, tell_cells = calls
-    row, made = ffi.new("bidigrid_row *"), []
-    entries, cells = Room("bidigrid_entry", width), Room("char", 4 * width)
-    for number in numbers:
+    cells = written(tell_cells, "char", count * (2 * width + 1), handle)[:-1].decode("utf-8")
+    row, entries, made = ffi.new("bidigrid_row *"), Room("bidigrid_entry", width), []
+    for number, shown in enumerate(cells.split("\n")):
         must(tell_row(handle, number, row))
         packed = entries.written(tell_entries, handle, number)
-        shown = cells.written(tell_cells, handle, number)[:-1].decode("utf-8")
         made.append(Row(row.first_place, row.last_place, row.column, row.level, shown, packed))
     return made

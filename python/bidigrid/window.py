@@ -1,12 +1,12 @@
 """What is shown of a document: some rows of its text."""
 
-from collections.abc import Iterable, Sequence
+from collections.abc import Sequence
 from typing import Any, overload
 
 from ._bidigrid import lib
 from .row import Row, rows_of
 
-_CALLS = (lib.bidigrid_document_row, lib.bidigrid_document_entries, lib.bidigrid_document_row_print)
+_CALLS = (lib.bidigrid_document_row, lib.bidigrid_document_entries, lib.bidigrid_document_print)
 
 
 class Window(Sequence[Row]):
@@ -49,6 +49,6 @@ class Window(Sequence[Row]):
         return hash((self._rows, self.number))
 
 
-def shown_rows(handle: Any, numbers: Iterable[int], width: int) -> list[Row]:
-    """Rows that a document shows, by their numbers from 0."""
-    return rows_of(handle, numbers, width, _CALLS)
+def shown_rows(handle: Any, count: int, width: int) -> list[Row]:
+    """The rows that a document shows."""
+    return rows_of(handle, count, width, _CALLS)

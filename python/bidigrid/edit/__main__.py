@@ -3,6 +3,7 @@
 from __future__ import annotations
 
 import argparse
+import gc
 import getpass
 import locale
 import os
@@ -147,6 +148,7 @@ def main(words: list[str] | None = None) -> int:
     try:
         width, height = screen.size()
         desk.document.resize(min(500, width))
+        gc.freeze()  # what is there by now stays, and is not to be looked through again between two keys
         run(Editor(desk, height, f"{wanted.text}.txt"), screen, waker, is_ended)
     except EOFError:
         pass

@@ -38,7 +38,7 @@ class Desk:
         self.edits = Edits()
         self.notice = ""
         self.caret: Identifier | None = None
-        self.is_changed = True
+        self.is_changed = self.is_whole = True
         self.signs: object = None
         self.unsaved_since = self.typed_at = self.failed_at = 0.0
         self.wide_ambiguous = wide_ambiguous
@@ -143,6 +143,8 @@ class Desk:
 
     def rest(self, data: bytes, fault: Fault) -> bytes:
         """What a message has beside what a fault is about."""
+        if isinstance(fault, MemoryError) or fault.name == "Full":
+            self.is_whole = False
         if fault.name == "Full":
             return HEADER
         if fault.frame is None:
@@ -168,8 +170,10 @@ class Desk:
         signs = self.state(), {site: (here.name, here.caret) for site, here in self.here().items()}
         if came or signs != self.signs:
             self.signs, self.is_changed = signs, True
-        if now - self.typed_at >= QUIET and self.channel.wants_snapshot(len(self.document)):
-            self.channel.snapshot(self.document.save())
+        # What isn't flushed must not be seen by others, and what a newcomer reads must be all.
+        if now - self.typed_at >= QUIET and self.is_whole and self.is_idle():
+            if self.channel.wants_snapshot(len(self.document)):
+                self.channel.snapshot(self.document.save())
         return bool(came)
 
     def here(self) -> dict[int, Here]:

@@ -3,7 +3,7 @@
 from __future__ import annotations
 
 import os
-from collections.abc import Callable
+from collections.abc import Callable, Sequence
 from typing import get_args
 
 from .. import Document, Fault, Identifier, Position, Row
@@ -60,6 +60,7 @@ class Editor:
         """Does what a key is for. What the core refuses is told."""
         if not self.desk.failed_at:
             self.desk.notice = ""
+        at = None
         try:
             if at := self.moved(key.name.removeprefix("shift-")):
                 self.go(at, key.name)
@@ -69,7 +70,7 @@ class Editor:
                 self.edits[key.name]()
         except (Fault, MemoryError) as fault:
             self.desk.notice = str(fault) or "memory"
-        self.scroll()
+        self.scroll(is_same_text=at is not None)
         self.desk.is_changed = True
 
     # Where one stands
@@ -91,19 +92,20 @@ class Editor:
             self.at = self.document.position_at(place)
         self.scroll()
 
-    def scroll(self) -> None:
+    def scroll(self, is_same_text: bool = False) -> None:
         """Has the screen begin where it began, if the caret is seen there; else shows it at the edge that it went over."""
-        place = carets.place_behind(self.document, self.top) or 0
-        rows = self.document.rows(place, 0, self.height - 1)
-        lines = [line for line, row in enumerate(rows) if row.first_place == self.at.row]
-        if lines:
-            self.line = lines[0]
-        else:
-            above = 0 if self.at.row < place else self.height - 1
-            rows = self.document.rows(self.at.row, above, self.height - 1 - above)
-            self.line = rows.number
-        self.shown = tuple(rows)
-        self.top = carets.before(self.document, rows[0].first_place)
+        rows: Sequence[Row] = self.shown
+        if not is_same_text:
+            rows = self.document.rows(carets.place_behind(self.document, self.top) or 0, 0, self.height - 1)
+        line = next((line for line, row in enumerate(rows) if row.first_place == self.at.row), None)
+        if line is None:
+            above = 0 if self.at.row < rows[0].first_place else self.height - 1
+            rows = window = self.document.rows(self.at.row, above, self.height - 1 - above)
+            line = window.number
+        if rows is not self.shown:
+            self.shown = tuple(rows)
+            self.top = carets.before(self.document, rows[0].first_place)
+        self.line = line
 
     # Moves
 

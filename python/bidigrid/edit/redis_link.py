@@ -6,6 +6,7 @@ import collections
 import errno
 import re
 import socket
+import threading
 from collections.abc import Callable
 from typing import Any
 
@@ -66,21 +67,36 @@ class Knock:
     """Whether a Redis that went away is back, asked without waiting for it."""
 
     def __init__(self, url: str) -> None:
-        about = redis.ConnectionPool.from_url(url).connection_kwargs
+        self.about = redis.ConnectionPool.from_url(url).connection_kwargs
         self.is_secret = url.startswith("rediss:")
         self.is_asked = self.is_secret
-        if "path" in about:
-            self.socket = socket.socket(socket.AF_UNIX, socket.SOCK_STREAM)
-            self.address: Any = about["path"]
-        else:
-            found = socket.getaddrinfo(about.get("host", "localhost"), about.get("port", 6379), type=socket.SOCK_STREAM)
-            self.socket = socket.socket(found[0][0], socket.SOCK_STREAM)
-            self.address = found[0][4]
-        self.socket.setblocking(False)
-        self.socket.connect_ex(self.address)
+        self.socket: socket.socket | None = None
+        self.address: Any = self.about.get("path")
+        self.family = socket.AF_UNIX
+        # A name may be sought for long, where no select can wait for it.
+        self.search = threading.Thread(target=self.look_up, daemon=True)
+        if not self.address:
+            self.search.start()
+
+    def look_up(self) -> None:
+        """Finds the address of a name."""
+        try:
+            host, port = self.about.get("host", "localhost"), self.about.get("port", 6379)
+            self.family, _, _, _, self.address = socket.getaddrinfo(host, port, type=socket.SOCK_STREAM)[0]
+        except OSError:
+            return
+
+    def is_over(self) -> bool:
+        """Whether nothing is sought any more."""
+        return not self.search.is_alive()
 
     def is_open(self) -> bool:
         """Whether someone has answered by now: a word, or where that would be no TLS the connection itself."""
+        if not self.is_over() or not self.address:
+            return False
+        if not self.socket:
+            self.socket = socket.socket(self.family, socket.SOCK_STREAM)
+            self.socket.setblocking(False)
         if self.socket.connect_ex(self.address) not in (0, errno.EISCONN):
             return False
         try:
@@ -93,7 +109,8 @@ class Knock:
 
     def close(self) -> None:
         """Leaves."""
-        self.socket.close()
+        if self.socket:
+            self.socket.close()
 
 
 def said(error: Exception) -> str:

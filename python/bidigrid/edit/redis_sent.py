@@ -17,10 +17,12 @@ PIECE = 1 << 16  # bytes of the log that go out in one message
 CLAIM = """
 if tonumber(redis.call('GET', KEYS[1]) or '0') < tonumber(ARGV[1]) then redis.call('SET', KEYS[1], ARGV[1]) end
 """
-# Whatever Redis lost is sent again, and nothing is sent on behind bytes that another desk of this site sent.
+# Whatever Redis lost is sent again, and nothing is sent on behind bytes that another desk of this site sent. A message names
+# the one before it, so that a reader sees whether some between were cut off.
 SEND = CLAIM + """
 if (redis.call('HGET', KEYS[2], ARGV[1]) or '0:0') ~= ARGV[2] then return 0 end
-redis.call('XADD', KEYS[3], '*', 'by', ARGV[4], 'site', ARGV[1], 'message', ARGV[5])
+local last = redis.call('XREVRANGE', KEYS[3], '+', '-', 'COUNT', 1)[1]
+redis.call('XADD', KEYS[3], '*', 'by', ARGV[4], 'site', ARGV[1], 'after', last and last[1] or '0', 'message', ARGV[5])
 redis.call('HSET', KEYS[2], ARGV[1], ARGV[3])
 return 1
 """

@@ -13,6 +13,7 @@ from .log import Log
 from .redis_link import AWAY, Knock, Link, said, without_password
 from .redis_sent import Sent
 from .redis_signs import GONE, Signs
+from .redis_snapshot import AFTER, Snapshot, is_later
 
 MAX_SITE = 65535
 PAUSE = 0.01  # seconds from one reading to the next at least: what comes meanwhile is read at once
@@ -20,7 +21,6 @@ POLL = 0.1  # seconds between two turns while nothing comes
 AGAIN = 0.5  # seconds between two tries to reach a Redis that is away
 SILENCE = 5.0  # seconds, after which a reader that has nothing to read says so
 AT_ONCE = 1000  # messages of one answer
-SNAPSHOT_AFTER = 2000  # messages behind the last snapshot
 
 
 class RedisStream:
@@ -32,7 +32,7 @@ class RedisStream:
         self.by = os.urandom(8).hex().encode()
         self.site = 0
         self.upto = b"0"
-        self.since_snapshot = 0
+        self.is_whole = True
         self.writer: Link | None = None
         self.reader: Link | None = None
         self.knock: Knock | None = None
@@ -40,11 +40,12 @@ class RedisStream:
         self.tried = self.heard = self.listens_at = 0.0
         self.is_listening = False
         self.found: list[Message] = []
-        self.stream, self.sites, self.snapshot_key, sent, signs = (
+        self.stream, self.sites, snapshot, sent, signs = (
             f"bidigrid:{{{name}}}:{key}" for key in ("stream", "sites", "snapshot", "sent", "carets")
         )
         self.sent = Sent(self.stream, sent, self.sites, self.by)
         self.signs = Signs(signs, self.by, who)
+        self.kept = Snapshot(snapshot, self.stream, self.by)
         self.here = self.signs.here
         try:
             self.writer = Link(url)
@@ -74,9 +75,7 @@ class RedisStream:
             return []
         try:
             self.agree(log)
-            upto, file = self.writer.call("HMGET", self.snapshot_key, "upto", "file")
-            found = [Message("the snapshot", file)] if upto and file else []
-            self.upto = upto if found else b"0"
+            self.upto, found = self.kept.beyond(self.writer, b"0")
             while answer := self.writer.call("XREAD", "COUNT", AT_ONCE, "STREAMS", self.stream, self.upto):
                 found += self.messages(answer[0][1])
             self.listen()
@@ -90,7 +89,7 @@ class RedisStream:
         self.signs.begin(self.writer)
         if self.sent.agree(self.writer, log, self.site):
             # Others may never come back to say again what was forgotten of them.
-            self.since_snapshot = SNAPSHOT_AFTER
+            self.kept.since = AFTER
 
     def listen(self) -> None:
         """Has the second connection wait for what comes."""
@@ -114,16 +113,25 @@ class RedisStream:
         self.heard, self.is_listening = now, False
 
     def messages(self, entries: list[tuple[bytes, list[bytes]]]) -> list[Message]:
-        """The messages of entries, but those that this desk sent."""
-        self.upto = entries[-1][0]
-        self.since_snapshot += len(entries)
+        """The messages of entries, but those that this desk sent; and the snapshot where some between were cut off."""
+        upto, wanted = self.upto, None
+        self.kept.since += len(entries)
         found = []
         for number, fields in entries:
             named = dict(zip(fields[::2], fields[1::2]))
+            after = named.get(b"after", b"")
+            # A stranger's message may not tell what it comes after.
+            if after != self.upto and (not after or is_later(after, self.upto)):
+                wanted = after
+            self.upto = number
             if named.get(b"by") != self.by:
                 site, message = named.get(b"site", b"?"), named.get(b"message", b"")
                 found.append(Message(f"site {plain_name(site.decode(errors='replace'))}, {number.decode()}", message))
                 self.signs.wrote(site, message)
+        if wanted is not None and self.writer:
+            upto, file = self.kept.beyond(self.writer, upto)
+            self.is_whole = self.is_whole and not is_later(wanted, upto)
+            found += file
         return found
 
     def turn(self, log: Log, caret: Identifier | None) -> list[Message]:
@@ -159,9 +167,11 @@ class RedisStream:
             self.knock = None
             self.writer = Link(self.url)
             self.agree(log)
+            self.upto, file = self.kept.beyond(self.writer, self.upto)
+            self.found += file
             self.listen()
             self.trouble = ""
-        elif now - self.tried >= 4 * AGAIN:
+        elif now - self.tried >= 4 * AGAIN and self.knock.is_over():
             self.knock.close()
             self.knock = None
 
@@ -175,7 +185,9 @@ class RedisStream:
 
     def state(self) -> str:
         """The connection in a few words."""
-        return f"redis away: {self.trouble}" if self.trouble else "redis"
+        if self.trouble:
+            return f"redis away: {self.trouble}"
+        return "redis" if self.is_whole else "redis, where some of the text is gone"
 
     def is_sent(self, log: Log) -> bool:
         """Whether all that is flushed went out."""
@@ -190,15 +202,14 @@ class RedisStream:
         return POLL if self.is_listening or not self.reader else min(POLL, max(0.0, self.listens_at - time.monotonic()))
 
     def wants_snapshot(self, operations: int) -> bool:
-        """Whether much came behind the last snapshot, beside what the text has."""
-        return bool(self.writer) and self.since_snapshot >= max(SNAPSHOT_AFTER, operations // 100)
+        """Whether a whole file is wanted now, and this desk can make it."""
+        return bool(self.writer) and self.is_whole and self.kept.is_wanted(operations)
 
     def snapshot(self, save: bytes) -> None:
         """Keeps all that this desk holds, which is all of the stream up to where it has read."""
-        self.since_snapshot = 0
         try:
-            if self.writer and self.writer.call("SET", self.snapshot_key + ":lock", self.by, "NX", "EX", 5):
-                self.writer.call("HSET", self.snapshot_key, "upto", self.upto, "file", save)
+            if self.writer:
+                self.kept.keep(self.writer, self.upto, save)
         except AWAY as error:
             self.trouble = said(error)
             self.drop()

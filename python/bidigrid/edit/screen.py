@@ -14,7 +14,7 @@ from .view import View
 # Bracketed paste, and a bar as a caret.
 BEGIN, END = b"\x1b[?2004h\x1b[6 q", b"\x1b[?2004l\x1b[0 q"
 # No reordering, for terminals that know it: ECMA-48's BDSM, and mlterm's own word.
-AS_IT_STANDS, AS_IT_IS_READ = b"\x1b[8l\x1b]5379;use_bidi=false\x07", b"\x1b[8h\x1b]5379;use_bidi=true\x07"
+AS_IT_STANDS, AS_IT_IS_READ = b"\x1b[8l\x1b]5379;use_ctl=false\x07", b"\x1b[8h\x1b]5379;use_ctl=true\x07"
 
 # What every terminal shows in one column.
 PLAIN = re.compile("[ -~\u00a1-\u00ac\u00ae-\u02ff\u0370-\u0482\u048a-\u0590\u05be\u05c0\u05c3\u05c6\u05d0-\u05f4"

@@ -102,3 +102,21 @@ def test_a_log_that_is_gone_makes_a_new_site(tmp_path: Path) -> None:
         desk.close()
         os.unlink(tmp_path / "notes.bgop")
     assert len(sites) > 1
+
+
+def test_a_key_waits_20_ms_for_its_flush_at_most(tmp_path: Path, monkeypatch: pytest.MonkeyPatch) -> None:
+    now = 1000.0
+    monkeypatch.setattr("bidigrid.edit.desk.time.monotonic", lambda: now)
+    desk = desk_at(tmp_path / "notes.bgop")
+    first = desk.log.size
+    desk.replace(0, 0, "a")
+    for passed, is_flushed in ((0.001, False), (0.018, False), (0.002, True)):
+        now += passed
+        # Keys go on and on.
+        desk.replace(0, 0, "b")
+        desk.turn(is_quiet=False)
+        assert (desk.log.size > first) == is_flushed
+    desk.replace(0, 0, "c")
+    desk.turn(is_quiet=True)
+    assert not desk.log.waiting and desk.log.size == first + 5 * 19
+    desk.close()

@@ -69,6 +69,7 @@ def test_random_keys_at_three_desks(tmp_path: Path, seed: int) -> None:
         assert editor.selected()[1] <= len(editor.document)
         if chance.random() < 0.1:
             seen = view_of(editor)
+            assert seen.rows == tuple(editor.document.rows(seen.rows[0].first_place, 0, HEIGHT - 1))
             assert seen.rows[seen.line].first_place <= editor.at.place <= seen.rows[seen.line].last_place
         if chance.random() < 0.1:
             source, target = chance.sample(folders, 2)

@@ -1,7 +1,10 @@
 """Desks over Redis: all meet, whatever Redis does meanwhile, and what is wrong with a message stops nobody."""
 
+import socket
 import subprocess
+import threading
 from pathlib import Path
+from typing import Any
 
 import pytest
 import redis  # type: ignore[import]
@@ -10,7 +13,7 @@ from bidigrid.edit.fault import EditFault
 from bidigrid.edit.view import view_of
 from desks import desk_at, have_met, over_redis
 from servers import Server
-from waiting import until
+from waiting import BOUND, until
 
 
 def test_three_desks_meet(tmp_path: Path, server: Server) -> None:
@@ -79,28 +82,6 @@ def test_a_desk_that_starts_while_redis_is_away_goes_on_from_its_log(tmp_path: P
     assert other.document.text == "team"
     one.close()
     other.close()
-
-
-def test_a_newcomer_reads_the_snapshot_and_the_tail(tmp_path: Path, server: Server) -> None:
-    one = over_redis(tmp_path / "one.bgop", server)
-    one.replace(0, 0, "tea")
-    have_met(one)
-    assert one.channel
-    until(lambda: one.turn() or one.channel.upto != b"0")  # type: ignore[union-attr]
-    one.channel.snapshot(one.document.save())
-    one.replace(3, 3, "m")
-    have_met(one)
-    store = redis.Redis.from_url(server.url)
-    # Nobody needs what stands before the snapshot.
-    store.xtrim("bidigrid:{notes}:stream", maxlen=1, approximate=False)
-    late = over_redis(tmp_path / "late.bgop", server)
-    have_met(one, late)
-    assert late.document.text == "team"
-    store.hset("bidigrid:{notes}:snapshot", "file", b"Dear all")
-    later = over_redis(tmp_path / "later.bgop", server)
-    assert "the snapshot: 301 BadMagic" in later.notice
-    for desk in (one, late, later):
-        desk.close()
 
 
 @pytest.mark.parametrize(
@@ -206,3 +187,28 @@ def test_a_redis_that_hangs_is_away(tmp_path: Path, server: Server) -> None:
     assert other.document.text == "tea"
     one.close()
     other.close()
+
+
+def test_typing_goes_on_while_the_name_of_redis_is_sought(
+    tmp_path: Path, server: Server, monkeypatch: pytest.MonkeyPatch
+) -> None:
+    one = over_redis(tmp_path / "one.bgop", server)
+    is_found, seek = threading.Event(), socket.getaddrinfo
+
+    def seek_long(*about: Any, **more: Any) -> Any:
+        assert threading.current_thread() is not threading.main_thread() or is_found.is_set()
+        is_found.wait(BOUND)
+        return seek(*about, **more)
+
+    monkeypatch.setattr(socket, "getaddrinfo", seek_long)
+    server.stop()
+    until(lambda: one.turn() or one.channel.knock)  # type: ignore[union-attr]
+    server.start()
+    one.replace(0, 0, "tea")
+    for _ in range(100):
+        one.turn()
+    assert one.document.text == "tea" and not one.log.waiting and one.state().startswith("redis away")
+    is_found.set()
+    have_met(one)
+    assert one.state() == "redis"
+    one.close()

@@ -1,7 +1,6 @@
 """Editors in panes side by side: people write one text at once, one is killed, Redis goes away and comes back."""
 
 import random
-import time
 from pathlib import Path
 
 import pytest
@@ -106,11 +105,11 @@ def test_one_is_killed_and_started_again(terminal: Terminal, server: Server) -> 
     dana, omar = (terminal.run(name, "--redis", server.url).started() for name in ("dana", "omar"))
     for _ in range(4):
         omar.type(ARABIC[: chance.randint(1, 8)])
-        for word in HEBREW.split():
+        for word in HEBREW.split()[: chance.randint(1, 3)]:
             dana.type(word)
-        seen = letters("".join(dana.rows()))
-        time.sleep(0.05)  # what is seen so long before a kill is never lost
         dana.kill()
+        # What another has seen was flushed before, and what is flushed stays.
+        seen = letters("".join(omar.rows()))
         held = letters(text_of([dana.log, omar.log]))
         assert all(held.count(letter) >= seen.count(letter) for letter in seen)
         dana.start()
