@@ -10,3 +10,4 @@ mod Round
 mod Positions
 mod Followed
 mod Taking
+mod Cost

@@ -3,4 +3,5 @@ pub mod Keeping
 pub mod Showing
 pub mod Taking
 pub mod Documents
+pub mod Cost
 pub mod LawsBelow

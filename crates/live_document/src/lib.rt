@@ -4,6 +4,7 @@
 mod document;
 mod following;
 mod keeping;
+pub mod laws;
 mod laws_below;
 mod printing;
 mod showing;
