@@ -6,6 +6,7 @@ mod following;
 mod keeping;
 mod laws_below;
 mod printing;
+mod reading;
 mod showing;
 mod shown;
 mod window;
