@@ -5,6 +5,7 @@ mod Stretches
 mod Placing
 mod Windows
 mod Spots
+mod Cursors
 mod Printed
 mod Round
 mod Positions

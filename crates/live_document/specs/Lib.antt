@@ -1,6 +1,7 @@
 -- The modules of this crate's definitions.
 pub mod Keeping
 pub mod Showing
+pub mod Reading
 pub mod Taking
 pub mod Documents
 pub mod Cost

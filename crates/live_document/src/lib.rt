@@ -7,6 +7,7 @@ mod keeping;
 pub mod laws;
 mod laws_below;
 mod printing;
+mod reading;
 mod showing;
 mod shown;
 mod window;
