@@ -51,6 +51,8 @@ impl Document {
         ensures drawn { IsDrawnAlike self.old self.new }
         ensures window { OnOk result (self.new.window ≡ no_window) }
     {
+        // A place before the text's end has one behind it.
+        let _end = self.desk.len();
         let op = self.desk.erase_at(place)?;
         self.behind = follow(
             &self.tables,

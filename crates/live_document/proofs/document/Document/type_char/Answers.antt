@@ -11,4 +11,4 @@ invariant_of-self-2 c =
     let f = c.follow_typed-self-inside in
     let n = c.nothing-self-inside in
     live-followed i.desk c.type_char.new.self i.tables.value i.width i.base i.behind f.result i.buffer f.new.buffer i.shown n.result c.args.place c.args.place (c.args.ch ∷ [])
-    c.self.invariant n.ensures (subst (λ (tables : TableValues). StaysKept tables i.buffer f.new.buffer) c.deref.ensures f.ensures.kept) f.ensures.before f.ensures.text c.in_ok-type_char.ensures.typed.text_is
+    c.self.invariant n.ensures (subst (λ (tables : TableValues). StaysKept tables i.buffer f.new.buffer) c.deref.ensures f.ensures.kept) f.ensures.before f.ensures.text c.in_ok-op.ensures.typed.text_is
