@@ -17,6 +17,7 @@ mod positions;
 mod prints;
 mod taking;
 mod taking_all;
+mod typing;
 
 use crate::following::{buffer_of, catch_up, follow};
 use crate::keeping::forget_rows;

@@ -1,6 +1,6 @@
 //! Paragraphs follow the text of a desk.
 
-ghost use Rattle.std.specs.Prelude.{◌≡◌, ◌≤◌, ℕ, Bool, true, false, map, length, IfOk, OnOk, OnErr};
+ghost use Rattle.std.specs.Prelude.{◌≡◌, ◌≤◌, ℕ, Bool, true, false, [], ◌∷◌, map, length, IfOk, OnOk, OnErr};
 ghost use Rattle.bg_types.specs.declared.class.Base.{Base};
 ghost use Rattle.paragraphs.specs.Text.{code_points};
 ghost use Rattle.rga_tree.specs.TextOf.{text};
@@ -50,6 +50,26 @@ pub fn follow(
         return true;
     }
     buffer.edit(tables, from, to, characters).is_err()
+}
+
+/// Puts a character at a place, unless the paragraphs are behind already. Returns whether they are behind then.
+pub fn follow_typed(
+    tables: &Tables,
+    buffer: &mut Buffer<Vec<Row>>,
+    behind: bool,
+    place: usize,
+    ch: char,
+) -> bool
+    requires split { IsSplit tables.now (paragraphs_in buffer.old) }
+    requires within { behind ≡ false → place ≤ length (text_in buffer.old) }
+    ensures before { result ≡ false → behind ≡ false }
+    ensures text { result ≡ false → text_in buffer.new ≡ replaced (text_in buffer.old) place place (ch ∷ []) }
+    ensures kept { StaysKept tables.now buffer.old buffer.new }
+{
+    if behind {
+        return true;
+    }
+    buffer.put(tables, place, ch).is_err()
 }
 
 /// Makes changes of the text in turn, unless the paragraphs are behind already. Returns whether they are behind then.
