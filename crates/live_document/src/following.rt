@@ -64,6 +64,7 @@ pub fn follow_typed(
     requires within { behind ≡ false → place ≤ length (text_in buffer.old) }
     ensures before { result ≡ false → behind ≡ false }
     ensures text { result ≡ false → text_in buffer.new ≡ replaced (text_in buffer.old) place place (ch ∷ []) }
+    ensures touched { result ≡ false → (touched : Touched) × IsTouched buffer.old place place touched buffer.new }
     ensures kept { StaysKept tables.now buffer.old buffer.new }
 {
     if behind {

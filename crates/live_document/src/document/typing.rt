@@ -6,6 +6,7 @@ ghost use Rattle.bg_types.specs.WellFormed.{IsWellFormed};
 ghost use Rattle.rga_tree.specs.TextOf.{visible};
 ghost use Rattle.desk_replica.specs.Typing.{typed, insertion, IsTypedAt, IsErasedAt, IsTypeRefusal, IsTypeRefused};
 ghost use Rattle.desk_replica.specs.declared.answer.TypeFault.{TypeFault as Untyped};
+ghost use Rattle.live_document.specs.Cost.{KeepsOthers};
 ghost use Rattle.live_document.specs.Documents.{IsDrawnAlike};
 ghost use Rattle.live_document.specs.Showing.{no_window};
 
@@ -31,6 +32,7 @@ impl Document {
         ensures unpaid { IfErr result (λ fault. fault ≡ TypeFault.Memory → self.old.desk.spare ≡ 0) }
         ensures drawn { IsDrawnAlike self.old self.new }
         ensures window { OnOk result (self.new.window ≡ no_window) }
+        ensures kept { OnOk result (KeepsOthers self.old.paragraphs self.new.paragraphs place place) }
     {
         let op = self.desk.type_char(place, ch)?;
         self.behind = follow_typed(&self.tables, &mut self.buffer, self.behind, place, ch);
@@ -50,6 +52,7 @@ impl Document {
         ensures spare { size self.old.desk.set + self.old.desk.spare ≤ size self.new.desk.set + self.new.desk.spare }
         ensures drawn { IsDrawnAlike self.old self.new }
         ensures window { OnOk result (self.new.window ≡ no_window) }
+        ensures kept { OnOk result (KeepsOthers self.old.paragraphs self.new.paragraphs place (place + 1)) }
     {
         // A place before the text's end has one behind it.
         let _end = self.desk.len();
