@@ -11,3 +11,4 @@ mod Positions
 mod Followed
 mod Taking
 mod Cost
+mod Runs

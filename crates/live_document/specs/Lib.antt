@@ -4,4 +4,5 @@ pub mod Showing
 pub mod Taking
 pub mod Documents
 pub mod Cost
+pub mod Runs
 pub mod LawsBelow
