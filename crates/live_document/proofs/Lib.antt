@@ -12,3 +12,4 @@ mod Positions
 mod Followed
 mod Taking
 mod Cost
+mod Runs

@@ -5,4 +5,5 @@ pub mod Reading
 pub mod Taking
 pub mod Documents
 pub mod Cost
+pub mod Runs
 pub mod LawsBelow

@@ -1,6 +1,6 @@
 //! A text that a desk edits and that is shown by windows.
 
-ghost use Rattle.std.specs.Prelude.{◌≡◌, ◌≤◌, ◌<◌, ◌+◌, ◌-◌, ◌++◌, Some, max, take, drop, length, slice_get, All, OnOk, OnErr, IfOk, IfErr, IsOk, string_bytes, encode_utf8_all, vec_len, vec_capacity};
+ghost use Rattle.std.specs.Prelude.{◌≡◌, ◌≤◌, ◌<◌, ◌+◌, ◌-◌, ◌++◌, false, Some, max, take, drop, length, slice_get, All, OnOk, OnErr, IfOk, IfErr, IsOk, is_err, string_bytes, encode_utf8_all, vec_len, vec_capacity};
 ghost use Rattle.std.specs.Str.{chars};
 ghost use Rattle.bg_types.specs.OperationSet.{size, next};
 ghost use Rattle.bg_types.specs.WellFormed.{IsWellFormed};
@@ -11,6 +11,7 @@ ghost use Rattle.desk_replica.specs.Stretch.{typed_text, deletions, replacement,
 ghost use Rattle.desk_replica.specs.declared.answer.TypeFault.{TypeFault as Untyped};
 ghost use Rattle.live_document.specs.Cost.{IsLaidOut, KeepsOthers};
 ghost use Rattle.live_document.specs.Documents.{window_round, IsDrawnAlike, IsWindowOf};
+ghost use Rattle.live_document.specs.Runs.{Types, Erases, Replaces, Resizes, Turns, Shows, IsCall};
 ghost use Rattle.live_document.specs.Showing.{no_window};
 
 mod positions;
@@ -231,6 +232,7 @@ impl Document {
         ensures drawn { IsDrawnAlike self.old self.new }
         ensures window { OnOk result (self.new.window ≡ no_window) }
         ensures kept { OnOk result (KeepsOthers self.old.paragraphs self.new.paragraphs place place) }
+        ensures call { IsCall self.old (Types place (chars characters.now)) (is_err result) self.new }
     {
         self.desk.type_text(place, characters, made)?;
         self.behind = follow(
@@ -270,6 +272,7 @@ impl Document {
         ensures drawn { IsDrawnAlike self.old self.new }
         ensures window { OnOk result (self.new.window ≡ no_window) }
         ensures kept { OnOk result (KeepsOthers self.old.paragraphs self.new.paragraphs from to) }
+        ensures call { IsCall self.old (Erases from to) (is_err result) self.new }
     {
         self.desk.erase_range(from, to, made)?;
         self.behind = follow(&self.tables, &mut self.buffer, self.behind, from, to, "");
@@ -305,6 +308,7 @@ impl Document {
         ensures drawn { IsDrawnAlike self.old self.new }
         ensures window { OnOk result (self.new.window ≡ no_window) }
         ensures kept { OnOk result (KeepsOthers self.old.paragraphs self.new.paragraphs from to) }
+        ensures call { IsCall self.old (Replaces from to (chars characters.now)) (is_err result) self.new }
     {
         self.desk.replace(from, to, characters, made)?;
         self.behind = follow(
@@ -328,6 +332,7 @@ impl Document {
         ensures tables { self.new.tables ≡ self.old.tables }
         ensures desk { self.new.desk ≡ self.old.desk }
         ensures window { self.new.window ≡ no_window }
+        ensures call { IsCall self.old (Resizes width) false self.new }
     {
         forget_rows(&mut self.buffer);
         self.width = width;
@@ -341,6 +346,7 @@ impl Document {
         ensures tables { self.new.tables ≡ self.old.tables }
         ensures desk { self.new.desk ≡ self.old.desk }
         ensures window { self.new.window ≡ no_window }
+        ensures call { IsCall self.old (Turns base) false self.new }
     {
         forget_rows(&mut self.buffer);
         self.base = base;
@@ -359,6 +365,7 @@ impl Document {
         ensures nothing { OnErr result (self.new.window ≡ no_window) }
         ensures desk { self.new.desk ≡ self.old.desk }
         ensures drawn { IsDrawnAlike self.old self.new }
+        ensures call { IsCall self.old (Shows place above below) (is_err result) self.new }
     {
         self.shown = Shown::nothing();
         catch_up(

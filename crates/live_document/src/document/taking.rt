@@ -1,6 +1,6 @@
 //! Taking one operation or all of another desk, and telling what that changes in the text.
 
-ghost use Rattle.std.specs.Prelude.{◌≡◌, ◌≤◌, ◌<◌, ◌+◌, ℕ, drop, length, OnOk, OnErr, IfOk, IfErr, IsOk, MatchResult, vec_len, vec_capacity};
+ghost use Rattle.std.specs.Prelude.{◌≡◌, ◌≤◌, ◌<◌, ◌+◌, ℕ, drop, length, OnOk, OnErr, IfOk, IfErr, IsOk, is_err, MatchResult, vec_len, vec_capacity};
 ghost use Rattle.bg_types.specs.OperationSet.{Agree, Holds, size, union, with_operation};
 ghost use Rattle.bg_types.specs.declared.op.OpView.{OpView as View};
 ghost use Rattle.desk_replica.specs.declared.answer.TakeFault.{TakeFault as Fault};
@@ -9,6 +9,7 @@ ghost use Rattle.desk_replica.specs.Merging.{IsMergeRefusal, IsMergeRefused};
 ghost use Rattle.desk_replica.specs.Telling.{IsTold, IsUntaken, TellsAtMost, waiting_count};
 ghost use Rattle.live_document.specs.Cost.{IsBare, KeepsUnchanged, KeepsUntouched};
 ghost use Rattle.live_document.specs.Documents.{IsDrawnAlike};
+ghost use Rattle.live_document.specs.Runs.{Takes, Merges, IsCall};
 ghost use Rattle.live_document.specs.Showing.{no_window};
 
 use super::{Desk, Document};
@@ -32,6 +33,7 @@ impl Document {
         ensures drawn { IsDrawnAlike self.old self.new }
         ensures window { OnOk result (self.new.window ≡ no_window) }
         ensures kept { OnOk result (KeepsUntouched self.old self.new) }
+        ensures call { IsCall self.old (Takes op.now) (is_err result) self.new }
     {
         let mut changes = Vec::new(self.alloc);
         match self.take_telling(op, &mut changes) {
@@ -58,6 +60,7 @@ impl Document {
         ensures drawn { IsDrawnAlike self.old self.new }
         ensures window { OnOk result (self.new.window ≡ no_window) }
         ensures kept { OnOk result (KeepsUnchanged self.old.paragraphs self.new.paragraphs (drop (length changes.old.items) changes.new.items)) }
+        ensures call { IsCall self.old (Takes op.now) (is_err result) self.new }
     {
         told_changes();
         let told = changes.len();
@@ -108,6 +111,7 @@ impl Document {
         ensures drawn { IsDrawnAlike self.old self.new }
         ensures window { self.new.window ≡ no_window }
         ensures kept { KeepsUntouched self.old self.new }
+        ensures call { IsCall self.old (Merges other.now.set) (is_err result) self.new }
     {
         let mut changes = Vec::new(self.alloc);
         // Paid for first, so that the desk is refused no memory for what is told.
@@ -143,6 +147,7 @@ impl Document {
         ensures drawn { IsDrawnAlike self.old self.new }
         ensures window { self.new.window ≡ no_window }
         ensures kept { KeepsUnchanged self.old.paragraphs self.new.paragraphs (drop (length changes.old.items) changes.new.items) }
+        ensures call { IsCall self.old (Merges other.now.set) (is_err result) self.new }
     {
         told_changes();
         let told = changes.len();
