@@ -283,8 +283,8 @@ void bidigrid_document_free(bidigrid_document *document);
 uint32_t bidigrid_document_resize(bidigrid_document *document, uint32_t width);
 uint32_t bidigrid_document_set_base(bidigrid_document *document, uint32_t base);
 
-/* As bidigrid_desk_insert, _erase and _replace, but that erasing one character takes memory too. Then nothing is
- * shown. */
+/* As bidigrid_desk_insert, _erase and _replace. Where those take no memory, these are not refused for lack of it: what
+ * could not be laid out is at the next bidigrid_document_show. Then nothing is shown. */
 uint32_t bidigrid_document_insert(bidigrid_document *document, size_t place, const char *text, size_t text_size,
                                   uint8_t *message, size_t room, size_t *size);
 uint32_t bidigrid_document_erase(bidigrid_document *document, size_t from, size_t to, uint8_t *message, size_t room,
@@ -301,7 +301,7 @@ uint32_t bidigrid_document_merge(bidigrid_document *document, const bidigrid_doc
 /* One change of a text: a character was put at a place, or the one there was cut. Each place counts in the text as
  * the changes before it left it. */
 typedef struct bidigrid_change {
-    uint32_t place;
+    size_t place;
     uint32_t character; /* the code point that was put; 0 where one was cut */
     uint32_t put;       /* 1: put, 0: cut */
 } bidigrid_change;
@@ -391,7 +391,8 @@ void bidigrid_desk_free(bidigrid_desk *desk);
 uint32_t bidigrid_desk_type(bidigrid_desk *desk, size_t place, uint32_t character, uint8_t *message, size_t room,
                             size_t *size);
 
-/* Types a text in UTF-8 at a place, and writes the message to send: all of it, or nothing. */
+/* Types a text in UTF-8 at a place, and writes the message to send: all of it, or nothing. One character takes no
+ * memory while an operation is spare. */
 uint32_t bidigrid_desk_insert(bidigrid_desk *desk, size_t place, const char *text, size_t text_size,
                               uint8_t *message, size_t room, size_t *size);
 

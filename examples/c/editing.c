@@ -42,9 +42,9 @@ static void tell(const char *who, const bidigrid_document *document)
     must(bidigrid_document_changes(document, changes, 32, &count));
     for (size_t number = 0; number < count; number++)
         if (changes[number].put)
-            printf("%s   put U+%04X at %u\n", who, (unsigned)changes[number].character, (unsigned)changes[number].place);
+            printf("%s   put U+%04X at %zu\n", who, (unsigned)changes[number].character, changes[number].place);
         else
-            printf("%s   cut at %u\n", who, (unsigned)changes[number].place);
+            printf("%s   cut at %zu\n", who, changes[number].place);
 }
 
 int main(void)

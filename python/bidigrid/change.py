@@ -6,7 +6,7 @@ from typing import NamedTuple, overload
 
 
 # The numbers of a bidigrid_change.
-_FORM = "=3I"
+_FORM = "=Q2I"
 _SIZE = calcsize(_FORM)
 
 

@@ -10,11 +10,12 @@ use Rattle.bg_types.specs.declared.op.OpView.TheVariants.{Erase}
 use Rattle.rga_tree.specs.TextOf.{text, visible, visible_ids}
 use Rattle.op_codec.specs.Spelling.{spelling}
 use Rattle.desk_replica.specs.Desk.{Desk}
-use Rattle.desk_replica.specs.Stretch.{deletions}
+use Rattle.desk_replica.specs.Stretch.{deletions, replacement, IsReplaceRefusal}
 use Rattle.desk_replica.specs.Merging.{with_operations}
 use Rattle.desk_replica.specs.Typing.{IsErasedAt}
 use Rattle.bidigrid_c.specs.Copying.{IsCopied}
-use Rattle.desk_replica.specs.declared.answer.TypeFault.TheVariants.{Full}
+use Rattle.desk_replica.specs.declared.answer.TypeFault.{TypeFault}
+use Rattle.desk_replica.specs.declared.answer.TypeFault.TheVariants.{CounterSpent, Full, Memory}
 use Rattle.bidigrid_c.specs.Desks.{IsErased, IsReplaced, KeepsSpare, IsRefusedErasing, IsRefusedExchange}
 
 taken_one : (xs : List Identifier) (k : ℕ) (x : Identifier) → slice_get xs k ≡ Some x → take 1 (drop k xs) ≡ x ∷ []
@@ -59,9 +60,29 @@ erased_stretch old new from to before after told r =
       message = subst (λ (ops : List OpView). IsCopied (spelling ops) before after told 0) gone r.message;
     }
 
-pub not_erased : (desk : Desk) (from to room told answer : ℕ) → (to - from ≡ 1 → ⊥) → IsRefusedExchange desk.set from to 0 room told answer → IsRefusedErasing desk from to room told answer
-not_erased desk from to room told answer many (inl memory) = inl (memory, many)
-not_erased desk from to room told answer many (inr (inl place)) = inr (inl place)
-not_erased desk from to room told answer many (inr (inr (inl short))) = inr (inr (inl short))
-not_erased desk from to room told answer many (inr (inr (inr (inl spent)))) = absurd (omega (arith, spent.1))
-not_erased desk from to room told answer many (inr (inr (inr (inr full)))) = inr (inr (inr (full.0, omega (arith, full.1))))
+erasing_accepted : (desk : Desk) (from to : ℕ) → size desk.set + (to - from) ≤ 1_000_000 → (fault : TypeFault) → ¬ (IsReplaceRefusal desk.set (to - from) 0 fault)
+erasing_accepted desk from to room CounterSpent refused = omega (arith, refused)
+erasing_accepted desk from to room Full refused = omega (arith, room, refused.1)
+erasing_accepted desk from to room Memory refused = refused
+
+pub not_erased : (desk : Desk) (from to room told answer : ℕ) → IsRefusedExchange desk from to 0 room told answer → IsRefusedErasing desk from to room told answer
+not_erased desk from to room told answer (inl memory) = inl (memory.0, λ one. absurd (omega (arith, (memory.1 (omega (arith, one))).0)))
+not_erased desk from to room told answer (inr (inl place)) = inr (inl place)
+not_erased desk from to room told answer (inr (inr (inl short))) = inr (inr (inl short))
+not_erased desk from to room told answer (inr (inr (inr (inl spent)))) = absurd (omega (arith, spent.1))
+not_erased desk from to room told answer (inr (inr (inr (inr full)))) = inr (inr (inr (full.0, omega (arith, full.1))))
+
+-- nothing is put in the place of what is erased
+pub erased_exchange : (old new : Desk) (from to : ℕ) (before after : List ℕ) (told : ℕ) → IsErased old from to new before after told → IsReplaced old from to [] new before after told
+erased_exchange old new from to before after told e =
+    let made : replacement old.set old.site from (to - from) [] ≡ deletions old.set from (to - from) = append-nil (deletions old.set from (to - from)) in
+    record {
+      order = e.order;
+      within = e.within;
+      set = e.set ∙ ap (with_operations old.set) (sym made);
+      replaced = e.erased;
+      accepted = erasing_accepted old from to e.accepted;
+      site = e.site;
+      spare = e.spare;
+      message = subst (λ (ops : List OpView). IsCopied (spelling ops) before after told 0) (sym made) e.message;
+    }

@@ -2,6 +2,7 @@ mod Erased
 mod Filled
 mod FromNone
 mod InTurn
+mod Keystrokes
 mod Messages
 mod Sized
 mod Texts

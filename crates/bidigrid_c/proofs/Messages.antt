@@ -11,6 +11,7 @@ use Rattle.bg_types.specs.declared.op.OpView.{OpView}
 use Rattle.bg_types.specs.declared.op.OpView.TheVariants.{Insert, Erase}
 use Rattle.rga_tree.specs.TextOf.{visible, visible_ids}
 use Rattle.op_codec.specs.Spelling.{frame, spelling}
+use Rattle.desk_replica.specs.Desk.{Desk}
 use Rattle.desk_replica.specs.Typing.{parent_at}
 use Rattle.desk_replica.specs.Stretch.{next_id, id_after, insertions, typed_text, deletions, replacement, IsReplaceRefused}
 use Rattle.desk_replica.specs.Merging.{with_operations}
@@ -102,8 +103,8 @@ pub replaced_length : (s : OperationSet) (site from to : ℕ) (chs : List ℕ) �
 replaced_length s site from to chs order within = replaced_count s site from (to - from) chs (omega (arith, order, within))
 
 -- why nothing was put in the place of others, by the core's fault
-pub not_exchanged : (s : OperationSet) (from to n room told answer : ℕ) (fault : TypeFault) → answer ≡ type_number fault → IsReplaceRefused s (to - from) n fault
-    → IsRefusedExchange s from to n room told answer
-not_exchanged s from to n room told answer CounterSpent is spent = inr (inr (inr (inl (is, spent))))
-not_exchanged s from to n room told answer Full is full = inr (inr (inr (inr (is, full.1))))
-not_exchanged s from to n room told answer Memory is memory = inl is
+pub not_exchanged : (desk : Desk) (from to n room told answer : ℕ) (fault : TypeFault) → answer ≡ type_number fault → IsReplaceRefused desk.set (to - from) n fault
+    → ((to - from) + n ≡ 1 → ⊥) → IsRefusedExchange desk from to n room told answer
+not_exchanged desk from to n room told answer CounterSpent is spent many = inr (inr (inr (inl (is, spent))))
+not_exchanged desk from to n room told answer Full is full many = inr (inr (inr (inr (is, full.1))))
+not_exchanged desk from to n room told answer Memory is memory many = inl (is, λ one. absurd (many one))

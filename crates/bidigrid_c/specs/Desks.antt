@@ -72,19 +72,35 @@ pub record IsErased (desk : Desk) (from to : ℕ) (new : Desk) (before after : L
 abbrev pub replaced_size : (m n : ℕ) → ℕ
 replaced_size m n = 5 + 9 * m + 19 * n
 
+-- a desk and a buffer of so many bytes have room for n characters in the place of those from one place up to another
+pub record HasRoomFor (desk : Desk) (from to n room : ℕ) : Type 0 where
+  pub order : from ≤ to
+  pub within : to ≤ length (visible desk.set)
+  pub limited : size desk.set + ((to - from) + n) ≤ 1_000_000
+  pub fits : replaced_size (to - from) n ≤ room
+
 -- no message was written for this fault: only a short buffer is told the size of one
 abbrev pub IsUnwritten : (before after : List ℕ) → (told answer : ℕ) → Type 0
 IsUnwritten before after told answer = (after ≡ before) × ((answer ≡ 102 → ⊥) → told ≡ 0)
 
--- why a desk typed nothing, with the fault's number. Where an operation is spare it is not lack of memory
+-- why a desk typed no character, with the fault's number. Where an operation is spare it is not lack of memory
+abbrev pub IsUntyped : Desk → (answer : ℕ) → Type 0
+IsUntyped desk answer =
+    ((answer ≡ 9) × (desk.spare ≡ 0))
+    ⊎ (((answer ≡ 203) × IsTypeRefusal desk.set CounterSpent)
+    ⊎ ((answer ≡ 202) × IsTypeRefusal desk.set Full))
+
+-- the same, or what C asked for is none
 abbrev pub IsRefusedTyping : Desk → (place ch room told answer : ℕ) → Type 0
 IsRefusedTyping desk place ch room told answer =
-    ((answer ≡ 9) × (desk.spare ≡ 0))
+    IsUntyped desk answer
     ⊎ (((answer ≡ 111) × OutOfScalarRange ch)
     ⊎ (((answer ≡ 107) × (length (visible desk.set) < place))
-    ⊎ (((answer ≡ 102) × (room < 24) × (told ≡ 24))
-    ⊎ (((answer ≡ 203) × IsTypeRefusal desk.set CounterSpent)
-    ⊎ ((answer ≡ 202) × IsTypeRefusal desk.set Full)))))
+    ⊎ ((answer ≡ 102) × (room < 24) × (told ≡ 24))))
+
+-- why a desk erased no character at a place
+abbrev pub IsUnerased : Desk → (answer : ℕ) → Type 0
+IsUnerased desk answer = (answer ≡ 202) × (size desk.set ≡ 1_000_000)
 
 -- why a desk erased nothing. Of one character it is never lack of memory
 abbrev pub IsRefusedErasing : Desk → (from to room told answer : ℕ) → Type 0
@@ -95,20 +111,25 @@ IsRefusedErasing desk from to room told answer =
     ⊎ (((answer ≡ 102) × (room < replaced_size m 0) × (told ≡ replaced_size m 0))
     ⊎ ((answer ≡ 202) × (1_000_000 < size desk.set + m))))
 
+-- lack of memory may refuse to put n characters in the place of m: of one it can only where it is typed, and no operation is
+-- spare
+abbrev pub MayTakeMemory : Desk → (m n : ℕ) → Type 0
+MayTakeMemory desk m n = m + n ≡ 1 → (n ≡ 1) × (desk.spare ≡ 0)
+
 -- why a desk put no n characters in the place of others
-abbrev pub IsRefusedExchange : OperationSet → (from to n room told answer : ℕ) → Type 0
-IsRefusedExchange s from to n room told answer =
+abbrev pub IsRefusedExchange : Desk → (from to n room told answer : ℕ) → Type 0
+IsRefusedExchange desk from to n room told answer =
     let m = to - from in
-    (answer ≡ 9)
-    ⊎ (((answer ≡ 107) × ((to < from) ⊎ (length (visible s) < to)))
+    ((answer ≡ 9) × MayTakeMemory desk m n)
+    ⊎ (((answer ≡ 107) × ((to < from) ⊎ (length (visible desk.set) < to)))
     ⊎ (((answer ≡ 102) × (room < replaced_size m n) × (told ≡ replaced_size m n))
-    ⊎ (((answer ≡ 203) × IsReplaceRefusal s m n CounterSpent)
-    ⊎ ((answer ≡ 202) × (1_000_000 < size s + (m + n))))))
+    ⊎ (((answer ≡ 203) × IsReplaceRefusal desk.set m n CounterSpent)
+    ⊎ ((answer ≡ 202) × (1_000_000 < size desk.set + (m + n))))))
 
 -- why a desk replaced nothing by the bytes of a text
-abbrev pub IsRefusedReplacing : OperationSet → (from to : ℕ) (bytes : List ℕ) (room told answer : ℕ) → Type 0
-IsRefusedReplacing s from to bytes room told answer =
-    ((answer ≡ 103) × (¬ (IsUtf8 bytes))) ⊎ IsRefusedExchange s from to (length (chars bytes)) room told answer
+abbrev pub IsRefusedReplacing : Desk → (from to : ℕ) (bytes : List ℕ) (room told answer : ℕ) → Type 0
+IsRefusedReplacing desk from to bytes room told answer =
+    ((answer ≡ 103) × (¬ (IsUtf8 bytes))) ⊎ IsRefusedExchange desk from to (length (chars bytes)) room told answer
 
 -- ---- taking and merging
 

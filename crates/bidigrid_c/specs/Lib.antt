@@ -5,5 +5,6 @@ pub mod Documents
 pub mod Drawing
 pub mod Faults
 pub mod Files
+pub mod Keystrokes
 pub mod Numbers
 pub mod Rows

@@ -1,5 +1,5 @@
 -- What the structs of C have of the core's.
-use Rattle.std.specs.Prelude.{◌≡◌, ◌<◌, ℕ, min, length}
+use Rattle.std.specs.Prelude.{◌≡◌, ◌<◌, ℕ, length}
 use Rattle.bg_types.specs.declared.change.Change.{Change}
 use Rattle.bg_types.specs.declared.change.Change.TheVariants.{Put, Cut}
 use Rattle.cell_grid.specs.declared.entry.Entry.{Entry}
@@ -70,10 +70,9 @@ no_identifier = record { counter = 0; site = 0 }
 abbrev pub none_taken : ℕ → Taken
 none_taken frame = record { operations = 0; taken = 0; frame = frame }
 
--- a place that 32 bits can't tell would be their greatest number: no text has one
 abbrev pub change_numbers : Change → ChangeNumbers
-change_numbers (Put place ch) = record { place = min place 4_294_967_295; character = ch; put = 1 }
-change_numbers (Cut place) = record { place = min place 4_294_967_295; character = 0; put = 0 }
+change_numbers (Put place ch) = record { place = place; character = ch; put = 1 }
+change_numbers (Cut place) = record { place = place; character = 0; put = 0 }
 
 abbrev pub window_numbers : DrawnWindow → WindowNumbers
 window_numbers w = record { rows = length w.rows; number = w.number }

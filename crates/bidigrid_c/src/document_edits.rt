@@ -1,15 +1,19 @@
 //! Edits of documents: a text is typed, characters are erased or replaced.
 
-ghost use Rattle.std.specs.Prelude.{◌≡◌, [], None, length};
+ghost use Rattle.std.specs.Prelude.{◌≡◌, ◌<◌, ◌≤◌, ◌+◌, ◌-◌, None, length};
 ghost use Rattle.std.specs.Option.{IfSome};
 ghost use Rattle.std.specs.Str.{chars, IsUtf8};
-ghost use Rattle.bidigrid_c.specs.Desks.{IsErased, IsReplaced, IsRefusedExchange, IsRefusedReplacing, IsUnwritten};
+ghost use Rattle.rga_tree.specs.TextOf.{visible};
+ghost use Rattle.bidigrid_c.specs.Desks.{HasRoomFor, IsErased, IsReplaced, IsTyped, IsRefusedErasing, IsRefusedExchange, IsRefusedReplacing, IsUnerased, IsUntyped, IsUnwritten};
 ghost use Rattle.bidigrid_c.specs.Documents.{IsEdited};
 
 use crate::document_handle::DocumentHandle;
-use crate::draft::Draft;
-use crate::fault::{EMPTY_HANDLE, NOT_UTF8, OK, type_number};
+use crate::draft::{Draft, code_points, refusal_of};
+use crate::fault::{COUNTER_SPENT, EMPTY_HANDLE, FULL, MEMORY, NOT_UTF8, OK, type_number};
+use crate::keystroke::{Keystroke, keystroke_of};
 use crate::told_document::ToldDocument;
+use desk_replica::TypeFault;
+use op_codec::encode_one;
 use std::alloc::Global;
 
 /// Types a text at a place, and writes the message for the other desks: all of it, or nothing. Then nothing is shown.
@@ -25,7 +29,7 @@ pub extern "C" fn bidigrid_document_insert(
     ensures ok { result ≡ 0 → IfSome document.old.held (λ d. IfSome document.new.held (λ e. IsReplaced d.document.desk place place (chars text.now) e.document.desk out.old out.new size.new × IsEdited d e)) }
     ensures utf8 { result ≡ 0 → IsUtf8 text.now }
     ensures err { (result ≡ 0 → ⊥) → (document.new.held ≡ document.old.held) × IsUnwritten out.old out.new size.new result }
-    ensures fault { (result ≡ 0 → ⊥) → IfSome document.old.held (λ d. IsRefusedReplacing d.document.desk.set place place text.now (length out.old) size.new result) }
+    ensures fault { (result ≡ 0 → ⊥) → IfSome document.old.held (λ d. IsRefusedReplacing d.document.desk place place text.now (length out.old) size.new result) }
     ensures empty { document.old.held ≡ None → (result ≡ 101) × (document.new.held ≡ None) }
     ensures held { document.new.held ≡ None → document.old.held ≡ None }
 {
@@ -50,7 +54,7 @@ pub extern "C" fn bidigrid_document_erase(
 ) -> u32
     ensures ok { result ≡ 0 → IfSome document.old.held (λ d. IfSome document.new.held (λ e. IsErased d.document.desk from to e.document.desk out.old out.new size.new × IsEdited d e)) }
     ensures err { (result ≡ 0 → ⊥) → (document.new.held ≡ document.old.held) × IsUnwritten out.old out.new size.new result }
-    ensures fault { (result ≡ 0 → ⊥) → IfSome document.old.held (λ d. IsRefusedExchange d.document.desk.set from to 0 (length out.old) size.new result) }
+    ensures fault { (result ≡ 0 → ⊥) → IfSome document.old.held (λ d. IsRefusedErasing d.document.desk from to (length out.old) size.new result) }
     ensures empty { document.old.held ≡ None → (result ≡ 101) × (document.new.held ≡ None) }
     ensures held { document.new.held ≡ None → document.old.held ≡ None }
 {
@@ -78,7 +82,7 @@ pub extern "C" fn bidigrid_document_replace(
     ensures ok { result ≡ 0 → IfSome document.old.held (λ d. IfSome document.new.held (λ e. IsReplaced d.document.desk from to (chars text.now) e.document.desk out.old out.new size.new × IsEdited d e)) }
     ensures utf8 { result ≡ 0 → IsUtf8 text.now }
     ensures err { (result ≡ 0 → ⊥) → (document.new.held ≡ document.old.held) × IsUnwritten out.old out.new size.new result }
-    ensures fault { (result ≡ 0 → ⊥) → IfSome document.old.held (λ d. IsRefusedReplacing d.document.desk.set from to text.now (length out.old) size.new result) }
+    ensures fault { (result ≡ 0 → ⊥) → IfSome document.old.held (λ d. IsRefusedReplacing d.document.desk from to text.now (length out.old) size.new result) }
     ensures empty { document.old.held ≡ None → (result ≡ 101) × (document.new.held ≡ None) }
     ensures held { document.new.held ≡ None → document.old.held ≡ None }
 {
@@ -104,7 +108,7 @@ fn replace_in(
     ensures ok { result ≡ 0 → IsReplaced held.old.document.desk from to (chars text.now) held.new.document.desk out.old out.new size.new × IsEdited held.old held.new }
     ensures utf8 { result ≡ 0 → IsUtf8 text.now }
     ensures err { (result ≡ 0 → ⊥) → (held.new ≡ held.old) × IsUnwritten out.old out.new size.new result }
-    ensures fault { (result ≡ 0 → ⊥) → IsRefusedReplacing held.old.document.desk.set from to text.now (length out.old) size.new result }
+    ensures fault { (result ≡ 0 → ⊥) → IsRefusedReplacing held.old.document.desk from to text.now (length out.old) size.new result }
 {
     let Ok(text) = std::str::from_utf8(text) else {
         *size = 0;
@@ -123,13 +127,22 @@ fn erase_in(
 ) -> u32
     ensures ok { result ≡ 0 → IsErased held.old.document.desk from to held.new.document.desk out.old out.new size.new × IsEdited held.old held.new }
     ensures err { (result ≡ 0 → ⊥) → (held.new ≡ held.old) × IsUnwritten out.old out.new size.new result }
-    ensures fault { (result ≡ 0 → ⊥) → IsRefusedExchange held.old.document.desk.set from to 0 (length out.old) size.new result }
+    ensures fault { (result ≡ 0 → ⊥) → IsRefusedErasing held.old.document.desk from to (length out.old) size.new result }
 {
     exchange_in(alloc, held, from, to, "", out, size)
 }
 
-/// Puts a text in the place of characters.
-#[tactic(auto, using(crate::proofs::Messages::not_exchanged))]
+/// Puts a text in the place of characters. One character is typed or erased without memory for its message.
+#[tactic(auto, using(
+    crate::proofs::Keystrokes::typed_place,
+    crate::proofs::Keystrokes::typed_room,
+    crate::proofs::Keystrokes::typed_exchange,
+    crate::proofs::Keystrokes::untyped_exchange,
+    crate::proofs::Keystrokes::erased_place,
+    crate::proofs::Keystrokes::erased_room,
+    crate::proofs::Keystrokes::erased_key,
+    crate::proofs::Keystrokes::unerased_exchange
+))]
 fn exchange_in(
     alloc: Global,
     held: &mut ToldDocument,
@@ -141,12 +154,91 @@ fn exchange_in(
 ) -> u32
     ensures ok { result ≡ 0 → IsReplaced held.old.document.desk from to (chars text.now) held.new.document.desk out.old out.new size.new × IsEdited held.old held.new }
     ensures err { (result ≡ 0 → ⊥) → (held.new ≡ held.old) × IsUnwritten out.old out.new size.new result }
-    ensures fault { (result ≡ 0 → ⊥) → IsRefusedExchange held.old.document.desk.set from to (length (chars text.now)) (length out.old) size.new result }
+    ensures fault { (result ≡ 0 → ⊥) → IsRefusedExchange held.old.document.desk from to (length (chars text.now)) (length out.old) size.new result }
 {
     let desk = held.document.desk();
-    let mut draft = match Draft::of_replacement(alloc, desk, from, to, text, out.len(), size) {
-        Ok(draft) => draft,
-        Err(fault) => return fault,
+    let answer = refusal_of(desk, from, to, code_points(text), out.len(), size);
+    if answer != OK {
+        return answer;
+    }
+    match keystroke_of(to - from, text) {
+        Some(Keystroke::Typed(ch)) => type_one_in(held, from, ch, out, size),
+        Some(Keystroke::Erased) => erase_one_in(held, from, out, size),
+        None => exchange_many_in(alloc, held, from, to, text, out, size),
+    }
+}
+
+/// Types a character where there is room for its message.
+#[tactic(auto, using(crate::proofs::Messages::one_most, crate::proofs::Messages::copied_one))]
+fn type_one_in(
+    held: &mut ToldDocument,
+    place: usize,
+    ch: char,
+    out: &mut [u8],
+    size: &mut usize,
+) -> u32
+    requires place { place ≤ length (visible held.old.document.desk.set) }
+    requires room { 24 ≤ length out.old }
+    ensures ok { result ≡ 0 → IsTyped held.old.document.desk place ch held.new.document.desk out.old out.new size.new }
+    ensures edited { result ≡ 0 → IsEdited held.old held.new }
+    ensures err { (result ≡ 0 → ⊥) → (held.new ≡ held.old) × (out.new ≡ out.old) × (size.new ≡ size.old) }
+    ensures fault { (result ≡ 0 → ⊥) → IsUntyped held.old.document.desk result }
+{
+    match held.document.type_char(place, ch) {
+        Ok(op) => {
+            held.forget();
+            *size = encode_one(&op, out);
+            OK
+        }
+        Err(TypeFault::CounterSpent) => COUNTER_SPENT,
+        Err(TypeFault::Full) => FULL,
+        Err(TypeFault::Memory) => MEMORY,
+    }
+}
+
+/// Erases the character at a place where there is room for its message.
+fn erase_one_in(
+    held: &mut ToldDocument,
+    place: usize,
+    out: &mut [u8],
+    size: &mut usize,
+) -> u32
+    requires place { place < length (visible held.old.document.desk.set) }
+    requires room { 14 ≤ length out.old }
+    ensures ok { result ≡ 0 → IsErased held.old.document.desk place (place + 1) held.new.document.desk out.old out.new size.new }
+    ensures edited { result ≡ 0 → IsEdited held.old held.new }
+    ensures err { (result ≡ 0 → ⊥) → (held.new ≡ held.old) × (out.new ≡ out.old) × (size.new ≡ size.old) }
+    ensures fault { (result ≡ 0 → ⊥) → IsUnerased held.old.document.desk result }
+{
+    match held.document.erase_at(place) {
+        Ok(op) => {
+            held.forget();
+            *size = encode_one(&op, out);
+            OK
+        }
+        Err(_) => FULL,
+    }
+}
+
+/// Puts a text in the place of characters, which is no keystroke and for which there is room.
+#[tactic(auto, using(crate::proofs::Messages::not_exchanged))]
+fn exchange_many_in(
+    alloc: Global,
+    held: &mut ToldDocument,
+    from: usize,
+    to: usize,
+    text: &str,
+    out: &mut [u8],
+    size: &mut usize,
+) -> u32
+    requires room { HasRoomFor held.old.document.desk from to (length (chars text.now)) (length out.old) }
+    requires many { (to - from) + length (chars text.now) ≡ 1 → ⊥ }
+    ensures ok { result ≡ 0 → IsReplaced held.old.document.desk from to (chars text.now) held.new.document.desk out.old out.new size.new × IsEdited held.old held.new }
+    ensures err { (result ≡ 0 → ⊥) → (held.new ≡ held.old) × (out.new ≡ out.old) × (size.new ≡ size.old) }
+    ensures fault { (result ≡ 0 → ⊥) → IsRefusedExchange held.old.document.desk from to (length (chars text.now)) (length out.old) size.new result }
+{
+    let Ok(mut draft) = Draft::of(alloc, to - from + code_points(text)) else {
+        return MEMORY;
     };
     match held.document.replace(from, to, text, &mut draft.ops) {
         Ok(()) => {

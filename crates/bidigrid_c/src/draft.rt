@@ -7,11 +7,11 @@ ghost use Rattle.std.specs.Vec.{vec_capacity};
 ghost use Rattle.rga_tree.specs.TextOf.{visible};
 ghost use Rattle.op_codec.specs.Spelling.{frame, spelling};
 ghost use Rattle.bidigrid_c.specs.Copying.{IsCopied};
-ghost use Rattle.bidigrid_c.specs.Desks.{replaced_size, IsRefusedExchange};
+ghost use Rattle.bidigrid_c.specs.Desks.{HasRoomFor, IsRefusedExchange};
 
 use crate::copying::copy_out;
 use crate::desk::{Desk, MOST};
-use crate::fault::{BAD_PLACE, FULL, MEMORY, SHORT_BUFFER};
+use crate::fault::{BAD_PLACE, FULL, OK, SHORT_BUFFER};
 use bg_types::{Memory, Op};
 use op_codec::{encode_file, encode_op};
 use std::alloc::Global;
@@ -35,7 +35,7 @@ pub(crate) struct Draft {
 
 impl Draft {
     /// A draft with room for so many operations.
-    fn of(alloc: Global, count: usize) -> Result<Draft, Memory>
+    pub(crate) fn of(alloc: Global, count: usize) -> Result<Draft, Memory>
         requires { count ≤ 1_000_000 }
         ensures message { IfOk result (λ draft. draft.message.items ≡ spelling []) }
         ensures bytes { IfOk result (λ draft. vec_len draft.message + 19 * count ≤ vec_capacity draft.message) }
@@ -46,48 +46,6 @@ impl Draft {
         message.reserve(INSERTION * count)?;
         let ops = Vec::with_capacity(alloc, count)?;
         Ok(Draft { message, ops })
-    }
-
-    /// A draft for a desk that puts a text in the place of characters, and a buffer with this room; or the number of the
-    /// fault, and how many bytes are wanted where the buffer is too short.
-    pub(crate) fn of_replacement(
-        alloc: Global,
-        desk: &Desk,
-        from: usize,
-        to: usize,
-        text: &str,
-        room: usize,
-        wanted: &mut usize,
-    ) -> Result<Draft, u32>
-        ensures order { OnOk result (from ≤ to) }
-        ensures within { OnOk result (to ≤ length (visible desk.now.set)) }
-        ensures fits { OnOk result (replaced_size (to - from) (length (chars text.now)) ≤ room) }
-        ensures message { IfOk result (λ draft. draft.message.items ≡ spelling []) }
-        ensures bytes { IfOk result (λ draft. vec_len draft.message + 19 * ((to - from) + length (chars text.now)) ≤ vec_capacity draft.message) }
-        ensures ops { IfOk result (λ draft. draft.ops.items ≡ []) }
-        ensures wanted { IfErr result (λ fault. (fault ≡ 102 → ⊥) → wanted.new ≡ 0) }
-        ensures fault { IfErr result (IsRefusedExchange desk.now.set from to (length (chars text.now)) room wanted.new) }
-        ensures some { IfErr result (λ fault. 0 < fault) }
-        ensures nothing { OnOk result (wanted.new ≡ 0) }
-    {
-        *wanted = 0;
-        if from > to || to > desk.len() {
-            return Err(BAD_PLACE);
-        }
-        let (erased, typed) = (to - from, code_points(text));
-        let left = MOST - desk.op_count();
-        if erased > left || typed > left - erased {
-            return Err(FULL);
-        }
-        let size = HEADER + ERASURE * erased + INSERTION * typed;
-        if room < size {
-            *wanted = size;
-            return Err(SHORT_BUFFER);
-        }
-        match Draft::of(alloc, erased + typed) {
-            Ok(draft) => Ok(draft),
-            Err(Memory) => Err(MEMORY),
-        }
     }
 
     /// Writes the message of its operations to the front of a buffer, which has room for it.
@@ -112,8 +70,39 @@ fn add_each(ops: &[Op], message: &mut Vec<u8>)
     }
 }
 
+/// What refuses to erase the characters from one place up to another and to type so many, with a buffer of so many bytes: the
+/// number of the fault, or 0. How many bytes are wanted is told where the buffer is too short.
+pub(crate) fn refusal_of(
+    desk: &Desk,
+    from: usize,
+    to: usize,
+    typed: usize,
+    room: usize,
+    wanted: &mut usize,
+) -> u32
+    ensures ok { result ≡ 0 → HasRoomFor desk.now from to typed room }
+    ensures wanted { (result ≡ 102 → ⊥) → wanted.new ≡ 0 }
+    ensures fault { (result ≡ 0 → ⊥) → IsRefusedExchange desk.now from to typed room wanted.new result }
+{
+    *wanted = 0;
+    if from > to || to > desk.len() {
+        return BAD_PLACE;
+    }
+    let erased = to - from;
+    let left = MOST - desk.op_count();
+    if erased > left || typed > left - erased {
+        return FULL;
+    }
+    let size = HEADER + ERASURE * erased + INSERTION * typed;
+    if room < size {
+        *wanted = size;
+        return SHORT_BUFFER;
+    }
+    OK
+}
+
 /// How many code points a text has.
-fn code_points(text: &str) -> usize
+pub(crate) fn code_points(text: &str) -> usize
     ensures { result ≡ length (chars text.now) }
 {
     text.chars().count()

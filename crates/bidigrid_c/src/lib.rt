@@ -16,6 +16,7 @@ mod document_reading;
 mod document_taking;
 mod draft;
 mod fault;
+mod keystroke;
 mod numbers;
 mod picture;
 mod picture_handle;

@@ -1,6 +1,6 @@
 //! The structs of numbers that C reads.
 
-ghost use Rattle.std.specs.Prelude.{◌≡◌, min};
+ghost use Rattle.std.specs.Prelude.{◌≡◌};
 ghost use Rattle.caret.specs.Gaps.{gap_column};
 ghost use Rattle.bidigrid_c.specs.Numbers.{row_numbers, no_row, entry_numbers, no_entry, caret_numbers, no_caret, caret_of, position_numbers, no_position, position_with, no_identifier, none_taken, change_numbers, window_numbers, nothing_shown};
 ghost use Rattle.bidigrid_c.specs.Faults.{data_fault, file_number, no_data_fault};
@@ -74,7 +74,7 @@ pub struct Taken {
 #[derive(Clone, Copy)]
 #[repr(C)]
 pub struct ChangeNumbers {
-    pub place: u32,
+    pub place: usize,
     pub character: u32,
     pub put: u32,
 }
@@ -267,23 +267,16 @@ pub(crate) fn change_numbers(change: &Change) -> ChangeNumbers
 {
     match *change {
         Change::Put { place, ch } => ChangeNumbers {
-            place: place_number(place),
+            place,
             character: u32::from(ch),
             put: 1,
         },
         Change::Cut { place } => ChangeNumbers {
-            place: place_number(place),
+            place,
             character: 0,
             put: 0,
         },
     }
-}
-
-/// The number of a place. A text has none that 32 bits can't tell.
-fn place_number(place: usize) -> u32
-    ensures { result ≡ min place 4_294_967_295 }
-{
-    place.min(4_294_967_295) as u32
 }
 
 /// The numbers of a window.

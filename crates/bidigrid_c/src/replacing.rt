@@ -1,14 +1,16 @@
 //! Typing a text, and putting one in the place of characters.
 
-ghost use Rattle.std.specs.Prelude.{◌≡◌, None, length};
+ghost use Rattle.std.specs.Prelude.{◌≡◌, ◌+◌, ◌-◌, None, length};
 ghost use Rattle.std.specs.Option.{IfSome};
 ghost use Rattle.std.specs.Str.{chars, IsUtf8};
-ghost use Rattle.bidigrid_c.specs.Desks.{IsReplaced, IsRefusedExchange, IsRefusedReplacing, IsUnwritten};
+ghost use Rattle.bidigrid_c.specs.Desks.{HasRoomFor, IsReplaced, IsRefusedExchange, IsRefusedReplacing, IsUnwritten};
 
 use crate::desk::Desk;
 use crate::desk_handle::DeskHandle;
-use crate::draft::Draft;
-use crate::fault::{EMPTY_HANDLE, NOT_UTF8, OK, type_number};
+use crate::draft::{Draft, code_points, refusal_of};
+use crate::fault::{EMPTY_HANDLE, MEMORY, NOT_UTF8, OK, type_number};
+use crate::keystroke::{Keystroke, keystroke_of};
+use crate::typing::{erase_one_in, type_one_in};
 use std::alloc::Global;
 
 /// Types a text at a place, and writes the message for the other desks: all of it, or nothing.
@@ -24,7 +26,7 @@ pub extern "C" fn bidigrid_desk_insert(
     ensures ok { result ≡ 0 → IfSome desk.old.held (λ d. IfSome desk.new.held (λ e. IsReplaced d place place (chars text.now) e out.old out.new size.new)) }
     ensures utf8 { result ≡ 0 → IsUtf8 text.now }
     ensures err { (result ≡ 0 → ⊥) → (desk.new.held ≡ desk.old.held) × IsUnwritten out.old out.new size.new result }
-    ensures fault { (result ≡ 0 → ⊥) → IfSome desk.old.held (λ d. IsRefusedReplacing d.set place place text.now (length out.old) size.new result) }
+    ensures fault { (result ≡ 0 → ⊥) → IfSome desk.old.held (λ d. IsRefusedReplacing d place place text.now (length out.old) size.new result) }
     ensures empty { desk.old.held ≡ None → (result ≡ 101) × (desk.new.held ≡ None) }
     ensures held { desk.new.held ≡ None → desk.old.held ≡ None }
 {
@@ -52,7 +54,7 @@ pub extern "C" fn bidigrid_desk_replace(
     ensures ok { result ≡ 0 → IfSome desk.old.held (λ d. IfSome desk.new.held (λ e. IsReplaced d from to (chars text.now) e out.old out.new size.new)) }
     ensures utf8 { result ≡ 0 → IsUtf8 text.now }
     ensures err { (result ≡ 0 → ⊥) → (desk.new.held ≡ desk.old.held) × IsUnwritten out.old out.new size.new result }
-    ensures fault { (result ≡ 0 → ⊥) → IfSome desk.old.held (λ d. IsRefusedReplacing d.set from to text.now (length out.old) size.new result) }
+    ensures fault { (result ≡ 0 → ⊥) → IfSome desk.old.held (λ d. IsRefusedReplacing d from to text.now (length out.old) size.new result) }
     ensures empty { desk.old.held ≡ None → (result ≡ 101) × (desk.new.held ≡ None) }
     ensures held { desk.new.held ≡ None → desk.old.held ≡ None }
 {
@@ -78,7 +80,7 @@ fn replace_in(
     ensures ok { result ≡ 0 → IsReplaced desk.old from to (chars text.now) desk.new out.old out.new size.new }
     ensures utf8 { result ≡ 0 → IsUtf8 text.now }
     ensures err { (result ≡ 0 → ⊥) → (desk.new ≡ desk.old) × IsUnwritten out.old out.new size.new result }
-    ensures fault { (result ≡ 0 → ⊥) → IsRefusedReplacing desk.old.set from to text.now (length out.old) size.new result }
+    ensures fault { (result ≡ 0 → ⊥) → IsRefusedReplacing desk.old from to text.now (length out.old) size.new result }
 {
     let Ok(text) = std::str::from_utf8(text) else {
         *size = 0;
@@ -87,8 +89,17 @@ fn replace_in(
     exchange_in(alloc, desk, from, to, text, out, size)
 }
 
-/// Puts a text in the place of characters.
-#[tactic(auto, using(crate::proofs::Messages::not_exchanged))]
+/// Puts a text in the place of characters. One character is typed or erased without memory for its message.
+#[tactic(auto, using(
+    crate::proofs::Keystrokes::typed_place,
+    crate::proofs::Keystrokes::typed_room,
+    crate::proofs::Keystrokes::typed_exchange,
+    crate::proofs::Keystrokes::untyped_exchange,
+    crate::proofs::Keystrokes::erased_place,
+    crate::proofs::Keystrokes::erased_room,
+    crate::proofs::Keystrokes::erased_key,
+    crate::proofs::Keystrokes::unerased_exchange
+))]
 pub(crate) fn exchange_in(
     alloc: Global,
     desk: &mut Desk,
@@ -100,11 +111,38 @@ pub(crate) fn exchange_in(
 ) -> u32
     ensures ok { result ≡ 0 → IsReplaced desk.old from to (chars text.now) desk.new out.old out.new size.new }
     ensures err { (result ≡ 0 → ⊥) → (desk.new ≡ desk.old) × IsUnwritten out.old out.new size.new result }
-    ensures fault { (result ≡ 0 → ⊥) → IsRefusedExchange desk.old.set from to (length (chars text.now)) (length out.old) size.new result }
+    ensures fault { (result ≡ 0 → ⊥) → IsRefusedExchange desk.old from to (length (chars text.now)) (length out.old) size.new result }
 {
-    let mut draft = match Draft::of_replacement(alloc, desk, from, to, text, out.len(), size) {
-        Ok(draft) => draft,
-        Err(fault) => return fault,
+    let answer = refusal_of(desk, from, to, code_points(text), out.len(), size);
+    if answer != OK {
+        return answer;
+    }
+    match keystroke_of(to - from, text) {
+        Some(Keystroke::Typed(ch)) => type_one_in(desk, from, ch, out, size),
+        Some(Keystroke::Erased) => erase_one_in(desk, from, out, size),
+        None => exchange_many_in(alloc, desk, from, to, text, out, size),
+    }
+}
+
+/// Puts a text in the place of characters, which is no keystroke and for which there is room.
+#[tactic(auto, using(crate::proofs::Messages::not_exchanged))]
+fn exchange_many_in(
+    alloc: Global,
+    desk: &mut Desk,
+    from: usize,
+    to: usize,
+    text: &str,
+    out: &mut [u8],
+    size: &mut usize,
+) -> u32
+    requires room { HasRoomFor desk.old from to (length (chars text.now)) (length out.old) }
+    requires many { (to - from) + length (chars text.now) ≡ 1 → ⊥ }
+    ensures ok { result ≡ 0 → IsReplaced desk.old from to (chars text.now) desk.new out.old out.new size.new }
+    ensures err { (result ≡ 0 → ⊥) → (desk.new ≡ desk.old) × (out.new ≡ out.old) × (size.new ≡ size.old) }
+    ensures fault { (result ≡ 0 → ⊥) → IsRefusedExchange desk.old from to (length (chars text.now)) (length out.old) size.new result }
+{
+    let Ok(mut draft) = Draft::of(alloc, to - from + code_points(text)) else {
+        return MEMORY;
     };
     match desk.replace(from, to, text, &mut draft.ops) {
         Ok(()) => {

@@ -1,9 +1,9 @@
 //! Keystrokes: typing a character, and erasing characters.
 
-ghost use Rattle.std.specs.Prelude.{◌≡◌, ◌<◌, ◌+◌, None, length};
+ghost use Rattle.std.specs.Prelude.{◌≡◌, ◌<◌, ◌≤◌, ◌+◌, None, length};
 ghost use Rattle.std.specs.Option.{IfSome};
 ghost use Rattle.rga_tree.specs.TextOf.{visible};
-ghost use Rattle.bidigrid_c.specs.Desks.{IsTyped, IsErased, IsRefusedTyping, IsRefusedErasing, IsUnwritten};
+ghost use Rattle.bidigrid_c.specs.Desks.{IsTyped, IsErased, IsRefusedTyping, IsRefusedErasing, IsUnerased, IsUntyped, IsUnwritten};
 
 use crate::desk::Desk;
 use crate::desk_handle::DeskHandle;
@@ -17,9 +17,6 @@ use std::alloc::Global;
 
 /// How many bytes the message of an insertion has.
 const TYPED: usize = 24;
-
-/// How many bytes the message of a deletion has.
-const ERASED: usize = 14;
 
 /// Types a character, and writes the message for the other desks. While an operation is spare it takes no memory.
 #[unsafe(no_mangle)]
@@ -46,7 +43,6 @@ pub extern "C" fn bidigrid_desk_type(
     answer
 }
 
-#[tactic(auto, using(crate::proofs::Messages::one_most, crate::proofs::Messages::copied_one))]
 fn type_in(desk: &mut Desk, place: usize, ch: u32, out: &mut [u8], size: &mut usize) -> u32
     ensures ok { result ≡ 0 → IsTyped desk.old place ch desk.new out.old out.new size.new }
     ensures err { (result ≡ 0 → ⊥) → (desk.new ≡ desk.old) × IsUnwritten out.old out.new size.new result }
@@ -63,6 +59,24 @@ fn type_in(desk: &mut Desk, place: usize, ch: u32, out: &mut [u8], size: &mut us
         *size = TYPED;
         return SHORT_BUFFER;
     }
+    type_one_in(desk, place, ch, out, size)
+}
+
+/// Types a character where there is room for its message.
+#[tactic(auto, using(crate::proofs::Messages::one_most, crate::proofs::Messages::copied_one))]
+pub(crate) fn type_one_in(
+    desk: &mut Desk,
+    place: usize,
+    ch: char,
+    out: &mut [u8],
+    size: &mut usize,
+) -> u32
+    requires place { place ≤ length (visible desk.old.set) }
+    requires room { 24 ≤ length out.old }
+    ensures ok { result ≡ 0 → IsTyped desk.old place ch desk.new out.old out.new size.new }
+    ensures err { (result ≡ 0 → ⊥) → (desk.new ≡ desk.old) × (out.new ≡ out.old) × (size.new ≡ size.old) }
+    ensures fault { (result ≡ 0 → ⊥) → IsUntyped desk.old result }
+{
     match desk.type_char(place, ch) {
         Ok(op) => {
             *size = encode_one(&op, out);
@@ -112,28 +126,22 @@ fn erase_in(
     ensures err { (result ≡ 0 → ⊥) → (desk.new ≡ desk.old) × IsUnwritten out.old out.new size.new result }
     ensures fault { (result ≡ 0 → ⊥) → IsRefusedErasing desk.old from to (length out.old) size.new result }
 {
-    if from > to || to > desk.len() {
-        *size = 0;
-        return BAD_PLACE;
-    }
-    if to - from == 1 {
-        return erase_one_in(desk, from, out, size);
-    }
     exchange_in(alloc, desk, from, to, "", out, size)
 }
 
-/// Erases the character at a place.
-fn erase_one_in(desk: &mut Desk, place: usize, out: &mut [u8], size: &mut usize) -> u32
-    requires { place < length (visible desk.old.set) }
+/// Erases the character at a place where there is room for its message.
+pub(crate) fn erase_one_in(
+    desk: &mut Desk,
+    place: usize,
+    out: &mut [u8],
+    size: &mut usize,
+) -> u32
+    requires place { place < length (visible desk.old.set) }
+    requires room { 14 ≤ length out.old }
     ensures ok { result ≡ 0 → IsErased desk.old place (place + 1) desk.new out.old out.new size.new }
-    ensures err { (result ≡ 0 → ⊥) → (desk.new ≡ desk.old) × IsUnwritten out.old out.new size.new result }
-    ensures fault { (result ≡ 0 → ⊥) → IsRefusedErasing desk.old place (place + 1) (length out.old) size.new result }
+    ensures err { (result ≡ 0 → ⊥) → (desk.new ≡ desk.old) × (out.new ≡ out.old) × (size.new ≡ size.old) }
+    ensures fault { (result ≡ 0 → ⊥) → IsUnerased desk.old result }
 {
-    *size = 0;
-    if out.len() < ERASED {
-        *size = ERASED;
-        return SHORT_BUFFER;
-    }
     match desk.erase_at(place) {
         Ok(op) => {
             *size = encode_one(&op, out);

@@ -5,8 +5,11 @@ mod Stretches
 mod Placing
 mod Windows
 mod Spots
+mod Cursors
 mod Printed
 mod Round
 mod Positions
 mod Followed
 mod Taking
+mod Cost
+mod Runs

@@ -56,7 +56,7 @@ pub cond-most : (b : Bool) → cond {A = ℕ} b 0 1 ≤ 1
 cond-most true = omega arith
 cond-most false = omega arith
 
-count-cons : (b : Bool) (marks : List Bool) → count_by not (b ∷ marks) ≡ cond {A = ℕ} b 0 1 + count_by not marks
+pub count-cons : (b : Bool) (marks : List Bool) → count_by not (b ∷ marks) ≡ cond {A = ℕ} b 0 1 + count_by not marks
 count-cons true marks = sum_by-cons (λ b. cond {A = ℕ} (not b) 1 0) true marks
 count-cons false marks = sum_by-cons (λ b. cond {A = ℕ} (not b) 1 0) false marks
 

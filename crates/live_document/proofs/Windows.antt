@@ -1,7 +1,7 @@
 -- What is cut out of the rows that are kept is the window of the grid.
 use Rattle.std.proofs.Common.{◌≡◌, ℕ, zero, suc, ◌+◌, ◌-◌, ◌<◌, ◌≤◌, ◌⊎◌, inl, inr, min, Bool, true, cond, List, [], ◌∷◌, ◌++◌, length, map, take, drop, get_or, slice_range, flat_map, Option, Some, None, refl, sym, ap, ap₂, subst, ◌∙◌, arith, append-nil, length-append}
 use Rattle.std.proofs.lemmas.Bool.{cases_lt, le-leb, lt-leb}
-use Rattle.std.proofs.lemmas.List.{length-map, drop_all, drop-append-le, take-append-le, length-drop, get_or-map, drop_more, take-append-drop}
+use Rattle.std.proofs.lemmas.List.{length-map, drop_all, drop-append-le, take-append-le, length-drop, get_or-map, drop_more, take-append-drop, take_all, take-map}
 use Rattle.std.proofs.lemmas.List.Concat.{flat_map-append, flat_map-cons}
 use Rattle.std.proofs.lemmas.List.Edits.{split_between}
 use Rattle.std.proofs.lemmas.List.Elements.{All-nil, All-cons, All-drop, All-take, All-weaker}
@@ -26,12 +26,14 @@ use Rattle.text_buffer.specs.Buffers.{bytes_in, paragraphs_in, text_in}
 use Rattle.text_buffer.specs.Edits.{IsParagraphOf}
 use Rattle.live_document.specs.declared.shown.Shown.{Shown}
 use Rattle.live_document.specs.Keeping.{Rows, KeptText, rows_at, rows_of_text, rows_of_texts, IsLaid, IsKeptAt, flags, is_kept}
+use Rattle.live_document.specs.Cost.{top_of, bottom_of, HasRow}
 use Rattle.live_document.specs.LawsBelow.{LawsBelow}
 use Rattle.live_document.specs.Showing.{rows_from, window_in, IsAtHand, IsRowOf}
 use Rattle.live_document.proofs.Placing.{IsText, points_of, text-is, All-parts, slice-parts, slice-map, place-at, follow-drop, follow-take}
 use Rattle.live_document.proofs.Beside.{rows_at-laid}
-use Rattle.live_document.proofs.Marks.{slice-front}
+use Rattle.live_document.proofs.Marks.{slice-front, rows-down, rows-none}
 use Rattle.live_document.proofs.Stretches.{count-texts, stretch-from, count-rows}
+use Rattle.std.proofs.Math.Seq.{take-add}
 
 -- ---- rows that stand later
 
@@ -358,6 +360,100 @@ module _ (below : LawsBelow) (tables : TableValues) (width : ℕ) (base : Base) 
         | inr none ↦ inr (ap (flat_map rows) (drop_all end paras (omega (arith, count-paras))))
       ];
     }
+
+    -- how many rows stand in front of a paragraph
+    front-more : (i j : ℕ) → i ≤ j → length (rows_of_texts tables width base (take j (paragraphs_in kept))) ≡ length (rows_of_texts tables width base (take i (paragraphs_in kept))) + length (rows_of_texts tables width base (slice_range (paragraphs_in kept) i j))
+    front-more i j order =
+        let texts = paragraphs_in kept in
+        let f = rows_of_text tables width base in
+        let e : j ≡ i + (j - i) = omega arith in
+        ap (λ n. length (flat_map f (take n texts))) e
+        ∙ ap (λ l. length (flat_map f l)) (take-add i (j - i) texts)
+        ∙ ap length (flat_map-append f (take i texts) (take (j - i) (drop i texts)))
+        ∙ length-append (flat_map f (take i texts)) (flat_map f (take (j - i) (drop i texts)))
+
+    front-one : (n : ℕ) → n < length kept → length (rows_of_texts tables width base (take (n + 1) (paragraphs_in kept))) ≡ length (rows_of_texts tables width base (take n (paragraphs_in kept))) + length (rows_of_text tables width base (get_or (paragraphs_in kept) n []))
+    front-one n here =
+        let texts = paragraphs_in kept in
+        let size = count-texts kept in
+        let a = front-more n (n + 1) (omega arith) in
+        let b = rows-down tables width base texts n n (omega arith) (omega arith) in
+        let c = rows-none tables width base texts n in
+        omega arith
+
+    -- no paragraph is without a row
+    front-rises-by-one : (n : ℕ) → n < length kept → length (rows_of_texts tables width base (take n (paragraphs_in kept))) < length (rows_of_texts tables width base (take (n + 1) (paragraphs_in kept)))
+    front-rises-by-one n here =
+        let d : Paragraph = record { text = []; first_byte = 0; first_place = 0 } in
+        let at = slice_get-get_or paras n d (omega (arith, count-paras)) in
+        let p = get_or paras n d in
+        let some = own-some n p at in
+        let one = front-one n here in
+        let same = ap length (own-text n p at) in
+        let many = length-map (rows_of tables width base p.text) (shifted p.first_byte p.first_place) in
+        omega arith
+
+    front-are : (n : ℕ) → length (flat_map rows (take n paras)) ≡ length (rows_of_texts tables width base (take n (paragraphs_in kept)))
+    front-are n =
+        count-rows tables width base (take n paras) (All-take IsText n paras texts)
+        ∙ ap (λ ts. length (rows_of_texts tables width base ts)) (sym (take-map (λ (p : Paragraph). code_points p.text) n paras))
+        ∙ ap (λ ts. length (rows_of_texts tables width base (take n ts))) (sym texts-are)
+
+    all-rows : length (flat_map rows paras) ≡ length (rows_of_texts tables width base (take (length kept) (paragraphs_in kept)))
+    all-rows = ap (λ l. length (flat_map rows l)) (sym (take_all (length kept) paras (omega (arith, count-paras)))) ∙ front-are (length kept)
+
+    grid-row : row_at (flat_map rows paras) place ≡ length (rows_of_texts tables width base (take number (paragraphs_in kept))) + row
+    grid-row =
+        ap (λ l. row_at l place) (parted number q is)
+        ∙ row_at-second (flat_map rows (take number paras)) (rows q) (flat_map rows (drop (number + 1) paras)) place (own-begins number q is place place_is) behind
+        ∙ ap₂ (λ m n. m + n) (front-are number) own-row
+
+    -- the window's first row is one of the first paragraph that was reached
+    pub top-has : (first < number → length (rows_of_texts tables width base (slice_range (paragraphs_in kept) (first + 1) number)) < above - row)
+        → HasRow tables width base (paragraphs_in kept) first (top_of place above (flat_map rows paras))
+    top-has needed =
+        let size = count-texts kept in
+        let i = grid-row in
+        let to_number = front-more first number low in
+        let rises = front-rises-by-one first (omega arith) in
+        record {
+          there = omega arith;
+          begun = elim enough_up [
+            | inl some ↦ omega arith
+            | inr none ↦ (let z = ap (λ k. length (rows_of_texts tables width base (take k (paragraphs_in kept)))) none in omega arith)
+          ];
+          within = elim (cases_lt first number) [
+            | inl before ↦ (let n = needed before in let m = front-more (first + 1) number (omega arith) in omega arith)
+            | inr here ↦ (let e : first ≡ number = omega arith in let f = ap (λ k. length (rows_of_texts tables width base (take (k + 1) (paragraphs_in kept)))) e in let own = front-one number (omega arith) in let w = has.within in let c = has.count in omega arith)
+          ];
+        }
+
+    -- and its last row one of the last
+    pub bottom-has : (number + 1 < end → length (rows_of_texts tables width base (slice_range (paragraphs_in kept) (number + 1) (end - 1))) < beyond + row + 1 - count)
+        → HasRow tables width base (paragraphs_in kept) (end - 1) (bottom_of place beyond (flat_map rows paras))
+    bottom-has needed =
+        let size = count-texts kept in
+        let i = grid-row in
+        let all = all-rows in
+        let w = has.within in
+        let c = has.count in
+        let own = front-one number (omega arith) in
+        let to_end = front-more (number + 1) end (omega arith) in
+        let rest = front-more end (length kept) last in
+        let last_one : (end - 1) + 1 ≡ end = omega arith in
+        let last_front = ap (λ k. length (rows_of_texts tables width base (take k (paragraphs_in kept)))) last_one in
+        let rises = front-rises-by-one (end - 1) (omega arith) in
+        record {
+          there = omega arith;
+          begun = elim (cases_lt (number + 1) end) [
+            | inl before ↦ (let n = needed before in let m = front-more (number + 1) (end - 1) (omega arith) in omega arith)
+            | inr here ↦ (let e : end - 1 ≡ number = omega arith in let f = ap (λ k. length (rows_of_texts tables width base (take k (paragraphs_in kept)))) e in omega arith)
+          ];
+          within = elim enough_down [
+            | inl some ↦ omega arith
+            | inr none ↦ (let z = ap (λ k. length (rows_of_texts tables width base (take k (paragraphs_in kept)))) none in omega arith)
+          ];
+        }
 
     pub window-cut : (s : Shown) → s.first ≡ first → s.skip ≡ up + row - above → s.count ≡ min (up + (count + down)) (up + row + beyond + 1) - (up + row - above)
         → s.number ≡ up + row - (up + row - above)

@@ -1,6 +1,6 @@
 -- What a document is seen as.
-use Rattle.std.specs.Prelude.{◌≡◌, ◌⊎◌, ℕ, Bool, true, false, List, [], refl, encode_utf8_all}
-use Rattle.std.specs.Coded.{Coded, code_by, coded×, coded_ℕ, coded_bool, coded_list}
+use Rattle.std.specs.Prelude.{◌≡◌, ◌⊎◌, ℕ, Bool, true, false, Option, List, refl, length, option_map, map as each, encode_utf8_all}
+use Rattle.std.specs.Coded.{Coded, code_by, coded×, coded_ℕ, coded_list, coded_option}
 use Rattle.bg_types.specs.declared.class.Base.{Base}
 use Rattle.bg_types.specs.contracts.class.Base.{the_row as base_row}
 use Rattle.unicode_tables.specs.Tables.{TableValues}
@@ -8,30 +8,35 @@ use Rattle.unicode_tables.specs.contracts.tables.Tables.{the_row as tables_row}
 use Rattle.bg_types.specs.OperationSet.{OperationSet}
 use Rattle.rga_tree.specs.TextOf.{text}
 use Rattle.desk_replica.specs.Desk.{Desk, coded_desk}
-use Rattle.text_buffer.specs.Buffers.{text_in}
+use Rattle.paragraphs.specs.Paragraphs.{paragraph_points}
+use Rattle.text_buffer.specs.Buffers.{KeptParagraph, text_in}
+use Rattle.text_buffer.specs.Edits.{anew}
 use Rattle.cell_grid.specs.Rows.{DrawnRow}
 use Rattle.cell_grid.specs.contracts.row.Row.{the_row as drawn_row}
 use Rattle.cell_grid.specs.Grids.{DrawnGrid, grid_of, grid_rows}
 use Rattle.cell_grid.specs.Windows.{DrawnWindow, window_of}
 use Rattle.live_document.specs.declared.shown.Shown.{Shown}
-use Rattle.live_document.specs.Keeping.{KeptText, IsKeptAt, flags}
+use Rattle.live_document.specs.Keeping.{Rows, KeptText, IsKeptAt}
 use Rattle.live_document.specs.Showing.{window_in, no_window, IsAtHand}
 
--- a document: its desk; the tables, the width and the base that it is drawn at; of which paragraphs of its text rows are
--- kept, none where the list ends; the window that is shown; how many paragraphs the last window took to lay out
+-- a document: its desk; the tables, the width and the base that it is drawn at; the paragraphs of its text, each with how many
+-- rows are kept of it, or nothing; the window that is shown; how many paragraphs the last window took to lay out
 pub record LiveDocument : Type 0 where
   pub desk : Desk
   pub tables : TableValues
   pub width : ℕ
   pub base : Base
-  pub kept : List Bool
+  pub paragraphs : List (KeptParagraph ℕ)
   pub window : DrawnWindow
   pub laid : ℕ
 
+abbrev pub counted : KeptParagraph Rows → KeptParagraph ℕ
+counted p = record { points = p.points; kept = option_map (λ (rows : Rows). length rows.items) p.kept }
+
 -- a document whose paragraphs are behind its desk keeps nothing
-abbrev pub kept_flags : (behind : Bool) → KeptText → List Bool
-kept_flags true kept = []
-kept_flags false kept = flags kept
+abbrev pub paragraphs_of : (behind : Bool) → TableValues → OperationSet → KeptText → List (KeptParagraph ℕ)
+paragraphs_of true tables set kept = each anew (paragraph_points tables (text set))
+paragraphs_of false tables set kept = each counted kept
 
 -- nothing, or the rows of *Grid* of a set of operations round a place
 abbrev pub IsWindowOf : OperationSet → TableValues → (width : ℕ) → Base → DrawnWindow → Type 0
@@ -61,18 +66,21 @@ window_round d place above below = window_of above below place (whole_rows d)
 abbrev pub shown_grid : LiveDocument → DrawnGrid
 shown_grid d = record { tables = d.tables; text = encode_utf8_all (text d.desk.set); rows = d.window.rows }
 
+abbrev pub paragraph_code : Coded (KeptParagraph ℕ)
+paragraph_code = code_by (List ℕ × Option ℕ) (coded× (coded_list coded_ℕ) (coded_option coded_ℕ)) (λ p. (p.points, p.kept)) (λ p. record { points = p.0; kept = p.1 }) (λ _. refl)
+
 -- a document is stored as the tuple of its parts
 abbrev pub live_code : Coded LiveDocument
 live_code =
-    code_by (Desk × (TableValues × (ℕ × (Base × (List Bool × ((List DrawnRow × ℕ) × ℕ))))))
-    (coded× coded_desk (coded× tables_row.coded (coded× coded_ℕ (coded× base_row.coded (coded× (coded_list coded_bool) (coded× (coded× (coded_list drawn_row.coded) coded_ℕ) coded_ℕ))))))
-    (λ d. (d.desk, (d.tables, (d.width, (d.base, (d.kept, ((d.window.rows, d.window.number), d.laid)))))))
+    code_by (Desk × (TableValues × (ℕ × (Base × (List (KeptParagraph ℕ) × ((List DrawnRow × ℕ) × ℕ))))))
+    (coded× coded_desk (coded× tables_row.coded (coded× coded_ℕ (coded× base_row.coded (coded× (coded_list paragraph_code) (coded× (coded× (coded_list drawn_row.coded) coded_ℕ) coded_ℕ))))))
+    (λ d. (d.desk, (d.tables, (d.width, (d.base, (d.paragraphs, ((d.window.rows, d.window.number), d.laid)))))))
     (λ p. record {
       desk = p.0;
       tables = p.1.0;
       width = p.1.1.0;
       base = p.1.1.1.0;
-      kept = p.1.1.1.1.0;
+      paragraphs = p.1.1.1.1.0;
       window = record { rows = p.1.1.1.1.1.0.0; number = p.1.1.1.1.1.0.1 };
       laid = p.1.1.1.1.1.1;
     })

@@ -1,6 +1,9 @@
 -- The modules of this crate's definitions.
 pub mod Keeping
 pub mod Showing
+pub mod Reading
 pub mod Taking
 pub mod Documents
+pub mod Cost
+pub mod Runs
 pub mod LawsBelow

@@ -1,6 +1,6 @@
 //! A text that a desk edits and that is shown by windows.
 
-ghost use Rattle.std.specs.Prelude.{◌≡◌, ◌≤◌, ◌<◌, ◌+◌, ◌-◌, ◌++◌, ℕ, Some, max, take, drop, length, slice_get, All, OnOk, OnErr, IfOk, IfErr, IsOk, string_bytes, encode_utf8_all, vec_len, vec_capacity};
+ghost use Rattle.std.specs.Prelude.{◌≡◌, ◌≤◌, ◌<◌, ◌+◌, ◌-◌, ◌++◌, false, Some, max, take, drop, length, slice_get, All, OnOk, OnErr, IfOk, IfErr, IsOk, is_err, string_bytes, encode_utf8_all, vec_len, vec_capacity};
 ghost use Rattle.std.specs.Str.{chars};
 ghost use Rattle.bg_types.specs.OperationSet.{size, next};
 ghost use Rattle.bg_types.specs.WellFormed.{IsWellFormed};
@@ -9,13 +9,16 @@ ghost use Rattle.desk_replica.specs.Desk.{fresh};
 ghost use Rattle.desk_replica.specs.Merging.{with_operations};
 ghost use Rattle.desk_replica.specs.Stretch.{typed_text, deletions, replacement, IsTextRefusal, IsTextRefused, IsRangeRefused, IsReplaceRefusal, IsReplaceRefused};
 ghost use Rattle.desk_replica.specs.declared.answer.TypeFault.{TypeFault as Untyped};
+ghost use Rattle.live_document.specs.Cost.{IsLaidOut, KeepsOthers};
 ghost use Rattle.live_document.specs.Documents.{window_round, IsDrawnAlike, IsWindowOf};
+ghost use Rattle.live_document.specs.Runs.{Types, Erases, Replaces, Resizes, Turns, Shows, IsCall};
 ghost use Rattle.live_document.specs.Showing.{no_window};
 
 mod positions;
 mod prints;
 mod taking;
 mod taking_all;
+mod typing;
 
 use crate::following::{buffer_of, catch_up, follow};
 use crate::keeping::forget_rows;
@@ -61,7 +64,7 @@ impl Model for Document {
 
     ghost coded = { live_code };
 
-    ghost use Rattle.live_document.specs.Documents.{kept_flags, IsLive};
+    ghost use Rattle.live_document.specs.Documents.{paragraphs_of, IsLive};
     ghost use Rattle.live_document.specs.Showing.{window_in};
 
     ghost view = { λ d. record {
@@ -69,7 +72,7 @@ impl Model for Document {
       tables = d.tables.value;
       width = d.width;
       base = d.base;
-      kept = kept_flags d.behind d.buffer;
+      paragraphs = paragraphs_of d.behind d.tables.value d.desk.set d.buffer;
       window = window_in d.buffer d.shown;
       laid = d.laid;
     } };
@@ -228,6 +231,8 @@ impl Document {
             → IfErr result (λ fault. fault ≡ TypeFault.Memory → self.old.desk.spare < length (chars characters.now)) }
         ensures drawn { IsDrawnAlike self.old self.new }
         ensures window { OnOk result (self.new.window ≡ no_window) }
+        ensures kept { OnOk result (KeepsOthers self.old.paragraphs self.new.paragraphs place place) }
+        ensures call { IsCall self.old (Types place (chars characters.now)) (is_err result) self.new }
     {
         self.desk.type_text(place, characters, made)?;
         self.behind = follow(
@@ -266,6 +271,8 @@ impl Document {
         ensures unpaid { vec_len made.old + (to - from) ≤ vec_capacity made.old → IfErr result (λ fault. fault ≡ TypeFault.Full) }
         ensures drawn { IsDrawnAlike self.old self.new }
         ensures window { OnOk result (self.new.window ≡ no_window) }
+        ensures kept { OnOk result (KeepsOthers self.old.paragraphs self.new.paragraphs from to) }
+        ensures call { IsCall self.old (Erases from to) (is_err result) self.new }
     {
         self.desk.erase_range(from, to, made)?;
         self.behind = follow(&self.tables, &mut self.buffer, self.behind, from, to, "");
@@ -300,6 +307,8 @@ impl Document {
             → IfErr result (λ fault. fault ≡ TypeFault.Memory → self.old.desk.spare < length (chars characters.now)) }
         ensures drawn { IsDrawnAlike self.old self.new }
         ensures window { OnOk result (self.new.window ≡ no_window) }
+        ensures kept { OnOk result (KeepsOthers self.old.paragraphs self.new.paragraphs from to) }
+        ensures call { IsCall self.old (Replaces from to (chars characters.now)) (is_err result) self.new }
     {
         self.desk.replace(from, to, characters, made)?;
         self.behind = follow(
@@ -323,6 +332,7 @@ impl Document {
         ensures tables { self.new.tables ≡ self.old.tables }
         ensures desk { self.new.desk ≡ self.old.desk }
         ensures window { self.new.window ≡ no_window }
+        ensures call { IsCall self.old (Resizes width) false self.new }
     {
         forget_rows(&mut self.buffer);
         self.width = width;
@@ -336,6 +346,7 @@ impl Document {
         ensures tables { self.new.tables ≡ self.old.tables }
         ensures desk { self.new.desk ≡ self.old.desk }
         ensures window { self.new.window ≡ no_window }
+        ensures call { IsCall self.old (Turns base) false self.new }
     {
         forget_rows(&mut self.buffer);
         self.base = base;
@@ -349,9 +360,12 @@ impl Document {
         requires above { above ≤ 1_000 }
         requires below { below ≤ 1_000 }
         ensures window { OnOk result (self.new.window ≡ window_round self.old place above below) }
+        // What has a row of it is laid out, unless it is kept.
+        ensures laid { OnOk result (IsLaidOut self.old self.new place above below) }
         ensures nothing { OnErr result (self.new.window ≡ no_window) }
         ensures desk { self.new.desk ≡ self.old.desk }
         ensures drawn { IsDrawnAlike self.old self.new }
+        ensures call { IsCall self.old (Shows place above below) (is_err result) self.new }
     {
         self.shown = Shown::nothing();
         catch_up(

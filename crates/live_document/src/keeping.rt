@@ -1,6 +1,6 @@
 //! Rows that are kept beside paragraphs.
 
-ghost use Rattle.std.specs.Prelude.{◌≡◌, ◌+◌, ◌≤◌, ◌<◌, ◌⊎◌, ℕ, [], true, All, length, not, get_or, slice_set, slice_range, count_by, IfOk, OnOk, OnErr, if◌then◌else◌};
+ghost use Rattle.std.specs.Prelude.{◌≡◌, ◌+◌, ◌-◌, ◌≤◌, ◌<◌, ◌⊎◌, ℕ, [], true, All, length, not, get_or, slice_set, slice_range, count_by, IfOk, OnOk, OnErr, if◌then◌else◌};
 ghost use Rattle.bg_types.specs.declared.class.Base.{Base};
 ghost use Rattle.unicode_tables.specs.Tables.{TableValues};
 ghost use Rattle.text_buffer.specs.Buffers.{paragraphs_in};
@@ -100,6 +100,8 @@ pub fn reach_up(
     ensures marked { IfOk result (λ reach. IsMarked (flags buffer.old) reach.number number (flags buffer.new)) }
     ensures rows { IfOk result (λ reach. reach.rows ≡ length (rows_of_texts tables.now width base (slice_range (paragraphs_in buffer.old) reach.number number))) }
     ensures enough { IfOk result (λ reach. (wanted ≤ reach.rows) ⊎ (reach.number ≡ 0)) }
+    ensures needed { IfOk result (λ reach. reach.number < number
+        → length (rows_of_texts tables.now width base (slice_range (paragraphs_in buffer.old) (reach.number + 1) number)) < wanted) }
     ensures few { IfOk result (λ reach. reach.rows ≤ 5_000_000) }
     ensures laid { IfOk result (λ reach. reach.laid ≡ count_by not (slice_range (flags buffer.old) reach.number number)) }
     ensures once { IfOk result (λ reach. reach.laid + reach.number ≤ number) }
@@ -140,6 +142,8 @@ pub fn reach_down(
     ensures marked { IfOk result (λ reach. IsMarked (flags buffer.old) number reach.number (flags buffer.new)) }
     ensures rows { IfOk result (λ reach. reach.rows ≡ length (rows_of_texts tables.now width base (slice_range (paragraphs_in buffer.old) number reach.number))) }
     ensures enough { IfOk result (λ reach. (wanted ≤ reach.rows) ⊎ (reach.number ≡ length buffer.old)) }
+    ensures needed { IfOk result (λ reach. number < reach.number
+        → length (rows_of_texts tables.now width base (slice_range (paragraphs_in buffer.old) number (reach.number - 1))) < wanted) }
     ensures few { IfOk result (λ reach. reach.rows ≤ 5_000_000) }
     ensures laid { IfOk result (λ reach. reach.laid ≡ count_by not (slice_range (flags buffer.old) number reach.number)) }
     ensures once { IfOk result (λ reach. reach.laid + number ≤ reach.number) }

@@ -4,8 +4,10 @@
 mod document;
 mod following;
 mod keeping;
+pub mod laws;
 mod laws_below;
 mod printing;
+mod reading;
 mod showing;
 mod shown;
 mod window;

@@ -5,6 +5,7 @@ ghost use Rattle.cell_grid.specs.Grids.{grid_rows};
 ghost use Rattle.cell_grid.specs.Windows.{window_of};
 ghost use Rattle.text_buffer.specs.Buffers.{paragraphs_in, text_in};
 ghost use Rattle.text_buffer.specs.Edits.{IsParagraphOf};
+ghost use Rattle.live_document.specs.Cost.{top_of, bottom_of, HasRow};
 ghost use Rattle.live_document.specs.Keeping.{flags, is_kept, IsKeptAt, IsMarked};
 ghost use Rattle.live_document.specs.Showing.{window_in, IsAtHand, IsRowOf};
 
@@ -92,7 +93,11 @@ pub fn lay_window_out(
     ensures window { IfOk result (λ outcome. window_in buffer.new outcome.shown
         ≡ window_of above below place (grid_rows tables.now width base (encode_utf8_all (text_in buffer.old)))) }
     ensures at_hand { IfOk result (λ outcome. IsAtHand buffer.new outcome.shown) }
-    ensures within { IfOk result (λ outcome. outcome.end ≤ length buffer.old) }
+    ensures order { IfOk result (λ outcome. outcome.shown.first < outcome.end) }
+    ensures top { IfOk result (λ outcome. HasRow tables.now width base (paragraphs_in buffer.old) outcome.shown.first
+        (top_of place above (grid_rows tables.now width base (encode_utf8_all (text_in buffer.old))))) }
+    ensures bottom { IfOk result (λ outcome. HasRow tables.now width base (paragraphs_in buffer.old) (outcome.end - 1)
+        (bottom_of place below (grid_rows tables.now width base (encode_utf8_all (text_in buffer.old))))) }
     ensures marked { IfOk result (λ outcome. IsMarked (flags buffer.old) outcome.shown.first outcome.end (flags buffer.new)) }
     ensures laid { IfOk result (λ outcome. outcome.laid ≡ count_by not (slice_range (flags buffer.old) outcome.shown.first outcome.end)) }
 {

@@ -1,17 +1,19 @@
 //! A window over the rows that a document keeps.
 
-ghost use Rattle.std.specs.Prelude.{◌≡◌, ◌+◌, ◌<◌, ℕ, Some, drop, length, slice_get, IfOk};
+ghost use Rattle.std.specs.Prelude.{◌≡◌, ◌+◌, ◌<◌, ℕ, Some, take, drop, length, slice_get, IfOk};
 ghost use Rattle.live_document.specs.Keeping.{rows_at};
 ghost use Rattle.live_document.specs.Showing.{rows_from, window_in, IsReadable};
+ghost use Rattle.live_document.specs.Reading.{IsReading};
 
 use crate::keeping::kept_rows;
 use crate::laws_below::laws_below;
+use crate::reading::{go_to_row, rows_under};
 use crate::shown::Shown;
 use bg_types::Memory;
 use cell_grid::{Cells, Entry, Row, Span};
 use std::alloc::Global;
 use std::marker::Model;
-use text_buffer::Buffer;
+use text_buffer::{Buffer, Cursor};
 
 /// The rows round a place, as `Document::show` laid them out. It borrows the document and copies nothing.
 #[derive(Drop)]
@@ -77,25 +79,25 @@ impl<'a> Window<'a> {
     }
 
     /// Its rows from the top.
-    #[inline]
     pub fn rows(&self) -> WindowRows<'a>
         ensures { result ≡ self.now.rows }
     {
+        // The text has no more bytes than it may.
+        let _bytes = self.buffer.bytes();
+        let top = top_of(self.buffer, self.shown);
         WindowRows {
-            buffer: self.buffer,
-            number: self.shown.first,
-            row: self.shown.skip,
+            cursor: self.buffer.cursor(top.number),
+            row: top.row,
             left: self.shown.count,
         }
     }
 }
 
-/// Iterates over the rows of a window, from the top. Takes no memory.
+/// Iterates over the rows of a window, from the top, by steps of O(1). Takes no memory.
 #[derive(Drop)]
 pub struct WindowRows<'a> {
-    buffer: &'a Buffer<Vec<Row>>,
-    /// The number of the paragraph from which the rows are counted.
-    number: usize,
+    /// At the paragraph from which the rows are counted.
+    cursor: Cursor<'a, Vec<Row>>,
     /// How many rows from there on stand above the next one.
     row: usize,
     /// How many are still to come.
@@ -109,11 +111,12 @@ impl<'a> Model for WindowRows<'a> {
     // The rows still to come.
     ghost Value = { List DrawnRow };
 
-    ghost use Rattle.live_document.specs.Showing.{rows_from, IsReadable};
+    ghost use Rattle.live_document.specs.Showing.{rows_from};
+    ghost use Rattle.live_document.specs.Reading.{IsReading};
 
-    ghost view = { λ s. take s.left (drop s.row (rows_from s.buffer.now s.number)) };
+    ghost view = { λ s. take s.left (drop s.row (rows_from s.cursor.paragraphs s.cursor.number)) };
 
-    ghost invariant = { λ s. IsReadable s.buffer.now s.number s.row s.left };
+    ghost invariant = { λ s. IsReading s.cursor s.row s.left };
 }
 
 impl<'a> Iterator for WindowRows<'a> {
@@ -129,13 +132,43 @@ impl<'a> Iterator for WindowRows<'a> {
         if self.left == 0 {
             return None;
         }
-        let buffer = self.buffer;
-        let spot = spot_of(buffer, self.number, self.row);
-        let row = row_there(buffer, spot);
-        self.number = spot.number;
-        self.row = spot.row + 1;
+        let number = go_to_row(&mut self.cursor, self.row);
+        let row = row_under(&self.cursor, number);
+        self.row = number + 1;
         self.left -= 1;
         Some(row)
+    }
+}
+
+/// Where the rows that are shown begin. Where there are none, the text does.
+fn top_of(buffer: &Buffer<Vec<Row>>, shown: Shown) -> Spot
+    requires { IsReadable buffer.now shown.first shown.skip shown.count }
+    ensures within { result.number < length buffer.now }
+    ensures readable { IsReadable buffer.now result.number result.row shown.count }
+    ensures same { take shown.count (drop result.row (rows_from buffer.now result.number)) ≡ take shown.count (drop shown.skip (rows_from buffer.now shown.first)) }
+{
+    if shown.count == 0 {
+        return Spot { number: 0, row: 0 };
+    }
+    Spot {
+        number: shown.first,
+        row: shown.skip,
+    }
+}
+
+/// A row of a cursor's paragraph, where it stands in the text.
+fn row_under<'a>(cursor: &Cursor<'a, Vec<Row>>, row: usize) -> WindowRow<'a>
+    requires reading { (left : ℕ) × IsReading cursor.now row left }
+    requires inside { row < length (rows_at cursor.now.paragraphs cursor.now.number) }
+    ensures { slice_get (rows_from cursor.now.paragraphs cursor.now.number) row ≡ Some result }
+{
+    laws_below();
+    let para = cursor.paragraph();
+    let rows = rows_under(cursor);
+    WindowRow {
+        row: &rows[row],
+        bytes: para.first_byte() as u32,
+        places: para.first_place() as u32,
     }
 }
 

@@ -1,13 +1,15 @@
 //! Taking one operation or all of another desk, and telling what that changes in the text.
 
-ghost use Rattle.std.specs.Prelude.{◌≡◌, ◌≤◌, ◌<◌, ◌+◌, ℕ, OnOk, OnErr, IfOk, IfErr, IsOk, MatchResult, vec_len, vec_capacity};
+ghost use Rattle.std.specs.Prelude.{◌≡◌, ◌≤◌, ◌<◌, ◌+◌, ℕ, drop, length, OnOk, OnErr, IfOk, IfErr, IsOk, is_err, MatchResult, vec_len, vec_capacity};
 ghost use Rattle.bg_types.specs.OperationSet.{Agree, Holds, size, union, with_operation};
 ghost use Rattle.bg_types.specs.declared.op.OpView.{OpView as View};
 ghost use Rattle.desk_replica.specs.declared.answer.TakeFault.{TakeFault as Fault};
 ghost use Rattle.desk_replica.specs.Reply.{IsTaken, IsRefused, IsRefusal, IsHiding};
 ghost use Rattle.desk_replica.specs.Merging.{IsMergeRefusal, IsMergeRefused};
 ghost use Rattle.desk_replica.specs.Telling.{IsTold, IsUntaken, TellsAtMost, waiting_count};
+ghost use Rattle.live_document.specs.Cost.{IsBare, KeepsUnchanged, KeepsUntouched};
 ghost use Rattle.live_document.specs.Documents.{IsDrawnAlike};
+ghost use Rattle.live_document.specs.Runs.{Takes, Merges, IsCall};
 ghost use Rattle.live_document.specs.Showing.{no_window};
 
 use super::{Desk, Document};
@@ -30,6 +32,8 @@ impl Document {
         ensures unpaid { IfErr result (λ fault. fault ≡ TakeFault.Memory → self.old.desk.spare ≡ 0) }
         ensures drawn { IsDrawnAlike self.old self.new }
         ensures window { OnOk result (self.new.window ≡ no_window) }
+        ensures kept { OnOk result (KeepsUntouched self.old self.new) }
+        ensures call { IsCall self.old (Takes op.now) (is_err result) self.new }
     {
         let mut changes = Vec::new(self.alloc);
         match self.take_telling(op, &mut changes) {
@@ -55,6 +59,8 @@ impl Document {
             → IfErr result (λ fault. fault ≡ TakeFault.Memory → (self.old.desk.spare ≡ 0) × (¬ (IsHiding self.old.desk.set op.now))) }
         ensures drawn { IsDrawnAlike self.old self.new }
         ensures window { OnOk result (self.new.window ≡ no_window) }
+        ensures kept { OnOk result (KeepsUnchanged self.old.paragraphs self.new.paragraphs (drop (length changes.old.items) changes.new.items)) }
+        ensures call { IsCall self.old (Takes op.now) (is_err result) self.new }
     {
         told_changes();
         let told = changes.len();
@@ -81,6 +87,7 @@ impl Document {
         ensures unpaid { IfErr result (λ fault. fault ≡ TakeFault.Memory → self.old.desk.spare ≡ 0) }
         ensures drawn { IsDrawnAlike self.old self.new }
         ensures window { OnOk result (self.new.window ≡ no_window) }
+        ensures kept { OnOk result (IsBare self.new.paragraphs) }
     {
         let taken = self.desk.take(op)?;
         self.behind = true;
@@ -103,6 +110,8 @@ impl Document {
         ensures unpaid { IfErr result (λ fault. fault ≡ TakeFault.Memory → self.old.desk.spare < size other.now.set) }
         ensures drawn { IsDrawnAlike self.old self.new }
         ensures window { self.new.window ≡ no_window }
+        ensures kept { KeepsUntouched self.old self.new }
+        ensures call { IsCall self.old (Merges other.now.set) (is_err result) self.new }
     {
         let mut changes = Vec::new(self.alloc);
         // Paid for first, so that the desk is refused no memory for what is told.
@@ -137,6 +146,8 @@ impl Document {
             → IfErr result (λ fault. fault ≡ TakeFault.Memory → self.old.desk.spare < size other.now.set) }
         ensures drawn { IsDrawnAlike self.old self.new }
         ensures window { self.new.window ≡ no_window }
+        ensures kept { KeepsUnchanged self.old.paragraphs self.new.paragraphs (drop (length changes.old.items) changes.new.items) }
+        ensures call { IsCall self.old (Merges other.now.set) (is_err result) self.new }
     {
         told_changes();
         let told = changes.len();
@@ -166,6 +177,7 @@ impl Document {
         ensures unpaid { IfErr result (λ fault. fault ≡ TakeFault.Memory → self.old.desk.spare < size other.now.set) }
         ensures drawn { IsDrawnAlike self.old self.new }
         ensures window { self.new.window ≡ no_window }
+        ensures kept { IsBare self.new.paragraphs }
     {
         let outcome = self.desk.merge(other);
         self.behind = true;

@@ -5,6 +5,7 @@ ghost use Rattle.bg_types.specs.Edit.{IsEdit};
 ghost use Rattle.rga_tree.specs.TextOf.{text};
 ghost use Rattle.desk_replica.specs.Reply.{IsTake};
 ghost use Rattle.desk_replica.specs.Telling.{IsTold};
+ghost use Rattle.live_document.specs.Cost.{IsBare, KeepsUnchanged};
 ghost use Rattle.live_document.specs.Documents.{IsDrawnAlike};
 ghost use Rattle.live_document.specs.Showing.{no_window};
 ghost use Rattle.live_document.specs.Taking.{AreTaken, AreTold, IsRefusedNext};
@@ -42,6 +43,8 @@ impl Document {
         ensures none { result.taken ≡ 0 → self.new ≡ self.old }
         ensures drawn { IsDrawnAlike self.old self.new }
         ensures window { 0 < result.taken → self.new.window ≡ no_window }
+        ensures kept { result.told ≡ true → KeepsUnchanged self.old.paragraphs self.new.paragraphs (drop (length changes.old.items) changes.new.items) }
+        ensures bare { result.told ≡ false → IsBare self.new.paragraphs }
     {
         told_changes();
         let told = changes.len();

@@ -2,7 +2,7 @@
 use Rattle.std.proofs.Common.{ℕ, List, length, subst}
 use Rattle.std.proofs.lemmas.Str.{chars-nil}
 use Rattle.bidigrid_c.specs.Desks.{IsReplaced, IsRefusedExchange}
-use Rattle.bidigrid_c.proofs.Erased.{erased_stretch}
+use Rattle.bidigrid_c.proofs.Erased.{erased_stretch, not_erased}
 use Rattle.bidigrid_c.proofs.document_edits.erase_in.Goals as goal
 
 pub returns-clause-ok : goal.returns-clause-ok
@@ -20,4 +20,5 @@ pub returns-clause-fault : goal.returns-clause-fault
 returns-clause-fault c =
     let old = c.args.held.now.document.desk in
     let it = c.exchange_in in
-    λ fails. subst (λ (typed : List ℕ). IsRefusedExchange old.set c.args.from c.args.to (length typed) (length c.args.out.now) it.new.size it.result) chars-nil (it.ensures.fault fails)
+    λ fails. not_erased old c.args.from c.args.to (length c.args.out.now) it.new.size it.result
+    (subst (λ (typed : List ℕ). IsRefusedExchange old c.args.from c.args.to (length typed) (length c.args.out.now) it.new.size it.result) chars-nil (it.ensures.fault fails))

@@ -16,5 +16,5 @@ pub returns-clause-fault : goal.returns-clause-fault
 returns-clause-fault c =
     let old = c.args.desk.now in
     let it = c.exchange_in in
-    λ fails. not_erased old c.args.from c.args.to (length c.args.out.now) it.new.size it.result c.if-to-from-eq1.false
-    (subst (λ (typed : List ℕ). IsRefusedExchange old.set c.args.from c.args.to (length typed) (length c.args.out.now) it.new.size it.result) chars-nil (it.ensures.fault fails))
+    λ fails. not_erased old c.args.from c.args.to (length c.args.out.now) it.new.size it.result
+    (subst (λ (typed : List ℕ). IsRefusedExchange old c.args.from c.args.to (length typed) (length c.args.out.now) it.new.size it.result) chars-nil (it.ensures.fault fails))

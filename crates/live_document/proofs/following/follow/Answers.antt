@@ -1,5 +1,6 @@
 -- The edit was made, or refused.
 use Rattle.std.proofs.Common.{refl, sym, ◌∙◌}
+use Rattle.live_document.proofs.Cost.{of-ok}
 use Rattle.live_document.proofs.Followed.{on-ok, stays-after, stays-same}
 use Rattle.live_document.proofs.following.follow.Goals as goal
 
@@ -8,6 +9,9 @@ returns-then-behind-clause-kept c = stays-same c.args.tables.now c.args.buffer.n
 
 pub returns-clause-text : goal.returns-clause-text
 returns-clause-text c = λ made. on-ok c.edit.result (sym c.is_err.ensures.value ∙ made) c.edit.ensures.text
+
+pub returns-clause-touched : goal.returns-clause-touched
+returns-clause-touched c = λ made. of-ok c.edit.result (sym c.is_err.ensures.value ∙ made) c.edit.ensures.touched
 
 pub returns-clause-kept : goal.returns-clause-kept
 returns-clause-kept c =

@@ -9,6 +9,9 @@ returns-then-behind-clause-kept c = stays-same c.args.tables.now c.args.buffer.n
 pub returns-clause-text : goal.returns-clause-text
 returns-clause-text c = λ made. on-ok c.apply_all.result (sym c.is_err.ensures.value ∙ made) c.apply_all.ensures.text
 
+pub returns-clause-touched : goal.returns-clause-touched
+returns-clause-touched c = λ made. on-ok c.apply_all.result (sym c.is_err.ensures.value ∙ made) c.apply_all.ensures.touched
+
 pub returns-clause-kept : goal.returns-clause-kept
 returns-clause-kept c =
     stays-all c.args.tables.now c.args.buffer.now c.apply_all.new.self c.args.changes.now c.apply_all.result c.apply_all.ensures.touched c.apply_all.ensures.made_touched c.apply_all.ensures.split

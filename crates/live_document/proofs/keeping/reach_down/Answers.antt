@@ -1,7 +1,7 @@
 -- One paragraph more is laid out, behind those that are.
-use Rattle.std.proofs.Common.{◌≡◌, ◌<◌, ℕ, [], cond, length, get_or, refl, sym, ap, ◌∙◌, inr, arith}
+use Rattle.std.proofs.Common.{◌≡◌, ◌+◌, ◌-◌, ◌<◌, ℕ, [], cond, length, get_or, slice_range, refl, sym, ap, ◌∙◌, inr, arith}
 use Rattle.text_buffer.specs.Buffers.{paragraphs_in}
-use Rattle.live_document.specs.Keeping.{flags, is_kept, rows_of_text}
+use Rattle.live_document.specs.Keeping.{flags, is_kept, rows_of_text, rows_of_texts}
 use Rattle.live_document.proofs.Marks.{marked-none, marked-down, count-down, count-none, rows-down, rows-none, cond-most}
 use Rattle.live_document.proofs.Stretches.{count-texts, count-flags}
 use Rattle.live_document.proofs.keeping.reach_down.Goals as goal
@@ -15,6 +15,7 @@ loop-end-init c = record {
   within = omega arith;
   marked = marked-none (flags c.args.buffer.now) c.args.number;
   rows_are = sym (rows-none c.args.tables.now c.args.width c.args.base (paragraphs_in c.args.buffer.now) c.args.number);
+  needed = λ h. absurd (omega arith);
   few = omega arith;
   laid_are = sym (count-none (flags c.args.buffer.now) c.args.number);
   laid_few = omega arith;
@@ -46,6 +47,7 @@ loop-end-preserved c =
       within = omega arith;
       marked = marked-down (flags old) (flags now) (flags c.lay_out.new.buffer) c.args.number end h.marked e.marks within h.order;
       rows_are = omega (arith, h.rows_are, many, own);
+      needed = λ before. (let here : (end + 1) - 1 ≡ end = omega arith in let same = ap (λ n. length (rows_of_texts c.args.tables.now c.args.width c.args.base (slice_range texts c.args.number n))) here in omega (arith, h.rows_are, same));
       few = omega (arith, h.few, e.few);
       laid_are = omega (arith, h.laid_are, marks, laid);
       laid_few = omega (arith, h.laid_few, laid, cond-most (is_kept (flags old) end));

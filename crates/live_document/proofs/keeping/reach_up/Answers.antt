@@ -1,7 +1,7 @@
 -- One paragraph more is laid out, in front of those that are.
-use Rattle.std.proofs.Common.{◌≡◌, ◌+◌, ◌-◌, ◌<◌, ℕ, [], cond, length, get_or, refl, sym, ap, ◌∙◌, inl, arith}
+use Rattle.std.proofs.Common.{◌≡◌, ◌+◌, ◌-◌, ◌<◌, ℕ, [], cond, length, get_or, slice_range, refl, sym, ap, ◌∙◌, inl, arith}
 use Rattle.text_buffer.specs.Buffers.{paragraphs_in}
-use Rattle.live_document.specs.Keeping.{flags, is_kept, rows_of_text}
+use Rattle.live_document.specs.Keeping.{flags, is_kept, rows_of_text, rows_of_texts}
 use Rattle.live_document.proofs.Marks.{marked-none, marked-up, count-up, count-none, rows-up, rows-none, cond-most}
 use Rattle.live_document.proofs.Stretches.{count-texts, count-flags}
 use Rattle.live_document.proofs.keeping.reach_up.Goals as goal
@@ -13,6 +13,7 @@ loop-first-init c = record {
   order = omega arith;
   marked = marked-none (flags c.args.buffer.now) c.args.number;
   rows_are = sym (rows-none c.args.tables.now c.args.width c.args.base (paragraphs_in c.args.buffer.now) c.args.number);
+  needed = λ h. absurd (omega arith);
   few = omega arith;
   laid_are = sym (count-none (flags c.args.buffer.now) c.args.number);
   laid_few = omega arith;
@@ -44,6 +45,7 @@ loop-first-preserved c =
       order = omega arith;
       marked = marked-up (flags old) (flags now) (flags c.lay_out.new.buffer) from first c.args.number next h.marked e.marks within (omega arith);
       rows_are = omega (arith, h.rows_are, many, own);
+      needed = λ before. (let same = ap (λ n. length (rows_of_texts c.args.tables.now c.args.width c.args.base (slice_range texts n c.args.number))) next in omega (arith, h.rows_are, same));
       few = omega (arith, h.few, e.few);
       laid_are = omega (arith, h.laid_are, marks, laid);
       laid_few = omega (arith, h.laid_few, laid, cond-most (is_kept (flags old) first));

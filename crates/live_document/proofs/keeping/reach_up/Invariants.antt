@@ -1,5 +1,5 @@
 -- The paragraphs down to the number are laid out.
-use Rattle.std.proofs.Common.{◌≡◌, ◌+◌, ◌≤◌, length, not, count_by, slice_range}
+use Rattle.std.proofs.Common.{◌≡◌, ◌+◌, ◌<◌, ◌≤◌, length, not, count_by, slice_range}
 use Rattle.text_buffer.specs.Buffers.{paragraphs_in}
 use Rattle.live_document.specs.Keeping.{flags, rows_of_texts, IsKeptAt, IsMarked}
 use Rattle.live_document.proofs.keeping.reach_up.Given as goal
@@ -11,6 +11,7 @@ invariant-loop-first l = record {
   order : l.first ≤ l.number;
   marked : IsMarked (flags l.fn.buffer) l.first l.number (flags l.buffer);
   rows_are : l.rows ≡ length (rows_of_texts l.tables l.width l.base (slice_range (paragraphs_in l.fn.buffer) l.first l.number));
+  needed : l.first < l.number → length (rows_of_texts l.tables l.width l.base (slice_range (paragraphs_in l.fn.buffer) (l.first + 1) l.number)) < l.wanted;
   few : l.rows ≤ 5_000_000;
   laid_are : l.laid ≡ count_by not (slice_range (flags l.fn.buffer) l.first l.number);
   laid_few : l.laid + l.first ≤ l.number;

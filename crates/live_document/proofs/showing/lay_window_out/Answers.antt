@@ -1,18 +1,19 @@
 -- What was reached has the window.
-use Rattle.std.proofs.Common.{◌≡◌, ◌+◌, ◌≤◌, inl, inr, [], not, length, get_or, count_by, slice_range, sym, ap, subst, ◌∙◌, arith}
+use Rattle.std.proofs.Common.{◌≡◌, ◌+◌, ◌-◌, ◌≤◌, inl, inr, [], not, length, get_or, count_by, slice_range, sym, ap, subst, ◌∙◌, arith}
 use Rattle.std.proofs.lemmas.Option.{slice_get-get_or}
 use Rattle.std.specs.List.{concat}
 use Rattle.std.specs.Prelude.{encode_utf8_all}
 use Rattle.paragraphs.specs.Paragraphs.{Paragraph, paragraphs}
 use Rattle.cell_grid.specs.Grids.{grid_rows}
 use Rattle.cell_grid.specs.Windows.{window_of}
-use Rattle.text_buffer.specs.Buffers.{bytes_in, text_in}
+use Rattle.text_buffer.specs.Buffers.{bytes_in, paragraphs_in, text_in}
 use Rattle.text_buffer.specs.Edits.{IsParagraphOf}
+use Rattle.live_document.specs.Cost.{top_of, bottom_of, HasRow}
 use Rattle.live_document.specs.Keeping.{flags, rows_of_texts, IsMarked}
 use Rattle.live_document.specs.Showing.{window_in, IsRowOf}
 use Rattle.live_document.proofs.Marks.{marked-whole, laid-whole}
 use Rattle.live_document.proofs.Stretches.{count-texts, count-flags}
-use Rattle.live_document.proofs.Windows.{count-paras, window-cut}
+use Rattle.live_document.proofs.Windows.{count-paras, bottom-has, top-has, window-cut}
 use Rattle.live_document.proofs.showing.lay_window_out.Goals as goal
 
 pub overflow_add-own : goal.overflow_add-own
@@ -64,13 +65,29 @@ returns c =
     (elim ue.enough [ inl s ↦ inl (omega (arith, s, c.saturating_sub-wanted_up.ensures)) | inr n ↦ inr n ])
     (elim de.enough [ inl s ↦ inl (omega (arith, s, c.saturating_sub-wanted_down.ensures)) | inr n ↦ inr (omega (arith, n)) ])
     c.cut_out.result c.cut_out.ensures.first c.cut_out.ensures.skip c.cut_out.ensures.count c.cut_out.ensures.number in
+    let top = top-has c.laws_below.ensures T w base b3 de.kept b.utf8 few place above below own.number up.number down.number own.row own.rows up.rows down.rows
+    (get_or paras own.number d) is stands ue.order (omega (arith, de.order)) (omega (arith, de.within)) whole.inside has ups downs
+    (elim ue.enough [ inl s ↦ inl (omega (arith, s, c.saturating_sub-wanted_up.ensures)) | inr n ↦ inr n ])
+    (elim de.enough [ inl s ↦ inl (omega (arith, s, c.saturating_sub-wanted_down.ensures)) | inr n ↦ inr (omega (arith, n)) ])
+    (λ h. let same = ap (λ ts. length (rows_of_texts T w base (slice_range ts (up.number + 1) own.number))) (e01 ∙ sym e03) in
+    let n = ue.needed h in omega (arith, n, same, c.saturating_sub-wanted_up.ensures)) in
+    let bottom = bottom-has c.laws_below.ensures T w base b3 de.kept b.utf8 few place above below own.number up.number down.number own.row own.rows up.rows down.rows
+    (get_or paras own.number d) is stands ue.order (omega (arith, de.order)) (omega (arith, de.within)) whole.inside has ups downs
+    (elim ue.enough [ inl s ↦ inl (omega (arith, s, c.saturating_sub-wanted_up.ensures)) | inr n ↦ inr n ])
+    (elim de.enough [ inl s ↦ inl (omega (arith, s, c.saturating_sub-wanted_down.ensures)) | inr n ↦ inr (omega (arith, n)) ])
+    (λ h. let same = ap (λ ts. length (rows_of_texts T w base (slice_range ts (own.number + 1) (down.number - 1)))) (e02 ∙ sym e03) in
+    let n = de.needed h in omega (arith, n, same, c.saturating_sub-wanted_down.ensures)) in
     let shown = c.cut_out.result in
     record {
       kept = de.kept;
       paragraphs = e03;
       window = subst (λ ts. window_in b3 shown ≡ window_of above below place (grid_rows T w base (encode_utf8_all (concat ts)))) e03 cut.0;
       at_hand = cut.1;
-      within = omega (arith, de.within);
+      order = omega (arith, c.cut_out.ensures.first, ue.order, de.order);
+      top =
+          subst (λ n. HasRow T w base (paragraphs_in b0) n (top_of place above (grid_rows T w base (encode_utf8_all (text_in b0))))) (sym c.cut_out.ensures.first)
+          (subst (λ ts. HasRow T w base ts up.number (top_of place above (grid_rows T w base (encode_utf8_all (concat ts))))) e03 top);
+      bottom = subst (λ ts. HasRow T w base ts (down.number - 1) (bottom_of place below (grid_rows T w base (encode_utf8_all (concat ts))))) e03 bottom;
       marked = subst (λ n. IsMarked (flags b0) n down.number (flags b3)) (sym c.cut_out.ensures.first) whole;
       laid =
           laid-whole (flags b0) (flags b1) (flags b2) (flags b3) up.number own.number down.number (omega arith) ue.order (omega (arith, de.order)) oe.marks ue.marked de.marked

@@ -1,7 +1,13 @@
 -- The paragraphs follow the desk's text, or are behind it.
-use Rattle.std.proofs.Common.{chars, subst}
+use Rattle.std.proofs.Common.{◌-◌, chars, subst}
+use Rattle.std.specs.List.{All}
+use Rattle.bg_types.specs.WellFormed.{IsWellFormed}
+use Rattle.desk_replica.specs.Stretch.{replacement}
 use Rattle.unicode_tables.specs.Tables.{TableValues}
 use Rattle.live_document.specs.Keeping.{StaysKept}
+use Rattle.live_document.specs.Documents.{LiveDocument, paragraphs_of}
+use Rattle.live_document.specs.Cost.{KeepsOthers}
+use Rattle.live_document.proofs.Cost.{keeps-others}
 use Rattle.live_document.proofs.Followed.{live-followed}
 use Rattle.live_document.proofs.document.Document.replace.Goals as goal
 
@@ -12,3 +18,14 @@ invariant_of-self-2 c =
     let n = c.nothing-self-inside in
     live-followed i.desk c.replace.new.self i.tables.value i.width i.base i.behind f.result i.buffer f.new.buffer i.shown n.result c.args.from c.args.to (chars c.args.characters.now)
     c.self.invariant n.ensures (subst (λ (tables : TableValues). StaysKept tables i.buffer f.new.buffer) c.deref.ensures f.ensures.kept) f.ensures.before f.ensures.text c.in_ok-replace.ensures.replaced
+
+pub returns-clause-kept : goal.returns-clause-kept
+returns-clause-kept c =
+    let i = c.self.inside in
+    let f = c.follow-self-inside in
+    subst (λ (d : LiveDocument). KeepsOthers d.paragraphs (paragraphs_of f.result i.tables.value c.replace.new.self.set f.new.buffer) c.args.from c.args.to) c.self.view_is
+    (keeps-others i.tables.value i.desk.set c.replace.new.self.set i.buffer f.new.buffer i.behind f.result c.args.from c.args.to f.ensures.before f.ensures.touched)
+
+pub returns-clause-well_formed : goal.returns-clause-well_formed
+returns-clause-well_formed c =
+    subst (λ (d : LiveDocument). All IsWellFormed (replacement d.desk.set d.desk.site c.args.from (c.args.to - c.args.from) (chars c.args.characters.now))) c.self.view_is c.in_ok-replace.ensures.well_formed

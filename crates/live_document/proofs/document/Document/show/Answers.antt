@@ -1,7 +1,14 @@
 -- What is laid out is kept beside the paragraphs of the desk's text.
-use Rattle.std.proofs.Common.{sym, subst, ◌∙◌}
+use Rattle.std.proofs.Common.{ℕ, List, map, ap, ap₂, sym, subst, ◌∙◌}
+use Rattle.paragraphs.specs.Paragraphs.{paragraph_points}
+use Rattle.rga_tree.specs.TextOf.{text}
+use Rattle.text_buffer.specs.Buffers.{paragraphs_in}
 use Rattle.unicode_tables.specs.Tables.{TableValues}
-use Rattle.live_document.specs.Keeping.{IsKeptAt}
+use Rattle.live_document.specs.Cost.{top_of, bottom_of, unmarked, IsLaidOut}
+use Rattle.live_document.specs.Documents.{LiveDocument, counted}
+use Rattle.live_document.specs.Keeping.{is_kept, IsKeptAt}
+use Rattle.live_document.specs.Showing.{window_in}
+use Rattle.live_document.proofs.Cost.{marks-caught, marks-counted, row-alike, texts-counted, texts-live}
 use Rattle.live_document.proofs.document.Document.show.Goals as goal
 
 pub lay_window_out-requires-clause-kept : goal.lay_window_out-requires-clause-kept
@@ -9,3 +16,29 @@ lay_window_out-requires-clause-kept c =
     let i = c.self.inside in
     let before = subst (λ (tables : TableValues). IsKeptAt tables i.width i.base i.buffer) (sym c.deref.ensures) c.self.invariant.kept_at in
     subst (λ (tables : TableValues). IsKeptAt tables i.width i.base c.catch_up.new.buffer) (c.deref.ensures ∙ sym c.deref-2.ensures) (c.in_ok-catch_up.ensures.kept i.width i.base before)
+
+pub returns-clause-laid : goal.returns-clause-laid
+returns-clause-laid c =
+    let i = c.self.inside in
+    let o = c.in_ok-outcome.outcome in
+    let e = c.in_ok-outcome.ensures in
+    let caught = c.in_ok-catch_up.ensures in
+    let before = c.catch_up.new.buffer in
+    let after = c.lay_window_out.new.buffer in
+    let T = c.deref-2.result.now in
+    let old = subst (λ (tables : TableValues). IsKeptAt tables i.width i.base i.buffer) (sym c.deref.ensures) c.self.invariant.kept_at in
+    let split = (caught.kept i.width i.base old).split ∙ ap₂ (λ (t : TableValues) (ps : List ℕ). paragraph_points t ps) c.deref.ensures caught.text in
+    let texts = texts-counted after ∙ e.paragraphs ∙ split in
+    let new : LiveDocument = record { desk = i.desk; tables = i.tables.value; width = i.width; base = i.base; paragraphs = map counted after; window = window_in after o.shown; laid = o.laid } in
+    subst (λ (d : LiveDocument). IsLaidOut d new c.args.place c.args.above c.args.below) c.self.view_is
+    (record {
+      first = o.shown.first;
+      end = o.end;
+      order = e.order;
+      top = row-alike T i.tables.value i.width i.base (paragraphs_in before) _ _ (text i.desk.set) o.shown.first (top_of c.args.place c.args.above) e.top c.deref-2.ensures (sym (texts-counted after ∙ e.paragraphs)) caught.text;
+      bottom = row-alike T i.tables.value i.width i.base (paragraphs_in before) _ _ (text i.desk.set) _ (bottom_of c.args.place c.args.below) e.bottom c.deref-2.ensures (sym (texts-counted after ∙ e.paragraphs)) caught.text;
+      laid = e.laid ∙ ap (λ ms. unmarked ms o.shown.first o.end) (marks-caught i.behind i.tables.value i.desk.set i.buffer before caught.same caught.nothing split);
+      kept = λ k from to. ap (λ ms. is_kept ms k) (marks-counted after) ∙ e.marked.inside k from to;
+      texts = texts;
+      same = texts ∙ sym (texts-live i.desk i.tables.value i.width i.base i.behind i.buffer i.shown c.self.invariant);
+    })

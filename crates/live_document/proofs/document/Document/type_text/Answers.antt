@@ -3,9 +3,11 @@ use Rattle.std.proofs.Common.{chars, subst}
 use Rattle.std.specs.List.{All}
 use Rattle.bg_types.specs.WellFormed.{IsWellFormed}
 use Rattle.desk_replica.specs.Stretch.{typed_text}
-use Rattle.live_document.specs.Documents.{LiveDocument}
+use Rattle.live_document.specs.Documents.{LiveDocument, paragraphs_of}
+use Rattle.live_document.specs.Cost.{KeepsOthers}
 use Rattle.unicode_tables.specs.Tables.{TableValues}
 use Rattle.live_document.specs.Keeping.{StaysKept}
+use Rattle.live_document.proofs.Cost.{keeps-others}
 use Rattle.live_document.proofs.Followed.{live-followed}
 use Rattle.live_document.proofs.document.Document.type_text.Goals as goal
 
@@ -20,3 +22,10 @@ invariant_of-self-2 c =
 pub returns-clause-well_formed : goal.returns-clause-well_formed
 returns-clause-well_formed c =
     subst (λ (d : LiveDocument). All IsWellFormed (typed_text d.desk.set d.desk.site c.args.place (chars c.args.characters.now))) c.self.view_is c.in_ok-type_text.ensures.well_formed
+
+pub returns-clause-kept : goal.returns-clause-kept
+returns-clause-kept c =
+    let i = c.self.inside in
+    let f = c.follow-self-inside in
+    subst (λ (d : LiveDocument). KeepsOthers d.paragraphs (paragraphs_of f.result i.tables.value c.type_text.new.self.set f.new.buffer) c.args.place c.args.place) c.self.view_is
+    (keeps-others i.tables.value i.desk.set c.type_text.new.self.set i.buffer f.new.buffer i.behind f.result c.args.place c.args.place f.ensures.before f.ensures.touched)

@@ -1,38 +1,29 @@
 -- The row that is next, and those that are left then.
-use Rattle.std.proofs.Common.{length, take, sym, ap, ◌∙◌, arith}
-use Rattle.std.proofs.lemmas.List.{length-drop}
+use Rattle.std.proofs.Common.{take, sym, ap, ◌∙◌, arith}
 use Rattle.live_document.specs.Showing.{rows_from}
 use Rattle.live_document.proofs.Spots.{take-first}
+use Rattle.live_document.proofs.Cursors.{reading-on, reading-past}
 use Rattle.live_document.proofs.window.WindowRowsIterator.next.Goals as goal
 
-pub spot_of-spot-requires : goal.spot_of-spot-requires
-spot_of-spot-requires c = let enough = c.self.invariant.enough in omega arith
+pub go_to_row-number-requires : goal.go_to_row-number-requires
+go_to_row-number-requires c = let enough = c.self.invariant.readable.enough in omega arith
 
-pub row_there-row-requires-clause-readable : goal.row_there-row-requires-clause-readable
-row_there-row-requires-clause-readable c =
+pub row_under-row-requires-clause-reading : goal.row_under-row-requires-clause-reading
+row_under-row-requires-clause-reading c =
     let inside = c.self.inside in
-    let h = c.self.invariant in
-    let spot = c.spot_of-spot.result in
-    let e = c.spot_of-spot.ensures in
-    let same = ap length e.same in
-    let a = length-drop spot.row (rows_from inside.buffer.now spot.number) in
-    let b = length-drop inside.row (rows_from inside.buffer.now inside.number) in
-    (inside.left, record { tables = h.tables; width = h.width; base = h.base; kept_at = h.kept_at; enough = omega (arith, h.enough) })
+    let e = c.go_to_row-number.ensures in
+    (inside.left, reading-on inside.cursor c.go_to_row-number.new.cursor inside.row c.go_to_row-number.result inside.left c.self.invariant e.paragraphs e.same (omega arith))
 
 pub invariant_of-self : goal.invariant_of-self
 invariant_of-self c =
     let inside = c.self.inside in
-    let h = c.self.invariant in
-    let spot = c.spot_of-spot.result in
-    let e = c.spot_of-spot.ensures in
-    let same = ap length e.same in
-    let a = length-drop spot.row (rows_from inside.buffer.now spot.number) in
-    let b = length-drop inside.row (rows_from inside.buffer.now inside.number) in
-    record { tables = h.tables; width = h.width; base = h.base; kept_at = h.kept_at; enough = omega (arith, h.enough) }
+    let e = c.go_to_row-number.ensures in
+    reading-past c.go_to_row-number.new.cursor c.go_to_row-number.result inside.left
+    (reading-on inside.cursor c.go_to_row-number.new.cursor inside.row c.go_to_row-number.result inside.left c.self.invariant e.paragraphs e.same (omega arith)) (omega arith)
 
 pub returns-clause-steps : goal.returns-clause-steps
 returns-clause-steps c =
     let inside = c.self.inside in
-    let spot = c.spot_of-spot.result in
-    sym c.self.view_is ∙ ap (take inside.left) (sym c.spot_of-spot.ensures.same)
-    ∙ take-first (rows_from inside.buffer.now spot.number) spot.row inside.left c.row_there-row.result c.row_there-row.ensures (omega arith)
+    let at = c.go_to_row-number.new.cursor in
+    sym c.self.view_is ∙ ap (take inside.left) (sym c.go_to_row-number.ensures.same)
+    ∙ take-first (rows_from at.paragraphs at.number) c.go_to_row-number.result inside.left c.row_under-row.result c.row_under-row.ensures (omega arith)

@@ -1,0 +1,32 @@
+-- The paragraphs follow the desk's text, or are behind it.
+use Rattle.std.proofs.Common.{◌≡◌, ◌+◌, ◌++◌, suc, [], take, drop, ap, subst, ◌∙◌, arith}
+use Rattle.std.proofs.lemmas.Str.{chars-nil}
+use Rattle.unicode_tables.specs.Tables.{TableValues}
+use Rattle.rga_tree.specs.TextOf.{text}
+use Rattle.text_buffer.specs.Buffers.{text_in}
+use Rattle.text_buffer.specs.Edits.{replaced}
+use Rattle.live_document.specs.Cost.{KeepsOthers}
+use Rattle.live_document.specs.Documents.{LiveDocument, paragraphs_of}
+use Rattle.live_document.specs.Keeping.{StaysKept}
+use Rattle.live_document.proofs.Cost.{keeps-others}
+use Rattle.live_document.proofs.Followed.{live-followed}
+use Rattle.live_document.proofs.document.Document.erase_at.Goals as goal
+
+pub invariant_of-self-2 : goal.invariant_of-self-2
+invariant_of-self-2 c =
+    let i = c.self.inside in
+    let f = c.follow-self-inside in
+    let n = c.nothing-self-inside in
+    let place = c.args.place in
+    let next : suc place ≡ place + 1 = omega arith in
+    live-followed i.desk c.erase_at.new.self i.tables.value i.width i.base i.behind f.result i.buffer f.new.buffer i.shown n.result place (place + 1) []
+    c.self.invariant n.ensures (subst (λ (tables : TableValues). StaysKept tables i.buffer f.new.buffer) c.deref.ensures f.ensures.kept) f.ensures.before
+    (λ made. f.ensures.text made ∙ ap (replaced (text_in i.buffer) place (place + 1)) chars-nil)
+    (c.in_ok-op.ensures.op.text_is ∙ ap (λ k. take place (text i.desk.set) ++ drop k (text i.desk.set)) next)
+
+pub returns-clause-kept : goal.returns-clause-kept
+returns-clause-kept c =
+    let i = c.self.inside in
+    let f = c.follow-self-inside in
+    subst (λ (d : LiveDocument). KeepsOthers d.paragraphs (paragraphs_of f.result i.tables.value c.erase_at.new.self.set f.new.buffer) c.args.place (c.args.place + 1)) c.self.view_is
+    (keeps-others i.tables.value i.desk.set c.erase_at.new.self.set i.buffer f.new.buffer i.behind f.result c.args.place (c.args.place + 1) f.ensures.before f.ensures.touched)

@@ -1,0 +1,24 @@
+-- The paragraphs follow the desk's text, or are behind it.
+use Rattle.std.proofs.Common.{[], ◌∷◌, subst}
+use Rattle.unicode_tables.specs.Tables.{TableValues}
+use Rattle.live_document.specs.Cost.{KeepsOthers}
+use Rattle.live_document.specs.Documents.{LiveDocument, paragraphs_of}
+use Rattle.live_document.specs.Keeping.{StaysKept}
+use Rattle.live_document.proofs.Cost.{keeps-others}
+use Rattle.live_document.proofs.Followed.{live-followed}
+use Rattle.live_document.proofs.document.Document.type_char.Goals as goal
+
+pub invariant_of-self-2 : goal.invariant_of-self-2
+invariant_of-self-2 c =
+    let i = c.self.inside in
+    let f = c.follow_typed-self-inside in
+    let n = c.nothing-self-inside in
+    live-followed i.desk c.type_char.new.self i.tables.value i.width i.base i.behind f.result i.buffer f.new.buffer i.shown n.result c.args.place c.args.place (c.args.ch ∷ [])
+    c.self.invariant n.ensures (subst (λ (tables : TableValues). StaysKept tables i.buffer f.new.buffer) c.deref.ensures f.ensures.kept) f.ensures.before f.ensures.text c.in_ok-op.ensures.typed.text_is
+
+pub returns-clause-kept : goal.returns-clause-kept
+returns-clause-kept c =
+    let i = c.self.inside in
+    let f = c.follow_typed-self-inside in
+    subst (λ (d : LiveDocument). KeepsOthers d.paragraphs (paragraphs_of f.result i.tables.value c.type_char.new.self.set f.new.buffer) c.args.place c.args.place) c.self.view_is
+    (keeps-others i.tables.value i.desk.set c.type_char.new.self.set i.buffer f.new.buffer i.behind f.result c.args.place c.args.place f.ensures.before f.ensures.touched)

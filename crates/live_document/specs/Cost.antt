@@ -1,0 +1,79 @@
+-- What a window takes to lay out, and what changes leave of what is kept.
+use Rattle.std.specs.Prelude.{◌≡◌, ◌⊎◌, ◌+◌, ◌-◌, ◌<◌, ◌≤◌, ◌++◌, ℕ, Bool, true, false, not, min, is_some, List, [], ◌∷◌, length, take, drop, replicate, map as each, count_by, slice_range}
+use Rattle.bg_types.specs.declared.change.Change.{Change}
+use Rattle.bg_types.specs.declared.class.Base.{Base}
+use Rattle.unicode_tables.specs.Tables.{TableValues}
+use Rattle.paragraphs.specs.Paragraphs.{paragraph_points}
+use Rattle.cell_grid.specs.Rows.{DrawnRow}
+use Rattle.cell_grid.specs.Windows.{row_at}
+use Rattle.rga_tree.specs.TextOf.{text}
+use Rattle.desk_replica.specs.Telling.{IsTold}
+use Rattle.text_buffer.specs.Buffers.{KeptParagraph, paragraphs_in}
+use Rattle.text_buffer.specs.Edits.{anew, IsTouched, AreTouched, Step}
+use Rattle.text_buffer.specs.declared.touched.Touched.{Touched}
+use Rattle.live_document.specs.Documents.{LiveDocument, whole_rows}
+use Rattle.live_document.specs.Keeping.{rows_of_texts, is_kept}
+
+-- ---- a window
+
+-- the numbers of the first and the last of the rows from so many above the row of a place to so many below it
+abbrev pub top_of : (place above : ℕ) → List DrawnRow → ℕ
+top_of place above rows = row_at rows place - above
+
+abbrev pub bottom_of : (place below : ℕ) → List DrawnRow → ℕ
+bottom_of place below rows = min (length rows) (row_at rows place + below + 1) - 1
+
+-- the paragraph with this number has the row with that one
+pub record HasRow (tables : TableValues) (width : ℕ) (base : Base) (texts : List (List ℕ)) (number row : ℕ) : Type 0 where
+  pub there : number < length texts
+  pub begun : length (rows_of_texts tables width base (take number texts)) ≤ row
+  pub within : row < length (rows_of_texts tables width base (take (number + 1) texts))
+
+-- paragraphs are marked of which rows are kept
+abbrev pub marks : List (KeptParagraph ℕ) → List Bool
+marks paragraphs = each (λ (p : KeptParagraph ℕ). is_some p.kept) paragraphs
+
+-- how many of those from one number up to another have no mark
+abbrev pub unmarked : List Bool → (from to : ℕ) → ℕ
+unmarked ms from to = count_by not (slice_range ms from to)
+
+-- a window was laid out: its rows are those of the paragraphs from `first` up to `end`; so many of these were laid out as were
+-- not kept, and all of them are kept now
+pub record IsLaidOut (old new : LiveDocument) (place above below : ℕ) : Type 0 where
+  pub first : ℕ
+  pub end : ℕ
+  pub order : first < end
+  pub top : HasRow new.tables new.width new.base (paragraphs_in new.paragraphs) first (top_of place above (whole_rows new))
+  pub bottom : HasRow new.tables new.width new.base (paragraphs_in new.paragraphs) (end - 1) (bottom_of place below (whole_rows new))
+  pub laid : new.laid ≡ unmarked (marks old.paragraphs) first end
+  pub kept : (k : ℕ) → first ≤ k → k < end → is_kept (marks new.paragraphs) k ≡ true
+  pub texts : paragraphs_in new.paragraphs ≡ paragraph_points new.tables (text new.desk.set)
+  pub same : paragraphs_in new.paragraphs ≡ paragraphs_in old.paragraphs
+
+-- ---- changes
+
+-- nothing is kept of any paragraph
+abbrev pub IsBare : List (KeptParagraph ℕ) → Type 0
+IsBare paragraphs = paragraphs ≡ each anew (paragraphs_in paragraphs)
+
+-- an edit made the paragraphs anew that it met, and what is kept of the others stays; or there was no memory for that
+abbrev pub KeepsOthers : (old new : List (KeptParagraph ℕ)) → (from to : ℕ) → Type 0
+KeepsOthers old new from to = IsBare new ⊎ ((touched : Touched) × IsTouched old from to touched new)
+
+-- so did changes, one after the other
+abbrev pub KeepsUnchanged : (old new : List (KeptParagraph ℕ)) → List Change → Type 0
+KeepsUnchanged old new changes = IsBare new ⊎ AreTouched old changes new
+
+-- so did those that are told of what a desk took
+abbrev pub KeepsUntouched : (old new : LiveDocument) → Type 0
+KeepsUntouched old new = IsBare new.paragraphs ⊎ ((changes : List Change) × IsTold old.desk.set new.desk.set [] changes × AreTouched old.paragraphs changes new.paragraphs)
+
+-- marks after edits: what these make anew has none
+abbrev pub carried : List Step → List Bool → List Bool
+carried [] ms = ms
+carried (step ∷ steps) ms =
+    carried steps (take step.touched.first ms ++ (replicate step.touched.new false ++ drop (step.touched.first + step.touched.old) ms))
+
+-- of so many paragraphs those from one number up to another are marked
+abbrev pub stretch_marks : (from to count : ℕ) → List Bool
+stretch_marks from to count = replicate from false ++ (replicate (to - from) true ++ replicate (count - to) false)

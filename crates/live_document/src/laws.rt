@@ -1,0 +1,29 @@
+//! Laws of the definitions: each function's contract is the law, and its body does nothing.
+
+ghost use Rattle.std.specs.Prelude.{◌≡◌, ◌≤◌, ℕ, false, List, length};
+ghost use Rattle.text_buffer.specs.Edits.{Step, IsTouchedInTurn};
+ghost use Rattle.live_document.specs.Cost.{unmarked, carried, stretch_marks, IsLaidOut};
+ghost use Rattle.live_document.specs.Documents.{LiveDocument, IsWindowOf};
+ghost use Rattle.live_document.specs.Runs.{DocumentCall, Shows, IsCall, IsRun};
+ghost use Rattle.live_document.specs.Showing.{no_window};
+
+/// The live law. After any calls of a document that showed nothing at first, what is shown is nothing, or the rows of *Grid* of
+/// the text of the operations that its desk holds, round a place. Two documents that hold the same operations, whatever came in
+/// which order, and are drawn alike show the same rows at the same place.
+pub fn live_law()
+    ensures of_now { (start now : LiveDocument) (calls : List DocumentCall) → start.window ≡ no_window → IsRun start calls now
+        → IsWindowOf now.desk.set now.tables now.width now.base now.window }
+    ensures same_rows { (one other one_shown other_shown : LiveDocument) (place above below : ℕ) → one.desk.set ≡ other.desk.set
+        → one.tables ≡ other.tables → one.width ≡ other.width → one.base ≡ other.base
+        → IsCall one (Shows place above below) false one_shown → IsCall other (Shows place above below) false other_shown
+        → one_shown.window ≡ other_shown.window }
+{}
+
+/// The cost law. After a window was laid out and then edits came, the next window, there or elsewhere, lays out at most those of
+/// its paragraphs that an edit made anew, and those that had no row in the window before.
+pub fn cost_law()
+    ensures { (before shown changed after : LiveDocument) (steps : List Step) (place above below later_place later_above later_below : ℕ)
+        → (one : IsLaidOut before shown place above below) → IsTouchedInTurn shown.paragraphs steps changed.paragraphs
+        → (two : IsLaidOut changed after later_place later_above later_below)
+        → after.laid ≤ unmarked (carried steps (stretch_marks one.first one.end (length shown.paragraphs))) two.first two.end }
+{}
