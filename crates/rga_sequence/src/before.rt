@@ -21,8 +21,8 @@ pub fn count_before(blocks: &[Block], sums: &[usize], b: usize, at: usize) -> us
 
 /// How many visible elements stand before block b: what the sums tell of the blocks before its neighbours, and the headers
 /// of those before it.
-fn before_block(blocks: &[Block], sums: &[usize], b: usize) -> usize
-    requires block { b < length blocks.now }
+pub fn before_block(blocks: &[Block], sums: &[usize], b: usize) -> usize
+    requires block { b ≤ length blocks.now }
     requires sums { AreSums sums.now (items_of blocks.now) }
     requires few { seen_all (items_of blocks.now) < 2 ^ 64 }
     ensures { result ≡ seen_all (take b (items_of blocks.now)) }

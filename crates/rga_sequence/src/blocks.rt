@@ -122,7 +122,8 @@ impl Look for Blocks {
     }
 
     fn headers(&mut self, from: usize, to: usize) -> usize {
-        counted::headers(&self.row.blocks[from..to], &mut self.looks)
+        let row = &self.row;
+        counted::headers(&row.blocks, &row.sums, from, to, &mut self.looks)
     }
 
     fn element(&mut self, b: usize, j: usize) -> Element {

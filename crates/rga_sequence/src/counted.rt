@@ -1,9 +1,11 @@
 //! Counts of visible elements. Each look is counted where it is taken.
 
-ghost use Rattle.std.specs.Prelude.{◌≡◌, ◌+◌, ◌-◌, ◌*◌, ◌^◌, ◌<◌, ◌≤◌, length, take, drop};
+ghost use Rattle.std.specs.Prelude.{◌≡◌, ◌+◌, ◌-◌, ◌^◌, ◌<◌, ◌≤◌, length, take, drop};
 ghost use Rattle.rga_sequence.specs.BlockRows.{items_of};
 ghost use Rattle.rga_sequence.specs.Blocks.{seen, seen_all};
+ghost use Rattle.rga_sequence.specs.Sums.{AreSums};
 
+use crate::before::before_block;
 use crate::block::Block;
 use rga_tree::Element;
 
@@ -18,20 +20,19 @@ pub fn header(block: &Block, looks: &mut u64) -> usize
     block.visible
 }
 
-/// How many elements of these blocks are visible. The header of each is looked at.
-pub fn headers(blocks: &[Block], looks: &mut u64) -> usize
-    requires few { 512 * length blocks.now < 2 ^ 64 }
-    requires room { looks.old + length blocks.now < 2 ^ 64 }
-    ensures visible { result ≡ seen_all (items_of blocks.now) }
-    ensures looks { looks.new ≡ looks.old + length blocks.now }
+/// How many elements of the blocks from one up to another, which is left out, are visible. Neighbours that have a sum are
+/// passed in one step, which is as many looks as they have headers.
+pub fn headers(blocks: &[Block], sums: &[usize], from: usize, to: usize, looks: &mut u64) -> usize
+    requires order { from ≤ to }
+    requires there { to ≤ length blocks.now }
+    requires sums { AreSums sums.now (items_of blocks.now) }
+    requires few { seen_all (items_of blocks.now) < 2 ^ 64 }
+    requires room { looks.old + (to - from) < 2 ^ 64 }
+    ensures visible { result ≡ seen_all (take (to - from) (drop from (items_of blocks.now))) }
+    ensures looks { looks.new ≡ looks.old + (to - from) }
 {
-    let mut visible = 0;
-    let mut read = 0;
-    for block in blocks {
-        visible += header(block, &mut read);
-    }
-    *looks += read;
-    visible
+    *looks += (to - from) as u64;
+    before_block(blocks, sums, to) - before_block(blocks, sums, from)
 }
 
 /// How many elements of a block, from one up to another, are visible, where in all `visible` are. Each is looked at; where
