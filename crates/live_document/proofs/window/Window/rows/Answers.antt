@@ -1,5 +1,5 @@
 -- They are those that are shown.
-use Rattle.std.proofs.Common.{take, drop, sym, ap, ap₂, ◌∙◌, arith}
+use Rattle.std.proofs.Common.{take, drop, ap, ap₂, ◌∙◌, arith}
 use Rattle.cell_grid.specs.Windows.{DrawnWindow}
 use Rattle.live_document.specs.Showing.{rows_from}
 use Rattle.live_document.proofs.Cursors.{reading-at}
