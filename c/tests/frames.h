@@ -7,6 +7,17 @@
 
 #define MOST_TEXT 100000
 
+static inline bool is_one_of(uint32_t answer, const uint32_t *some, size_t count)
+{
+    for (size_t at = 0; at < count; at++)
+        if (answer == some[at])
+            return true;
+    return false;
+}
+
+#define IS_ONE_OF(answer, ...)                                                                                         \
+    is_one_of(answer, (const uint32_t[]){__VA_ARGS__}, sizeof((const uint32_t[]){__VA_ARGS__}) / sizeof(uint32_t))
+
 typedef struct input {
     const uint8_t *at;
     size_t left;

@@ -1,6 +1,6 @@
 /* Positions of documents: where carets stand and how they move, compared with those of a picture of the whole text; and
  * wrong ones. */
-#include "check.h"
+#include "positions.h"
 
 static bidigrid_tables tables = BIDIGRID_NONE;
 
@@ -17,27 +17,6 @@ static uint32_t insert(bidigrid_document *document, const char *text)
 {
     uint8_t message[512];
     return bidigrid_document_insert(document, 0, text, strlen(text), message, sizeof message, NULL);
-}
-
-typedef uint32_t (*moves_position)(bidigrid_document *document, bidigrid_position *position);
-typedef uint32_t (*moves_caret)(const bidigrid_picture *picture, bidigrid_caret *caret);
-
-static const moves_position MOVES[] = {bidigrid_position_right, bidigrid_position_left, bidigrid_position_up,
-                                       bidigrid_position_down};
-static const moves_caret MOVES_DRAWN[] = {bidigrid_caret_right, bidigrid_caret_left, bidigrid_caret_up,
-                                          bidigrid_caret_down};
-
-static bool is_at(bidigrid_position position, size_t row, size_t gap, size_t place)
-{
-    return position.row == row && position.gap == gap && position.place == place;
-}
-
-/* Whether a position is that of a picture's caret, whose row is told by its first place. */
-static bool is_caret(bidigrid_position position, const bidigrid_picture *picture, bidigrid_caret caret)
-{
-    bidigrid_row row;
-    CHECK(bidigrid_picture_row(picture, caret.row, &row) == BIDIGRID_OK);
-    return is_at(position, row.first_place, caret.gap, caret.place);
 }
 
 /* The position of each place, and each move from each gap, are those of a picture of the whole text. */
