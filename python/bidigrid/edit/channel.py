@@ -10,6 +10,8 @@ from .. import Identifier
 from .log import Log
 
 GONE_AFTER = 30.0  # seconds without a sign
+SNAPSHOT = "the snapshot"
+"""Who sends what stands for all that others have written."""
 
 
 class Message(NamedTuple):

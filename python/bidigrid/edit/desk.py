@@ -7,7 +7,7 @@ import time
 
 from .. import Document, Fault, Identifier
 from ..given import Base
-from .channel import Channel, Here, Message
+from .channel import SNAPSHOT, Channel, Here, Message
 from .fault import EditFault, reason
 from .frames import HEADER, operations, spelled, without_frame
 from .log import Log
@@ -138,6 +138,7 @@ class Desk:
                 return
             except Fault as fault:
                 self.notice = f"{message.sender}: {fault}; left out"
+                self.is_whole = self.is_whole and message.sender != SNAPSHOT
                 data = self.rest(data, fault)
         self.notice = f"{message.sender}: faulty again and again; left out"
 

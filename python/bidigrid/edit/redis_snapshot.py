@@ -4,7 +4,7 @@ from __future__ import annotations
 
 import re
 
-from .channel import Message
+from .channel import SNAPSHOT, Message
 from .redis_link import Link
 
 AFTER = 2000  # messages behind the last snapshot, after which the next one is kept
@@ -33,7 +33,7 @@ class Snapshot:
         if not is_later(link.call("HGET", self.key, "upto"), upto):
             return upto, []
         told, file = link.call("HMGET", self.key, "upto", "file")
-        return (told, [Message("the snapshot", file)]) if is_later(told, upto) and file else (upto, [])
+        return (told, [Message(SNAPSHOT, file)]) if is_later(told, upto) and file else (upto, [])
 
     def is_wanted(self, operations: int) -> bool:
         """Whether much came behind the last one, beside what the text has."""

@@ -46,7 +46,7 @@ def test_a_newcomer_reads_the_snapshot_and_the_tail(tmp_path: Path, server: Serv
     assert late.document.text == "teams!" and late.state() == "redis" and late.notice == ""
     store.hset(SNAPSHOT, "file", b"Dear all")
     later = over_redis(tmp_path / "later.bgop", server)
-    assert "the snapshot: 301 BadMagic" in later.notice
+    assert "the snapshot: 301 BadMagic" in later.notice and not later.is_whole and late.is_whole
     for desk in (one, late, later):
         desk.close()
 
