@@ -4,6 +4,8 @@ ghost use Rattle.std.specs.Prelude.{◌≡◌, ◌<◌, ◌≤◌, ◌+◌, ◌-
 ghost use Rattle.std.specs.Option.{IfSome};
 ghost use Rattle.std.specs.Str.{chars, IsUtf8};
 ghost use Rattle.rga_tree.specs.TextOf.{visible};
+ghost use Rattle.bidigrid_c.specs.declared.keystroke.Keystroke.TheVariants.{Typed};
+ghost use Rattle.bidigrid_c.specs.Keystrokes.{IsKeystroke};
 ghost use Rattle.bidigrid_c.specs.Desks.{HasRoomFor, IsErased, IsReplaced, IsTyped, IsRefusedErasing, IsRefusedExchange, IsRefusedReplacing, IsUnerased, IsUntyped, IsUnwritten};
 ghost use Rattle.bidigrid_c.specs.Documents.{IsEdited};
 
@@ -134,10 +136,6 @@ fn erase_in(
 
 /// Puts a text in the place of characters. One character is typed or erased without memory for its message.
 #[tactic(auto, using(
-    crate::proofs::Keystrokes::typed_place,
-    crate::proofs::Keystrokes::typed_room,
-    crate::proofs::Keystrokes::typed_exchange,
-    crate::proofs::Keystrokes::untyped_exchange,
     crate::proofs::Keystrokes::erased_place,
     crate::proofs::Keystrokes::erased_room,
     crate::proofs::Keystrokes::erased_key,
@@ -162,7 +160,7 @@ fn exchange_in(
         return answer;
     }
     match keystroke_of(to - from, text) {
-        Some(Keystroke::Typed(ch)) => type_one_in(held, from, ch, out, size),
+        Some(Keystroke::Typed(ch)) => type_key_in(held, from, to, text, ch, out, size),
         Some(Keystroke::Erased) => erase_one_in(held, from, out, size),
         None => exchange_many_in(alloc, held, from, to, text, out, size),
     }
@@ -218,6 +216,30 @@ fn erase_one_in(
         }
         Err(_) => FULL,
     }
+}
+
+/// Types the character of a text that is a keystroke.
+#[tactic(auto, using(
+    crate::proofs::Keystrokes::typed_place,
+    crate::proofs::Keystrokes::typed_room,
+    crate::proofs::Keystrokes::untyped_exchange
+))]
+fn type_key_in(
+    held: &mut ToldDocument,
+    from: usize,
+    to: usize,
+    text: &str,
+    ch: char,
+    out: &mut [u8],
+    size: &mut usize,
+) -> u32
+    requires room { HasRoomFor held.old.document.desk from to (length (chars text.now)) (length out.old) }
+    requires key { IsKeystroke (to - from) (chars text.now) (Typed ch) }
+    ensures ok { result ≡ 0 → IsReplaced held.old.document.desk from to (chars text.now) held.new.document.desk out.old out.new size.new × IsEdited held.old held.new }
+    ensures err { (result ≡ 0 → ⊥) → (held.new ≡ held.old) × (out.new ≡ out.old) × (size.new ≡ size.old) }
+    ensures fault { (result ≡ 0 → ⊥) → IsRefusedExchange held.old.document.desk from to (length (chars text.now)) (length out.old) size.new result }
+{
+    type_one_in(held, from, ch, out, size)
 }
 
 /// Puts a text in the place of characters, which is no keystroke and for which there is room.

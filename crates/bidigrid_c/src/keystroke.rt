@@ -1,9 +1,11 @@
 //! Changes of one character.
 
-ghost use Rattle.std.specs.Prelude.{◌≡◌, ◌+◌, length};
+ghost use Rattle.std.specs.Prelude.{◌≡◌, ◌+◌, length, slice_get};
 ghost use Rattle.std.specs.Option.{MatchOption};
 ghost use Rattle.std.specs.Str.{chars};
 ghost use Rattle.bidigrid_c.specs.Keystrokes.{IsKeystroke};
+
+use crate::draft::code_points;
 
 /// A change of one character.
 pub(crate) enum Keystroke {
@@ -14,13 +16,30 @@ pub(crate) enum Keystroke {
 }
 
 /// The keystroke that erases so many characters and types a text, if it is one.
+#[tactic(auto, using(
+    crate::proofs::Texts::none_of,
+    crate::proofs::Texts::one_of,
+    crate::proofs::Texts::first_of
+))]
 pub(crate) fn keystroke_of(erased: usize, text: &str) -> Option<Keystroke>
     ensures { MatchOption result (erased + length (chars text.now) ≡ 1 → ⊥) (IsKeystroke erased (chars text.now)) }
 {
-    let mut characters = text.chars();
-    match (erased, characters.next(), characters.next()) {
-        (0, Some(ch), None) => Some(Keystroke::Typed(ch)),
-        (1, None, _) => Some(Keystroke::Erased),
-        _ => None,
+    let typed = code_points(text);
+    if erased == 1 && typed == 0 {
+        return Some(Keystroke::Erased);
     }
+    if erased != 0 || typed != 1 {
+        return None;
+    }
+    match first_character(text) {
+        Some(ch) => Some(Keystroke::Typed(ch)),
+        None => None,
+    }
+}
+
+/// The first character of a text.
+fn first_character(text: &str) -> Option<char>
+    ensures { result ≡ slice_get (chars text.now) 0 }
+{
+    text.chars().next()
 }
