@@ -135,12 +135,7 @@ fn erase_in(
 }
 
 /// Puts a text in the place of characters. One character is typed or erased without memory for its message.
-#[tactic(auto, using(
-    crate::proofs::Keystrokes::erased_place,
-    crate::proofs::Keystrokes::erased_room,
-    crate::proofs::Keystrokes::erased_key,
-    crate::proofs::Keystrokes::unerased_exchange
-))]
+#[tactic(auto, using(crate::proofs::Keystrokes::erased_place, crate::proofs::Keystrokes::erased_room, crate::proofs::Keystrokes::erased_key, crate::proofs::Keystrokes::unerased_exchange))]
 fn exchange_in(
     alloc: Global,
     held: &mut ToldDocument,
@@ -195,12 +190,7 @@ fn type_one_in(
 }
 
 /// Erases the character at a place where there is room for its message.
-fn erase_one_in(
-    held: &mut ToldDocument,
-    place: usize,
-    out: &mut [u8],
-    size: &mut usize,
-) -> u32
+fn erase_one_in(held: &mut ToldDocument, place: usize, out: &mut [u8], size: &mut usize) -> u32
     requires place { place < length (visible held.old.document.desk.set) }
     requires room { 14 ≤ length out.old }
     ensures ok { result ≡ 0 → IsErased held.old.document.desk place (place + 1) held.new.document.desk out.old out.new size.new }
@@ -219,11 +209,7 @@ fn erase_one_in(
 }
 
 /// Types the character of a text that is a keystroke.
-#[tactic(auto, using(
-    crate::proofs::Keystrokes::typed_place,
-    crate::proofs::Keystrokes::typed_room,
-    crate::proofs::Keystrokes::untyped_exchange
-))]
+#[tactic(auto, using(crate::proofs::Keystrokes::typed_place, crate::proofs::Keystrokes::typed_room, crate::proofs::Keystrokes::untyped_exchange))]
 fn type_key_in(
     held: &mut ToldDocument,
     from: usize,

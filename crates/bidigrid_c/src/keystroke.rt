@@ -16,11 +16,7 @@ pub(crate) enum Keystroke {
 }
 
 /// The keystroke that erases so many characters and types a text, if it is one.
-#[tactic(auto, using(
-    crate::proofs::Texts::none_of,
-    crate::proofs::Texts::one_of,
-    crate::proofs::Texts::first_of
-))]
+#[tactic(auto, using(crate::proofs::Texts::none_of, crate::proofs::Texts::one_of, crate::proofs::Texts::first_of))]
 pub(crate) fn keystroke_of(erased: usize, text: &str) -> Option<Keystroke>
     ensures { MatchOption result (erased + length (chars text.now) ≡ 1 → ⊥) (IsKeystroke erased (chars text.now)) }
 {

@@ -92,12 +92,7 @@ fn replace_in(
 }
 
 /// Puts a text in the place of characters. One character is typed or erased without memory for its message.
-#[tactic(auto, using(
-    crate::proofs::Keystrokes::erased_place,
-    crate::proofs::Keystrokes::erased_room,
-    crate::proofs::Keystrokes::erased_key,
-    crate::proofs::Keystrokes::unerased_exchange
-))]
+#[tactic(auto, using(crate::proofs::Keystrokes::erased_place, crate::proofs::Keystrokes::erased_room, crate::proofs::Keystrokes::erased_key, crate::proofs::Keystrokes::unerased_exchange))]
 pub(crate) fn exchange_in(
     alloc: Global,
     desk: &mut Desk,
@@ -123,11 +118,7 @@ pub(crate) fn exchange_in(
 }
 
 /// Types the character of a text that is a keystroke.
-#[tactic(auto, using(
-    crate::proofs::Keystrokes::typed_place,
-    crate::proofs::Keystrokes::typed_room,
-    crate::proofs::Keystrokes::untyped_exchange
-))]
+#[tactic(auto, using(crate::proofs::Keystrokes::typed_place, crate::proofs::Keystrokes::typed_room, crate::proofs::Keystrokes::untyped_exchange))]
 fn type_key_in(
     desk: &mut Desk,
     from: usize,

@@ -130,12 +130,7 @@ fn erase_in(
 }
 
 /// Erases the character at a place where there is room for its message.
-pub(crate) fn erase_one_in(
-    desk: &mut Desk,
-    place: usize,
-    out: &mut [u8],
-    size: &mut usize,
-) -> u32
+pub(crate) fn erase_one_in(desk: &mut Desk, place: usize, out: &mut [u8], size: &mut usize) -> u32
     requires place { place < length (visible desk.old.set) }
     requires room { 14 ≤ length out.old }
     ensures ok { result ≡ 0 → IsErased desk.old place (place + 1) desk.new out.old out.new size.new }
