@@ -37,10 +37,14 @@ DEPS = binutils clang g++ gcc libc6-dev libclang-rt-14-dev make pkg-config pytho
     python3-redis redis-server tmux
 
 .DELETE_ON_ERROR:
-.PHONY: all help program lib check-symbols check check-gate check-c check-python check-edit wheel install install-program \
+.PHONY: all both help program lib check-symbols check check-gate check-c check-python check-edit wheel install install-program \
     install-lib uninstall dist deps clean FORCE
 
-all: program lib
+all: both program lib
+
+# What the two stand on is proved side by side.
+both:
+	@tools/make/build-proved replay_cli $(PROGRAM) bidigrid_c build/proved/libbidigrid_c.a
 
 help:
 	@echo 'make             proves the core and builds the program, build/bin/bidigrid, and the C library, build/lib;'
