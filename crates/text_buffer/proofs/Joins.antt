@@ -4,7 +4,7 @@ use Rattle.std.proofs.lemmas.List.{append-nil, append_assoc, map-append, length-
 use Rattle.std.proofs.lemmas.List.Concat.{flat_map-append}
 use Rattle.std.proofs.lemmas.List.Edits.{get_or-insert_below}
 use Rattle.std.proofs.Math.Seq.{take-append-add, drop-append-add}
-use Rattle.std.specs.List.{insert}
+use Rattle.std.specs.List.{insert, remove}
 use Rattle.text_buffer.specs.Blocks.{joined}
 
 module _ {A : Type 0} where
@@ -21,7 +21,7 @@ module _ {A : Type 0} where
   joined-more rows q within =
       ap joined (take_more rows q [] within) ∙ joined-append (take q rows) (get_or rows q [] ∷ []) ∙ ap (λ t. joined (take q rows) ++ t) (append-nil (get_or rows q []))
 
-  joined-set : (rows : List (List A)) (q : ℕ) (x : List A) → q < length rows → joined (set rows q x) ≡ joined (take q rows) ++ (x ++ joined (drop (q + 1) rows))
+  pub joined-set : (rows : List (List A)) (q : ℕ) (x : List A) → q < length rows → joined (set rows q x) ≡ joined (take q rows) ++ (x ++ joined (drop (q + 1) rows))
   joined-set rows q x within =
       ap joined (set_split rows q x within) ∙ joined-append (take q rows) (x ∷ drop (suc q) rows)
       ∙ ap (λ n. joined (take q rows) ++ (x ++ joined (drop n rows))) (sym (add-one q))
@@ -77,6 +77,41 @@ module _ {A : Type 0} where
   pub parted-low : (rows : List (List A)) (q : ℕ) (low high : List A) → q < length rows → get_or (insert (set rows q low) (q + 1) high) q [] ≡ low
   parted-low rows q low high within =
       get_or-insert_below (set rows q low) (q + 1) high [] q (omega arith) (omega (arith, length-set rows q low, within)) ∙ get_or-set_same rows q low [] within
+
+  -- the rows on the two sides of one that is taken out
+  front-without : (rows : List (List A)) (i : ℕ) → i < length rows → take i (remove rows i) ≡ take i rows
+  front-without rows i within = take_at (take i rows) (drop (suc i) rows) i (length-take-le i rows (omega (arith, within)))
+
+  back-without : (rows : List (List A)) (i : ℕ) → i < length rows → drop i (remove rows i) ≡ drop (suc i) rows
+  back-without rows i within =
+      let n : i ≡ length (take i rows) + 0 = omega (arith, length-take-le i rows (omega (arith, within))) in
+      ap (λ k. drop k (remove rows i)) n ∙ drop-append-add (take i rows) (drop (suc i) rows) 0
+
+  -- it is put in again
+  pub taken-again : (rows : List (List A)) (i : ℕ) → i < length rows → insert (remove rows i) i (get_or rows i []) ≡ rows
+  taken-again rows i within =
+      ap₂ (λ x y. x ++ get_or rows i [] ∷ y) (front-without rows i within) (back-without rows i within ∙ ap (λ n. drop n rows) (sym (add-one i)))
+      ∙ ap (λ t. take i rows ++ t) (sym (drop_more rows i [] within)) ∙ take-append-drop i rows
+
+  -- a row that takes on the next one
+  pub within-less : (rows : List (List A)) (q : ℕ) → q + 1 < length rows → q < length (remove rows (q + 1))
+  within-less rows q more =
+      omega (arith, length-append (take (q + 1) rows) (drop (suc (q + 1)) rows), length-take-le (q + 1) rows (omega (arith, more)))
+
+  pub joined-onto : (rows : List (List A)) (q : ℕ) → q + 1 < length rows
+      → joined (set (remove rows (q + 1)) q (get_or (remove rows (q + 1)) q [] ++ get_or rows (q + 1) [])) ≡ joined rows
+  joined-onto rows q more =
+      let less = remove rows (q + 1) in
+      let own = get_or less q [] in
+      let next = get_or rows (q + 1) [] in
+      let within = within-less rows q more in
+      let a = joined (take q less) in
+      let back = back-without rows (q + 1) more ∙ ap (λ n. drop n rows) (sym (add-one (q + 1))) in
+      joined-set less q (own ++ next) within
+      ∙ ap (λ t. a ++ t) (append_assoc own next (joined (drop (q + 1) less)))
+      ∙ sym (append_assoc a own (next ++ joined (drop (q + 1) less)))
+      ∙ ap₂ (λ x y. x ++ (next ++ joined y)) (sym (joined-more less q within) ∙ ap joined (front-without rows (q + 1) more)) back
+      ∙ sym (joined-at rows (q + 1) more)
 
   -- all up to a row and from it on
   pub front-from : (rows : List (List A)) (q n : ℕ) → n ≡ length (joined (take q rows)) → take n (joined rows) ≡ joined (take q rows)

@@ -10,6 +10,7 @@ pub mod Edits
 pub mod Counted
 pub mod Spots
 pub mod Made
+pub mod Whole
 pub mod Forgets
 pub mod Founds
 pub mod Runs

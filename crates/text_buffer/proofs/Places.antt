@@ -1,10 +1,10 @@
 -- How much stands before a block, in it and behind it.
-use Rattle.std.proofs.Common.{Result, Ok, Err, cond, ◌≡◌, ℕ, ◌+◌, ◌-◌, ◌<◌, ◌≤◌, List, [], ◌∷◌, ◌++◌, length, take, drop, get_or, slice_set, reverse, refl, map, sym, ap, ap₂, ◌∙◌, inl, inr, arith}
+use Rattle.std.proofs.Common.{Result, Ok, Err, cond, ◌≡◌, ℕ, suc, ◌+◌, ◌-◌, ◌<◌, ◌≤◌, List, [], ◌∷◌, ◌++◌, length, take, drop, get_or, slice_set, reverse, refl, map, sym, ap, ap₂, ◌∙◌, inl, inr, arith}
 use Rattle.std.proofs.lemmas.Bool.{cases_lt, false≢true}
 use Rattle.std.proofs.lemmas.List.{append-nil, length-append, length-map, get_or-map, get_or_append_left, get_or-append-add, map-set, map-append, take-map, drop-map, reverse-append, drop_all, take_all, take-append-le}
 use Rattle.std.proofs.lemmas.List.Concat.{get_or-flat_map}
 use Rattle.std.proofs.Math.Seq.{take-append-add}
-use Rattle.std.specs.List.{concat, insert}
+use Rattle.std.specs.List.{concat, insert, remove}
 use Rattle.std.specs.Result.{IsOk, is_ok}
 use Rattle.text_buffer.specs.declared.piece.Piece.{Piece}
 use Rattle.text_buffer.specs.declared.block.Block.{Block}
@@ -14,7 +14,7 @@ use Rattle.text_buffer.specs.Pieces.{points_of, points_in, kept_of, seen}
 use Rattle.text_buffer.specs.Blocks.{rows_of, joined, pieces_in, texts_in}
 use Rattle.text_buffer.specs.Places.{IsInFront}
 use Rattle.text_buffer.proofs.Sums.{bytes-both, places-both}
-use Rattle.text_buffer.proofs.Joins.{joined-at, joined-more}
+use Rattle.text_buffer.proofs.Joins.{joined-at, joined-more, joined-set, joined-onto, within-less}
 
 module _ {K : Type 0} where
   pub length-rows : (bs : List (Block K)) → length (rows_of bs) ≡ length bs
@@ -36,6 +36,10 @@ module _ {K : Type 0} where
   seen-points [] = refl
   seen-points (p ∷ ps) = ap (λ t. points_of p ∷ t) (seen-points ps)
 
+pub if_ok : {T E X : Type 0} (r : Result T E) (x a b : X) → IsOk r → x ≡ cond (is_ok r) a b → x ≡ a
+if_ok (Ok v) x a b h e = e
+if_ok (Err v) x a b h e = absurd (false≢true h)
+
 get_or-both : (a r c : List (List ℕ)) (j : ℕ) → j < length r → get_or (a ++ (r ++ c)) (length a + j) [] ≡ get_or r j []
 get_or-both a r c j inside = get_or-append-add a (r ++ c) j [] ∙ get_or_append_left r c [] j inside
 
@@ -51,6 +55,12 @@ pub record HasParts {K : Type 0} (bs : List (Block K)) (b : Before) : Type 0 whe
   pub bytes : bytes_in (concat (texts_in bs)) ≡ b.bytes + (bytes_in (concat (points_in (get_or (rows_of bs) b.block []))) + bytes_in (concat (points_in (joined (drop (b.block + 1) (rows_of bs))))))
   pub places : length (concat (texts_in bs)) ≡ b.places + (length (concat (points_in (get_or (rows_of bs) b.block []))) + length (concat (points_in (joined (drop (b.block + 1) (rows_of bs))))))
   pub last : length bs ≤ b.block + 1 → drop (b.block + 1) (rows_of bs) ≡ []
+
+-- what stands before one is what stands before the block in front of it, and in that
+pub record HasPrevious {K : Type 0} (bs : List (Block K)) (b : Before) : Type 0 where
+  pub paragraphs : b.paragraphs ≡ length (points_in (joined (take (b.block - 1) (rows_of bs)))) + length (get_or (rows_of bs) (b.block - 1) [])
+  pub bytes : b.bytes ≡ bytes_in (concat (points_in (joined (take (b.block - 1) (rows_of bs))))) + bytes_in (concat (points_in (get_or (rows_of bs) (b.block - 1) [])))
+  pub places : b.places ≡ length (concat (points_in (joined (take (b.block - 1) (rows_of bs))))) + length (concat (points_in (get_or (rows_of bs) (b.block - 1) [])))
 
 module _ {K : Type 0} where
   pub parts-of : (bs : List (Block K)) (b : Before) → IsInFront bs b → HasParts bs b
@@ -85,6 +95,35 @@ module _ {K : Type 0} where
         paragraphs = paragraphs ∙ ap (λ m. m + length r) (s.paragraphs ∙ length-points a) ∙ sym (length-points (joined (take next.block rows)) ∙ ap length all ∙ length-append a r);
         bytes = bytes ∙ ap (λ m. m + bytes_in (concat (points_in r))) s.bytes ∙ sym (ap (λ t. bytes_in (concat (points_in t))) all ∙ bytes-both a r);
         places = places ∙ ap (λ m. m + length (concat (points_in r))) s.places ∙ sym (ap (λ t. length (concat (points_in t))) all ∙ places-both a r);
+      }
+
+  -- what stands before a block stands before the one in front of it, or in that one
+  pub previous-of : (bs : List (Block K)) (b : Before) → IsInFront bs b → 0 < b.block → HasPrevious bs b
+  previous-of bs b s some =
+      let rows = rows_of bs in
+      let q = b.block - 1 in
+      let next : q + 1 ≡ b.block = omega (arith, some) in
+      let a = joined (take q rows) in
+      let r = get_or rows q [] in
+      let within : q < length rows = let w = s.within in omega (arith, length-rows bs, next) in
+      let all : joined (take b.block rows) ≡ a ++ r = ap (λ n. joined (take n rows)) (sym next) ∙ joined-more rows q within in
+      record {
+        paragraphs = s.paragraphs ∙ length-points (joined (take b.block rows)) ∙ ap length all ∙ length-append a r ∙ ap (λ m. m + length r) (sym (length-points a));
+        bytes = s.bytes ∙ ap (λ t. bytes_in (concat (points_in t))) all ∙ bytes-both a r;
+        places = s.places ∙ ap (λ t. length (concat (points_in t))) all ∙ places-both a r;
+      }
+
+  pub stands-previous : (bs : List (Block K)) (b : Before) → IsInFront bs b → 0 < b.block → (p : Before) → p.block ≡ b.block - 1
+      → p.paragraphs + length (get_or (rows_of bs) (b.block - 1) []) ≡ b.paragraphs
+      → p.bytes + bytes_in (concat (points_in (get_or (rows_of bs) (b.block - 1) []))) ≡ b.bytes
+      → p.places + length (concat (points_in (get_or (rows_of bs) (b.block - 1) []))) ≡ b.places → IsInFront bs p
+  stands-previous bs b s some p block paragraphs bytes places =
+      let has = previous-of bs b s some in
+      record {
+        within = let w = s.within in omega (arith, block, w);
+        paragraphs = omega (arith, has.paragraphs, paragraphs, ap (λ n. length (points_in (joined (take n (rows_of bs))))) block);
+        bytes = omega (arith, has.bytes, bytes, ap (λ n. bytes_in (concat (points_in (joined (take n (rows_of bs)))))) block);
+        places = omega (arith, has.places, places, ap (λ n. length (concat (points_in (joined (take n (rows_of bs)))))) block);
       }
 
   -- a paragraph of a block among all, and those before it
@@ -152,6 +191,11 @@ module _ {K : Type 0} where
       let row = λ (x : Block K). x.pieces.items in
       map-append row (take i bs) (b ∷ drop i bs) ∙ ap₂ (λ x y. x ++ b.pieces.items ∷ y) (sym (take-map row i bs)) (sym (drop-map row i bs))
 
+  pub rows-remove : (bs : List (Block K)) (i : ℕ) → rows_of (remove bs i) ≡ remove (rows_of bs) i
+  rows-remove bs i =
+      let row = λ (x : Block K). x.pieces.items in
+      map-append row (take i bs) (drop (suc i) bs) ∙ ap₂ (λ x y. x ++ y) (sym (take-map row i bs)) (sym (drop-map row (suc i) bs))
+
   -- others in the place of some blocks are rows in their place
   pub rows-put : (bs cs : List (Block K)) (i j : ℕ) → rows_of (take i bs ++ (cs ++ drop j bs)) ≡ take i (rows_of bs) ++ (rows_of cs ++ drop j (rows_of bs))
   rows-put bs cs i j =
@@ -183,15 +227,23 @@ module _ {K : Type 0} where
       let all = ap (λ t. bytes_in (concat (points_in t))) (joined-at rows q (omega (arith, length-rows bs, within))) in
       omega (arith, all, bytes-both a (r ++ c), bytes-both r c)
 
-  -- ---- a slice that was written to, and what was put in
+  -- a row and the next one have no more bytes than all
+  pub bytes-onto : (rows : List (List (Piece K))) (q : ℕ) → q + 1 < length rows
+      → bytes_in (concat (points_in (get_or (remove rows (q + 1)) q []))) + bytes_in (concat (points_in (get_or rows (q + 1) []))) ≤ bytes_in (concat (points_in (joined rows)))
+  bytes-onto rows q more =
+      let less = remove rows (q + 1) in
+      let own = get_or less q [] in
+      let next = get_or rows (q + 1) [] in
+      let a = joined (take q less) in
+      let c = joined (drop (q + 1) less) in
+      let all = ap (λ t. bytes_in (concat (points_in t))) (sym (joined-onto rows q more) ∙ joined-set less q (own ++ next) (within-less rows q more)) in
+      omega (arith, all, bytes-both a ((own ++ next) ++ c), bytes-both (own ++ next) c, bytes-both own next)
+
+  -- ---- a slice that was written to
 
   pub written : (new old : List (Block K)) (n : ℕ) → length new ≡ n → length old ≤ n → take n (new ++ drop (length new) old) ≡ new
   written new old n size few =
       ap (λ t. take n (new ++ t)) (drop_all (length new) old (omega (arith, size, few))) ∙ ap (take n) (append-nil new) ∙ take_all n new (omega (arith, size))
-
-  pub if_ok : {T E : Type 0} (r : Result T E) (x a b : List (Block K)) → IsOk r → x ≡ cond (is_ok r) a b → x ≡ a
-  if_ok (Ok v) x a b h e = e
-  if_ok (Err v) x a b h e = absurd (false≢true h)
 
   -- ---- a paragraph that was found
 

@@ -1,8 +1,9 @@
 -- A stretch of paragraphs in whose place a text stands.
-use Rattle.std.specs.Prelude.{◌≡◌, ◌<◌, ◌≤◌, ◌++◌, ℕ, true, List, length, take, drop}
+use Rattle.std.specs.Prelude.{◌≡◌, ◌-◌, ◌<◌, ◌≤◌, ◌++◌, ℕ, Bool, true, List, [], ◌∷◌, cond, length, take, drop, map as each}
 use Rattle.std.specs.List.{concat}
 use Rattle.unicode_tables.specs.Tables.{TableValues, bidi_of}
-use Rattle.paragraphs.specs.Paragraphs.{meets_at_cut}
+use Rattle.paragraphs.specs.Text.{code_points}
+use Rattle.paragraphs.specs.Paragraphs.{meets_at_cut, paragraphs}
 
 -- the text with this in place of paragraphs from `from` up to `to`
 abbrev pub text_with : List (List ℕ) → (from to : ℕ) → List ℕ → List ℕ
@@ -18,3 +19,7 @@ pub record IsBegun (tables : TableValues) (kept : List (List ℕ)) (from to : �
 pub record IsRemade (tables : TableValues) (kept : List (List ℕ)) (from to : ℕ) (points : List ℕ) : Type 0 where
   pub begun : IsBegun tables kept from to points
   pub after : to < length kept → meets_at_cut (bidi_of tables) points (concat (drop to kept)) ≡ true
+
+-- a text is one paragraph where it is the last one, or where others follow it
+abbrev pub IsOne : TableValues → (last : Bool) → (text : List ℕ) → Type 0
+IsOne tables last text = let all = each (λ p. code_points p.text) (paragraphs tables text) in cond last all (take (length all - 1) all) ≡ code_points text ∷ []

@@ -1,6 +1,6 @@
 //! Blocks of paragraphs.
 
-ghost use Rattle.std.specs.Prelude.{◌≡◌, ◌+◌, ◌<◌, ◌≤◌, ◌++◌, ◌&&◌, nat_le, nat_lt, length, take, drop, slice_set, vec_len, IfOk, OnOk, OnErr};
+ghost use Rattle.std.specs.Prelude.{◌≡◌, ◌+◌, ◌<◌, ◌≤◌, ◌++◌, ◌&&◌, nat_le, nat_lt, length, take, drop, slice_set, vec_len, IfOk, IfErr, OnOk, OnErr};
 ghost use Rattle.std.specs.List.{concat};
 ghost use Rattle.text_buffer.specs.Buffers.{bytes_in};
 ghost use Rattle.text_buffer.specs.Pieces.{points_in, kept_of, kept_count};
@@ -100,6 +100,33 @@ impl<K: Drop> Block<K> {
         self.bytes = self.bytes - gone.bytes + come.bytes;
         self.places = self.places - gone.places + come.places;
         self.kept = self.kept - gone.kept + come.kept;
+        Ok(())
+    }
+
+    /// Takes on the paragraphs of the next block, which is given back where the growth is refused.
+    pub fn take_on(&mut self, next: Block<K>) -> Result<(), Block<K>>
+        requires few { bytes_in (concat (points_in self.old.pieces.items)) + bytes_in (concat (points_in next.pieces.items)) ≤ 9_000_000 }
+        ensures ok { OnOk result (self.new.pieces.items ≡ self.old.pieces.items ++ next.pieces.items) }
+        ensures err { OnErr result (self.new.pieces.items ≡ self.old.pieces.items) }
+        ensures back { IfErr result (λ block. block.pieces.items ≡ next.pieces.items) }
+    {
+        let Block {
+            mut pieces,
+            bytes,
+            places,
+            kept,
+        } = next;
+        if self.pieces.append(&mut pieces).is_err() {
+            return Err(Block {
+                pieces,
+                bytes,
+                places,
+                kept,
+            });
+        }
+        self.bytes += bytes;
+        self.places += places;
+        self.kept += kept;
         Ok(())
     }
 

@@ -19,7 +19,7 @@ use crate::find::{block_of, first_block, spot_at};
 use crate::forget::forget_but;
 use crate::found::{find, find_at};
 use crate::replace::blocks_of;
-use crate::rows::set_kept_in;
+use crate::rows::{kept_at, set_kept_in};
 use crate::run::{are_in_range, first_run};
 use crate::stretch::{LIMIT, plan_edit};
 use crate::touched::Touched;
@@ -146,7 +146,9 @@ impl<K: Drop> Buffer<K> {
         requires { number < length self.now }
         ensures { slice_get (kept_in self.now) number ≡ Some (option_copied result) }
     {
-        self.cursor(number).kept()
+        let before = block_of(&self.blocks, first_block(&self.blocks), number);
+        let index = number - before.paragraphs;
+        kept_at(&self.blocks, before.block, index)
     }
 
     /// Keeps a value beside a paragraph, until an edit makes it anew or another takes its place.
@@ -204,9 +206,9 @@ impl<K: Drop> Buffer<K> {
             self.alloc,
             tables,
             &mut self.blocks,
-            plan.block,
             self.paragraphs,
             plan.stretch,
+            plan.one,
         )?;
         let more = text.chars().count();
         self.bytes = plan.bytes;

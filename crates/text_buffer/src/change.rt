@@ -1,6 +1,6 @@
 //! A stretch of paragraphs is made anew.
 
-ghost use Rattle.std.specs.Prelude.{◌≡◌, ◌+◌, ◌-◌, ◌<◌, ◌≤◌, ◌++◌, ℕ, List, length, map as each, take, drop, string_bytes, IfOk, OnOk, OnErr, vec_len, if◌then◌else◌};
+ghost use Rattle.std.specs.Prelude.{◌≡◌, ◌+◌, ◌-◌, ◌<◌, ◌≤◌, ◌++◌, ◌==◌, ℕ, true, List, [], ◌∷◌, length, map as each, take, drop, string_bytes, IfOk, OnOk, OnErr, vec_len, if◌then◌else◌};
 ghost use Rattle.std.specs.List.{concat};
 ghost use Rattle.paragraphs.specs.Text.{code_points};
 ghost use Rattle.paragraphs.specs.Paragraphs.{paragraphs};
@@ -8,11 +8,10 @@ ghost use Rattle.text_buffer.specs.Buffers.{bytes_in, IsSplit};
 ghost use Rattle.text_buffer.specs.Edits.{anew};
 ghost use Rattle.text_buffer.specs.Pieces.{points_in, seen};
 ghost use Rattle.text_buffer.specs.Blocks.{pieces_in, texts_in, seen_in};
-ghost use Rattle.text_buffer.specs.Places.{IsInFront};
-ghost use Rattle.text_buffer.specs.Stretches.{IsRemade, text_with};
+ghost use Rattle.text_buffer.specs.Places.{IsBlockOf};
+ghost use Rattle.text_buffer.specs.Stretches.{IsRemade, IsOne, text_with};
 
 use crate::block::Block;
-use crate::find::Before;
 use crate::piece::Piece;
 use crate::replace::replace;
 use crate::stretch::Stretch;
@@ -56,21 +55,49 @@ fn pieces_up_to<K: Drop>(
     Ok(pieces)
 }
 
+/// The same of a text that is known to be one, or is not.
+fn pieces_of_stretch<K: Drop>(
+    alloc: Global,
+    tables: &Tables,
+    text: String,
+    last: bool,
+    one: bool,
+) -> Result<Vec<Piece<K>>, Memory>
+    requires { one ≡ true → IsOne tables.now last (string_bytes text) }
+    ensures { let all = each (λ p. code_points p.text) (paragraphs tables.now (string_bytes text)) in
+        IfOk result (λ pieces. each seen pieces.items ≡ each anew (if last then all else take (length all - 1) all)) }
+{
+    if one {
+        return one_piece(alloc, text);
+    }
+    pieces_up_to(alloc, tables, &text, last)
+}
+
+/// The text as one paragraph, which is not copied.
+fn one_piece<K: Drop>(alloc: Global, text: String) -> Result<Vec<Piece<K>>, Memory>
+    ensures { IfOk result (λ pieces. each seen pieces.items ≡ each anew (code_points (string_bytes text) ∷ [])) }
+{
+    let mut pieces = Vec::with_capacity(alloc, 1)?;
+    pieces.push(Piece::holding(text))?;
+    Ok(pieces)
+}
+
 /// Puts the paragraphs of a stretch's text in the place of those that it has.
 pub fn change<K: Drop>(
     alloc: Global,
     tables: &Tables,
     blocks: &mut Vec<Block<K>>,
-    start: Before,
     count: usize,
     stretch: Stretch,
+    one: bool,
 ) -> Result<Touched, Memory>
-    requires start { IsInFront blocks.old.items start }
+    requires block { IsBlockOf blocks.old.items stretch.block stretch.from }
     requires count { count ≡ length (texts_in blocks.old.items) }
     requires few { bytes_in (concat (texts_in blocks.old.items)) ≤ 4_000_000 }
     requires split { IsSplit tables.now (texts_in blocks.old.items) }
     requires stretch { IsRemade tables.now (texts_in blocks.old.items) stretch.from stretch.to (code_points (string_bytes stretch.text)) }
     requires some { stretch.to < length (texts_in blocks.old.items) → 0 < length (code_points (string_bytes stretch.text)) }
+    requires one { one ≡ true → IsOne tables.now (stretch.to == count) (string_bytes stretch.text) }
     requires new { bytes_in (text_with (texts_in blocks.old.items) stretch.from stretch.to (code_points (string_bytes stretch.text))) ≤ 4_000_000 }
     ensures first { IfOk result (λ t. t.first ≡ stretch.from) }
     ensures old { IfOk result (λ t. t.first + t.old ≡ stretch.to) }
@@ -80,12 +107,20 @@ pub fn change<K: Drop>(
     ensures count { IfOk result (λ t. length (texts_in blocks.new.items) + t.old ≡ count + t.new) }
     ensures err { OnErr result (pieces_in blocks.new.items ≡ pieces_in blocks.old.items) }
 {
-    let pieces = pieces_up_to(alloc, tables, &stretch.text, stretch.to == count)?;
+    let last = stretch.to == count;
+    let pieces = pieces_of_stretch(alloc, tables, stretch.text, last, one)?;
     let touched = Touched {
         first: stretch.from,
         old: stretch.to - stretch.from,
         new: pieces.len(),
     };
-    replace(alloc, blocks, start, stretch.from, stretch.to, pieces)?;
+    replace(
+        alloc,
+        blocks,
+        stretch.block,
+        stretch.from,
+        stretch.to,
+        pieces,
+    )?;
     Ok(touched)
 }

@@ -1,11 +1,11 @@
 //! Where paragraphs stand in their blocks.
 
-ghost use Rattle.std.specs.Prelude.{◌≡◌, ◌+◌, ◌^◌, ◌<◌, ◌≤◌, [], length, get_or};
+ghost use Rattle.std.specs.Prelude.{◌≡◌, ◌+◌, ◌-◌, ◌^◌, ◌<◌, ◌≤◌, [], length, get_or};
 ghost use Rattle.std.specs.List.{concat};
 ghost use Rattle.text_buffer.specs.Buffers.{bytes_in, Fits};
 ghost use Rattle.text_buffer.specs.Pieces.{points_in};
 ghost use Rattle.text_buffer.specs.Blocks.{rows_of, texts_in};
-ghost use Rattle.text_buffer.specs.Places.{IsInFront, StandsAt};
+ghost use Rattle.text_buffer.specs.Places.{IsInFront, IsBlockOf, StandsAt};
 
 use crate::block::Block;
 use crate::piece::Piece;
@@ -67,6 +67,35 @@ pub fn next_to<K>(blocks: &[Block<K>], before: Before) -> Before
     ensures block { result.block ≡ before.block + 1 }
 {
     before.past(&blocks[before.block])
+}
+
+/// The block in front of one that is not the first.
+fn previous_to<K>(blocks: &[Block<K>], before: Before) -> Before
+    requires stands { IsInFront blocks.now before }
+    requires some { 0 < before.block }
+    ensures stands { IsInFront blocks.now result }
+    ensures paragraphs { result.paragraphs + length (get_or (rows_of blocks.now) result.block []) ≡ before.paragraphs }
+{
+    let block = before.block - 1;
+    let own = &blocks[block];
+    Before {
+        block,
+        paragraphs: before.paragraphs - own.pieces.len(),
+        bytes: before.bytes - own.bytes,
+        places: before.places - own.places,
+    }
+}
+
+/// The block of the paragraph in front of one that stands in this block.
+pub fn block_in_front<K>(blocks: &[Block<K>], before: Before, number: usize) -> Before
+    requires block { IsBlockOf blocks.now before number }
+    requires some { 0 < number }
+    ensures { IsBlockOf blocks.now result (number - 1) }
+{
+    if before.paragraphs < number {
+        return before;
+    }
+    previous_to(blocks, before)
 }
 
 /// How many code points block q has.

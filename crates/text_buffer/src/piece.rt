@@ -21,13 +21,20 @@ impl<K: Drop> Piece<K> {
         ensures text { IfOk result (λ piece. string_bytes piece.text ≡ text.now) }
         ensures nothing { IfOk result (λ piece. piece.kept ≡ None) }
     {
-        let places = text.chars().count();
-        let text = String::from_str(alloc, text)?;
-        Ok(Piece {
+        Ok(Piece::holding(String::from_str(alloc, text)?))
+    }
+
+    /// A paragraph that holds this text, of which nothing is kept.
+    pub fn holding(text: String) -> Piece<K>
+        ensures text { string_bytes result.text ≡ string_bytes text }
+        ensures nothing { result.kept ≡ None }
+    {
+        let places = text.as_str().chars().count();
+        Piece {
             text,
             places,
             kept: None,
-        })
+        }
     }
 
     /// Drops what is kept, unless that is to stay.

@@ -1,15 +1,14 @@
 //! A place in its paragraph.
 
-ghost use Rattle.std.specs.Prelude.{◌≡◌, ◌+◌, ◌<◌, ◌≤◌, ◌++◌, [], length, take, get_or};
+ghost use Rattle.std.specs.Prelude.{◌≡◌, ◌+◌, ◌<◌, ◌≤◌, [], length, get_or};
 ghost use Rattle.std.specs.List.{concat};
-ghost use Rattle.std.specs.Str.{IsUtf8};
 ghost use Rattle.paragraphs.specs.Text.{code_points};
-ghost use Rattle.text_buffer.specs.Buffers.{bytes_in, Fits};
+ghost use Rattle.text_buffer.specs.Buffers.{Fits};
 ghost use Rattle.text_buffer.specs.Blocks.{rows_of, texts_in};
-ghost use Rattle.text_buffer.specs.Places.{IsInFront};
+ghost use Rattle.text_buffer.specs.Places.{IsInFront, IsBlockOf, IsParted};
 
 use crate::block::Block;
-use crate::find::{Before, block_of, first_block, spot_at};
+use crate::find::{Before, spot_at};
 use crate::parted::parted;
 
 /// A place: its block, its paragraph, how many bytes of the text and how many code points of the paragraph stand before it,
@@ -30,17 +29,10 @@ pub fn place_at<'a, K>(blocks: &'a [Block<K>], start: Before, place: usize) -> P
     requires behind { start.places ≤ place }
     requires within { place ≤ length (concat (texts_in blocks.now)) }
     requires fits { Fits (texts_in blocks.now) }
-    ensures stands { IsInFront blocks.now result.block }
+    ensures block { IsBlockOf blocks.now result.block result.number }
     ensures reached { result.block.places ≤ place }
-    ensures first { result.block.paragraphs ≤ result.number }
-    ensures there { result.number < length (texts_in blocks.now) }
-    ensures front { IsUtf8 result.front.now }
-    ensures back { IsUtf8 result.back.now }
     ensures offset { result.offset ≡ length (code_points result.front.now) }
-    ensures own { code_points result.front.now ++ code_points result.back.now ≡ get_or (texts_in blocks.now) result.number [] }
-    ensures place { length (concat (take result.number (texts_in blocks.now))) + length (code_points result.front.now) ≡ place }
-    ensures bytes { result.bytes ≡ bytes_in (take place (concat (texts_in blocks.now))) }
-    ensures more { result.number + 1 < length (texts_in blocks.now) → 0 < length (code_points result.back.now) }
+    ensures parted { IsParted (texts_in blocks.now) place result.number result.bytes result.front.now result.back.now }
 {
     let (block, spot) = spot_at(blocks, start, place);
     let (front, back) = parted(text_at(blocks, block, spot.number), spot.offset);
@@ -54,25 +46,32 @@ pub fn place_at<'a, K>(blocks: &'a [Block<K>], start: Before, place: usize) -> P
     }
 }
 
+/// The place up to which a stretch goes from another one on. Where the stretch is empty, it is that one.
+pub fn place_behind<'a, K>(
+    blocks: &'a [Block<K>],
+    first: Place<'a>,
+    from: usize,
+    to: usize,
+) -> Place<'a>
+    requires block { IsBlockOf blocks.now first.block first.number }
+    requires behind { first.block.places ≤ to }
+    requires within { to ≤ length (concat (texts_in blocks.now)) }
+    requires fits { Fits (texts_in blocks.now) }
+    requires first { IsParted (texts_in blocks.now) from first.number first.bytes first.front.now first.back.now }
+    ensures { IsParted (texts_in blocks.now) to result.number result.bytes result.front.now result.back.now }
+{
+    if from == to {
+        return first;
+    }
+    place_at(blocks, first.block, to)
+}
+
 /// The text of paragraph `number`, of this block.
-fn text_at<K>(blocks: &[Block<K>], before: Before, number: usize) -> &str
-    requires stands { IsInFront blocks.now before }
-    requires reached { before.paragraphs ≤ number }
-    requires here { number < before.paragraphs + length (get_or (rows_of blocks.now) before.block []) }
+pub fn text_at<K>(blocks: &[Block<K>], before: Before, number: usize) -> &str
+    requires { IsBlockOf blocks.now before number }
     ensures { code_points result.now ≡ get_or (texts_in blocks.now) number [] }
 {
     blocks[before.block].pieces[number - before.paragraphs]
         .text
         .as_str()
-}
-
-/// The text of paragraph `number`.
-pub fn text_of<K>(blocks: &[Block<K>], number: usize) -> &str
-    requires some { 0 < length blocks.now }
-    requires there { number < length (texts_in blocks.now) }
-    requires fits { Fits (texts_in blocks.now) }
-    ensures { code_points result.now ≡ get_or (texts_in blocks.now) number [] }
-{
-    let before = block_of(blocks, first_block(blocks), number);
-    text_at(blocks, before, number)
 }

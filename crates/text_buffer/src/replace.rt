@@ -1,17 +1,17 @@
 //! Paragraphs in the place of others, whatever blocks they stand in.
 
-ghost use Rattle.std.specs.Prelude.{◌≡◌, ◌+◌, ◌<◌, ◌≤◌, ◌++◌, [], length, take, drop, get_or, vec_len, IfOk, OnOk, OnErr};
+ghost use Rattle.std.specs.Prelude.{◌≡◌, ◌+◌, ◌<◌, ◌≤◌, ◌++◌, [], true, length, take, drop, get_or, vec_len, IfOk, OnOk, OnErr};
 ghost use Rattle.std.specs.List.{concat};
 ghost use Rattle.text_buffer.specs.Buffers.{bytes_in, Fits};
 ghost use Rattle.text_buffer.specs.Pieces.{points_in};
 ghost use Rattle.text_buffer.specs.Blocks.{rows_of, joined, pieces_in, texts_in};
-ghost use Rattle.text_buffer.specs.Places.{IsInFront};
+ghost use Rattle.text_buffer.specs.Places.{IsInFront, IsBlockOf};
 
 use crate::block::Block;
 use crate::find::{Before, block_of, first_block, next_to};
 use crate::piece::Piece;
 use crate::row::splice;
-use crate::rows::{count_in, drop_front_in, part_at, replace_in};
+use crate::rows::{count_in, drop_front_in, join_at, part_at, replace_in};
 use bg_types::Memory;
 use std::alloc::Global;
 
@@ -41,17 +41,17 @@ pub fn blocks_of<K: Drop>(alloc: Global, pieces: Vec<Piece<K>>) -> Result<Vec<Bl
     Ok(blocks)
 }
 
-/// Puts others, at least one, in the place of paragraphs `from` up to `to`, which are found from a block on. What may be
-/// refused comes first.
+/// Puts others, at least one, in the place of paragraphs `from` up to `to`, of which the first stands in this block. What may
+/// be refused comes first, but for the joining of blocks, which is then left out.
 pub fn replace<K: Drop>(
     alloc: Global,
     blocks: &mut Vec<Block<K>>,
-    start: Before,
+    before: Before,
     from: usize,
     to: usize,
     pieces: Vec<Piece<K>>,
 ) -> Result<(), Memory>
-    requires start { IsInFront blocks.old.items start }
+    requires block { IsBlockOf blocks.old.items before from }
     requires order { from < to }
     requires within { to ≤ length (pieces_in blocks.old.items) }
     requires some { 0 < vec_len pieces }
@@ -60,7 +60,35 @@ pub fn replace<K: Drop>(
     ensures ok { OnOk result (pieces_in blocks.new.items ≡ take from (pieces_in blocks.old.items) ++ (pieces.items ++ drop to (pieces_in blocks.old.items))) }
     ensures err { OnErr result (pieces_in blocks.new.items ≡ pieces_in blocks.old.items) }
 {
-    let before = block_of(blocks, start_for(blocks, start, from), from);
+    // These blocks come at most, beside what is left of the first and the last one.
+    let more = pieces.len() / HALF + 1;
+    replace_apart(alloc, blocks, before, from, to, pieces)?;
+    join_sparse(
+        blocks,
+        before.block.saturating_sub(1),
+        before.block + more + 2,
+    );
+    Ok(())
+}
+
+/// The same, by which blocks may become sparse.
+fn replace_apart<K: Drop>(
+    alloc: Global,
+    blocks: &mut Vec<Block<K>>,
+    before: Before,
+    from: usize,
+    to: usize,
+    pieces: Vec<Piece<K>>,
+) -> Result<(), Memory>
+    requires block { IsBlockOf blocks.old.items before from }
+    requires order { from < to }
+    requires within { to ≤ length (pieces_in blocks.old.items) }
+    requires some { 0 < vec_len pieces }
+    requires few { bytes_in (concat (texts_in blocks.old.items)) + bytes_in (concat (points_in pieces.items)) ≤ 9_000_000 }
+    requires paragraphs { length (pieces_in blocks.old.items) + vec_len pieces ≤ 9_000_000 }
+    ensures ok { OnOk result (pieces_in blocks.new.items ≡ take from (pieces_in blocks.old.items) ++ (pieces.items ++ drop to (pieces_in blocks.old.items))) }
+    ensures err { OnErr result (pieces_in blocks.new.items ≡ pieces_in blocks.old.items) }
+{
     let count = count_in(blocks, before.block);
     if to > before.paragraphs + count || count - (to - from) + pieces.len() > FULL {
         return replace_far(alloc, blocks, before, from, to, pieces);
@@ -68,16 +96,33 @@ pub fn replace<K: Drop>(
     replace_near(blocks, before, from, to, pieces)
 }
 
-/// A block from which paragraph `number` is found: this one, or the first one.
-fn start_for<K>(blocks: &[Block<K>], start: Before, number: usize) -> Before
-    requires { IsInFront blocks.now start }
-    ensures stands { IsInFront blocks.now result }
-    ensures behind { result.paragraphs ≤ number }
+/// Joins each of these blocks with the one behind it, where the two are sparse.
+fn join_sparse<K: Drop>(blocks: &mut Vec<Block<K>>, from: usize, to: usize)
+    requires { bytes_in (concat (texts_in blocks.old.items)) ≤ 9_000_000 }
+    ensures { pieces_in blocks.new.items ≡ pieces_in blocks.old.items }
 {
-    if start.paragraphs <= number {
-        return start;
+    for q in (from..to).rev() {
+        join_if_sparse(blocks, q);
     }
-    first_block(blocks)
+}
+
+fn join_if_sparse<K: Drop>(blocks: &mut Vec<Block<K>>, q: usize)
+    requires { bytes_in (concat (texts_in blocks.old.items)) ≤ 9_000_000 }
+    ensures { pieces_in blocks.new.items ≡ pieces_in blocks.old.items }
+{
+    if is_sparse(blocks, q) {
+        join_at(blocks, q);
+    }
+}
+
+/// Whether a block and the one behind it have no more paragraphs than a block where many come at once.
+fn is_sparse<K>(blocks: &[Block<K>], q: usize) -> bool
+    ensures { result ≡ true → q + 1 < length blocks.now }
+{
+    if blocks.len() < 2 || q > blocks.len() - 2 || count_in(blocks, q) > HALF {
+        return false;
+    }
+    count_in(blocks, q + 1) <= HALF - count_in(blocks, q)
 }
 
 /// The same in one block.

@@ -1,6 +1,6 @@
 //! Blocks in the order of the text.
 
-ghost use Rattle.std.specs.Prelude.{◌≡◌, ◌+◌, ◌<◌, ◌≤◌, ◌++◌, [], length, take, drop, get_or, slice_set, vec_len, IfOk, OnOk, OnErr};
+ghost use Rattle.std.specs.Prelude.{◌≡◌, ◌+◌, ◌<◌, ◌≤◌, ◌++◌, [], Some, length, take, drop, get_or, slice_get, slice_set, option_copied, vec_len, IfOk, IfErr, OnOk, OnErr};
 ghost use Rattle.std.specs.List.{concat};
 ghost use Rattle.text_buffer.specs.Buffers.{bytes_in};
 ghost use Rattle.text_buffer.specs.Pieces.{points_in, kept_of};
@@ -47,6 +47,29 @@ fn part_in<K: Drop>(blocks: &mut [Block<K>], q: usize, number: usize) -> Result<
     blocks[q].part(number)
 }
 
+/// Joins block q with the next one, if there is memory for that. The paragraphs stay.
+pub fn join_at<K: Drop>(blocks: &mut Vec<Block<K>>, q: usize)
+    requires next { q + 1 < vec_len blocks.old }
+    requires few { bytes_in (concat (texts_in blocks.old.items)) ≤ 9_000_000 }
+    ensures { pieces_in blocks.new.items ≡ pieces_in blocks.old.items }
+{
+    let next = blocks.remove(q + 1);
+    let Err(next) = take_on_in(blocks, q, next) else {
+        return;
+    };
+    blocks.insert(q + 1, next).unwrap();
+}
+
+fn take_on_in<K: Drop>(blocks: &mut [Block<K>], q: usize, next: Block<K>) -> Result<(), Block<K>>
+    requires block { q < length blocks.old }
+    requires few { bytes_in (concat (points_in (get_or (rows_of blocks.old) q []))) + bytes_in (concat (points_in next.pieces.items)) ≤ 9_000_000 }
+    ensures ok { OnOk result (rows_of blocks.new ≡ slice_set (rows_of blocks.old) q (get_or (rows_of blocks.old) q [] ++ next.pieces.items)) }
+    ensures err { OnErr result (rows_of blocks.new ≡ rows_of blocks.old) }
+    ensures back { IfErr result (λ block. block.pieces.items ≡ next.pieces.items) }
+{
+    blocks[q].take_on(next)
+}
+
 /// Puts others, at least one, in the place of paragraphs `from` up to `to` of block q.
 pub fn replace_in<K: Drop>(
     blocks: &mut [Block<K>],
@@ -75,6 +98,15 @@ pub fn drop_front_in<K: Drop>(blocks: &mut [Block<K>], q: usize, count: usize)
     ensures { rows_of blocks.new ≡ slice_set (rows_of blocks.old) q (drop count (get_or (rows_of blocks.old) q [])) }
 {
     blocks[q].drop_front(count);
+}
+
+/// What is kept of paragraph `number` of block q, or nothing.
+pub fn kept_at<K>(blocks: &[Block<K>], q: usize, number: usize) -> Option<&K>
+    requires block { q < length blocks.now }
+    requires within { number < length (get_or (rows_of blocks.now) q []) }
+    ensures { slice_get (kept_of (pieces_in blocks.now)) (length (joined (take q (rows_of blocks.now))) + number) ≡ Some (option_copied result) }
+{
+    blocks[q].pieces[number].kept.as_ref()
 }
 
 /// Keeps this of paragraph `number` of block q, or nothing.

@@ -1,20 +1,22 @@
 //! The stretch of paragraphs that an edit makes anew.
 
-ghost use Rattle.std.specs.Prelude.{◌≡◌, ◌↔◌, ◌⊎◌, ◌+◌, ◌-◌, ◌<◌, ◌≤◌, ◌++◌, ℕ, List, [], Err, length, get_or, string_bytes, IfOk};
+ghost use Rattle.std.specs.Prelude.{◌≡◌, ◌↔◌, ◌⊎◌, ◌+◌, ◌-◌, ◌<◌, ◌≤◌, ◌++◌, ◌==◌, ℕ, true, false, List, [], Err, length, get_or, string_bytes, IfOk};
 ghost use Rattle.std.specs.List.{concat};
+ghost use Rattle.unicode_tables.specs.Tables.{bidi_of};
 ghost use Rattle.paragraphs.specs.Text.{code_points};
+ghost use Rattle.paragraphs.specs.Paragraphs.{meets_at_cut};
 ghost use Rattle.text_buffer.specs.Buffers.{bytes_in, Fits, IsSplit};
 ghost use Rattle.text_buffer.specs.Edits.{replaced, IsParagraphOf};
 ghost use Rattle.text_buffer.specs.Blocks.{texts_in};
-ghost use Rattle.text_buffer.specs.Places.{IsInFront};
-ghost use Rattle.text_buffer.specs.Stretches.{IsBegun, IsRemade, text_with};
+ghost use Rattle.text_buffer.specs.Places.{IsBlockOf};
+ghost use Rattle.text_buffer.specs.Stretches.{IsBegun, IsRemade, IsOne, text_with};
 ghost use Rattle.text_buffer.specs.declared.fault.BufferFault.TheVariants.{TooLong};
 
 use crate::block::Block;
 use crate::fault::BufferFault;
-use crate::find::{Before, first_block};
+use crate::find::{Before, block_in_front, first_block};
 use crate::parted::{joined_text, text_between};
-use crate::place::{Place, place_at, text_of};
+use crate::place::{Place, place_at, place_behind, text_at};
 use bg_types::Memory;
 use paragraphs::meets_at_cut;
 use std::alloc::Global;
@@ -23,19 +25,20 @@ use unicode_tables::Tables;
 /// How many bytes a text has at most.
 pub const LIMIT: usize = 4_000_000;
 
-/// Paragraphs `from` up to `to`, and the text that stands in their place.
+/// Paragraphs `from` up to `to`, the block in which they begin, and the text that stands in their place.
 #[derive(Drop)]
 pub struct Stretch {
+    pub block: Before,
     pub from: usize,
     pub to: usize,
     pub text: String,
 }
 
-/// What an edit makes anew, the block in which it begins or one before, and how many bytes the text has then.
+/// What an edit makes anew, whether that is known to be one paragraph, and how many bytes the text has then.
 #[derive(Drop)]
 pub struct Plan {
-    pub block: Before,
     pub stretch: Stretch,
+    pub one: bool,
     pub bytes: usize,
 }
 
@@ -57,11 +60,12 @@ pub fn plan_edit<K>(
     requires within { to ≤ length (concat (texts_in blocks.now)) }
     requires fits { Fits (texts_in blocks.now) }
     requires split { IsSplit tables.now (texts_in blocks.now) }
-    ensures block { IfOk result (λ p. IsInFront blocks.now p.block) }
+    ensures block { IfOk result (λ p. IsBlockOf blocks.now p.stretch.block p.stretch.from) }
     ensures stretch { IfOk result (λ p. IsRemade tables.now (texts_in blocks.now) p.stretch.from p.stretch.to (code_points (string_bytes p.stretch.text))) }
     ensures some { IfOk result (λ p. p.stretch.to < length (texts_in blocks.now) → 0 < length (code_points (string_bytes p.stretch.text))) }
     ensures text { IfOk result (λ p. text_with (texts_in blocks.now) p.stretch.from p.stretch.to (code_points (string_bytes p.stretch.text))
         ≡ replaced (concat (texts_in blocks.now)) from to (code_points text.now)) }
+    ensures one { IfOk result (λ p. p.one ≡ true → IsOne tables.now (p.stretch.to == length (texts_in blocks.now)) (string_bytes p.stretch.text)) }
     ensures bytes { IfOk result (λ p. p.bytes ≡ bytes_in (replaced (concat (texts_in blocks.now)) from to (code_points text.now))) }
     ensures few { IfOk result (λ p. p.bytes ≤ 4_000_000) }
     ensures first { IfOk result (λ p. IsParagraphOf (texts_in blocks.now) from p.stretch.from ⊎ IsParagraphOf (texts_in blocks.now) from (p.stretch.from + 1)) }
@@ -69,18 +73,54 @@ pub fn plan_edit<K>(
     ensures too_long { (result ≡ Err TooLong) ↔ (4_000_000 < bytes_in (replaced (concat (texts_in blocks.now)) from to (code_points text.now))) }
 {
     let first = place_at(blocks, first_block(blocks), from);
-    let last = place_at(blocks, first.block, to);
+    let last = place_behind(blocks, first, from, to);
     let others = bytes - (last.bytes - first.bytes);
     if text.len() > LIMIT - others {
         return Err(BufferFault::TooLong);
     }
     let whole = text_between(alloc, first.front, text, last.back)?;
     let stretch = stretch_at(alloc, tables, blocks, &first, last.number + 1, whole)?;
+    let one = stays_one(tables, &first, last.number, stretch.from, text);
     Ok(Plan {
-        block: first.block,
         stretch,
+        one,
         bytes: others + text.len(),
     })
+}
+
+/// Whether it is seen at once that what is made anew stays one paragraph: a part of one is replaced by a character that is no
+/// separator, or by none, and none stands in front.
+fn stays_one(tables: &Tables, first: &Place, last: usize, from: usize, text: &str) -> bool
+    ensures from { result ≡ true → from ≡ first.now.number }
+    ensures last { result ≡ true → last ≡ first.now.number }
+    ensures front { result ≡ true → 0 < length (code_points first.now.front.now) → meets_at_cut (bidi_of tables.now) (code_points first.now.front.now) [] ≡ false }
+    ensures few { result ≡ true → length (code_points text.now) ≤ 1 }
+    ensures text { result ≡ true → 0 < length (code_points text.now) → meets_at_cut (bidi_of tables.now) (code_points text.now) [] ≡ false }
+{
+    if from != first.number || last != first.number || has_more_than_one(text) {
+        return false;
+    }
+    if ends_with_separator(tables, first.front) {
+        return false;
+    }
+    !ends_with_separator(tables, text)
+}
+
+/// Whether a text has more than one code point.
+fn has_more_than_one(text: &str) -> bool
+    ensures { result ≡ false → length (code_points text.now) ≤ 1 }
+{
+    text.chars().count() > 1
+}
+
+/// Whether the last code point of a text is a separator.
+fn ends_with_separator(tables: &Tables, text: &str) -> bool
+    ensures { result ≡ false → 0 < length (code_points text.now) → meets_at_cut (bidi_of tables.now) (code_points text.now) [] ≡ false }
+{
+    if text.is_empty() {
+        return false;
+    }
+    meets_at_cut(tables, text, "")
 }
 
 /// What is made anew where a text takes the place of paragraphs up to `to`, from that of a place on: these, and the one in
@@ -93,7 +133,7 @@ fn stretch_at<K>(
     to: usize,
     text: String,
 ) -> Result<Stretch, Memory>
-    requires some { 0 < length blocks.now }
+    requires block { IsBlockOf blocks.now first.now.block first.now.number }
     requires order { first.now.number < to }
     requires within { to ≤ length (texts_in blocks.now) }
     requires offset { first.now.offset ≡ length (code_points first.now.front.now) }
@@ -101,21 +141,24 @@ fn stretch_at<K>(
     requires begins { (t : List ℕ) × (code_points (string_bytes text) ≡ code_points first.now.front.now ++ t) }
     requires fits { Fits (texts_in blocks.now) }
     requires split { IsSplit tables.now (texts_in blocks.now) }
+    ensures block { IfOk result (λ s. IsBlockOf blocks.now s.block s.from) }
     ensures begun { IfOk result (λ s. IsBegun tables.now (texts_in blocks.now) s.from s.to (code_points (string_bytes s.text))) }
     ensures text { IfOk result (λ s. text_with (texts_in blocks.now) s.from s.to (code_points (string_bytes s.text))
         ≡ text_with (texts_in blocks.now) first.now.number to (code_points (string_bytes text))) }
     ensures from { IfOk result (λ s. (s.from ≡ first.now.number) ⊎ (s.from + 1 ≡ first.now.number)) }
     ensures to { IfOk result (λ s. s.to ≡ to) }
+    ensures same { IfOk result (λ s. s.from ≡ first.now.number → string_bytes s.text ≡ string_bytes text) }
     ensures ends { IfOk result (λ s. (front : List ℕ) × (code_points (string_bytes s.text) ≡ front ++ code_points (string_bytes text))) }
 {
     if first.number == 0 || first.offset > 0 {
         return Ok(Stretch {
+            block: first.block,
             from: first.number,
             to,
             text,
         });
     }
-    with_front(alloc, tables, blocks, first.number, to, text)
+    with_front(alloc, tables, blocks, first.block, first.number, to, text)
 }
 
 /// With the paragraph in front, where it no longer ends there. If nothing is left of the text, that one is the last, and
@@ -124,32 +167,38 @@ fn with_front<K>(
     alloc: Global,
     tables: &Tables,
     blocks: &[Block<K>],
+    block: Before,
     number: usize,
     to: usize,
     text: String,
 ) -> Result<Stretch, Memory>
-    requires some { 0 < length blocks.now }
+    requires block { IsBlockOf blocks.now block number }
     requires behind { 0 < number }
     requires order { number < to }
     requires within { to ≤ length (texts_in blocks.now) }
     requires fits { Fits (texts_in blocks.now) }
     requires split { IsSplit tables.now (texts_in blocks.now) }
+    ensures block { IfOk result (λ s. IsBlockOf blocks.now s.block s.from) }
     ensures begun { IfOk result (λ s. IsBegun tables.now (texts_in blocks.now) s.from s.to (code_points (string_bytes s.text))) }
     ensures text { IfOk result (λ s. text_with (texts_in blocks.now) s.from s.to (code_points (string_bytes s.text))
         ≡ text_with (texts_in blocks.now) number to (code_points (string_bytes text))) }
     ensures from { IfOk result (λ s. (s.from ≡ number) ⊎ (s.from + 1 ≡ number)) }
     ensures to { IfOk result (λ s. s.to ≡ to) }
+    ensures same { IfOk result (λ s. s.from ≡ number → string_bytes s.text ≡ string_bytes text) }
     ensures ends { IfOk result (λ s. (front : List ℕ) × (code_points (string_bytes s.text) ≡ front ++ code_points (string_bytes text))) }
 {
-    let before = text_of(blocks, number - 1);
+    let in_front = block_in_front(blocks, block, number);
+    let before = text_at(blocks, in_front, number - 1);
     if !text.is_empty() && meets_at_cut(tables, before, &text) {
         return Ok(Stretch {
+            block,
             from: number,
             to,
             text,
         });
     }
     Ok(Stretch {
+        block: in_front,
         from: number - 1,
         to,
         text: joined_text(alloc, before, &text)?,

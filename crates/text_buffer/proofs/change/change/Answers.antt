@@ -1,6 +1,7 @@
 -- The paragraphs of the stretch's text stand in the place of those that it has, and the text is split as before.
-use Rattle.std.proofs.Common.{◌++◌, length, take, drop, map, sym, ap, ◌∙◌, arith}
+use Rattle.std.proofs.Common.{◌++◌, length, take, drop, map, refl, sym, ap, ◌∙◌, arith}
 use Rattle.std.proofs.lemmas.List.{length-append, length-take-le, length-drop}
+use Rattle.std.proofs.lemmas.Str.{IsUtf8-string_bytes}
 use Rattle.std.specs.Prelude.{string_bytes}
 use Rattle.paragraphs.specs.Text.{code_points}
 use Rattle.text_buffer.specs.Edits.{anew}
@@ -24,8 +25,8 @@ replace-requires-clause-some g c =
     let tables = c.args.tables.now in
     let ps = c.in_ok-pieces.pieces.items in
     let is = split-parts tables (texts_in old) (utf8-kept old) c.requires.split in
-    let made = made-change tables (texts_in old) s.from s.to c.args.count (code_points (string_bytes s.text)) c.deref.result.now (points_in ps) is c.requires.count c.requires.stretch c.requires.some
-    c.deref.utf8 (ap code_points c.deref.ensures) (points-anew ps _ c.in_ok-pieces.ensures) in
+    let made = made-change tables (texts_in old) s.from s.to c.args.count (code_points (string_bytes s.text)) (string_bytes s.text) (points_in ps) is c.requires.count c.requires.stretch c.requires.some
+    (IsUtf8-string_bytes s.text) refl (points-anew ps _ c.in_ok-pieces.ensures) in
     omega (arith, made.some, length-points ps, c.in_ok-pieces.pieces.ok)
 
 pub replace-requires-clause-few : goal.replace-requires-clause-few
@@ -35,8 +36,8 @@ replace-requires-clause-few g c =
     let tables = c.args.tables.now in
     let ps = c.in_ok-pieces.pieces.items in
     let is = split-parts tables (texts_in old) (utf8-kept old) c.requires.split in
-    let made = made-change tables (texts_in old) s.from s.to c.args.count (code_points (string_bytes s.text)) c.deref.result.now (points_in ps) is c.requires.count c.requires.stretch c.requires.some
-    c.deref.utf8 (ap code_points c.deref.ensures) (points-anew ps _ c.in_ok-pieces.ensures) in
+    let made = made-change tables (texts_in old) s.from s.to c.args.count (code_points (string_bytes s.text)) (string_bytes s.text) (points_in ps) is c.requires.count c.requires.stretch c.requires.some
+    (IsUtf8-string_bytes s.text) refl (points-anew ps _ c.in_ok-pieces.ensures) in
     omega (arith, made.bytes, c.requires.new, c.requires.few)
 
 pub replace-requires-clause-paragraphs : goal.replace-requires-clause-paragraphs
@@ -46,8 +47,8 @@ replace-requires-clause-paragraphs g c =
     let tables = c.args.tables.now in
     let ps = c.in_ok-pieces.pieces.items in
     let is = split-parts tables (texts_in old) (utf8-kept old) c.requires.split in
-    let made = made-change tables (texts_in old) s.from s.to c.args.count (code_points (string_bytes s.text)) c.deref.result.now (points_in ps) is c.requires.count c.requires.stretch c.requires.some
-    c.deref.utf8 (ap code_points c.deref.ensures) (points-anew ps _ c.in_ok-pieces.ensures) in
+    let made = made-change tables (texts_in old) s.from s.to c.args.count (code_points (string_bytes s.text)) (string_bytes s.text) (points_in ps) is c.requires.count c.requires.stretch c.requires.some
+    (IsUtf8-string_bytes s.text) refl (points-anew ps _ c.in_ok-pieces.ensures) in
     let n = fits-split tables old c.requires.split c.requires.few in
     omega (arith, made.paragraphs, c.requires.new, n, length-points (pieces_in old), length-points ps, c.in_ok-pieces.pieces.ok)
 
@@ -70,8 +71,8 @@ returns-clause-text g c =
     let tables = c.args.tables.now in
     let ps = c.in_ok-pieces.pieces.items in
     let is = split-parts tables (texts_in old) (utf8-kept old) c.requires.split in
-    let made = made-change tables (texts_in old) s.from s.to c.args.count (code_points (string_bytes s.text)) c.deref.result.now (points_in ps) is c.requires.count c.requires.stretch c.requires.some
-    c.deref.utf8 (ap code_points c.deref.ensures) (points-anew ps _ c.in_ok-pieces.ensures) in
+    let made = made-change tables (texts_in old) s.from s.to c.args.count (code_points (string_bytes s.text)) (string_bytes s.text) (points_in ps) is c.requires.count c.requires.stretch c.requires.some
+    (IsUtf8-string_bytes s.text) refl (points-anew ps _ c.in_ok-pieces.ensures) in
     let new = ap points_in c.in_ok-replace.ensures.ok ∙ points-put (pieces_in old) ps s.from s.to in
     text-of_parts tables _ (text_with (texts_in old) s.from s.to (code_points (string_bytes s.text))) (new ∙ made.parts_is)
 
@@ -82,8 +83,8 @@ returns-clause-split g c =
     let tables = c.args.tables.now in
     let ps = c.in_ok-pieces.pieces.items in
     let is = split-parts tables (texts_in old) (utf8-kept old) c.requires.split in
-    let made = made-change tables (texts_in old) s.from s.to c.args.count (code_points (string_bytes s.text)) c.deref.result.now (points_in ps) is c.requires.count c.requires.stretch c.requires.some
-    c.deref.utf8 (ap code_points c.deref.ensures) (points-anew ps _ c.in_ok-pieces.ensures) in
+    let made = made-change tables (texts_in old) s.from s.to c.args.count (code_points (string_bytes s.text)) (string_bytes s.text) (points_in ps) is c.requires.count c.requires.stretch c.requires.some
+    (IsUtf8-string_bytes s.text) refl (points-anew ps _ c.in_ok-pieces.ensures) in
     let new = ap points_in c.in_ok-replace.ensures.ok ∙ points-put (pieces_in old) ps s.from s.to in
     let now = c.replace.new.blocks.items in
     parts-split tables (texts_in now) (utf8-kept now) (split-of_parts tables _ (text_with (texts_in old) s.from s.to (code_points (string_bytes s.text))) (new ∙ made.parts_is))

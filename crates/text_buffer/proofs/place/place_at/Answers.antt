@@ -1,6 +1,6 @@
 -- The two parts of the paragraph stand round the place.
 use Rattle.std.proofs.Common.{◌≡◌, ◌+◌, ◌++◌, [], length, take, get_or, ap, ap₂, ◌∙◌, arith}
-use Rattle.std.proofs.lemmas.List.{take-append-drop, length-take-le}
+use Rattle.std.proofs.lemmas.List.{take-append-drop, length-take-le, length-append}
 use Rattle.std.proofs.lemmas.Str.{encodes-chars}
 use Rattle.std.specs.List.{concat}
 use Rattle.paragraphs.specs.Text.{code_points}
@@ -26,8 +26,14 @@ overflow_add-result g c =
     let same = ap length (encodes-chars c.parted.result.0.now c.parted.ensures.first) in
     omega (arith, front, same, at.bytes, bytes-some (concat kept) c.args.place, c.requires.fits.bytes)
 
-pub returns-clause-bytes : goal.returns-clause-bytes
-returns-clause-bytes g c =
+pub text_at-requires : goal.text_at-requires
+text_at-requires g c = record { stands = c.spot_at.ensures.stands; reached = c.spot_at.ensures.first; here = c.spot_at.ensures.here }
+
+pub returns-clause-block : goal.returns-clause-block
+returns-clause-block g c = record { stands = c.spot_at.ensures.stands; reached = c.spot_at.ensures.first; here = c.spot_at.ensures.here }
+
+pub returns-clause-parted : goal.returns-clause-parted
+returns-clause-parted g c =
     let kept = texts_in c.args.blocks.now in
     let at = c.spot_at.ensures.spot in
     let n = c.spot_at.result.1.number in
@@ -40,4 +46,12 @@ returns-clause-bytes g c =
     let stands : length (concat (take n kept)) + length f ≡ c.args.place = omega (arith, size, at.place_is) in
     let front = ap bytes_in (text-front kept n c.args.place f b at.there own stands) ∙ bytes_in-append (concat (take n kept)) f in
     let same = ap length (encodes-chars c.parted.result.0.now c.parted.ensures.first) in
-    omega (arith, front, same, at.bytes)
+    record {
+      there = at.there;
+      front = c.parted.ensures.first;
+      back = c.parted.ensures.second;
+      own = own;
+      place = stands;
+      bytes = omega (arith, front, same, at.bytes);
+      more = λ more. omega (arith, at.inside more, size, ap length own, length-append f b);
+    }

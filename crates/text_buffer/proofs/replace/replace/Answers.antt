@@ -1,22 +1,17 @@
--- The stretch is found in its block or beyond it.
-use Rattle.std.proofs.Common.{[], length, get_or, ap, subst, arith}
-use Rattle.text_buffer.specs.Blocks.{rows_of, pieces_in}
-use Rattle.text_buffer.specs.Places.{IsInFront}
-use Rattle.text_buffer.proofs.Places.{length-points, parts-of}
+-- The paragraphs have no more bytes than those that were there and those that came.
+use Rattle.std.proofs.Common.{◌++◌, take, drop, ap, arith}
+use Rattle.std.specs.List.{concat}
+use Rattle.text_buffer.specs.Buffers.{bytes_in}
+use Rattle.text_buffer.specs.Pieces.{points_in}
+use Rattle.text_buffer.specs.Blocks.{pieces_in}
+use Rattle.text_buffer.proofs.Sums.{bytes-both, bytes-between}
 use Rattle.text_buffer.proofs.replace.replace.Goals as goal
 
-pub overflow_add-before : goal.overflow_add-before
-overflow_add-before g c =
-    let old = c.args.blocks.now.items in
-    let b = c.block_of-before.result in
-    let all = parts-of old b (subst (λ bs. IsInFront bs b) c.deref.ensures.value c.block_of-before.ensures.stands) in
-    let row = ap (λ bs. length (get_or (rows_of bs) b.block [])) c.deref-3.ensures.value in
-    omega (arith, all.paragraphs, row, c.count_in-count.ensures, length-points (pieces_in old), c.requires.paragraphs)
-
-pub overflow_add-count : goal.overflow_add-count
-overflow_add-count g c =
-    let old = c.args.blocks.now.items in
-    let b = c.block_of-before.result in
-    let all = parts-of old b (subst (λ bs. IsInFront bs b) c.deref.ensures.value c.block_of-before.ensures.stands) in
-    let row = ap (λ bs. length (get_or (rows_of bs) b.block [])) c.deref-3.ensures.value in
-    omega (arith, all.paragraphs, row, c.count_in-count.ensures, length-points (pieces_in old), c.requires.paragraphs, c.len.ensures)
+pub join_sparse-requires : goal.join_sparse-requires
+join_sparse-requires g c =
+    let old = pieces_in c.args.blocks.now.items in
+    let put = c.args.pieces.items in
+    let back = drop c.args.to old in
+    let all = ap (λ ps. bytes_in (concat (points_in ps))) c.in_ok-replace_apart.ensures.ok in
+    let order = bytes-between old c.args.from c.args.to (omega (arith, c.requires.order)) in
+    omega (arith, all, bytes-both (take c.args.from old) (put ++ back), bytes-both put back, order, c.requires.few)

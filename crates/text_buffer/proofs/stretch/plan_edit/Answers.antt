@@ -1,16 +1,19 @@
 -- The text stands between what is before the first place in its paragraph and what is behind the last one in its own.
-use Rattle.std.proofs.Common.{Err, ◌≡◌, ◌+◌, ◌-◌, ◌++◌, length, refl, sym, ap, subst, ◌∙◌, arith}
+use Rattle.std.proofs.Common.{Err, ◌≡◌, ℕ, ◌+◌, ◌-◌, ◌≤◌, List, [], ◌∷◌, ◌++◌, cond, length, take, get_or, refl, sym, ap, ap₂, subst, ◌∙◌, arith}
 use Rattle.std.proofs.lemmas.List.{append_assoc, length-append}
 use Rattle.std.proofs.lemmas.Result.{err_from_is_err_and}
-use Rattle.std.proofs.lemmas.Str.{chars-append, encodes-chars}
+use Rattle.std.proofs.lemmas.Str.{chars-append, encodes-chars, IsUtf8-string_bytes}
 use Rattle.std.specs.List.{concat}
-use Rattle.std.specs.Prelude.{string_bytes}
+use Rattle.std.specs.Prelude.{nat_eq, string_bytes}
+use Rattle.unicode_tables.specs.Tables.{bidi_of}
+use Rattle.paragraphs.proofs.Interface.{parts, points-parts}
 use Rattle.paragraphs.specs.Text.{code_points}
 use Rattle.text_buffer.specs.Edits.{IsParagraphOf}
 use Rattle.text_buffer.specs.Blocks.{texts_in}
 use Rattle.text_buffer.specs.Stretches.{IsBegun, IsRemade, text_with}
 use Rattle.text_buffer.proofs.Splits.{utf8-kept, split-parts}
 use Rattle.text_buffer.proofs.Begun.{stretch-own}
+use Rattle.text_buffer.proofs.Whole.{whole-stretch}
 use Rattle.text_buffer.proofs.Edits.{text-replaced, paragraphs-order, is-paragraph, of-first, bytes-replaced}
 use Rattle.text_buffer.proofs.Sums.{bytes-front, bytes-some}
 use Rattle.text_buffer.proofs.Counted.{ok-fits, memory-fits}
@@ -23,10 +26,10 @@ overflow_sub-others g c =
     let from = c.args.from in
     let to = c.args.to in
     let points = code_points c.args.text.now in
-    let a = c.place_at-first.ensures in
-    let z = c.place_at-last.ensures in
+    let a = c.place_at-first.ensures.parted in
+    let z = c.place_behind-last.ensures in
     let low = c.place_at-first.result in
-    let high = c.place_at-last.result in
+    let high = c.place_behind-last.result in
     let more = bytes-front (concat kept) from to c.requires.order in
     let few = bytes-some (concat kept) to in
     omega (arith, a.bytes, z.bytes, more)
@@ -38,10 +41,10 @@ overflow_sub-others-2 g c =
     let from = c.args.from in
     let to = c.args.to in
     let points = code_points c.args.text.now in
-    let a = c.place_at-first.ensures in
-    let z = c.place_at-last.ensures in
+    let a = c.place_at-first.ensures.parted in
+    let z = c.place_behind-last.ensures in
     let low = c.place_at-first.result in
-    let high = c.place_at-last.result in
+    let high = c.place_behind-last.result in
     let more = bytes-front (concat kept) from to c.requires.order in
     let few = bytes-some (concat kept) to in
     omega (arith, a.bytes, z.bytes, few, c.requires.bytes)
@@ -53,10 +56,10 @@ returns-then-text-others-clause-too_long g c =
     let from = c.args.from in
     let to = c.args.to in
     let points = code_points c.args.text.now in
-    let a = c.place_at-first.ensures in
-    let z = c.place_at-last.ensures in
+    let a = c.place_at-first.ensures.parted in
+    let z = c.place_behind-last.ensures in
     let low = c.place_at-first.result in
-    let high = c.place_at-last.result in
+    let high = c.place_behind-last.result in
     let more = bytes-front (concat kept) from to c.requires.order in
     let few = bytes-some (concat kept) to in
     let all = bytes-replaced (concat kept) points from to c.requires.order in
@@ -70,10 +73,10 @@ returns-in_err-whole-clause-too_long g c =
     let from = c.args.from in
     let to = c.args.to in
     let points = code_points c.args.text.now in
-    let a = c.place_at-first.ensures in
-    let z = c.place_at-last.ensures in
+    let a = c.place_at-first.ensures.parted in
+    let z = c.place_behind-last.ensures in
     let low = c.place_at-first.result in
-    let high = c.place_at-last.result in
+    let high = c.place_behind-last.result in
     let more = bytes-front (concat kept) from to c.requires.order in
     let few = bytes-some (concat kept) to in
     let all = bytes-replaced (concat kept) points from to c.requires.order in
@@ -88,10 +91,10 @@ stretch_at-requires-clause-order g c =
     let from = c.args.from in
     let to = c.args.to in
     let points = code_points c.args.text.now in
-    let a = c.place_at-first.ensures in
-    let z = c.place_at-last.ensures in
+    let a = c.place_at-first.ensures.parted in
+    let z = c.place_behind-last.ensures in
     let low = c.place_at-first.result in
-    let high = c.place_at-last.result in
+    let high = c.place_behind-last.result in
     let more = bytes-front (concat kept) from to c.requires.order in
     let few = bytes-some (concat kept) to in
     let order = paragraphs-order kept low.number high.number from to (code_points low.front.now) (code_points low.back.now) (code_points high.front.now) (code_points high.back.now) a.there z.there a.own z.own a.place z.place c.requires.order z.more in
@@ -104,10 +107,10 @@ stretch_at-requires-clause-begins g c =
     let from = c.args.from in
     let to = c.args.to in
     let points = code_points c.args.text.now in
-    let a = c.place_at-first.ensures in
-    let z = c.place_at-last.ensures in
+    let a = c.place_at-first.ensures.parted in
+    let z = c.place_behind-last.ensures in
     let low = c.place_at-first.result in
-    let high = c.place_at-last.result in
+    let high = c.place_behind-last.result in
     let more = bytes-front (concat kept) from to c.requires.order in
     let few = bytes-some (concat kept) to in
     let f = code_points low.front.now in
@@ -122,10 +125,10 @@ returns-in_err-stretch-clause-too_long g c =
     let from = c.args.from in
     let to = c.args.to in
     let points = code_points c.args.text.now in
-    let a = c.place_at-first.ensures in
-    let z = c.place_at-last.ensures in
+    let a = c.place_at-first.ensures.parted in
+    let z = c.place_behind-last.ensures in
     let low = c.place_at-first.result in
-    let high = c.place_at-last.result in
+    let high = c.place_behind-last.result in
     let more = bytes-front (concat kept) from to c.requires.order in
     let few = bytes-some (concat kept) to in
     let all = bytes-replaced (concat kept) points from to c.requires.order in
@@ -140,10 +143,10 @@ returns-clause-stretch g c =
     let from = c.args.from in
     let to = c.args.to in
     let points = code_points c.args.text.now in
-    let a = c.place_at-first.ensures in
-    let z = c.place_at-last.ensures in
+    let a = c.place_at-first.ensures.parted in
+    let z = c.place_behind-last.ensures in
     let low = c.place_at-first.result in
-    let high = c.place_at-last.result in
+    let high = c.place_behind-last.result in
     let more = bytes-front (concat kept) from to c.requires.order in
     let few = bytes-some (concat kept) to in
     let f = code_points low.front.now in
@@ -166,10 +169,10 @@ returns-clause-some g c = λ later.
     let from = c.args.from in
     let to = c.args.to in
     let points = code_points c.args.text.now in
-    let a = c.place_at-first.ensures in
-    let z = c.place_at-last.ensures in
+    let a = c.place_at-first.ensures.parted in
+    let z = c.place_behind-last.ensures in
     let low = c.place_at-first.result in
-    let high = c.place_at-last.result in
+    let high = c.place_behind-last.result in
     let more = bytes-front (concat kept) from to c.requires.order in
     let few = bytes-some (concat kept) to in
     let f = code_points low.front.now in
@@ -188,10 +191,10 @@ returns-clause-text g c =
     let from = c.args.from in
     let to = c.args.to in
     let points = code_points c.args.text.now in
-    let a = c.place_at-first.ensures in
-    let z = c.place_at-last.ensures in
+    let a = c.place_at-first.ensures.parted in
+    let z = c.place_behind-last.ensures in
     let low = c.place_at-first.result in
-    let high = c.place_at-last.result in
+    let high = c.place_behind-last.result in
     let more = bytes-front (concat kept) from to c.requires.order in
     let few = bytes-some (concat kept) to in
     let f = code_points low.front.now in
@@ -207,10 +210,10 @@ returns-clause-bytes g c =
     let from = c.args.from in
     let to = c.args.to in
     let points = code_points c.args.text.now in
-    let a = c.place_at-first.ensures in
-    let z = c.place_at-last.ensures in
+    let a = c.place_at-first.ensures.parted in
+    let z = c.place_behind-last.ensures in
     let low = c.place_at-first.result in
-    let high = c.place_at-last.result in
+    let high = c.place_behind-last.result in
     let more = bytes-front (concat kept) from to c.requires.order in
     let few = bytes-some (concat kept) to in
     let all = bytes-replaced (concat kept) points from to c.requires.order in
@@ -224,10 +227,10 @@ returns-clause-first g c =
     let from = c.args.from in
     let to = c.args.to in
     let points = code_points c.args.text.now in
-    let a = c.place_at-first.ensures in
-    let z = c.place_at-last.ensures in
+    let a = c.place_at-first.ensures.parted in
+    let z = c.place_behind-last.ensures in
     let low = c.place_at-first.result in
-    let high = c.place_at-last.result in
+    let high = c.place_behind-last.result in
     let more = bytes-front (concat kept) from to c.requires.order in
     let few = bytes-some (concat kept) to in
     of-first kept from low.number c.in_ok-stretch.stretch.from (is-paragraph kept low.number from (code_points low.front.now) (code_points low.back.now) a.there a.own a.place a.more) c.in_ok-stretch.ensures.from
@@ -239,10 +242,10 @@ returns-clause-last g c =
     let from = c.args.from in
     let to = c.args.to in
     let points = code_points c.args.text.now in
-    let a = c.place_at-first.ensures in
-    let z = c.place_at-last.ensures in
+    let a = c.place_at-first.ensures.parted in
+    let z = c.place_behind-last.ensures in
     let low = c.place_at-first.result in
-    let high = c.place_at-last.result in
+    let high = c.place_behind-last.result in
     let more = bytes-front (concat kept) from to c.requires.order in
     let few = bytes-some (concat kept) to in
     let same : high.number ≡ c.in_ok-stretch.stretch.to - 1 = omega (arith, c.in_ok-stretch.ensures.to) in
@@ -255,12 +258,39 @@ returns-clause-too_long g c =
     let from = c.args.from in
     let to = c.args.to in
     let points = code_points c.args.text.now in
-    let a = c.place_at-first.ensures in
-    let z = c.place_at-last.ensures in
+    let a = c.place_at-first.ensures.parted in
+    let z = c.place_behind-last.ensures in
     let low = c.place_at-first.result in
-    let high = c.place_at-last.result in
+    let high = c.place_behind-last.result in
     let more = bytes-front (concat kept) from to c.requires.order in
     let few = bytes-some (concat kept) to in
     let all = bytes-replaced (concat kept) points from to c.requires.order in
     let text = ap length (encodes-chars c.args.text.now c.utf8.text) in
     (λ e. absurd (ok-fits _ _ refl e), λ m. absurd (omega (arith, all, text, a.bytes, z.bytes, more, few, c.requires.bytes, c.requires.few, c.if-text-others.false, m)))
+
+pub returns-clause-one : goal.returns-clause-one
+returns-clause-one g c = λ h.
+    let bs = c.args.blocks.now in
+    let kept = texts_in bs in
+    let points = code_points c.args.text.now in
+    let a = c.place_at-first.ensures.parted in
+    let z = c.place_behind-last.ensures in
+    let low = c.place_at-first.result in
+    let high = c.place_behind-last.result in
+    let f = code_points low.front.now in
+    let b = code_points high.back.now in
+    let w = ap code_points c.in_ok-whole.ensures ∙ chars-append low.front.now (c.args.text.now ++ high.back.now) a.front ∙ ap (λ t. f ++ t) (chars-append c.args.text.now high.back.now c.utf8.text) in
+    let tables = c.args.tables.now in
+    let s = c.in_ok-stretch.stretch in
+    let made = c.in_ok-stretch.ensures in
+    let one = c.stays_one-one.ensures in
+    let is = split-parts tables kept (utf8-kept bs) c.requires.split in
+    let same = ap code_points (made.same (one.from h)) ∙ w in
+    let last = one.last h in
+    let own = z.own ∙ ap (λ n. get_or kept n []) last in
+    let order : length f ≤ length (code_points high.front.now) = omega (arith, a.place, z.place, c.requires.order, ap (λ n. length (concat (take n kept))) last) in
+    let whole = whole-stretch tables kept is low.number a.there f (code_points low.back.now) (code_points high.front.now) b points a.own own order (λ more. z.more (omega (arith, last, more))) (one.front h) (one.few h) (one.text h) in
+    let bytes = string_bytes s.text in
+    let all = points-parts tables bytes (IsUtf8-string_bytes s.text) in
+    let shown = λ (n : ℕ) (ps : List (List ℕ)). cond (nat_eq n (length kept)) ps (take (length ps - 1) ps) in
+    ap₂ shown (made.to ∙ ap (λ n. n + 1) last) (all ∙ ap (parts (bidi_of tables)) same) ∙ whole ∙ ap (λ x. x ∷ []) (sym same)

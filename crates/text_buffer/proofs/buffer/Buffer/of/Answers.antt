@@ -4,7 +4,7 @@ use Rattle.std.specs.List.{concat}
 use Rattle.std.proofs.lemmas.Str.{encodes-chars}
 use Rattle.paragraphs.specs.Text.{code_points}
 use Rattle.paragraphs.proofs.Interface.{points-parts}
-use Rattle.text_buffer.specs.Buffers.{KeptParagraph, IsSplit, bytes_in, paragraphs_in}
+use Rattle.text_buffer.specs.Buffers.{IsSplit, bytes_in, paragraphs_in}
 use Rattle.text_buffer.specs.Edits.{anew}
 use Rattle.text_buffer.specs.Pieces.{points_in, seen}
 use Rattle.text_buffer.specs.Blocks.{pieces_in, texts_in}
