@@ -29,6 +29,11 @@ def below(crate, libraries):
     return found
 
 
+def is_of_tests(crate):
+    """Whether a crate has tests, or what tests share, and nothing that is called."""
+    return crate.endswith("_tests") or crate == "test_rows"
+
+
 def is_static(crate):
     """Whether a crate is a static library, for programs that are not in Rattle."""
     lines = (ROOT / "crates.txt").read_text(encoding="utf-8").splitlines()

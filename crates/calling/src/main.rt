@@ -12,16 +12,9 @@ mod picture;
 mod walk;
 
 use bg_types::Out;
-pub use buffer::{follow, follow_all, take_into};
-pub use desks::{Desk, meet, new_desk, read_text, take_all, type_words};
-pub use editor::{edit, hear, look_round, type_at, walk_right};
-pub use fault::Fault;
-pub use meeting::run;
-pub use mouse::{caret_before, place_under};
-pub use picture::{picture, show};
+use meeting::run;
 use std::io;
 use std::process::ExitCode;
-pub use walk::steps_right;
 
 /// The key of the hash tables. A program that takes operations from strangers draws it at random, so
 /// that they can't choose identifiers that share a slot.

@@ -1,2 +1,2 @@
 -- The modules of this crate's proofs.
-pub mod Opened
+pub mod FilesOpened

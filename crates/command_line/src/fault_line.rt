@@ -2,8 +2,9 @@
 
 ghost use Rattle.std.specs.Prelude.{◌≡◌, false, is_err};
 
+use crate::ending::tell;
+use crate::unread::CannotRead;
 use bg_types::{Device, Sink};
-use cli_support::{CannotRead, tell};
 use desk_files::RunFault;
 
 /// The program's name in its lines.

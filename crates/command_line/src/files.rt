@@ -4,7 +4,8 @@ ghost use Rattle.std.specs.Prelude.{◌≡◌, ◌+◌, ◌<◌, ℕ, Some, IfOk
 ghost use Rattle.std.specs.List.{AllZip};
 ghost use Rattle.desk_files.specs.Readers.{AreWorking};
 
-use cli_support::{Opener, Unread};
+use crate::opener::Opener;
+use crate::unread::Unread;
 use desk_files::RunFault;
 use op_codec::{In, Source};
 

@@ -1,6 +1,6 @@
 //! The folder of the five data files.
 
-use cli_support::Stop;
+use crate::stop::Stop;
 use std::alloc::Global;
 use std::env::{self, VarError};
 use std::rt::Env;

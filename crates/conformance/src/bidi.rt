@@ -52,7 +52,7 @@ pub fn line_of(
     }
 }
 
-/// The same for a paragraph. Each code point counts as a cluster, as the test files have it.
+/// What the crates give for a paragraph. Each code point counts as a cluster, as the test files have it.
 fn paragraph_line(
     alloc: Global,
     tables: &Tables,

@@ -16,23 +16,22 @@ mod test_file;
 mod words;
 
 use bg_types::Out;
-use cli_support::{Stop, end, flush, read_data, tell};
-pub use engine::run;
-pub use fault::{FaultAt, LineFault, RunFault};
-pub use request::Job;
+use command_line::{Stop, end, flush, read_data, tell};
+use engine::run;
+use fault::{FaultAt, RunFault};
 use std::fmt::Display;
 use std::fs::File;
 use std::io::{self, BufRead, BufReader, BufWriter, Write};
 use std::process::ExitCode;
-pub use tally::{Choice, Tally, Verdict};
-pub use test_file::TestFile;
+use tally::Tally;
+use test_file::TestFile;
 use ucd_files::{Tables, Ucd};
 
 /// The name at the front of the line about a fault.
 const NAME: &str = "conformance";
 
 fn main(rt: HostRuntime) -> ExitCode {
-    let words = match cli_support::words(&rt) {
+    let words = match command_line::words(&rt) {
         Ok(words) => words,
         Err(stop) => return without_work(&rt, &stop),
     };
@@ -83,7 +82,7 @@ fn compare(rt: &HostRuntime, tables: &Tables, path: &str) -> Result<Tally, RunFa
     }
 }
 
-/// The same of a test file that is read.
+/// Runs a test file that is open, and writes what came of it.
 fn compare_read<B: BufRead>(
     rt: &HostRuntime,
     tables: &Tables,

@@ -2,7 +2,7 @@
 
 use crate::request::Job;
 use clap::{Arg, ArgAction, ArgMatches, Command};
-use cli_support::Stop;
+use command_line::Stop;
 use std::alloc::{AllocError, Global};
 
 const ABOUT: &str = "Runs Unicode's own test files against the layout's crates.\n\n\

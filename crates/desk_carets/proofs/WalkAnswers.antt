@@ -1,33 +1,32 @@
 -- What a run that walks over a grid writes, or why it ended early.
-use Rattle.std.proofs.Common.{◌≡◌, ℕ, ◌<◌, ◌≤◌, true, false, Bool, List, length, Option, None, Result, Ok, Err, inr, refl, ap, subst, ◌∙◌}
-use Rattle.std.specs.Prelude.{OnOk, IfOk, IfErr}
+use Rattle.std.proofs.Common.{◌≡◌, ℕ, ◌<◌, ◌≤◌, true, false, Bool, List, length, Option, Some, None, Result, Ok, Err, inr, refl, ap, subst, ◌∙◌}
+use Rattle.std.specs.Prelude.{◌≢◌, OnOk, IfOk, IfErr}
 use Rattle.std.specs.Str.{chars}
 use Rattle.std.specs.Io.KnownBytes.{Appends}
 use Rattle.bg_types.specs.Sink.{AppendsBeginning}
 use Rattle.ucd_files.specs.Tables.{TableValues}
 use Rattle.cell_grid.specs.Grids.{grid_of}
+use Rattle.ucd_files.specs.declared.fault.UcdFault.{UcdFault}
+use Rattle.ucd_files.specs.declared.fault.UcdFault.TheVariants as ucd
 use Rattle.op_codec.specs.declared.fault.CodecFault.TheVariants as codec
 use Rattle.desk_files.specs.declared.run_fault.RunFault.{RunFault}
 use Rattle.desk_files.specs.declared.run_fault.RunFault.TheVariants.{Tables, File, Schedule, Step, Listing, PastEnd, Device, ReadFailed, Memory, TooLong}
-use Rattle.desk_files.specs.Cause.{IsTablesCaused, IsTakingCaused}
+use Rattle.desk_files.specs.Fault.{of_ucd_fault}
+use Rattle.desk_files.specs.Cause.{IsTakingCaused}
 use Rattle.desk_carets.specs.Cause.{IsUnwalked}
 use Rattle.desk_carets.specs.Carets.{walk_lines}
 use Rattle.desk_files.specs.TextOutcome.{IsTextOfFiles}
 use Rattle.desk_carets.specs.CaretsOutcome.{Asked, lines_over, IsWalked, IsWalkCaused, IsCaretsOutcome}
 
+-- a fault of the data files is no failed read
+pub tables_unlike_read : (fault : UcdFault) (n : ℕ) → of_ucd_fault fault ≢ ReadFailed n
+tables_unlike_read (ucd.At file line cause) n = λ is. absurd cc
+tables_unlike_read ucd.Memory n = λ is. absurd cc
+
 module _ (a : Asked) where
-  pub tables_walk : (fault : RunFault) → IsTablesCaused a.fault fault → IsWalkCaused a fault
-  tables_walk (Tables fault) h = h
-  tables_walk (File n (codec.Malformed frame cause)) h = absurd h
-  tables_walk (File n codec.Memory) h = h
-  tables_walk (Schedule line fault) h = h
-  tables_walk (Step line desk fault) h = absurd h
-  tables_walk (Listing line fault) h = h
-  tables_walk (PastEnd place) h = absurd h
-  tables_walk Device h = h
-  tables_walk (ReadFailed file) h = h
-  tables_walk Memory h = tt
-  tables_walk (TooLong file) h = absurd h
+  pub tables_walk : (fault : UcdFault) → (fault ≢ ucd.Memory → a.fault ≡ Some fault) → IsWalkCaused a (of_ucd_fault fault)
+  tables_walk (ucd.At file line cause) h = h (λ is. absurd cc)
+  tables_walk ucd.Memory h = tt
 
   pub files_walk : (fault : RunFault) → a.fault ≡ None → IsTakingCaused a.files fault → IsWalkCaused a fault
   files_walk (Tables fault) none h = absurd h

@@ -14,7 +14,7 @@ ghost use Rattle.desk_carets.specs.CaretsOutcome.{asked, IsWalked, IsWalkCaused,
 use crate::walk::walk_lines;
 use bg_types::{Base, Sink, put_all};
 use caret::{Move, at_place};
-use desk_files::{RunFault, joined_text, read_tables, readers_of};
+use desk_files::{RunFault, joined_text, readers_of};
 use op_codec::Source;
 use std::alloc::Global;
 use ucd_files::{Tables, Ucd};
@@ -57,8 +57,8 @@ pub fn carets<S: Sink>(
     )
 }
 
-/// The same over the files of readers. Each is read in pieces of at most 4,096 bytes, to its end, to
-/// a fault in its bytes, or to a byte past the first 67,108,864.
+/// Does what `carets` does, over the files of readers. Each is read in pieces of at most 4,096 bytes, to
+/// its end, to a fault in its bytes, or to the byte past the greatest length of a file.
 pub fn carets_from<R: Source, S: Sink>(
     alloc: Global,
     key: u128,
@@ -105,7 +105,7 @@ fn read_and_walk<R: Source>(
     ensures fault { IfErr result (EndsOver (each R.remaining files.old) (each R.remaining files.new) (each R.has_failed files.new)
         (λ told. IsWalkCaused (asked ucd.now width base told place moves.now))) }
 {
-    let tables = read_tables(alloc, ucd)?;
+    let tables = ucd.load(alloc)?;
     let text = joined_text(alloc, key, files)?;
     lines_over(alloc, &tables, width, base, text.as_str(), place, moves)
 }

@@ -7,7 +7,7 @@ use Rattle.bg_types.specs.declared.op.OpView.{OpView}
 use Rattle.op_listing.specs.FirstFault.{AreFaultless, AreRead}
 use Rattle.desk_files.specs.declared.schedule.step.Numbered.{Numbered}
 use Rattle.desk_files.specs.declared.schedule_fault.ScheduleFault.{ScheduleFault}
-use Rattle.desk_files.specs.declared.schedule.step.Step.{Step}
+use Rattle.desk_files.specs.declared.schedule.step.RunStep.{RunStep}
 use Rattle.desk_files.specs.Schedule.{line_says, fault_in, fault_said, step_said, with_line, steps_from, IsStepOf, Schedules}
 
 module _ (files : List (List OpView)) where
@@ -28,7 +28,7 @@ module _ (files : List (List OpView)) where
       ∙ sym (append_assoc (with_line n (step_said (line_says files y))) (steps_from files (n + 1) xs) (with_line (n + length (y ∷ xs)) (step_said (line_says files x))))
 
   -- one more line is read, and may say a step
-  pub line_read : {text rest after line : List ℕ} {number : ℕ} {steps : List Numbered} {said : Option (Result Step ScheduleFault)}
+  pub line_read : {text rest after line : List ℕ} {number : ℕ} {steps : List Numbered} {said : Option (Result RunStep ScheduleFault)}
       → (more : (text rest after line : List ℕ) (number : ℕ) (done : List (List ℕ)) → AreRead (fault_in files) text rest number done → lines rest ≡ line ∷ lines after → fault_in files line ≡ None → AreRead (fault_in files) text after (number + 1) (done ++ line ∷ []))
       → AreStepsRead text rest number steps → lines rest ≡ line ∷ lines after → said ≡ line_says files line → fault_said said ≡ None → AreStepsRead text after (number + 1) (steps ++ with_line (number + 1) (step_said said))
   line_read {text} {rest} {after} {line} {number} {steps} {said} more h first is right = record {

@@ -1,6 +1,5 @@
 -- Why a part of a run ended early. Each fault stands only where its cause is present, and lack of memory has none.
-use Rattle.std.specs.Prelude.{◌≡◌, ℕ, List, Option, Some}
-use Rattle.ucd_files.specs.declared.fault.UcdFault.{UcdFault}
+use Rattle.std.specs.Prelude.{◌≡◌, ℕ, List}
 use Rattle.op_codec.specs.declared.fault.CodecFault.{CodecFault}
 use Rattle.op_codec.specs.declared.fault.CodecFault.TheVariants as codec
 use Rattle.desk_replica.specs.declared.answer.TakeFault.{TakeFault}
@@ -11,21 +10,6 @@ use Rattle.desk_files.specs.Reading.{malformed, too_long}
 use Rattle.bg_types.specs.declared.op.OpView.{OpView}
 use Rattle.desk_files.specs.Files.{IsFaultyFile, AreRefused}
 use Rattle.desk_files.specs.Schedule.{IsFaultyStep}
-
--- ---- the data files
-
--- the first fault of the data files
-abbrev pub IsTablesCaused : Option UcdFault → RunFault → Type 0
-IsTablesCaused first (Tables fault) = first ≡ Some fault
-IsTablesCaused first (File n fault) = ⊥
-IsTablesCaused first (Schedule line fault) = ⊥
-IsTablesCaused first (Step line desk fault) = ⊥
-IsTablesCaused first (Listing line fault) = ⊥
-IsTablesCaused first Device = ⊥
-IsTablesCaused first (PastEnd place) = ⊥
-IsTablesCaused first (ReadFailed file) = ⊥
-IsTablesCaused first (TooLong file) = ⊥
-IsTablesCaused first Memory = Unit {0}
 
 -- ---- the files
 

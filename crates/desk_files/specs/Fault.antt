@@ -1,5 +1,7 @@
 -- The numbers of faults, and the statuses that they end the program with.
 use Rattle.std.specs.Prelude.{ℕ}
+use Rattle.ucd_files.specs.declared.fault.UcdFault.{UcdFault}
+use Rattle.ucd_files.specs.declared.fault.UcdFault.TheVariants as ucd
 use Rattle.op_codec.specs.declared.fault.CodecFault.TheVariants as codec
 use Rattle.op_listing.specs.declared.file_fault.FileFault.{FileFault}
 use Rattle.op_listing.specs.declared.file_fault.FileFault.TheVariants as file
@@ -43,7 +45,11 @@ status_of (run.ReadFailed file) = 3
 status_of (run.TooLong file) = 1
 status_of run.Memory = 3
 
--- ---- the faults of conversions, as faults of a run
+-- ---- the faults of data files and of conversions, as faults of a run
+
+abbrev pub of_ucd_fault : UcdFault → RunFault
+of_ucd_fault (ucd.At file line cause) = run.Tables (ucd.At file line cause)
+of_ucd_fault ucd.Memory = run.Memory
 
 -- a conversion reads one file, which has number 1
 abbrev pub of_file_fault : FileFault → RunFault

@@ -30,8 +30,8 @@ pub fn text<S: Sink>(
     text_from(alloc, key, &mut readers, out)
 }
 
-/// The same over the files of readers. Each is read in pieces of at most 4,096 bytes, to its end, to
-/// a fault in its bytes, or to a byte past the first 67,108,864.
+/// Does what `text` does, over the files of readers. Each is read in pieces of at most 4,096 bytes, to
+/// its end, to a fault in its bytes, or to the byte past the greatest length of a file.
 pub fn text_from<R: Source, S: Sink>(
     alloc: Global,
     key: u128,

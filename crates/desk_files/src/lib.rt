@@ -11,15 +11,13 @@ mod reading;
 mod run_fault;
 mod schedule;
 mod schedule_fault;
-mod tables;
 
-pub use desk::{Desk, let_go, new_desk, read_text};
+pub use desk::{Desk, MOST_OPERATIONS, let_go, new_desk, read_text};
 pub use desk_replica::TakeFault;
 pub use engine::{text, text_from};
 pub use in_memory::{InMemory, readers_of};
 pub use one_desk::{joined_text, step_fault, take_files};
 pub use reading::read_all;
 pub use run_fault::{RunFault, status};
-pub use schedule::{Numbered, Step, read_schedule};
+pub use schedule::{Numbered, RunStep, read_schedule};
 pub use schedule_fault::ScheduleFault;
-pub use tables::read_tables;

@@ -13,20 +13,17 @@ ghost use Rattle.desk_files.specs.Cause.{IsTakingCaused, step_fault_of};
 ghost use Rattle.desk_files.specs.TextOutcome.{IsTextOfFiles};
 ghost use Rattle.desk_files.specs.declared.run_fault.RunFault.TheVariants.{Memory as run_memory};
 
-use crate::desk::{Desk, let_go, new_desk, read_text};
-use crate::reading::{LIMIT, PIECE, feed_piece, finish};
+use crate::desk::{Desk, MOST_OPERATIONS, let_go, new_desk, read_text};
+use crate::reading::{PIECE, feed_piece, finish};
 use crate::run_fault::RunFault;
 use bg_types::{Id, Memory, Op, OpView, Place, laws as sets};
 use desk_replica::{TakeFault, laws as desks};
-use op_codec::{Source, Stream};
+use op_codec::{LONGEST_FILE, Source, Stream};
 use std::alloc::Global;
 use std::cmp::Reverse;
 
 /// The site of the one desk.
 const SITE: u16 = 1;
-
-/// How many operations a desk can keep, and so how many are taken together at most.
-const MOST: usize = 1_000_000;
 
 /// How many numbers a site may have.
 const SITES: u64 = 65_536;
@@ -49,7 +46,7 @@ pub fn joined_text<R: Source>(alloc: Global, key: u128, files: &mut [R]) -> Resu
     text
 }
 
-/// The same by a desk without operations.
+/// The text of all operations of the files, which a desk without operations takes.
 fn text_with<R: Source>(alloc: Global, files: &mut [R], desk: &mut Desk) -> Result<String, RunFault>
     requires working { AreWorking (each R.has_failed files.old) }
     requires empty { desk.old.set ≡ no_operations }
@@ -119,7 +116,7 @@ fn take_file<R: Source>(
     let mut waiting = Vec::new(alloc);
     let mut stream = Stream::new();
     let mut piece = [0; PIECE];
-    let mut left = LIMIT;
+    let mut left = LONGEST_FILE;
     while let Some(given) = reader.get(&mut piece) {
         if given == 0 {
             finish(number, &stream)?;
@@ -145,7 +142,7 @@ fn take_unless_more_come(
     ensures few { OnOk result (length waiting.new.items < 1_000_000) }
     ensures site { desk.new.site ≡ desk.old.site }
 {
-    if waiting.len() < MOST && came_out_of_order(waiting) {
+    if waiting.len() < MOST_OPERATIONS && came_out_of_order(waiting) {
         return Ok(());
     }
     take_more(desk, refused, waiting)?;
@@ -190,7 +187,7 @@ fn keep_refusal(refused: &mut Option<TakeFault>, fault: TakeFault) -> Result<(),
 fn put_in_order(desk: &Desk, ops: &mut [Op])
     ensures { IsReordered desk.now.set ops.old ops.new }
 {
-    if came_out_of_order(ops) && ops.len() <= MOST - desk.op_count() {
+    if came_out_of_order(ops) && ops.len() <= MOST_OPERATIONS - desk.op_count() {
         ops.sort_unstable_by_key(turn);
     }
 }

@@ -11,11 +11,8 @@ ghost use Rattle.desk_files.specs.Cause.{IsReadCaused, file_fault_of};
 
 use crate::run_fault::RunFault;
 use bg_types::Op;
-use op_codec::{CodecFault, Source, Stream, laws as codec};
+use op_codec::{CodecFault, LONGEST_FILE, Source, Stream, laws as codec};
 use std::alloc::Global;
-
-/// The greatest length of an operation file, in bytes.
-pub const LIMIT: usize = 67_108_864;
 
 /// How many bytes a reader is asked for at once.
 pub const PIECE: usize = 4_096;
@@ -49,7 +46,7 @@ fn read_file<R: Source>(alloc: Global, number: usize, reader: &mut R) -> Result<
     let mut ops = Vec::new(alloc);
     let mut stream = Stream::new();
     let mut piece = [0; PIECE];
-    let mut left = LIMIT;
+    let mut left = LONGEST_FILE;
     while let Some(given) = reader.get(&mut piece) {
         if given == 0 {
             finish(number, &stream)?;

@@ -1,7 +1,7 @@
 //! Why a run ended early.
 
 ghost use Rattle.std.specs.Prelude.{◌≡◌};
-ghost use Rattle.desk_files.specs.Fault.{run_code, status_of, of_file_fault, of_listing_fault};
+ghost use Rattle.desk_files.specs.Fault.{run_code, status_of, of_ucd_fault, of_file_fault, of_listing_fault};
 ghost use Rattle.desk_files.specs.declared.run_fault.RunFault.TheVariants.{Memory as run_memory, Device as run_device};
 
 use crate::schedule_fault::ScheduleFault;
@@ -130,6 +130,17 @@ impl From<Device> for RunFault {
 
     fn from(_error: Device) -> RunFault {
         RunFault::Device
+    }
+}
+
+impl From<UcdFault> for RunFault {
+    ghost from_gives = { λ fault e. e ≡ of_ucd_fault fault };
+
+    fn from(fault: UcdFault) -> RunFault {
+        match fault {
+            UcdFault::At { .. } => RunFault::Tables(fault),
+            UcdFault::Memory => RunFault::Memory,
+        }
     }
 }
 

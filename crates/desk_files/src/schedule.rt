@@ -15,7 +15,7 @@ use bg_types::Op;
 use line::read_step;
 use op_listing::{laws, split_line};
 use std::alloc::Global;
-pub use step::{Numbered, Step};
+pub use step::{Numbered, RunStep};
 
 /// The steps of a schedule with the numbers of their lines, or its first fault.
 pub fn read_schedule(

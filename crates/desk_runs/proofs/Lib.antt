@@ -3,6 +3,7 @@ pub mod OnePlan
 pub mod FreshDesks
 pub mod Rooms
 pub mod Running
+pub mod Takes
 pub mod Rounds
 pub mod StepAnswers
 pub mod OneRefusal

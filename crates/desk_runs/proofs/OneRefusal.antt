@@ -6,7 +6,7 @@ use Rattle.desk_replica.specs.declared.answer.TakeFault.{TakeFault}
 use Rattle.desk_replica.specs.Reply.{IsRefusal}
 use Rattle.desk_replica.specs.Merging.{IsMergeRefusal}
 use Rattle.desk_replica.specs.DeskSets.{DeskStep, takes, merges, set_at, IsStepRefused as IsDeskStepRefused}
-use Rattle.desk_files.specs.declared.schedule.step.Step.{Step as OneStep}
+use Rattle.desk_files.specs.declared.schedule.step.RunStep.{RunStep}
 use Rattle.desk_files.specs.declared.schedule.step.Numbered.{Numbered}
 use Rattle.desk_runs.specs.Steps.{desk_step, sets_after_step, sets_after, IsDoneRefused, IsStepRefused, NoneRefused, FirstRefused, desk_of}
 
@@ -24,7 +24,7 @@ module _ (laws : RefusalLaws) where
   same_done sets None f g a b = absurd a
   same_done sets (Some done) f g a b = same_desk_step sets done f g a b
 
-  same_step : (files : List (List OpView)) (sets : List OperationSet) (step : OneStep) (f g : TakeFault) → IsStepRefused files sets step f → IsStepRefused files sets step g → f ≡ g
+  same_step : (files : List (List OpView)) (sets : List OperationSet) (step : RunStep) (f g : TakeFault) → IsStepRefused files sets step f → IsStepRefused files sets step g → f ≡ g
   same_step files sets step f g a b = same_done sets (desk_step files step) f g a b
 
 none_in : (files : List (List OpView)) (sets : List OperationSet) (before later : List Numbered) (at : Numbered) (fault : TakeFault) → NoneRefused files sets (before ++ at ∷ later)

@@ -1,16 +1,19 @@
 -- Runs of a plan, and what they are for the data that a run is given.
 use Rattle.std.proofs.Common.{◌≡◌, ℕ, List, Result, Ok, Err, inl, inr, length, Option, Some, None, subst}
-use Rattle.std.specs.Prelude.{Bool, false}
+use Rattle.std.specs.Prelude.{◌≢◌, Bool, false}
 use Rattle.std.specs.List.{AllZip}
 use Rattle.std.proofs.KnownBytes.{Keeps-refl}
 use Rattle.bg_types.specs.OperationSet.{OperationSet}
 use Rattle.bg_types.specs.declared.op.OpView.{OpView}
+use Rattle.ucd_files.specs.declared.fault.UcdFault.{UcdFault}
+use Rattle.ucd_files.specs.declared.fault.UcdFault.TheVariants as ucd
 use Rattle.op_codec.specs.declared.fault.CodecFault.TheVariants as codec
 use Rattle.desk_files.specs.declared.run_fault.RunFault.{RunFault}
 use Rattle.desk_files.specs.declared.run_fault.RunFault.TheVariants.{Tables, File, Schedule, Step, Listing, Device, PastEnd, ReadFailed, Memory, TooLong}
 use Rattle.desk_files.specs.declared.schedule.step.Numbered.{Numbered}
 use Rattle.desk_files.specs.Reading.{IsReadAs}
-use Rattle.desk_files.specs.Cause.{IsTablesCaused, IsReadCaused, IsScheduleCaused}
+use Rattle.desk_files.specs.Fault.{of_ucd_fault}
+use Rattle.desk_files.specs.Cause.{IsReadCaused, IsScheduleCaused}
 use Rattle.desk_replica.specs.DeskSets.{empty_desks}
 use Rattle.desk_runs.specs.Shows.{IsStepsOutcome}
 use Rattle.desk_runs.specs.ReplayOutcome.{Given, print_of, IsPlan, IsUnplanned, IsPlanOutcome, IsUnread, IsReplayOutcome}
@@ -46,18 +49,9 @@ unscheduled files bytes Memory h = h
 -- ---- the data of a run
 
 module _ (g : Given) where
-  tables_unread : (fault : RunFault) → IsTablesCaused g.fault fault → IsUnread g fault
-  tables_unread (Tables fault) h = h
-  tables_unread (File n (codec.Malformed frame cause)) h = absurd h
-  tables_unread (File n codec.Memory) h = absurd h
-  tables_unread (Schedule line fault) h = absurd h
-  tables_unread (Step line desk fault) h = absurd h
-  tables_unread (Listing line fault) h = h
-  tables_unread Device h = absurd h
-  tables_unread (PastEnd place) h = h
-  tables_unread (ReadFailed file) h = h
-  tables_unread Memory h = tt
-  tables_unread (TooLong file) h = absurd h
+  tables_unread : (fault : UcdFault) → (fault ≢ ucd.Memory → g.fault ≡ Some fault) → IsUnread g (of_ucd_fault fault)
+  tables_unread (ucd.At file line cause) h = h (λ is. absurd cc)
+  tables_unread ucd.Memory h = tt
 
   files_unread : (fault : RunFault) → g.fault ≡ None → IsReadCaused g.files fault → IsUnread g fault
   files_unread (Tables fault) none h = absurd h
@@ -73,7 +67,7 @@ module _ (g : Given) where
   files_unread (TooLong n) none h = (none, h)
 
   module _ (old : Option (List ℕ)) (failed : Bool) (working : failed ≡ false) where
-    pub ended_by_tables : (fault : RunFault) → IsTablesCaused g.fault fault → IsReplayOutcome g old old failed (Err fault)
+    pub ended_by_tables : (fault : UcdFault) → (fault ≢ ucd.Memory → g.fault ≡ Some fault) → IsReplayOutcome g old old failed (Err (of_ucd_fault fault))
     ended_by_tables fault h = inl (tables_unread fault h, (working, Keeps-refl old))
 
     pub ended_by_files : (fault : RunFault) → g.fault ≡ None → IsReadCaused g.files fault → IsReplayOutcome g old old failed (Err fault)

@@ -5,7 +5,7 @@ use Rattle.std.specs.List.{flat_map, range_with_len}
 use Rattle.std.proofs.lemmas.List.{append-nil}
 use Rattle.std.proofs.lemmas.List.Concat.{flat_map-append, flat_map-cons}
 use Rattle.bg_types.specs.declared.op.OpView.{OpView}
-use Rattle.desk_files.specs.declared.schedule.step.Step.TheVariants.{Take, Show}
+use Rattle.desk_files.specs.declared.schedule.step.RunStep.TheVariants.{Take, Show}
 use Rattle.desk_files.specs.declared.schedule.step.Numbered.{Numbered}
 use Rattle.desk_runs.specs.Round.{unnumbered, file_takes, files_takes, nth_turn, turn}
 use Rattle.desk_runs.proofs.Running.{IsBeginning}

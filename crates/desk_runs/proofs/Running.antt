@@ -254,14 +254,20 @@ steps_done {setting} {first} {xs} {ys} {view} {next_view} {desks} {after} {old} 
 }
 
 -- more steps ended early, and so all that would have followed
+pub ended_early : (setting : Setting) (first desks last : List Desk) {xs ys all : List Numbered} (more : List Numbered) (old now new : Option (List ℕ)) (failed : Bool) (r : Result (Unit {0}) RunFault) (fault : RunFault)
+    → Ran (print_in setting) (files_in setting) (sets_of first) xs (sets_of desks) old now → xs ++ more ≡ ys → IsBeginning ys all → IsErrAnd r (λ e. e ≡ fault)
+    → IsStepsEnd (print_in setting) (files_in setting) (sets_of desks) more now new failed fault → IsStepsOutcomeIn setting first all last old new failed r
+ended_early setting first desks last {xs} {ys} {all} more old now new failed r fault ran next begins handed end =
+    answer_handed (IsStepsOutcomeIn setting first all last old new failed) r fault handed
+    (subst (λ steps. IsStepsEnd (print_in setting) (files_in setting) (sets_of first) steps old new failed fault) (ap (λ steps. steps ++ begins.rest) next ∙ begins.is)
+    (end_before (print_in setting) (files_in setting) (sets_of first) (xs ++ more) begins.rest old new failed fault
+    (end_then (print_in setting) (files_in setting) (sets_of first) (sets_of desks) xs old now ran more new failed fault end)))
+
 pub steps_ended : {setting : Setting} {first : List Desk} {xs ys all : List Numbered} {view : KeptView} {desks : List Desk} {old now : Option (List ℕ)} {failed : Bool} (more : List Numbered) → HasDone setting first xs view desks old now failed
     → xs ++ more ≡ ys → IsBeginning ys all → (after last : List Desk) (new : Option (List ℕ)) (new_failed : Bool) (r : Result (Unit {0}) RunFault) (fault : RunFault) → IsErrAnd r (λ e. e ≡ fault)
     → IsStepsOutcomeIn setting desks more after now new new_failed (Err fault) → IsStepsOutcomeIn setting first all last old new new_failed r
 steps_ended {setting} {first} {xs} {ys} {all} {view} {desks} {old} {now} {failed} more h next begins after last new new_failed r fault handed outcome =
-    answer_handed (IsStepsOutcomeIn setting first all last old new new_failed) r fault handed
-    (subst (λ steps. IsStepsEnd (print_in setting) (files_in setting) (sets_of first) steps old new new_failed fault) (ap (λ steps. steps ++ begins.rest) next ∙ begins.is)
-    (end_before (print_in setting) (files_in setting) (sets_of first) (xs ++ more) begins.rest old new new_failed fault
-    (end_then (print_in setting) (files_in setting) (sets_of first) (sets_of desks) xs old now h.ran more new new_failed fault outcome)))
+    ended_early setting first desks last more old now new new_failed r fault h.ran next begins handed outcome
 
 -- ---- a list of steps, gone through one by one
 

@@ -2,14 +2,15 @@
 use Rattle.std.specs.Prelude.{ℕ, ◌+◌, ◌-◌, ◌%◌, List, ◌++◌, length, map as each}
 use Rattle.std.specs.List.{flat_map, range_with_len}
 use Rattle.bg_types.specs.declared.op.OpView.{OpView}
-use Rattle.desk_files.specs.declared.schedule.step.Step.{Step}
-use Rattle.desk_files.specs.declared.schedule.step.Step.TheVariants.{Take, Show}
+use Rattle.desk_files.specs.declared.schedule.step.RunStep.{RunStep}
+use Rattle.desk_files.specs.declared.schedule.step.RunStep.TheVariants.{Take, Show}
 use Rattle.desk_files.specs.declared.schedule.step.Numbered.{Numbered}
 use Rattle.desk_files.specs.Schedule.{file_at}
+use Rattle.desk_runs.specs.Steps.{at_line}
 
 -- a step of no line
-abbrev pub unnumbered : Step → Numbered
-unnumbered step = record { line = 0; step = step }
+abbrev pub unnumbered : RunStep → Numbered
+unnumbered step = at_line 0 step
 
 -- a desk takes all operations of a file, in order
 abbrev pub file_takes : List (List OpView) → ℕ → ℕ → List Numbered

@@ -19,6 +19,11 @@ print_in setting = printed setting.tables.now setting.width setting.base
 abbrev pub files_in : Setting → List (List OpView)
 files_in setting = lists_of setting.files.now
 
+-- the outcome of steps that write nothing, whatever was written before
+abbrev pub IsSilentOutcomeIn : Setting → (desks : List Desk) → List Numbered → (after : List Desk) → Result (Unit {0}) RunFault → Type 0
+IsSilentOutcomeIn setting desks steps after result =
+    (written : Option (List ℕ)) → IsStepsOutcome (print_in setting) (files_in setting) (sets_of desks) steps (sets_of after) written written false result
+
 -- steps may be done: there is a desk for each file, the view draws by the tables of the run, and no write has failed
 pub record MayDoSteps (setting : Setting) (view : KeptView) (desks : List Desk) (failed : Bool) : Type 0 where
   pub count : length desks ≡ length setting.files.now

@@ -8,8 +8,8 @@ use Rattle.rga_tree.specs.TextOf.{text}
 use Rattle.desk_replica.specs.declared.answer.TakeFault.{TakeFault}
 use Rattle.desk_files.specs.declared.run_fault.RunFault.{RunFault}
 use Rattle.desk_files.specs.declared.run_fault.RunFault.TheVariants.{Tables, File, Schedule, Step as Refused, Listing, Device, PastEnd, ReadFailed, Memory, TooLong}
-use Rattle.desk_files.specs.declared.schedule.step.Step.{Step}
-use Rattle.desk_files.specs.declared.schedule.step.Step.TheVariants.{Take, Merge, Show}
+use Rattle.desk_files.specs.declared.schedule.step.RunStep.{RunStep}
+use Rattle.desk_files.specs.declared.schedule.step.RunStep.TheVariants.{Take, Merge, Show}
 use Rattle.desk_files.specs.declared.schedule.step.Numbered.{Numbered}
 use Rattle.desk_replica.specs.DeskSets.{set_at}
 use Rattle.desk_runs.specs.Steps.{sets_after_step, sets_after, NoneRefused, FirstRefused}
@@ -17,7 +17,7 @@ use Rattle.desk_runs.specs.Steps.{sets_after_step, sets_after, NoneRefused, Firs
 -- ---- what is written. A text is printed by a function of its characters
 
 -- what a step writes: a show the print of its desk's text
-abbrev pub shown : (List ℕ → List ℕ) → List OperationSet → Step → List ℕ
+abbrev pub shown : (List ℕ → List ℕ) → List OperationSet → RunStep → List ℕ
 shown print sets (Take desk file op) = []
 shown print sets (Merge desk from) = []
 shown print sets (Show desk) = print (text (set_at sets (desk - 1)))

@@ -15,7 +15,7 @@ mod steps;
 
 use crate::desks::new_desks;
 use bg_types::{Base, Sink};
-use desk_files::{RunFault, read_all, read_schedule, read_tables, readers_of};
+use desk_files::{RunFault, read_all, read_schedule, readers_of};
 use op_codec::Source;
 use room::new_view;
 use round::run_round;
@@ -53,8 +53,8 @@ pub fn replay<S: Sink>(
     replay_from(alloc, key, ucd, width, base, &mut readers, schedule, out)
 }
 
-/// The same over the files of readers. Each is read in pieces of at most 4,096 bytes, to its end, to
-/// a fault in its bytes, or to a byte past the first 67,108,864.
+/// Does what `replay` does, over the files of readers. Each is read in pieces of at most 4,096 bytes, to
+/// its end, to a fault in its bytes, or to the byte past the greatest length of a file.
 pub fn replay_from<R: Source, S: Sink>(
     alloc: Global,
     key: u128,
@@ -76,7 +76,7 @@ pub fn replay_from<R: Source, S: Sink>(
         (λ told. given ucd.now width base told (option_copied schedule.entry))
         (S.written out.old) (S.written out.new) (S.has_failed out.new) result }
 {
-    let tables = read_tables(alloc, ucd)?;
+    let tables = ucd.load(alloc)?;
     let lists = read_all(alloc, files)?;
     let setting = Setting {
         alloc,

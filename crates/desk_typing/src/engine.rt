@@ -71,7 +71,7 @@ fn typed_file<R: Source>(
     file
 }
 
-/// The same by a desk of the site without operations, which takes those of the files.
+/// The file of a change, by a desk of its site that has no operations yet and takes those of the files.
 fn file_with<R: Source>(
     alloc: Global,
     files: &mut [R],

@@ -12,12 +12,9 @@ ghost use Rattle.desk_typing.specs.Changing.{operations_of, Fits, IsUnfit};
 use crate::change::Change;
 use crate::typing_fault::TypingFault;
 use bg_types::Op;
-use desk_files::{Desk, RunFault};
+use desk_files::{Desk, MOST_OPERATIONS, RunFault};
 use desk_replica::{TypeFault, laws};
 use std::alloc::Global;
-
-/// How many operations a desk keeps at most.
-const LIMIT: usize = 1_000_000;
 
 /// What the desk of a change's site makes by it: deletions, then the insertions of the characters. After a fault the
 /// desk is as it was.
@@ -43,7 +40,7 @@ pub fn operations(
         return Err(TypingFault::PastEnd { place, erased });
     }
     let count = code_points(text);
-    let room = LIMIT - desk.op_count();
+    let room = MOST_OPERATIONS - desk.op_count();
     if erased > room || count > room - erased {
         return Err(TypingFault::Full);
     }

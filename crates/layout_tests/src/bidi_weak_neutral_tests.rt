@@ -51,7 +51,7 @@ fn have_levels(
     Ok(right && digits.next().is_none())
 }
 
-/// The same of the paragraphs of a text.
+/// Whether the paragraphs of a text have these levels.
 fn has_levels(
     alloc: Global,
     tables: &Tables,

@@ -339,7 +339,7 @@ fn a_character_that_opens_for_itself_is_never_closed(rt: HostRuntime) {
     assert_rows_by(&rt, &files, OF_ITSELF);
 }
 
-/// The same as `Pairs`, of fields of repeated pieces.
+/// A row as `Pairs` is, its fields of repeated pieces.
 struct Long(u8, Bidi, [Pieces; 4]);
 
 /// The last three fields lent, beside the first.

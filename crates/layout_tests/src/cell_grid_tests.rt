@@ -34,7 +34,7 @@ impl Shown for Printed {
 const MIXED: &str =
     "The word \u{5E9}\u{5DC}\u{5D5}\u{5DD} (peace) and \u{627}\u{644}\u{639}\u{62F}\u{62F} 120 (a number) in one paragraph.";
 
-/// The same, as it is shown at width 24.
+/// This paragraph, as it is shown at width 24.
 const MIXED_SHOWN: &str =
     "The word \u{5DD}\u{5D5}\u{5DC}\u{5E9} (peace)   \nand 120 \u{62F}\u{62F}\u{639}\u{644}\u{627} (a number)\nin one paragraph.       \n";
 

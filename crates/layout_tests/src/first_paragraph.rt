@@ -36,7 +36,7 @@ impl<P: OfParagraph> Row for First<P> {
     }
 }
 
-/// The same of a text of pieces.
+/// A text of pieces, and what is seen of its first paragraph.
 pub struct FirstOf<P>(pub Pieces, pub P);
 
 impl<P: OfParagraph> Row for FirstOf<P> {

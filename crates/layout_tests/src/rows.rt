@@ -1,11 +1,9 @@
-//! Tables of rows, each of which comes out or not, and of which the first wrong one is told.
-//!
-//! A row that was refused memory is tried again: so each test also passes with any one allocation refused
-//! (`rt try --test --fail-alloc N`).
+//! Rows that are tried by the tables of data files.
 
 use bg_types::Memory;
 use std::alloc::Global;
 use std::process::Abort;
+use test_rows::is_right;
 use ucd_files::{Tables, Ucd, UcdFault, vectors};
 
 /// A row of a table of tests.
@@ -22,21 +20,19 @@ fn tables_of(alloc: Global, files: &Ucd) -> Result<Tables, UcdFault> {
     }
 }
 
-/// Whether a row comes out, on a second try where memory was refused.
-fn is_right<R: Row>(alloc: Global, tables: &Tables, row: &R) -> bool {
-    match row.comes_out(alloc, tables) {
-        Err(Memory) => row.comes_out(alloc, tables) == Ok(true),
-        answer => answer == Ok(true),
+/// A row with the tables that it is tried by.
+#[derive(Drop)]
+struct By<'a, R>(&'a Tables, &'a R);
+
+impl<R: Row> test_rows::Row for By<'_, R> {
+    fn comes_out(&self, alloc: Global) -> Result<bool, Memory> {
+        self.1.comes_out(alloc, self.0)
     }
 }
 
 fn first_wrong<R: Row>(alloc: Global, tables: &Tables, rows: &[R]) -> Option<usize> {
-    for (n, row) in rows.iter().enumerate() {
-        if !is_right(alloc, tables, row) {
-            return Some(n);
-        }
-    }
-    None
+    rows.iter()
+        .position(|row| !is_right(alloc, &By(tables, row)))
 }
 
 /// The first row that does not come out by the tables of these files.

@@ -288,7 +288,7 @@ fn is_kept(tables: &Tables, yes: bool) -> bool {
     tables.wide_ambiguous() == yes && tables.ea('\u{3B1}') == Ea::A
 }
 
-/// The same, and of the other choice that is made after it.
+/// Whether the choice is kept, and the other one that is made after it.
 fn are_kept(tables: Tables, yes: bool) -> bool {
     let right = is_kept(&tables, yes);
     let other = tables.with_wide_ambiguous(!yes);

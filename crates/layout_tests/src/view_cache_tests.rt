@@ -48,7 +48,7 @@ fn draws_same(
     Ok(same && (!counted || wanted.is_none_or(|laid| view.laid() == laid)))
 }
 
-/// The same beside the grid of `cell_grid::draw`.
+/// Whether a view draws the grid of `cell_grid::draw`, and lays out as many paragraphs as are wanted.
 fn draws_both(
     alloc: Global,
     tables: &Tables,

@@ -45,3 +45,6 @@ pub const INSERTION_FIELDS: usize = 16;
 
 /// How many bytes the longest frame has, that of a run of 1,024.
 pub const LONGEST_FRAME: usize = 4_111;
+
+/// The greatest length of a file that programs read, in bytes. The calls of this crate read files of any length.
+pub const LONGEST_FILE: usize = 67_108_864;

@@ -39,7 +39,7 @@ impl<'a> Gives<'a> {
         }
     }
 
-    /// The same, but instead of ending it gives `again` forever, if `again` has a byte.
+    /// A source that gives what this one does and then, instead of ending, `again` forever, if `again` has a byte.
     pub fn then_for_ever(self, again: &'a [u8]) -> Gives<'a>
         ensures working { ⟦<Gives<'a> as Source>⟧.has_failed result ≡ ⟦<Gives<'a> as Source>⟧.has_failed self.entry }
         ensures piece { result.piece ≡ self.entry.piece }
@@ -50,7 +50,7 @@ impl<'a> Gives<'a> {
         gives
     }
 
-    /// The same, but it fails at the get after `left` more bytes.
+    /// A source that gives what this one does, and fails at the get after `left` more bytes.
     pub fn failing_after(self, left: usize) -> Gives<'a>
         ensures remaining { ⟦<Gives<'a> as Source>⟧.remaining result ≡ ⟦<Gives<'a> as Source>⟧.remaining self.entry }
         ensures working { ⟦<Gives<'a> as Source>⟧.has_failed result ≡ ⟦<Gives<'a> as Source>⟧.has_failed self.entry }

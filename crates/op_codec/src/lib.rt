@@ -26,6 +26,7 @@ pub use encode::{encode_file, encode_one, encode_op};
 pub use encode_v2::encode_file_v2;
 pub use fault::{Cause, CodecFault};
 pub use feed::Feed;
+pub use format::LONGEST_FILE;
 pub use gives::Gives;
 pub use input::In;
 pub use migration::migrate;

@@ -129,7 +129,7 @@ fn lone_tip(version: Version, op: &Op) -> Option<Id>
     }
 }
 
-/// The same for any frame, in one growth.
+/// Appends the operations of a frame of any length, in one growth.
 #[inline(never)]
 fn push_run(ops: &mut Vec<Op>, at: &mut Position, first: &Op, further: &[u8]) -> Result<(), Memory>
     requires is_frame { IsFrame (most_insertions at.old.version) (record { first = first.now; further = characters_in further.now }) }

@@ -112,7 +112,7 @@ fn read_on(
     }
 }
 
-/// The same, where the header isn't whole yet.
+/// Reads on where the header isn't whole yet.
 fn read_behind_header(
     ops: &mut Vec<Op>,
     kept: &mut Cut,
@@ -134,7 +134,7 @@ fn read_behind_header(
     Ok(Some(at))
 }
 
-/// The same, where it is.
+/// Reads on behind the header.
 fn read_behind_frame(
     ops: &mut Vec<Op>,
     kept: &mut Cut,

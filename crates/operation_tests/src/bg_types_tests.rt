@@ -3,12 +3,13 @@
 ghost use Rattle.std.specs.Prelude.{◌≡◌, ◌<◌, false};
 
 use crate::ops::Name;
-use crate::rows::{Row, assert_none, assert_rows};
+use crate::rows::{assert_none, assert_rows};
 use bg_types::*;
 use std::alloc::{AllocError, Global};
 use std::cmp::Ordering;
 use std::io;
 use std::io::{ErrorKind, Write};
+use test_rows::Row;
 
 /// A counter and a site, and whether they make an identifier.
 struct Parts(u32, u16, bool);

@@ -2,11 +2,12 @@
 
 use crate::feed_tests::LATE_PARENT;
 use crate::op_codec_tests::{EMPTY, FOUR, FOUR_MIGRATED, RUN, TWO, joined};
-use crate::rows::{Row, assert_none, assert_rows};
+use crate::rows::{assert_none, assert_rows};
 use bg_types::Memory;
 use op_codec::*;
 use std::alloc::{AllocError, Global};
 use std::process::Abort;
+use test_rows::Row;
 
 /// A file, where its header and each frame end, with the operations until there, and what is wrong with
 /// its last frame once that is whole.
@@ -29,7 +30,7 @@ fn count(alloc: Global, file: &[u8]) -> Result<usize, CodecFault> {
     Ok(decode_file(alloc, file)?.len())
 }
 
-/// The same of a file that is fed byte by byte.
+/// How many operations a file has that is fed byte by byte.
 fn count_fed(alloc: Global, file: &[u8]) -> Result<usize, CodecFault> {
     let mut feed = Feed::new(alloc);
     for byte in file.chunks(1) {
@@ -238,7 +239,7 @@ fn is_fault(alloc: Global, file: &[u8], wanted: CodecFault) -> bool {
     faults_of(alloc, file) == [Some(wanted); 2]
 }
 
-/// The same of bytes behind others.
+/// Whether both answer this fault of bytes behind others.
 fn is_fault_behind(alloc: Global, front: &[u8], back: &[u8], wanted: CodecFault) -> bool {
     match joined(alloc, front, back) {
         Ok(file) => is_fault(alloc, &file, wanted),

@@ -172,7 +172,7 @@ pub(crate) enum Case {
     Pays,
     /// What is paid for is taken at the first try.
     PlaysPaid,
-    /// The same where it could be paid for. Nothing is asked for after that, so that every further request may be refused.
+    /// What is paid for is taken, where it could be paid for. Nothing is asked for after that, so that every further request may be refused.
     PlaysIfPaid,
     MergesPaid,
     /// Once each desk has taken its rows, the first merges the other one as is said.

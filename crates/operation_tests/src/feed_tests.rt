@@ -182,7 +182,7 @@ fn answers_its_fault(feed: &mut Feed, fault: CodecFault) -> bool {
     right && feed.ops().is_empty()
 }
 
-/// The same, and whether it ends with it.
+/// Whether a feed of a faulty file answers its fault, again and at its end.
 fn keeps_its_fault(alloc: Global) -> bool {
     let fault = CodecFault::Malformed {
         frame: 0,

@@ -1,11 +1,12 @@
 //! Operation files that were worked out by hand, in both versions, and refused growths.
 
 use crate::ops::{OpRow, op, ops_of};
-use crate::rows::{Row, assert_rows};
+use crate::rows::assert_rows;
 use OpRow::{Erase, Insert};
 use bg_types::{Memory, Op};
 use op_codec::*;
 use std::alloc::{AllocError, Global};
+use test_rows::Row;
 
 pub(crate) const EMPTY: [u8; 5] = *b"BGOP\x01";
 
@@ -22,7 +23,7 @@ pub(crate) const TWO: [u8; 43] = [
     0, 17, 1, 0, 0, 0, 2, 0, 1, 0, 0, 0, 1, 0, 1, 0, 0, 0, 0x62, // frame 2
 ];
 
-/// The same in version 2: one run.
+/// These two in version 2: one run.
 pub(crate) const RUN: [u8; 28] = [
     0x42, 0x47, 0x4F, 0x50, 2, // BGOP, version 2
     0, 21, 3, 0, 0, 0, 1, 0, 1, 0, 0, 0, 0, 0, 0, 0, 0, 0, 0x61, 0, 0, 0, 0x62, // frame 1

@@ -2,12 +2,13 @@
 
 ghost use Rattle.std.specs.Prelude.{◌≡◌, false};
 
-use crate::rows::{Row, assert_rows};
+use crate::rows::assert_rows;
 use LineFault::{BadLine, NotAScalar, ParentNotBefore, ZeroField};
 use bg_types::{Memory, Out, Sink, Stops};
 use op_codec::{Cause, CodecFault};
 use op_listing::*;
 use std::alloc::{AllocError, Global};
+use test_rows::Row;
 
 const EMPTY: [u8; 5] = *b"BGOP\x01";
 

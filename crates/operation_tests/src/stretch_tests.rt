@@ -7,13 +7,14 @@
 ghost use Rattle.std.specs.Prelude.{◌<◌};
 
 use crate::ops::{OpRow, op};
-use crate::rows::{Row, assert_rows};
+use crate::rows::assert_rows;
 use OpRow::{Erase, Insert};
 use bg_types::{Memory, Op};
 use desk_replica::{Replica, TypeFault};
 use rga_sequence::Blocks;
 use rga_tree::{Fresh, Plain};
 use std::alloc::Global;
+use test_rows::Row;
 
 /// The text of a desk and what it told.
 #[derive(Drop)]

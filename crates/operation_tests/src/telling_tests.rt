@@ -6,12 +6,13 @@
 
 ghost use Rattle.std.specs.Prelude.{◌<◌, ◌≤◌};
 
-use crate::rows::{Row, assert_rows};
+use crate::rows::assert_rows;
 use bg_types::{Change, Id, Memory, Op};
 use desk_replica::{Replica, Step, TakeFault, TypeFault, World, WorldFault, run_world};
 use rga_sequence::Blocks;
 use rga_tree::{Fresh, Plain};
 use std::alloc::Global;
+use test_rows::Row;
 
 /// Draws numbers by chance, the same ones from the same seed.
 #[derive(Clone, Copy)]

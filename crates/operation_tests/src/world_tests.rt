@@ -3,7 +3,7 @@
 //! A world that memory was refused to is made again: so each test also passes with any one
 //! allocation refused (`rt try --test --fail-alloc N`).
 
-use crate::rows::{Row, assert_none, assert_rows, is_right};
+use crate::rows::{assert_none, assert_rows};
 use Reply::{Done, NoSuch};
 use Step::{Deliver, Erase, Merge, Typed};
 use bg_types::{Id, Memory, Op, Place};
@@ -11,6 +11,7 @@ use desk_replica::{Replica, Reply, Step, World, WorldFault, run_world};
 use rga_sequence::Blocks;
 use rga_tree::{Fresh, Plain, Sequence};
 use std::alloc::{AllocError, Global};
+use test_rows::{Row, is_right};
 
 /// A step, its reply, and the text of each desk then.
 type Line = (Step, Reply, &'static [&'static str]);
@@ -77,7 +78,7 @@ fn makes<S: Fresh>(
     is_made(&made, wanted)
 }
 
-/// The same over both sequences.
+/// Whether steps make what is wanted over both sequences.
 fn both_make(
     alloc: Global,
     sites: &[u16],

@@ -2,7 +2,7 @@
 
 use crate::files::Given::{Bytes, Typed};
 use crate::files::*;
-use crate::rows::{Row, assert_none, assert_rows};
+use crate::rows::{assert_none, assert_rows};
 use bg_types::{Base, Memory, Out, Stops};
 use desk_carets::Move::{self, *};
 use desk_carets::carets;
@@ -10,6 +10,7 @@ use desk_files::RunFault;
 use op_codec::{Cause, CodecFault};
 use std::alloc::{AllocError, Global};
 use std::slice::from_ref;
+use test_rows::Row;
 use ucd_files::vectors::SMALL;
 use ucd_files::{Ucd, UcdFault, UcdFile};
 

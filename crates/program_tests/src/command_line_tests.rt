@@ -2,12 +2,12 @@
 
 use crate::files::assert_unread;
 use crate::given::Given;
-use crate::rows::{Row, assert_rows};
+use crate::rows::assert_rows;
 use bg_types::{Base, Memory};
-use cli_support::{Opener, Stop, Unread};
 use command_line::*;
 use std::alloc::{AllocError, Global};
 use std::test::Fail;
+use test_rows::Row;
 
 /// Appends words to a command line.
 fn put_words(alloc: Global, line: &mut Vec<String>, words: &[&str]) -> Result<(), AllocError> {
@@ -83,7 +83,7 @@ fn told(alloc: Global, job: &Result<Job, Stop>) -> Result<String, AllocError> {
     }
 }
 
-/// The same of a command line of these words.
+/// What a command line of these words asks for.
 fn told_of(alloc: Global, words: &[&str]) -> Result<String, AllocError> {
     let line = line(alloc, words, &[], &[], &[])?;
     let job = job(alloc, &line);

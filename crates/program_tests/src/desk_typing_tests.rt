@@ -4,13 +4,14 @@ ghost use Rattle.std.specs.Prelude.{◌≡◌, ◌<◌, map as each};
 ghost use Rattle.desk_files.specs.Readers.{AreWorking};
 
 use crate::files::{KEY, are_written};
-use crate::rows::{Row, assert_rows};
+use crate::rows::assert_rows;
 use bg_types::{Memory, Out, Stops};
 use desk_runs::RunFault;
 use desk_typing::*;
 use op_codec::{Gives, Source, Version};
 use op_listing::{ListingFault, pack};
 use std::alloc::Global;
+use test_rows::Row;
 
 /// `abc`, typed at site 1.
 const ABC: &str = "i 1.1 root 0061\ni 2.1 1.1 0062\ni 3.1 2.1 0063\n";
@@ -81,7 +82,7 @@ fn is_change(
     comes_to(alloc, &mut readers, &change, spelled, 1_000, wanted)
 }
 
-/// The same of the file of a listing.
+/// Whether a change of the file of a listing comes to what is wanted.
 fn is_change_of(
     alloc: Global,
     listing: &str,

@@ -1,7 +1,7 @@
 //! Operation files that tests give, and what runs over files come to.
 
 use bg_types::Memory;
-use cli_support::Unread;
+use command_line::Unread;
 use desk_runs::RunFault;
 use std::alloc::{AllocError, Global};
 use std::process::Abort;
@@ -100,7 +100,7 @@ pub fn file_of(alloc: Global, given: Given) -> Result<Vec<u8>, AllocError> {
     Ok(file)
 }
 
-/// The same of each file.
+/// The bytes of each file.
 pub fn files_of(alloc: Global, given: &[Given]) -> Result<Vec<Vec<u8>>, AllocError> {
     let mut files = Vec::new(alloc);
     for given in given {

@@ -4,11 +4,11 @@
 #[cfg(test)]
 mod carets_tests;
 #[cfg(test)]
-mod cli_support_tests;
-#[cfg(test)]
 mod command_line_tests;
 #[cfg(test)]
 mod desk_typing_tests;
+#[cfg(test)]
+mod ending_tests;
 #[cfg(test)]
 mod files;
 #[cfg(test)]

@@ -2,12 +2,13 @@
 
 use crate::files::Given::{Bytes, Typed};
 use crate::files::*;
-use crate::rows::{Row, assert_rows};
+use crate::rows::assert_rows;
 use bg_types::{Base, Memory, Out, Stops};
 use desk_replica::TakeFault;
 use desk_runs::{RunFault, ScheduleFault, Ucd, replay};
 use op_codec::CodecFault;
 use std::alloc::{AllocError, Global};
+use test_rows::Row;
 use ucd_files::vectors::SMALL;
 use ucd_files::{Cause, UcdFault, UcdFile};
 

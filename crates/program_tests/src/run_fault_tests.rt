@@ -1,13 +1,14 @@
 //! What no clause says of faults: the names and lines that they print, their statuses and numbers.
 
 use crate::files::are_written;
-use crate::rows::{Row, assert_none, assert_rows};
+use crate::rows::{assert_none, assert_rows};
 use bg_types::{Device, Memory, Out, Stops};
 use command_line::report;
 use desk_runs::*;
 use op_codec::{Cause, CodecFault};
 use op_listing::LineFault;
 use std::alloc::Global;
+use test_rows::Row;
 use ucd_files::{UcdFault, UcdFile};
 
 /// A fault of a schedule with its number and name.

@@ -5,7 +5,7 @@ ghost use Rattle.desk_files.specs.Readers.{AreWorking};
 
 use crate::files::Given::{Bytes, Letters};
 use crate::files::*;
-use crate::rows::{Row, assert_none, assert_rows};
+use crate::rows::{assert_none, assert_rows};
 use bg_types::{Memory, Out, Stops};
 use desk_replica::TakeFault;
 use desk_runs::{RunFault, text, text_from};
@@ -13,6 +13,7 @@ use op_codec::{Cause, CodecFault, Gives, In, Source};
 use std::alloc::{AllocError, Global};
 use std::io::Read;
 use std::slice::from_ref;
+use test_rows::Row;
 
 /// The second operation has the identifier of the first one.
 const REFUSED: RunFault = RunFault::Step(0, 1, TakeFault::IdentifierReused);
@@ -48,7 +49,7 @@ fn is_text(alloc: Global, files: &[Vec<u8>], most: usize, left: usize, wanted: O
     answer == wanted.0 && are_written(&room, wanted.1)
 }
 
-/// The same of one file of these bytes.
+/// Whether a run over one file of these bytes comes to what is wanted.
 fn is_text_of(alloc: Global, bytes: &[u8], most: usize, left: usize, wanted: Outcome) -> bool
     requires { 0 < most }
 {

@@ -8,24 +8,24 @@ ghost use Rattle.std.specs.Prelude.{◌≡◌, false, length, map as each, vec_l
 ghost use Rattle.desk_files.specs.Readers.{AreWorking};
 
 use bg_types::{Device, Out, Sink};
-pub use cli_support::Stop;
-use cli_support::{Data, INPUT, Unread, end, flush, read, read_data, tell};
-pub use command_line::{Job, Replay, Typing, Walk, job, report};
-use command_line::{PROGRAM, folder_of, open_all, path_of};
-pub use desk_carets::{Move, carets, carets_from};
-pub use desk_runs::{
-    RunFault, ScheduleFault, TakeFault, Ucd, replay, replay_from, status, text, text_from,
+use command_line::{
+    Data, INPUT, Job, PROGRAM, Replay, Stop, Typing, Unread, Walk, end, flush, folder_of, job,
+    open_all, path_of, read, read_data, report, tell, words,
 };
-pub use desk_typing::{Change, TypingFault, typed};
+use desk_carets::carets_from;
+use desk_files::{RunFault, status, text_from};
+use desk_runs::replay_from;
+use desk_typing::{Change, TypingFault, typed};
 use key::draw_key;
 use op_codec::Source;
-pub use op_listing::{LineFault, dump, migrate, pack};
+use op_listing::{dump, migrate, pack};
 use std::alloc::Global;
 use std::io::{self, BufWriter, Write};
 use std::process::ExitCode;
+use ucd_files::Ucd;
 
 fn main(rt: HostRuntime) -> ExitCode {
-    match cli_support::words(&rt) {
+    match words(&rt) {
         Ok(words) => run(&rt, words.as_slice()),
         Err(stop) => stop_at(&rt, &stop),
     }

@@ -5,7 +5,7 @@ ghost use Rattle.op_listing.specs.Words.{words};
 ghost use Rattle.desk_files.specs.Files.{lists_of};
 ghost use Rattle.desk_files.specs.Schedule.{count_in, is_among as is_one_of, is_comment, line_says, step_in, IsStepOf, take_of, merge_of, show_of, take_in, merge_in, show_in};
 
-use super::step::Step;
+use super::step::RunStep;
 use crate::schedule_fault::ScheduleFault;
 use bg_types::Op;
 use op_listing::{next_word, one_word, read_decimal, three_words, two_words};
@@ -15,7 +15,7 @@ const COUNT_DIGITS: usize = 7;
 
 /// What a line says: nothing, where it has no words or begins with `#`, else a step or the line's
 /// first fault.
-pub fn read_step(line: &[u8], files: &[Vec<Op>]) -> Option<Result<Step, ScheduleFault>>
+pub fn read_step(line: &[u8], files: &[Vec<Op>]) -> Option<Result<RunStep, ScheduleFault>>
     ensures said { result ≡ line_says (lists_of files.now) line.now }
     ensures there { IfSome result (λ said. IfOk said (IsStepOf (lists_of files.now))) }
 {
@@ -38,7 +38,7 @@ fn begins_comment(line: &[u8]) -> bool
     }
 }
 
-fn read_verb(verb: &[u8], fields: &[u8], files: &[Vec<Op>]) -> Result<Step, ScheduleFault>
+fn read_verb(verb: &[u8], fields: &[u8], files: &[Vec<Op>]) -> Result<RunStep, ScheduleFault>
     ensures said { result ≡ step_in (lists_of files.now) verb.now (words fields.now) }
     ensures there { IfOk result (IsStepOf (lists_of files.now)) }
 {
@@ -55,7 +55,7 @@ fn read_verb(verb: &[u8], fields: &[u8], files: &[Vec<Op>]) -> Result<Step, Sche
 }
 
 /// The step that the words after `take` write.
-fn read_take(fields: &[u8], files: &[Vec<Op>]) -> Result<Step, ScheduleFault>
+fn read_take(fields: &[u8], files: &[Vec<Op>]) -> Result<RunStep, ScheduleFault>
     ensures said { MatchResult result (λ step. take_in (lists_of files.now) (words fields.now) ≡ Ok step)
         (λ fault. take_in (lists_of files.now) (words fields.now) ≡ Err fault) }
     ensures there { IfOk result (IsStepOf (lists_of files.now)) }
@@ -73,7 +73,7 @@ fn tested_take(
     file: usize,
     op: usize,
     files: &[Vec<Op>],
-) -> Result<Step, ScheduleFault>
+) -> Result<RunStep, ScheduleFault>
     ensures said { result ≡ take_of (lists_of files.now) (Some desk) (Some file) (Some op) }
     ensures there { IfOk result (IsStepOf (lists_of files.now)) }
 {
@@ -86,11 +86,11 @@ fn tested_take(
     if !is_among(op, files[file - 1].len()) {
         return Err(ScheduleFault::NoSuchOperation);
     }
-    Ok(Step::Take { desk, file, op })
+    Ok(RunStep::Take { desk, file, op })
 }
 
 /// The step that the words after `merge` write.
-fn read_merge(fields: &[u8], files: &[Vec<Op>]) -> Result<Step, ScheduleFault>
+fn read_merge(fields: &[u8], files: &[Vec<Op>]) -> Result<RunStep, ScheduleFault>
     ensures said { MatchResult result (λ step. merge_in (lists_of files.now) (words fields.now) ≡ Ok step)
         (λ fault. merge_in (lists_of files.now) (words fields.now) ≡ Err fault) }
     ensures there { IfOk result (IsStepOf (lists_of files.now)) }
@@ -102,18 +102,18 @@ fn read_merge(fields: &[u8], files: &[Vec<Op>]) -> Result<Step, ScheduleFault>
 }
 
 /// The step by which a desk takes all that another holds, if both are there.
-fn tested_merge(desk: usize, from: usize, files: &[Vec<Op>]) -> Result<Step, ScheduleFault>
+fn tested_merge(desk: usize, from: usize, files: &[Vec<Op>]) -> Result<RunStep, ScheduleFault>
     ensures said { result ≡ merge_of (lists_of files.now) (Some desk) (Some from) }
     ensures there { IfOk result (IsStepOf (lists_of files.now)) }
 {
     if !is_among(desk, files.len()) || !is_among(from, files.len()) {
         return Err(ScheduleFault::NoSuchDesk);
     }
-    Ok(Step::Merge { desk, from })
+    Ok(RunStep::Merge { desk, from })
 }
 
 /// The step that the words after `show` write.
-fn read_show(fields: &[u8], files: &[Vec<Op>]) -> Result<Step, ScheduleFault>
+fn read_show(fields: &[u8], files: &[Vec<Op>]) -> Result<RunStep, ScheduleFault>
     ensures said { MatchResult result (λ step. show_in (lists_of files.now) (words fields.now) ≡ Ok step)
         (λ fault. show_in (lists_of files.now) (words fields.now) ≡ Err fault) }
     ensures there { IfOk result (IsStepOf (lists_of files.now)) }
@@ -124,14 +124,14 @@ fn read_show(fields: &[u8], files: &[Vec<Op>]) -> Result<Step, ScheduleFault>
 }
 
 /// The step by which a desk is shown, if it is there.
-fn tested_show(desk: usize, files: &[Vec<Op>]) -> Result<Step, ScheduleFault>
+fn tested_show(desk: usize, files: &[Vec<Op>]) -> Result<RunStep, ScheduleFault>
     ensures said { result ≡ show_of (lists_of files.now) (Some desk) }
     ensures there { IfOk result (IsStepOf (lists_of files.now)) }
 {
     if !is_among(desk, files.len()) {
         return Err(ScheduleFault::NoSuchDesk);
     }
-    Ok(Step::Show { desk })
+    Ok(RunStep::Show { desk })
 }
 
 /// The number of a desk, a file or an operation that a word writes.

@@ -2,7 +2,7 @@
 
 /// A step of a run. Desks, files and the operations of a file are counted from 1.
 #[derive(Clone, Copy)]
-pub enum Step {
+pub enum RunStep {
     /// The desk takes an operation of a file.
     Take { desk: usize, file: usize, op: usize },
     /// The desk takes all that another holds.
@@ -15,5 +15,5 @@ pub enum Step {
 #[derive(Clone, Copy)]
 pub struct Numbered {
     pub line: usize,
-    pub step: Step,
+    pub step: RunStep,
 }

@@ -1,7 +1,7 @@
 -- One more file was opened.
 use Rattle.std.proofs.Common.{List, ℕ, Bor}
 use Rattle.op_codec.specs.declared.input.In.{In}
-use Rattle.command_line.proofs.Opened.{next_opened}
+use Rattle.command_line.proofs.FilesOpened.{next_opened}
 use Rattle.command_line.proofs.files.open_all.Goals as goal
 
 pub loop-path-preserved : goal.loop-path-preserved

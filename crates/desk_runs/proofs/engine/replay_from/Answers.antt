@@ -9,6 +9,7 @@ use Rattle.desk_runs.specs.Printed.{printed}
 use Rattle.desk_files.specs.Reading.{IsReadAs}
 use Rattle.desk_files.specs.Files.{lists_of}
 use Rattle.desk_files.specs.Cause.{IsReadCaused}
+use Rattle.desk_files.specs.Fault.{of_ucd_fault}
 use Rattle.desk_runs.specs.ReplayOutcome.{Given, given, print_of, IsPlanOutcome, IsReplayOutcome, IsReplayOutcomeOver}
 use Rattle.desk_runs.proofs.Plans.{ended_by_tables, ended_by_files, plan_of_run}
 use Rattle.desk_files.proofs.Interface.{answer_handed, none_were_asked, run_ended, run_unread, run_told}
@@ -20,8 +21,9 @@ returns-in_err-tables-clause-outcome g c =
     let old = g.S.Sink.written c.args.out.now in
     let failed = g.S.Sink.has_failed c.args.out.now in
     let fault = c.in_err-tables.field-0.0 in
-    answer_handed (IsReplayOutcomeOver _ _ _ run old old failed) c.from_residual.result fault c.from_residual.ensures.1
-    (run_unread _ _ _ _ (λ files. IsReplayOutcome (run files) old old failed) (Err fault) c.requires.readers (λ files. ended_by_tables (run files) old failed c.requires.working fault c.in_err-tables.ensures.fault))
+    answer_handed (IsReplayOutcomeOver _ _ _ run old old failed) c.from_residual.result (of_ucd_fault fault) c.from_residual.ensures.1
+    (run_unread _ _ _ _ (λ files. IsReplayOutcome (run files) old old failed) (Err (of_ucd_fault fault)) c.requires.readers
+    (λ files. ended_by_tables (run files) old failed c.requires.working fault c.in_err-tables.ensures.fault))
 
 pub returns-in_err-lists-clause-outcome : goal.returns-in_err-lists-clause-outcome
 returns-in_err-lists-clause-outcome g c =

@@ -5,32 +5,20 @@ use Rattle.std.specs.List.{range_with_len}
 use Rattle.std.specs.Global.{Vec}
 use Rattle.std.proofs.lemmas.List.{length-map}
 use Rattle.bg_types.specs.declared.op.OpView.{OpView}
-use Rattle.desk_replica.specs.DeskSets.{sets_of}
-use Rattle.desk_files.specs.declared.schedule.step.Step.TheVariants.{Take}
+use Rattle.desk_files.specs.declared.schedule.step.RunStep.TheVariants.{Take}
 use Rattle.desk_files.specs.Schedule.{file_at}
-use Rattle.desk_runs.specs.Setting.{print_in, files_in}
+use Rattle.desk_runs.specs.Setting.{files_in}
 use Rattle.desk_runs.specs.Round.{unnumbered, file_takes}
 use Rattle.desk_runs.proofs.StepAnswers.{count_there}
-use Rattle.desk_runs.proofs.Running.{ran_nothing, kept_tables, done_too, steps_done, steps_ended}
+use Rattle.desk_runs.proofs.Takes.{taken_nothing, takes_done, takes_ended, takes_all}
 use Rattle.desk_runs.proofs.Rounds.{op_takes, before-next, before-begins, before-all, flat-ones}
 use Rattle.desk_runs.proofs.engine.round.take_file.Goals as goal
 
 pub loop-op-init : goal.loop-op-init
-loop-op-init g c = record {
-  ran = ran_nothing (print_in c.args.setting.now) (files_in c.args.setting.now) (sets_of c.args.desks.now) (g.S.Sink.written c.args.out.now);
-  tables = c.requires.ready.tables;
-  working = c.requires.ready.working;
-}
+loop-op-init c = taken_nothing c.args.setting.now c.args.desks.now
 
-pub run_step-requires-clause-ready : goal.run_step-requires-clause-ready
-run_step-requires-clause-ready g c = record {
-  count = omega (arith, c.loop-op.auto.desks, c.requires.ready.count);
-  tables = c.loop-op.invariant.tables;
-  working = c.loop-op.invariant.working;
-}
-
-pub run_step-requires-clause-step : goal.run_step-requires-clause-step
-run_step-requires-clause-step g c =
+pub take_op-requires-clause-step : goal.take_op-requires-clause-step
+take_op-requires-clause-step c =
     let files = c.args.setting.now.files.now in
     let many = length-map files (λ (f : Vec OpView). f.items) in
     let ops = count_there files c.args.file c.len-op-end.result c.index-setting-file.result c.requires.file_at_least c.requires.file_at_most c.len-op-end.ensures in
@@ -38,12 +26,12 @@ run_step-requires-clause-step g c =
     (c.requires.desk_at_least, omega (arith, c.requires.desk_at_most, many), c.requires.file_at_least, omega (arith, c.requires.file_at_most, many), c.loop-op.auto.op, omega (arith, test, ops))
 
 pub loop-op-preserved : goal.loop-op-preserved
-loop-op-preserved g c =
+loop-op-preserved c =
     let piece = op_takes c.args.desk c.args.file in
-    steps_done (piece c.loop-op.op) c.in_ok-run_step.field-0 c.loop-op.invariant (before-next piece 1 c.loop-op.op c.loop-op.auto.op) c.in_ok-run_step.ensures.outcome c.in_ok-run_step.ensures.tables
+    takes_done (piece c.loop-op.op) c.in_ok-take_op.field-0 c.loop-op.invariant (before-next piece 1 c.loop-op.op c.loop-op.auto.op) c.in_ok-take_op.ensures
 
-pub returns-in_err-run_step-clause-outcome : goal.returns-in_err-run_step-clause-outcome
-returns-in_err-run_step-clause-outcome g c =
+pub returns-in_err-take_op : goal.returns-in_err-take_op
+returns-in_err-take_op c =
     let files = files_in c.args.setting.now in
     let piece = op_takes c.args.desk c.args.file in
     let count = length (file_at files c.args.file) in
@@ -51,14 +39,11 @@ returns-in_err-run_step-clause-outcome g c =
     let ops = count_there c.args.setting.now.files.now c.args.file c.len-op-end.result c.index-setting-file.result c.requires.file_at_least c.requires.file_at_most c.len-op-end.ensures in
     let test = c.loop-op-test.true in
     let begins = before-begins piece 1 count (file_takes files c.args.desk c.args.file) (flat-ones (λ (o : ℕ). unnumbered (Take c.args.desk c.args.file o)) (range_with_len 1 count)) op c.loop-op.auto.op (omega (arith, test, ops)) in
-    steps_ended (piece op) c.loop-op.invariant (before-next piece 1 op c.loop-op.auto.op) begins c.run_step.new.desks c.run_step.new.desks
-    (g.S.Sink.written c.run_step.new.out) (g.S.Sink.has_failed c.run_step.new.out) c.from_residual.result c.in_err-run_step.field-0.0 c.from_residual.ensures.1 c.in_err-run_step.ensures.outcome
+    takes_ended (piece op) c.loop-op.invariant (before-next piece 1 op c.loop-op.auto.op) begins c.take_op.new.desks c.take_op.new.desks
+    c.from_residual.result c.in_err-take_op.field-0.0 c.from_residual.ensures.1 c.in_err-take_op.ensures
 
-pub returns-in_err-run_step-clause-tables : goal.returns-in_err-run_step-clause-tables
-returns-in_err-run_step-clause-tables g c = kept_tables c.in_err-run_step.ensures.tables c.loop-op.invariant.tables c.requires.ready.tables
-
-pub returns-clause-outcome : goal.returns-clause-outcome
-returns-clause-outcome g c =
+pub returns : goal.returns
+returns c =
     let files = files_in c.args.setting.now in
     let piece = op_takes c.args.desk c.args.file in
     let count = length (file_at files c.args.file) in
@@ -66,9 +51,4 @@ returns-clause-outcome g c =
     let ops = count_there c.args.setting.now.files.now c.args.file c.len-op-end.result c.index-setting-file.result c.requires.file_at_least c.requires.file_at_most c.len-op-end.ensures in
     let test = c.loop-op-test.false in
     let end = c.loop-op.auto.op-end in
-    let all = before-all piece 1 count (file_takes files c.args.desk c.args.file) (flat-ones (λ (o : ℕ). unnumbered (Take c.args.desk c.args.file o)) (range_with_len 1 count)) op c.loop-op.auto.op (omega (arith, test, end, ops)) in
-    let done = done_too c.loop-op.invariant all in
-    (done.working, done.ran)
-
-pub returns-clause-tables : goal.returns-clause-tables
-returns-clause-tables g c = kept_tables refl c.loop-op.invariant.tables c.requires.ready.tables
+    takes_all tt c.loop-op.invariant (before-all piece 1 count (file_takes files c.args.desk c.args.file) (flat-ones (λ (o : ℕ). unnumbered (Take c.args.desk c.args.file o)) (range_with_len 1 count)) op c.loop-op.auto.op (omega (arith, test, end, ops)))

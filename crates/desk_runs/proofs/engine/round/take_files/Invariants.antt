@@ -1,9 +1,8 @@
 -- The desk has taken the files so far.
 use Rattle.desk_runs.specs.Setting.{files_in}
-use Rattle.desk_runs.proofs.Running.{HasDone}
+use Rattle.desk_runs.proofs.Takes.{HasTaken}
 use Rattle.desk_runs.proofs.Rounds.{turn_takes, before}
 use Rattle.desk_runs.proofs.engine.round.take_files.Given as goal
 
 abbrev pub invariant-loop-behind : goal.invariant-loop-behind
-invariant-loop-behind g l =
-    HasDone l.setting l.fn.desks (before (turn_takes (files_in l.setting) l.desk) 0 l.behind) l.view l.desks (g.S.Sink.written l.fn.out) (g.S.Sink.written l.out) (g.S.Sink.has_failed l.out)
+invariant-loop-behind l = HasTaken l.setting l.fn.desks (before (turn_takes (files_in l.setting) l.desk) 0 l.behind) l.desks

@@ -3,7 +3,7 @@ use Rattle.std.proofs.Common.{get_or, refl, arith, ◌∷◌, []}
 use Rattle.std.proofs.lemmas.List.{take_all}
 use Rattle.desk_replica.specs.DeskSets.{sets_of}
 use Rattle.desk_runs.specs.Setting.{print_in, files_in}
-use Rattle.desk_files.specs.declared.schedule.step.Step.TheVariants.{Take}
+use Rattle.desk_files.specs.declared.schedule.step.RunStep.TheVariants.{Take}
 use Rattle.desk_files.specs.declared.schedule.step.Numbered.{Numbered}
 use Rattle.desk_runs.proofs.Running.{ran_nothing, kept_tables, done_too, steps_done, steps_ended, step-next, step-begins}
 use Rattle.desk_runs.proofs.engine.steps.run_steps.Goals as goal

@@ -1,17 +1,15 @@
 //! Files: read whole, or opened to be read piece by piece.
 
 ghost use Rattle.std.specs.Prelude.{◌≡◌, ◌<◌, ◌≤◌, ◌-◌, ◌^◌, IfOk, IfSome, IfNone, length, vec_len};
-ghost use Rattle.cli_support.specs.Given.{AreGiven};
+ghost use Rattle.command_line.specs.Given.{AreGiven};
 
 use crate::opener::Opener;
 use crate::unread::Unread;
+use op_codec::LONGEST_FILE;
 use std::alloc::Global;
 use std::fs::File;
 use std::io::{self, ErrorKind, Read};
 use std::rt::Files;
-
-/// The greatest length of a file that is read whole, in bytes.
-pub const LIMIT: u64 = 67_108_864;
 
 /// All bytes that a reader gives, or `None` where there are more than the limit.
 pub fn read_whole<F: Read + Drop>(alloc: Global, file: F, limit: u64) -> io::Result<Option<Vec<u8>>>
@@ -32,10 +30,10 @@ pub fn read_whole<F: Read + Drop>(alloc: Global, file: F, limit: u64) -> io::Res
 /// standard input at `-`.
 pub fn read<O: Opener + AllocGlobal>(rt: &O, path: &str) -> Result<Vec<u8>, Unread>
     ensures given { IfOk result (λ bytes. AreGiven (O.gives rt.now path.now) bytes.items) }
-    ensures within { IfOk result (λ bytes. vec_len bytes ≤ LIMIT) }
+    ensures within { IfOk result (λ bytes. vec_len bytes ≤ LONGEST_FILE) }
 {
     let file = rt.open(path)?;
-    match read_whole(rt.alloc(), file, LIMIT) {
+    match read_whole(rt.alloc(), file, LONGEST_FILE as u64) {
         Ok(Some(bytes)) => Ok(bytes),
         Err(error) if error.kind() == ErrorKind::OutOfMemory => Err(Unread::Memory),
         _ => Err(Unread::ReadFailed(String::from_str(rt.alloc(), path)?)),

@@ -1,8 +1,8 @@
 -- How a run that has nothing to do ends.
 use Rattle.std.specs.Prelude.{◌≡◌, ℕ, Bool, false, List, [], Option, string_bytes, if◌then◌else◌}
 use Rattle.std.specs.Io.KnownBytes.{Appends, Keeps}
-use Rattle.cli_support.specs.declared.command_line.Stop.{Stop}
-use Rattle.cli_support.specs.declared.command_line.Stop.TheVariants.{Help, Usage, Memory}
+use Rattle.command_line.specs.declared.stop.Stop.{Stop}
+use Rattle.command_line.specs.declared.stop.Stop.TheVariants.{Help, Usage, Memory}
 
 -- the status, by whether the help was lost
 abbrev pub status_of : Stop → Bool → ℕ

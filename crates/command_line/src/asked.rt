@@ -3,11 +3,12 @@
 ghost use Rattle.std.specs.Prelude.{◌<◌, ◌≤◌, IfOk, vec_len};
 
 use crate::grammar::command;
+use crate::opener::INPUT;
 use crate::request::{Job, Replay, Typing, Walk};
+use crate::stop::Stop;
 use bg_types::Base;
 use caret::Move;
 use clap::ArgMatches;
-use cli_support::{INPUT, Stop};
 use op_codec::Version;
 use std::alloc::Global;
 

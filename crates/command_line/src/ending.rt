@@ -3,9 +3,9 @@
 ghost use Rattle.std.specs.Prelude.{◌≡◌, false, is_err};
 ghost use Rattle.std.specs.Io.KnownBytes.{Appends};
 ghost use Rattle.bg_types.specs.Sink.{AppendsBeginning};
-ghost use Rattle.cli_support.specs.Ending.{status_of, help_of, IsTold};
+ghost use Rattle.command_line.specs.Ending.{status_of, help_of, IsTold};
 
-use crate::command_line::Stop;
+use crate::stop::Stop;
 use bg_types::{Device, Sink, put_all};
 use std::fmt::{self, Display, Write as _};
 use std::io;

@@ -2,7 +2,7 @@
 use Rattle.std.proofs.Common.{◌≡◌, ◌≤◌, ℕ, ◌+◌, List, length, take, Option, None, Some, IfSome, arith, length-take, min, ◌∙◌, rules}
 use Rattle.std.proofs.lemmas.List.{take_all}
 use Rattle.std.specs.Option.{option_map}
-use Rattle.cli_support.proofs.reading.read_whole.Goals as goal
+use Rattle.command_line.proofs.reading.read_whole.Goals as goal
 
 -- a beginning that ends before its bound is the whole
 whole-taken : (known : Option (List ℕ)) (limit : ℕ) (bytes : List ℕ) → IfSome (option_map (take (limit + 1)) known) (λ taken. bytes ≡ taken)

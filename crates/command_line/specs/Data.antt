@@ -1,8 +1,8 @@
 -- The data files of a folder.
 use Rattle.std.specs.Prelude.{◌≡◌, ◌≤◌, ℕ, Bool, List, ◌∷◌, ◌++◌, Option, codes, vec_len}
 use Rattle.ucd_files.specs.declared.files.Ucd.{Ucd}
-use Rattle.cli_support.specs.declared.data.Data.{Data}
-use Rattle.cli_support.specs.Given.{AreGiven}
+use Rattle.command_line.specs.declared.data.Data.{Data}
+use Rattle.command_line.specs.Given.{AreGiven}
 
 -- each file is the one of its name, and ambiguous characters are as wide as was asked for
 pub record IsUcdOf (files : Data) (wide_ambiguous : Bool) (ucd : Ucd) : Type 0 where

@@ -1,12 +1,13 @@
 //! The five data files of a folder.
 
 ghost use Rattle.std.specs.Prelude.{◌≤◌, IfOk, vec_len};
-ghost use Rattle.cli_support.specs.Data.{IsUcdOf, IsWithin, IsReadFrom, path_in};
-ghost use Rattle.cli_support.specs.Given.{AreGiven};
+ghost use Rattle.command_line.specs.Data.{IsUcdOf, IsWithin, IsReadFrom, path_in};
+ghost use Rattle.command_line.specs.Given.{AreGiven};
 
 use crate::opener::Opener;
-use crate::reading::{LIMIT, read};
+use crate::reading::read;
 use crate::unread::Unread;
+use op_codec::LONGEST_FILE;
 use ucd_files::Ucd;
 
 /// The five data files in their folder, in the order in which they are read.
@@ -48,7 +49,7 @@ impl Data {
 /// long.
 pub fn read_data<O: Opener + AllocGlobal>(rt: &O, folder: &str) -> Result<Data, Unread>
     ensures each { IfOk result (IsReadFrom (O.gives rt.now) folder.now) }
-    ensures within { IfOk result (IsWithin LIMIT) }
+    ensures within { IfOk result (IsWithin LONGEST_FILE) }
 {
     let [bidi, brackets, mirror, lb, ea] = DATA_FILES;
     Ok(Data {
@@ -62,7 +63,7 @@ pub fn read_data<O: Opener + AllocGlobal>(rt: &O, folder: &str) -> Result<Data, 
 
 fn read_in<O: Opener + AllocGlobal>(rt: &O, folder: &str, name: &str) -> Result<Vec<u8>, Unread>
     ensures given { IfOk result (λ bytes. AreGiven (O.gives rt.now (path_in folder.now name.now)) bytes.items) }
-    ensures within { IfOk result (λ bytes. vec_len bytes ≤ LIMIT) }
+    ensures within { IfOk result (λ bytes. vec_len bytes ≤ LONGEST_FILE) }
 {
     let path = format!(in rt.alloc(); "{folder}/{name}")?;
     read(rt, path.as_str())

@@ -1,7 +1,7 @@
 //! The words of a command line, and why they ask for no work.
 
 ghost use Rattle.std.specs.Prelude.{◌≡◌};
-ghost use Rattle.cli_support.specs.declared.command_line.Stop.TheVariants.{Memory as stop_memory};
+ghost use Rattle.command_line.specs.declared.stop.Stop.TheVariants.{Memory as stop_memory};
 
 use clap::Error;
 use clap::error::ErrorKind;

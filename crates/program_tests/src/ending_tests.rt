@@ -1,14 +1,15 @@
-//! What no clause says: the texts, what a command line comes to, and files that can't be read.
+//! What no clause says of a run that ends at its words, or at a file that can't be read.
 
 use crate::files::{are_written, assert_unread};
 use crate::given::Given;
-use crate::rows::{Row, assert_rows};
+use crate::rows::assert_rows;
 use bg_types::{Device, Memory, Out, Stops};
 use clap::{Arg, ArgAction, Command};
-use cli_support::*;
+use command_line::*;
 use std::alloc::{AllocError, Global};
 use std::io::{self, ErrorKind, Read};
 use std::test::Fail;
+use test_rows::Row;
 
 /// A program with one option `--at`.
 fn named<'a>(alloc: Global) -> Result<Command<'a>, AllocError> {

@@ -1,7 +1,7 @@
 //! Why files could not be read.
 
 ghost use Rattle.std.specs.Prelude.{◌≡◌};
-ghost use Rattle.cli_support.specs.declared.unread.Unread.TheVariants.{Memory as unread_memory};
+ghost use Rattle.command_line.specs.declared.unread.Unread.TheVariants.{Memory as unread_memory};
 
 use std::alloc::{AllocError, AllocFailed};
 use std::fmt;
