@@ -151,6 +151,7 @@ dist: program lib
 	c/try-dist $(DIST)
 
 deps:
+	apt-get update
 	apt-get install -y --no-install-recommends $(DEPS)
 
 clean:
