@@ -52,7 +52,7 @@ help:
 	@echo 'make check       is the whole test: $(strip $(PARTS)), one after the other;'
 	@echo '                 a part that lacks a package is left out, and told'
 	@echo 'make check-gate  compares the pages with the tree, and proves and tests every crate'
-	@echo 'make check-c     tries the library from C; with BIDIGRID=FILE it compares with that program, and proves none'
+	@echo 'make check-c     tries the library from C; with BIDIGRID=FILE it compares with that program, and proves no program'
 	@echo 'make wheel       builds the Python package with the library in it, build/bidigrid-$(VERSION)-*.whl'
 	@echo 'make check-python, make check-edit'
 	@echo '                 try the package, and the editor in terminals and over Redis; BIDIGRID=FILE as there'

@@ -9,7 +9,7 @@ _NONE = Changes()
 class Fault(Exception):
     """What the library refused. Those of memory, places and values are also the exceptions that Python has for them.
 
-    number: the number of the fault, as the C header and FORMATS.md have it.
+    number: the number of the fault, as the C header has it.
     name: its name, as "IdentifierReused".
     frame: the faulty frame of a message, from 1, or 0 for its header; None where no frame is faulty.
     taken: how many operations of a message stand, from its front. Of a merge it is 0, whatever stands.

@@ -6,7 +6,7 @@ ghost use Rattle.rga_tree.specs.TextOf.{text};
 
 use bg_types::Memory;
 use desk_replica::Replica;
-// The one place that names the sequence of every desk.
+// The one place that names the sequence of the desks of a run.
 use rga_sequence::Blocks as Elements;
 use std::alloc::Global;
 
