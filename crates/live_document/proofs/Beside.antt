@@ -1,7 +1,8 @@
 -- Rows that are kept of paragraphs.
-use Rattle.std.proofs.Common.{◌≡◌, ℕ, zero, suc, Bool, true, false, Option, Some, None, List, [], ◌∷◌, ◌++◌, get_or, set, map, take, drop, refl, sym, ap, ap₂, subst, ◌∙◌}
+use Rattle.std.proofs.Common.{◌≡◌, ℕ, zero, suc, Bool, true, false, Option, Some, None, List, [], ◌∷◌, ◌++◌, ◌+◌, length, arith, get_or, set, map, take, drop, refl, sym, ap, ap₂, subst, ◌∙◌}
 use Rattle.std.proofs.lemmas.List.{map-set, set-get_or}
 use Rattle.std.proofs.lemmas.List.Elements.{All-nil, All-cons, All-head, All-tail, All-append, All-take, All-drop}
+use Rattle.std.proofs.lemmas.List.Sums.{sum_by-cons}
 use Rattle.std.proofs.lemmas.Option.{same_Some}
 use Rattle.std.specs.List.{All}
 use Rattle.std.specs.Option.{option_map_or}
@@ -10,7 +11,7 @@ use Rattle.bg_types.specs.declared.class.Base.{Base}
 use Rattle.unicode_tables.specs.Tables.{TableValues}
 use Rattle.text_buffer.specs.Buffers.{KeptParagraph, paragraphs_in, kept_in, forgotten, IsSplit}
 use Rattle.text_buffer.specs.Edits.{anew}
-use Rattle.live_document.specs.Keeping.{Rows, KeptText, rows_of_text, IsLaid, IsKeptAt, rows_at, flags, is_kept}
+use Rattle.live_document.specs.Keeping.{Rows, KeptText, rows_of_text, IsLaid, IsKeptAt, rows_beside, rows_at, rows_held, flags, is_kept}
 
 -- what is kept of a paragraph tells its rows and its flag
 pub rows_at-kept : (kept : KeptText) (n : ℕ) (o : Option Rows) → slice_get (kept_in kept) n ≡ Some o → rows_at kept n ≡ option_map_or (λ (rows : Rows). rows.items) o []
@@ -113,3 +114,27 @@ module _ (tables : TableValues) (width : ℕ) (base : Base) where
     split = subst (IsSplit tables) (sym e) at.split;
     laid = laid-set kept new n rows e f is at.laid;
   }
+
+-- ---- how many rows are kept
+
+pub held-cons : (p : KeptParagraph Rows) (kept : KeptText) → rows_held (p ∷ kept) ≡ length (rows_beside p) + rows_held kept
+held-cons p kept = sum_by-cons (λ (q : KeptParagraph Rows). length (rows_beside q)) p kept
+
+-- one more paragraph is kept
+pub held-set : (kept new : KeptText) (n : ℕ) (rows : Rows) → paragraphs_in new ≡ paragraphs_in kept → kept_in new ≡ set (kept_in kept) n (Some rows)
+    → slice_get (kept_in kept) n ≡ Some None → rows_held new ≡ rows_held kept + length rows.items
+held-set [] new n rows e f h = cc
+held-set (p ∷ kept) [] n rows e f h = cc
+held-set (p ∷ kept) (q ∷ new) zero rows e f h =
+    let a = held-cons p kept in
+    let b = held-cons q new in
+    let same = ap rows_held (kept-same kept new (ap (drop 1) e) (ap (drop 1) f)) in
+    let none : length (rows_beside p) ≡ 0 = ap (λ (k : Option Rows). length (option_map_or (λ (rows : Rows). rows.items) k [])) (same_Some p.kept None h) in
+    let some : length (rows_beside q) ≡ length rows.items = ap (λ (k : Option Rows). length (option_map_or (λ (rows : Rows). rows.items) k [])) (ap (λ l. get_or l 0 None) f) in
+    omega arith
+held-set (p ∷ kept) (q ∷ new) (suc n) rows e f h =
+    let a = held-cons p kept in
+    let b = held-cons q new in
+    let own : length (rows_beside q) ≡ length (rows_beside p) = ap (λ (k : Option Rows). length (option_map_or (λ (rows : Rows). rows.items) k [])) (ap (λ l. get_or l 0 None) f) in
+    let later = held-set kept new n rows (ap (drop 1) e) (ap (drop 1) f) h in
+    omega arith

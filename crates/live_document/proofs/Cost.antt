@@ -156,7 +156,7 @@ pub marks-counted : (kept : KeptText) → marks (map counted kept) ≡ flags kep
 marks-counted [] = refl
 marks-counted (p ∷ kept) = ap₂ (λ b later. b ∷ later) (some-count p.kept) (marks-counted kept)
 
-flags-anew : (texts : List (List ℕ)) → flags (map (anew {K = Rows}) texts) ≡ replicate (length texts) false
+pub flags-anew : (texts : List (List ℕ)) → flags (map (anew {K = Rows}) texts) ≡ replicate (length texts) false
 flags-anew [] = refl
 flags-anew (t ∷ texts) = ap (λ later. false ∷ later) (flags-anew texts)
 
@@ -216,10 +216,10 @@ module _ (tables : TableValues) (before after : OperationSet) (kept now : KeptTe
       inr (record { steps = h.steps; all = h.all; touched = in_turn-counted kept now h.steps h.touched })
 
 -- the paragraphs of a document are those of its desk's text
-pub texts-live : (desk : Desk) (tables : TableValues) (width : ℕ) (base : Base) (behind : Bool) (kept : KeptText) (s : Shown) → IsLive desk tables width base behind kept s
+pub texts-live : (desk : Desk) (tables : TableValues) (width : ℕ) (base : Base) (behind : Bool) (kept : KeptText) (s : Shown) (held : ℕ) → IsLive desk tables width base behind kept s held
     → paragraphs_in (paragraphs_of behind tables desk.set kept) ≡ paragraph_points tables (text desk.set)
-texts-live desk tables width base true kept s live = texts-anew (paragraph_points tables (text desk.set))
-texts-live desk tables width base false kept s live = texts-counted kept ∙ live.kept_at.split ∙ ap (paragraph_points tables) (live.text_is refl)
+texts-live desk tables width base true kept s held live = texts-anew (paragraph_points tables (text desk.set))
+texts-live desk tables width base false kept s held live = texts-counted kept ∙ live.kept_at.split ∙ ap (paragraph_points tables) (live.text_is refl)
 
 -- what is kept after catching up is what the document showed of it
 pub marks-caught : (behind : Bool) (tables : TableValues) (set : OperationSet) (old new : KeptText) → (behind ≡ false → new ≡ old) → (behind ≡ true → new ≡ map anew (paragraphs_in new))

@@ -19,7 +19,7 @@ use Rattle.text_buffer.specs.declared.touched.Touched.{Touched}
 use Rattle.text_buffer.specs.declared.fault.BufferFault.{BufferFault}
 use Rattle.text_buffer.specs.declared.fault.Stopped.{Stopped}
 use Rattle.text_buffer.proofs.Interface.{changed-all}
-use Rattle.live_document.specs.Keeping.{KeptText, IsLaid, IsKeptAt, StaysKept}
+use Rattle.live_document.specs.Keeping.{KeptText, rows_held, IsLaid, IsKeptAt, StaysKept}
 use Rattle.live_document.specs.declared.shown.Shown.{Shown}
 use Rattle.live_document.specs.Documents.{IsWindowOf, IsLive}
 use Rattle.live_document.specs.Showing.{window_in, no_window, IsAtHand}
@@ -93,23 +93,33 @@ pub nothing-window : (kept : KeptText) (s : Shown) → s ≡ record { first = 0;
 nothing-window kept s is = ap (window_in kept) is
 
 -- a desk's text has changed, and the paragraphs with it or they are behind
-pub live-followed : (old new : Desk) (tables : TableValues) (width : ℕ) (base : Base) (behind later : Bool) (kept now : KeptText) (s nothing : Shown) (from to : ℕ) (points : List ℕ)
-    → IsLive old tables width base behind kept s → nothing ≡ record { first = 0; skip = 0; count = 0; number = 0 } → StaysKept tables kept now
+pub live-followed : (old new : Desk) (tables : TableValues) (width : ℕ) (base : Base) (behind later : Bool) (kept now : KeptText) (s nothing : Shown) (held from to : ℕ) (points : List ℕ)
+    → IsLive old tables width base behind kept s held → nothing ≡ record { first = 0; skip = 0; count = 0; number = 0 } → StaysKept tables kept now → rows_held now ≤ rows_held kept
     → (later ≡ false → behind ≡ false) → (later ≡ false → text_in now ≡ replaced (text_in kept) from to points) → text new.set ≡ replaced (text old.set) from to points
-    → IsLive new tables width base later now nothing
-live-followed old new tables width base behind later kept now s nothing from to points live none stays before same changed = record {
+    → IsLive new tables width base later now nothing held
+live-followed old new tables width base behind later kept now s nothing held from to points live none stays less before same changed = record {
   kept_at = stays width base live.kept_at;
   text_is = λ h. same h ∙ ap (λ t. replaced t from to points) (live.text_is (before h)) ∙ sym changed;
   unshown = λ h. nothing-window now nothing none;
   at_hand = nothing-at_hand now nothing none;
   of_now = inl (nothing-window now nothing none);
+  held_is = omega (arith, less, live.held_is);
+  held_few = live.held_few;
 }
 
 -- the desk's text is the same, and the paragraphs are its own
-pub live-caught : (desk : Desk) (tables : TableValues) (width : ℕ) (base : Base) (now : KeptText) (s : Shown)
+pub live-caught : (desk : Desk) (tables : TableValues) (width : ℕ) (base : Base) (now : KeptText) (s : Shown) (held : ℕ)
     → IsKeptAt tables width base now → text_in now ≡ text desk.set → IsAtHand now s → IsWindowOf desk.set tables width base (window_in now s)
-    → IsLive desk tables width base false now s
-live-caught desk tables width base now s at is hand shown = record { kept_at = at; text_is = λ h. is; unshown = λ h. absurd (both_ways false refl h); at_hand = hand; of_now = shown }
+    → rows_held now ≤ held → held ≤ 15_000_000 → IsLive desk tables width base false now s held
+live-caught desk tables width base now s held at is hand shown less few = record {
+  kept_at = at;
+  text_is = λ h. is;
+  unshown = λ h. absurd (both_ways false refl h);
+  at_hand = hand;
+  of_now = shown;
+  held_is = less;
+  held_few = few;
+}
 
 -- what stands behind older changes, as a slice of all
 pub told-behind : (old new all : List Change) (n : ℕ) → n ≡ length old → all ≡ new → take (length all - n) (drop n all) ≡ drop (length old) new
@@ -121,54 +131,77 @@ pub told-edit : (change : (s t : OperationSet) (old new : List Change) → IsTol
 told-edit change s t old new told is h = subst (λ (changes : List Change). IsEdit (text s) changes (text t)) (sym is) (change s t old new h)
 
 -- changes of the desk's text are in range in the paragraphs, unless these are behind
-pub live-range : (old : Desk) (tables : TableValues) (width : ℕ) (base : Base) (behind : Bool) (kept : KeptText) (s : Shown) (changes : List Change) (later : List ℕ)
-    → IsLive old tables width base behind kept s → IsEdit (text old.set) changes later → behind ≡ false → AreInRange (text_in kept) changes
-live-range old tables width base behind kept s changes later live edit h =
+pub live-range : (old : Desk) (tables : TableValues) (width : ℕ) (base : Base) (behind : Bool) (kept : KeptText) (s : Shown) (held : ℕ) (changes : List Change) (later : List ℕ)
+    → IsLive old tables width base behind kept s held → IsEdit (text old.set) changes later → behind ≡ false → AreInRange (text_in kept) changes
+live-range old tables width base behind kept s held changes later live edit h =
     subst (λ (t : List ℕ). AreInRange t changes) (sym (live.text_is h)) (changed-all changes (text old.set) later edit).0
 
 -- the changes of a desk's text are made in the paragraphs too, or these are behind
-pub live-told : (old new : Desk) (tables : TableValues) (width : ℕ) (base : Base) (behind later : Bool) (kept now : KeptText) (s nothing : Shown) (changes : List Change)
-    → IsLive old tables width base behind kept s → nothing ≡ record { first = 0; skip = 0; count = 0; number = 0 } → StaysKept tables kept now
+pub live-told : (old new : Desk) (tables : TableValues) (width : ℕ) (base : Base) (behind later : Bool) (kept now : KeptText) (s nothing : Shown) (held : ℕ) (changes : List Change)
+    → IsLive old tables width base behind kept s held → nothing ≡ record { first = 0; skip = 0; count = 0; number = 0 } → StaysKept tables kept now → rows_held now ≤ rows_held kept
     → (later ≡ false → behind ≡ false) → (later ≡ false → text_in now ≡ all_changed (text_in kept) changes) → IsEdit (text old.set) changes (text new.set)
-    → IsLive new tables width base later now nothing
-live-told old new tables width base behind later kept now s nothing changes live none stays before same edit = record {
+    → IsLive new tables width base later now nothing held
+live-told old new tables width base behind later kept now s nothing held changes live none stays less before same edit = record {
   kept_at = stays width base live.kept_at;
   text_is = λ h. same h ∙ ap (λ t. all_changed t changes) (live.text_is (before h)) ∙ sym (changed-all changes (text old.set) (text new.set) edit).1;
   unshown = λ h. nothing-window now nothing none;
   at_hand = nothing-at_hand now nothing none;
   of_now = inl (nothing-window now nothing none);
+  held_is = omega (arith, less, live.held_is);
+  held_few = live.held_few;
 }
 
 -- the paragraphs are behind their desk
-pub live-behind : (desk : Desk) (tables : TableValues) (width : ℕ) (base : Base) (kept : KeptText) (nothing : Shown)
-    → IsKeptAt tables width base kept → nothing ≡ record { first = 0; skip = 0; count = 0; number = 0 } → IsLive desk tables width base true kept nothing
-live-behind desk tables width base kept nothing at none = record {
+pub live-behind : (desk : Desk) (tables : TableValues) (width : ℕ) (base : Base) (kept : KeptText) (nothing : Shown) (held : ℕ)
+    → IsKeptAt tables width base kept → nothing ≡ record { first = 0; skip = 0; count = 0; number = 0 } → rows_held kept ≤ held → held ≤ 15_000_000
+    → IsLive desk tables width base true kept nothing held
+live-behind desk tables width base kept nothing held at none less few = record {
   kept_at = at;
   text_is = λ h. cc;
   unshown = λ h. nothing-window kept nothing none;
   at_hand = nothing-at_hand kept nothing none;
   of_now = inl (nothing-window kept nothing none);
+  held_is = less;
+  held_few = few;
 }
 
 -- the desk's operations are the same
-pub live-alike : (old new : Desk) (tables : TableValues) (width : ℕ) (base : Base) (behind : Bool) (kept : KeptText) (s : Shown)
-    → IsLive old tables width base behind kept s → new.set ≡ old.set → IsLive new tables width base behind kept s
-live-alike old new tables width base behind kept s live same = record {
+pub live-alike : (old new : Desk) (tables : TableValues) (width : ℕ) (base : Base) (behind : Bool) (kept : KeptText) (s : Shown) (held : ℕ)
+    → IsLive old tables width base behind kept s held → new.set ≡ old.set → IsLive new tables width base behind kept s held
+live-alike old new tables width base behind kept s held live same = record {
   kept_at = live.kept_at;
   text_is = λ h. live.text_is h ∙ sym (ap text same);
   unshown = live.unshown;
   at_hand = live.at_hand;
   of_now = subst (λ (set : OperationSet). IsWindowOf set tables width base (window_in kept s)) (sym same) live.of_now;
+  held_is = live.held_is;
+  held_few = live.held_few;
 }
 
 -- nothing is kept any more, and the width or the base may be another
-pub live-turned : (desk : Desk) (tables : TableValues) (width : ℕ) (base : Base) (behind : Bool) (kept now : KeptText) (s nothing : Shown) (wider : ℕ) (turned : Base)
-    → IsLive desk tables width base behind kept s → 2 ≤ wider → wider ≤ 500 → nothing ≡ record { first = 0; skip = 0; count = 0; number = 0 }
-    → paragraphs_in now ≡ paragraphs_in kept → All (IsLaid tables wider turned) now → IsLive desk tables wider turned behind now nothing
-live-turned desk tables width base behind kept now s nothing wider turned live least most none same laid = record {
+pub live-turned : (desk : Desk) (tables : TableValues) (width : ℕ) (base : Base) (behind : Bool) (kept now : KeptText) (s nothing : Shown) (held wider : ℕ) (turned : Base)
+    → IsLive desk tables width base behind kept s held → 2 ≤ wider → wider ≤ 500 → nothing ≡ record { first = 0; skip = 0; count = 0; number = 0 }
+    → paragraphs_in now ≡ paragraphs_in kept → All (IsLaid tables wider turned) now → rows_held now ≡ 0 → IsLive desk tables wider turned behind now nothing 0
+live-turned desk tables width base behind kept now s nothing held wider turned live least most none same laid empty = record {
   kept_at = record { at_least = least; at_most = most; split = subst (IsSplit tables) (sym same) live.kept_at.split; laid = laid };
   text_is = λ h. ap concat same ∙ live.text_is h;
   unshown = λ h. nothing-window now nothing none;
   at_hand = nothing-at_hand now nothing none;
   of_now = inl (nothing-window now nothing none);
+  held_is = omega (arith, empty);
+  held_few = omega arith;
+}
+
+-- the paragraphs are the desk's, nothing is kept of them, and nothing is shown
+pub live-bare : (desk : Desk) (tables : TableValues) (width : ℕ) (base : Base) (kept now : KeptText) (nothing : Shown) → IsKeptAt tables width base kept → text_in kept ≡ text desk.set
+    → nothing ≡ record { first = 0; skip = 0; count = 0; number = 0 } → paragraphs_in now ≡ paragraphs_in kept → All (IsLaid tables width base) now → rows_held now ≡ 0
+    → IsLive desk tables width base false now nothing 0
+live-bare desk tables width base kept now nothing at is none same laid empty = record {
+  kept_at = record { at_least = at.at_least; at_most = at.at_most; split = subst (IsSplit tables) (sym same) at.split; laid = laid };
+  text_is = λ h. ap concat same ∙ is;
+  unshown = λ h. absurd (both_ways false refl h);
+  at_hand = nothing-at_hand now nothing none;
+  of_now = inl (nothing-window now nothing none);
+  held_is = omega (arith, empty);
+  held_few = omega arith;
 }

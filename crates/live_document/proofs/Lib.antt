@@ -13,3 +13,4 @@ mod Followed
 mod Taking
 mod Cost
 mod Runs
+mod Forgotten

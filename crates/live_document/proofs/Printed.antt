@@ -96,24 +96,24 @@ a_row = record { first_place = 0; last_place = 0; para_level = 0; entries = []; 
 -- ---- of a document
 
 -- it prints of the desk's text
-pub live-printed : (desk : Desk) (tables : TableValues) (width : ℕ) (base : Base) (behind : Bool) (kept : KeptText) (s : Shown) → IsLive desk tables width base behind kept s
+pub live-printed : (desk : Desk) (tables : TableValues) (width : ℕ) (base : Base) (behind : Bool) (kept : KeptText) (s : Shown) (held : ℕ) → IsLive desk tables width base behind kept s held
     → printed (shown_in tables kept s) ≡ printed (record { tables = tables; text = encode_utf8_all (desk_text.text desk.set); rows = (window_in kept s).rows })
-live-printed desk tables width base true kept s live =
+live-printed desk tables width base true kept s held live =
     let none = live.unshown refl in
     ap (λ (w : DrawnWindow). printed (record { tables = tables; text = encode_utf8_all (text_in kept); rows = w.rows })) none
     ∙ sym (ap (λ (w : DrawnWindow). printed (record { tables = tables; text = encode_utf8_all (desk_text.text desk.set); rows = w.rows })) none)
-live-printed desk tables width base false kept s live =
+live-printed desk tables width base false kept s held live =
     ap (λ points. printed (record { tables = tables; text = encode_utf8_all points; rows = (window_in kept s).rows })) (live.text_is refl)
 
 none-row : (tables : TableValues) (text : List ℕ) (number : ℕ) → printed_row (record { tables = tables; text = text; rows = [] }) number ≡ []
 none-row tables text number = ap (λ o. option_map_or (row_text tables text) o []) (slice_get_past [] number (omega arith))
 
-pub live-printed_row : (desk : Desk) (tables : TableValues) (width : ℕ) (base : Base) (behind : Bool) (kept : KeptText) (s : Shown) (number : ℕ) → IsLive desk tables width base behind kept s
+pub live-printed_row : (desk : Desk) (tables : TableValues) (width : ℕ) (base : Base) (behind : Bool) (kept : KeptText) (s : Shown) (held number : ℕ) → IsLive desk tables width base behind kept s held
     → printed_row (shown_in tables kept s) number ≡ printed_row (record { tables = tables; text = encode_utf8_all (desk_text.text desk.set); rows = (window_in kept s).rows }) number
-live-printed_row desk tables width base true kept s number live =
+live-printed_row desk tables width base true kept s held number live =
     let none = live.unshown refl in
     ap (λ (w : DrawnWindow). printed_row (record { tables = tables; text = encode_utf8_all (text_in kept); rows = w.rows }) number) none
     ∙ none-row tables (encode_utf8_all (text_in kept)) number ∙ sym (none-row tables (encode_utf8_all (desk_text.text desk.set)) number)
     ∙ sym (ap (λ (w : DrawnWindow). printed_row (record { tables = tables; text = encode_utf8_all (desk_text.text desk.set); rows = w.rows }) number) none)
-live-printed_row desk tables width base false kept s number live =
+live-printed_row desk tables width base false kept s held number live =
     ap (λ points. printed_row (record { tables = tables; text = encode_utf8_all points; rows = (window_in kept s).rows }) number) (live.text_is refl)

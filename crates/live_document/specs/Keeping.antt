@@ -1,5 +1,5 @@
 -- Rows that are kept beside the paragraphs of a text.
-use Rattle.std.specs.Prelude.{◌≡◌, ◌≤◌, ◌<◌, ◌⊎◌, ℕ, List, [], Bool, true, false, is_some, Vec, map as each, length, slice_get, slice_index_or, encode_utf8_all, IfSome}
+use Rattle.std.specs.Prelude.{◌≡◌, ◌≤◌, ◌<◌, ◌⊎◌, ℕ, List, [], Bool, true, false, is_some, Vec, map as each, length, sum_by, slice_get, slice_index_or, encode_utf8_all, IfSome}
 use Rattle.std.specs.Global.{Global}
 use Rattle.std.specs.List.{All, flat_map}
 use Rattle.std.specs.Option.{option_map_or}
@@ -40,6 +40,10 @@ rows_beside p = option_map_or (λ (rows : Rows). rows.items) p.kept []
 -- those of the paragraph with this number
 abbrev pub rows_at : KeptText → ℕ → List DrawnRow
 rows_at kept number = option_map_or rows_beside (slice_get kept number) []
+
+-- how many rows are kept
+abbrev pub rows_held : KeptText → ℕ
+rows_held kept = sum_by (λ (p : KeptParagraph Rows). length (rows_beside p)) kept
 
 -- of which paragraphs rows are kept
 abbrev pub flags : KeptText → List Bool

@@ -9,7 +9,7 @@ ghost use Rattle.desk_replica.specs.Desk.{fresh};
 ghost use Rattle.desk_replica.specs.Merging.{with_operations};
 ghost use Rattle.desk_replica.specs.Stretch.{typed_text, deletions, replacement, IsTextRefusal, IsTextRefused, IsRangeRefused, IsReplaceRefusal, IsReplaceRefused};
 ghost use Rattle.desk_replica.specs.declared.answer.TypeFault.{TypeFault as Untyped};
-ghost use Rattle.live_document.specs.Cost.{IsLaidOut, KeepsOthers};
+ghost use Rattle.live_document.specs.Cost.{rows_kept, IsLaidOut, KeepsOthers};
 ghost use Rattle.live_document.specs.Documents.{window_round, IsDrawnAlike, IsWindowOf};
 ghost use Rattle.live_document.specs.Runs.{Types, Erases, Replaces, Resizes, Turns, Shows, IsCall};
 ghost use Rattle.live_document.specs.Showing.{no_window};
@@ -55,6 +55,8 @@ pub struct Document {
     behind: bool,
     shown: Shown,
     laid: usize,
+    /// At most so many rows are kept.
+    held: usize,
 }
 
 impl Model for Document {
@@ -77,7 +79,7 @@ impl Model for Document {
       laid = d.laid;
     } };
 
-    ghost invariant = { λ d. IsLive d.desk d.tables.value d.width d.base d.behind d.buffer d.shown };
+    ghost invariant = { λ d. IsLive d.desk d.tables.value d.width d.base d.behind d.buffer d.shown d.held };
 }
 
 impl Document {
@@ -135,6 +137,7 @@ impl Document {
             behind: true,
             shown: Shown::nothing(),
             laid: 0,
+            held: 0,
         })
     }
 
@@ -335,6 +338,7 @@ impl Document {
         ensures call { IsCall self.old (Resizes width) false self.new }
     {
         forget_rows(&mut self.buffer);
+        self.held = 0;
         self.width = width;
         self.shown = Shown::nothing();
     }
@@ -349,12 +353,14 @@ impl Document {
         ensures call { IsCall self.old (Turns base) false self.new }
     {
         forget_rows(&mut self.buffer);
+        self.held = 0;
         self.base = base;
         self.shown = Shown::nothing();
     }
 
     /// Lays out what is not kept of a window: the rows from so many above the row of a place to so many below it, each at
-    /// most 1,000. `window` shows it then. After `Memory` nothing is shown, and the next call goes on from there.
+    /// most 1,000. `window` shows it then. No more rows are kept then than four such windows have, each of at least 64 rows, or
+    /// none but those of the window's paragraphs. After `Memory` nothing is shown, and no rows are kept.
     pub fn show(&mut self, place: usize, above: usize, below: usize) -> Result<(), Memory>
         requires place { place ≤ length (visible self.old.desk.set) }
         requires above { above ≤ 1_000 }
@@ -363,6 +369,7 @@ impl Document {
         // What has a row of it is laid out, unless it is kept.
         ensures laid { OnOk result (IsLaidOut self.old self.new place above below) }
         ensures nothing { OnErr result (self.new.window ≡ no_window) }
+        ensures forgotten { OnErr result (rows_kept self.new.paragraphs ≡ 0) }
         ensures desk { self.new.desk ≡ self.old.desk }
         ensures drawn { IsDrawnAlike self.old self.new }
         ensures call { IsCall self.old (Shows place above below) (is_err result) self.new }
@@ -376,7 +383,7 @@ impl Document {
             self.behind,
         )?;
         self.behind = false;
-        let outcome = lay_window_out(
+        match lay_window_out(
             self.alloc,
             &self.tables,
             self.width,
@@ -385,10 +392,21 @@ impl Document {
             place,
             above,
             below,
-        )?;
-        self.shown = outcome.shown;
-        self.laid = outcome.laid;
-        Ok(())
+            self.held,
+        ) {
+            Ok(outcome) => {
+                self.shown = outcome.shown;
+                self.laid = outcome.laid;
+                self.held = outcome.held;
+                Ok(())
+            }
+            Err(Memory) => {
+                // How many rows were made is not told.
+                forget_rows(&mut self.buffer);
+                self.held = 0;
+                Err(Memory)
+            }
+        }
     }
 
     /// What is shown: the window of the last `show`, and none before the first and after a change.

@@ -1,13 +1,13 @@
 //! Paragraphs follow the text of a desk.
 
-ghost use Rattle.std.specs.Prelude.{◌≡◌, ◌≤◌, ℕ, Bool, true, false, [], ◌∷◌, map, length, IfOk, OnOk, OnErr};
+ghost use Rattle.std.specs.Prelude.{◌≡◌, ◌≤◌, ℕ, Bool, true, false, [], ◌∷◌, map, length, IfOk, OnOk, OnErr, IsOk};
 ghost use Rattle.bg_types.specs.declared.class.Base.{Base};
 ghost use Rattle.paragraphs.specs.Text.{code_points};
 ghost use Rattle.rga_tree.specs.TextOf.{text};
 ghost use Rattle.text_buffer.specs.Buffers.{paragraphs_in, text_in, IsSplit};
 ghost use Rattle.text_buffer.specs.Edits.{anew, replaced, all_changed, AreInRange, AreTouched, IsTouched};
 ghost use Rattle.text_buffer.specs.declared.touched.Touched.{Touched};
-ghost use Rattle.live_document.specs.Keeping.{StaysKept, IsKeptAt};
+ghost use Rattle.live_document.specs.Keeping.{rows_held, StaysKept, IsKeptAt};
 
 use crate::document::Desk;
 use bg_types::{Change, Memory};
@@ -43,6 +43,7 @@ pub fn follow(
     requires within { behind ≡ false → to ≤ length (text_in buffer.old) }
     ensures before { result ≡ false → behind ≡ false }
     ensures text { result ≡ false → text_in buffer.new ≡ replaced (text_in buffer.old) from to (code_points characters.now) }
+    ensures held { rows_held buffer.new ≤ rows_held buffer.old }
     ensures touched { result ≡ false → (touched : Touched) × IsTouched buffer.old from to touched buffer.new }
     ensures kept { StaysKept tables.now buffer.old buffer.new }
 {
@@ -64,6 +65,7 @@ pub fn follow_typed(
     requires within { behind ≡ false → place ≤ length (text_in buffer.old) }
     ensures before { result ≡ false → behind ≡ false }
     ensures text { result ≡ false → text_in buffer.new ≡ replaced (text_in buffer.old) place place (ch ∷ []) }
+    ensures held { rows_held buffer.new ≤ rows_held buffer.old }
     ensures touched { result ≡ false → (touched : Touched) × IsTouched buffer.old place place touched buffer.new }
     ensures kept { StaysKept tables.now buffer.old buffer.new }
 {
@@ -83,6 +85,7 @@ pub fn follow_all(
     requires split { IsSplit tables.now (paragraphs_in buffer.old) }
     requires places { behind ≡ false → AreInRange (text_in buffer.old) changes.now }
     ensures before { result ≡ false → behind ≡ false }
+    ensures held { rows_held buffer.new ≤ rows_held buffer.old }
     ensures text { result ≡ false → text_in buffer.new ≡ all_changed (text_in buffer.old) changes.now }
     ensures touched { result ≡ false → AreTouched buffer.old changes.now buffer.new }
     ensures kept { StaysKept tables.now buffer.old buffer.new }
@@ -104,8 +107,10 @@ pub fn catch_up(
     requires text { behind ≡ false → text_in buffer.old ≡ text desk.now.set }
     ensures text { OnOk result (text_in buffer.new ≡ text desk.now.set) }
     ensures kept { StaysKept tables.now buffer.old buffer.new }
+    ensures held { rows_held buffer.new ≤ rows_held buffer.old }
     ensures same { behind ≡ false → buffer.new ≡ buffer.old }
     ensures nothing { OnOk result (behind ≡ true → buffer.new ≡ map anew (paragraphs_in buffer.new)) }
+    ensures enough { behind ≡ false → IsOk result }
     ensures err { OnErr result (buffer.new ≡ buffer.old) }
 {
     if !behind {

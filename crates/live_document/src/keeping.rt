@@ -1,10 +1,10 @@
 //! Rows that are kept beside paragraphs.
 
-ghost use Rattle.std.specs.Prelude.{◌≡◌, ◌+◌, ◌-◌, ◌≤◌, ◌<◌, ◌⊎◌, ℕ, [], true, All, length, not, get_or, slice_set, slice_range, count_by, IfOk, OnOk, OnErr, if◌then◌else◌};
+ghost use Rattle.std.specs.Prelude.{◌≡◌, ◌+◌, ◌-◌, ◌≤◌, ◌<◌, ◌⊎◌, ℕ, [], true, max, All, length, not, get_or, slice_set, slice_range, count_by, IfOk, OnOk, OnErr, if◌then◌else◌};
 ghost use Rattle.bg_types.specs.declared.class.Base.{Base};
 ghost use Rattle.unicode_tables.specs.Tables.{TableValues};
 ghost use Rattle.text_buffer.specs.Buffers.{paragraphs_in};
-ghost use Rattle.live_document.specs.Keeping.{flags, is_kept, rows_at, rows_of_text, rows_of_texts, IsLaid, IsKeptAt, IsMarked};
+ghost use Rattle.live_document.specs.Keeping.{flags, is_kept, rows_at, rows_held, rows_of_text, rows_of_texts, IsLaid, IsKeptAt, IsMarked};
 
 use crate::laws_below::laws_below;
 use bg_types::{Base, Memory};
@@ -27,16 +27,46 @@ pub fn kept_rows(buffer: &Buffer<Vec<Row>>, number: usize) -> &[Row]
 /// Drops the rows of all paragraphs, as is needed before another width or base direction.
 pub fn forget_rows(buffer: &mut Buffer<Vec<Row>>)
     ensures paragraphs { paragraphs_in buffer.new ≡ paragraphs_in buffer.old }
+    ensures held { rows_held buffer.new ≡ 0 }
     ensures none { (tables : TableValues) (width : ℕ) (base : Base) → All (IsLaid tables width base) buffer.new }
 {
     buffer.forget_but(0, 0);
 }
 
-/// How many rows a paragraph has, and how many paragraphs it took to lay out: 0 or 1.
+/// Drops the rows of all paragraphs but those from one number up to another, which have so many, where more may be kept than the
+/// most. Returns how many may be kept then.
+pub fn forget_others(
+    buffer: &mut Buffer<Vec<Row>>,
+    from: usize,
+    to: usize,
+    rows: usize,
+    held: usize,
+    most: usize,
+) -> usize
+    requires order { from ≤ to }
+    requires within { to ≤ length buffer.old }
+    requires held { rows_held buffer.old ≤ held }
+    requires rows { rows_held (slice_range buffer.old from to) ≤ rows }
+    ensures paragraphs { paragraphs_in buffer.new ≡ paragraphs_in buffer.old }
+    ensures laid { (tables : TableValues) (width : ℕ) (base : Base) → All (IsLaid tables width base) buffer.old → All (IsLaid tables width base) buffer.new }
+    ensures inside { (k : ℕ) → from ≤ k → k < to → is_kept (flags buffer.new) k ≡ is_kept (flags buffer.old) k }
+    ensures held { rows_held buffer.new ≤ result }
+    ensures few { result ≤ max most rows }
+    ensures bounded { (rows_held buffer.new ≤ most) ⊎ ((k : ℕ) → is_kept (flags buffer.new) k ≡ true → (from ≤ k) × (k < to)) }
+{
+    if held <= most {
+        return held;
+    }
+    buffer.forget_but(from, to);
+    rows
+}
+
+/// How many rows a paragraph has, how many paragraphs it took to lay out, 0 or 1, and how many rows this made.
 #[derive(Clone, Copy)]
 pub struct LaidOut {
     pub rows: usize,
     pub laid: usize,
+    pub made: usize,
 }
 
 /// Lays a paragraph out where its rows are not kept, and keeps them.
@@ -56,6 +86,8 @@ pub fn lay_out(
     ensures rows { IfOk result (λ out. out.rows ≡ length (rows_of_text tables.now width base (get_or (paragraphs_in buffer.old) number []))) }
     ensures few { IfOk result (λ out. out.rows ≤ 4_000_001) }
     ensures laid { IfOk result (λ out. out.laid ≡ (if is_kept (flags buffer.old) number then 0 else 1)) }
+    ensures held { IfOk result (λ out. rows_held buffer.new ≡ rows_held buffer.old + out.made) }
+    ensures made { IfOk result (λ out. out.made ≤ out.rows) }
     ensures err { OnErr result (buffer.new ≡ buffer.old) }
 {
     laws_below();
@@ -65,20 +97,27 @@ pub fn lay_out(
         return Ok(LaidOut {
             rows: rows.len(),
             laid: 0,
+            made: 0,
         });
     }
     let made = rows(alloc, tables, width, base, &buffer.paragraph(number))?;
     let rows = made.len();
     buffer.keep(number, made);
-    Ok(LaidOut { rows, laid: 1 })
+    Ok(LaidOut {
+        rows,
+        laid: 1,
+        made: rows,
+    })
 }
 
-/// Paragraphs that a window reaches: up to which number, how many rows they have, and how many of them were laid out.
+/// Paragraphs that a window reaches: up to which number, how many rows they have, how many of them were laid out, and how
+/// many rows this made.
 #[derive(Clone, Copy)]
 pub struct Reach {
     pub number: usize,
     pub rows: usize,
     pub laid: usize,
+    pub made: usize,
 }
 
 /// Lays out the paragraphs in front of one, going up, until they have so many rows or there are no more.
@@ -105,20 +144,25 @@ pub fn reach_up(
     ensures few { IfOk result (λ reach. reach.rows ≤ 5_000_000) }
     ensures laid { IfOk result (λ reach. reach.laid ≡ count_by not (slice_range (flags buffer.old) reach.number number)) }
     ensures once { IfOk result (λ reach. reach.laid + reach.number ≤ number) }
+    ensures held { IfOk result (λ reach. rows_held buffer.new ≡ rows_held buffer.old + reach.made) }
+    ensures made { IfOk result (λ reach. reach.made ≤ reach.rows) }
 {
     let mut first = number;
     let mut rows = 0;
     let mut laid = 0;
+    let mut made = 0;
     while first > 0 && rows < wanted {
         first -= 1;
         let out = lay_out(alloc, tables, width, base, buffer, first)?;
         rows += out.rows;
         laid += out.laid;
+        made += out.made;
     }
     Ok(Reach {
         number: first,
         rows,
         laid,
+        made,
     })
 }
 
@@ -147,20 +191,25 @@ pub fn reach_down(
     ensures few { IfOk result (λ reach. reach.rows ≤ 5_000_000) }
     ensures laid { IfOk result (λ reach. reach.laid ≡ count_by not (slice_range (flags buffer.old) number reach.number)) }
     ensures once { IfOk result (λ reach. reach.laid + number ≤ reach.number) }
+    ensures held { IfOk result (λ reach. rows_held buffer.new ≡ rows_held buffer.old + reach.made) }
+    ensures made { IfOk result (λ reach. reach.made ≤ reach.rows) }
 {
     let count = buffer.paragraph_count();
     let mut end = number;
     let mut rows = 0;
     let mut laid = 0;
+    let mut made = 0;
     while end < count && rows < wanted {
         let out = lay_out(alloc, tables, width, base, buffer, end)?;
         rows += out.rows;
         laid += out.laid;
+        made += out.made;
         end += 1;
     }
     Ok(Reach {
         number: end,
         rows,
         laid,
+        made,
     })
 }

@@ -1,15 +1,15 @@
 //! The rows of a window are laid out and kept.
 
-ghost use Rattle.std.specs.Prelude.{◌≡◌, ◌≤◌, ◌<◌, ◌+◌, ◌-◌, true, min, length, not, count_by, slice_range, slice_set, encode_utf8_all, IfOk, if◌then◌else◌};
+ghost use Rattle.std.specs.Prelude.{◌≡◌, ◌≤◌, ◌<◌, ◌+◌, ◌-◌, ◌⊎◌, ℕ, true, min, max, length, not, count_by, slice_range, slice_set, encode_utf8_all, IfOk, if◌then◌else◌};
 ghost use Rattle.cell_grid.specs.Grids.{grid_rows};
 ghost use Rattle.cell_grid.specs.Windows.{window_of};
 ghost use Rattle.text_buffer.specs.Buffers.{paragraphs_in, text_in};
 ghost use Rattle.text_buffer.specs.Edits.{IsParagraphOf};
-ghost use Rattle.live_document.specs.Cost.{top_of, bottom_of, HasRow};
-ghost use Rattle.live_document.specs.Keeping.{flags, is_kept, IsKeptAt, IsMarked};
+ghost use Rattle.live_document.specs.Cost.{allowed, top_of, bottom_of, HasRow};
+ghost use Rattle.live_document.specs.Keeping.{flags, is_kept, rows_held, IsKeptAt};
 ghost use Rattle.live_document.specs.Showing.{window_in, IsAtHand, IsRowOf};
 
-use crate::keeping::{Reach, kept_rows, lay_out, reach_down, reach_up};
+use crate::keeping::{Reach, forget_others, kept_rows, lay_out, reach_down, reach_up};
 use crate::laws_below::laws_below;
 use crate::shown::Shown;
 use bg_types::{Base, Memory};
@@ -19,12 +19,20 @@ use std::alloc::Global;
 use text_buffer::Buffer;
 use unicode_tables::Tables;
 
-/// A window, the number behind that of its last paragraph, and how many paragraphs were laid out for it.
+/// Rows of so many windows may be kept.
+const WINDOWS: usize = 4;
+
+/// So many rows are a window's at least: a caret's move shows a row or three, and must leave what an editor draws.
+const FEWEST_ROWS: usize = 64;
+
+/// A window, the number behind that of its last paragraph, how many paragraphs were laid out for it, and how many rows are kept
+/// at most.
 #[derive(Clone, Copy)]
 pub struct Outcome {
     pub shown: Shown,
     pub end: usize,
     pub laid: usize,
+    pub held: usize,
 }
 
 /// The row of a place in its paragraph, which is laid out.
@@ -38,6 +46,8 @@ pub struct OwnRow {
     pub rows: usize,
     /// How many paragraphs were laid out: 0 or 1.
     pub laid: usize,
+    /// How many rows this made.
+    pub made: usize,
 }
 
 /// Lays out the paragraph of a place, and finds the place's row in it.
@@ -57,6 +67,8 @@ fn own_row(
     ensures marks { IfOk result (λ own. flags buffer.new ≡ slice_set (flags buffer.old) own.number true) }
     ensures row { IfOk result (λ own. IsRowOf tables.now width base (paragraphs_in buffer.old) place own.number own.row own.rows) }
     ensures few { IfOk result (λ own. own.rows ≤ 4_000_001) }
+    ensures held { IfOk result (λ own. rows_held buffer.new ≡ rows_held buffer.old + own.made) }
+    ensures made { IfOk result (λ own. own.made ≤ own.rows) }
     ensures laid { IfOk result (λ own. own.laid ≡ (if is_kept (flags buffer.old) own.number then 0 else 1)) }
 {
     let number = buffer.paragraph_of(place);
@@ -70,10 +82,12 @@ fn own_row(
         row: row_at(rows, place - first_place),
         rows: out.rows,
         laid: out.laid,
+        made: out.made,
     })
 }
 
-/// Lays out what isn't kept of the window round the row of a place.
+/// Lays out what isn't kept of the window round the row of a place. Where more rows may be kept then than four such windows
+/// have, those of other paragraphs are forgotten.
 pub fn lay_window_out(
     alloc: Global,
     tables: &Tables,
@@ -83,11 +97,14 @@ pub fn lay_window_out(
     place: usize,
     above: usize,
     below: usize,
+    held: usize,
 ) -> Result<Outcome, Memory>
     requires kept { IsKeptAt tables.now width base buffer.old }
     requires place { place ≤ length (text_in buffer.old) }
     requires above { above ≤ 1_000 }
     requires below { below ≤ 1_000 }
+    requires held { rows_held buffer.old ≤ held }
+    requires held_few { held ≤ 15_000_000 }
     ensures kept { IsKeptAt tables.now width base buffer.new }
     ensures paragraphs { paragraphs_in buffer.new ≡ paragraphs_in buffer.old }
     ensures window { IfOk result (λ outcome. window_in buffer.new outcome.shown
@@ -98,7 +115,11 @@ pub fn lay_window_out(
         (top_of place above (grid_rows tables.now width base (encode_utf8_all (text_in buffer.old))))) }
     ensures bottom { IfOk result (λ outcome. HasRow tables.now width base (paragraphs_in buffer.old) (outcome.end - 1)
         (bottom_of place below (grid_rows tables.now width base (encode_utf8_all (text_in buffer.old))))) }
-    ensures marked { IfOk result (λ outcome. IsMarked (flags buffer.old) outcome.shown.first outcome.end (flags buffer.new)) }
+    ensures marked { IfOk result (λ outcome. (k : ℕ) → outcome.shown.first ≤ k → k < outcome.end → is_kept (flags buffer.new) k ≡ true) }
+    ensures bounded { IfOk result (λ outcome. (rows_held buffer.new ≤ allowed outcome.shown.count)
+        ⊎ ((k : ℕ) → is_kept (flags buffer.new) k ≡ true → (outcome.shown.first ≤ k) × (k < outcome.end))) }
+    ensures held { IfOk result (λ outcome. rows_held buffer.new ≤ outcome.held) }
+    ensures few { IfOk result (λ outcome. outcome.held ≤ 15_000_000) }
     ensures laid { IfOk result (λ outcome. outcome.laid ≡ count_by not (slice_range (flags buffer.old) outcome.shown.first outcome.end)) }
 {
     // There are no more paragraphs than a number can tell.
@@ -116,12 +137,22 @@ pub fn lay_window_out(
         own.number + 1,
         wanted_down,
     )?;
+    let shown = cut_out(up, own, down, above, below);
+    let held = forget_others(
+        buffer,
+        up.number,
+        down.number,
+        up.rows + own.rows + down.rows,
+        held + up.made + own.made + down.made,
+        WINDOWS * shown.count.max(FEWEST_ROWS),
+    );
     laws_below();
     let _bytes = buffer.bytes();
     Ok(Outcome {
-        shown: cut_out(up, own, down, above, below),
+        shown,
         end: down.number,
         laid: own.laid + up.laid + down.laid,
+        held,
     })
 }
 

@@ -1,6 +1,7 @@
 -- The edit was made, or refused.
 use Rattle.std.proofs.Common.{refl, sym, ◌∙◌}
 use Rattle.live_document.proofs.Cost.{of-ok}
+use Rattle.live_document.proofs.Forgotten.{held-after}
 use Rattle.live_document.proofs.Followed.{on-ok, stays-after, stays-same}
 use Rattle.live_document.proofs.following.follow.Goals as goal
 
@@ -16,3 +17,6 @@ returns-clause-touched c = λ made. of-ok c.edit.result (sym c.is_err.ensures.va
 pub returns-clause-kept : goal.returns-clause-kept
 returns-clause-kept c =
     stays-after c.args.tables.now c.args.buffer.now c.edit.new.self c.args.from c.args.to c.edit.result c.edit.ensures.touched c.edit.ensures.split c.edit.ensures.unchanged
+
+pub returns-clause-held : goal.returns-clause-held
+returns-clause-held c = held-after c.args.buffer.now c.edit.new.self c.args.from c.args.to c.edit.result c.edit.ensures.touched c.edit.ensures.unchanged

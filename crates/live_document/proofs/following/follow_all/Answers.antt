@@ -1,5 +1,6 @@
 -- The changes were made, or some of them.
 use Rattle.std.proofs.Common.{refl, sym, ◌∙◌}
+use Rattle.live_document.proofs.Forgotten.{held-all}
 use Rattle.live_document.proofs.Followed.{on-ok, stays-all, stays-same}
 use Rattle.live_document.proofs.following.follow_all.Goals as goal
 
@@ -15,3 +16,6 @@ returns-clause-touched c = λ made. on-ok c.apply_all.result (sym c.is_err.ensur
 pub returns-clause-kept : goal.returns-clause-kept
 returns-clause-kept c =
     stays-all c.args.tables.now c.args.buffer.now c.apply_all.new.self c.args.changes.now c.apply_all.result c.apply_all.ensures.touched c.apply_all.ensures.made_touched c.apply_all.ensures.split
+
+pub returns-clause-held : goal.returns-clause-held
+returns-clause-held c = held-all c.args.buffer.now c.apply_all.new.self c.args.changes.now c.apply_all.result c.apply_all.ensures.touched c.apply_all.ensures.made_touched

@@ -1,7 +1,7 @@
 -- The rows of a paragraph are kept, or are made and kept.
 use Rattle.std.proofs.Common.{ℕ, cond, length, sym, ap, ◌∙◌, arith}
 use Rattle.live_document.specs.Keeping.{flags}
-use Rattle.live_document.proofs.Beside.{rows_at-kept, flag-kept, flags-set, flags-already, rows_at-laid, kept-set}
+use Rattle.live_document.proofs.Beside.{held-set, rows_at-kept, flag-kept, flags-set, flags-already, rows_at-laid, kept-set}
 use Rattle.live_document.proofs.Windows.{own-text, own-few, own-drawable, few-at}
 use Rattle.live_document.proofs.keeping.lay_out.Goals as goal
 
@@ -58,6 +58,11 @@ returns-clause-few c =
     let few = own-few c.laws_below.ensures c.args.tables.now c.args.width c.args.base c.args.buffer.now c.requires.kept c.bytes-bytes.ensures.utf8 (omega (arith, c.bytes-bytes.ensures.bytes, c.bytes-bytes.ensures.few)) c.args.number _ is in
     let same = ap length c.in_ok-made.ensures.rows in
     omega (arith, same, few, c.len-rows.ensures, c.in_ok-made.made.ok)
+
+pub returns-clause-held : goal.returns-clause-held
+returns-clause-held c =
+    let more = held-set c.args.buffer.now c.keep.new.self c.args.number c.in_ok-made.made c.keep.ensures.paragraphs c.keep.ensures.kept c.in_default.ensures in
+    omega (arith, more, c.len-rows.ensures, c.in_ok-made.made.ok)
 
 pub returns-clause-laid : goal.returns-clause-laid
 returns-clause-laid c = sym (ap (λ b. cond {A = ℕ} b 0 1) (flag-kept c.args.buffer.now c.args.number _ c.in_default.ensures))

@@ -17,6 +17,8 @@ loop-end-init c = record {
   rows_are = sym (rows-none c.args.tables.now c.args.width c.args.base (paragraphs_in c.args.buffer.now) c.args.number);
   needed = λ h. absurd (omega arith);
   few = omega arith;
+  held_is = omega arith;
+  made_few = omega arith;
   laid_are = sym (count-none (flags c.args.buffer.now) c.args.number);
   laid_few = omega arith;
 }
@@ -49,6 +51,8 @@ loop-end-preserved c =
       rows_are = omega (arith, h.rows_are, many, own);
       needed = λ before. (let here : (end + 1) - 1 ≡ end = omega arith in let same = ap (λ n. length (rows_of_texts c.args.tables.now c.args.width c.args.base (slice_range texts c.args.number n))) here in omega (arith, h.rows_are, same));
       few = omega (arith, h.few, e.few);
+      held_is = omega (arith, h.held_is, e.held);
+      made_few = omega (arith, h.made_few, e.made);
       laid_are = omega (arith, h.laid_are, marks, laid);
       laid_few = omega (arith, h.laid_few, laid, cond-most (is_kept (flags old) end));
     }

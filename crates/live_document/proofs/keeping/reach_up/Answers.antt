@@ -15,6 +15,8 @@ loop-first-init c = record {
   rows_are = sym (rows-none c.args.tables.now c.args.width c.args.base (paragraphs_in c.args.buffer.now) c.args.number);
   needed = λ h. absurd (omega arith);
   few = omega arith;
+  held_is = omega arith;
+  made_few = omega arith;
   laid_are = sym (count-none (flags c.args.buffer.now) c.args.number);
   laid_few = omega arith;
 }
@@ -47,6 +49,8 @@ loop-first-preserved c =
       rows_are = omega (arith, h.rows_are, many, own);
       needed = λ before. (let same = ap (λ n. length (rows_of_texts c.args.tables.now c.args.width c.args.base (slice_range texts n c.args.number))) next in omega (arith, h.rows_are, same));
       few = omega (arith, h.few, e.few);
+      held_is = omega (arith, h.held_is, e.held);
+      made_few = omega (arith, h.made_few, e.made);
       laid_are = omega (arith, h.laid_are, marks, laid);
       laid_few = omega (arith, h.laid_few, laid, cond-most (is_kept (flags old) first));
     }

@@ -7,4 +7,4 @@ use Rattle.live_document.proofs.document.Document.id_at.Goals as goal
 pub invariant_of-self : goal.invariant_of-self
 invariant_of-self c =
     let i = c.self.inside in
-    live-alike i.desk c.id_at.new.self i.tables.value i.width i.base i.behind i.buffer i.shown c.self.invariant (ap (λ (d : Desk). d.set) c.id_at.ensures.unchanged)
+    live-alike i.desk c.id_at.new.self i.tables.value i.width i.base i.behind i.buffer i.shown i.held c.self.invariant (ap (λ (d : Desk). d.set) c.id_at.ensures.unchanged)

@@ -20,7 +20,7 @@ follow_all-self-inside-requires-clause-places c =
     let count : c.len-told.result ≡ length c.args.changes.now.items = omega (arith, c.len-told.ensures) in
     let told = told-behind c.args.changes.now.items t.new.changes.items all c.len-told.result count c.deref-2.ensures.value in
     let edit = told-edit c.told_changes.ensures.change i.desk.set t.new.self.set c.args.changes.now.items t.new.changes.items _ told t.ensures.told in
-    live-range i.desk i.tables.value i.width i.base i.behind i.buffer i.shown _ (text t.new.self.set) c.self.invariant edit
+    live-range i.desk i.tables.value i.width i.base i.behind i.buffer i.shown i.held _ (text t.new.self.set) c.self.invariant edit
 
 pub invariant_of-self : goal.invariant_of-self
 invariant_of-self c =
@@ -32,8 +32,8 @@ invariant_of-self c =
     let count : c.len-told.result ≡ length c.args.changes.now.items = omega (arith, c.len-told.ensures) in
     let told = told-behind c.args.changes.now.items t.new.changes.items all c.len-told.result count c.deref-2.ensures.value in
     let edit = told-edit c.told_changes.ensures.change i.desk.set t.new.self.set c.args.changes.now.items t.new.changes.items _ told t.ensures.told in
-    live-told i.desk t.new.self i.tables.value i.width i.base i.behind f.result i.buffer f.new.buffer i.shown n.result _
-    c.self.invariant n.ensures (subst (λ (tables : TableValues). StaysKept tables i.buffer f.new.buffer) c.deref.ensures f.ensures.kept) f.ensures.before f.ensures.text edit
+    live-told i.desk t.new.self i.tables.value i.width i.base i.behind f.result i.buffer f.new.buffer i.shown n.result i.held _
+    c.self.invariant n.ensures (subst (λ (tables : TableValues). StaysKept tables i.buffer f.new.buffer) c.deref.ensures f.ensures.kept) f.ensures.held f.ensures.before f.ensures.text edit
 
 pub returns-clause-fault : goal.returns-clause-fault
 returns-clause-fault c =

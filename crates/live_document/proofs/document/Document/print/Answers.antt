@@ -15,7 +15,7 @@ returns-clause-ok g c =
     let i = c.self.inside in
     let is =
     ap (λ (t : TableValues). printed (shown_in t i.buffer i.shown)) c.deref.ensures
-    ∙ live-printed i.desk i.tables.value i.width i.base i.behind i.buffer i.shown c.self.invariant
+    ∙ live-printed i.desk i.tables.value i.width i.base i.behind i.buffer i.shown i.held c.self.invariant
     ∙ ap (λ (d : LiveDocument). printed (shown_grid d)) c.self.view_is in
     subst (λ t. OnOk c.print_shown.result (Appends (g.W.Sink.written c.args.sink.now) (g.W.Sink.written c.print_shown.new.sink) t)) is c.print_shown.ensures.ok
 
@@ -24,6 +24,6 @@ returns-clause-err g c =
     let i = c.self.inside in
     let is =
     ap (λ (t : TableValues). printed (shown_in t i.buffer i.shown)) c.deref.ensures
-    ∙ live-printed i.desk i.tables.value i.width i.base i.behind i.buffer i.shown c.self.invariant
+    ∙ live-printed i.desk i.tables.value i.width i.base i.behind i.buffer i.shown i.held c.self.invariant
     ∙ ap (λ (d : LiveDocument). printed (shown_grid d)) c.self.view_is in
     subst (λ t. OnErr c.print_shown.result (AppendsBeginning (g.W.Sink.written c.args.sink.now) (g.W.Sink.written c.print_shown.new.sink) t)) is c.print_shown.ensures.err

@@ -24,7 +24,7 @@ returns-clause-ok g c =
     let n = c.args.number in
     let is =
     ap (λ (t : TableValues). printed_row (shown_in t i.buffer i.shown) n) c.deref.ensures
-    ∙ live-printed_row i.desk i.tables.value i.width i.base i.behind i.buffer i.shown n c.self.invariant
+    ∙ live-printed_row i.desk i.tables.value i.width i.base i.behind i.buffer i.shown i.held n c.self.invariant
     ∙ ap (λ (d : LiveDocument). printed_row (shown_grid d) n) c.self.view_is in
     subst (λ t. OnOk c.print_shown_row.result (Appends (g.W.Sink.written c.args.sink.now) (g.W.Sink.written c.print_shown_row.new.sink) t)) is c.print_shown_row.ensures.ok
 
@@ -34,6 +34,6 @@ returns-clause-err g c =
     let n = c.args.number in
     let is =
     ap (λ (t : TableValues). printed_row (shown_in t i.buffer i.shown) n) c.deref.ensures
-    ∙ live-printed_row i.desk i.tables.value i.width i.base i.behind i.buffer i.shown n c.self.invariant
+    ∙ live-printed_row i.desk i.tables.value i.width i.base i.behind i.buffer i.shown i.held n c.self.invariant
     ∙ ap (λ (d : LiveDocument). printed_row (shown_grid d) n) c.self.view_is in
     subst (λ t. OnErr c.print_shown_row.result (AppendsBeginning (g.W.Sink.written c.args.sink.now) (g.W.Sink.written c.print_shown_row.new.sink) t)) is c.print_shown_row.ensures.err

@@ -13,6 +13,6 @@ returns c =
     let i = c.self.inside in
     let is =
     ap (λ (t : TableValues). printed (shown_in t i.buffer i.shown)) c.deref.ensures
-    ∙ live-printed i.desk i.tables.value i.width i.base i.behind i.buffer i.shown c.self.invariant
+    ∙ live-printed i.desk i.tables.value i.width i.base i.behind i.buffer i.shown i.held c.self.invariant
     ∙ ap (λ (d : LiveDocument). printed (shown_grid d)) c.self.view_is in
     subst (λ t. IfOk c.shown_size.result (λ size. size ≡ length t)) is c.shown_size.ensures

@@ -22,6 +22,6 @@ returns c =
     let n = c.args.number in
     let is =
     ap (λ (t : TableValues). printed_row (shown_in t i.buffer i.shown) n) c.deref.ensures
-    ∙ live-printed_row i.desk i.tables.value i.width i.base i.behind i.buffer i.shown n c.self.invariant
+    ∙ live-printed_row i.desk i.tables.value i.width i.base i.behind i.buffer i.shown i.held n c.self.invariant
     ∙ ap (λ (d : LiveDocument). printed_row (shown_grid d) n) c.self.view_is in
     subst (λ t. IfOk c.shown_row_size.result (λ size. size ≡ length t)) is c.shown_row_size.ensures

@@ -1,13 +1,16 @@
 -- What is laid out is kept beside the paragraphs of the desk's text.
-use Rattle.std.proofs.Common.{ℕ, List, map, ap, ap₂, sym, subst, ◌∙◌}
+use Rattle.std.proofs.Common.{inl, inr, ℕ, List, map, arith, ap, ap₂, sym, subst, ◌∙◌}
+use Rattle.std.specs.List.{concat}
 use Rattle.paragraphs.specs.Paragraphs.{paragraph_points}
 use Rattle.rga_tree.specs.TextOf.{text}
 use Rattle.text_buffer.specs.Buffers.{paragraphs_in}
 use Rattle.unicode_tables.specs.Tables.{TableValues}
-use Rattle.live_document.specs.Cost.{top_of, bottom_of, unmarked, IsLaidOut}
+use Rattle.live_document.specs.Cost.{allowed, top_of, bottom_of, unmarked, IsLaidOut}
 use Rattle.live_document.specs.Documents.{LiveDocument, counted}
 use Rattle.live_document.specs.Keeping.{is_kept, IsKeptAt}
 use Rattle.live_document.specs.Showing.{window_in}
+use Rattle.live_document.proofs.Followed.{live-bare}
+use Rattle.live_document.proofs.Forgotten.{kept-held, none-behind, on-err, shown-count}
 use Rattle.live_document.proofs.Cost.{marks-caught, marks-counted, row-alike, texts-counted, texts-live}
 use Rattle.live_document.proofs.document.Document.show.Goals as goal
 
@@ -17,11 +20,11 @@ lay_window_out-requires-clause-kept c =
     let before = subst (λ (tables : TableValues). IsKeptAt tables i.width i.base i.buffer) (sym c.deref.ensures) c.self.invariant.kept_at in
     subst (λ (tables : TableValues). IsKeptAt tables i.width i.base c.catch_up.new.buffer) (c.deref.ensures ∙ sym c.deref-2.ensures) (c.in_ok-catch_up.ensures.kept i.width i.base before)
 
-pub returns-clause-laid : goal.returns-clause-laid
-returns-clause-laid c =
+pub returns-in-Ok-clause-laid : goal.returns-in-Ok-clause-laid
+returns-in-Ok-clause-laid c =
     let i = c.self.inside in
-    let o = c.in_ok-outcome.outcome in
-    let e = c.in_ok-outcome.ensures in
+    let o = c.in-Ok.outcome in
+    let e = c.in-Ok.ensures in
     let caught = c.in_ok-catch_up.ensures in
     let before = c.catch_up.new.buffer in
     let after = c.lay_window_out.new.buffer in
@@ -29,6 +32,7 @@ returns-clause-laid c =
     let old = subst (λ (tables : TableValues). IsKeptAt tables i.width i.base i.buffer) (sym c.deref.ensures) c.self.invariant.kept_at in
     let split = (caught.kept i.width i.base old).split ∙ ap₂ (λ (t : TableValues) (ps : List ℕ). paragraph_points t ps) c.deref.ensures caught.text in
     let texts = texts-counted after ∙ e.paragraphs ∙ split in
+    let count = ap allowed (shown-count after o.shown e.at_hand) in
     let new : LiveDocument = record { desk = i.desk; tables = i.tables.value; width = i.width; base = i.base; paragraphs = map counted after; window = window_in after o.shown; laid = o.laid } in
     subst (λ (d : LiveDocument). IsLaidOut d new c.args.place c.args.above c.args.below) c.self.view_is
     (record {
@@ -38,7 +42,23 @@ returns-clause-laid c =
       top = row-alike T i.tables.value i.width i.base (paragraphs_in before) _ _ (text i.desk.set) o.shown.first (top_of c.args.place c.args.above) e.top c.deref-2.ensures (sym (texts-counted after ∙ e.paragraphs)) caught.text;
       bottom = row-alike T i.tables.value i.width i.base (paragraphs_in before) _ _ (text i.desk.set) _ (bottom_of c.args.place c.args.below) e.bottom c.deref-2.ensures (sym (texts-counted after ∙ e.paragraphs)) caught.text;
       laid = e.laid ∙ ap (λ ms. unmarked ms o.shown.first o.end) (marks-caught i.behind i.tables.value i.desk.set i.buffer before caught.same caught.nothing split);
-      kept = λ k from to. ap (λ ms. is_kept ms k) (marks-counted after) ∙ e.marked.inside k from to;
+      kept = λ k from to. ap (λ ms. is_kept ms k) (marks-counted after) ∙ e.marked k from to;
+      held = elim e.bounded [ inl few ↦ inl (omega (arith, few, kept-held after, count)) | inr none ↦ inr (λ k there. none k (sym (ap (λ ms. is_kept ms k) (marks-counted after)) ∙ there)) ];
       texts = texts;
-      same = texts ∙ sym (texts-live i.desk i.tables.value i.width i.base i.behind i.buffer i.shown c.self.invariant);
+      same = texts ∙ sym (texts-live i.desk i.tables.value i.width i.base i.behind i.buffer i.shown i.held c.self.invariant);
     })
+
+pub invariant_of-self-in-Err : goal.invariant_of-self-in-Err
+invariant_of-self-in-Err c =
+    let i = c.self.inside in
+    let now = c.lay_window_out.new.buffer in
+    let f = c.forget_rows in
+    let n = c.nothing-self-inside in
+    let at = subst (λ (tables : TableValues). IsKeptAt tables i.width i.base now) c.deref-2.ensures c.lay_window_out.ensures.kept in
+    live-bare i.desk i.tables.value i.width i.base now f.new.buffer n.result at (ap concat c.lay_window_out.ensures.paragraphs ∙ c.in_ok-catch_up.ensures.text) n.ensures f.ensures.paragraphs
+    (f.ensures.none i.tables.value i.width i.base) f.ensures.held
+
+pub returns-in_err-catch_up-clause-forgotten : goal.returns-in_err-catch_up-clause-forgotten
+returns-in_err-catch_up-clause-forgotten c =
+    let i = c.self.inside in
+    on-err c.from_residual.result (none-behind i.behind i.tables.value i.desk.set c.catch_up.new.buffer (λ is. (let e = c.in_err-catch_up.ensures.enough is in cc)))

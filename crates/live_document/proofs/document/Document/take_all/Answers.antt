@@ -21,7 +21,7 @@ follow_all-self-inside-requires-clause-places c =
     let told = t.ensures.told (not-false t.result.told c.if-not-outcome.false) in
     let edit = edit_of_slice c.told_changes.ensures.in_turn i.desk t.new.desk (take t.result.taken c.args.ops.now) c.args.changes.now.items t.new.changes.items
     c.deref-2.result.now c.len-told.result count c.deref-2.ensures.value t.ensures.taken.set told in
-    live-range i.desk i.tables.value i.width i.base i.behind i.buffer i.shown _ (text t.new.desk.set) c.self.invariant edit
+    live-range i.desk i.tables.value i.width i.base i.behind i.buffer i.shown i.held _ (text t.new.desk.set) c.self.invariant edit
 
 pub invariant_of-self-2 : goal.invariant_of-self-2
 invariant_of-self-2 c =
@@ -33,8 +33,8 @@ invariant_of-self-2 c =
     let told = t.ensures.told (not-false t.result.told c.if-not-outcome.false) in
     let edit = edit_of_slice c.told_changes.ensures.in_turn i.desk t.new.desk (take t.result.taken c.args.ops.now) c.args.changes.now.items t.new.changes.items
     c.deref-2.result.now c.len-told.result count c.deref-2.ensures.value t.ensures.taken.set told in
-    live-told i.desk t.new.desk i.tables.value i.width i.base i.behind f.result i.buffer f.new.buffer i.shown n.result _
-    c.self.invariant n.ensures (subst (λ (tables : TableValues). StaysKept tables i.buffer f.new.buffer) c.deref.ensures f.ensures.kept) f.ensures.before f.ensures.text edit
+    live-told i.desk t.new.desk i.tables.value i.width i.base i.behind f.result i.buffer f.new.buffer i.shown n.result i.held _
+    c.self.invariant n.ensures (subst (λ (tables : TableValues). StaysKept tables i.buffer f.new.buffer) c.deref.ensures f.ensures.kept) f.ensures.held f.ensures.before f.ensures.text edit
 
 pub returns-clause-edit : goal.returns-clause-edit
 returns-clause-edit c = λ is.

@@ -7,7 +7,7 @@ pub invariant_of-self-2 : goal.invariant_of-self-2
 invariant_of-self-2 c =
     let i = c.self.inside in
     let n = c.nothing-self-inside in
-    live-behind c.take.new.self i.tables.value i.width i.base i.buffer n.result c.self.invariant.kept_at n.ensures
+    live-behind c.take.new.self i.tables.value i.width i.base i.buffer n.result i.held c.self.invariant.kept_at n.ensures c.self.invariant.held_is c.self.invariant.held_few
 
 pub returns-clause-kept : goal.returns-clause-kept
 returns-clause-kept c = let i = c.self.inside in bare-behind i.tables.value c.take.new.self.set i.buffer

@@ -1,0 +1,284 @@
+-- Rows that are dropped, and how many are kept then.
+use Rattle.std.proofs.Common.{◌≡◌, ℕ, zero, suc, ◌+◌, ◌-◌, ◌<◌, ◌≤◌, inl, inr, Bool, true, false, None, Some, Option, List, [], ◌∷◌, ◌++◌, length, get_or, map, take, drop, replicate, slice_range, flat_map, refl, sym, ap, ap₂, subst, ◌∙◌, arith, length-append}
+use Rattle.std.proofs.lemmas.Bool.{cases_lt}
+use Rattle.std.proofs.lemmas.List.{take-map, drop-map, length-map, get_or-append_right, get_or_append_left, drop-drop, length-drop, length-take-le, take-append-drop}
+use Rattle.std.proofs.lemmas.List.Concat.{flat_map-cons}
+use Rattle.std.proofs.lemmas.List.Edits.{split_between, length-between, get_or-between}
+use Rattle.std.proofs.lemmas.List.Elements.{All-append, All-take, All-drop, All-head, All-tail}
+use Rattle.std.proofs.lemmas.List.Sums.{sum_by-cons}
+use Rattle.std.specs.List.{All}
+use Rattle.std.specs.Option.{option_map_or}
+use Rattle.std.specs.Prelude.{Result, Ok, Err, is_some, option_map, IfSome, IfOk, IfErr, OnOk, OnErr}
+use Rattle.bg_types.specs.OperationSet.{OperationSet}
+use Rattle.bg_types.specs.declared.class.Base.{Base}
+use Rattle.unicode_tables.specs.Tables.{TableValues}
+use Rattle.paragraphs.specs.Paragraphs.{paragraph_points}
+use Rattle.rga_tree.specs.TextOf.{text}
+use Rattle.text_buffer.specs.Buffers.{KeptParagraph, paragraphs_in, kept_in, kept_but, forgotten}
+use Rattle.bg_types.specs.declared.change.Change.{Change}
+use Rattle.text_buffer.specs.Edits.{anew, AreTouched, IsTouched, IsTouchedInTurn, Step}
+use Rattle.text_buffer.specs.declared.fault.BufferFault.{BufferFault}
+use Rattle.text_buffer.specs.declared.fault.Stopped.{Stopped}
+use Rattle.text_buffer.specs.declared.touched.Touched.{Touched}
+use Rattle.live_document.specs.Keeping.{Rows, KeptText, rows_of_text, rows_of_texts, rows_beside, rows_held, IsLaid, flags, is_kept}
+use Rattle.live_document.specs.Cost.{rows_kept}
+use Rattle.live_document.specs.Documents.{counted, paragraphs_of}
+use Rattle.live_document.specs.Showing.{rows_from, window_in, IsAtHand}
+use Rattle.live_document.specs.declared.shown.Shown.{Shown}
+use Rattle.live_document.proofs.Beside.{kept-same, laid-anew, held-cons}
+use Rattle.live_document.proofs.Cost.{flags-anew}
+
+flags-both : (xs ys : KeptText) → flags (xs ++ ys) ≡ flags xs ++ flags ys
+flags-both [] ys = refl
+flags-both (x ∷ xs) ys = ap (λ later. is_some x.kept ∷ later) (flags-both xs ys)
+
+-- ---- how many rows are kept
+
+held-both : (xs ys : KeptText) → rows_held (xs ++ ys) ≡ rows_held xs + rows_held ys
+held-both [] ys = omega arith
+held-both (x ∷ xs) ys =
+    let a = held-cons x (xs ++ ys) in
+    let b = held-cons x xs in
+    let h = held-both xs ys in
+    omega arith
+
+pub held-anew : (texts : List (List ℕ)) → rows_held (map (anew {K = Rows}) texts) ≡ 0
+held-anew [] = omega arith
+held-anew (t ∷ texts) =
+    let a = held-cons (anew t) (map anew texts) in
+    let none : length (rows_beside (anew {K = Rows} t)) ≡ 0 = refl in
+    let h = held-anew texts in
+    omega arith
+
+held-drop : (n : ℕ) (kept : KeptText) → rows_held (drop n kept) ≤ rows_held kept
+held-drop zero kept = omega arith
+held-drop (suc n) [] = omega arith
+held-drop (suc n) (p ∷ kept) = let a = held-cons p kept in let h = held-drop n kept in omega arith
+
+-- nothing is kept of any of them
+pub held-none : (kept new : KeptText) → kept_in new ≡ forgotten (kept_in kept) → rows_held new ≡ 0
+held-none kept [] e = omega arith
+held-none [] (q ∷ new) e = cc
+held-none (p ∷ kept) (q ∷ new) e =
+    let a = held-cons q new in
+    let none : length (rows_beside q) ≡ 0 = ap (λ (k : Option Rows). length (option_map_or (λ (rows : Rows). rows.items) k [])) (ap (λ l. get_or l 0 None) e) in
+    let later = held-none kept new (ap (drop 1) e) in
+    omega arith
+
+-- an edit keeps no more
+pub held-touched : (old new : KeptText) (from to : ℕ) (t : Touched) → IsTouched old from to t new → rows_held new ≤ rows_held old
+held-touched old new from to t h =
+    let rest = drop (t.first + t.old) old in
+    let is = ap rows_held h.paragraphs in
+    let a = held-both (take t.first old) (map anew h.made ++ rest) in
+    let b = held-both (map anew h.made) rest in
+    let c = held-anew h.made in
+    let whole = ap rows_held (take-append-drop t.first old) in
+    let d = held-both (take t.first old) (drop t.first old) in
+    let e : t.first + t.old ≡ t.old + t.first = omega arith in
+    let f = ap (λ n. rows_held (drop n old)) e in
+    let g = ap rows_held (drop-drop t.old t.first old) in
+    let k = held-drop t.old (drop t.first old) in
+    omega arith
+
+pub held-in_turn : (old new : KeptText) (steps : List Step) → IsTouchedInTurn old steps new → rows_held new ≤ rows_held old
+held-in_turn old new [] same = let e = ap rows_held same in omega arith
+held-in_turn old new (s ∷ steps) h =
+    let one = held-touched old h.0 s.from s.to s.touched h.1 in
+    let later = held-in_turn h.0 new steps h.2 in
+    omega arith
+
+pub held-after : (old new : KeptText) (from to : ℕ) (r : Result Touched BufferFault) → IfOk r (λ t. IsTouched old from to t new) → OnErr r (new ≡ old) → rows_held new ≤ rows_held old
+held-after old new from to (Ok t) touched same = held-touched old new from to t touched
+held-after old new from to (Err e) touched same = let h = ap rows_held same in omega arith
+
+pub held-all : (old new : KeptText) (changes : List Change) (r : Result (Unit {0}) Stopped) → OnOk r (AreTouched old changes new) → IfErr r (λ s. AreTouched old (take s.made changes) new)
+    → rows_held new ≤ rows_held old
+held-all old new changes (Ok u) all begun = held-in_turn old new all.steps all.touched
+held-all old new changes (Err s) all begun = held-in_turn old new begun.steps begun.touched
+
+-- no more than the paragraphs have
+module _ (tables : TableValues) (width : ℕ) (base : Base) where
+  beside-most : (o : Option Rows) (points : List ℕ) → IfSome o (λ (rows : Rows). rows.items ≡ rows_of_text tables width base points)
+      → length (option_map_or (λ (rows : Rows). rows.items) o []) ≤ length (rows_of_text tables width base points)
+  beside-most None points h = omega arith
+  beside-most (Some rows) points h = let e = ap length h in omega arith
+
+  pub held-most : (kept : KeptText) → All (IsLaid tables width base) kept → rows_held kept ≤ length (rows_of_texts tables width base (paragraphs_in kept))
+  held-most [] all = omega arith
+  held-most (p ∷ kept) all =
+      let a = held-cons p kept in
+      let b = beside-most p.kept p.points (All-head (IsLaid tables width base) p kept all) in
+      let f = rows_of_text tables width base in
+      let c = ap length (flat_map-cons f p.points (paragraphs_in kept)) in
+      let d = length-append (f p.points) (flat_map f (paragraphs_in kept)) in
+      let later = held-most kept (All-tail (IsLaid tables width base) p kept all) in
+      omega arith
+
+length-front : (xs : KeptText) (n : ℕ) → n ≤ length xs → length (take n xs) ≡ n
+length-front xs zero le = refl
+length-front [] (suc n) le = absurd (omega arith)
+length-front (x ∷ xs) (suc n) le = let h = length-front xs n (omega arith) in omega arith
+
+-- ---- what is kept of a stretch alone
+
+paragraphs-both : (xs ys : KeptText) → paragraphs_in (xs ++ ys) ≡ paragraphs_in xs ++ paragraphs_in ys
+paragraphs-both [] ys = refl
+paragraphs-both (x ∷ xs) ys = ap (λ later. x.points ∷ later) (paragraphs-both xs ys)
+
+kept-both : (xs ys : KeptText) → kept_in (xs ++ ys) ≡ kept_in xs ++ kept_in ys
+kept-both [] ys = refl
+kept-both (x ∷ xs) ys = ap (λ later. x.kept ∷ later) (kept-both xs ys)
+
+abbrev bare : KeptText → KeptText
+bare kept = map anew (paragraphs_in kept)
+
+paragraphs-bare : (kept : KeptText) → paragraphs_in (bare kept) ≡ paragraphs_in kept
+paragraphs-bare [] = refl
+paragraphs-bare (p ∷ kept) = ap (λ later. p.points ∷ later) (paragraphs-bare kept)
+
+kept-bare : (kept : KeptText) → kept_in (bare kept) ≡ forgotten (kept_in kept)
+kept-bare [] = refl
+kept-bare (p ∷ kept) = ap (λ later. None ∷ later) (kept-bare kept)
+
+none-marked : (n k : ℕ) → is_kept (replicate n false) k ≡ false
+none-marked zero k = refl
+none-marked (suc n) zero = refl
+none-marked (suc n) (suc k) = none-marked n k
+
+none-bare : (kept : KeptText) (k : ℕ) → is_kept (flags (bare kept)) k ≡ false
+none-bare kept k = ap (λ ms. is_kept ms k) (flags-anew (paragraphs_in kept)) ∙ none-marked (length (paragraphs_in kept)) k
+
+module _ (old new : KeptText) (from to : ℕ) (order : from ≤ to) (within : to ≤ length old)
+    (paragraphs : paragraphs_in new ≡ paragraphs_in old) (kept : kept_in new ≡ kept_but from to (kept_in old)) where
+  abbrev parts : KeptText
+  parts = bare (take from old) ++ (slice_range old from to ++ bare (drop to old))
+
+  pub but-is : new ≡ bare (take from old) ++ (slice_range old from to ++ bare (drop to old))
+  but-is = kept-same parts new (paragraphs ∙ same_points) (kept ∙ same_kept)
+    where
+      same_points : paragraphs_in old ≡ paragraphs_in parts
+      same_points =
+          ap (λ (ps : KeptText). paragraphs_in ps) (split_between old from to order)
+          ∙ paragraphs-both (take from old) (slice_range old from to ++ drop to old)
+          ∙ ap₂ (λ x y. x ++ y) (sym (paragraphs-bare (take from old)))
+          (paragraphs-both (slice_range old from to) (drop to old)
+          ∙ ap (λ y. paragraphs_in (slice_range old from to) ++ y) (sym (paragraphs-bare (drop to old)))
+          ∙ sym (paragraphs-both (slice_range old from to) (bare (drop to old))))
+          ∙ sym (paragraphs-both (bare (take from old)) (slice_range old from to ++ bare (drop to old)))
+
+      same_kept : kept_but from to (kept_in old) ≡ kept_in parts
+      same_kept =
+          let f : KeptParagraph Rows → Option Rows = λ p. p.kept in
+          ap₂ (λ x y. x ++ y) (ap forgotten (take-map f from old) ∙ sym (kept-bare (take from old)))
+          (ap₂ (λ x y. x ++ y) (ap (take (to - from)) (drop-map f from old) ∙ take-map f (to - from) (drop from old))
+          (ap forgotten (drop-map f to old) ∙ sym (kept-bare (drop to old)))
+          ∙ sym (kept-both (slice_range old from to) (bare (drop to old))))
+          ∙ sym (kept-both (bare (take from old)) (slice_range old from to ++ bare (drop to old)))
+
+  pub laid-but : (tables : TableValues) (width : ℕ) (base : Base) → All (IsLaid tables width base) old → All (IsLaid tables width base) new
+  laid-but tables width base all =
+      subst (All (IsLaid tables width base)) (sym but-is)
+      (All-append (IsLaid tables width base) (bare (take from old)) (slice_range old from to ++ bare (drop to old)) (laid-anew tables width base (paragraphs_in (take from old)))
+      (All-append (IsLaid tables width base) (slice_range old from to) (bare (drop to old))
+      (All-take (IsLaid tables width base) (to - from) (drop from old) (All-drop (IsLaid tables width base) from old all))
+      (laid-anew tables width base (paragraphs_in (drop to old)))))
+
+  pub held-but : rows_held new ≡ rows_held (slice_range old from to)
+  held-but =
+      let is = ap rows_held but-is in
+      let a = held-both (bare (take from old)) (slice_range old from to ++ bare (drop to old)) in
+      let b = held-both (slice_range old from to) (bare (drop to old)) in
+      let c = held-anew (paragraphs_in (take from old)) in
+      let d = held-anew (paragraphs_in (drop to old)) in
+      omega arith
+
+  front-count : length (flags (bare (take from old))) ≡ from
+  front-count =
+      length-map (bare (take from old)) (λ (p : KeptParagraph Rows). is_some p.kept) ∙ length-map (paragraphs_in (take from old)) anew
+      ∙ length-map (take from old) (λ (p : KeptParagraph Rows). p.points) ∙ length-front old from (omega arith)
+
+  middle : flags (slice_range old from to) ≡ slice_range (flags old) from to
+  middle =
+      let flag : KeptParagraph Rows → Bool = λ p. is_some p.kept in
+      sym (ap (take (to - from)) (drop-map flag from old) ∙ take-map flag (to - from) (drop from old))
+
+  middle-count : length (flags (slice_range old from to)) ≡ to - from
+  middle-count = let size = length-map old (λ (p : KeptParagraph Rows). is_some p.kept) in ap length middle ∙ length-between (flags old) from to (omega arith)
+
+  flags-but : flags new ≡ flags (bare (take from old)) ++ (flags (slice_range old from to) ++ flags (bare (drop to old)))
+  flags-but =
+      ap flags but-is ∙ flags-both (bare (take from old)) (slice_range old from to ++ bare (drop to old))
+      ∙ ap (λ ms. flags (bare (take from old)) ++ ms) (flags-both (slice_range old from to) (bare (drop to old)))
+
+  behind-but : (k : ℕ) → from ≤ k → is_kept (flags new) k ≡ is_kept (flags (slice_range old from to) ++ flags (bare (drop to old))) (k - from)
+  behind-but k low =
+      ap (λ ms. is_kept ms k) flags-but
+      ∙ get_or-append_right (flags (bare (take from old))) (flags (slice_range old from to) ++ flags (bare (drop to old))) from k false front-count low
+
+  pub inside-but : (k : ℕ) → from ≤ k → k < to → is_kept (flags new) k ≡ is_kept (flags old) k
+  inside-but k low high =
+      let many = middle-count in
+      let size = length-map old (λ (p : KeptParagraph Rows). is_some p.kept) in
+      let here : from + (k - from) ≡ k = omega arith in
+      behind-but k low
+      ∙ get_or_append_left (flags (slice_range old from to)) (flags (bare (drop to old))) false (k - from) (omega arith)
+      ∙ ap (λ ms. is_kept ms (k - from)) middle
+      ∙ get_or-between (flags old) from to (k - from) false (omega arith)
+      ∙ ap (is_kept (flags old)) here
+
+  -- of the others nothing is kept
+  pub outside-but : (k : ℕ) → is_kept (flags new) k ≡ true → (from ≤ k) × (k < to)
+  outside-but k there = elim (cases_lt k from) [
+    | inl front ↦
+        (let count = front-count in
+        let none = ap (λ ms. is_kept ms k) flags-but ∙ get_or_append_left (flags (bare (take from old))) (flags (slice_range old from to) ++ flags (bare (drop to old))) false k (omega arith)
+        ∙ none-bare (take from old) k in
+        cc)
+    | inr low ↦ (elim (cases_lt k to) [
+      | inl high ↦ (low, high)
+      | inr back ↦
+          (let none = behind-but k low
+          ∙ get_or-append_right (flags (slice_range old from to)) (flags (bare (drop to old))) (to - from) (k - from) false middle-count (omega arith)
+          ∙ none-bare (drop to old) (k - from - (to - from)) in
+          cc)
+    ])
+  ]
+
+-- ---- what is seen of it
+
+beside-counted : (o : Option Rows) → option_map_or (λ (rows : ℕ). rows) (option_map (λ (rows : Rows). length rows.items) o) 0 ≡ length (option_map_or (λ (rows : Rows). rows.items) o [])
+beside-counted None = refl
+beside-counted (Some rows) = refl
+
+pub kept-held : (kept : KeptText) → rows_kept (map counted kept) ≡ rows_held kept
+kept-held [] = refl
+kept-held (p ∷ kept) =
+    let a = held-cons p kept in
+    let b = sum_by-cons (λ (q : KeptParagraph ℕ). option_map_or (λ (rows : ℕ). rows) q.kept 0) (counted p) (map counted kept) in
+    let own = beside-counted p.kept in
+    let later = kept-held kept in
+    omega arith
+
+kept-anew : (texts : List (List ℕ)) → rows_kept (map (anew {K = ℕ}) texts) ≡ 0
+kept-anew [] = omega arith
+kept-anew (t ∷ texts) =
+    let a = sum_by-cons (λ (q : KeptParagraph ℕ). option_map_or (λ (rows : ℕ). rows) q.kept 0) (anew {K = ℕ} t) (map anew texts) in
+    let h = kept-anew texts in
+    omega arith
+
+-- what is behind keeps nothing
+pub none-behind : (behind : Bool) (tables : TableValues) (set : OperationSet) (kept : KeptText) → (behind ≡ false → ⊥) → rows_kept (paragraphs_of behind tables set kept) ≡ 0
+none-behind true tables set kept h = kept-anew (paragraph_points tables (text set))
+none-behind false tables set kept h = absurd (h refl)
+
+-- what holds after any fault
+pub on-err : {A E P : Type 0} (r : Result A E) → P → OnErr r P
+on-err (Ok v) h = tt
+on-err (Err e) h = h
+
+-- a window that is at hand has the rows that it tells
+pub shown-count : (kept : KeptText) (s : Shown) → IsAtHand kept s → length (window_in kept s).rows ≡ s.count
+shown-count kept s enough =
+    let left = length-drop s.skip (rows_from kept s.first) in
+    length-take-le s.count (drop s.skip (rows_from kept s.first)) (omega arith)
