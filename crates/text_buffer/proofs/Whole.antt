@@ -2,7 +2,8 @@
 use Rattle.std.proofs.Common.{◌≡◌, ◌⊎◌, ℕ, ◌+◌, ◌-◌, ◌<◌, ◌≤◌, Bool, true, false, cond, List, [], ◌∷◌, ◌++◌, ◌&&◌, ◌==◌, not, length, take, drop, get_or, refl, sym, ap, ap₂, ◌∙◌, inl, inr, eq-eqb, arith}
 use Rattle.std.proofs.lemmas.Bool.{cases_lt, ne_eqb}
 use Rattle.std.proofs.lemmas.List.{append-nil, append_assoc, length-append, length-drop, take-append-drop, take-append-le, take_at, drop_more, drop_all}
-use Rattle.std.specs.Prelude.{nat_eq}
+use Rattle.std.specs.Bool.{then_some}
+use Rattle.std.specs.Prelude.{nat_eq, IfSome}
 use Rattle.std.specs.List.{concat}
 use Rattle.bg_types.specs.declared.class.Bidi.{Bidi}
 use Rattle.unicode_tables.specs.Tables.{TableValues, bidi_of}
@@ -156,3 +157,8 @@ module _ (tables : TableValues) (kept : List (List ℕ)) (is : kept ≡ parts (b
             let test : nat_eq (n + 1) (length kept) ≡ true = eq-eqb (n + 1) (length kept) all in
             ap (λ x. cond x (parts class new) (take (length (parts class new) - 1) (parts class new))) test ∙ now
       ]
+
+-- what is told where a test holds
+pub told-if : (P : ℕ → Type 0) (b : Bool) (n : ℕ) → (b ≡ true → P n) → IfSome (then_some b n) P
+told-if P true n h = h refl
+told-if P false n h = tt

@@ -20,6 +20,7 @@ pub record IsRemade (tables : TableValues) (kept : List (List ℕ)) (from to : �
   pub begun : IsBegun tables kept from to points
   pub after : to < length kept → meets_at_cut (bidi_of tables) points (concat (drop to kept)) ≡ true
 
--- a text is one paragraph where it is the last one, or where others follow it
-abbrev pub IsOne : TableValues → (last : Bool) → (text : List ℕ) → Type 0
-IsOne tables last text = let all = each (λ p. code_points p.text) (paragraphs tables text) in cond last all (take (length all - 1) all) ≡ code_points text ∷ []
+-- a text of so many code points is one paragraph where it is the last one, or where others follow it
+pub record IsOne (tables : TableValues) (last : Bool) (text : List ℕ) (places : ℕ) : Type 0 where
+  pub count : places ≡ length (code_points text)
+  pub alone : (let all = each (λ p. code_points p.text) (paragraphs tables text) in cond last all (take (length all - 1) all)) ≡ code_points text ∷ []

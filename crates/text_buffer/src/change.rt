@@ -1,6 +1,6 @@
 //! A stretch of paragraphs is made anew.
 
-ghost use Rattle.std.specs.Prelude.{◌≡◌, ◌+◌, ◌-◌, ◌<◌, ◌≤◌, ◌++◌, ◌==◌, ℕ, true, List, [], ◌∷◌, length, map as each, take, drop, string_bytes, IfOk, OnOk, OnErr, vec_len, if◌then◌else◌};
+ghost use Rattle.std.specs.Prelude.{◌≡◌, ◌+◌, ◌-◌, ◌<◌, ◌≤◌, ◌++◌, ◌==◌, ℕ, true, List, [], ◌∷◌, length, map as each, take, drop, string_bytes, IfOk, IfSome, OnOk, OnErr, vec_len, if◌then◌else◌};
 ghost use Rattle.std.specs.List.{concat};
 ghost use Rattle.paragraphs.specs.Text.{code_points};
 ghost use Rattle.paragraphs.specs.Paragraphs.{paragraphs};
@@ -55,30 +55,31 @@ fn pieces_up_to<K: Drop>(
     Ok(pieces)
 }
 
-/// The same of a text that is known to be one, or is not.
+/// The same of a text that is known to be one, of so many code points, or is not.
 fn pieces_of_stretch<K: Drop>(
     alloc: Global,
     tables: &Tables,
     text: String,
     last: bool,
-    one: bool,
+    one: Option<usize>,
 ) -> Result<Vec<Piece<K>>, Memory>
-    requires { one ≡ true → IsOne tables.now last (string_bytes text) }
+    requires { IfSome one (IsOne tables.now last (string_bytes text)) }
     ensures { let all = each (λ p. code_points p.text) (paragraphs tables.now (string_bytes text)) in
         IfOk result (λ pieces. each seen pieces.items ≡ each anew (if last then all else take (length all - 1) all)) }
 {
-    if one {
-        return one_piece(alloc, text);
+    match one {
+        Some(places) => one_piece(alloc, text, places),
+        None => pieces_up_to(alloc, tables, &text, last),
     }
-    pieces_up_to(alloc, tables, &text, last)
 }
 
-/// The text as one paragraph, which is not copied.
-fn one_piece<K: Drop>(alloc: Global, text: String) -> Result<Vec<Piece<K>>, Memory>
+/// A text of so many code points as one paragraph. It is not copied.
+fn one_piece<K: Drop>(alloc: Global, text: String, places: usize) -> Result<Vec<Piece<K>>, Memory>
+    requires { places ≡ length (code_points (string_bytes text)) }
     ensures { IfOk result (λ pieces. each seen pieces.items ≡ each anew (code_points (string_bytes text) ∷ [])) }
 {
     let mut pieces = Vec::with_capacity(alloc, 1)?;
-    pieces.push(Piece::holding(text))?;
+    pieces.push(Piece::holding(text, places))?;
     Ok(pieces)
 }
 
@@ -89,7 +90,7 @@ pub fn change<K: Drop>(
     blocks: &mut Vec<Block<K>>,
     count: usize,
     stretch: Stretch,
-    one: bool,
+    one: Option<usize>,
 ) -> Result<Touched, Memory>
     requires block { IsBlockOf blocks.old.items stretch.block stretch.from }
     requires count { count ≡ length (texts_in blocks.old.items) }
@@ -97,7 +98,7 @@ pub fn change<K: Drop>(
     requires split { IsSplit tables.now (texts_in blocks.old.items) }
     requires stretch { IsRemade tables.now (texts_in blocks.old.items) stretch.from stretch.to (code_points (string_bytes stretch.text)) }
     requires some { stretch.to < length (texts_in blocks.old.items) → 0 < length (code_points (string_bytes stretch.text)) }
-    requires one { one ≡ true → IsOne tables.now (stretch.to == count) (string_bytes stretch.text) }
+    requires one { IfSome one (IsOne tables.now (stretch.to == count) (string_bytes stretch.text)) }
     requires new { bytes_in (text_with (texts_in blocks.old.items) stretch.from stretch.to (code_points (string_bytes stretch.text))) ≤ 4_000_000 }
     ensures first { IfOk result (λ t. t.first ≡ stretch.from) }
     ensures old { IfOk result (λ t. t.first + t.old ≡ stretch.to) }

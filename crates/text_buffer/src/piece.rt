@@ -21,15 +21,16 @@ impl<K: Drop> Piece<K> {
         ensures text { IfOk result (λ piece. string_bytes piece.text ≡ text.now) }
         ensures nothing { IfOk result (λ piece. piece.kept ≡ None) }
     {
-        Ok(Piece::holding(String::from_str(alloc, text)?))
+        let places = text.chars().count();
+        Ok(Piece::holding(String::from_str(alloc, text)?, places))
     }
 
-    /// A paragraph that holds this text, of which nothing is kept.
-    pub fn holding(text: String) -> Piece<K>
+    /// A paragraph that holds this text of so many code points, and of which nothing is kept.
+    pub fn holding(text: String, places: usize) -> Piece<K>
+        requires { places ≡ length (code_points (string_bytes text)) }
         ensures text { string_bytes result.text ≡ string_bytes text }
         ensures nothing { result.kept ≡ None }
     {
-        let places = text.as_str().chars().count();
         Piece {
             text,
             places,

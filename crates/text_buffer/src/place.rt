@@ -11,14 +11,15 @@ use crate::block::Block;
 use crate::find::{Before, spot_at};
 use crate::parted::parted;
 
-/// A place: its block, its paragraph, how many bytes of the text and how many code points of the paragraph stand before it,
-/// and what stands there before it and behind it.
+/// A place: its block, its paragraph, how many bytes of the text stand before it, and how many code points and what of the
+/// paragraph before it and behind it.
 #[derive(Clone, Copy)]
 pub struct Place<'a> {
     pub block: Before,
     pub number: usize,
     pub bytes: usize,
     pub offset: usize,
+    pub rest: usize,
     pub front: &'a str,
     pub back: &'a str,
 }
@@ -32,6 +33,7 @@ pub fn place_at<'a, K>(blocks: &'a [Block<K>], start: Before, place: usize) -> P
     ensures block { IsBlockOf blocks.now result.block result.number }
     ensures reached { result.block.places ≤ place }
     ensures offset { result.offset ≡ length (code_points result.front.now) }
+    ensures rest { result.rest ≡ length (code_points result.back.now) }
     ensures parted { IsParted (texts_in blocks.now) place result.number result.bytes result.front.now result.back.now }
 {
     let (block, spot) = spot_at(blocks, start, place);
@@ -41,6 +43,7 @@ pub fn place_at<'a, K>(blocks: &'a [Block<K>], start: Before, place: usize) -> P
         number: spot.number,
         bytes: spot.bytes + front.len(),
         offset: spot.offset,
+        rest: places_at(blocks, block, spot.number) - spot.offset,
         front,
         back,
     }
@@ -57,8 +60,10 @@ pub fn place_behind<'a, K>(
     requires behind { first.block.places ≤ to }
     requires within { to ≤ length (concat (texts_in blocks.now)) }
     requires fits { Fits (texts_in blocks.now) }
+    requires rest { first.rest ≡ length (code_points first.back.now) }
     requires first { IsParted (texts_in blocks.now) from first.number first.bytes first.front.now first.back.now }
-    ensures { IsParted (texts_in blocks.now) to result.number result.bytes result.front.now result.back.now }
+    ensures rest { result.rest ≡ length (code_points result.back.now) }
+    ensures parted { IsParted (texts_in blocks.now) to result.number result.bytes result.front.now result.back.now }
 {
     if from == to {
         return first;
@@ -74,4 +79,12 @@ pub fn text_at<K>(blocks: &[Block<K>], before: Before, number: usize) -> &str
     blocks[before.block].pieces[number - before.paragraphs]
         .text
         .as_str()
+}
+
+/// How many code points paragraph `number` has, of this block.
+fn places_at<K>(blocks: &[Block<K>], before: Before, number: usize) -> usize
+    requires { IsBlockOf blocks.now before number }
+    ensures { result ≡ length (get_or (texts_in blocks.now) number []) }
+{
+    blocks[before.block].pieces[number - before.paragraphs].places
 }

@@ -1,6 +1,6 @@
 //! The stretch of paragraphs that an edit makes anew.
 
-ghost use Rattle.std.specs.Prelude.{◌≡◌, ◌↔◌, ◌⊎◌, ◌+◌, ◌-◌, ◌<◌, ◌≤◌, ◌++◌, ◌==◌, ℕ, true, false, List, [], Err, length, get_or, string_bytes, IfOk};
+ghost use Rattle.std.specs.Prelude.{◌≡◌, ◌↔◌, ◌⊎◌, ◌+◌, ◌-◌, ◌<◌, ◌≤◌, ◌++◌, ◌==◌, ℕ, true, false, List, [], Err, length, get_or, string_bytes, IfOk, IfSome};
 ghost use Rattle.std.specs.List.{concat};
 ghost use Rattle.unicode_tables.specs.Tables.{bidi_of};
 ghost use Rattle.paragraphs.specs.Text.{code_points};
@@ -34,11 +34,12 @@ pub struct Stretch {
     pub text: String,
 }
 
-/// What an edit makes anew, whether that is known to be one paragraph, and how many bytes the text has then.
+/// What an edit makes anew, how many code points that has where it is known to be one paragraph, and how many bytes the text
+/// has then.
 #[derive(Drop)]
 pub struct Plan {
     pub stretch: Stretch,
-    pub one: bool,
+    pub one: Option<usize>,
     pub bytes: usize,
 }
 
@@ -65,7 +66,7 @@ pub fn plan_edit<K>(
     ensures some { IfOk result (λ p. p.stretch.to < length (texts_in blocks.now) → 0 < length (code_points (string_bytes p.stretch.text))) }
     ensures text { IfOk result (λ p. text_with (texts_in blocks.now) p.stretch.from p.stretch.to (code_points (string_bytes p.stretch.text))
         ≡ replaced (concat (texts_in blocks.now)) from to (code_points text.now)) }
-    ensures one { IfOk result (λ p. p.one ≡ true → IsOne tables.now (p.stretch.to == length (texts_in blocks.now)) (string_bytes p.stretch.text)) }
+    ensures one { IfOk result (λ p. IfSome p.one (IsOne tables.now (p.stretch.to == length (texts_in blocks.now)) (string_bytes p.stretch.text))) }
     ensures bytes { IfOk result (λ p. p.bytes ≡ bytes_in (replaced (concat (texts_in blocks.now)) from to (code_points text.now))) }
     ensures few { IfOk result (λ p. p.bytes ≤ 4_000_000) }
     ensures first { IfOk result (λ p. IsParagraphOf (texts_in blocks.now) from p.stretch.from ⊎ IsParagraphOf (texts_in blocks.now) from (p.stretch.from + 1)) }
@@ -81,9 +82,10 @@ pub fn plan_edit<K>(
     let whole = text_between(alloc, first.front, text, last.back)?;
     let stretch = stretch_at(alloc, tables, blocks, &first, last.number + 1, whole)?;
     let one = stays_one(tables, &first, last.number, stretch.from, text);
+    let places = first.offset + text.chars().count() + last.rest;
     Ok(Plan {
         stretch,
-        one,
+        one: one.then_some(places),
         bytes: others + text.len(),
     })
 }

@@ -1,6 +1,6 @@
 -- The two parts of the paragraph stand round the place.
 use Rattle.std.proofs.Common.{◌≡◌, ◌+◌, ◌++◌, [], length, take, get_or, ap, ap₂, ◌∙◌, arith}
-use Rattle.std.proofs.lemmas.List.{take-append-drop, length-take-le, length-append}
+use Rattle.std.proofs.lemmas.List.{take-append-drop, length-take-le, length-append, length-drop}
 use Rattle.std.proofs.lemmas.Str.{encodes-chars}
 use Rattle.std.specs.List.{concat}
 use Rattle.paragraphs.specs.Text.{code_points}
@@ -31,6 +31,16 @@ text_at-requires g c = record { stands = c.spot_at.ensures.stands; reached = c.s
 
 pub returns-clause-block : goal.returns-clause-block
 returns-clause-block g c = record { stands = c.spot_at.ensures.stands; reached = c.spot_at.ensures.first; here = c.spot_at.ensures.here }
+
+pub places_at-requires : goal.places_at-requires
+places_at-requires g c = record { stands = c.spot_at.ensures.stands; reached = c.spot_at.ensures.first; here = c.spot_at.ensures.here }
+
+pub overflow_sub-result : goal.overflow_sub-result
+overflow_sub-result g c = omega (arith, c.places_at.ensures, c.spot_at.ensures.spot.within)
+
+pub returns-clause-rest : goal.returns-clause-rest
+returns-clause-rest g c =
+    omega (arith, c.places_at.ensures, ap length c.text_at.ensures, ap length c.parted.ensures.back, length-drop c.spot_at.result.1.offset (code_points c.text_at.result.now))
 
 pub returns-clause-parted : goal.returns-clause-parted
 returns-clause-parted g c =

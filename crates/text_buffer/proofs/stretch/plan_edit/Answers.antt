@@ -1,21 +1,22 @@
 -- The text stands between what is before the first place in its paragraph and what is behind the last one in its own.
-use Rattle.std.proofs.Common.{Err, ◌≡◌, ℕ, ◌+◌, ◌-◌, ◌≤◌, List, [], ◌∷◌, ◌++◌, cond, length, take, get_or, refl, sym, ap, ap₂, subst, ◌∙◌, arith}
+use Rattle.std.proofs.Common.{rules, Err, ◌≡◌, ℕ, ◌+◌, ◌-◌, ◌≤◌, List, [], ◌∷◌, ◌++◌, cond, length, take, get_or, refl, sym, ap, ap₂, subst, ◌∙◌, arith}
 use Rattle.std.proofs.lemmas.List.{append_assoc, length-append}
 use Rattle.std.proofs.lemmas.Result.{err_from_is_err_and}
-use Rattle.std.proofs.lemmas.Str.{chars-append, encodes-chars, IsUtf8-string_bytes}
+use Rattle.std.proofs.lemmas.Str.{chars_from_encodes, chars-append, encodes-chars, IsUtf8-string_bytes}
 use Rattle.std.specs.List.{concat}
-use Rattle.std.specs.Prelude.{nat_eq, string_bytes}
+use Rattle.std.specs.Prelude.{nat_eq, string_bytes, IfSome}
 use Rattle.unicode_tables.specs.Tables.{bidi_of}
 use Rattle.paragraphs.proofs.Interface.{parts, points-parts}
 use Rattle.paragraphs.specs.Text.{code_points}
 use Rattle.text_buffer.specs.Edits.{IsParagraphOf}
 use Rattle.text_buffer.specs.Blocks.{texts_in}
-use Rattle.text_buffer.specs.Stretches.{IsBegun, IsRemade, text_with}
+use Rattle.text_buffer.specs.Stretches.{IsBegun, IsRemade, IsOne, text_with}
 use Rattle.text_buffer.proofs.Splits.{utf8-kept, split-parts}
 use Rattle.text_buffer.proofs.Begun.{stretch-own}
-use Rattle.text_buffer.proofs.Whole.{whole-stretch}
+use Rattle.text_buffer.proofs.Whole.{whole-stretch, told-if}
 use Rattle.text_buffer.proofs.Edits.{text-replaced, paragraphs-order, is-paragraph, of-first, bytes-replaced}
-use Rattle.text_buffer.proofs.Sums.{bytes-front, bytes-some}
+use Rattle.text_buffer.proofs.Sums.{bytes-front, bytes-some, places-few}
+use Rattle.text_buffer.proofs.Texts.{places-at}
 use Rattle.text_buffer.proofs.Counted.{ok-fits, memory-fits}
 use Rattle.text_buffer.proofs.stretch.plan_edit.Goals as goal
 
@@ -27,7 +28,7 @@ overflow_sub-others g c =
     let to = c.args.to in
     let points = code_points c.args.text.now in
     let a = c.place_at-first.ensures.parted in
-    let z = c.place_behind-last.ensures in
+    let z = c.place_behind-last.ensures.parted in
     let low = c.place_at-first.result in
     let high = c.place_behind-last.result in
     let more = bytes-front (concat kept) from to c.requires.order in
@@ -42,7 +43,7 @@ overflow_sub-others-2 g c =
     let to = c.args.to in
     let points = code_points c.args.text.now in
     let a = c.place_at-first.ensures.parted in
-    let z = c.place_behind-last.ensures in
+    let z = c.place_behind-last.ensures.parted in
     let low = c.place_at-first.result in
     let high = c.place_behind-last.result in
     let more = bytes-front (concat kept) from to c.requires.order in
@@ -57,7 +58,7 @@ returns-then-text-others-clause-too_long g c =
     let to = c.args.to in
     let points = code_points c.args.text.now in
     let a = c.place_at-first.ensures.parted in
-    let z = c.place_behind-last.ensures in
+    let z = c.place_behind-last.ensures.parted in
     let low = c.place_at-first.result in
     let high = c.place_behind-last.result in
     let more = bytes-front (concat kept) from to c.requires.order in
@@ -74,7 +75,7 @@ returns-in_err-whole-clause-too_long g c =
     let to = c.args.to in
     let points = code_points c.args.text.now in
     let a = c.place_at-first.ensures.parted in
-    let z = c.place_behind-last.ensures in
+    let z = c.place_behind-last.ensures.parted in
     let low = c.place_at-first.result in
     let high = c.place_behind-last.result in
     let more = bytes-front (concat kept) from to c.requires.order in
@@ -92,7 +93,7 @@ stretch_at-requires-clause-order g c =
     let to = c.args.to in
     let points = code_points c.args.text.now in
     let a = c.place_at-first.ensures.parted in
-    let z = c.place_behind-last.ensures in
+    let z = c.place_behind-last.ensures.parted in
     let low = c.place_at-first.result in
     let high = c.place_behind-last.result in
     let more = bytes-front (concat kept) from to c.requires.order in
@@ -108,7 +109,7 @@ stretch_at-requires-clause-begins g c =
     let to = c.args.to in
     let points = code_points c.args.text.now in
     let a = c.place_at-first.ensures.parted in
-    let z = c.place_behind-last.ensures in
+    let z = c.place_behind-last.ensures.parted in
     let low = c.place_at-first.result in
     let high = c.place_behind-last.result in
     let more = bytes-front (concat kept) from to c.requires.order in
@@ -126,7 +127,7 @@ returns-in_err-stretch-clause-too_long g c =
     let to = c.args.to in
     let points = code_points c.args.text.now in
     let a = c.place_at-first.ensures.parted in
-    let z = c.place_behind-last.ensures in
+    let z = c.place_behind-last.ensures.parted in
     let low = c.place_at-first.result in
     let high = c.place_behind-last.result in
     let more = bytes-front (concat kept) from to c.requires.order in
@@ -144,7 +145,7 @@ returns-clause-stretch g c =
     let to = c.args.to in
     let points = code_points c.args.text.now in
     let a = c.place_at-first.ensures.parted in
-    let z = c.place_behind-last.ensures in
+    let z = c.place_behind-last.ensures.parted in
     let low = c.place_at-first.result in
     let high = c.place_behind-last.result in
     let more = bytes-front (concat kept) from to c.requires.order in
@@ -170,7 +171,7 @@ returns-clause-some g c = λ later.
     let to = c.args.to in
     let points = code_points c.args.text.now in
     let a = c.place_at-first.ensures.parted in
-    let z = c.place_behind-last.ensures in
+    let z = c.place_behind-last.ensures.parted in
     let low = c.place_at-first.result in
     let high = c.place_behind-last.result in
     let more = bytes-front (concat kept) from to c.requires.order in
@@ -192,7 +193,7 @@ returns-clause-text g c =
     let to = c.args.to in
     let points = code_points c.args.text.now in
     let a = c.place_at-first.ensures.parted in
-    let z = c.place_behind-last.ensures in
+    let z = c.place_behind-last.ensures.parted in
     let low = c.place_at-first.result in
     let high = c.place_behind-last.result in
     let more = bytes-front (concat kept) from to c.requires.order in
@@ -211,7 +212,7 @@ returns-clause-bytes g c =
     let to = c.args.to in
     let points = code_points c.args.text.now in
     let a = c.place_at-first.ensures.parted in
-    let z = c.place_behind-last.ensures in
+    let z = c.place_behind-last.ensures.parted in
     let low = c.place_at-first.result in
     let high = c.place_behind-last.result in
     let more = bytes-front (concat kept) from to c.requires.order in
@@ -228,7 +229,7 @@ returns-clause-first g c =
     let to = c.args.to in
     let points = code_points c.args.text.now in
     let a = c.place_at-first.ensures.parted in
-    let z = c.place_behind-last.ensures in
+    let z = c.place_behind-last.ensures.parted in
     let low = c.place_at-first.result in
     let high = c.place_behind-last.result in
     let more = bytes-front (concat kept) from to c.requires.order in
@@ -243,7 +244,7 @@ returns-clause-last g c =
     let to = c.args.to in
     let points = code_points c.args.text.now in
     let a = c.place_at-first.ensures.parted in
-    let z = c.place_behind-last.ensures in
+    let z = c.place_behind-last.ensures.parted in
     let low = c.place_at-first.result in
     let high = c.place_behind-last.result in
     let more = bytes-front (concat kept) from to c.requires.order in
@@ -259,7 +260,7 @@ returns-clause-too_long g c =
     let to = c.args.to in
     let points = code_points c.args.text.now in
     let a = c.place_at-first.ensures.parted in
-    let z = c.place_behind-last.ensures in
+    let z = c.place_behind-last.ensures.parted in
     let low = c.place_at-first.result in
     let high = c.place_behind-last.result in
     let more = bytes-front (concat kept) from to c.requires.order in
@@ -268,13 +269,35 @@ returns-clause-too_long g c =
     let text = ap length (encodes-chars c.args.text.now c.utf8.text) in
     (λ e. absurd (ok-fits _ _ refl e), λ m. absurd (omega (arith, all, text, a.bytes, z.bytes, more, few, c.requires.bytes, c.requires.few, c.if-text-others.false, m)))
 
+pub overflow_add-places : goal.overflow_add-places
+overflow_add-places g c =
+    let kept = texts_in c.args.blocks.now in
+    let points = code_points c.args.text.now in
+    let a = c.place_at-first.ensures in
+    let size : c.count.result ≡ length points = search (rules, chars_from_encodes) in
+    let bytes = ap length (encodes-chars c.args.text.now c.utf8.text) in
+    omega (arith, a.offset, a.parted.place, c.requires.order, c.requires.within, places-few (concat kept), c.requires.fits.bytes, size, places-few points, bytes, c.if-text-others.false)
+
+pub overflow_add-places-2 : goal.overflow_add-places-2
+overflow_add-places-2 g c =
+    let kept = texts_in c.args.blocks.now in
+    let points = code_points c.args.text.now in
+    let a = c.place_at-first.ensures in
+    let z = c.place_behind-last.ensures in
+    let high = c.place_behind-last.result in
+    let size : c.count.result ≡ length points = search (rules, chars_from_encodes) in
+    let bytes = ap length (encodes-chars c.args.text.now c.utf8.text) in
+    let own = ap length z.parted.own in
+    let both = length-append (code_points high.front.now) (code_points high.back.now) in
+    omega (arith, a.offset, a.parted.place, c.requires.order, c.requires.within, places-few (concat kept), c.requires.fits.bytes, size, places-few points, bytes, c.if-text-others.false, z.rest, own, both, places-at kept high.number z.parted.there)
+
 pub returns-clause-one : goal.returns-clause-one
-returns-clause-one g c = λ h.
+returns-clause-one g c =
     let bs = c.args.blocks.now in
     let kept = texts_in bs in
     let points = code_points c.args.text.now in
     let a = c.place_at-first.ensures.parted in
-    let z = c.place_behind-last.ensures in
+    let z = c.place_behind-last.ensures.parted in
     let low = c.place_at-first.result in
     let high = c.place_behind-last.result in
     let f = code_points low.front.now in
@@ -285,12 +308,18 @@ returns-clause-one g c = λ h.
     let made = c.in_ok-stretch.ensures in
     let one = c.stays_one-one.ensures in
     let is = split-parts tables kept (utf8-kept bs) c.requires.split in
+    let bytes = string_bytes s.text in
+    let all = points-parts tables bytes (IsUtf8-string_bytes s.text) in
+    let shown = λ (n : ℕ) (ps : List (List ℕ)). cond (nat_eq n (length kept)) ps (take (length ps - 1) ps) in
+    let size : c.count.result ≡ length points = search (rules, chars_from_encodes) in
+    let told = told-if (IsOne tables (nat_eq s.to (length kept)) bytes) c.stays_one-one.result (low.offset + c.count.result + high.rest) (λ h.
     let same = ap code_points (made.same (one.from h)) ∙ w in
     let last = one.last h in
     let own = z.own ∙ ap (λ n. get_or kept n []) last in
     let order : length f ≤ length (code_points high.front.now) = omega (arith, a.place, z.place, c.requires.order, ap (λ n. length (concat (take n kept))) last) in
     let whole = whole-stretch tables kept is low.number a.there f (code_points low.back.now) (code_points high.front.now) b points a.own own order (λ more. z.more (omega (arith, last, more))) (one.front h) (one.few h) (one.text h) in
-    let bytes = string_bytes s.text in
-    let all = points-parts tables bytes (IsUtf8-string_bytes s.text) in
-    let shown = λ (n : ℕ) (ps : List (List ℕ)). cond (nat_eq n (length kept)) ps (take (length ps - 1) ps) in
-    ap₂ shown (made.to ∙ ap (λ n. n + 1) last) (all ∙ ap (parts (bidi_of tables)) same) ∙ whole ∙ ap (λ x. x ∷ []) (sym same)
+    record {
+      count = omega (arith, c.place_at-first.ensures.offset, size, c.place_behind-last.ensures.rest, ap length same, length-append f (points ++ b), length-append points b);
+      alone = ap₂ shown (made.to ∙ ap (λ n. n + 1) last) (all ∙ ap (parts (bidi_of tables)) same) ∙ whole ∙ ap (λ x. x ∷ []) (sym same);
+    }) in
+    subst (λ x. IfSome x (IsOne tables (nat_eq s.to (length kept)) bytes)) (sym c.then_some.ensures) told
