@@ -81,8 +81,9 @@ pub fn plan_edit<K>(
     }
     let whole = text_between(alloc, first.front, text, last.back)?;
     let stretch = stretch_at(alloc, tables, blocks, &first, last.number + 1, whole)?;
-    let one = stays_one(tables, &first, last.number, stretch.from, text);
-    let places = first.offset + text.chars().count() + last.rest;
+    let more = text.chars().count();
+    let one = stays_one(tables, &first, last.number, stretch.from, text, more);
+    let places = first.offset + more + last.rest;
     Ok(Plan {
         stretch,
         one: one.then_some(places),
@@ -90,29 +91,29 @@ pub fn plan_edit<K>(
     })
 }
 
-/// Whether it is seen at once that what is made anew stays one paragraph: a part of one is replaced by a character that is no
-/// separator, or by none, and none stands in front.
-fn stays_one(tables: &Tables, first: &Place, last: usize, from: usize, text: &str) -> bool
+/// Whether it is seen at once that what is made anew stays one paragraph: a part of one is replaced by a text of at most one
+/// code point, which is no separator, and none stands in front.
+fn stays_one(
+    tables: &Tables,
+    first: &Place,
+    last: usize,
+    from: usize,
+    text: &str,
+    more: usize,
+) -> bool
     ensures from { result ≡ true → from ≡ first.now.number }
     ensures last { result ≡ true → last ≡ first.now.number }
     ensures front { result ≡ true → 0 < length (code_points first.now.front.now) → meets_at_cut (bidi_of tables.now) (code_points first.now.front.now) [] ≡ false }
-    ensures few { result ≡ true → length (code_points text.now) ≤ 1 }
+    ensures few { result ≡ true → more ≤ 1 }
     ensures text { result ≡ true → 0 < length (code_points text.now) → meets_at_cut (bidi_of tables.now) (code_points text.now) [] ≡ false }
 {
-    if from != first.number || last != first.number || has_more_than_one(text) {
+    if from != first.number || last != first.number || more > 1 {
         return false;
     }
     if ends_with_separator(tables, first.front) {
         return false;
     }
     !ends_with_separator(tables, text)
-}
-
-/// Whether a text has more than one code point.
-fn has_more_than_one(text: &str) -> bool
-    ensures { result ≡ false → length (code_points text.now) ≤ 1 }
-{
-    text.chars().count() > 1
 }
 
 /// Whether the last code point of a text is a separator.

@@ -274,7 +274,7 @@ overflow_add-places g c =
     let kept = texts_in c.args.blocks.now in
     let points = code_points c.args.text.now in
     let a = c.place_at-first.ensures in
-    let size : c.count.result ≡ length points = search (rules, chars_from_encodes) in
+    let size : c.count-more.result ≡ length points = search (rules, chars_from_encodes) in
     let bytes = ap length (encodes-chars c.args.text.now c.utf8.text) in
     omega (arith, a.offset, a.parted.place, c.requires.order, c.requires.within, places-few (concat kept), c.requires.fits.bytes, size, places-few points, bytes, c.if-text-others.false)
 
@@ -285,7 +285,7 @@ overflow_add-places-2 g c =
     let a = c.place_at-first.ensures in
     let z = c.place_behind-last.ensures in
     let high = c.place_behind-last.result in
-    let size : c.count.result ≡ length points = search (rules, chars_from_encodes) in
+    let size : c.count-more.result ≡ length points = search (rules, chars_from_encodes) in
     let bytes = ap length (encodes-chars c.args.text.now c.utf8.text) in
     let own = ap length z.parted.own in
     let both = length-append (code_points high.front.now) (code_points high.back.now) in
@@ -311,13 +311,13 @@ returns-clause-one g c =
     let bytes = string_bytes s.text in
     let all = points-parts tables bytes (IsUtf8-string_bytes s.text) in
     let shown = λ (n : ℕ) (ps : List (List ℕ)). cond (nat_eq n (length kept)) ps (take (length ps - 1) ps) in
-    let size : c.count.result ≡ length points = search (rules, chars_from_encodes) in
-    let told = told-if (IsOne tables (nat_eq s.to (length kept)) bytes) c.stays_one-one.result (low.offset + c.count.result + high.rest) (λ h.
+    let size : c.count-more.result ≡ length points = search (rules, chars_from_encodes) in
+    let told = told-if (IsOne tables (nat_eq s.to (length kept)) bytes) c.stays_one-one.result (low.offset + c.count-more.result + high.rest) (λ h.
     let same = ap code_points (made.same (one.from h)) ∙ w in
     let last = one.last h in
     let own = z.own ∙ ap (λ n. get_or kept n []) last in
     let order : length f ≤ length (code_points high.front.now) = omega (arith, a.place, z.place, c.requires.order, ap (λ n. length (concat (take n kept))) last) in
-    let whole = whole-stretch tables kept is low.number a.there f (code_points low.back.now) (code_points high.front.now) b points a.own own order (λ more. z.more (omega (arith, last, more))) (one.front h) (one.few h) (one.text h) in
+    let whole = whole-stretch tables kept is low.number a.there f (code_points low.back.now) (code_points high.front.now) b points a.own own order (λ more. z.more (omega (arith, last, more))) (one.front h) (omega (arith, size, one.few h)) (one.text h) in
     record {
       count = omega (arith, c.place_at-first.ensures.offset, size, c.place_behind-last.ensures.rest, ap length same, length-append f (points ++ b), length-append points b);
       alone = ap₂ shown (made.to ∙ ap (λ n. n + 1) last) (all ∙ ap (parts (bidi_of tables)) same) ∙ whole ∙ ap (λ x. x ∷ []) (sym same);
