@@ -90,7 +90,7 @@ enum Edit {
 }
 
 /// Edits with their answers, the text then, and the operations that were told.
-type Case = (
+struct Case(
     &'static [(Edit, Result<(), TypeFault>)],
     &'static str,
     &'static [OpRow],
@@ -111,7 +111,7 @@ fn fresh_writer<S: Fresh>(alloc: Global) -> Writer<S> {
 
 fn comes_out<S: Fresh>(alloc: Global, case: &Case) -> Result<bool, Memory> {
     let mut writer: Writer<S> = fresh_writer(alloc);
-    let (edits, text, told) = *case;
+    let Case(edits, text, told) = *case;
     let mut right = true;
     for (edit, answer) in edits {
         right = writer.makes(*edit)? == *answer && right;
@@ -140,14 +140,14 @@ const B: OpRow = Insert((2, 1), (1, 1), 'b');
 const C: OpRow = Insert((3, 1), (2, 1), 'c');
 
 const CASES: [Case; 11] = [
-    (&[(Edit::Types(0, "abc"), OK)], "abc", &[A, B, C]),
-    (
+    Case(&[(Edit::Types(0, "abc"), OK)], "abc", &[A, B, C]),
+    Case(
         &[(Edit::Types(0, ""), OK), (Edit::Erases(0, 0), OK)],
         "",
         &[],
     ),
     // In the middle, behind the visible one there.
-    (
+    Case(
         &[
             (Edit::Types(0, "ad"), OK),
             (Edit::Types(1, "\u{5D0}\u{1F600}"), OK),
@@ -161,7 +161,7 @@ const CASES: [Case; 11] = [
         ],
     ),
     // What is erased in the middle, and typed in its place.
-    (
+    Case(
         &[
             (Edit::Types(0, "abc"), OK),
             (Edit::Erases(1, 3), OK),
@@ -178,7 +178,7 @@ const CASES: [Case; 11] = [
         ],
     ),
     // Over what is hidden already.
-    (
+    Case(
         &[
             (Edit::Types(0, "abc"), OK),
             (Edit::Erases(1, 2), OK),
@@ -188,7 +188,7 @@ const CASES: [Case; 11] = [
         &[A, B, C, Erase((2, 1)), Erase((1, 1)), Erase((3, 1))],
     ),
     // A word that is overwritten: what is typed follows the visible one in front of it.
-    (
+    Case(
         &[
             (Edit::Types(0, "abc"), OK),
             (Edit::Replaces(1, 3, "xy"), OK),
@@ -205,7 +205,7 @@ const CASES: [Case; 11] = [
         ],
     ),
     // At the text's front, over what is hidden already.
-    (
+    Case(
         &[
             (Edit::Types(0, "abc"), OK),
             (Edit::Erases(0, 1), OK),
@@ -222,7 +222,7 @@ const CASES: [Case; 11] = [
         ],
     ),
     // Nothing is erased, then nothing is typed, then neither.
-    (
+    Case(
         &[
             (Edit::Replaces(0, 0, "ab"), OK),
             (Edit::Replaces(0, 1, ""), OK),
@@ -232,7 +232,7 @@ const CASES: [Case; 11] = [
         &[A, B, Erase((1, 1))],
     ),
     // Where the counters are too few for what is typed, nothing is erased.
-    (
+    Case(
         &[
             (Edit::Types(0, "a"), OK),
             (Edit::Holds(Erase((4_294_967_293, 2))), OK),
@@ -243,7 +243,7 @@ const CASES: [Case; 11] = [
         &[A, Erase((1, 1)), Insert((4_294_967_294, 1), (0, 0), 'x')],
     ),
     // Two counters are left for three characters, and then for two.
-    (
+    Case(
         &[
             (Edit::Holds(Erase((4_294_967_293, 2))), OK),
             (Edit::Types(0, "abc"), SPENT),
@@ -258,7 +258,7 @@ const CASES: [Case; 11] = [
         ],
     ),
     // What was typed at another site.
-    (
+    Case(
         &[
             (Edit::Holds(Insert((1, 2), (0, 0), 'x')), OK),
             (Edit::Types(1, "ab"), OK),
