@@ -284,7 +284,8 @@ uint32_t bidigrid_document_resize(bidigrid_document *document, uint32_t width);
 uint32_t bidigrid_document_set_base(bidigrid_document *document, uint32_t base);
 
 /* As bidigrid_desk_insert, _erase and _replace. Where those take no memory, these are not refused for lack of it: what
- * could not be laid out is at the next bidigrid_document_show. Then nothing is shown. */
+ * could not be laid out is at the next bidigrid_document_show. Then nothing is shown. What it changed in the text is
+ * kept for bidigrid_document_changes. */
 uint32_t bidigrid_document_insert(bidigrid_document *document, size_t place, const char *text, size_t text_size,
                                   uint8_t *message, size_t room, size_t *size);
 uint32_t bidigrid_document_erase(bidigrid_document *document, size_t from, size_t to, uint8_t *message, size_t room,
@@ -293,7 +294,7 @@ uint32_t bidigrid_document_replace(bidigrid_document *document, size_t from, siz
                                    size_t text_size, uint8_t *message, size_t room, size_t *size);
 
 /* As bidigrid_desk_take and _merge. Then nothing is shown, but after a message of which nothing was taken. What it
- * changed in the text is kept for bidigrid_document_changes. */
+ * changed in the text is kept too. */
 uint32_t bidigrid_document_take(bidigrid_document *document, const uint8_t *message, size_t message_size,
                                 bidigrid_taken *told);
 uint32_t bidigrid_document_merge(bidigrid_document *document, const bidigrid_document *other);
@@ -306,10 +307,11 @@ typedef struct bidigrid_change {
     uint32_t put;       /* 1: put, 0: cut */
 } bidigrid_change;
 
-/* What the last take or merge changed in the text, in order: nothing where it took nothing, and after an insert,
- * erase or replace. How many changes there are is told, also where the answer is BIDIGRID_FAULT_SHORT_BUFFER and
- * nothing was written. Where there was no memory to keep them, the answer is BIDIGRID_FAULT_MEMORY: the operations
- * stand, and the text is to be read anew. */
+/* What the last edit, take or merge changed in the text, in order: nothing where a take or merge took nothing. It is
+ * kept until the next one, so a list that is too short loses nothing: how many changes there are is told, also where
+ * the answer is BIDIGRID_FAULT_SHORT_BUFFER and nothing was written. An edit's are a cut at its first place for each
+ * character that was erased, and then those that were typed. Where there was no memory to keep them, which is never
+ * so of a keystroke, the answer is BIDIGRID_FAULT_MEMORY: the operations stand, and the text is to be read anew. */
 uint32_t bidigrid_document_changes(const bidigrid_document *document, bidigrid_change *changes, size_t room,
                                    size_t *count);
 

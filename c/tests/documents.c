@@ -53,11 +53,12 @@ static void tries_edits(void)
     CHECK(bidigrid_document_take(&other, out, message.size, NULL) == BIDIGRID_OK && has_text(&other, "\u05D0"));
     CHECK(replace(&document, 0, 1, "xyz", &message) == BIDIGRID_OK);
     CHECK(message.size == BIDIGRID_REPLACED_SIZE(1, 3) && has_text(&document, "xyz"));
+    CHECK(tells(&document, "0- 0+x 1+y 2+z "));
     CHECK(bidigrid_document_take(&other, out, message.size, NULL) == BIDIGRID_OK && has_text(&other, "xyz"));
-    CHECK(replace(&document, 2, 1, "", &message) == BIDIGRID_FAULT_BAD_PLACE);
+    CHECK(replace(&document, 2, 1, "", &message) == BIDIGRID_FAULT_BAD_PLACE && tells(&document, "0- 0+x 1+y 2+z "));
     CHECK(replace(&document, 0, 4, "", &message) == BIDIGRID_FAULT_BAD_PLACE);
     CHECK(replace(&document, 0, 3, "", &message) == BIDIGRID_OK);
-    CHECK(has_text(&document, "") && message.size == BIDIGRID_REPLACED_SIZE(3, 0));
+    CHECK(has_text(&document, "") && message.size == BIDIGRID_REPLACED_SIZE(3, 0) && tells(&document, "0- 0- 0- "));
     bidigrid_document_free(&document);
     bidigrid_document_free(&other);
 }

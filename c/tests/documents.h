@@ -62,7 +62,7 @@ static inline bool shows_nothing(const bidigrid_document *document)
     return size == 0 && bidigrid_document_row(document, 0, &row) == BIDIGRID_FAULT_BAD_ROW;
 }
 
-/* What a document tells of its last take or merge: '+' and the character where one was put, '-' where one was cut, each
+/* What a document tells of its last edit, take or merge: '+' and the character where one was put, '-' where one was cut, each
  * with its place. */
 static inline bool tells(const bidigrid_document *document, const char *wanted)
 {

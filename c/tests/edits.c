@@ -76,29 +76,22 @@ static void look(size_t number)
     shows_its_rows(&copies[number].document, &tables, widths[number], bases[number]);
 }
 
-/* Has the list do what the document did itself. */
-static void follow(size_t number, size_t from, size_t to, const uint32_t *typed, size_t count)
+/* Has the list do what a document tells of its own edit, which is that so many characters went and came. */
+static void follow(size_t number, size_t characters)
 {
-    if (!are_documents)
-        return;
-    CHECK(hear(&texts[number], &copies[number].document) == 0);
-    for (size_t gone = from; gone < to; gone++)
-        cut_at(&texts[number], from);
-    for (size_t at = 0; at < count; at++)
-        put_at(&texts[number], from + at, typed[at]);
+    CHECK(!are_documents || hear(&texts[number], &copies[number].document) == characters);
 }
 
 static uint32_t replace(size_t number, size_t places, message *made)
 {
-    uint32_t typed[MOST_TYPED];
     uint8_t text[4 * MOST_TYPED], *end = text;
     size_t from = below(places + 1), erased = below(MOST_ERASED + 1), count = below(MOST_TYPED + 1);
     for (size_t at = 0; at < count; at++)
-        end = put_utf8(end, typed[at] = random_letter());
+        end = put_utf8(end, random_letter());
     size_t to = from + erased < places ? from + erased : places;
     uint32_t answer = OF(&copies[number], replace, from, to, (const char *)text, (size_t)(end - text), made->bytes,
                          sizeof made->bytes, &made->size);
-    follow(number, from, to, typed, count);
+    follow(number, to - from + count);
     return answer;
 }
 
@@ -106,7 +99,7 @@ static uint32_t erase(size_t number, size_t places, message *made)
 {
     size_t place = below(places);
     uint32_t answer = OF(&copies[number], erase, place, place + 1, made->bytes, sizeof made->bytes, &made->size);
-    follow(number, place, place + 1, NULL, 0);
+    follow(number, 1);
     return answer;
 }
 
@@ -120,7 +113,7 @@ static uint32_t type(size_t number, size_t places, message *made)
         return bidigrid_desk_type(&copies[number].desk, place, letter, made->bytes, sizeof made->bytes, &made->size);
     uint32_t answer = bidigrid_document_insert(&copies[number].document, place, (const char *)text, size, made->bytes,
                                                sizeof made->bytes, &made->size);
-    follow(number, place, place, &letter, 1);
+    follow(number, 1);
     return answer;
 }
 

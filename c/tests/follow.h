@@ -1,5 +1,5 @@
-/* A plain list of characters that follows a document, by its own edits and by what the document tells of what it takes; and
- * the rows that a document shows, beside those of a picture of its text. */
+/* A plain list of characters that follows a document by what it tells; and the rows that a document shows, beside those of a
+ * picture of its text. */
 #ifndef FOLLOW_H
 #define FOLLOW_H
 
@@ -30,7 +30,7 @@ static inline void cut_at(followed *it, size_t place)
     memmove(it->characters + place, it->characters + place + 1, (it->count - place) * sizeof *it->characters);
 }
 
-/* Makes the changes that a document tells of its last take or merge, and returns how many they are. */
+/* Makes the changes that a document tells of its last edit, take or merge, and returns how many they are. */
 static inline size_t hear(followed *it, const bidigrid_document *document)
 {
     size_t count;

@@ -86,12 +86,13 @@ static uint32_t document_replaces(live *it, size_t first, size_t last, bytes tex
                                      &message->size);
 }
 
-/* Does to the list what the document did itself. */
-static void splice(followed *it, size_t first, size_t last, bytes text)
+/* Does to the list what the document did itself, and returns how many changes that is. */
+static size_t splice(followed *it, size_t first, size_t last, bytes text)
 {
+    size_t changes = last - first;
     for (size_t gone = first; gone < last; gone++)
         cut_at(it, first);
-    for (size_t at = 0; at < text.size; first++) {
+    for (size_t at = 0; at < text.size; first++, changes++) {
         uint32_t character = text.at[at];
         int more = character < 0x80 ? 0 : character < 0xE0 ? 1 : character < 0xF0 ? 2 : 3;
         character &= more ? 0x3Fu >> more : 0x7Fu;
@@ -99,6 +100,7 @@ static void splice(followed *it, size_t first, size_t last, bytes text)
             character = character << 6 | (text.at[at++] & 0x3Fu);
         put_at(it, first, character);
     }
+    return changes;
 }
 
 /* A stretch is erased, typed, or replaced, with a buffer that is as long as it has to be. */
@@ -114,8 +116,9 @@ static void document_edits(input *from)
         answer = document_replaces(it, first, last, text, &message);
     }
     if (answer == BIDIGRID_OK) {
-        CHECK(hear(&it->text, &it->document) == 0);
-        splice(&it->text, first, last, text);
+        size_t told;
+        bidigrid_document_changes(&it->document, NULL, 0, &told);
+        CHECK(told == splice(&it->text, first, last, text));
         CHECK(is_followed(&it->text, &it->document));
         document_sends(it, message);
     } else

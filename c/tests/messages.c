@@ -44,18 +44,18 @@ static void tries_messages(void)
     CHECK(is_taken(&document, HEADER A_AT_1 B_AFTER_A, 42, BIDIGRID_FAULT_TRUNCATED, 0, 0, 2));
     CHECK(has_text(&document, "b") && tells(&document, "") && !shows_nothing(&document));
     CHECK(is_taken(&document, NULL, 0, BIDIGRID_FAULT_TRUNCATED, 0, 0, 0));
-    /* An edit of its own is not told. */
+    /* An edit of its own is told as it was asked for. */
     uint8_t out[256];
     bytes message = {out, 0};
     CHECK(TAKEN(&document, HEADER A_AT_1, BIDIGRID_OK, 1, 1, 0) && tells(&document, ""));
     bidigrid_document typist = made(5, 8);
-    CHECK(insert(&typist, 0, "xy", &message) == BIDIGRID_OK && tells(&typist, ""));
+    CHECK(insert(&typist, 0, "xy", &message) == BIDIGRID_OK && tells(&typist, "0+x 1+y "));
     CHECK(bidigrid_document_take(&document, out, message.size, NULL) == BIDIGRID_OK && tells(&document, "0+x 1+y "));
     /* They stay told at another width, and go with the next edit. */
     CHECK(bidigrid_document_resize(&document, 9) == BIDIGRID_OK);
     CHECK(bidigrid_document_set_base(&document, BIDIGRID_BASE_LEFT_TO_RIGHT) == BIDIGRID_OK);
     CHECK(tells(&document, "0+x 1+y "));
-    CHECK(insert(&document, 0, "z", &message) == BIDIGRID_OK && tells(&document, ""));
+    CHECK(insert(&document, 0, "z", &message) == BIDIGRID_OK && tells(&document, "0+z "));
     bidigrid_document_free(&typist);
     bidigrid_document_free(&document);
 }

@@ -175,10 +175,11 @@ static void types_what_is_spare(void)
     puts("bidigrid_desk_type: what is spare is typed, though all memory is refused");
 }
 
-/* So they are at a document, whose rows are then laid out once there is memory again. */
+/* So they are at a document, which tells of each; its rows are laid out once there is memory again. */
 static void document_types_what_is_spare(void)
 {
-    size_t places, left;
+    size_t places, left, count;
+    bidigrid_change change;
     a_shown_document();
     CHECK(bidigrid_document_reserve(&document, 2 * MANY) == BIDIGRID_OK);
     CHECK(bidigrid_document_length(&document, &places) == BIDIGRID_OK);
@@ -186,7 +187,11 @@ static void document_types_what_is_spare(void)
     for (size_t number = 0; number < MANY; number++) {
         CHECK(document_types() == BIDIGRID_OK && size == BIDIGRID_TYPED_SIZE);
         CHECK(document_types() == BIDIGRID_OK && size == BIDIGRID_TYPED_SIZE);
+        CHECK(bidigrid_document_changes(&document, &change, 1, &count) == BIDIGRID_OK && count == 1);
+        CHECK(change.place == 7 && change.put && change.character == 0x5D0);
         CHECK(document_erases_one() == BIDIGRID_OK && size == BIDIGRID_ERASED_SIZE);
+        CHECK(bidigrid_document_changes(&document, &change, 1, &count) == BIDIGRID_OK && count == 1);
+        CHECK(change.place == 7 && !change.put && !change.character);
     }
     refuse_at(0);
     CHECK(bidigrid_document_length(&document, &left) == BIDIGRID_OK && left == places + MANY);

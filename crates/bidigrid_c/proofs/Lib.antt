@@ -1,3 +1,4 @@
+mod Edited
 mod Erased
 mod Filled
 mod FromNone

@@ -23,12 +23,13 @@ use Rattle.bidigrid_c.specs.declared.numbers.PositionNumbers.{PositionNumbers}
 use Rattle.bidigrid_c.specs.declared.numbers.Taken.{Taken}
 use Rattle.bidigrid_c.specs.declared.numbers.WindowNumbers.{WindowNumbers}
 use Rattle.bidigrid_c.specs.Bases.{base_of}
+use Rattle.bidigrid_c.specs.Changes.{edit_changes}
 use Rattle.bidigrid_c.specs.Copying.{AreListed}
 use Rattle.bidigrid_c.specs.Desks.{IsTakenUpTo, IsMessageTaken, IsUnread, IsMergedWith}
 use Rattle.bidigrid_c.specs.Drawing.{IsWidth}
 use Rattle.bidigrid_c.specs.Numbers.{IsSite, change_numbers, none_taken, position_numbers, position_with, window_numbers}
 
--- nothing is told of a take or merge
+-- nothing is told of an edit, a take or a merge
 pub record IsSilent (d : ToldDocument) : Type 0 where
   pub told : d.told.items ≡ []
   pub all : d.lost ≡ false
@@ -90,11 +91,17 @@ pub record IsPaidFor (old : ToldDocument) (operations : ℕ) (new : ToldDocument
 
 -- ---- edited
 
--- a document was edited: it is drawn as before, nothing is shown, and nothing told
-pub record IsEdited (old new : ToldDocument) : Type 0 where
+-- a document was changed: it is drawn as before, and nothing is shown
+pub record IsHidden (old new : ToldDocument) : Type 0 where
   pub drawn : IsDrawnAlike old.document new.document
   pub hidden : new.document.window ≡ no_window
-  pub silent : IsSilent new
+
+-- a document was edited: these characters stand in the place of those from one place up to another. Unless there was no memory
+-- for it, it tells that as changes, and these lead from the text before to the text now
+pub record IsEdited (old : ToldDocument) (from to : ℕ) (typed : List ℕ) (new : ToldDocument) : Type 0 where
+  pub hidden : IsHidden old new
+  pub told : new.lost ≡ false → new.told.items ≡ edit_changes from to typed
+  pub edit : new.lost ≡ false → IsEdit (text old.document.desk.set) new.told.items (text new.document.desk.set)
 
 -- ---- taking and merging
 

@@ -1,4 +1,5 @@
 pub mod Bases
+pub mod Changes
 pub mod Copying
 pub mod Desks
 pub mod Documents

@@ -168,7 +168,10 @@ fn laid_out(
     let Ok(document) = Document::of(alloc, desk, tables, width, base) else {
         return Err(MEMORY);
     };
-    match Box::new(alloc, ToldDocument::of(alloc, document)) {
+    let Ok(told) = ToldDocument::of(alloc, document) else {
+        return Err(MEMORY);
+    };
+    match Box::new(alloc, told) {
         Ok(boxed) => Ok(boxed),
         Err(_) => Err(MEMORY),
     }

@@ -1,4 +1,4 @@
-//! What the last take or merge of a document changed in its text.
+//! What the last edit, take or merge of a document changed in its text.
 
 ghost use Rattle.std.specs.Prelude.{◌≡◌, ◌≤◌, ◌++◌, None, drop, length, map};
 ghost use Rattle.std.specs.Option.{IfSome};
@@ -12,7 +12,7 @@ use crate::told_document::ToldDocument;
 use bg_types::Change;
 use std::alloc::Global;
 
-/// Tells what the last take or merge changed in the text, in order.
+/// Tells what the last edit, take or merge changed in the text, in order.
 #[unsafe(no_mangle)]
 pub extern "C" fn bidigrid_document_changes(
     alloc: Global,

@@ -1,13 +1,13 @@
 //! Edits of documents: a text is typed, characters are erased or replaced.
 
-ghost use Rattle.std.specs.Prelude.{◌≡◌, ◌<◌, ◌≤◌, ◌+◌, ◌-◌, None, length};
+ghost use Rattle.std.specs.Prelude.{◌≡◌, ◌<◌, ◌≤◌, ◌+◌, ◌-◌, [], None, length};
 ghost use Rattle.std.specs.Option.{IfSome};
 ghost use Rattle.std.specs.Str.{chars, IsUtf8};
 ghost use Rattle.rga_tree.specs.TextOf.{visible};
 ghost use Rattle.bidigrid_c.specs.declared.keystroke.Keystroke.TheVariants.{Typed};
 ghost use Rattle.bidigrid_c.specs.Keystrokes.{IsKeystroke};
 ghost use Rattle.bidigrid_c.specs.Desks.{HasRoomFor, IsErased, IsReplaced, IsTyped, IsRefusedErasing, IsRefusedExchange, IsRefusedReplacing, IsUnerased, IsUntyped, IsUnwritten};
-ghost use Rattle.bidigrid_c.specs.Documents.{IsEdited};
+ghost use Rattle.bidigrid_c.specs.Documents.{IsEdited, IsHidden};
 
 use crate::document_handle::DocumentHandle;
 use crate::draft::{Draft, code_points, refusal_of};
@@ -28,7 +28,7 @@ pub extern "C" fn bidigrid_document_insert(
     out: &mut [u8],
     size: &mut usize,
 ) -> u32
-    ensures ok { result ≡ 0 → IfSome document.old.held (λ d. IfSome document.new.held (λ e. IsReplaced d.document.desk place place (chars text.now) e.document.desk out.old out.new size.new × IsEdited d e)) }
+    ensures ok { result ≡ 0 → IfSome document.old.held (λ d. IfSome document.new.held (λ e. IsReplaced d.document.desk place place (chars text.now) e.document.desk out.old out.new size.new × IsEdited d place place (chars text.now) e)) }
     ensures utf8 { result ≡ 0 → IsUtf8 text.now }
     ensures err { (result ≡ 0 → ⊥) → (document.new.held ≡ document.old.held) × IsUnwritten out.old out.new size.new result }
     ensures fault { (result ≡ 0 → ⊥) → IfSome document.old.held (λ d. IsRefusedReplacing d.document.desk place place text.now (length out.old) size.new result) }
@@ -54,7 +54,7 @@ pub extern "C" fn bidigrid_document_erase(
     out: &mut [u8],
     size: &mut usize,
 ) -> u32
-    ensures ok { result ≡ 0 → IfSome document.old.held (λ d. IfSome document.new.held (λ e. IsErased d.document.desk from to e.document.desk out.old out.new size.new × IsEdited d e)) }
+    ensures ok { result ≡ 0 → IfSome document.old.held (λ d. IfSome document.new.held (λ e. IsErased d.document.desk from to e.document.desk out.old out.new size.new × IsEdited d from to [] e)) }
     ensures err { (result ≡ 0 → ⊥) → (document.new.held ≡ document.old.held) × IsUnwritten out.old out.new size.new result }
     ensures fault { (result ≡ 0 → ⊥) → IfSome document.old.held (λ d. IsRefusedErasing d.document.desk from to (length out.old) size.new result) }
     ensures empty { document.old.held ≡ None → (result ≡ 101) × (document.new.held ≡ None) }
@@ -81,7 +81,7 @@ pub extern "C" fn bidigrid_document_replace(
     out: &mut [u8],
     size: &mut usize,
 ) -> u32
-    ensures ok { result ≡ 0 → IfSome document.old.held (λ d. IfSome document.new.held (λ e. IsReplaced d.document.desk from to (chars text.now) e.document.desk out.old out.new size.new × IsEdited d e)) }
+    ensures ok { result ≡ 0 → IfSome document.old.held (λ d. IfSome document.new.held (λ e. IsReplaced d.document.desk from to (chars text.now) e.document.desk out.old out.new size.new × IsEdited d from to (chars text.now) e)) }
     ensures utf8 { result ≡ 0 → IsUtf8 text.now }
     ensures err { (result ≡ 0 → ⊥) → (document.new.held ≡ document.old.held) × IsUnwritten out.old out.new size.new result }
     ensures fault { (result ≡ 0 → ⊥) → IfSome document.old.held (λ d. IsRefusedReplacing d.document.desk from to text.now (length out.old) size.new result) }
@@ -107,7 +107,7 @@ fn replace_in(
     out: &mut [u8],
     size: &mut usize,
 ) -> u32
-    ensures ok { result ≡ 0 → IsReplaced held.old.document.desk from to (chars text.now) held.new.document.desk out.old out.new size.new × IsEdited held.old held.new }
+    ensures ok { result ≡ 0 → IsReplaced held.old.document.desk from to (chars text.now) held.new.document.desk out.old out.new size.new × IsEdited held.old from to (chars text.now) held.new }
     ensures utf8 { result ≡ 0 → IsUtf8 text.now }
     ensures err { (result ≡ 0 → ⊥) → (held.new ≡ held.old) × IsUnwritten out.old out.new size.new result }
     ensures fault { (result ≡ 0 → ⊥) → IsRefusedReplacing held.old.document.desk from to text.now (length out.old) size.new result }
@@ -127,15 +127,14 @@ fn erase_in(
     out: &mut [u8],
     size: &mut usize,
 ) -> u32
-    ensures ok { result ≡ 0 → IsErased held.old.document.desk from to held.new.document.desk out.old out.new size.new × IsEdited held.old held.new }
+    ensures ok { result ≡ 0 → IsErased held.old.document.desk from to held.new.document.desk out.old out.new size.new × IsEdited held.old from to [] held.new }
     ensures err { (result ≡ 0 → ⊥) → (held.new ≡ held.old) × IsUnwritten out.old out.new size.new result }
     ensures fault { (result ≡ 0 → ⊥) → IsRefusedErasing held.old.document.desk from to (length out.old) size.new result }
 {
     exchange_in(alloc, held, from, to, "", out, size)
 }
 
-/// Puts a text in the place of characters. One character is typed or erased without memory for its message.
-#[tactic(auto, using(crate::proofs::Keystrokes::erased_place, crate::proofs::Keystrokes::erased_room, crate::proofs::Keystrokes::erased_key, crate::proofs::Keystrokes::unerased_exchange))]
+/// Puts a text in the place of characters, and tells what that changed.
 fn exchange_in(
     alloc: Global,
     held: &mut ToldDocument,
@@ -145,7 +144,30 @@ fn exchange_in(
     out: &mut [u8],
     size: &mut usize,
 ) -> u32
-    ensures ok { result ≡ 0 → IsReplaced held.old.document.desk from to (chars text.now) held.new.document.desk out.old out.new size.new × IsEdited held.old held.new }
+    ensures ok { result ≡ 0 → IsReplaced held.old.document.desk from to (chars text.now) held.new.document.desk out.old out.new size.new × IsEdited held.old from to (chars text.now) held.new }
+    ensures err { (result ≡ 0 → ⊥) → (held.new ≡ held.old) × IsUnwritten out.old out.new size.new result }
+    ensures fault { (result ≡ 0 → ⊥) → IsRefusedExchange held.old.document.desk from to (length (chars text.now)) (length out.old) size.new result }
+{
+    let answer = exchange_untold(alloc, held, from, to, text, out, size);
+    if answer != OK {
+        return answer;
+    }
+    held.tell_edit(from, to, text);
+    OK
+}
+
+/// Puts a text in the place of characters. One character is typed or erased without memory for its message.
+#[tactic(auto, using(crate::proofs::Keystrokes::erased_place, crate::proofs::Keystrokes::erased_room, crate::proofs::Keystrokes::erased_key, crate::proofs::Keystrokes::unerased_exchange))]
+fn exchange_untold(
+    alloc: Global,
+    held: &mut ToldDocument,
+    from: usize,
+    to: usize,
+    text: &str,
+    out: &mut [u8],
+    size: &mut usize,
+) -> u32
+    ensures ok { result ≡ 0 → IsReplaced held.old.document.desk from to (chars text.now) held.new.document.desk out.old out.new size.new × IsHidden held.old held.new }
     ensures err { (result ≡ 0 → ⊥) → (held.new ≡ held.old) × IsUnwritten out.old out.new size.new result }
     ensures fault { (result ≡ 0 → ⊥) → IsRefusedExchange held.old.document.desk from to (length (chars text.now)) (length out.old) size.new result }
 {
@@ -173,13 +195,12 @@ fn type_one_in(
     requires place { place ≤ length (visible held.old.document.desk.set) }
     requires room { 24 ≤ length out.old }
     ensures ok { result ≡ 0 → IsTyped held.old.document.desk place ch held.new.document.desk out.old out.new size.new }
-    ensures edited { result ≡ 0 → IsEdited held.old held.new }
+    ensures hidden { result ≡ 0 → IsHidden held.old held.new }
     ensures err { (result ≡ 0 → ⊥) → (held.new ≡ held.old) × (out.new ≡ out.old) × (size.new ≡ size.old) }
     ensures fault { (result ≡ 0 → ⊥) → IsUntyped held.old.document.desk result }
 {
     match held.document.type_char(place, ch) {
         Ok(op) => {
-            held.forget();
             *size = encode_one(&op, out);
             OK
         }
@@ -194,13 +215,12 @@ fn erase_one_in(held: &mut ToldDocument, place: usize, out: &mut [u8], size: &mu
     requires place { place < length (visible held.old.document.desk.set) }
     requires room { 14 ≤ length out.old }
     ensures ok { result ≡ 0 → IsErased held.old.document.desk place (place + 1) held.new.document.desk out.old out.new size.new }
-    ensures edited { result ≡ 0 → IsEdited held.old held.new }
+    ensures hidden { result ≡ 0 → IsHidden held.old held.new }
     ensures err { (result ≡ 0 → ⊥) → (held.new ≡ held.old) × (out.new ≡ out.old) × (size.new ≡ size.old) }
     ensures fault { (result ≡ 0 → ⊥) → IsUnerased held.old.document.desk result }
 {
     match held.document.erase_at(place) {
         Ok(op) => {
-            held.forget();
             *size = encode_one(&op, out);
             OK
         }
@@ -221,7 +241,7 @@ fn type_key_in(
 ) -> u32
     requires room { HasRoomFor held.old.document.desk from to (length (chars text.now)) (length out.old) }
     requires key { IsKeystroke (to - from) (chars text.now) (Typed ch) }
-    ensures ok { result ≡ 0 → IsReplaced held.old.document.desk from to (chars text.now) held.new.document.desk out.old out.new size.new × IsEdited held.old held.new }
+    ensures ok { result ≡ 0 → IsReplaced held.old.document.desk from to (chars text.now) held.new.document.desk out.old out.new size.new × IsHidden held.old held.new }
     ensures err { (result ≡ 0 → ⊥) → (held.new ≡ held.old) × (out.new ≡ out.old) × (size.new ≡ size.old) }
     ensures fault { (result ≡ 0 → ⊥) → IsRefusedExchange held.old.document.desk from to (length (chars text.now)) (length out.old) size.new result }
 {
@@ -241,7 +261,7 @@ fn exchange_many_in(
 ) -> u32
     requires room { HasRoomFor held.old.document.desk from to (length (chars text.now)) (length out.old) }
     requires many { (to - from) + length (chars text.now) ≡ 1 → ⊥ }
-    ensures ok { result ≡ 0 → IsReplaced held.old.document.desk from to (chars text.now) held.new.document.desk out.old out.new size.new × IsEdited held.old held.new }
+    ensures ok { result ≡ 0 → IsReplaced held.old.document.desk from to (chars text.now) held.new.document.desk out.old out.new size.new × IsHidden held.old held.new }
     ensures err { (result ≡ 0 → ⊥) → (held.new ≡ held.old) × (out.new ≡ out.old) × (size.new ≡ size.old) }
     ensures fault { (result ≡ 0 → ⊥) → IsRefusedExchange held.old.document.desk from to (length (chars text.now)) (length out.old) size.new result }
 {
@@ -250,7 +270,6 @@ fn exchange_many_in(
     };
     match held.document.replace(from, to, text, &mut draft.ops) {
         Ok(()) => {
-            held.forget();
             draft.write(out, size);
             OK
         }

@@ -15,6 +15,7 @@ mod document_merging;
 mod document_reading;
 mod document_taking;
 mod draft;
+mod edit_changes;
 mod fault;
 mod keystroke;
 mod numbers;

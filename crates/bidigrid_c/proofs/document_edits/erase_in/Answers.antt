@@ -2,6 +2,7 @@
 use Rattle.std.proofs.Common.{ℕ, List, length, subst}
 use Rattle.std.proofs.lemmas.Str.{chars-nil}
 use Rattle.bidigrid_c.specs.Desks.{IsReplaced, IsRefusedExchange}
+use Rattle.bidigrid_c.specs.Documents.{IsEdited}
 use Rattle.bidigrid_c.proofs.Erased.{erased_stretch, not_erased}
 use Rattle.bidigrid_c.proofs.document_edits.erase_in.Goals as goal
 
@@ -13,7 +14,7 @@ returns-clause-ok c =
     λ done. (
       erased_stretch old new c.args.from c.args.to c.args.out.now it.new.out it.new.size
           (subst (λ (typed : List ℕ). IsReplaced old c.args.from c.args.to typed new c.args.out.now it.new.out it.new.size) chars-nil (it.ensures.ok done).0),
-      (it.ensures.ok done).1,
+      subst (λ (typed : List ℕ). IsEdited c.args.held.now c.args.from c.args.to typed it.new.held) chars-nil (it.ensures.ok done).1,
     )
 
 pub returns-clause-fault : goal.returns-clause-fault

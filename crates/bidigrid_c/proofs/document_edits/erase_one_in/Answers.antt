@@ -1,8 +1,6 @@
 -- The message of the deletion stands at the front of the buffer.
-use Rattle.std.proofs.Common.{◌≤◌, ◌+◌, [], ◌∷◌, length, refl, sym, subst, arith}
+use Rattle.std.proofs.Common.{◌≤◌, [], ◌∷◌, length, refl, arith}
 use Rattle.op_codec.specs.Spelling.{spelling}
-use Rattle.live_document.specs.Documents.{LiveDocument}
-use Rattle.bidigrid_c.specs.Desks.{IsErased}
 use Rattle.bidigrid_c.proofs.Erased.{erased_most, erased_one}
 use Rattle.bidigrid_c.proofs.Messages.{copied_one}
 use Rattle.bidigrid_c.proofs.document_edits.erase_one_in.Goals as goal
@@ -18,5 +16,4 @@ returns-in-Ok-clause-ok c =
     let told = c.encode_one.result in
     let room : length (spelling (op ∷ [])) ≤ length before = omega (arith, erased_most old.set new.set place op c.in-Ok.ensures.op, c.requires.room) in
     let copied = copied_one op op before after told refl room c.encode_one.ensures.written c.encode_one.ensures.size in
-    λ _. subst (λ (d : LiveDocument). IsErased old place (place + 1) d.desk before after told) (sym c.forget.ensures.document)
-    (erased_one old new place op before after told c.in-Ok.ensures.op c.in-Ok.ensures.accepted c.in-Ok.ensures.site c.in-Ok.ensures.spare copied)
+    λ _. erased_one old new place op before after told c.in-Ok.ensures.op c.in-Ok.ensures.accepted c.in-Ok.ensures.site c.in-Ok.ensures.spare copied

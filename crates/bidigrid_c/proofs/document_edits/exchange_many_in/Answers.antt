@@ -1,10 +1,8 @@
 -- The message of the operations fits.
-use Rattle.std.proofs.Common.{◌≤◌, ◌-◌, ◌++◌, List, length, ap, ◌∙◌, arith}
+use Rattle.std.proofs.Common.{◌-◌, ◌++◌, List, length, ap, ◌∙◌, arith}
 use Rattle.std.specs.Str.{chars}
 use Rattle.bg_types.specs.declared.op.OpView.{OpView}
-use Rattle.rga_tree.specs.TextOf.{visible}
 use Rattle.op_codec.specs.Spelling.{spelling}
-use Rattle.desk_replica.specs.Desk.{Desk}
 use Rattle.desk_replica.specs.Stretch.{replacement}
 use Rattle.bidigrid_c.proofs.Messages.{replaced_fits, replaced_length}
 use Rattle.bidigrid_c.proofs.document_edits.exchange_many_in.Goals as goal

@@ -9,5 +9,5 @@ returns-clause-ok c =
     let old = c.args.held.now.document.desk in
     λ done. (
       typed_exchange old it.new.held.document.desk c.args.from c.args.to c.args.ch (chars c.args.text.now) c.args.out.now it.new.out it.new.size c.requires.room c.requires.key (it.ensures.ok done),
-      it.ensures.edited done,
+      it.ensures.hidden done,
     )
