@@ -138,6 +138,12 @@ fn what_is_kept_stays_but_for_what_is_made_anew(rt: HostRuntime) {
                 lines: 1_100,
                 edits: 6,
             },
+            // Blocks that are joined.
+            Keeping {
+                seed: 23,
+                lines: 700,
+                edits: 12,
+            },
         ],
     );
 }
@@ -188,6 +194,16 @@ fn many_paragraphs_become_one(rt: HostRuntime) {
                 lines: 1_100,
                 place: 300,
                 by: 60,
+            },
+            Shrinking {
+                lines: 700,
+                place: 0,
+                by: 37,
+            },
+            Shrinking {
+                lines: 700,
+                place: 700,
+                by: 37,
             },
         ],
     );
