@@ -1,14 +1,14 @@
 -- Rows that are dropped, and how many are kept then.
-use Rattle.std.proofs.Common.{◌≡◌, ℕ, zero, suc, ◌+◌, ◌-◌, ◌<◌, ◌≤◌, inl, inr, Bool, true, false, None, Some, Option, List, [], ◌∷◌, ◌++◌, length, get_or, map, take, drop, replicate, slice_range, flat_map, refl, sym, ap, ap₂, subst, ◌∙◌, arith, length-append}
+use Rattle.std.proofs.Common.{◌≡◌, ℕ, zero, suc, ◌+◌, ◌-◌, ◌<◌, ◌≤◌, ◌⊎◌, inl, inr, Bool, true, false, None, Some, Option, List, [], ◌∷◌, ◌++◌, length, get_or, map, take, drop, replicate, slice_range, flat_map, refl, sym, ap, ap₂, subst, ◌∙◌, arith, length-append}
 use Rattle.std.proofs.lemmas.Bool.{cases_lt}
-use Rattle.std.proofs.lemmas.List.{take-map, drop-map, length-map, get_or-append_right, get_or_append_left, drop-drop, length-drop, length-take-le, take-append-drop}
+use Rattle.std.proofs.lemmas.List.{take-map, drop-map, length-map, get_or-append_right, get_or_append_left, drop-drop, length-drop, length-take-le}
 use Rattle.std.proofs.lemmas.List.Concat.{flat_map-cons}
 use Rattle.std.proofs.lemmas.List.Edits.{split_between, length-between, get_or-between}
 use Rattle.std.proofs.lemmas.List.Elements.{All-append, All-take, All-drop, All-head, All-tail}
-use Rattle.std.proofs.lemmas.List.Sums.{sum_by-cons}
+use Rattle.std.proofs.lemmas.List.Sums.{sum_by-cons, sum_by-append, sum_by-take-drop}
 use Rattle.std.specs.List.{All}
 use Rattle.std.specs.Option.{option_map_or}
-use Rattle.std.specs.Prelude.{Result, Ok, Err, is_some, option_map, IfSome, IfOk, IfErr, OnOk, OnErr}
+use Rattle.std.specs.Prelude.{sum_by, max, Result, Ok, Err, is_some, option_map, IfSome, IfOk, IfErr, OnOk, OnErr}
 use Rattle.bg_types.specs.OperationSet.{OperationSet}
 use Rattle.bg_types.specs.declared.class.Base.{Base}
 use Rattle.unicode_tables.specs.Tables.{TableValues}
@@ -21,7 +21,7 @@ use Rattle.text_buffer.specs.declared.fault.BufferFault.{BufferFault}
 use Rattle.text_buffer.specs.declared.fault.Stopped.{Stopped}
 use Rattle.text_buffer.specs.declared.touched.Touched.{Touched}
 use Rattle.live_document.specs.Keeping.{Rows, KeptText, rows_of_text, rows_of_texts, rows_beside, rows_held, IsLaid, flags, is_kept}
-use Rattle.live_document.specs.Cost.{rows_kept}
+use Rattle.live_document.specs.Cost.{marks, rows_kept}
 use Rattle.live_document.specs.Documents.{counted, paragraphs_of}
 use Rattle.live_document.specs.Showing.{rows_from, window_in, IsAtHand}
 use Rattle.live_document.specs.declared.shown.Shown.{Shown}
@@ -32,28 +32,41 @@ flags-both : (xs ys : KeptText) → flags (xs ++ ys) ≡ flags xs ++ flags ys
 flags-both [] ys = refl
 flags-both (x ∷ xs) ys = ap (λ later. is_some x.kept ∷ later) (flags-both xs ys)
 
+-- ---- a sum over paragraphs, to which one adds nothing where nothing is kept of it
+
+module _ {K : Type 0} (f : KeptParagraph K → ℕ) (bare : (points : List ℕ) → f (anew points) ≡ 0) where
+  pub sum-anew : (texts : List (List ℕ)) → sum_by f (map (anew {K = K}) texts) ≡ 0
+  sum-anew [] = omega arith
+  sum-anew (t ∷ texts) =
+      let a = sum_by-cons f (anew t) (map anew texts) in
+      let none = bare t in
+      let h = sum-anew texts in
+      omega arith
+
+  -- an edit makes it no greater
+  pub sum-touched : (old new : List (KeptParagraph K)) (from to : ℕ) (t : Touched) → IsTouched old from to t new → sum_by f new ≤ sum_by f old
+  sum-touched old new from to t h =
+      let rest = drop (t.first + t.old) old in
+      let is = ap (sum_by f) h.paragraphs in
+      let a = sum_by-append f (take t.first old) (map anew h.made ++ rest) in
+      let b = sum_by-append f (map anew h.made) rest in
+      let c = sum-anew h.made in
+      let front = sum_by-take-drop f old t.first in
+      let back = sum_by-take-drop f (drop t.first old) t.old in
+      let there = ap (sum_by f) (drop-drop t.old t.first old) in
+      omega arith
+
+  pub sum-in_turn : (old new : List (KeptParagraph K)) (steps : List Step) → IsTouchedInTurn old steps new → sum_by f new ≤ sum_by f old
+  sum-in_turn old new [] same = let e = ap (sum_by f) same in omega arith
+  sum-in_turn old new (s ∷ steps) h =
+      let one = sum-touched old h.0 s.from s.to s.touched h.1 in
+      let later = sum-in_turn h.0 new steps h.2 in
+      omega arith
+
 -- ---- how many rows are kept
 
-held-both : (xs ys : KeptText) → rows_held (xs ++ ys) ≡ rows_held xs + rows_held ys
-held-both [] ys = omega arith
-held-both (x ∷ xs) ys =
-    let a = held-cons x (xs ++ ys) in
-    let b = held-cons x xs in
-    let h = held-both xs ys in
-    omega arith
-
-pub held-anew : (texts : List (List ℕ)) → rows_held (map (anew {K = Rows}) texts) ≡ 0
-held-anew [] = omega arith
-held-anew (t ∷ texts) =
-    let a = held-cons (anew t) (map anew texts) in
-    let none : length (rows_beside (anew {K = Rows} t)) ≡ 0 = refl in
-    let h = held-anew texts in
-    omega arith
-
-held-drop : (n : ℕ) (kept : KeptText) → rows_held (drop n kept) ≤ rows_held kept
-held-drop zero kept = omega arith
-held-drop (suc n) [] = omega arith
-held-drop (suc n) (p ∷ kept) = let a = held-cons p kept in let h = held-drop n kept in omega arith
+abbrev own_held : KeptParagraph Rows → ℕ
+own_held p = length (rows_beside p)
 
 -- nothing is kept of any of them
 pub held-none : (kept new : KeptText) → kept_in new ≡ forgotten (kept_in kept) → rows_held new ≡ 0
@@ -66,36 +79,17 @@ held-none (p ∷ kept) (q ∷ new) e =
     omega arith
 
 -- an edit keeps no more
-pub held-touched : (old new : KeptText) (from to : ℕ) (t : Touched) → IsTouched old from to t new → rows_held new ≤ rows_held old
-held-touched old new from to t h =
-    let rest = drop (t.first + t.old) old in
-    let is = ap rows_held h.paragraphs in
-    let a = held-both (take t.first old) (map anew h.made ++ rest) in
-    let b = held-both (map anew h.made) rest in
-    let c = held-anew h.made in
-    let whole = ap rows_held (take-append-drop t.first old) in
-    let d = held-both (take t.first old) (drop t.first old) in
-    let e : t.first + t.old ≡ t.old + t.first = omega arith in
-    let f = ap (λ n. rows_held (drop n old)) e in
-    let g = ap rows_held (drop-drop t.old t.first old) in
-    let k = held-drop t.old (drop t.first old) in
-    omega arith
-
-pub held-in_turn : (old new : KeptText) (steps : List Step) → IsTouchedInTurn old steps new → rows_held new ≤ rows_held old
-held-in_turn old new [] same = let e = ap rows_held same in omega arith
-held-in_turn old new (s ∷ steps) h =
-    let one = held-touched old h.0 s.from s.to s.touched h.1 in
-    let later = held-in_turn h.0 new steps h.2 in
-    omega arith
-
 pub held-after : (old new : KeptText) (from to : ℕ) (r : Result Touched BufferFault) → IfOk r (λ t. IsTouched old from to t new) → OnErr r (new ≡ old) → rows_held new ≤ rows_held old
-held-after old new from to (Ok t) touched same = held-touched old new from to t touched
+held-after old new from to (Ok t) touched same = sum-touched own_held (λ points. refl) old new from to t touched
 held-after old new from to (Err e) touched same = let h = ap rows_held same in omega arith
 
 pub held-all : (old new : KeptText) (changes : List Change) (r : Result (Unit {0}) Stopped) → OnOk r (AreTouched old changes new) → IfErr r (λ s. AreTouched old (take s.made changes) new)
     → rows_held new ≤ rows_held old
-held-all old new changes (Ok u) all begun = held-in_turn old new all.steps all.touched
-held-all old new changes (Err s) all begun = held-in_turn old new begun.steps begun.touched
+held-all old new changes (Ok u) all begun = sum-in_turn own_held (λ points. refl) old new all.steps all.touched
+held-all old new changes (Err s) all begun = sum-in_turn own_held (λ points. refl) old new begun.steps begun.touched
+
+pub held-anew : (texts : List (List ℕ)) → rows_held (map (anew {K = Rows}) texts) ≡ 0
+held-anew texts = sum-anew own_held (λ points. refl) texts
 
 -- no more than the paragraphs have
 module _ (tables : TableValues) (width : ℕ) (base : Base) where
@@ -187,8 +181,8 @@ module _ (old new : KeptText) (from to : ℕ) (order : from ≤ to) (within : to
   pub held-but : rows_held new ≡ rows_held (slice_range old from to)
   held-but =
       let is = ap rows_held but-is in
-      let a = held-both (bare (take from old)) (slice_range old from to ++ bare (drop to old)) in
-      let b = held-both (slice_range old from to) (bare (drop to old)) in
+      let a = sum_by-append own_held (bare (take from old)) (slice_range old from to ++ bare (drop to old)) in
+      let b = sum_by-append own_held (slice_range old from to) (bare (drop to old)) in
       let c = held-anew (paragraphs_in (take from old)) in
       let d = held-anew (paragraphs_in (drop to old)) in
       omega arith
@@ -260,17 +254,58 @@ kept-held (p ∷ kept) =
     let later = kept-held kept in
     omega arith
 
-kept-anew : (texts : List (List ℕ)) → rows_kept (map (anew {K = ℕ}) texts) ≡ 0
-kept-anew [] = omega arith
-kept-anew (t ∷ texts) =
-    let a = sum_by-cons (λ (q : KeptParagraph ℕ). option_map_or (λ (rows : ℕ). rows) q.kept 0) (anew {K = ℕ} t) (map anew texts) in
-    let h = kept-anew texts in
-    omega arith
+-- ---- the same of what is seen
+
+abbrev own_kept : KeptParagraph ℕ → ℕ
+own_kept p = option_map_or (λ (rows : ℕ). rows) p.kept 0
 
 -- what is behind keeps nothing
 pub none-behind : (behind : Bool) (tables : TableValues) (set : OperationSet) (kept : KeptText) → (behind ≡ false → ⊥) → rows_kept (paragraphs_of behind tables set kept) ≡ 0
-none-behind true tables set kept h = kept-anew (paragraph_points tables (text set))
+none-behind true tables set kept h = sum-anew own_kept (λ points. refl) (paragraph_points tables (text set))
 none-behind false tables set kept h = absurd (h refl)
+
+own-none : (o : Option ℕ) → (is_some o ≡ true → ⊥) → option_map_or (λ (rows : ℕ). rows) o 0 ≡ 0
+own-none None h = refl
+own-none (Some n) h = absurd (h refl)
+
+front-none : (ps : List (KeptParagraph ℕ)) (n : ℕ) → ((k : ℕ) → is_kept (marks ps) k ≡ true → n ≤ k) → rows_kept (take n ps) ≡ 0
+front-none ps zero h = omega arith
+front-none [] (suc n) h = omega arith
+front-none (p ∷ ps) (suc n) h =
+    let a = sum_by-cons own_kept p (take n ps) in
+    let own = own-none p.kept (λ is. (let low = h 0 is in absurd (omega arith))) in
+    let later = front-none ps n (λ k there. (let low = h (suc k) there in omega arith)) in
+    omega arith
+
+back-none : (ps : List (KeptParagraph ℕ)) (n : ℕ) → ((k : ℕ) → is_kept (marks ps) k ≡ true → k < n) → rows_kept (drop n ps) ≡ 0
+back-none [] zero h = omega arith
+back-none [] (suc n) h = omega arith
+back-none (p ∷ ps) zero h =
+    let a = sum_by-cons own_kept p ps in
+    let own = own-none p.kept (λ is. (let high = h 0 is in absurd (omega arith))) in
+    let later = back-none ps zero (λ k there. (let high = h (suc k) there in absurd (omega arith))) in
+    omega arith
+back-none (p ∷ ps) (suc n) h = back-none ps n (λ k there. (let high = h (suc k) there in omega arith))
+
+-- rows are kept of a stretch alone
+kept-inside : (ps : List (KeptParagraph ℕ)) (from to : ℕ) → from ≤ to → ((k : ℕ) → is_kept (marks ps) k ≡ true → (from ≤ k) × (k < to))
+    → rows_kept ps ≡ rows_kept (slice_range ps from to)
+kept-inside ps from to order inside =
+    let front = sum_by-take-drop own_kept ps from in
+    let back = sum_by-take-drop own_kept (drop from ps) (to - from) in
+    let e : from + (to - from) ≡ to = omega arith in
+    let there = ap rows_kept (drop-drop (to - from) from ps) in
+    let here = ap (λ n. rows_kept (drop n ps)) e in
+    let a = front-none ps from (λ k is. (inside k is).0) in
+    let b = back-none ps to (λ k is. (inside k is).1) in
+    omega arith
+
+-- after edits no more rows are kept than may be, or than a stretch had of which alone some were kept
+pub kept-edited : (old new : List (KeptParagraph ℕ)) (steps : List Step) (from to most : ℕ) → from ≤ to → IsTouchedInTurn old steps new
+    → (rows_kept old ≤ most) ⊎ ((k : ℕ) → is_kept (marks old) k ≡ true → (from ≤ k) × (k < to)) → rows_kept new ≤ max most (rows_kept (slice_range old from to))
+kept-edited old new steps from to most order touched held =
+    let less = sum-in_turn own_kept (λ points. refl) old new steps touched in
+    elim held [ inl few ↦ omega (arith, less, few) | inr inside ↦ (let own = kept-inside old from to order inside in omega (arith, less, own)) ]
 
 -- what holds after any fault
 pub on-err : {A E P : Type 0} (r : Result A E) → P → OnErr r P

@@ -1,8 +1,8 @@
 //! Laws of the definitions: each function's contract is the law, and its body does nothing.
 
-ghost use Rattle.std.specs.Prelude.{◌≡◌, ◌≤◌, ℕ, false, List, length};
+ghost use Rattle.std.specs.Prelude.{◌≡◌, ◌≤◌, ℕ, false, max, List, length, slice_range};
 ghost use Rattle.text_buffer.specs.Edits.{Step, IsTouchedInTurn};
-ghost use Rattle.live_document.specs.Cost.{unmarked, carried, stretch_marks, IsLaidOut};
+ghost use Rattle.live_document.specs.Cost.{allowed, rows_kept, unmarked, carried, stretch_marks, IsLaidOut};
 ghost use Rattle.live_document.specs.Documents.{LiveDocument, IsWindowOf};
 ghost use Rattle.live_document.specs.Runs.{DocumentCall, Shows, IsCall, IsRun};
 ghost use Rattle.live_document.specs.Showing.{no_window};
@@ -26,4 +26,12 @@ pub fn cost_law()
         → (one : IsLaidOut before shown place above below) → IsTouchedInTurn shown.paragraphs steps changed.paragraphs
         → (two : IsLaidOut changed after later_place later_above later_below)
         → after.laid ≤ unmarked (carried steps (stretch_marks one.first one.end (length shown.paragraphs))) two.first two.end }
+{}
+
+/// The memory law. After a window was laid out and then edits came, no more rows are kept than four such windows have, each of at
+/// least 64 rows, or than the window's paragraphs had.
+pub fn memory_law()
+    ensures { (before shown changed : LiveDocument) (steps : List Step) (place above below : ℕ)
+        → (one : IsLaidOut before shown place above below) → IsTouchedInTurn shown.paragraphs steps changed.paragraphs
+        → rows_kept changed.paragraphs ≤ max (allowed (length shown.window.rows)) (rows_kept (slice_range shown.paragraphs one.first one.end)) }
 {}
