@@ -67,7 +67,7 @@ static void tries_merging(void)
     bytes message = {out, 0};
     CHECK(insert(&one, 0, "a", &message) == BIDIGRID_OK && insert(&other, 0, "b", &message) == BIDIGRID_OK);
     CHECK(bidigrid_document_merge(&one, &other) == BIDIGRID_OK && has_text(&one, "ba") && has_text(&other, "b"));
-    CHECK(tells(&one, "0+b ") && tells(&other, ""));
+    CHECK(tells(&one, "0+b ") && tells(&other, "0+b "));
     CHECK(bidigrid_document_merge(&other, &one) == BIDIGRID_OK && has_text(&other, "ba") && tells(&other, "1+a "));
     CHECK(shows(&one, 0, 0, 0, 1, 0, "ba      \n"));
     /* With itself it stays as it is, and nothing is told. */
