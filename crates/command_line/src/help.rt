@@ -1,6 +1,7 @@
 //! What the help of the command line says.
 
-pub const ABOUT: &str = "Reads what several desks did to one text, and shows the text or draws it.\n\n\
+pub const ABOUT: &str =
+    "Reads what several desks did to one text, and shows the text or draws it.\n\n\
     Several desks edit one text, and each keeps what it did in operation files. Desks that hold\n\
     the same operations show the same text, whatever the order in which these came.";
 
