@@ -10,9 +10,6 @@ use desk_replica::Replica;
 use rga_sequence::Blocks as Elements;
 use std::alloc::Global;
 
-/// How many operations a desk keeps at most.
-pub const MOST_OPERATIONS: usize = 1_000_000;
-
 /// A desk of a run.
 pub type Desk = Replica<Elements>;
 

@@ -13,11 +13,11 @@ ghost use Rattle.desk_files.specs.Cause.{IsTakingCaused, step_fault_of};
 ghost use Rattle.desk_files.specs.TextOutcome.{IsTextOfFiles};
 ghost use Rattle.desk_files.specs.declared.run_fault.RunFault.TheVariants.{Memory as run_memory};
 
-use crate::desk::{Desk, MOST_OPERATIONS, let_go, new_desk, read_text};
+use crate::desk::{Desk, let_go, new_desk, read_text};
 use crate::reading::{PIECE, feed_piece, finish};
 use crate::run_fault::RunFault;
 use bg_types::{Id, Memory, Op, OpView, Place, laws as sets};
-use desk_replica::{TakeFault, laws as desks};
+use desk_replica::{MOST_OPERATIONS, TakeFault, laws as desks};
 use op_codec::{LONGEST_FILE, Source, Stream};
 use std::alloc::Global;
 use std::cmp::Reverse;
@@ -142,7 +142,7 @@ fn take_unless_more_come(
     ensures few { OnOk result (length waiting.new.items < 1_000_000) }
     ensures site { desk.new.site ≡ desk.old.site }
 {
-    if waiting.len() < MOST_OPERATIONS && came_out_of_order(waiting) {
+    if waiting.len() < MOST_OPERATIONS as usize && came_out_of_order(waiting) {
         return Ok(());
     }
     take_more(desk, refused, waiting)?;
@@ -187,7 +187,7 @@ fn keep_refusal(refused: &mut Option<TakeFault>, fault: TakeFault) -> Result<(),
 fn put_in_order(desk: &Desk, ops: &mut [Op])
     ensures { IsReordered desk.now.set ops.old ops.new }
 {
-    if came_out_of_order(ops) && ops.len() <= MOST_OPERATIONS - desk.op_count() {
+    if came_out_of_order(ops) && ops.len() <= MOST_OPERATIONS as usize - desk.op_count() {
         ops.sort_unstable_by_key(turn);
     }
 }

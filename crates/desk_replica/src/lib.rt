@@ -13,6 +13,6 @@ mod taking;
 mod world;
 
 pub use answer::{TakeFault, Taken, TypeFault};
-pub use replica::Replica;
+pub use replica::{MOST_OPERATIONS, Replica};
 pub use taking::{merge_at, take_at};
 pub use world::{Reply, Step, World, WorldFault, run_world};

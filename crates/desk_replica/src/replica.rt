@@ -30,7 +30,7 @@ use std::alloc::Global;
 use std::marker::Model;
 
 /// How many operations a desk keeps at most.
-const LIMIT: u32 = 1_000_000;
+pub const MOST_OPERATIONS: u32 = 1_000_000;
 
 /// One desk: a set of operations, read as a text. Operations come in any order and any number of
 /// times; those that wait for one that is not there yet are kept too.
@@ -141,7 +141,7 @@ impl<S: Sequence> Replica<S> {
         if self.greatest == u32::MAX {
             return Err(TypeFault::CounterSpent);
         }
-        if self.kept >= LIMIT {
+        if self.kept >= MOST_OPERATIONS {
             return Err(TypeFault::Full);
         }
         let op = self.make(place, ch);

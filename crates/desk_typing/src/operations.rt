@@ -12,8 +12,8 @@ ghost use Rattle.desk_typing.specs.Changing.{operations_of, Fits, IsUnfit};
 use crate::change::Change;
 use crate::typing_fault::TypingFault;
 use bg_types::Op;
-use desk_files::{Desk, MOST_OPERATIONS, RunFault};
-use desk_replica::{TypeFault, laws};
+use desk_files::{Desk, RunFault};
+use desk_replica::{MOST_OPERATIONS, TypeFault, laws};
 use std::alloc::Global;
 
 /// What the desk of a change's site makes by it: deletions, then the insertions of the characters. After a fault the
@@ -40,7 +40,7 @@ pub fn operations(
         return Err(TypingFault::PastEnd { place, erased });
     }
     let count = code_points(text);
-    let room = MOST_OPERATIONS - desk.op_count();
+    let room = MOST_OPERATIONS as usize - desk.op_count();
     if erased > room || count > room - erased {
         return Err(TypingFault::Full);
     }

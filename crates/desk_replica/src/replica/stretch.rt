@@ -9,7 +9,7 @@ ghost use Rattle.desk_replica.specs.Merging.{with_operations};
 ghost use Rattle.desk_replica.specs.Stretch.{typed_text, deletions, replacement, IsTextRefusal, IsTextRefused, IsRangeRefused, IsReplaceRefusal, IsReplaceRefused};
 ghost use Rattle.desk_replica.specs.declared.answer.TypeFault.{TypeFault as Untyped};
 
-use super::{LIMIT, Replica};
+use super::{MOST_OPERATIONS, Replica};
 use crate::answer::TypeFault;
 use crate::stretching::{erase_stretch, pay_for_typed, type_behind};
 use bg_types::{Memory, Op};
@@ -105,7 +105,7 @@ impl<S: Sequence> Replica<S> {
         if typed > (u32::MAX - self.greatest) as usize {
             return Err(TypeFault::CounterSpent);
         }
-        let room = (LIMIT - self.kept) as usize;
+        let room = (MOST_OPERATIONS - self.kept) as usize;
         if erased > room || typed > room - erased {
             return Err(TypeFault::Full);
         }

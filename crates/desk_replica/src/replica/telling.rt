@@ -9,7 +9,7 @@ ghost use Rattle.desk_replica.specs.Merging.{IsMergeRefusal, IsMergeRefused, is_
 ghost use Rattle.desk_replica.specs.Listening.{HasRoom, HasRoomFor, IsHeard};
 ghost use Rattle.desk_replica.specs.Telling.{IsTold, IsUntaken, ShowsAll, TellsAtMost, waiting_count};
 
-use super::{LIMIT, Replica};
+use super::{MOST_OPERATIONS, Replica};
 use crate::answer::{TakeFault, Taken};
 use crate::listener::Listener;
 use crate::placing::{Standing, admit, counter_of, look_up};
@@ -89,7 +89,7 @@ impl<S: Sequence> Replica<S> {
             Standing::Reused => return Err(TakeFault::IdentifierReused),
             Standing::New => {}
         }
-        if self.kept >= LIMIT {
+        if self.kept >= MOST_OPERATIONS {
             return Err(TakeFault::Full);
         }
         match admit(&mut self.seq, &mut self.held, &mut self.spare, op, listener) {

@@ -38,8 +38,8 @@ pub returns-in-Reused-clause-limited : goal.returns-in-Reused-clause-limited
 returns-in-Reused-clause-limited g c =
     desk_limited (g.S.Sequence.content c.self.inside.seq) c.self.inside.held c.self.inside.site c.self.inside.spare c.self.inside.kept c.self.inside.greatest c.args.self.now c.self.invariant.counted c.self.view_is
 
-pub returns-then-self-ge-LIMIT-clause-limited : goal.returns-then-self-ge-LIMIT-clause-limited
-returns-then-self-ge-LIMIT-clause-limited g c =
+pub returns-then-self-ge-MOST_OPERATIONS-clause-limited : goal.returns-then-self-ge-MOST_OPERATIONS-clause-limited
+returns-then-self-ge-MOST_OPERATIONS-clause-limited g c =
     desk_limited (g.S.Sequence.content c.self.inside.seq) c.self.inside.held c.self.inside.site c.self.inside.spare c.self.inside.kept c.self.inside.greatest c.args.self.now c.self.invariant.counted c.self.view_is
 
 pub returns-in-Known-clause-ok : goal.returns-in-Known-clause-ok
@@ -47,11 +47,11 @@ returns-in-Known-clause-ok g c =
     let h : Holds c.args.self.now.set c.args.op.now = subst (λ (d : Desk). Holds d.set c.args.op.now) c.self.view_is c.in-Known.ensures in
     sym (with_operation-known c.args.self.now.set c.args.op.now h)
 
-pub returns-then-self-ge-LIMIT-clause-answer : goal.returns-then-self-ge-LIMIT-clause-answer
-returns-then-self-ge-LIMIT-clause-answer g c =
+pub returns-then-self-ge-MOST_OPERATIONS-clause-answer : goal.returns-then-self-ge-MOST_OPERATIONS-clause-answer
+returns-then-self-ge-MOST_OPERATIONS-clause-answer g c =
     let kept = c.self.invariant.counted.kept_is in
     let limited = c.self.invariant.counted.limited in
-    let full = c.if-self-ge-LIMIT.true in
+    let full = c.if-self-ge-MOST_OPERATIONS.true in
     subst (λ (d : Desk). IsUntaken d.set c.args.op.now Full) c.self.view_is (c.in-New.ensures.0, c.in-New.ensures.1, omega (arith, kept, limited, full))
 
 pub invariant_of-self : goal.invariant_of-self
@@ -59,7 +59,7 @@ invariant_of-self g c =
     let t = g.S.Sequence.content c.self.inside.seq in
     let w = c.self.inside.held in
     let op = c.args.op.now in
-    let full = c.if-self-ge-LIMIT.false in
+    let full = c.if-self-ge-MOST_OPERATIONS.false in
     let k = c.self.invariant.counted.kept_is in
     let room : c.self.inside.kept < 1_000_000 = omega arith in
     let a : IsAdmitted (whole t w) op = record { joins = c.in-New.ensures.0; is_new = c.in-New.ensures.1; room = omega arith } in
@@ -73,7 +73,7 @@ returns-in-Ok-clause-limited g c =
     let grown = size-with_operation before c.args.op.now c.in-New.ensures.0 c.in-New.ensures.1 in
     let new = ap size c.in-Ok.ensures.ok in
     let kept = c.self.invariant.counted.kept_is in
-    let room = c.if-self-ge-LIMIT.false in
+    let room = c.if-self-ge-MOST_OPERATIONS.false in
     omega (arith, grown, new, kept, room)
 
 pub returns-in-Ok-clause-spare : goal.returns-in-Ok-clause-spare
@@ -88,7 +88,7 @@ returns-in-Ok-clause-spare g c =
 pub admit-requires-clause-admitted : goal.admit-requires-clause-admitted
 admit-requires-clause-admitted g c =
     let kept = c.self.invariant.counted.kept_is in
-    let room = c.if-self-ge-LIMIT.false in
+    let room = c.if-self-ge-MOST_OPERATIONS.false in
     record { joins = c.in-New.ensures.0; is_new = c.in-New.ensures.1; room = omega (arith, kept, room) }
 
 pub returns-in-Ok-clause-answer : goal.returns-in-Ok-clause-answer
@@ -97,7 +97,7 @@ returns-in-Ok-clause-answer g c = subst (λ (d : Desk). IsTaken d.set c.args.op.
 pub returns-in-Ok-clause-accepted : goal.returns-in-Ok-clause-accepted
 returns-in-Ok-clause-accepted g c =
     let kept = c.self.invariant.counted.kept_is in
-    let room = c.if-self-ge-LIMIT.false in
+    let room = c.if-self-ge-MOST_OPERATIONS.false in
     let before = whole (g.S.Sequence.content c.self.inside.seq) c.self.inside.held in
     subst (λ (d : Desk). (fault : TakeFault) → ¬ (IsRefusal d.set c.args.op.now fault)) c.self.view_is
     (admitted_accepted before c.args.op.now (record { joins = c.in-New.ensures.0; is_new = c.in-New.ensures.1; room = omega (arith, kept, room) }))
@@ -118,7 +118,7 @@ invariant_of-self-in-Err g c =
 pub returns-in-Err-clause-answer : goal.returns-in-Err-clause-answer
 returns-in-Err-clause-answer g c =
     let kept = c.self.invariant.counted.kept_is in
-    let room = c.if-self-ge-LIMIT.false in
+    let room = c.if-self-ge-MOST_OPERATIONS.false in
     subst (λ (d : Desk). IsAdmitted d.set c.args.op.now) c.self.view_is (record { joins = c.in-New.ensures.0; is_new = c.in-New.ensures.1; room = omega (arith, kept, room) })
 
 pub returns-in-Err-clause-err : goal.returns-in-Err-clause-err
@@ -178,8 +178,8 @@ returns-in-Reused-clause-heard g c =
     (well_formed_desk (g.S.Sequence.content c.self.inside.seq) c.self.inside.held c.self.inside.site c.self.inside.spare c.args.self.now (record { well = g.met.S.Sequence.well_formed c.self.inside.seq; tree = g.met.S.Sequence.is_tree c.self.inside.seq; only = g.met.S.Sequence.only_placed c.self.inside.seq }) c.self.invariant.settled c.self.view_is)
     refl refl (omega arith)
 
-pub returns-then-self-ge-LIMIT-clause-heard : goal.returns-then-self-ge-LIMIT-clause-heard
-returns-then-self-ge-LIMIT-clause-heard g c =
+pub returns-then-self-ge-MOST_OPERATIONS-clause-heard : goal.returns-then-self-ge-MOST_OPERATIONS-clause-heard
+returns-then-self-ge-MOST_OPERATIONS-clause-heard g c =
     let s = c.args.self.now.set in
     let told = g.L.Listener.told c.args.listener.now in
     let capacity = g.L.Listener.capacity c.args.listener.now in
@@ -219,8 +219,8 @@ returns-in-Known-clause-shows g c = λ no id h. h
 pub returns-in-Reused-clause-shows : goal.returns-in-Reused-clause-shows
 returns-in-Reused-clause-shows g c = λ no id h. h
 
-pub returns-then-self-ge-LIMIT-clause-shows : goal.returns-then-self-ge-LIMIT-clause-shows
-returns-then-self-ge-LIMIT-clause-shows g c = λ no id h. h
+pub returns-then-self-ge-MOST_OPERATIONS-clause-shows : goal.returns-then-self-ge-MOST_OPERATIONS-clause-shows
+returns-then-self-ge-MOST_OPERATIONS-clause-shows g c = λ no id h. h
 
 pub returns-in-Ok-clause-shows : goal.returns-in-Ok-clause-shows
 returns-in-Ok-clause-shows g c = λ no.

@@ -9,11 +9,11 @@ use Rattle.desk_replica.specs.Typing.{typed, insertion, IsTypedAt}
 use Rattle.desk_replica.proofs.Typing.{typed_desk, typed_refused}
 use Rattle.desk_replica.proofs.replica.Replica.type_char.Goals as goal
 
-pub returns-then-self-ge-LIMIT-clause-fault : goal.returns-then-self-ge-LIMIT-clause-fault
-returns-then-self-ge-LIMIT-clause-fault g c =
+pub returns-then-self-ge-MOST_OPERATIONS-clause-fault : goal.returns-then-self-ge-MOST_OPERATIONS-clause-fault
+returns-then-self-ge-MOST_OPERATIONS-clause-fault g c =
     let kept = c.self.invariant.counted.kept_is ∙ ap (λ (d : Desk). size d.set) c.self.view_is in
     let limited = c.self.invariant.counted.limited in
-    let full = c.if-self-ge-LIMIT.true in
+    let full = c.if-self-ge-MOST_OPERATIONS.true in
     (search rules, omega (arith, kept, limited, full))
 
 pub returns-in-Ok-clause-typed : goal.returns-in-Ok-clause-typed
@@ -32,7 +32,7 @@ returns-in-Err-clause-unpaid g c = λ _.
     let fault = c.in-Err.field-0 in
     let refused : IsRefused d.set (insertion (typed d.set d.site c.args.place c.args.ch)) fault =
     subst (λ (o : OpView). IsRefused d.set o fault) c.make-op.ensures.op (subst (λ (x : Desk). IsRefused x.set c.make-op.result fault) c.make-op.ensures.unchanged c.in-Err.ensures.answer) in
-    let room = c.if-self-ge-LIMIT.false in
+    let room = c.if-self-ge-MOST_OPERATIONS.false in
     let kept = c.self.invariant.counted.kept_is ∙ ap (λ (x : Desk). size x.set) c.self.view_is in
     let memory = typed_refused d.set d.site c.args.place c.args.ch fault (omega (arith, room, kept)) refused in
     ap (λ (x : Desk). x.spare) (sym c.make-op.ensures.unchanged) ∙ c.in-Err.ensures.unpaid memory
