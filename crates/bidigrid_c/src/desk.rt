@@ -11,7 +11,7 @@ use crate::fault::{BAD_SITE, EMPTY_HANDLE, MEMORY, OK, TOO_MANY};
 use crate::numbers::{Taken, none_taken};
 use crate::taking::take_in;
 use bg_types::Memory;
-use desk_replica::Replica;
+use desk_replica::{MOST_OPERATIONS, Replica};
 use rga_sequence::Blocks;
 use std::alloc::Global;
 
@@ -19,7 +19,7 @@ use std::alloc::Global;
 pub type Desk = Replica<Blocks>;
 
 /// How many operations a desk keeps at most.
-pub(crate) const MOST: usize = 1_000_000;
+pub(crate) const MOST: usize = MOST_OPERATIONS as usize;
 
 /// The greatest site.
 pub(crate) const MOST_SITE: u32 = 65_535;

@@ -13,11 +13,8 @@ use crate::fault::{EMPTY_HANDLE, MESSAGE_TOO_LONG, OK, message_number, take_numb
 use crate::numbers::{Taken, none_taken};
 use bg_types::Op;
 use desk_replica::TakeFault;
-use op_codec::decode_file;
+use op_codec::{LONGEST_FILE, decode_file};
 use std::alloc::Global;
-
-/// The most bytes of a message that is read.
-const LONGEST: usize = 67_108_864;
 
 /// Lets a desk take operations in order, up to the first that it refuses, and tells how many it took.
 fn take_each(desk: &mut Desk, ops: &[Op], taken: &mut usize) -> u32
@@ -74,7 +71,7 @@ pub(crate) fn read_message(alloc: Global, bytes: &[u8], told: &mut Taken) -> Res
     ensures some { IfErr result (λ fault. 0 < fault) }
     ensures too_long { IsTooLong bytes.now → MatchResult result (λ _. ⊥) (λ fault. fault ≡ 116) }
 {
-    if bytes.len() > LONGEST {
+    if bytes.len() > LONGEST_FILE {
         *told = none_taken(0);
         return Err(MESSAGE_TOO_LONG);
     }
