@@ -32,7 +32,19 @@ pub enum Bidi {
 }
 
 impl Bidi {
-    ghost use Rattle.bg_types.specs.Classes.{is_isolate_control, is_nonspacing};
+    ghost use Rattle.bg_types.specs.Classes.{is_removed, is_isolate_control, is_nonspacing};
+
+    /// Whether X9 removes a character of this class.
+    #[inline]
+    #[tactic(auto, unfolding(crate::specs::Classes::is_removed))]
+    pub fn is_removed(self) -> bool
+        ensures { result ≡ is_removed self }
+    {
+        matches!(
+            self,
+            Bidi::Rle | Bidi::Lre | Bidi::Rlo | Bidi::Lro | Bidi::Pdf | Bidi::Bn
+        )
+    }
 
     /// Whether it is the class of an isolate initiator, or of what ends an isolate (UAX #9, BD8).
     #[inline]

@@ -14,17 +14,16 @@ use bg_types::{Bidi, Memory};
 use std::alloc::Global;
 
 /// A place of a class under a direction, in a paragraph of this level.
-#[tactic(auto, unfolding(paragraphs::specs::Classes::is_removed, paragraphs::specs::Classes::is_separator))]
+#[tactic(auto, unfolding(paragraphs::specs::Classes::is_separator))]
 fn place_of(level: u8, direction: Direction, class: Bidi) -> Option<Kept>
     ensures { result ≡ place_of level direction class }
 {
-    match class {
-        Bidi::Rle | Bidi::Lre | Bidi::Rlo | Bidi::Lro | Bidi::Pdf | Bidi::Bn => None,
-        Bidi::B => Some(Kept { level, class }),
-        _ => Some(Kept {
-            level: direction.level,
-            class: direction.forced.unwrap_or(class),
-        }),
+    if class.is_removed() {
+        None
+    } else if matches!(class, Bidi::B) {
+        Some(Kept { level, class })
+    } else {
+        kept_under(direction, class)
     }
 }
 

@@ -14,23 +14,10 @@ use std::alloc::Global;
 
 /// Whether X9 removes a character of this class, or it is an isolate control.
 #[inline]
-#[tactic(auto, unfolding(bg_types::specs::Classes::is_removed, bg_types::specs::Classes::is_isolate_control))]
 pub(crate) fn is_control(class: Bidi) -> bool
     ensures { result ≡ is_control class }
 {
-    matches!(
-        class,
-        Bidi::Rle
-            | Bidi::Lre
-            | Bidi::Rlo
-            | Bidi::Lro
-            | Bidi::Pdf
-            | Bidi::Bn
-            | Bidi::Lri
-            | Bidi::Rli
-            | Bidi::Fsi
-            | Bidi::Pdi
-    )
+    class.is_removed() || class.is_isolate_control()
 }
 
 /// Whether X9 removes a character of one of these classes, or one is an isolate control.

@@ -1,7 +1,7 @@
 //! Sets of character classes.
 
 ghost use Rattle.std.specs.Prelude.{◌≡◌};
-ghost use Rattle.paragraphs.specs.Classes.{is_separator, is_removed, is_line_end, is_wide, is_ambiguous};
+ghost use Rattle.paragraphs.specs.Classes.{is_separator, is_line_end, is_wide, is_ambiguous};
 
 use bg_types::{Bidi, Ea, Lb};
 
@@ -12,18 +12,6 @@ pub(crate) fn is_separator(class: Bidi) -> bool
     ensures { result ≡ is_separator class }
 {
     matches!(class, Bidi::B)
-}
-
-/// Whether X9 removes a character of this class.
-#[inline]
-#[tactic(auto, unfolding(bg_types::specs::Classes::is_removed))]
-pub(crate) fn is_removed(class: Bidi) -> bool
-    ensures { result ≡ is_removed class }
-{
-    matches!(
-        class,
-        Bidi::Rle | Bidi::Lre | Bidi::Rlo | Bidi::Lro | Bidi::Pdf | Bidi::Bn
-    )
 }
 
 /// Whether a line must end after a character of this class (LB4, LB5).

@@ -6,7 +6,7 @@ ghost use Rattle.paragraphs.specs.Classes.{is_separator, is_removed, is_isolate_
 ghost use Rattle.paragraphs.specs.Text.{code_points};
 ghost use Rattle.paragraphs.specs.Columns.{ends_line, begins_with_end, is_direction_mark, is_invisible, takes_two, takes_two_by_choice, columns_by_choice, columns_of};
 
-use crate::class::{is_ambiguous, is_line_end, is_removed, is_separator, is_wide};
+use crate::class::{is_ambiguous, is_line_end, is_separator, is_wide};
 use bg_types::Bidi;
 use unicode_tables::Tables;
 
@@ -42,24 +42,10 @@ pub fn columns_of_one(tables: &Tables, c: char) -> u8
 
 /// Whether a character of this class has no columns where it stands alone.
 #[inline]
-#[tactic(auto, unfolding(crate::specs::Classes::is_separator, bg_types::specs::Classes::is_removed, bg_types::specs::Classes::is_isolate_control))]
 fn has_no_columns(class: Bidi) -> bool
     ensures { result ≡ (is_separator class || (is_removed class || is_isolate_control class)) }
 {
-    matches!(
-        class,
-        Bidi::B
-            | Bidi::Rle
-            | Bidi::Lre
-            | Bidi::Rlo
-            | Bidi::Lro
-            | Bidi::Pdf
-            | Bidi::Bn
-            | Bidi::Lri
-            | Bidi::Rli
-            | Bidi::Fsi
-            | Bidi::Pdi
-    )
+    is_separator(class) || class.is_removed() || class.is_isolate_control()
 }
 
 /// The columns of a cluster of any number of code points.
@@ -107,7 +93,7 @@ fn is_invisible(tables: &Tables, c: char) -> bool
     ensures { result ≡ is_invisible tables.now c }
 {
     let class = tables.bidi(c);
-    is_removed(class) || class.is_isolate_control() || is_direction_mark(c)
+    class.is_removed() || class.is_isolate_control() || is_direction_mark(c)
 }
 
 #[inline]

@@ -15,18 +15,8 @@ fn is_reset(class: Bidi, follower_is_reset: bool) -> bool
 {
     match class {
         Bidi::S | Bidi::B => true,
-        Bidi::Ws
-        | Bidi::Fsi
-        | Bidi::Lri
-        | Bidi::Rli
-        | Bidi::Pdi
-        | Bidi::Rle
-        | Bidi::Lre
-        | Bidi::Rlo
-        | Bidi::Lro
-        | Bidi::Pdf
-        | Bidi::Bn => follower_is_reset,
-        _ => false,
+        Bidi::Ws => follower_is_reset,
+        _ => (class.is_isolate_control() || class.is_removed()) && follower_is_reset,
     }
 }
 
