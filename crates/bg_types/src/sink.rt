@@ -19,6 +19,7 @@ pub trait Sink {
 
     /// Writes the first n of the bytes at `Some(n)`, at least one. At `None` nothing was written,
     /// and the sink has failed for good.
+    /// Cost: that of the writer.
     fn put(&mut self, bytes: &[u8]) -> Option<usize>
         requires some { 0 < length bytes.now }
         requires working { has_failed self.old ≡ false }
@@ -29,6 +30,7 @@ pub trait Sink {
 }
 
 /// Writes all of the bytes, or a beginning of them if the sink fails.
+/// Cost: O(n), one `put` for as many bytes as the sink takes.
 pub fn put_all<S: Sink>(sink: &mut S, bytes: &[u8]) -> Result<(), Device>
     requires working { S.has_failed sink.old ≡ false }
     ensures ok { OnOk result (Appends (S.written sink.old) (S.written sink.new) bytes.now) }

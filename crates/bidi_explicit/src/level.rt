@@ -10,6 +10,7 @@ use unicode_tables::Tables;
 
 /// A paragraph's level, 0 or 1: by its first strong character outside isolates (P2, P3), or as the base says (HL1).
 /// Takes no memory.
+/// Cost: O(n) up to the first strong character.
 pub fn paragraph_level(tables: &Tables, para: &Para, base: Base) -> u8
     ensures level { result ≡ paragraph_level base (classes_of tables.now para.now.text) }
     ensures bound { result ≤ 1 }

@@ -18,6 +18,7 @@ use std::alloc::Global;
 use unicode_tables::Tables;
 
 /// What `explicit_at` answers, without a look whether there are controls: for classes of which that is known.
+/// Cost: O(n), memory for each place.
 pub fn explicit_by_controls(alloc: Global, level: u8, classes: &[Bidi]) -> Result<Embedded, Memory>
     requires { level ≤ 1 }
     ensures embedding { IfOk result (λ e. e ≡ embedding_at level classes.now) }
@@ -48,6 +49,7 @@ fn embedded_at(alloc: Global, level: u8, classes: &[Bidi]) -> Result<Embedded, M
 }
 
 /// What `explicit` answers for a paragraph of this level, 0 or 1, whose code points have these classes.
+/// Cost: O(n), memory for each place.
 pub fn explicit_at(alloc: Global, level: u8, classes: &[Bidi]) -> Result<Embedded, Memory>
     requires { level ≤ 1 }
     ensures embedding { IfOk result (λ e. e ≡ embedding_at level classes.now) }
@@ -60,6 +62,7 @@ pub fn explicit_at(alloc: Global, level: u8, classes: &[Bidi]) -> Result<Embedde
 
 /// A paragraph's level, what is kept at each of its places with its level and class (X1 to X9), and its
 /// isolating run sequences (X10).
+/// Cost: O(n), memory for each place.
 pub fn explicit(alloc: Global, tables: &Tables, para: &Para, base: Base) -> Result<Embedded, Memory>
     ensures embedding { IfOk result (λ e. e ≡ embedding base (classes_of tables.now para.now.text)) }
     ensures places { IfOk result (λ e. length e.places ≡ length (code_points para.now.text)) }

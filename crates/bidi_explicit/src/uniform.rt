@@ -21,6 +21,7 @@ pub(crate) fn is_control(class: Bidi) -> bool
 }
 
 /// Whether X9 removes a character of one of these classes, or one is an isolate control.
+/// Cost: O(n).
 pub fn has_controls(classes: &[Bidi]) -> bool
     ensures { result ≡ list_any is_control classes.now }
 {

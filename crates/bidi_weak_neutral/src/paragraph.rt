@@ -213,6 +213,7 @@ fn are_plain(classes: &[Bidi]) -> bool
 
 /// What `levels` answers for a paragraph of this level, 0 or 1, of these code points, which have these classes.
 /// Never inlined: as a part of its caller its passes would have fewer registers.
+/// Cost: O(n), memory for each place.
 #[inline(never)]
 pub fn levels_at(
     alloc: Global,
@@ -268,6 +269,7 @@ fn plain_count(tables: &Tables, text: &str) -> Option<usize>
 ///
 /// A code point that X9 removes has the level of the one before it, else the paragraph level (own).
 /// A text that goes left to right by itself costs one look at each code point, unless the base says right to left.
+/// Cost: O(n), memory for each place.
 pub fn levels(alloc: Global, tables: &Tables, para: &Para, base: Base) -> Result<Vec<u8>, Memory>
     ensures levels { IfOk result (λ levels. levels.items ≡ levels_of tables.now base para.now.text) }
     ensures one_each { IfOk result (λ levels. length levels.items ≡ length (code_points para.now.text)) }

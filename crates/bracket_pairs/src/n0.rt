@@ -177,6 +177,7 @@ fn resolve_pairs(
 /// and their types after W7, which are changed. `level` and `sos` are those of the sequence. Only brackets whose type
 /// is ON count. Where a 64th opening bracket would wait, only the pairs that are closed before it count.
 /// After `Memory` the types are as before. Memory is taken only where an opening bracket is.
+/// Cost: O(n), memory for each place.
 #[tactic(auto, unfolding(crate::specs::N0::n0))]
 pub fn resolve(
     alloc: Global,

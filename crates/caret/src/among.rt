@@ -105,6 +105,7 @@ pub fn left_among(rows: &[Row], caret: Caret) -> Caret
 }
 
 /// `up` among these rows.
+/// Cost: O(n) of the row's entries.
 pub fn up_among(rows: &[Row], caret: Caret) -> Caret
     requires { IsCaretOf rows.now caret }
     ensures caret { result ≡ up_of rows.now caret }
@@ -118,6 +119,7 @@ pub fn up_among(rows: &[Row], caret: Caret) -> Caret
 }
 
 /// `down` among these rows.
+/// Cost: O(n) of the row's entries.
 pub fn down_among(rows: &[Row], caret: Caret) -> Caret
     requires { IsCaretOf rows.now caret }
     ensures caret { result ≡ down_of rows.now caret }
@@ -134,6 +136,7 @@ pub fn down_among(rows: &[Row], caret: Caret) -> Caret
 
 /// The caret at a place among these rows, of which the first begins at the place or before: `at_place`
 /// where the rows are a grid's. The row is found by binary search.
+/// Cost: O(log n) of the rows, O(n) of the row's entries.
 pub fn at_place_among(rows: &[Row], place: usize) -> Caret
     requires rises { FirstPlacesRise rows.now }
     requires begun { begins_by rows.now place 0 ≡ true }

@@ -10,6 +10,7 @@ use cell_grid::{Grid, Row};
 
 /// The caret where a mouse points: in the row with this number at the last gap whose column isn't
 /// greater than `column`, else at its gap 0, as `up` and `down` come to a row.
+/// Cost: O(n) of the row's entries.
 pub fn at_column(grid: &Grid, row: usize, column: usize) -> Caret
     requires { row < length grid.now.rows }
     ensures caret { result ≡ caret_under grid.now.rows row column }
@@ -19,6 +20,7 @@ pub fn at_column(grid: &Grid, row: usize, column: usize) -> Caret
 }
 
 /// `at_column` among these rows, as on a grid of them.
+/// Cost: O(n) of the row's entries.
 pub fn at_column_among(rows: &[Row], row: usize, column: usize) -> Caret
     requires { row < length rows.now }
     ensures caret { result ≡ caret_under rows.now row column }

@@ -45,6 +45,7 @@ pub fn left(grid: &Grid, caret: Caret) -> Caret
 
 /// The caret one row higher: at that row's last gap whose column isn't greater than the caret's,
 /// else at its gap 0. In the first row nothing changes.
+/// Cost: O(n) of the row's entries.
 pub fn up(grid: &Grid, caret: Caret) -> Caret
     requires { IsCaretOf grid.now.rows caret }
     ensures caret { result ≡ up_of grid.now.rows caret }
@@ -55,6 +56,7 @@ pub fn up(grid: &Grid, caret: Caret) -> Caret
 
 /// The caret one row lower: at that row's last gap whose column isn't greater than the caret's,
 /// else at its gap 0. In the last row nothing changes.
+/// Cost: O(n) of the row's entries.
 pub fn down(grid: &Grid, caret: Caret) -> Caret
     requires { IsCaretOf grid.now.rows caret }
     ensures caret { result ≡ down_of grid.now.rows caret }

@@ -43,6 +43,7 @@ fn entry_up_to(entries: &[Entry], place: usize) -> Option<(usize, Entry)>
 }
 
 /// The last row whose first place is at most `place`, by binary search.
+/// Cost: O(log n) of the rows.
 pub fn row_at(rows: &[Row], place: usize) -> usize
     requires rises { FirstPlacesRise rows.now }
     requires begun { begins_by rows.now place 0 ≡ true }
@@ -105,6 +106,7 @@ pub(crate) fn at_end(row: &Row, number: usize) -> Caret
 /// It is in the last row whose first place is at most `place`, at the start of the cluster that
 /// holds the place; at the text's end, after the row's logically last cluster. The row is found by
 /// binary search.
+/// Cost: O(log n) of the rows, O(n) of the row's entries.
 pub fn at_place(grid: &Grid, place: usize) -> Caret
     requires { place ≤ length (chars grid.now.text) }
     ensures caret { result ≡ caret_at grid.now place }

@@ -36,6 +36,7 @@ impl Position {
 
     /// The caret of the position among these rows, one of which has its first place. The row is found
     /// by binary search.
+    /// Cost: O(log n) of the rows.
     pub fn caret_among(self, rows: &[Row]) -> Caret
         requires rises { FirstPlacesRise rows.now }
         requires stands { IsPositionOf rows.now self }

@@ -135,6 +135,7 @@ fn rows_in(alloc: Global, material: &Material, width: u16) -> Result<Vec<Row>, M
 
 /// The rows of a paragraph of at most 4,000,000 bytes at a width in columns, from the top, with bytes and
 /// places counted from the paragraph's start.
+/// Cost: O(n), 20 bytes of memory a cluster.
 pub fn rows(
     alloc: Global,
     tables: &Tables,

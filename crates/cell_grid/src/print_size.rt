@@ -15,6 +15,7 @@ use unicode_tables::Tables;
 
 /// How many bytes `print_row` writes of a row of a text, whose entries are slices of it. Takes no memory. `Memory` where they
 /// are more than can be counted.
+/// Cost: O(n) of the row's entries and their bytes.
 pub fn row_print_size(tables: &Tables, text: &str, row: &Row) -> Result<usize, Memory>
     requires { All (λ e. IsSlice text.now e.span) row.now.entries }
     ensures { IfOk result (λ size. size ≡ length (row_text tables.now text.now row.now)) }

@@ -19,6 +19,7 @@ use unicode_tables::Tables;
 /// Writes a grid: the text of each cell, and one LF after each row. Takes no memory.
 ///
 /// After `Device` a beginning of it is written.
+/// Cost: O(n).
 pub fn print<W: Sink>(grid: &Grid, sink: &mut W) -> Result<(), Device>
     requires working { W.has_failed sink.old ≡ false }
     ensures ok { OnOk result (Appends (W.written sink.old) (W.written sink.new) (printed grid.now)) }
@@ -35,6 +36,7 @@ pub fn print<W: Sink>(grid: &Grid, sink: &mut W) -> Result<(), Device>
 /// Writes the row with this number, counted from 0, as `print` does. Takes no memory.
 ///
 /// After `Device` a beginning of it is written.
+/// Cost: that of `print_row`.
 pub fn print_row_at<W: Sink>(grid: &Grid, number: usize, sink: &mut W) -> Result<(), Device>
     requires row { number < length grid.now.rows }
     requires working { W.has_failed sink.old ≡ false }
@@ -49,6 +51,7 @@ pub fn print_row_at<W: Sink>(grid: &Grid, number: usize, sink: &mut W) -> Result
 /// Writes a row of a text, whose entries are slices of it, as `print` does. Takes no memory.
 ///
 /// After `Device` a beginning of it is written.
+/// Cost: O(n) of the row's cells and entries.
 pub fn print_row<W: Sink>(
     tables: &Tables,
     text: &str,

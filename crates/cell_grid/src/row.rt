@@ -137,6 +137,7 @@ impl Row {
     }
 
     /// A copy that stands this many bytes and places later. No number of it may pass 4,000,000.
+    /// Cost: O(n) of its entries, memory for them.
     pub fn shifted(&self, alloc: Global, bytes: u32, places: u32) -> Result<Row, Memory>
         requires { MayShiftRow bytes places self.now }
         ensures { IfOk result (λ row. row ≡ shifted bytes places self.now) }
@@ -204,6 +205,7 @@ impl Row {
     }
 
     /// Its cells from left to right, one for each column.
+    /// Cost: O(1); O(log n) a cell.
     #[inline]
     pub fn cells(&self) -> Cells<'_>
         ensures { result ≡ self.now.cells }
@@ -212,6 +214,7 @@ impl Row {
     }
 
     /// The cell in a column, counted from 0 at the left edge; none after the right edge.
+    /// Cost: O(log n) of its entries.
     pub fn cell(&self, column: usize) -> Option<Cell>
         ensures { result ≡ slice_get self.now.cells column }
     {

@@ -15,6 +15,7 @@ use std::alloc::Global;
 const INPUT_TWICE: &str = "error: standard input can be read only once\n";
 
 /// Reads the words of a command line, the program's name among them.
+/// Cost: O(n), memory for the files and moves that the words name.
 pub fn job<'a>(alloc: Global, words: &'a [String]) -> Result<Job<'a>, Stop> {
     match command(alloc)?.try_get_matches_from(words) {
         Ok(matches) => job_of(alloc, &matches),

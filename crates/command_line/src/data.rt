@@ -47,6 +47,7 @@ impl Data {
 
 /// The bytes of the data files of a folder, or the first that can't be opened or read, or is too
 /// long.
+/// Cost: O(n), memory for the files.
 pub fn read_data<O: Opener + AllocGlobal>(rt: &O, folder: &str) -> Result<Data, Unread>
     ensures each { IfOk result (IsReadFrom (O.gives rt.now) folder.now) }
     ensures within { IfOk result (IsWithin LONGEST_FILE) }

@@ -17,6 +17,7 @@ const USAGE: u8 = 2;
 const LOST: u8 = 3;
 
 /// Writes the line about a fault, as `bidigrid: memory`, without memory.
+/// Cost: O(n).
 pub fn tell<S: Sink, F: Display>(program: &str, fault: &F, err: &mut S) -> Result<(), Device>
     requires { S.has_failed err.old ≡ false }
     ensures { S.has_failed err.new ≡ is_err result }
@@ -46,6 +47,7 @@ impl<S: Sink> fmt::Write for Text<'_, S> {
 /// what is wrong with the command line to `err`, with status 2. Where memory is lacking, or the
 /// help can't be written, `err` gets the line about it, and the status is 3. A failure of `err`
 /// goes unreported: only the status shows it.
+/// Cost: O(n).
 pub fn end<O: Sink, E: Sink>(program: &str, stop: &Stop, out: &mut O, err: &mut E) -> u8
     requires out { O.has_failed out.old ≡ false }
     requires err { E.has_failed err.old ≡ false }
@@ -74,6 +76,7 @@ pub fn end<O: Sink, E: Sink>(program: &str, stop: &Stop, out: &mut O, err: &mut 
 }
 
 /// Flushes what a run wrote: a late failure of the device shows only here.
+/// Cost: that of the writer.
 pub fn flush<W: io::Write>(out: &mut W) -> Result<(), Device> {
     out.flush().map_err(|_| Device)
 }

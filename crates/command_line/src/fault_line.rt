@@ -12,6 +12,7 @@ pub const PROGRAM: &str = "bidigrid";
 
 /// Writes the line about a fault, as `bidigrid: file 2 frame 1: Truncated`, without memory. The path
 /// is that of the file that can't be read.
+/// Cost: O(n).
 pub fn report<S: Sink>(fault: &RunFault, path: &str, err: &mut S) -> Result<(), Device>
     requires { S.has_failed err.old ≡ false }
     ensures { S.has_failed err.new ≡ is_err result }

@@ -10,6 +10,7 @@ use desk_files::RunFault;
 use op_codec::{In, Source};
 
 /// The files in order, each open, or the first that can't be opened.
+/// Cost: O(n), memory for the open files.
 pub fn open_all<O: Opener + AllocGlobal>(rt: &O, paths: &[&str]) -> Result<Vec<In<O::File>>, Unread>
     ensures each { IfOk result (λ files. vec_len files ≡ length paths.now) }
     ensures opened { IfOk result (λ files. AllZip (λ path file. O.gives rt.now path.now (⟦<In<O::File> as Source>⟧.remaining file)) paths.now files.items) }

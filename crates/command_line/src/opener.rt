@@ -18,6 +18,7 @@ pub trait Opener {
     ghost gives: { Self → (path : List ℕ) → Option (List ℕ) → Type 0 };
 
     /// The file at a path.
+    /// Cost: O(1); memory for the path, where it can't be opened.
     fn open(&self, path: &str) -> Result<Self::File, Unread>
         ensures { IfOk result (λ file. gives self.now path.now (Self.File.remaining file)) };
 }

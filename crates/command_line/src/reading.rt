@@ -12,6 +12,7 @@ use std::io::{self, ErrorKind, Read};
 use std::rt::Files;
 
 /// All bytes that a reader gives, or `None` where there are more than the limit.
+/// Cost: O(n), memory for what is read.
 pub fn read_whole<F: Read + Drop>(alloc: Global, file: F, limit: u64) -> io::Result<Option<Vec<u8>>>
     requires { limit < 2 ^ 64 - 1 }
     ensures whole { IfOk result (λ read. IfSome read (λ bytes. IfSome (F.remaining file) (λ all. bytes.items ≡ all))) }
@@ -28,6 +29,7 @@ pub fn read_whole<F: Read + Drop>(alloc: Global, file: F, limit: u64) -> io::Res
 
 /// The bytes of a file that can be opened and read, and is not longer than the limit, or those of
 /// standard input at `-`.
+/// Cost: O(n), memory for the file.
 pub fn read<O: Opener + AllocGlobal>(rt: &O, path: &str) -> Result<Vec<u8>, Unread>
     ensures given { IfOk result (λ bytes. AreGiven (O.gives rt.now path.now) bytes.items) }
     ensures within { IfOk result (λ bytes. vec_len bytes ≤ LONGEST_FILE) }
@@ -41,6 +43,7 @@ pub fn read<O: Opener + AllocGlobal>(rt: &O, path: &str) -> Result<Vec<u8>, Unre
 }
 
 /// A file that can be opened, to be read from its front.
+/// Cost: O(1); memory for the path, where it can't be opened.
 pub fn open<R: Files + AllocGlobal>(rt: &R, path: &str) -> Result<R::File, Unread> {
     match File::open(rt, path) {
         Ok(file) => Ok(file),

@@ -24,6 +24,7 @@ pub enum Stop {
 
 impl Stop {
     /// What an error of `clap` comes to: the help is an error there too.
+    /// Cost: O(n), memory for its text.
     pub fn of(alloc: Global, error: &Error) -> Stop {
         if error.kind() == ErrorKind::OutOfMemory {
             return Stop::Memory;
@@ -53,6 +54,7 @@ impl<T: Drop> From<AllocFailed<T>> for Stop {
 }
 
 /// The words of the command line, the program's name among them.
+/// Cost: O(n), memory for the words.
 pub fn words<R: Env + Alloc<A = Global>>(rt: &R) -> Result<Vec<String>, Stop> {
     match std::env::args(rt) {
         Ok(words) => Ok(words.collect(rt.alloc())?),

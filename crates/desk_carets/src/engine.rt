@@ -26,6 +26,7 @@ use view_cache::View;
 /// counts code points. Where the key is secret, it is hard to write files that make the run slow.
 ///
 /// Which answer the data has is `laws::carets_are_decided`.
+/// Cost: that of `text` and `draw`, and of each move; memory likewise.
 pub fn carets<S: Sink>(
     alloc: Global,
     key: u128,
@@ -59,6 +60,7 @@ pub fn carets<S: Sink>(
 
 /// Does what `carets` does, over the files of readers. Each is read in pieces of at most 4,096 bytes, to
 /// its end, to a fault in its bytes, or to the byte past the greatest length of a file.
+/// Cost: that of `carets`, memory too, in pieces of 4,096 bytes.
 pub fn carets_from<R: Source, S: Sink>(
     alloc: Global,
     key: u128,

@@ -22,9 +22,11 @@ pub fn new_desk(alloc: Global, site: u16, key: u128) -> Desk
 }
 
 /// Lets a desk go. Who owns one calls this at its one way out: what it takes to drop a desk is then proved here alone.
+/// Cost: O(n).
 pub fn let_go(_desk: Desk) {}
 
 /// A desk's text. It has at most 1,000,000 characters, of at most 4 bytes each.
+/// Cost: O(n), memory for the text.
 pub fn read_text(desk: &Desk) -> Result<String, Memory>
     ensures value { IfOk result (λ t. string_bytes t ≡ encode_utf8_all (text desk.now.set)) }
     ensures size { IfOk result (λ t. length (string_bytes t) ≤ 4_000_000) }

@@ -17,6 +17,8 @@ use std::alloc::Global;
 /// write files that make the run slow.
 ///
 /// Which answer the files have is `laws::text_is_decided`.
+/// Cost: that of a `take` for each operation; memory likewise, 20 bytes for each that waits since it came out of order,
+/// and for the text.
 pub fn text<S: Sink>(
     alloc: Global,
     key: u128,
@@ -32,6 +34,7 @@ pub fn text<S: Sink>(
 
 /// Does what `text` does, over the files of readers. Each is read in pieces of at most 4,096 bytes, to
 /// its end, to a fault in its bytes, or to the byte past the greatest length of a file.
+/// Cost: that of `text`, memory too, in pieces of 4,096 bytes.
 pub fn text_from<R: Source, S: Sink>(
     alloc: Global,
     key: u128,

@@ -40,6 +40,7 @@ impl<'a> Source for InMemory<'a> {
 }
 
 /// A source over each file.
+/// Cost: O(n), memory for a reader a file.
 pub fn readers_of<'a>(alloc: Global, files: &'a [Vec<u8>]) -> Result<Vec<InMemory<'a>>, Memory>
     ensures { IfOk result (λ readers. each ⟦<InMemory<'a> as Source>⟧.remaining readers.items ≡ each (λ file. Some file) (bytes_of files.now)) }
 {

@@ -19,6 +19,7 @@ pub const PIECE: usize = 4_096;
 
 /// The operations of the file of each reader, or what is wrong with the first file that can't be
 /// read. The readers after it are not asked.
+/// Cost: O(n), memory for the operations, in pieces of 4,096 bytes.
 pub fn read_all<R: Source>(alloc: Global, files: &mut [R]) -> Result<Vec<Vec<Op>>, RunFault>
     requires { AreWorking (each R.has_failed files.old) }
     ensures ok { IfOk result (λ all. AreTold (each R.remaining files.old) (each R.has_failed files.new)

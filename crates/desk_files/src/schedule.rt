@@ -18,6 +18,7 @@ use std::alloc::Global;
 pub use step::{Numbered, RunStep};
 
 /// The steps of a schedule with the numbers of their lines, or its first fault.
+/// Cost: O(n), memory for the steps.
 pub fn read_schedule(
     alloc: Global,
     schedule: &[u8],

@@ -84,6 +84,7 @@ impl<S: Sequence> Replica<S> {
 
     /// Pays in advance for n new operations (at most 1,000,000), those that are spare included: then
     /// n are taken, typed or erased without memory. After `Memory` the desk is as it was.
+    /// Cost: O(n), memory for them: each table's at once, and over `Blocks` a block for each 256.
     pub fn reserve(&mut self, n: usize) -> Result<(), Memory>
         requires { n ≤ 1_000_000 }
         ensures ok { OnOk result (self.new.spare ≡ max self.old.spare n) }
@@ -110,6 +111,8 @@ impl<S: Sequence> Replica<S> {
 
     /// Takes an operation, and returns what became of it. A fault changes nothing. While one is
     /// spare, the fault is not `Memory`; a new operation lowers the spare ones by at most one.
+    /// Cost: O(1) expected, and `Sequence::place` for each operation that is placed; memory amortized, none while one
+    /// is spare.
     pub fn take(&mut self, op: &Op) -> Result<Taken, TakeFault>
         ensures answer { MatchResult result (IsTaken self.old.set op.now) (IsRefused self.old.set op.now) }
         ensures accepted { OnOk result ((fault : Fault) → ¬ (IsRefusal self.old.set op.now fault)) }
@@ -125,6 +128,7 @@ impl<S: Sequence> Replica<S> {
 
     /// Types a character at a place: makes the insertion, takes it, and returns it. A fault changes
     /// nothing.
+    /// Cost: `id_at`, then `take`; memory likewise.
     pub fn type_char(&mut self, place: usize, ch: char) -> Result<Op, TypeFault>
         requires { place ≤ length (visible self.old.set) }
         ensures op { IfOk result (λ op. op ≡ insertion (typed self.old.set self.old.site place ch)) }
@@ -187,6 +191,7 @@ impl<S: Sequence> Replica<S> {
 
     /// Erases the visible character at a place: makes the deletion, takes it, and returns it. The
     /// only fault is `Full`, which changes nothing.
+    /// Cost: `id_at`, then `take`.
     pub fn erase_at(&mut self, place: usize) -> Result<Op, TypeFault>
         requires { place < length (visible self.old.set) }
         ensures op { IfOk result (λ op. IsErasedAt self.old.set self.new.set place op) }
@@ -204,6 +209,8 @@ impl<S: Sequence> Replica<S> {
     }
 
     /// The visible characters in order, at most 1,000,000.
+    /// Cost: O(n), memory for the text: a byte an element in one growth, and up to two growths more where characters
+    /// take more.
     pub fn text(&self) -> Result<String, Memory>
         ensures ok { IfOk result (λ t. string_bytes t ≡ encode_utf8_all (text self.now.set)) }
         ensures limited { length (text self.now.set) ≤ 1_000_000 }
@@ -219,6 +226,7 @@ impl<S: Sequence> Replica<S> {
     }
 
     /// The identifier of the visible character at a place.
+    /// Cost: that of `Sequence::id_at`.
     pub fn id_at(&mut self, place: usize) -> Id
         requires { place < length (visible self.old.set) }
         ensures value { slice_get (visible_ids self.old.set) place ≡ Some result }
@@ -230,6 +238,7 @@ impl<S: Sequence> Replica<S> {
     }
 
     /// How many visible characters stand before that of this identifier, or `None` where it is not placed.
+    /// Cost: that of `Sequence::visible_before`.
     pub fn place_of(&self, id: Id) -> Option<usize>
         ensures placed { IsSome result ↔ IsAttached self.now.set.ins id }
         ensures value { IfSome result (λ place. place ≡ visible_before self.now.set id) }
@@ -253,6 +262,7 @@ impl<S: Sequence> Replica<S> {
     /// the walk, then the deletions of placed ones in that order, then those that wait. While the
     /// desk does not change, neither does the list. Goes over the elements if it is a deletion
     /// of a placed one.
+    /// Cost: that of `Sequence::nth`; O(n) for a deletion.
     pub fn op_at(&self, j: usize) -> Op
         requires { j < size self.now.set }
         ensures listed { slice_get (listed self.now) j ≡ Some result }

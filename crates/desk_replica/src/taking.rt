@@ -12,6 +12,7 @@ use bg_types::Op;
 use rga_tree::Sequence;
 
 /// Lets a desk take an operation, and returns what became of it. A fault changes nothing.
+/// Cost: that of `take`, memory too.
 pub fn take_at<S: Sequence>(
     desks: &mut [Replica<S>],
     desk: usize,
@@ -32,6 +33,7 @@ pub fn take_at<S: Sequence>(
 /// Lets a desk take all that another one holds, and returns how many operations were new. A desk
 /// that meets itself stays as it is. After `IdentifierReused` nothing has changed; after `Full` or
 /// `Memory` some of them are taken.
+/// Cost: that of `merge`, memory too.
 pub fn merge_at<S: Sequence>(
     desks: &mut [Replica<S>],
     desk: usize,

@@ -75,6 +75,7 @@ impl From<AllocError> for WorldFault {
 ///
 /// `BadSites` where a site is 0 or stands twice, which is tested before the first step; `Memory` where
 /// a growth is refused, which ends the run. What a desk refuses is a reply, and the run goes on.
+/// Cost: that of each step's call; memory for as many operations and replies as there are steps, asked for once.
 pub fn run_world<S: Fresh>(
     alloc: Global,
     key: u128,

@@ -31,6 +31,7 @@ use view_cache::View;
 /// step is taken. Where the key is secret, it is hard to write files that make the run slow.
 ///
 /// Which answer the data has is `laws::replay_is_decided`.
+/// Cost: that of its takes, merges and shows; memory likewise.
 pub fn replay<S: Sink>(
     alloc: Global,
     key: u128,
@@ -55,6 +56,7 @@ pub fn replay<S: Sink>(
 
 /// Does what `replay` does, over the files of readers. Each is read in pieces of at most 4,096 bytes, to
 /// its end, to a fault in its bytes, or to the byte past the greatest length of a file.
+/// Cost: that of `replay`, memory too, in pieces of 4,096 bytes.
 pub fn replay_from<R: Source, S: Sink>(
     alloc: Global,
     key: u128,

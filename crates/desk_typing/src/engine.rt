@@ -24,6 +24,7 @@ use std::alloc::Global;
 ///
 /// `laws::typed_text` says what the files and the new one read as together; `laws::new_identifiers` says
 /// that the new identifiers are new.
+/// Cost: that of a `take` for each operation of the files, and O(n) of what is erased and typed; memory likewise.
 pub fn typed<R: Source, S: Sink>(
     alloc: Global,
     key: u128,

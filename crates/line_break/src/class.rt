@@ -6,6 +6,7 @@ ghost use Rattle.line_break.specs.Classes.{one_of};
 use bg_types::Lb;
 
 /// Whether the class is one of these.
+/// Cost: O(n) of the classes.
 #[inline]
 #[tactic(auto, unfolding(crate::specs::Classes::one_of))]
 pub fn is_one_of(class: Lb, classes: &[Lb]) -> bool

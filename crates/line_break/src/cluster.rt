@@ -19,6 +19,7 @@ pub struct Cluster {
 }
 
 /// Whether a cluster has only code points of break class SP: a space cluster.
+/// Cost: O(n) of the cluster.
 pub fn is_space(tables: &Tables, cluster: &str) -> bool
     ensures { result ≡ is_space tables.now (code_points cluster.now) }
 {

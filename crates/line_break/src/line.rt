@@ -24,6 +24,7 @@ pub struct Line {
 /// The lines of a paragraph of at most 4,000,000 bytes at a width in columns, in order. Each ends at
 /// the last break opportunity up to which it fits, not counting spaces at its end, or else at the
 /// last such cluster boundary. An empty paragraph has one empty line.
+/// Cost: O(n), memory for the lines and the clusters.
 pub fn lines(alloc: Global, tables: &Tables, para: &Para, width: u16) -> Result<Vec<Line>, Memory>
     requires at_least { 2 ≤ width }
     requires at_most { width ≤ 500 }
@@ -37,6 +38,7 @@ pub fn lines(alloc: Global, tables: &Tables, para: &Para, width: u16) -> Result<
 }
 
 /// The lines of a paragraph of these clusters, as `lines` gives them.
+/// Cost: O(n) of the clusters, memory for the lines.
 pub fn lines_of(alloc: Global, clusters: &[Cluster], width: u16) -> Result<Vec<Line>, Memory>
     requires columns { All (λ c. c.columns ≤ 2) clusters.now }
     requires length { length clusters.now < 2 ^ 63 }

@@ -42,6 +42,7 @@ impl Outline {
 
 /// The clusters of a paragraph of at most 4,000,000 bytes. It is cut into clusters once, and each
 /// is measured once.
+/// Cost: O(n), memory for the clusters.
 pub fn outline_of(alloc: Global, tables: &Tables, para: &Para) -> Result<Outline, Memory>
     requires { length para.now.text ≤ 4_000_000 }
     ensures spans { IfOk result (λ o. o.spans.items ≡ spans para.now.text) }

@@ -86,6 +86,7 @@ impl Document {
     /// A document of a site (at least 1) without operations, drawn by these tables at a width in columns and a base
     /// direction. The key is that of the desk's tables: where it is secret, only one who measures the times of many calls
     /// can choose identifiers that make them slow.
+    /// Cost: O(1), memory for one paragraph.
     pub fn new(
         alloc: Global,
         site: u16,
@@ -110,6 +111,7 @@ impl Document {
 
     /// A document over a desk, whose operations it may hold already, drawn by these tables at a width in columns and a base
     /// direction. The first `show` makes its paragraphs. After `Memory` the desk is dropped.
+    /// Cost: O(1), memory for one paragraph.
     pub fn of(
         alloc: Global,
         desk: Desk,
@@ -142,6 +144,7 @@ impl Document {
     }
 
     /// Pays in advance for n new operations (at most 1,000,000), as the desk's `reserve` does. What is shown stays.
+    /// Cost: that of `Replica::reserve`, memory too.
     pub fn reserve(&mut self, n: usize) -> Result<(), Memory>
         requires { n ≤ 1_000_000 }
         ensures ok { OnOk result (self.new.desk.spare ≡ max self.old.desk.spare n) }
@@ -196,6 +199,7 @@ impl Document {
     }
 
     /// The identifier of the visible character at a place.
+    /// Cost: that of `Replica::id_at`.
     pub fn id_at(&mut self, place: usize) -> Id
         requires { place < length (visible self.old.desk.set) }
         ensures value { slice_get (visible_ids self.old.desk.set) place ≡ Some result }
@@ -205,6 +209,7 @@ impl Document {
     }
 
     /// The visible characters in order, at most 1,000,000.
+    /// Cost: that of `Replica::text`, memory too.
     pub fn text(&self) -> Result<String, Memory>
         ensures ok { IfOk result (λ t. string_bytes t ≡ encode_utf8_all (text self.now.desk.set)) }
         ensures limited { length (text self.now.desk.set) ≤ 1_000_000 }
@@ -213,6 +218,8 @@ impl Document {
     }
 
     /// Types characters at a place, as the desk's `type_text` does. Then nothing is shown.
+    /// Cost: that of `Replica::type_text`, and of `Buffer::edit`; memory that must be there as `Replica::type_text`
+    /// asks for it.
     pub fn type_text(
         &mut self,
         place: usize,
@@ -251,6 +258,8 @@ impl Document {
     }
 
     /// Erases the visible characters from one place up to another, as the desk's `erase_range` does. Then nothing is shown.
+    /// Cost: that of `Replica::erase_range`, and of `Buffer::edit`; memory that must be there as `Replica::erase_range`
+    /// asks for it.
     pub fn erase_range(
         &mut self,
         from: usize,
@@ -285,6 +294,8 @@ impl Document {
 
     /// Erases the visible characters from one place up to another and types others where they began, as the desk's
     /// `replace` does, in one step. Then nothing is shown.
+    /// Cost: that of `Replica::replace`, and of `Buffer::edit`; memory that must be there as `Replica::replace` asks
+    /// for it.
     pub fn replace(
         &mut self,
         from: usize,
@@ -327,6 +338,7 @@ impl Document {
     }
 
     /// Draws at another width in columns from now on. Then nothing is shown.
+    /// Cost: O(n / 256) of the paragraphs, and O(512) for each 512 of them of which something is kept.
     pub fn resize(&mut self, width: u16)
         requires at_least { 2 ≤ width }
         requires at_most { width ≤ 500 }
@@ -344,6 +356,7 @@ impl Document {
     }
 
     /// Draws at another base direction from now on. Then nothing is shown.
+    /// Cost: that of `Document::resize`.
     pub fn set_base(&mut self, base: Base)
         ensures base { self.new.base ≡ base }
         ensures width { self.new.width ≡ self.old.width }
@@ -361,6 +374,9 @@ impl Document {
     /// Lays out what is not kept of a window: the rows from so many above the row of a place to so many below it, each at
     /// most 1,000. `window` shows it then. No more rows are kept then than four such windows have, each of at least 64 rows, or
     /// none but those of the window's paragraphs. After `Memory` nothing is shown, and no rows are kept.
+    /// Cost: O(n / 256 + 512) of the paragraphs for each that has a row in the window, and that of `rows` for each of
+    /// them of which nothing is kept; memory for their rows. Where an edit was refused memory before, that of `text`
+    /// and `Buffer::of` too.
     pub fn show(&mut self, place: usize, above: usize, below: usize) -> Result<(), Memory>
         requires place { place ≤ length (visible self.old.desk.set) }
         requires above { above ≤ 1_000 }

@@ -59,6 +59,7 @@ impl<'a> Window<'a> {
     }
 
     /// The row with this number, from 0 at the top.
+    /// Cost: O(n / 256 + 512) of the paragraphs for each that has a row in the window up to it.
     pub fn row(&self, number: usize) -> WindowRow<'a>
         requires { number < length self.now.rows }
         ensures { slice_get self.now.rows number ≡ Some result }
@@ -68,6 +69,7 @@ impl<'a> Window<'a> {
     }
 
     /// Copies of its rows, where they stand in the text.
+    /// Cost: that of `Window::rows` and `WindowRow::to_row` for each row, memory too.
     pub fn to_rows(&self, alloc: Global) -> Result<Vec<Row>, Memory>
         ensures { IfOk result (λ rows. rows.items ≡ self.now.rows) }
     {
@@ -79,6 +81,7 @@ impl<'a> Window<'a> {
     }
 
     /// Its rows from the top.
+    /// Cost: O(n / 256 + 512) of the paragraphs; a step of it O(1).
     pub fn rows(&self) -> WindowRows<'a>
         ensures { result ≡ self.now.rows }
     {
@@ -261,6 +264,7 @@ impl<'a> Model for WindowRow<'a> {
 
 impl<'a> WindowRow<'a> {
     /// A copy of it, where it stands in the text.
+    /// Cost: that of `Row::shifted`, memory too.
     pub fn to_row(&self, alloc: Global) -> Result<Row, Memory>
         ensures { IfOk result (λ row. row ≡ self.now) }
     {

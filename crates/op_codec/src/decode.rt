@@ -12,6 +12,7 @@ use bg_types::Op;
 use std::alloc::Global;
 
 /// The operations that the bytes spell, or their first fault with its frame (docs/FORMATS.md).
+/// Cost: O(n); 20 bytes of memory an operation.
 pub fn decode_file(alloc: Global, bytes: &[u8]) -> Result<Vec<Op>, CodecFault>
     // What is read is what the bytes spell, and a fault is the first one.
     ensures ok { IfOk result (λ ops. Spells bytes.now ops.items) }

@@ -16,6 +16,7 @@ use std::alloc::Global;
 
 /// Appends an operation's frame (docs/FORMATS.md): 19 bytes for an insertion, 9 for a
 /// deletion. `Memory` leaves `out` as it was.
+/// Cost: O(1) amortized, memory for the frame.
 #[inline(always)]
 pub fn encode_op(op: &Op, out: &mut Vec<u8>) -> Result<(), Memory>
     ensures ok { OnOk result (out.new.items ≡ out.old.items ++ frame op.now) }
@@ -80,6 +81,7 @@ fn erasure_file(target: Id) -> [u8; ERASURE_FILE_SIZE]
 }
 
 /// The file of the operations, in version 1 (docs/FORMATS.md). Memory is taken once.
+/// Cost: O(n); memory for exactly the file, in one growth.
 pub fn encode_file(alloc: Global, ops: &[Op]) -> Result<Vec<u8>, Memory>
     ensures spelled { IfOk result (λ file. SpellsIn Version.One file.items ops.now) }
     ensures frames { IfOk result (λ file. file.items ≡ spelling ops.now) }

@@ -18,6 +18,7 @@ use std::alloc::Global;
 
 /// The file of the operations, in version 2 (docs/FORMATS.md): what was typed in one go is a frame of
 /// four bytes a character, plus fifteen. Memory is taken once.
+/// Cost: O(n); memory for exactly the file, in one growth.
 pub fn encode_file_v2(alloc: Global, ops: &[Op]) -> Result<Vec<u8>, Memory>
     ensures spelled { IfOk result (λ file. SpellsIn Version.Two file.items ops.now) }
 {

@@ -15,6 +15,7 @@ use std::alloc::Global;
 
 /// The file of version 2 that spells the operations of the bytes, or the bytes' first fault with its
 /// frame (docs/FORMATS.md). Besides the file it takes at most 20 bytes an operation.
+/// Cost: O(n); 20 bytes of memory an operation, and the file.
 pub fn migrate(alloc: Global, bytes: &[u8]) -> Result<Vec<u8>, CodecFault>
     ensures ok { IfOk result (λ migrated. IsMigration bytes.now migrated.items) }
     ensures fault { IfErr result (TellsFault bytes.now) }

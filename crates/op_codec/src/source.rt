@@ -17,6 +17,7 @@ pub trait Source {
 
     /// Fills the first n bytes of the piece with the next ones at `Some(n)`; 0 is the end. At `None`
     /// nothing was read, and the source has failed for good. A piece has 1 to 4,096 bytes.
+    /// Cost: that of the reader, for at most 4,096 bytes.
     fn get(&mut self, piece: &mut [u8]) -> Option<usize>
         requires some { 0 < length piece.old }
         requires at_most { length piece.old ≤ greatest_piece }

@@ -6,6 +6,7 @@ ghost use Rattle.std.specs.Str.Lines.{lines, strip_carriage_return};
 use crate::words::first_place;
 
 /// The first line, without the LF or CR LF that ends it, and what follows.
+/// Cost: O(n) of the line.
 pub fn split_line(text: &[u8]) -> (&[u8], &[u8])
     requires { 0 < length text.now }
     ensures lines { lines text.now ≡ result.0.now ∷ lines result.1.now }

@@ -6,6 +6,7 @@ ghost use Rattle.std.specs.Str.Parse.{AllDigits, digits_value};
 ghost use Rattle.op_listing.specs.Number.{number_in};
 
 /// The number that a word of 1 to `most` decimal digits writes, leading zeros included.
+/// Cost: O(n) of the word.
 pub fn read_decimal(word: &[u8], most: usize) -> Option<u32>
     // Such a number always fits.
     requires { most ≤ 9 }

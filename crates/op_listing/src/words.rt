@@ -6,6 +6,7 @@ ghost use Rattle.op_listing.specs.Words.{words, TakesWord};
 
 /// The first word of a line, empty where there is none, and what follows it. Only spaces
 /// separate words.
+/// Cost: O(n) of the word.
 pub fn next_word(line: &[u8]) -> (&[u8], &[u8])
     ensures { TakesWord result.0.now (words line.now) (words result.1.now) }
 {
@@ -14,6 +15,7 @@ pub fn next_word(line: &[u8]) -> (&[u8], &[u8])
 }
 
 /// The word of a line that has exactly one.
+/// Cost: O(n) of the line.
 pub fn one_word(line: &[u8]) -> Option<&[u8]>
     ensures { MatchOption result (length (words line.now) ≢ 1) (λ word. words line.now ≡ word.now ∷ []) }
 {
@@ -26,6 +28,7 @@ pub fn one_word(line: &[u8]) -> Option<&[u8]>
 }
 
 /// The words of a line that has two.
+/// Cost: O(n) of the line.
 pub fn two_words(line: &[u8]) -> Option<(&[u8], &[u8])>
     ensures { MatchOption result (length (words line.now) ≢ 2)
         (λ found. words line.now ≡ found.0.now ∷ found.1.now ∷ []) }
@@ -40,6 +43,7 @@ pub fn two_words(line: &[u8]) -> Option<(&[u8], &[u8])>
 }
 
 /// The words of a line that has three.
+/// Cost: O(n) of the line.
 pub fn three_words(line: &[u8]) -> Option<(&[u8], &[u8], &[u8])>
     ensures { MatchOption result (length (words line.now) ≢ 3)
         (λ found. words line.now ≡ found.0.now ∷ found.1.now ∷ found.2.now ∷ []) }

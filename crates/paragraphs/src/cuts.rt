@@ -46,6 +46,7 @@ pub fn meets_at_cut(tables: &Tables, text: &str, rest: &str) -> bool
 
 /// The paragraphs of a text, in order (P1). The last one is empty where the text is empty or ends
 /// with a separator.
+/// Cost: O(n), 32 bytes of memory a paragraph.
 pub fn split<'a>(alloc: Global, tables: &Tables, text: &'a str) -> Result<Vec<Para<'a>>, Memory>
     ensures ok { IfOk result (λ v. v.items ≡ paragraphs tables.now text.now) }
     ensures joined { IfOk result (λ v. concat (map (λ p. p.text) v.items) ≡ text.now) }

@@ -7,6 +7,7 @@ use bg_types::Memory;
 use std::alloc::Global;
 
 /// The code points of a text.
+/// Cost: O(n), 4 bytes of memory a code point.
 pub fn code_points_of(alloc: Global, text: &str) -> Result<Vec<char>, Memory>
     ensures { IfOk result (λ points. points.items ≡ code_points text.now) }
 {

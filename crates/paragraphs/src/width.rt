@@ -13,6 +13,7 @@ use unicode_tables::Tables;
 /// The columns of a cluster, 0 to 2. It has none if it begins with what ends a line or a
 /// paragraph, or if each of its characters is invisible; and two if one of them is wide, or
 /// if the first is ambiguous and the tables make such characters wide.
+/// Cost: O(n) of the cluster.
 pub fn columns(tables: &Tables, cluster: &str) -> u8
     // At least one code point.
     requires { 0 < length cluster.now }

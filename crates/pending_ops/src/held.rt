@@ -116,6 +116,7 @@ impl Held {
 
     /// Makes room for n operations (at most 1,000,000), each table in one growth. After `Memory` the
     /// store is as it was.
+    /// Cost: O(n), memory for them, one growth a table.
     pub fn reserve(&mut self, n: usize) -> Result<(), Memory>
         requires { n ≤ 1_000_000 }
         ensures ok { OnOk result (self.new.room ≡ max self.old.room n) }
@@ -149,6 +150,7 @@ impl Held {
 
     /// Holds an operation, which uses up one of the room; where none is left, room is made first. After
     /// `Memory` the store is as it was.
+    /// Cost: O(1) expected; memory amortized, none while `room` is at least 1.
     pub fn hold(&mut self, op: Op) -> Result<(), Memory>
         requires { IsNew self.old.held op }
         ensures ok { OnOk result (self.new.held ≡ with_operation self.old.held op) }
@@ -194,6 +196,7 @@ impl Held {
     }
 
     /// The held insertion with this identifier.
+    /// Cost: O(1) expected.
     pub fn insertion(&self, id: Id) -> Option<Op>
         ensures { result
             ≡ option_map (λ node. Insert id node.parent node.ch) (map.get self.now.held.ins id) }
@@ -202,6 +205,7 @@ impl Held {
     }
 
     /// Whether a deletion of this target is held.
+    /// Cost: O(1) expected.
     pub fn erased(&self, id: Id) -> bool
         ensures { result ≡ set.contains self.now.held.del id }
     {
@@ -239,6 +243,7 @@ impl Held {
     }
 
     /// How many held insertions have a chain of parents, through held ones, to this identifier.
+    /// Cost: O(m) of those that it counts.
     pub fn count_below(&mut self, id: Id) -> usize
         ensures count { CountsBelow self.old.held id result }
         ensures unchanged { self.new ≡ self.old }
@@ -251,6 +256,7 @@ impl Held {
 
     /// Makes the held insertions right after this identifier ready. As long as one of them is ready,
     /// so is an insertion that is held right after the identifier later.
+    /// Cost: O(1) expected.
     #[inline(always)]
     pub fn release_of(&mut self, id: Id)
         ensures { Releases self.old id self.new }
@@ -266,6 +272,7 @@ impl Held {
 
     /// Takes a ready insertion out. Those after it stay held, and are not ready until they are
     /// released.
+    /// Cost: O(1) expected.
     pub fn next_ready(&mut self) -> Option<Op>
         ensures some { IfSome result (λ op. TakesOut self.old op self.new) }
         ensures none { IsNone result ↔ NoneReady self.old }
@@ -278,6 +285,7 @@ impl Held {
     }
 
     /// Whether a deletion of this target was held. Afterwards none is.
+    /// Cost: O(1) expected.
     #[inline(always)]
     pub fn drop_erasure(&mut self, id: Id) -> bool
         ensures found { result ≡ set.contains self.old.held.del id }

@@ -45,6 +45,7 @@ impl Model for Picture {
 
 impl Picture {
     /// Draws a text, of which it keeps a copy, as `cell_grid::draw` does.
+    /// Cost: that of `draw`, memory too and for a copy of the text.
     pub fn draw(
         alloc: Global,
         tables: &SharedTables,
@@ -117,6 +118,7 @@ impl Picture {
     }
 
     /// Its print: the text of each cell, and one LF after each row.
+    /// Cost: that of `print`, memory for its bytes.
     pub fn printed(&mut self) -> Result<Vec<u8>, Memory>
         ensures print { IfOk result (λ bytes. bytes.items ≡ printed self.old) }
         ensures unchanged { self.new ≡ self.old }
@@ -134,6 +136,7 @@ impl Picture {
 
     /// How many bytes its print has, of which no more than a row is made at a time. `Memory` too where they are more than
     /// can be counted.
+    /// Cost: that of `print`, memory for the bytes of a row.
     pub fn print_size(&mut self) -> Result<usize, Memory>
         ensures size { IfOk result (λ size. size ≡ length (printed self.old)) }
         ensures unchanged { self.new ≡ self.old }
@@ -147,6 +150,7 @@ impl Picture {
     }
 
     /// The print of the row with this number, counted from 0, with its LF.
+    /// Cost: that of `print_row_at`, memory for its bytes.
     pub fn printed_row(&mut self, number: usize) -> Result<Vec<u8>, Memory>
         requires { number < length self.old.rows }
         ensures print { IfOk result (λ bytes. bytes.items ≡ printed_row self.old number) }
@@ -164,6 +168,7 @@ impl Picture {
     }
 
     /// The caret at a place of the text, as `caret::at_place` answers.
+    /// Cost: that of `at_place`.
     pub fn at_place(&mut self, place: usize) -> Caret
         requires { place ≤ length (chars self.old.text) }
         ensures caret { result ≡ caret_at self.old place }
@@ -178,6 +183,7 @@ impl Picture {
     }
 
     /// The caret where a mouse points, as `caret::at_column` answers.
+    /// Cost: that of `at_column`.
     pub fn at_column(&mut self, row: usize, column: usize) -> Caret
         requires { row < length self.old.rows }
         ensures caret { result ≡ caret_under self.old.rows row column }
@@ -220,6 +226,7 @@ impl Picture {
     }
 
     /// The caret one row higher, as `caret::up` answers.
+    /// Cost: that of `up`.
     pub fn up(&mut self, caret: Caret) -> Caret
         requires { IsCaretOf self.old.rows caret }
         ensures caret { result ≡ up_of self.old.rows caret }
@@ -234,6 +241,7 @@ impl Picture {
     }
 
     /// The caret one row lower, as `caret::down` answers.
+    /// Cost: that of `down`.
     pub fn down(&mut self, caret: Caret) -> Caret
         requires { IsCaretOf self.old.rows caret }
         ensures caret { result ≡ down_of self.old.rows caret }

@@ -24,6 +24,7 @@ impl Model for SharedTables {
 
 impl SharedTables {
     /// The first share in these tables.
+    /// Cost: O(1), memory for the count of shares.
     pub fn new(alloc: Global, tables: Tables) -> Result<SharedTables, Memory>
         ensures { IfOk result (λ shared. shared ≡ tables) }
     {

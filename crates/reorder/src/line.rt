@@ -36,6 +36,7 @@ fn begins_reset(classes: &[Bidi], follower_is_reset: bool) -> bool
 }
 
 /// What `line_levels` answers for a line whose code points have these classes.
+/// Cost: O(n), a byte of memory a cluster.
 pub fn line_levels_at(
     alloc: Global,
     classes: &[Bidi],
@@ -65,6 +66,7 @@ pub fn line_levels_at(
 /// A level for each cluster of a line (UAX #9, L1): that of its first code point.
 ///
 /// `levels` has a level for each code point of the line, and `sizes` the number of code points of each cluster.
+/// Cost: O(n), a byte of memory a code point and a cluster.
 pub fn line_levels(
     alloc: Global,
     tables: &Tables,

@@ -70,6 +70,7 @@ fn numbers_below(alloc: Global, count: usize) -> Result<Vec<u32>, Memory>
 }
 
 /// The numbers of a line's clusters from left to right, by their levels (UAX #9, L2).
+/// Cost: O(n), 4 bytes of memory a cluster.
 pub fn visual(alloc: Global, levels: &[u8]) -> Result<Vec<u32>, Memory>
     requires { length levels.now ≤ CLUSTERS }
     ensures list { IfOk result (λ order. order.items ≡ visual_list levels.now) }

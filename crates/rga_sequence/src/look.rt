@@ -39,6 +39,7 @@ pub trait Look {
 
     /// How many elements of the blocks from one up to another, which is left out, are visible. This is
     /// a look at the header of each.
+    /// Cost: O(n) of the blocks.
     fn headers(&mut self, from: usize, to: usize) -> usize
         requires order { from ≤ to }
         requires there { to ≤ length (blocks self.old) }
@@ -59,6 +60,7 @@ pub trait Look {
 
     /// How many of at most 255 elements of block b, from one up to another, which is left out, are
     /// visible, where its header says how many of all are. This is a look at each.
+    /// Cost: O(n) of the elements.
     fn visible_in(&mut self, b: usize, visible: usize, from: usize, to: usize) -> usize
         requires block { b < length (blocks self.old) }
         requires order { from ≤ to }
@@ -80,6 +82,7 @@ pub trait Look {
 }
 
 /// Visible element k. Looks at as much as `find_spot` does.
+/// Cost: O(n / 256 + 512).
 pub fn find<L: Look>(row: &mut L, k: usize) -> Element
     requires there { k < seen_all (L.blocks row.old) }
     requires room { L.looked row.old + length (L.blocks row.old) + 512 < 2 ^ 64 }

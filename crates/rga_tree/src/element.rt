@@ -20,6 +20,7 @@ pub struct Element {
 const _: () = prove!(size_of::<Element>() == 20);
 
 /// How many elements at the front of a row are greater than the identifier.
+/// Cost: O(n).
 pub fn greater_in_front(row: &[Element], id: Id) -> usize
     ensures count { result ≡ prefix_len (λ e. is_lt (id_cmp id e.id)) row.now }
     ensures within { result ≤ length row.now }

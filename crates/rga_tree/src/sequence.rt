@@ -37,6 +37,7 @@ pub trait Sequence {
 
     /// Makes room for n placings (at most 4,000,000). If memory is refused, content and room
     /// stay as they were.
+    /// Cost: memory for n elements; `Blocks`: paid once, O(n).
     fn reserve(&mut self, n: usize) -> Result<(), Memory>
         requires { n ≤ 4_000_000 }
         ensures content { content self.new ≡ content self.old }
@@ -52,6 +53,8 @@ pub trait Sequence {
 
     /// Places a new element below its parent, which is the root or already placed. Takes no
     /// memory, and uses up one placing of the room.
+    /// Cost: `Blocks`: O(1) expected to the parent's block, O(512) in it, O(1) for 32 blocks that are passed or for
+    /// one, now and then a split; `Plain`: O(n).
     fn place(&mut self, id: Id, parent: Place, ch: char, hidden: bool)
         requires parent { stands_in (content self.old) parent ≡ true }
         requires before { MayFollow parent id }
@@ -63,6 +66,7 @@ pub trait Sequence {
         ensures looked { looked self.new ≡ looked self.old };
 
     /// Hides a placed element, which may be hidden already. It stays where it is.
+    /// Cost: `Blocks`: O(512), O(1) where the element was put in last; `Plain`: O(n).
     fn hide(&mut self, id: Id)
         requires { map.contains_key (content self.old).ins id ≡ true }
         ensures content { content self.new ≡ with_operation (content self.old) (OpView.Erase id) }
@@ -70,10 +74,12 @@ pub trait Sequence {
         ensures looked { looked self.new ≡ looked self.old };
 
     /// How many elements are visible.
+    /// Cost: `Blocks`: O(1); `Plain`: O(n).
     fn len(&self) -> usize
         ensures { result ≡ length (visible (content self.now)) };
 
     /// The identifier of visible element k.
+    /// Cost: `Blocks`: O(n / 256 + 512); `Plain`: O(n).
     fn id_at(&mut self, k: usize) -> Id
         requires { k < length (visible (content self.old)) }
         ensures value { slice_get (visible_ids (content self.old)) k ≡ Some result }
@@ -81,6 +87,7 @@ pub trait Sequence {
         ensures room { free self.new ≡ free self.old };
 
     /// The character of visible element k.
+    /// Cost: as `id_at`.
     fn char_at(&mut self, k: usize) -> char
         requires { k < length (visible (content self.old)) }
         ensures value { slice_get (text (content self.old)) k ≡ Some result }
@@ -89,6 +96,7 @@ pub trait Sequence {
 
     /// Where visible element k stands: its part, and its place there. To read from it on, read the rest of that part,
     /// and then part after part.
+    /// Cost: as `id_at`.
     fn spot_at(&mut self, k: usize) -> (usize, usize)
         requires { k < length (visible (content self.old)) }
         ensures value { (e : Element) × IsVisiblePlace (parts self.new) k result.0 result.1 e }
@@ -97,6 +105,7 @@ pub trait Sequence {
 
     /// How many visible elements stand before the one with this identifier, which is placed. Takes no memory, and
     /// counts as no look.
+    /// Cost: `Blocks`: O(n / 16,384 + 512); `Plain`: O(n).
     fn visible_before(&self, id: Id) -> usize
         requires { map.contains_key (content self.now).ins id ≡ true }
         ensures { result ≡ visible_before (content self.now) id };
@@ -106,6 +115,7 @@ pub trait Sequence {
         ensures { result ≡ length (elements (content self.now)) };
 
     /// Element j, counting hidden ones.
+    /// Cost: `Blocks`: O(n / 256); `Plain`: O(1).
     fn nth(&self, j: usize) -> Element
         requires { j < length (elements (content self.now)) }
         ensures { slice_get (elements (content self.now)) j ≡ Some result };
@@ -120,10 +130,12 @@ pub trait Sequence {
         ensures { result.now ≡ get_or (parts self.now) p [] };
 
     /// Whether the identifier's insertion is placed.
+    /// Cost: `Blocks`: O(1) expected; `Plain`: O(n).
     fn has(&self, id: Id) -> bool
         ensures { result ≡ map.contains_key (content self.now).ins id };
 
     /// The placed element with this identifier.
+    /// Cost: `Blocks`: O(512), O(1) where the element was put in last; `Plain`: O(n).
     fn element(&self, id: Id) -> Option<Element>
         ensures { result ≡ option_map (λ node. element_of (content self.now) (id, node))
             (map.get (content self.now).ins id) };
@@ -150,6 +162,8 @@ pub trait Fresh: Sequence + Drop {
 }
 
 /// The visible characters in order.
+/// Cost: O(n), memory for the text: a byte an element in one growth, and up to two growths more where characters take
+/// more.
 pub fn text_of<S: Sequence>(alloc: Global, seq: &S) -> Result<String, Memory>
     ensures { IfOk result (λ t. string_bytes t ≡ encode_utf8_all (text (S.content seq.now))) }
 {

@@ -57,6 +57,8 @@ impl<K> Model for Buffer<K> {
 
 impl<K: Drop> Buffer<K> {
     /// A buffer of a text, of which nothing is kept. `TooLong` where it has more than 4,000,000 bytes.
+    /// Cost: O(n), memory for a copy of the text and an entry for each paragraph: 32 bytes and the size of what is kept
+    /// beside it.
     pub fn of(alloc: Global, tables: &Tables, text: &str) -> Result<Buffer<K>, BufferFault>
         ensures text { IfOk result (λ buffer. text_in buffer ≡ code_points text.now) }
         ensures split { IfOk result (λ buffer. IsSplit tables.now (paragraphs_in buffer)) }
@@ -107,6 +109,7 @@ impl<K: Drop> Buffer<K> {
     }
 
     /// A paragraph by its number, from 0.
+    /// Cost: O(n / 256 + 512) of the paragraphs.
     pub fn paragraph(&self, number: usize) -> Para<'_>
         requires { number < length self.now }
         ensures paragraph { (tables : TableValues) → IsSplit tables (paragraphs_in self.now) → slice_get (paragraphs tables (encode_utf8_all (text_in self.now))) number ≡ Some result }
@@ -115,6 +118,7 @@ impl<K: Drop> Buffer<K> {
     }
 
     /// A cursor at a paragraph.
+    /// Cost: O(n / 256 + 512) of the paragraphs.
     pub fn cursor(&self, number: usize) -> Cursor<'_, K>
         requires { number < length self.now }
         ensures paragraphs { result.paragraphs ≡ self.now }
@@ -124,6 +128,7 @@ impl<K: Drop> Buffer<K> {
     }
 
     /// A cursor at the paragraph in which a place stands.
+    /// Cost: O(n / 256 + 512) of the paragraphs.
     pub fn cursor_at(&self, place: usize) -> Cursor<'_, K>
         requires { place ≤ length (text_in self.now) }
         ensures paragraphs { result.paragraphs ≡ self.now }
@@ -133,6 +138,7 @@ impl<K: Drop> Buffer<K> {
     }
 
     /// The number of the paragraph in which a place stands: of the last one that begins at it or before.
+    /// Cost: O(n / 256 + 512) of the paragraphs.
     pub fn paragraph_of(&self, place: usize) -> usize
         requires { place ≤ length (text_in self.now) }
         ensures { IsParagraphOf (paragraphs_in self.now) place result }
@@ -142,6 +148,7 @@ impl<K: Drop> Buffer<K> {
     }
 
     /// What is kept of a paragraph, or nothing.
+    /// Cost: O(n / 256 + 512) of the paragraphs.
     pub fn kept(&self, number: usize) -> Option<&K>
         requires { number < length self.now }
         ensures { slice_get (kept_in self.now) number ≡ Some (option_copied result) }
@@ -152,6 +159,7 @@ impl<K: Drop> Buffer<K> {
     }
 
     /// Keeps a value beside a paragraph, until an edit makes it anew or another takes its place.
+    /// Cost: O(n / 256 + 512) of the paragraphs.
     pub fn keep(&mut self, number: usize, value: K)
         requires { number < length self.old }
         ensures paragraphs { paragraphs_in self.new ≡ paragraphs_in self.old }
@@ -163,6 +171,7 @@ impl<K: Drop> Buffer<K> {
     }
 
     /// Drops what is kept of a paragraph.
+    /// Cost: O(n / 256 + 512) of the paragraphs.
     pub fn forget(&mut self, number: usize)
         requires { number < length self.old }
         ensures paragraphs { paragraphs_in self.new ≡ paragraphs_in self.old }
@@ -174,6 +183,7 @@ impl<K: Drop> Buffer<K> {
     }
 
     /// Drops what is kept of all paragraphs but those from one number up to another.
+    /// Cost: O(n / 256) of the paragraphs, and O(512) for each 512 of them of which something is kept.
     pub fn forget_but(&mut self, from: usize, to: usize)
         requires { from ≤ to }
         ensures paragraphs { paragraphs_in self.new ≡ paragraphs_in self.old }
@@ -185,6 +195,8 @@ impl<K: Drop> Buffer<K> {
     /// Puts a text in the place of the code points from one place up to another, and tells which paragraphs it made anew; of
     /// these nothing is kept, and of the others what was. After a fault all is as it was: `TooLong` where the text would have
     /// more than 4,000,000 bytes.
+    /// Cost: O(n / 256 + 512) of the paragraphs, and O(m) of those that it touches and of the text put in; memory for
+    /// their text.
     pub fn edit(
         &mut self,
         tables: &Tables,
@@ -218,6 +230,8 @@ impl<K: Drop> Buffer<K> {
     }
 
     /// Puts a character at a place, as `edit` does.
+    /// Cost: O(n / 256 + 512) of the paragraphs, and O(m) of the one at the place and those it joins; memory for their
+    /// text.
     pub fn put(&mut self, tables: &Tables, place: usize, ch: char) -> Result<Touched, BufferFault>
         requires split { IsSplit tables.now (paragraphs_in self.old) }
         requires place { place ≤ length (text_in self.old) }
@@ -232,6 +246,8 @@ impl<K: Drop> Buffer<K> {
     }
 
     /// Erases the character at a place, as `edit` does. The fault is `Memory`.
+    /// Cost: O(n / 256 + 512) of the paragraphs, and O(m) of the one at the place and those it joins; memory for their
+    /// text.
     pub fn cut(&mut self, tables: &Tables, place: usize) -> Result<Touched, BufferFault>
         requires split { IsSplit tables.now (paragraphs_in self.old) }
         requires place { place < length (text_in self.old) }
@@ -247,6 +263,7 @@ impl<K: Drop> Buffer<K> {
     }
 
     /// Makes a change, as `edit` does.
+    /// Cost: that of `put` or `cut`, memory as they take it.
     pub fn apply(&mut self, tables: &Tables, change: &Change) -> Result<Touched, BufferFault>
         requires split { IsSplit tables.now (paragraphs_in self.old) }
         requires place { IsInRange (text_in self.old) change.now }
@@ -265,6 +282,7 @@ impl<K: Drop> Buffer<K> {
     }
 
     /// Whether each of these changes is in range when its turn comes.
+    /// Cost: O(k) of the changes.
     pub fn may_apply(&self, changes: &[Change]) -> bool
         ensures { IsTrue result ↔ AreInRange (text_in self.now) changes.now }
     {
@@ -274,6 +292,8 @@ impl<K: Drop> Buffer<K> {
     /// Makes changes in turn, as `apply` does. Characters that are cut at one place, and others that are put there behind one
     /// another, are one edit together, which splits the paragraphs that they meet once. After a fault those before that edit
     /// stand, so many as it tells.
+    /// Cost: that of `edit` for each run of characters that are cut at one place and of others that are put there;
+    /// memory as it takes it.
     pub fn apply_all(&mut self, tables: &Tables, changes: &[Change]) -> Result<(), Stopped>
         requires split { IsSplit tables.now (paragraphs_in self.old) }
         requires places { AreInRange (text_in self.old) changes.now }

@@ -28,6 +28,7 @@ pub struct Ucd<'a> {
 impl Ucd<'_> {
     /// Reads the files, and sets the choice of width. The fault is the first of the first faulty
     /// file, in the order of the fields.
+    /// Cost: O(n), a step for each block of 256 code points that a line covers; memory for the words of each block.
     pub fn load(&self, alloc: Global) -> Result<Tables, UcdFault>
         ensures ok { IfOk result (λ tables. tables ≡ tables_of_ucd self.now) }
 

@@ -35,6 +35,7 @@ impl<V> Model for Property<V> {
 
 impl<V: Copy> Property<V> {
     /// The property whose value is the same everywhere.
+    /// Cost: O(1), memory for a value a block of 256 code points.
     pub fn of(alloc: Global, value: V) -> Result<Property<V>, Memory>
         ensures { IfOk result (λ property. property ≡ each_code_point (λ _. value)) }
     {
@@ -47,6 +48,7 @@ impl<V: Copy> Property<V> {
 
     /// Gives the code points from `first` to `last` this value, if there are any. After an error each has the value
     /// that it had.
+    /// Cost: O(1), a step for each block of the range; memory for two pages of 256 values.
     pub fn set(&mut self, first: u32, last: u32, value: V) -> Result<(), Memory>
         ensures ok { OnOk result ((c : ℕ) (d : V) → c < 0x110000 → slice_index_or self.new c d
             ≡ (if nat_le first c && nat_le c last then value else slice_index_or self.old c d)) }

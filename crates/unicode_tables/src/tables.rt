@@ -38,6 +38,7 @@ impl Tables {
     ghost use Rattle.unicode_tables.specs.Word.{word_of};
 
     /// The tables of five properties. Ambiguous characters are narrow.
+    /// Cost: O(1), a step for each code point of a page; memory for the words.
     pub fn new(
         alloc: Global,
         bidi: Property<Bidi>,
@@ -98,6 +99,7 @@ impl Tables {
     }
 
     /// Bidi_Class of each of these characters.
+    /// Cost: O(n), memory for the classes.
     pub fn bidi_of_each(&self, alloc: Global, points: &[char]) -> Result<Vec<Bidi>, Memory>
         ensures { IfOk result (λ classes. classes.items ≡ map (bidi_of self.now) points.now) }
     {
@@ -105,6 +107,7 @@ impl Tables {
     }
 
     /// Bidi_Class of each character of a text.
+    /// Cost: O(n), memory for the classes.
     pub fn bidi_of_text(&self, alloc: Global, text: &str) -> Result<Vec<Bidi>, Memory>
         ensures { IfOk result (λ classes. classes.items ≡ map (bidi_of self.now) (chars text.now)) }
     {

@@ -43,6 +43,7 @@ impl KeptRows {
     /// Room for the rows of this many paragraphs, 1 to 1,000,000, found by hashes that begin with this
     /// key, so that it is hard to choose paragraphs that share a slot without knowing it. The hash is
     /// not cryptographic, and no bound is proved.
+    /// Cost: O(1), memory for an empty table.
     pub fn keyed(alloc: Global, key: u128, room: usize) -> Result<KeptRows, Memory>
         requires some { 1 ≤ room }
         requires most { room ≤ 1_000_000 }
@@ -59,6 +60,7 @@ impl KeptRows {
     /// kept under it, the paragraph is laid out and its rows are kept, in place of those used longest ago
     /// where there is no more room. Returns whether it was laid out. `newest` has the rows then. After
     /// `Memory` nothing has changed.
+    /// Cost: O(n) of the paragraph; memory for a copy of its text, and for its rows where it is laid out.
     pub fn keep(
         &mut self,
         alloc: Global,

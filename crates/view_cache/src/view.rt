@@ -52,6 +52,7 @@ impl<'a> Model for View<'a> {
 impl<'a> View<'a> {
     /// A view with room for 1,024 paragraphs. Its table is hashed with the key 0: for texts from
     /// strangers make the view by `keyed`.
+    /// Cost: O(1), memory for an empty table.
     pub fn new(alloc: Global, tables: &'a Tables) -> Result<View<'a>, Memory>
         ensures { IfOk result (λ view. view ≡ empty_view tables.now 1024 0) }
     {
@@ -60,6 +61,7 @@ impl<'a> View<'a> {
 
     /// A view with room for this many paragraphs, 1 to 1,000,000. A text of more different ones than that
     /// finds none of its paragraphs kept when it is drawn again: each was dropped before its turn.
+    /// Cost: O(1), memory for an empty table.
     pub fn with_room(alloc: Global, tables: &'a Tables, room: usize) -> Result<View<'a>, Memory>
         requires some { 1 ≤ room }
         requires most { room ≤ 1_000_000 }
@@ -70,6 +72,7 @@ impl<'a> View<'a> {
 
     /// The same, its table hashed with this key. Without knowing the key, it is hard to choose paragraphs
     /// that make the draws slow; no bound is proved.
+    /// Cost: O(1), memory for an empty table.
     pub fn keyed(
         alloc: Global,
         key: u128,
@@ -99,6 +102,8 @@ impl<'a> View<'a> {
 
     /// Draws a text on a grid of a width in columns, as `cell_grid::draw` does. After `Memory`, what
     /// is kept is still right, and the next draw goes on from there.
+    /// Cost: O(n), one pass to split the text, and a copy of the rows of each paragraph that is kept; memory for what
+    /// is laid out anew.
     pub fn draw<'t>(&mut self, width: u16, base: Base, text: &'t str) -> Result<Grid<'t>, Memory>
     where
         'a: 't,

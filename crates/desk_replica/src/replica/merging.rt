@@ -33,6 +33,7 @@ impl<S: Sequence> Replica<S> {
     /// `IdentifierReused` nothing has changed; after `Full` or `Memory` some of them are taken. While
     /// as many are spare as the other desk keeps, the fault is not `Memory`; each operation that was
     /// new lowers the spare ones by at most one.
+    /// Cost: a `take` for each operation of the other desk; memory likewise.
     pub fn merge(&mut self, other: &Replica<S>) -> Result<u32, TakeFault>
         ensures ok { OnOk result (self.new.set ≡ union self.old.set other.now.set) }
         ensures agree { OnOk result (Agree self.old.set other.now.set) }

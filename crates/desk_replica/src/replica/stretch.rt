@@ -19,6 +19,8 @@ impl<S: Sequence> Replica<S> {
     /// Types characters at a place, each behind the one before, as that many `type_char` do, and appends the
     /// operations that this makes to `made`. A fault changes nothing, `made` included. While as many are spare as
     /// there are characters, and `made` has room for them, the fault is not `Memory`.
+    /// Cost: `id_at` once, then a `Sequence::place` for each character; memory for them and for their operations, none
+    /// where both are there.
     pub fn type_text(
         &mut self,
         place: usize,
@@ -45,6 +47,8 @@ impl<S: Sequence> Replica<S> {
     /// Erases the visible characters from one place up to another, as that many `erase_at` do, and appends the
     /// deletions to `made`. A fault changes nothing, `made` included. While `made` has room for them, the fault is not
     /// `Memory`.
+    /// Cost: `Sequence::spot_at` once, a walk over the elements of the stretch, then a `Sequence::hide` for each
+    /// character; memory for the operations alone, none where it is there.
     pub fn erase_range(
         &mut self,
         from: usize,
@@ -76,6 +80,7 @@ impl<S: Sequence> Replica<S> {
     /// then `type_text` do, and appends the deletions and then the insertions to `made`. It is one step: a fault changes
     /// nothing, `made` included. While as many are spare as characters are typed, and `made` has room for all operations,
     /// the fault is not `Memory`.
+    /// Cost: an `erase_range`, then a `type_text`; memory as theirs together.
     pub fn replace(
         &mut self,
         from: usize,

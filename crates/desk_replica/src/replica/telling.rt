@@ -20,6 +20,8 @@ impl<S: Sequence> Replica<S> {
     /// Takes an operation as `take` does, and appends to the list how the text changed by it. A fault changes nothing, and
     /// nothing in the list. While one is spare, and the list has room for what the operation may tell, the fault is not
     /// `Memory`: one change for a deletion, and for an insertion one and one for each that waits below it.
+    /// Cost: that of `take`, and `Sequence::visible_before` for each change; O(1) more for each operation that waits
+    /// below it; memory for the changes too, none where the list has room for one more than wait below it.
     pub fn take_telling(&mut self, op: &Op, changes: &mut Vec<Change>) -> Result<Taken, TakeFault>
         ensures answer { MatchResult result (IsTaken self.old.set op.now) (IsUntaken self.old.set op.now) }
         ensures accepted { OnOk result ((fault : Fault) → ¬ (IsRefusal self.old.set op.now fault)) }
@@ -39,6 +41,7 @@ impl<S: Sequence> Replica<S> {
     /// Takes all operations of another desk as `merge` does, and appends to the list how the text changed by them: after
     /// `Full` and `Memory` too, by those that are taken. While as many are spare as the other desk keeps, and the list has
     /// room for that many changes and one for each insertion that waits here, the fault is not `Memory`.
+    /// Cost: a `take_telling` for each operation of the other desk; memory likewise.
     pub fn merge_telling(
         &mut self,
         other: &Replica<S>,

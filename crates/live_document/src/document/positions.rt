@@ -22,6 +22,7 @@ use cell_grid::Row;
 
 impl Document {
     /// The position of the caret at a place, as `caret::at_place` answers. Then the place's row is shown.
+    /// Cost: that of `Document::show` with no row above and below, and of `at_place`; memory for a copy of the row too.
     pub fn position_at(&mut self, place: usize) -> Result<Position, Memory>
         requires { place ≤ length (visible self.old.desk.set) }
         ensures position { IfOk result (λ position. position ≡ position_at (whole_rows self.old) place) }
@@ -38,6 +39,8 @@ impl Document {
     }
 
     /// The position where a mouse points in the row of a place, as `caret::at_column` answers. Then this row is shown.
+    /// Cost: that of `Document::show` with no row above and below, and of `at_column`; memory for a copy of the row
+    /// too.
     pub fn position_in(&mut self, place: usize, column: usize) -> Result<Position, Memory>
         requires { place ≤ length (visible self.old.desk.set) }
         ensures position { IfOk result (λ position. position
@@ -55,6 +58,7 @@ impl Document {
     }
 
     /// Whether a position's row and gap are those of the text's grid. Then the row of this place is shown, if the text has it.
+    /// Cost: that of `Document::show` with no row above and below; memory for a copy of the row too.
     pub fn holds(&mut self, position: Position) -> Result<bool, Memory>
         ensures yes { IfOk result (λ holds. OnTrue holds (IsPositionOf (whole_rows self.old) position)) }
         ensures no { IfOk result (λ holds. OnFalse holds (¬ (IsPositionOf (whole_rows self.old) position))) }
@@ -72,6 +76,8 @@ impl Document {
     }
 
     /// The position one step to the right, as `caret::right` answers. Then the row that it came from is shown, with its neighbours.
+    /// Cost: that of `Document::show` with a row above and one below, and of `right`; memory for copies of the rows
+    /// too.
     pub fn right(&mut self, position: Position) -> Result<Position, Memory>
         requires { IsPositionOf (whole_rows self.old) position }
         ensures position { IfOk result (λ moved. moved ≡ position_moved right_of (whole_rows self.old) position) }
@@ -89,6 +95,7 @@ impl Document {
     }
 
     /// The position one step to the left, as `caret::left` answers. Then the row that it came from is shown, with its neighbours.
+    /// Cost: that of `Document::right`, memory too.
     pub fn left(&mut self, position: Position) -> Result<Position, Memory>
         requires { IsPositionOf (whole_rows self.old) position }
         ensures position { IfOk result (λ moved. moved ≡ position_moved left_of (whole_rows self.old) position) }
@@ -106,6 +113,7 @@ impl Document {
     }
 
     /// The position one row higher, as `caret::up` answers. Then the row that it came from is shown, with its neighbours.
+    /// Cost: that of `Document::show` with a row above and one below, and of `up`; memory for copies of the rows too.
     pub fn up(&mut self, position: Position) -> Result<Position, Memory>
         requires { IsPositionOf (whole_rows self.old) position }
         ensures position { IfOk result (λ moved. moved ≡ position_moved up_of (whole_rows self.old) position) }
@@ -123,6 +131,7 @@ impl Document {
     }
 
     /// The position one row lower, as `caret::down` answers. Then the row that it came from is shown, with its neighbours.
+    /// Cost: that of `Document::up`, memory too.
     pub fn down(&mut self, position: Position) -> Result<Position, Memory>
         requires { IsPositionOf (whole_rows self.old) position }
         ensures position { IfOk result (λ moved. moved ≡ position_moved down_of (whole_rows self.old) position) }

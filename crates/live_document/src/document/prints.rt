@@ -15,6 +15,7 @@ impl Document {
     /// and one LF after each row. Takes no memory. Nothing is shown before the first `show` and after a change.
     ///
     /// After `Device` a beginning of it is written.
+    /// Cost: that of `Window::rows` and `print_row` for each row.
     pub fn print<W: Sink>(&self, sink: &mut W) -> Result<(), Device>
         requires working { W.has_failed sink.old ≡ false }
         ensures ok { OnOk result (Appends (W.written sink.old) (W.written sink.new) (printed (shown_grid self.now))) }
@@ -25,6 +26,7 @@ impl Document {
     }
 
     /// How many bytes `print` writes. Takes no memory. `Memory` where they are more than can be counted.
+    /// Cost: that of `Window::rows` and `row_print_size` for each row.
     pub fn print_size(&self) -> Result<usize, Memory>
         ensures { IfOk result (λ size. size ≡ length (printed (shown_grid self.now))) }
     {
@@ -34,6 +36,7 @@ impl Document {
     /// Writes a row that is shown, by its number from 0, as `print` does. Takes no memory.
     ///
     /// After `Device` a beginning of it is written.
+    /// Cost: that of `Window::row` and `print_row`.
     pub fn print_row<W: Sink>(&self, number: usize, sink: &mut W) -> Result<(), Device>
         requires row { number < length self.now.window.rows }
         requires working { W.has_failed sink.old ≡ false }
@@ -45,6 +48,7 @@ impl Document {
     }
 
     /// How many bytes `print_row` writes. Takes no memory. `Memory` where they are more than can be counted.
+    /// Cost: that of `Window::row` and `row_print_size`.
     pub fn row_print_size(&self, number: usize) -> Result<usize, Memory>
         requires { number < length self.now.window.rows }
         ensures { IfOk result (λ size. size ≡ length (printed_row (shown_grid self.now) number)) }

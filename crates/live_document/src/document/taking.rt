@@ -21,6 +21,7 @@ use desk_replica::{TakeFault, Taken};
 
 impl Document {
     /// Takes an operation, as the desk's `take` does. Then nothing is shown.
+    /// Cost: that of `take_telling`; memory that must be there as `Replica::take` asks for it.
     pub fn take(&mut self, op: &Op) -> Result<Taken, TakeFault>
         ensures answer { MatchResult result (IsTaken self.old.desk.set op.now) (IsRefused self.old.desk.set op.now) }
         ensures accepted { OnOk result ((fault : Fault) → ¬ (IsRefusal self.old.desk.set op.now fault)) }
@@ -45,6 +46,8 @@ impl Document {
 
     /// Takes an operation, and appends to the list how the text changed by it, as the desk's `take_telling` does. A fault
     /// changes nothing, and nothing in the list. Then nothing is shown.
+    /// Cost: that of `Replica::take_telling`, and of `Buffer::apply_all`; memory that must be there as
+    /// `Replica::take_telling` asks for it.
     pub fn take_telling(&mut self, op: &Op, changes: &mut Vec<Change>) -> Result<Taken, TakeFault>
         ensures answer { MatchResult result (IsTaken self.old.desk.set op.now) (IsUntaken self.old.desk.set op.now) }
         ensures accepted { OnOk result ((fault : Fault) → ¬ (IsRefusal self.old.desk.set op.now fault)) }
@@ -96,6 +99,8 @@ impl Document {
     }
 
     /// Takes all operations of another desk, as the desk's `merge` does. Then nothing is shown.
+    /// Cost: that of `merge_telling`; memory for a change for each operation of both desks, and memory that must be
+    /// there as `Replica::merge` asks for it.
     pub fn merge(&mut self, other: &Desk) -> Result<u32, TakeFault>
         ensures ok { OnOk result (self.new.desk.set ≡ union self.old.desk.set other.now.set) }
         ensures agree { OnOk result (Agree self.old.desk.set other.now.set) }
@@ -126,6 +131,8 @@ impl Document {
 
     /// Takes all operations of another desk, and appends to the list how the text changed by them, as the desk's
     /// `merge_telling` does: after `Full` and `Memory` too, by those that are taken. Then nothing is shown.
+    /// Cost: that of `Replica::merge_telling`, and of `Buffer::apply_all`; memory that must be there as
+    /// `Replica::merge_telling` asks for it.
     pub fn merge_telling(
         &mut self,
         other: &Desk,

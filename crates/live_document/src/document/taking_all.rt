@@ -32,6 +32,8 @@ impl Document {
     /// Takes operations in order, as `take` does each, up to the first that is refused: those before it stand. Appends to
     /// the list how the text changed by them, or nothing where there is no memory for all of it. The paragraphs follow
     /// once, however many operations change one of them. Where one was taken, nothing is shown then.
+    /// Cost: that of `Replica::take_telling` for each operation, and of `Buffer::apply_all` once; memory for what is
+    /// told and for the paragraphs, and memory that must be there as `Replica::take` asks for it.
     pub fn take_all(&mut self, ops: &[Op], changes: &mut Vec<Change>) -> TakenAll
         ensures taken { AreTaken self.old.desk ops.now result.taken self.new.desk }
         ensures all { result.fault ≡ None → result.taken ≡ length ops.now }

@@ -18,6 +18,8 @@ use desk_replica::TypeFault;
 
 impl Document {
     /// Types a character at a place, as the desk's `type_char` does. Then nothing is shown.
+    /// Cost: that of `Replica::type_char`, and of `Buffer::put`; memory that must be there as `Replica::type_char` asks
+    /// for it.
     pub fn type_char(&mut self, place: usize, ch: char) -> Result<Op, TypeFault>
         requires { place ≤ length (visible self.old.desk.set) }
         ensures op { IfOk result (λ op. op ≡ insertion (typed self.old.desk.set self.old.desk.site place ch)) }
@@ -42,6 +44,7 @@ impl Document {
 
     /// Erases the visible character at a place, as the desk's `erase_at` does; the only fault is `Full`. Then nothing is
     /// shown.
+    /// Cost: that of `Replica::erase_at`, and of `Buffer::edit`.
     pub fn erase_at(&mut self, place: usize) -> Result<Op, TypeFault>
         requires { place < length (visible self.old.desk.set) }
         ensures op { IfOk result (λ op. IsErasedAt self.old.desk.set self.new.desk.set place op) }

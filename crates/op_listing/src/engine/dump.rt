@@ -11,6 +11,7 @@ use std::alloc::Global;
 
 /// Writes the listing of an operation file, a line an operation. Nothing is written before the
 /// whole file is read.
+/// Cost: O(n), memory for the operations and the listing.
 pub fn dump<S: Sink>(alloc: Global, file: &[u8], out: &mut S) -> Result<(), FileFault>
     requires { S.has_failed out.old ≡ false }
     ensures outcome { IsDumpOutcome file.now (S.written out.old) (S.written out.new) (S.has_failed out.new) result }

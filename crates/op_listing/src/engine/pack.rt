@@ -10,6 +10,7 @@ use op_codec::encode_file;
 use std::alloc::Global;
 
 /// Writes the operation file of a listing. Nothing is written before the whole listing is read.
+/// Cost: O(n), memory for the operations and the file.
 pub fn pack<S: Sink>(alloc: Global, listing: &[u8], out: &mut S) -> Result<(), ListingFault>
     requires { S.has_failed out.old ≡ false }
     ensures outcome { IsPackOutcome listing.now (S.written out.old) (S.written out.new) (S.has_failed out.new) result }
