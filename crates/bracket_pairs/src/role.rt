@@ -17,7 +17,7 @@ pub(crate) enum Role {
     Neither,
 }
 
-/// The same character for two canonically equivalent brackets.
+/// The character that stands for a bracket and for each that is canonically equivalent to it.
 #[tactic(auto, unfolding(crate::specs::Pairs::canonical))]
 fn canonical(c: char) -> char
     ensures { result ≡ canonical c }

@@ -80,7 +80,7 @@ impl Row {
         })
     }
 
-    /// The same of clusters with these columns of their own: the spaces at the line's end hang where they
+    /// The row of a line whose clusters have these columns of their own: the spaces at its end hang where they
     /// don't fit.
     pub(crate) fn of_line(
         alloc: Global,

@@ -40,7 +40,7 @@ impl SharedTables {
         Ok(SharedTables { tables })
     }
 
-    /// The same, for what keeps its tables by an `Rc`.
+    /// A further share, for what keeps its tables by an `Rc`.
     pub fn to_rc(&self) -> Result<Rc<Tables>, Memory>
         ensures { IfOk result (λ tables. tables.value ≡ self.now) }
     {

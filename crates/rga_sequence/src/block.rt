@@ -224,7 +224,7 @@ pub fn is_below(a: Id, b: Id) -> bool
     is_below_at(a, b, b.counter())
 }
 
-/// The same, where the second one's counter is at hand. Mostly the counters alone tell.
+/// Whether the first identifier is the lesser, where the second one's counter is at hand. Mostly the counters alone tell.
 #[inline(always)]
 fn is_below_at(a: Id, b: Id, counter: u32) -> bool
     requires { counter ≡ b.counter }

@@ -226,7 +226,8 @@ fn recent_parent(row: &Row, parent: &Place) -> Option<(usize, usize)>
     }
 }
 
-/// The same where the parent was not put in last: right behind a greater sibling that was, or right behind the parent.
+/// Where the search for a place starts if the parent was not put in last: right behind a greater sibling that was, or right
+/// behind the parent.
 #[inline(never)]
 fn start_elsewhere(row: &Row, parent: &Place, id: Id) -> (usize, usize)
     requires indexed { IsIndexed ⟦<Id as Eq>⟧.eq row.now }

@@ -19,7 +19,7 @@ fn passed_in_front(blocks: &[Block], id: Id) -> usize
     blocks.iter().take_while(|b| is_below(id, b.least)).count()
 }
 
-/// The same of a row in which the identifiers fall: all of them, if the last one is, or else by halving.
+/// How many elements at the front of a row whose identifiers fall are greater: all, if the last one is, or else by halving.
 fn greater_in_falling(row: &[Element], id: Id) -> usize
     requires { FallsFrom 0 row.now }
     ensures count { result ≡ prefix_len (λ e. is_lt (id_cmp id e.id)) row.now }
@@ -46,7 +46,7 @@ fn greater_from(block: &Block, j: usize, id: Id) -> usize
     greater_inside(block, j, id)
 }
 
-/// The same, not inlined.
+/// What `greater_from` counts, where it needs a look into the block. Not inlined.
 #[inline(never)]
 fn greater_inside(block: &Block, j: usize, id: Id) -> usize
     requires { j ≤ length block.now.elements.items }
@@ -96,7 +96,7 @@ fn greater_blocks(blocks: &[Block], bounds: &[Id], p: usize, id: Id) -> usize
     greater_neighbours(blocks, bounds, p, id)
 }
 
-/// The same, not inlined. Neighbours whose bound is greater are passed together.
+/// What `greater_blocks` counts, where there are many: neighbours whose bound is greater are passed together. Not inlined.
 #[inline(never)]
 fn greater_neighbours(blocks: &[Block], bounds: &[Id], p: usize, id: Id) -> usize
     requires within { p ≤ length blocks.now }

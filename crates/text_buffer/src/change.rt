@@ -55,7 +55,7 @@ fn pieces_up_to<K: Drop>(
     Ok(pieces)
 }
 
-/// The same of a text that is known to be one, of so many code points, or is not.
+/// The paragraphs of a text that is known to be one, of so many code points, or is not.
 fn pieces_of_stretch<K: Drop>(
     alloc: Global,
     tables: &Tables,

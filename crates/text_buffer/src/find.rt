@@ -176,7 +176,7 @@ pub fn spot_at<K>(blocks: &[Block<K>], start: Before, place: usize) -> (Before, 
     (before, spot)
 }
 
-/// The same among the paragraphs of a block.
+/// The spot of a place among the paragraphs of a block.
 fn spot_in<K>(pieces: &[Piece<K>], place: usize) -> Spot
     requires some { 0 < length pieces.now }
     requires within { place ≤ length (concat (points_in pieces.now)) }

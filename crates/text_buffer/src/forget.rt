@@ -29,7 +29,7 @@ pub fn forget_but<K: Drop>(blocks: &mut [Block<K>], from: usize, to: usize)
     }
 }
 
-/// The same in block q alone.
+/// Drops what block q keeps of all but those paragraphs.
 fn forget_but_in<K: Drop>(blocks: &mut [Block<K>], q: usize, from: usize, to: usize)
     requires block { q < length blocks.old }
     requires few { bytes_in (concat (points_in (get_or (rows_of blocks.old) q []))) ≤ 9_000_000 }

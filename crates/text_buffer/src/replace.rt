@@ -71,7 +71,7 @@ pub fn replace<K: Drop>(
     Ok(())
 }
 
-/// The same, by which blocks may become sparse.
+/// Puts these paragraphs in the place of those; blocks may become sparse by it.
 fn replace_apart<K: Drop>(
     alloc: Global,
     blocks: &mut Vec<Block<K>>,
@@ -125,7 +125,7 @@ fn is_sparse<K>(blocks: &[Block<K>], q: usize) -> bool
     count_in(blocks, q + 1) <= HALF - count_in(blocks, q)
 }
 
-/// The same in one block.
+/// Puts these paragraphs in the place of some of one block.
 fn replace_near<K: Drop>(
     blocks: &mut [Block<K>],
     before: Before,
@@ -146,8 +146,8 @@ fn replace_near<K: Drop>(
     replace_in(blocks, before.block, from - number, to - number, pieces)
 }
 
-/// The same by whole blocks: those of the others stand in the place of all that end before `to`, and what is left of the
-/// next one follows them.
+/// Puts these paragraphs in the place of some that reach into other blocks: new blocks stand in the place of all that end
+/// before `to`, and what is left of the next one follows them.
 fn replace_far<K: Drop>(
     alloc: Global,
     blocks: &mut Vec<Block<K>>,

@@ -65,7 +65,7 @@ impl Tables {
         })
     }
 
-    /// The same tables, in which characters of East_Asian_Width A are wide or not (UAX #11, 5: the
+    /// These tables, in which characters of East_Asian_Width A are wide or not (UAX #11, 5: the
     /// context decides). Takes no memory.
     pub fn with_wide_ambiguous(mut self, yes: bool) -> Tables
         ensures { result ≡ with_width self yes }

@@ -70,8 +70,8 @@ impl<'a> View<'a> {
         View::keyed(alloc, 0, tables, room)
     }
 
-    /// The same, its table hashed with this key. Without knowing the key, it is hard to choose paragraphs
-    /// that make the draws slow; no bound is proved.
+    /// A view with room for this many paragraphs, its table hashed with this key. Without knowing the key, it is
+    /// hard to choose paragraphs that make the draws slow; no bound is proved.
     /// Cost: O(1), memory for an empty table.
     pub fn keyed(
         alloc: Global,

@@ -68,7 +68,7 @@ pub fn keys_of(alloc: Global, desk: &Desk, way: Way, count: usize) -> Result<Vec
     Ok(keys)
 }
 
-/// The same as they are pressed at one desk, in a text that grows from this length.
+/// So many keys as they are pressed at one desk, in a text that grows from this length.
 fn typed(alloc: Global, length: usize, way: Way, count: usize) -> Result<Vec<Key>> {
     let mut chance = Chance::new(0, STREAM);
     let mut keys = Vec::with_capacity(alloc, count)?;

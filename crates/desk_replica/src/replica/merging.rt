@@ -167,7 +167,7 @@ impl<S: Sequence> Replica<S> {
         Ok(())
     }
 
-    /// The same of a row. The own elements stand at the cursor or behind it.
+    /// Takes the deletions of the hidden elements of a row. The own elements stand at the cursor or behind it.
     fn erase_row<L: Listener>(
         &mut self,
         row: &[Element],
@@ -188,8 +188,8 @@ impl<S: Sequence> Replica<S> {
         Ok(())
     }
 
-    /// The same of an element. Where the own one is hidden, its deletion is known without a look-up; a
-    /// counter above all that are named is seen in place to be new.
+    /// Takes the deletion of an element that is hidden. Where the own one is hidden, its deletion is known without a
+    /// look-up; a counter above all that are named is seen in place to be new.
     fn erase_element<L: Listener>(
         &mut self,
         e: &Element,
@@ -263,8 +263,8 @@ impl<S: Sequence> Replica<S> {
         Ok(())
     }
 
-    /// The same of a part. Its first element is awaited at the cursor, and so is what follows one that is known; what follows
-    /// a new one is looked up.
+    /// Takes the insertions and deletions of a part's elements. Its first element is awaited at the cursor, and so is what
+    /// follows one that is known; what follows a new one is looked up.
     fn take_part<L: Listener>(
         &mut self,
         seq: &S,

@@ -78,7 +78,7 @@ impl Document {
         Ok(taken)
     }
 
-    /// The same without telling: the paragraphs are behind then.
+    /// Takes an operation without telling what it changed: the paragraphs are behind then.
     fn take_untold(&mut self, op: &Op) -> Result<Taken, TakeFault>
         ensures answer { MatchResult result (IsTaken self.old.desk.set op.now) (IsRefused self.old.desk.set op.now) }
         ensures accepted { OnOk result ((fault : Fault) → ¬ (IsRefusal self.old.desk.set op.now fault)) }
@@ -169,7 +169,7 @@ impl Document {
         outcome
     }
 
-    /// The same without telling: the paragraphs are behind then.
+    /// Merges another desk without telling what that changed: the paragraphs are behind then.
     fn merge_untold(&mut self, other: &Desk) -> Result<u32, TakeFault>
         ensures ok { OnOk result (self.new.desk.set ≡ union self.old.desk.set other.now.set) }
         ensures agree { OnOk result (Agree self.old.desk.set other.now.set) }
