@@ -160,7 +160,7 @@ pub fn rows(
     let points = code_points_of(alloc, text)?;
     let classes = tables.bidi_of_each(alloc, &points)?;
     let levels = levels_at(alloc, tables, para_level, &points, &classes)?;
-    let clusters = outline_of(alloc, tables, para)?;
+    let clusters = outline_of(alloc, tables, para, &points)?;
     let columns = columns_of(alloc, &clusters.clusters)?;
     let material = Material {
         tables,

@@ -2,13 +2,14 @@
 
 ghost use Rattle.std.specs.Prelude.{◌≡◌, ◌≤◌, [], length, vec_capacity, vec_len, IfOk};
 ghost use Rattle.std.specs.List.{All};
+ghost use Rattle.paragraphs.specs.Text.{code_points};
 ghost use Rattle.paragraphs.specs.Clusters.{cluster_sizes};
 ghost use Rattle.paragraphs.specs.Spans.{spans};
 ghost use Rattle.line_break.specs.LineClusters.{line_clusters};
 
 use crate::cluster::Cluster;
 use crate::measure::Measure;
-use crate::status::opportunities;
+use crate::status::statuses_of;
 use bg_types::Memory;
 use paragraphs::{Para, Span, laws};
 use std::alloc::Global;
@@ -40,11 +41,17 @@ impl Outline {
     }
 }
 
-/// The clusters of a paragraph of at most 4,000,000 bytes. It is cut into clusters once, and each
-/// is measured once.
+/// The clusters of a paragraph of at most 4,000,000 bytes, which has these code points. It is cut
+/// into clusters once, and each is measured once.
 /// Cost: O(n), memory for the clusters.
-pub fn outline_of(alloc: Global, tables: &Tables, para: &Para) -> Result<Outline, Memory>
-    requires { length para.now.text ≤ 4_000_000 }
+pub fn outline_of(
+    alloc: Global,
+    tables: &Tables,
+    para: &Para,
+    points: &[char],
+) -> Result<Outline, Memory>
+    requires size { length para.now.text ≤ 4_000_000 }
+    requires points { points.now ≡ code_points para.now.text }
     ensures spans { IfOk result (λ o. o.spans.items ≡ spans para.now.text) }
     ensures sizes { IfOk result (λ o. o.sizes.items ≡ cluster_sizes para.now.text) }
     ensures clusters { IfOk result (λ o. o.clusters.items ≡ line_clusters tables.now para.now.text) }
@@ -52,14 +59,14 @@ pub fn outline_of(alloc: Global, tables: &Tables, para: &Para) -> Result<Outline
 {
     laws::clusters_join();
     laws::cluster_places();
-    let statuses = opportunities(alloc, tables, para)?;
+    let statuses = statuses_of(alloc, tables, points)?;
     // No paragraph has more clusters than code points.
-    let mut outline = Outline::with_room(alloc, statuses.len())?;
+    let mut outline = Outline::with_room(alloc, points.len())?;
     let length = para.text().len();
     let mut clusters = para.clusters();
     let mut byte = 0;
     let mut place = 0;
-    while let Some(measure) = Measure::of_next(tables, &mut clusters) {
+    while let Some(measure) = Measure::of_next(tables, &mut clusters, &points[place as usize..]) {
         let span = Span {
             first_byte: byte,
             end_byte: (length - clusters.bytes_left()) as u32,
