@@ -48,7 +48,7 @@ pub fn opportunities(alloc: Global, tables: &Tables, para: &Para) -> Result<Vec<
     statuses_of(alloc, tables, &points)
 }
 
-/// The same of the code points of a paragraph.
+/// The status of the boundary after each of a paragraph's code points, in order.
 pub(crate) fn statuses_of(
     alloc: Global,
     tables: &Tables,

@@ -12,7 +12,7 @@ use Rattle.line_break.proofs.line.lines.Goals as goal
 
 pub lines_of-requires-clause-columns : goal.lines_of-requires-clause-columns
 lines_of-requires-clause-columns c =
-    All-same (λ (x : Cluster). x.columns ≤ 2) _ _ c.deref-2.ensures.value c.in_ok-outline.ensures.columns
+    All-same (λ (x : Cluster). x.columns ≤ 2) _ _ c.deref-2.ensures.value c.in_ok-outline.ensures.most
 
 pub returns-clause-joined : goal.returns-clause-joined
 returns-clause-joined c =

@@ -1,5 +1,6 @@
 -- Each cluster stands where the one before it ends, and takes the status after its last code point.
-use Rattle.std.proofs.Common.{◌≤◌, length, drop, refl, ap, subst, ◌∙◌, arith}
+use Rattle.std.proofs.Common.{◌≤◌, [], ◌∷◌, ◌++◌, map, length, drop, refl, sym, ap, subst, ◌∙◌, arith}
+use Rattle.std.proofs.lemmas.List.{map-append}
 use Rattle.std.proofs.lemmas.List.Elements.{All-same}
 use Rattle.std.specs.Str.{IsUtf8}
 use Rattle.paragraphs.specs.Text.{code_points}
@@ -26,6 +27,8 @@ loop-measure-init c =
           (c.cluster_places.ensures.some text u) (c.cluster_places.ensures.sum text u) c.in_ok-outline.ensures.clusters.0;
       spans = let room = c.in_ok-outline.ensures.spans in record { filled = omega arith; room = omega arith };
       sizes = let room = c.in_ok-outline.ensures.sizes in record { filled = omega arith; room = omega arith };
+      own = c.in_ok-outline.ensures.columns.0 ∙ ap (map (λ (x : Cluster). x.columns)) (sym c.in_ok-outline.ensures.clusters.0);
+      columns = let room = c.in_ok-outline.ensures.columns in record { filled = omega arith; room = omega arith };
       clusters = let room = c.in_ok-outline.ensures.clusters in record { filled = omega arith; room = omega arith };
       within = omega arith;
     }
@@ -91,6 +94,18 @@ push_reserved-requires-in-Some-2 c =
     let p = c.args.para.now.text in
     let fits = points-within t p _ _ c.loop-measure.place c.loop-measure.invariant.measured c.in-Some.ensures.cluster _ c.in-Some.ensures.taken in
     let some = points-some t p _ _ c.loop-measure.place c.loop-measure.invariant.measured c.in-Some.ensures.cluster _ c.in-Some.ensures.taken in
+    let filled = c.loop-measure.invariant.columns.filled in
+    let room = c.loop-measure.invariant.columns.room in
+    let all = ap length c.requires.points in
+    let same = length-breaks t p in
+    omega arith
+
+pub push_reserved-requires-in-Some-3 : goal.push_reserved-requires-in-Some-3
+push_reserved-requires-in-Some-3 c =
+    let t = c.args.tables.now in
+    let p = c.args.para.now.text in
+    let fits = points-within t p _ _ c.loop-measure.place c.loop-measure.invariant.measured c.in-Some.ensures.cluster _ c.in-Some.ensures.taken in
+    let some = points-some t p _ _ c.loop-measure.place c.loop-measure.invariant.measured c.in-Some.ensures.cluster _ c.in-Some.ensures.taken in
     let filled = c.loop-measure.invariant.clusters.filled in
     let room = c.loop-measure.invariant.clusters.room in
     let all = ap length c.requires.points in
@@ -133,10 +148,15 @@ loop-measure-preserved c =
           IsMeasuredTo-on t p _ _ c.loop-measure.place m cluster _ at _ here.size _ size
           (measured-is t (code_points cluster) c.in_ok-statuses.statuses.items (breaks t p) c.loop-measure.place here.size
           here.columns here.is_space c.index.result.now (breaks-of t p c.args.points.now _ c.requires.points c.in_ok-statuses.ensures) size some fits columns is_space c.index.ensures)
-          c.push_reserved-in-Some-2.ensures.items;
+          c.push_reserved-in-Some-3.ensures.items;
       spans = HasRoom-on _ _ _ _ here.size _ _ c.loop-measure.invariant.spans (omega arith) c.push_reserved.ensures.len c.push_reserved.ensures.capacity;
       sizes = HasRoom-on _ _ _ _ here.size _ _ c.loop-measure.invariant.sizes (omega arith) c.push_reserved-in-Some.ensures.len c.push_reserved-in-Some.ensures.capacity;
-      clusters = HasRoom-on _ _ _ _ here.size _ _ c.loop-measure.invariant.clusters (omega arith) c.push_reserved-in-Some-2.ensures.len c.push_reserved-in-Some-2.ensures.capacity;
+      own =
+          c.push_reserved-in-Some-2.ensures.items
+          ∙ ap (λ l. l ++ here.columns ∷ []) c.loop-measure.invariant.own
+          ∙ sym (ap (map (λ (x : Cluster). x.columns)) c.push_reserved-in-Some-3.ensures.items ∙ map-append _ c.loop-measure.outline.clusters.items _);
+      columns = HasRoom-on _ _ _ _ here.size _ _ c.loop-measure.invariant.columns (omega arith) c.push_reserved-in-Some-2.ensures.len c.push_reserved-in-Some-2.ensures.capacity;
+      clusters = HasRoom-on _ _ _ _ here.size _ _ c.loop-measure.invariant.clusters (omega arith) c.push_reserved-in-Some-3.ensures.len c.push_reserved-in-Some-3.ensures.capacity;
       within = let all = ap length c.requires.points in let same = length-breaks t p in omega arith;
     }
 
@@ -150,8 +170,8 @@ pub returns-clause-clusters : goal.returns-clause-clusters
 returns-clause-clusters c =
     line_clusters-end c.args.tables.now c.args.para.now.text _ _ c.loop-measure.place c.loop-measure.invariant.measured c.in_default.ensures
 
-pub returns-clause-columns : goal.returns-clause-columns
-returns-clause-columns c =
+pub returns-clause-most : goal.returns-clause-most
+returns-clause-most c =
     All-same (λ (x : Cluster). x.columns ≤ 2) _ _
     (line_clusters-end c.args.tables.now c.args.para.now.text _ _ c.loop-measure.place c.loop-measure.invariant.measured c.in_default.ensures)
     (two-line_clusters c.args.tables.now c.args.para.now.text)
