@@ -3,6 +3,7 @@ pub mod Steps
 pub mod Hung
 pub mod Entries
 pub mod Writing
+pub mod HeldEnd
 pub mod Extents
 pub mod Standing
 pub mod Sides

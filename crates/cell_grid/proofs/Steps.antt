@@ -1,6 +1,7 @@
 -- One element of a list, and one more.
-use Rattle.std.proofs.Common.{◌≡◌, ℕ, zero, suc, ◌+◌, ◌<◌, ◌≤◌, List, [], ◌∷◌, ◌++◌, map, length, take, drop, get_or, set, flat_map, slice_get, Some, refl, sym, ap, subst, ◌∙◌, arith, append-nil, drop-cons}
-use Rattle.std.proofs.lemmas.List.{take_more}
+use Rattle.std.proofs.Common.{◌≡◌, ℕ, zero, suc, ◌+◌, ◌-◌, ◌<◌, ◌≤◌, List, [], ◌∷◌, ◌++◌, map, length, take, drop, slice_range, get_or, set, flat_map, slice_get, Some, refl, sym, ap, subst, ◌∙◌, arith, append-nil, drop-cons}
+use Rattle.std.proofs.Math.Seq.{take-add}
+use Rattle.std.proofs.lemmas.List.{take_more, drop-drop}
 use Rattle.std.proofs.lemmas.List.Concat.{flat_map-append, flat_map-cons}
 use Rattle.std.proofs.lemmas.Option.{get_or_from_slice_get, slice_get_within}
 use Rattle.std.specs.List.{All}
@@ -29,6 +30,14 @@ take-whole [] zero le = refl
 take-whole [] (suc i) le = refl
 take-whole (x ∷ xs) zero le = absurd (omega arith)
 take-whole (x ∷ xs) (suc i) le = ap (λ l. x ∷ l) (take-whole xs i (omega arith))
+
+-- a stretch in two parts
+pub slice-parts : {X : Type 0} (xs : List X) (i j k : ℕ) → i ≤ j → j ≤ k → slice_range xs i k ≡ slice_range xs i j ++ slice_range xs j k
+slice-parts xs i j k ij jk =
+    let e : k - i ≡ (j - i) + (k - j) = omega arith in
+    let f : i + (j - i) ≡ j = omega arith in
+    ap (λ n. take n (drop i xs)) e ∙ take-add (j - i) (k - j) (drop i xs)
+    ∙ ap (λ t. take (j - i) (drop i xs) ++ take (k - j) t) (drop-drop (j - i) i xs ∙ ap (λ n. drop n xs) f)
 
 -- what one more element adds to a list of lists, and what follows it
 module _ {X Y : Type 0} (f : X → List Y) (xs : List X) (i : ℕ) (x d : X) (lt : i < length xs) (is : x ≡ get_or xs i d) where

@@ -9,6 +9,7 @@ pub mod Shifting
 pub mod Outline
 pub mod Grids
 pub mod Print
+pub mod Held
 pub mod Printable
 pub mod Laws
 pub mod Windows

@@ -5,6 +5,7 @@ mod cell;
 mod column;
 mod entry;
 mod grid;
+mod held;
 pub mod laws;
 mod laws_below;
 mod paragraph;

@@ -1,18 +1,22 @@
 //! The print of a grid.
 
-ghost use Rattle.std.specs.Prelude.{◌≡◌, ◌<◌, false, length, replicate, is_err, OnOk, OnErr, Some};
+ghost use Rattle.std.specs.Prelude.{◌≡◌, ◌<◌, ◌≤◌, ◌++◌, false, true, length, take, slice_range, is_err, IfOk, OnOk, OnErr};
 ghost use Rattle.std.specs.List.{All, flat_map};
 ghost use Rattle.std.specs.Io.KnownBytes.{Appends};
+ghost use Rattle.std.specs.Str.{IsCharBoundary};
 ghost use Rattle.bg_types.specs.Sink.{AppendsBeginning};
 ghost use Rattle.paragraphs.specs.Text.{code_points};
-ghost use Rattle.cell_grid.specs.Print.{is_segment_separator, begins_with_tab, mirrored_text, entry_text, own_text, row_text, printed, printed_row};
+ghost use Rattle.cell_grid.specs.Held.{AppendsAllBut};
+ghost use Rattle.cell_grid.specs.Print.{is_segment_separator, begins_with_tab, mirrored_text, own_text, row_text, printed, printed_row};
 ghost use Rattle.cell_grid.specs.Printable.{IsSlice};
 
 use crate::entry::Entry;
 use crate::grid::Grid;
+use crate::held::{Held, hold_char, hold_spaces, hold_text, let_go};
 use crate::laws_below::laws_below;
 use crate::row::Row;
-use bg_types::{Bidi, Device, Sink, put_all};
+use arrayvec::ArrayString;
+use bg_types::{Bidi, Device, Sink};
 use reorder::mirrored;
 use unicode_tables::Tables;
 
@@ -65,68 +69,117 @@ pub fn print_row<W: Sink>(
     ensures failed { W.has_failed sink.new ≡ is_err result }
 {
     let (left, right) = row.blanks();
-    print_spaces(left, sink)?;
-    print_entries(tables, text, row.entries(), sink)?;
-    print_spaces(right, sink)?;
-    put_all(sink, b"\n")
+    let mut held = ArrayString::new();
+    hold_spaces(left, &mut held, sink)?;
+    hold_entries(tables, text, row.entries(), &mut held, sink)?;
+    hold_spaces(right, &mut held, sink)?;
+    hold_char('\n', &mut held, sink)?;
+    let_go(&mut held, sink)
 }
 
-/// Writes the cells of entries that stand side by side.
-fn print_entries<W: Sink>(
+/// Holds what the cells of entries that stand side by side print.
+fn hold_entries<W: Sink>(
     tables: &Tables,
     text: &str,
     entries: &[Entry],
+    held: &mut Held,
     sink: &mut W,
 ) -> Result<(), Device>
     requires working { W.has_failed sink.old ≡ false }
     requires entries { All (λ e. IsSlice text.now e.span) entries.now }
-    ensures ok { OnOk result (Appends (W.written sink.old) (W.written sink.new) (flat_map (own_text tables.now text.now) entries.now)) }
-    ensures err { OnErr result (AppendsBeginning (W.written sink.old) (W.written sink.new) (flat_map (own_text tables.now text.now) entries.now)) }
+    ensures ok { OnOk result (AppendsAllBut (W.written sink.old) (W.written sink.new) (held.old.bytes ++ flat_map (own_text tables.now text.now) entries.now) held.new.bytes) }
+    ensures err { OnErr result (AppendsBeginning (W.written sink.old) (W.written sink.new) (held.old.bytes ++ flat_map (own_text tables.now text.now) entries.now)) }
     ensures failed { W.has_failed sink.new ≡ is_err result }
 {
-    for entry in entries {
-        print_cells(tables, text, *entry, sink)?;
+    let mut rest = entries;
+    while !rest.is_empty() {
+        let count = hold_first(tables, text, rest, held, sink)?;
+        rest = rest.split_at(count).1;
     }
     Ok(())
 }
 
-/// Writes the cells of an entry, if it has any.
-fn print_cells<W: Sink>(
+/// Holds what the first entries print, and answers how many these are: a run, or one entry.
+fn hold_first<W: Sink>(
+    tables: &Tables,
+    text: &str,
+    entries: &[Entry],
+    held: &mut Held,
+    sink: &mut W,
+) -> Result<usize, Device>
+    requires working { W.has_failed sink.old ≡ false }
+    requires some { 0 < length entries.now }
+    requires entries { All (λ e. IsSlice text.now e.span) entries.now }
+    ensures some { IfOk result (λ count. (0 < count) × (count ≤ length entries.now)) }
+    ensures ok { IfOk result (λ count. AppendsAllBut (W.written sink.old) (W.written sink.new) (held.old.bytes ++ flat_map (own_text tables.now text.now) (take count entries.now)) held.new.bytes) }
+    ensures err { OnErr result (AppendsBeginning (W.written sink.old) (W.written sink.new) (held.old.bytes ++ flat_map (own_text tables.now text.now) entries.now)) }
+    ensures failed { W.has_failed sink.new ≡ is_err result }
+{
+    let start = entries[0].span.first_byte as usize;
+    let (count, end) = run_at(tables, text, entries, start);
+    if count > 0 {
+        hold_text(&text[start..end], held, sink)?;
+        return Ok(count);
+    }
+    hold_cells(tables, text, entries[0], held, sink)?;
+    Ok(1)
+}
+
+/// How many of the first entries stand together in the text from this byte on, and print what stands there; and where they
+/// end.
+fn run_at(tables: &Tables, text: &str, entries: &[Entry], start: usize) -> (usize, usize)
+    requires start { IsCharBoundary text.now start }
+    requires entries { All (λ e. IsSlice text.now e.span) entries.now }
+    ensures count { result.0 ≤ length entries.now }
+    ensures order { start ≤ result.1 }
+    ensures end { IsCharBoundary text.now result.1 }
+    ensures text { flat_map (own_text tables.now text.now) (take result.0 entries.now) ≡ slice_range text.now start result.1 }
+{
+    let mut end = start;
+    for number in 0..entries.len() {
+        let entry = entries[number];
+        if entry.span.first_byte as usize != end || !prints_its_slice(tables, text, entry) {
+            return (number, end);
+        }
+        end = entry.span.end_byte as usize;
+    }
+    (entries.len(), end)
+}
+
+/// Whether an entry prints what stands in the text.
+fn prints_its_slice(tables: &Tables, text: &str, entry: Entry) -> bool
+    requires { IsSlice text.now entry.span }
+    ensures { result ≡ true → own_text tables.now text.now entry ≡ slice_range text.now entry.span.first_byte entry.span.end_byte }
+{
+    if entry.columns == 0 || entry.level % 2 == 1 {
+        return false;
+    }
+    let cluster = &text[entry.span.first_byte as usize..entry.span.end_byte as usize];
+    !begins_with_tab(tables, cluster)
+}
+
+/// Holds what the cells of an entry print, if it has any.
+fn hold_cells<W: Sink>(
     tables: &Tables,
     text: &str,
     entry: Entry,
+    held: &mut Held,
     sink: &mut W,
 ) -> Result<(), Device>
     requires working { W.has_failed sink.old ≡ false }
     requires entry { IsSlice text.now entry.span }
-    ensures ok { OnOk result (Appends (W.written sink.old) (W.written sink.new) (own_text tables.now text.now entry)) }
-    ensures err { OnErr result (AppendsBeginning (W.written sink.old) (W.written sink.new) (own_text tables.now text.now entry)) }
+    ensures ok { OnOk result (AppendsAllBut (W.written sink.old) (W.written sink.new) (held.old.bytes ++ own_text tables.now text.now entry) held.new.bytes) }
+    ensures err { OnErr result (AppendsBeginning (W.written sink.old) (W.written sink.new) (held.old.bytes ++ own_text tables.now text.now entry)) }
     ensures failed { W.has_failed sink.new ≡ is_err result }
 {
     if entry.columns == 0 {
         return Ok(());
     }
-    print_entry(tables, text, entry, sink)
-}
-
-/// Writes an entry as it is shown.
-fn print_entry<W: Sink>(
-    tables: &Tables,
-    text: &str,
-    entry: Entry,
-    sink: &mut W,
-) -> Result<(), Device>
-    requires working { W.has_failed sink.old ≡ false }
-    requires entry { IsSlice text.now entry.span }
-    ensures ok { OnOk result (Appends (W.written sink.old) (W.written sink.new) (entry_text tables.now text.now (Some entry))) }
-    ensures err { OnErr result (AppendsBeginning (W.written sink.old) (W.written sink.new) (entry_text tables.now text.now (Some entry))) }
-    ensures failed { W.has_failed sink.new ≡ is_err result }
-{
     let cluster = &text[entry.span.first_byte as usize..entry.span.end_byte as usize];
     if begins_with_tab(tables, cluster) {
-        print_spaces(u16::from(entry.columns), sink)
+        hold_spaces(u16::from(entry.columns), held, sink)
     } else {
-        print_mirrored(tables, cluster, entry.level, sink)
+        hold_mirrored(tables, cluster, entry.level, held, sink)
     }
 }
 
@@ -148,37 +201,21 @@ fn is_segment_separator(class: Bidi) -> bool
     matches!(class, Bidi::S)
 }
 
-fn print_spaces<W: Sink>(columns: u16, sink: &mut W) -> Result<(), Device>
-    requires working { W.has_failed sink.old ≡ false }
-    ensures ok { OnOk result (Appends (W.written sink.old) (W.written sink.new) (replicate columns 32)) }
-    ensures err { OnErr result (AppendsBeginning (W.written sink.old) (W.written sink.new) (replicate columns 32)) }
-    ensures failed { W.has_failed sink.new ≡ is_err result }
-{
-    for _ in 0..columns {
-        put_all(sink, b" ")?;
-    }
-    Ok(())
-}
-
-/// Writes a cluster as it is shown at a level (L4).
-fn print_mirrored<W: Sink>(
+/// Holds a cluster as it is shown at a level (L4).
+fn hold_mirrored<W: Sink>(
     tables: &Tables,
     cluster: &str,
     level: u8,
+    held: &mut Held,
     sink: &mut W,
 ) -> Result<(), Device>
     requires working { W.has_failed sink.old ≡ false }
-    ensures ok { OnOk result (Appends (W.written sink.old) (W.written sink.new) (mirrored_text tables.now level (code_points cluster.now))) }
-    ensures err { OnErr result (AppendsBeginning (W.written sink.old) (W.written sink.new) (mirrored_text tables.now level (code_points cluster.now))) }
+    ensures ok { OnOk result (AppendsAllBut (W.written sink.old) (W.written sink.new) (held.old.bytes ++ mirrored_text tables.now level (code_points cluster.now)) held.new.bytes) }
+    ensures err { OnErr result (AppendsBeginning (W.written sink.old) (W.written sink.new) (held.old.bytes ++ mirrored_text tables.now level (code_points cluster.now))) }
     ensures failed { W.has_failed sink.new ≡ is_err result }
 {
-    if level % 2 == 0 {
-        return put_all(sink, cluster.as_bytes());
-    }
     for c in cluster.chars() {
-        let mut buffer = [0; 4];
-        let shown = mirrored(tables, c, level).encode_utf8(&mut buffer);
-        put_all(sink, shown.as_bytes())?;
+        hold_char(mirrored(tables, c, level), held, sink)?;
     }
     Ok(())
 }

@@ -8,7 +8,7 @@ use Rattle.std.proofs.lemmas.List.Sums.{sum_by-cons}
 use Rattle.std.proofs.Common.{append-nil}
 use Rattle.bg_types.specs.declared.class.Base.{Base}
 use Rattle.unicode_tables.specs.Tables.{TableValues}
-use Rattle.live_document.proofs.Placing.{slice-parts}
+use Rattle.cell_grid.proofs.Interface.{slice-parts}
 use Rattle.live_document.specs.Keeping.{is_kept, rows_of_text, rows_of_texts, IsMarked}
 
 -- nothing was marked yet

@@ -4,7 +4,6 @@ use Rattle.std.proofs.lemmas.List.{take-map, drop-map, drop-drop, take_at, drop_
 use Rattle.std.proofs.lemmas.List.Elements.{All-head, All-tail, All-take, All-drop}
 use Rattle.std.proofs.lemmas.Option.{same_Some}
 use Rattle.std.proofs.lemmas.Str.{encodes-append, encodes-chars}
-use Rattle.std.proofs.Math.Seq.{take-add}
 use Rattle.std.specs.List.{All, concat}
 use Rattle.std.specs.Prelude.{slice_get, encode_utf8_all}
 use Rattle.std.specs.Str.{IsUtf8}
@@ -26,14 +25,7 @@ All-parts P xs ys all = (
   subst (All P) (drop_at xs ys (length xs) refl) (All-drop P (length xs) (xs ++ ys) all),
 )
 
--- a stretch in two parts
-pub slice-parts : {X : Type 0} (xs : List X) (i j k : ℕ) → i ≤ j → j ≤ k → slice_range xs i k ≡ slice_range xs i j ++ slice_range xs j k
-slice-parts xs i j k ij jk =
-    let e : k - i ≡ (j - i) + (k - j) = omega arith in
-    let f : i + (j - i) ≡ j = omega arith in
-    ap (λ n. take n (drop i xs)) e ∙ take-add (j - i) (k - j) (drop i xs)
-    ∙ ap (λ t. take (j - i) (drop i xs) ++ take (k - j) t) (drop-drop (j - i) i xs ∙ ap (λ n. drop n xs) f)
-
+-- the images of a stretch
 pub slice-map : {X Y : Type 0} (f : X → Y) (xs : List X) (i j : ℕ) → slice_range (map f xs) i j ≡ map f (slice_range xs i j)
 slice-map f xs i j = ap (take (j - i)) (drop-map f i xs) ∙ take-map f (j - i) (drop i xs)
 

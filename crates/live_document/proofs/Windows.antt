@@ -21,7 +21,7 @@ use Rattle.cell_grid.specs.Grids.{grid_of, paragraph_rows, IsDrawable}
 use Rattle.cell_grid.specs.Laws.{RowsFollow}
 use Rattle.cell_grid.specs.Shifting.{MayShiftRow}
 use Rattle.cell_grid.specs.Windows.{last_below, begins_by, row_at, DrawnWindow, window_of, FirstPlacesRise, HasWindow}
-use Rattle.cell_grid.proofs.Interface.{all-drawable, row_at-second}
+use Rattle.cell_grid.proofs.Interface.{all-drawable, row_at-second, slice-parts}
 use Rattle.text_buffer.specs.Buffers.{bytes_in, paragraphs_in, text_in}
 use Rattle.text_buffer.specs.Edits.{IsParagraphOf}
 use Rattle.live_document.specs.declared.shown.Shown.{Shown}
@@ -29,7 +29,7 @@ use Rattle.live_document.specs.Keeping.{Rows, KeptText, rows_at, rows_of_text, r
 use Rattle.live_document.specs.Cost.{top_of, bottom_of, HasRow}
 use Rattle.live_document.specs.LawsBelow.{LawsBelow}
 use Rattle.live_document.specs.Showing.{rows_from, window_in, IsAtHand, IsRowOf}
-use Rattle.live_document.proofs.Placing.{IsText, points_of, text-is, All-parts, slice-parts, slice-map, place-at, follow-drop, follow-take}
+use Rattle.live_document.proofs.Placing.{IsText, points_of, text-is, All-parts, slice-map, place-at, follow-drop, follow-take}
 use Rattle.live_document.proofs.Beside.{rows_at-laid}
 use Rattle.live_document.proofs.Marks.{slice-front, rows-down, rows-none}
 use Rattle.live_document.proofs.Stretches.{count-texts, stretch-from, count-rows}

@@ -1,97 +1,108 @@
 -- Blanks, the entries, blanks, and LF.
-use Rattle.std.proofs.Common.{◌≡◌, ℕ, List, [], ◌∷◌, ◌++◌, Option, replicate, flat_map, refl, sym, ap, subst, ◌∙◌, append_assoc}
+use Rattle.std.proofs.Common.{◌≡◌, ℕ, List, [], ◌∷◌, ◌++◌, Option, replicate, flat_map, encode_utf8, refl, sym, ap, subst, ◌∙◌, arith, append-nil}
 use Rattle.std.proofs.KnownBytes.{Appends-nil}
-use Rattle.std.specs.Io.KnownBytes.{Appends}
+use Rattle.std.proofs.lemmas.Str.{encode_ascii}
 use Rattle.std.specs.List.{All}
-use Rattle.bg_types.specs.Sink.{AppendsBeginning}
 use Rattle.unicode_tables.specs.Tables.{TableValues}
 use Rattle.cell_grid.specs.declared.entry.Entry.{Entry}
 use Rattle.cell_grid.specs.declared.cell.Cell.{Cell}
 use Rattle.cell_grid.specs.declared.cell.Cell.TheVariants.{Blank}
 use Rattle.cell_grid.specs.Cells.{entries_cells}
+use Rattle.cell_grid.specs.Held.{AppendsAllBut}
 use Rattle.cell_grid.specs.Rows.{DrawnRow}
 use Rattle.cell_grid.specs.Print.{own_text, cell_text, row_text}
 use Rattle.cell_grid.specs.Printable.{IsSlice}
+use Rattle.cell_grid.proofs.HeldEnd.{but-end, but-cut_end, but-through, but-cut_through}
 use Rattle.cell_grid.proofs.Printing.{row-text}
-use Rattle.cell_grid.proofs.Writing.{on_err, on_err_by, on_ok_by, Appends-on, Begins-on}
+use Rattle.cell_grid.proofs.Writing.{on_err, on_err_by, on_ok_by}
 use Rattle.cell_grid.proofs.printed.print_row.Goals as goal
 
 -- a row whose cells are blanks, its entries and blanks
 module _ (tables : TableValues) (text : List ℕ) (r : DrawnRow) (left right : ℕ) (is : r.cells ≡ replicate left Blank ++ (entries_cells 0 r.entries ++ replicate right Blank)) where
-  abbrev entries_text : List ℕ
-  entries_text = flat_map (own_text tables text) r.entries
+  abbrev row : List ℕ
+  row = row_text tables text r
 
-  -- what it prints, from the first blank, from the entries, from the blanks after them and from the LF on
-  whole : row_text tables text r ≡ replicate left 32 ++ (entries_text ++ (replicate right 32 ++ 10 ∷ []))
-  whole = ap (λ (cs : List Cell). flat_map (cell_text tables text r.entries) cs ++ 10 ∷ []) is ∙ row-text tables text r.entries left right
+  -- what it prints from the LF on, from the blanks on the right, and from the entries
+  abbrev from_end : List ℕ
+  from_end = encode_utf8 10 ++ []
 
-  from_right : row_text tables text r ≡ (replicate left 32 ++ entries_text) ++ (replicate right 32 ++ 10 ∷ [])
-  from_right = whole ∙ sym (append_assoc (replicate left 32) entries_text (replicate right 32 ++ 10 ∷ []))
+  abbrev from_right : List ℕ
+  from_right = replicate right 32 ++ from_end
 
-  from_end : row_text tables text r ≡ ((replicate left 32 ++ entries_text) ++ replicate right 32) ++ 10 ∷ []
-  from_end = from_right ∙ sym (append_assoc (replicate left 32 ++ entries_text) (replicate right 32) (10 ∷ []))
+  abbrev from_entries : List Entry → List ℕ
+  from_entries es = flat_map (own_text tables text) es ++ from_right
 
-  module _ (old blanks entries : Option (List ℕ)) (first : Appends old blanks (replicate left 32)) (es : List Entry) (own : es ≡ r.entries) where
-    -- a fault at the entries, and none
-    cut_at_entries : AppendsBeginning blanks entries (flat_map (own_text tables text) es) → AppendsBeginning old entries (row_text tables text r)
-    cut_at_entries piece =
-        Begins-on old blanks entries (replicate left 32) entries_text (replicate right 32 ++ 10 ∷ []) (row_text tables text r) first
-        (subst (λ l. AppendsBeginning blanks entries (flat_map (own_text tables text) l)) own piece) whole
+  whole : (es : List Entry) → es ≡ r.entries → row ≡ replicate left 32 ++ from_entries es
+  whole es own =
+      ap (λ (cs : List Cell). flat_map (cell_text tables text r.entries) cs ++ 10 ∷ []) is ∙ row-text tables text r.entries left right
+      ∙ ap (λ (l : List Entry). replicate left 32 ++ (flat_map (own_text tables text) l ++ (replicate right 32 ++ 10 ∷ []))) (sym own)
+      ∙ ap (λ t. replicate left 32 ++ (flat_map (own_text tables text) es ++ (replicate right 32 ++ t))) (sym (append-nil (encode_utf8 10) ∙ encode_ascii 10 (omega arith)))
 
-    module _ (piece : Appends blanks entries (flat_map (own_text tables text) es)) (spaces : Option (List ℕ)) where
-      with_entries : Appends old entries (replicate left 32 ++ entries_text)
-      with_entries =
-          Appends-on old blanks entries (replicate left 32) entries_text (replicate left 32 ++ entries_text) first
-          (subst (λ l. Appends blanks entries (flat_map (own_text tables text) l)) own piece) refl
+  module _ (es : List Entry) (own : es ≡ r.entries) (first : Option (List ℕ)) (held : List ℕ) (none : held ≡ []) where
+    at_left : AppendsAllBut first first row (held ++ (replicate left 32 ++ from_entries es))
+    at_left = record { written = []; appends = Appends-nil first; whole = whole es own ∙ ap (λ t. t ++ (replicate left 32 ++ from_entries es)) (sym none) }
 
-      -- a fault at the blanks on the right
-      cut_at_right : AppendsBeginning entries spaces (replicate right 32) → AppendsBeginning old spaces (row_text tables text r)
-      cut_at_right cut = Begins-on old entries spaces (replicate left 32 ++ entries_text) (replicate right 32) (10 ∷ []) (row_text tables text r) with_entries cut from_right
+    module _ (second : Option (List ℕ)) (held2 : List ℕ) (blanks : AppendsAllBut first second (held ++ replicate left 32) held2) where
+      at_entries : AppendsAllBut first second row (held2 ++ from_entries es)
+      at_entries = but-through first first second row held (replicate left 32) (from_entries es) held2 at_left blanks
 
-      -- all but the LF is written
-      with_blanks : Appends entries spaces (replicate right 32) → Appends old spaces ((replicate left 32 ++ entries_text) ++ replicate right 32)
-      with_blanks last = Appends-on old entries spaces (replicate left 32 ++ entries_text) (replicate right 32) ((replicate left 32 ++ entries_text) ++ replicate right 32) with_entries last refl
+      module _ (third : Option (List ℕ)) (held3 : List ℕ) (entries : AppendsAllBut second third (held2 ++ flat_map (own_text tables text) es) held3) where
+        at_right : AppendsAllBut first third row (held3 ++ from_right)
+        at_right = but-through first second third row held2 (flat_map (own_text tables text) es) from_right held3 at_entries entries
 
-pub print_entries-requires-clause-entries : goal.print_entries-requires-clause-entries
-print_entries-requires-clause-entries g c = subst (All (λ (e : Entry). IsSlice c.args.text.now e.span)) (sym c.entries.ensures) c.requires.entries
+        module _ (fourth : Option (List ℕ)) (held4 : List ℕ) (spaces : AppendsAllBut third fourth (held3 ++ replicate right 32) held4) where
+          at_end : AppendsAllBut first fourth row (held4 ++ from_end)
+          at_end = but-through first third fourth row held3 (replicate right 32) from_end held4 at_right spaces
 
-pub returns-in_err-print_spaces-clause-err : goal.returns-in_err-print_spaces-clause-err
-returns-in_err-print_spaces-clause-err g c =
-    let old = g.W.Sink.written c.args.sink.now in
-    on_err c.from_residual.result
-    (Begins-on old old _ [] (replicate c.blanks-left.result.0 32) _ _ (Appends-nil old) c.in_err-print_spaces.ensures.err
-    (whole c.args.tables.now c.args.text.now c.args.row.now c.blanks-left.result.0 c.blanks-left.result.1 c.blanks-left.ensures))
+          module _ (fifth : Option (List ℕ)) (held5 : List ℕ) (lf : AppendsAllBut fourth fifth (held4 ++ encode_utf8 10) held5) where
+            after : AppendsAllBut first fifth row held5
+            after = subst (AppendsAllBut first fifth row) (append-nil held5) (but-through first fourth fifth row held4 (encode_utf8 10) [] held5 at_end lf)
 
-pub returns-in_err-print_entries-clause-err : goal.returns-in_err-print_entries-clause-err
-returns-in_err-print_entries-clause-err g c =
-    on_err c.from_residual-in_err-print_entries.result
-    (cut_at_entries c.args.tables.now c.args.text.now c.args.row.now c.blanks-left.result.0 c.blanks-left.result.1 c.blanks-left.ensures
-    _ _ _ c.in_ok-print_spaces.ensures.ok c.entries.result.now c.entries.ensures c.in_err-print_entries.ensures.err)
+pub hold_entries-requires-clause-entries : goal.hold_entries-requires-clause-entries
+hold_entries-requires-clause-entries g c = subst (All (λ (e : Entry). IsSlice c.args.text.now e.span)) (sym c.entries.ensures) c.requires.entries
 
-pub returns-in_err-print_spaces-2-clause-err : goal.returns-in_err-print_spaces-2-clause-err
-returns-in_err-print_spaces-2-clause-err g c =
-    on_err c.from_residual-in_err-print_spaces-2.result
-    (cut_at_right c.args.tables.now c.args.text.now c.args.row.now c.blanks-left.result.0 c.blanks-left.result.1 c.blanks-left.ensures
-    _ _ _ c.in_ok-print_spaces.ensures.ok c.entries.result.now c.entries.ensures c.in_ok-print_entries.ensures.ok _ c.in_err-print_spaces-2.ensures.err)
+pub returns-in_err-hold_spaces-clause-err : goal.returns-in_err-hold_spaces-clause-err
+returns-in_err-hold_spaces-clause-err g c =
+    let left = c.blanks-left.result.0 in
+    let right = c.blanks-left.result.1 in
+    let start = at_left c.args.tables.now c.args.text.now c.args.row.now left right c.blanks-left.ensures c.args.row.now.entries refl (g.W.Sink.written c.args.sink.now) c.new-held.result.bytes c.new-held.ensures in
+    on_err c.from_residual.result (but-cut_through _ _ _ _ c.new-held.result.bytes (replicate left 32) _ start c.in_err-hold_spaces.ensures.err)
+
+pub returns-in_err-hold_entries-clause-err : goal.returns-in_err-hold_entries-clause-err
+returns-in_err-hold_entries-clause-err g c =
+    let tables = c.args.tables.now in
+    let text = c.args.text.now in
+    let es = c.entries.result.now in
+    let start =
+    at_entries tables text c.args.row.now c.blanks-left.result.0 c.blanks-left.result.1 c.blanks-left.ensures es c.entries.ensures (g.W.Sink.written c.args.sink.now) c.new-held.result.bytes c.new-held.ensures
+    _ _ c.in_ok-hold_spaces.ensures.ok in
+    on_err c.from_residual-in_err-hold_entries.result (but-cut_through _ _ _ _ c.hold_spaces.new.held.bytes (flat_map (own_text tables text) es) _ start c.in_err-hold_entries.ensures.err)
+
+pub returns-in_err-hold_spaces-2-clause-err : goal.returns-in_err-hold_spaces-2-clause-err
+returns-in_err-hold_spaces-2-clause-err g c =
+    let right = c.blanks-left.result.1 in
+    let start =
+    at_right c.args.tables.now c.args.text.now c.args.row.now c.blanks-left.result.0 right c.blanks-left.ensures c.entries.result.now c.entries.ensures (g.W.Sink.written c.args.sink.now) c.new-held.result.bytes c.new-held.ensures
+    _ _ c.in_ok-hold_spaces.ensures.ok _ _ c.in_ok-hold_entries.ensures.ok in
+    on_err c.from_residual-in_err-hold_spaces-2.result (but-cut_through _ _ _ _ c.hold_entries.new.held.bytes (replicate right 32) _ start c.in_err-hold_spaces-2.ensures.err)
+
+pub returns-in_err-hold_char-clause-err : goal.returns-in_err-hold_char-clause-err
+returns-in_err-hold_char-clause-err g c =
+    let start =
+    at_end c.args.tables.now c.args.text.now c.args.row.now c.blanks-left.result.0 c.blanks-left.result.1 c.blanks-left.ensures c.entries.result.now c.entries.ensures (g.W.Sink.written c.args.sink.now) c.new-held.result.bytes c.new-held.ensures
+    _ _ c.in_ok-hold_spaces.ensures.ok _ _ c.in_ok-hold_entries.ensures.ok _ _ c.in_ok-hold_spaces-2.ensures.ok in
+    on_err c.from_residual-in_err-hold_char.result (but-cut_through _ _ _ _ c.hold_spaces-2.new.held.bytes (encode_utf8 10) [] start c.in_err-hold_char.ensures.err)
 
 pub returns-clause-ok : goal.returns-clause-ok
 returns-clause-ok g c =
-    let tables = c.args.tables.now in
-    let text = c.args.text.now in
-    let row = c.args.row.now in
-    let done = with_blanks tables text row c.blanks-left.result.0 c.blanks-left.result.1 c.blanks-left.ensures
-    _ _ _ c.in_ok-print_spaces.ensures.ok c.entries.result.now c.entries.ensures c.in_ok-print_entries.ensures.ok _ c.in_ok-print_spaces-2.ensures.ok in
-    on_ok_by c.put_all.result
-    (λ end. Appends-on _ _ _ _ (10 ∷ []) (row_text tables text row) done end (from_end tables text row c.blanks-left.result.0 c.blanks-left.result.1 c.blanks-left.ensures))
-    c.put_all.ensures.ok
+    let done =
+    after c.args.tables.now c.args.text.now c.args.row.now c.blanks-left.result.0 c.blanks-left.result.1 c.blanks-left.ensures c.entries.result.now c.entries.ensures (g.W.Sink.written c.args.sink.now) c.new-held.result.bytes c.new-held.ensures
+    _ _ c.in_ok-hold_spaces.ensures.ok _ _ c.in_ok-hold_entries.ensures.ok _ _ c.in_ok-hold_spaces-2.ensures.ok _ _ c.in_ok-hold_char.ensures.ok in
+    on_ok_by c.let_go.result (λ end. but-end _ _ _ _ _ done end) c.let_go.ensures.ok
 
 pub returns-clause-err : goal.returns-clause-err
 returns-clause-err g c =
-    let tables = c.args.tables.now in
-    let text = c.args.text.now in
-    let row = c.args.row.now in
-    let done = with_blanks tables text row c.blanks-left.result.0 c.blanks-left.result.1 c.blanks-left.ensures
-    _ _ _ c.in_ok-print_spaces.ensures.ok c.entries.result.now c.entries.ensures c.in_ok-print_entries.ensures.ok _ c.in_ok-print_spaces-2.ensures.ok in
-    on_err_by c.put_all.result
-    (λ end. Begins-on _ _ _ _ (10 ∷ []) [] (row_text tables text row) done end (from_end tables text row c.blanks-left.result.0 c.blanks-left.result.1 c.blanks-left.ensures))
-    c.put_all.ensures.err
+    let done =
+    after c.args.tables.now c.args.text.now c.args.row.now c.blanks-left.result.0 c.blanks-left.result.1 c.blanks-left.ensures c.entries.result.now c.entries.ensures (g.W.Sink.written c.args.sink.now) c.new-held.result.bytes c.new-held.ensures
+    _ _ c.in_ok-hold_spaces.ensures.ok _ _ c.in_ok-hold_entries.ensures.ok _ _ c.in_ok-hold_spaces-2.ensures.ok _ _ c.in_ok-hold_char.ensures.ok in
+    on_err_by c.let_go.result (λ end. but-cut_end _ _ _ _ _ done end) c.let_go.ensures.err

@@ -1,0 +1,17 @@
+-- At an even level a cluster is shown by its bytes, if it has columns and is no tab.
+use Rattle.std.proofs.Common.{◌≡◌, Bool, true, false, not, refl, sym, ap, subst, ◌∙◌, arith}
+use Rattle.std.specs.Str.{IsUtf8}
+use Rattle.paragraphs.specs.Text.{code_points}
+use Rattle.cell_grid.specs.Print.{begins_with_tab}
+use Rattle.cell_grid.proofs.Printing.{own-slice}
+use Rattle.cell_grid.proofs.printed.prints_its_slice.Goals as goal
+
+off : (b : Bool) → not b ≡ true → b ≡ false
+off true h = sym h
+off false h = refl
+
+pub returns : goal.returns
+returns c h =
+    let tab = ap (λ t. begins_with_tab c.args.tables.now (code_points t)) (sym c.range-cluster.ensures.value) ∙ sym c.begins_with_tab.ensures ∙ off c.begins_with_tab.result h in
+    own-slice c.args.tables.now c.args.text.now c.args.entry (subst IsUtf8 c.range-cluster.ensures.value c.range-cluster.utf8)
+    (omega (arith, c.if-entry-eq0.false)) (omega (arith, c.if-entry-eq1.false)) tab
