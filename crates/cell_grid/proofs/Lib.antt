@@ -30,4 +30,5 @@ pub mod Windows
 pub mod Rising
 pub mod Moving
 pub mod Elsewhere
+pub mod Filling
 pub mod Interface
