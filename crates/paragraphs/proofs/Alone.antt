@@ -1,5 +1,5 @@
 -- The first character of a text whose code points are known.
-use Rattle.std.proofs.Common.{◌≡◌, ℕ, true, Option, Some, List, [], ◌∷◌, ◌++◌, length, take, drop, sym, ap, ap₂, subst, ◌∙◌}
+use Rattle.std.proofs.Common.{◌≡◌, ℕ, true, Some, List, [], ◌∷◌, ◌++◌, take, drop, sym, ap, ap₂, subst, ◌∙◌}
 use Rattle.std.proofs.lemmas.List.{append-nil, drop_at}
 use Rattle.std.proofs.lemmas.Str.{chars_past_char, encodes-chars, length-encode, IsUtf8-past_char, IsCharBoundary-at_seam}
 use Rattle.std.specs.Char.{len_utf8}

@@ -1,5 +1,5 @@
 -- Two plain characters, or one and the text's end.
-use Rattle.std.proofs.Common.{refl, sym, ◌∙◌}
+use Rattle.std.proofs.Common.{sym, ◌∙◌}
 use Rattle.paragraphs.proofs.Plain.{begins-plain, plain-part, last-parts}
 use Rattle.paragraphs.proofs.cluster.stands_alone.Goals as goal
 
