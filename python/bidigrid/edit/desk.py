@@ -2,6 +2,7 @@
 
 from __future__ import annotations
 
+import collections
 import random
 import time
 
@@ -15,6 +16,7 @@ from .undo import Edits, returns, stretches
 
 MAX_SITE = 65535
 AGAIN = 1.0  # seconds between two tries to write a log that could not be written
+TAKING = 0.02  # seconds in which others' messages are taken, before one looks again whether a key has come
 QUIET = 2.0  # seconds without an edit, after which a whole file may be written for others
 MOST_FAULTS = 10  # of one message
 
@@ -35,6 +37,7 @@ class Desk:
         self.log = log
         self.channel = channel
         self.edits = Edits()
+        self.came: collections.deque[Message] = collections.deque()
         self.notice = ""
         self.caret: Identifier | None = None
         self.is_changed = self.is_whole = True
@@ -156,22 +159,25 @@ class Desk:
         self.load(self.document.save())
 
     def turn(self) -> bool:
-        """Goes on with the log, sends what is flushed, and takes what has come. Answers whether any has."""
+        """Goes on with the log, sends what is flushed, and takes what has come, a part of it where that is much. Answers
+        whether any has."""
         now = time.monotonic()
         self.keep()
         if not self.channel:
             return False
-        came = self.channel.turn(self.log, self.caret)
-        for message in came:
-            self.take(message)
+        self.came += self.channel.turn(self.log, self.caret)
+        has_come = bool(self.came)
+        until = time.monotonic() + TAKING
+        while self.came and time.monotonic() < until:
+            self.take(self.came.popleft())
         signs = self.state(), {site: (here.name, here.caret) for site, here in self.here().items()}
-        if came or signs != self.signs:
+        if has_come or signs != self.signs:
             self.signs, self.is_changed = signs, True
         # What isn't flushed must not be seen by others, and what a newcomer reads must be all.
-        if now - self.typed_at >= QUIET and self.is_whole and self.is_idle():
+        if now - self.typed_at >= QUIET and self.is_whole and self.is_idle() and not self.came:
             if self.channel.wants_snapshot(len(self.document)):
                 self.channel.snapshot(self.document.save())
-        return bool(came)
+        return has_come
 
     def here(self) -> dict[int, Here]:
         """Who else is here, by site."""
@@ -211,6 +217,8 @@ class Desk:
 
     def patience(self) -> float | None:
         """How many seconds the next turn may be waited for at most; None for as long as nothing is typed."""
+        if self.came:
+            return 0.0
         if self.failed_at:
             return AGAIN
         return self.channel.patience() if self.channel else None

@@ -54,6 +54,8 @@ def look(desk: Desk) -> None:
     desk.log.flush()
     desk.channel.looked = 0.0  # type: ignore[union-attr]
     desk.turn()
+    while desk.came:
+        desk.turn()
 
 
 @pytest.mark.parametrize("seed", [71, 72])
