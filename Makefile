@@ -26,7 +26,9 @@ SHARED = libbidigrid.so.$(VERSION)
 SONAME = libbidigrid.so.$(MAJOR)
 DIST = build/bidigrid-$(VERSION).tar.gz
 MAN = build/bidigrid.1
-PAGES = C.md C_REFERENCE.md FORMATS.md
+# What is installed beside the library; MORE_PAGES are those of the tarball.
+PAGES = docs/C.md docs/C_REFERENCE.md docs/FORMATS.md $(MORE_PAGES)
+NOTICE = data/unicode-15.0/README.md
 
 # The parts of the whole test, each a target.
 PARTS = check-gate check-c check-python check-edit
@@ -132,8 +134,11 @@ install-lib: lib
 	sed -e 's|@PREFIX@|$(PREFIX)|; s|@VERSION@|$(VERSION)|; s|@LIBDIR@|$(libdir:$(PREFIX)/%=$${prefix}/%)|' \
 	    -e 's|@INCLUDEDIR@|$(includedir:$(PREFIX)/%=$${prefix}/%)|' c/bidigrid.pc.in \
 	    >'$(DESTDIR)$(libdir)/pkgconfig/bidigrid.pc'
-	install -m 644 $(PAGES:%=docs/%) '$(DESTDIR)$(docdir)'
-	install -m 644 data/unicode-15.0/README.md '$(DESTDIR)$(docdir)/UNICODE_DATA.md'
+	install -m 644 $(NOTICE) '$(DESTDIR)$(docdir)/UNICODE_DATA.md'
+	for page in $(PAGES); do \
+	    tools/make/installed-page $$page $(PAGES) $(NOTICE)=UNICODE_DATA.md >'$(DESTDIR)$(docdir)'/$${page##*/} && \
+	    chmod 644 '$(DESTDIR)$(docdir)'/$${page##*/} || exit; \
+	done
 
 uninstall:
 	rm -f '$(DESTDIR)$(bindir)/bidigrid' '$(DESTDIR)$(libexecdir)/bidigrid' '$(DESTDIR)$(datadir)/man/man1/bidigrid.1'
@@ -141,7 +146,7 @@ uninstall:
 	rm -f '$(DESTDIR)$(includedir)/bidigrid.h' '$(DESTDIR)$(libdir)/libbidigrid.a' '$(DESTDIR)$(libdir)/$(SHARED)' \
 	    '$(DESTDIR)$(libdir)/$(SONAME)' '$(DESTDIR)$(libdir)/libbidigrid.so' \
 	    '$(DESTDIR)$(libdir)/pkgconfig/bidigrid.pc'
-	rm -f $(PAGES:%='$(DESTDIR)$(docdir)/%') '$(DESTDIR)$(docdir)/UNICODE_DATA.md'
+	rm -f $(patsubst %,'$(DESTDIR)$(docdir)/%',$(notdir $(PAGES)) UNICODE_DATA.md)
 	for folder in '$(DESTDIR)$(datadir)/bidigrid' '$(DESTDIR)$(docdir)'; do \
 	    [ ! -d "$$folder" ] || rmdir --ignore-fail-on-non-empty "$$folder"; \
 	done

@@ -16,7 +16,7 @@ use Rattle.cell_grid.specs.declared.cell.Cell.TheVariants.{Blank, Head, Tail}
 use Rattle.cell_grid.specs.LawsBelow.{LawsBelow}
 use Rattle.cell_grid.specs.Spans.{spans}
 use Rattle.cell_grid.specs.Rows.{DrawnRow, rows_of, shifted, shifted_entry}
-use Rattle.cell_grid.specs.Print.{cluster_text, entry_text, cell_text, row_text}
+use Rattle.cell_grid.specs.Print.{cluster_text, entry_text, text_over, own_text, cell_text, row_text}
 use Rattle.cell_grid.specs.Printable.{IsSlice, AreSlices}
 use Rattle.cell_grid.proofs.Slicing.{IsSpan, spans-slices}
 use Rattle.cell_grid.proofs.Drawn.{each-entry, rows-each}
@@ -76,3 +76,11 @@ module _ (tables : TableValues) (before text after : List ℕ) (places : ℕ) wh
 
   pub row-alike : (r : DrawnRow) → AreSlices text r → row_text tables whole (shifted (length before) places r) ≡ row_text tables text r
   row-alike r are = ap (λ printed. printed ++ 10 ∷ []) (cells-alike r.entries are r.cells)
+
+  pub sizes-alike : (es : List Entry) → All (λ (e : Entry). IsSlice text e.span) es
+      → map (λ (e : Entry). length (own_text tables whole e)) (map moved es) ≡ map (λ (e : Entry). length (own_text tables text e)) es
+  sizes-alike [] are = refl
+  sizes-alike (e ∷ es) are =
+      ap₂ (λ (n : ℕ) (ns : List ℕ). n ∷ ns)
+      (ap (λ shown. length (text_over e.columns shown)) (entry-alike e (All-head (λ (e : Entry). IsSlice text e.span) e es are)))
+      (sizes-alike es (All-tail (λ (e : Entry). IsSlice text e.span) e es are))

@@ -31,4 +31,5 @@ pub mod Windows
 pub mod Rising
 pub mod Moving
 pub mod Elsewhere
+pub mod Filling
 pub mod Interface

@@ -1,5 +1,5 @@
 -- Print of a grid: the cells' texts, each row ended by one LF.
-use Rattle.std.specs.Prelude.{ℕ, zero, suc, Bool, true, false, List, [], ◌∷◌, ◌++◌, map, replicate, slice_get, slice_range, Option, Some, None, encode_utf8_all, if◌then◌else◌}
+use Rattle.std.specs.Prelude.{ℕ, zero, suc, Bool, true, false, List, [], ◌∷◌, ◌++◌, map, length, replicate, slice_get, slice_range, Option, Some, None, encode_utf8_all, if◌then◌else◌}
 use Rattle.std.specs.List.{flat_map}
 use Rattle.std.specs.Option.{option_map_or}
 use Rattle.bg_types.specs.declared.class.Base.{Base}
@@ -50,6 +50,10 @@ text_over (suc n) shown = shown
 abbrev pub own_text : TableValues → (text : List ℕ) → Entry → List ℕ
 own_text tables text e = text_over e.columns (entry_text tables text (Some e))
 
+-- how many bytes that is of each entry of a row, from the left
+abbrev pub own_sizes : TableValues → (text : List ℕ) → DrawnRow → List ℕ
+own_sizes tables text r = map (λ (e : Entry). length (own_text tables text e)) r.entries
+
 -- what a cell prints: a head its cluster, a tail nothing, a blank one space
 abbrev pub cell_text : TableValues → (text : List ℕ) → List Entry → Cell → List ℕ
 cell_text tables text entries Blank = 32 ∷ []
@@ -66,6 +70,10 @@ printed g = flat_map (row_text g.tables g.text) g.rows
 -- print of the row with this number
 abbrev pub printed_row : DrawnGrid → (number : ℕ) → List ℕ
 printed_row g number = option_map_or (row_text g.tables g.text) (slice_get g.rows number) []
+
+-- of each entry of that row, how many bytes its cells have there
+abbrev pub printed_sizes : DrawnGrid → (number : ℕ) → List ℕ
+printed_sizes g number = option_map_or (own_sizes g.tables g.text) (slice_get g.rows number) []
 
 -- print of the grid of a text at a width and a base
 abbrev pub shown : TableValues → (width : ℕ) → Base → List ℕ → List ℕ

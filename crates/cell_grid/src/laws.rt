@@ -9,7 +9,7 @@ ghost use Rattle.paragraphs.specs.Text.{code_points};
 ghost use Rattle.paragraphs.specs.Paragraphs.{Paragraph, ParagraphsFollow};
 ghost use Rattle.cell_grid.specs.Grids.{DrawnGrid, IsDrawn, paragraph_rows};
 ghost use Rattle.cell_grid.specs.Rows.{DrawnRow, rows_of, shifted};
-ghost use Rattle.cell_grid.specs.Print.{row_text};
+ghost use Rattle.cell_grid.specs.Print.{own_sizes, row_text};
 ghost use Rattle.cell_grid.specs.Printable.{AreSlices};
 ghost use Rattle.cell_grid.specs.Shifting.{MayShiftRow, shifted_paragraph};
 ghost use Rattle.cell_grid.specs.Laws.{text_spans, entry_spans, RowsFollow, HoldsPlacesOnce, StandsAtItsEdge, CoversCellsOnce};
@@ -100,12 +100,14 @@ pub fn rows_move_with_paragraphs()
 {}
 
 /// The entries of a paragraph's rows, counted from its start, are slices of its text. Such a row prints the same where the
-/// paragraph stands in a longer text.
+/// paragraph stands in a longer text, and so does each of its entries.
 pub fn rows_print_alike()
     ensures slices { (tables : TableValues) (width : ℕ) (base : Base) (text : List ℕ) → 2 ≤ width → IsUtf8 text
         → All (AreSlices text) (rows_of tables width base text) }
     ensures alike { (tables : TableValues) (before text after : List ℕ) (places : ℕ) (row : DrawnRow) → AreSlices text row
         → row_text tables (before ++ (text ++ after)) (shifted (length before) places row) ≡ row_text tables text row }
+    ensures sizes { (tables : TableValues) (before text after : List ℕ) (places : ℕ) (row : DrawnRow) → AreSlices text row
+        → own_sizes tables (before ++ (text ++ after)) (shifted (length before) places row) ≡ own_sizes tables text row }
 {
     laws_below();
 }

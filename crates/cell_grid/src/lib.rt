@@ -4,6 +4,7 @@
 mod cell;
 mod column;
 mod entry;
+mod entry_sizes;
 mod grid;
 mod held;
 pub mod laws;
@@ -17,9 +18,10 @@ mod span;
 
 pub use cell::{Cell, Cells};
 pub use entry::Entry;
+pub use entry_sizes::{row_entry_sizes, row_entry_sizes_at};
 pub use grid::{Grid, draw};
 pub use paragraph::rows;
 pub use paragraphs::Span;
-pub use print_size::row_print_size;
+pub use print_size::{row_print_size, row_print_size_at};
 pub use printed::{print, print_row, print_row_at};
 pub use row::Row;

@@ -20,7 +20,7 @@ use crate::span::extent;
 use bg_types::{Base, Bidi, Memory};
 use bidi_explicit::paragraph_level;
 use bidi_weak_neutral::levels_at;
-use line_break::{Cluster, Line, Outline, lines_of, outline_of};
+use line_break::{Line, Outline, lines_of, outline_of};
 use paragraphs::{Para, Span, code_points_of};
 use reorder::line_levels_at;
 use std::alloc::Global;
@@ -37,8 +37,6 @@ struct Material<'a> {
     /// The level of each code point.
     levels: Vec<u8>,
     clusters: Outline,
-    /// The columns of each cluster.
-    columns: Vec<u8>,
 }
 
 /// The levels of a line's clusters, which have these spans in the paragraph's text (L1).
@@ -82,7 +80,7 @@ fn row_of(alloc: Global, material: &Material, width: u16, line: Line) -> Result<
     requires levels { length material.now.levels.items ≡ length (code_points material.now.text.now) }
     requires spans { material.now.clusters.spans.items ≡ spans material.now.text.now }
     requires sizes { material.now.clusters.sizes.items ≡ cluster_sizes material.now.text.now }
-    requires columns { material.now.columns.items ≡ own_columns material.now.tables.now material.now.text.now }
+    requires columns { material.now.clusters.columns.items ≡ own_columns material.now.tables.now material.now.text.now }
     requires line { IsLine material.now.tables.now width material.now.text.now line }
     ensures { IfOk result (λ row. row
         ≡ row_of material.now.tables.now width material.now.para_level material.now.text.now material.now.levels.items line) }
@@ -90,21 +88,9 @@ fn row_of(alloc: Global, material: &Material, width: u16, line: Line) -> Result<
     laws_below();
     let spans = part(&material.clusters.spans, line);
     let sizes = part(&material.clusters.sizes, line);
-    let columns = part(&material.columns, line);
+    let columns = part(&material.clusters.columns, line);
     let levels = levels_in_line(alloc, material, spans, sizes)?;
     Row::of_line(alloc, width, material.para_level, spans, &levels, columns)
-}
-
-/// The columns of clusters.
-fn columns_of(alloc: Global, clusters: &[Cluster]) -> Result<Vec<u8>, Memory>
-    ensures { IfOk result (λ columns. columns.items ≡ map (λ c. c.columns) clusters.now) }
-{
-    Ok(
-        clusters
-            .iter()
-            .map(|cluster| cluster.columns)
-            .collect(alloc)?,
-    )
 }
 
 /// The rows of a paragraph's lines, from the top, counted from the paragraph's start.
@@ -119,7 +105,7 @@ fn rows_in(alloc: Global, material: &Material, width: u16) -> Result<Vec<Row>, M
     requires sizes { material.now.clusters.sizes.items ≡ cluster_sizes material.now.text.now }
     requires clusters { material.now.clusters.clusters.items ≡ line_clusters material.now.tables.now material.now.text.now }
     requires most { All (λ c. c.columns ≤ 2) material.now.clusters.clusters.items }
-    requires columns { material.now.columns.items ≡ own_columns material.now.tables.now material.now.text.now }
+    requires columns { material.now.clusters.columns.items ≡ own_columns material.now.tables.now material.now.text.now }
     ensures { IfOk result (λ rows. rows.items
         ≡ map (row_of material.now.tables.now width material.now.para_level material.now.text.now material.now.levels.items)
         (lines material.now.tables.now material.now.text.now width)) }
@@ -160,8 +146,7 @@ pub fn rows(
     let points = code_points_of(alloc, text)?;
     let classes = tables.bidi_of_each(alloc, &points)?;
     let levels = levels_at(alloc, tables, para_level, &points, &classes)?;
-    let clusters = outline_of(alloc, tables, para)?;
-    let columns = columns_of(alloc, &clusters.clusters)?;
+    let clusters = outline_of(alloc, tables, para, &points)?;
     let material = Material {
         tables,
         text,
@@ -169,7 +154,6 @@ pub fn rows(
         classes,
         levels,
         clusters,
-        columns,
     };
     rows_in(alloc, &material, width)
 }

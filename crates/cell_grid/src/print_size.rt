@@ -1,12 +1,14 @@
 //! How many bytes a row prints.
 
-ghost use Rattle.std.specs.Prelude.{◌≡◌, ◌+◌, length, IfOk, Some};
+ghost use Rattle.std.specs.Prelude.{◌≡◌, ◌+◌, ◌<◌, length, IfOk, Some};
 ghost use Rattle.std.specs.List.{All, flat_map};
 ghost use Rattle.paragraphs.specs.Text.{code_points};
-ghost use Rattle.cell_grid.specs.Print.{mirrored_text, entry_text, own_text, row_text};
+ghost use Rattle.cell_grid.specs.Print.{mirrored_text, entry_text, own_text, printed_row, row_text};
 ghost use Rattle.cell_grid.specs.Printable.{IsSlice};
 
 use crate::entry::Entry;
+use crate::grid::Grid;
+use crate::laws_below::laws_below;
 use crate::printed::begins_with_tab;
 use crate::row::Row;
 use bg_types::Memory;
@@ -27,6 +29,17 @@ pub fn row_print_size(tables: &Tables, text: &str, row: &Row) -> Result<usize, M
     added(size, blanks + 1)
 }
 
+/// How many bytes `print_row_at` writes of the row with this number, counted from 0. Takes no memory. `Memory` where they are
+/// more than can be counted.
+/// Cost: that of `row_print_size`.
+pub fn row_print_size_at(grid: &Grid, number: usize) -> Result<usize, Memory>
+    requires { number < length grid.now.rows }
+    ensures { IfOk result (λ size. size ≡ length (printed_row grid.now number)) }
+{
+    laws_below();
+    row_print_size(grid.tables(), grid.text(), &grid.rows()[number])
+}
+
 /// How many bytes the cells of entries print.
 fn entries_size(tables: &Tables, text: &str, entries: &[Entry]) -> Result<usize, Memory>
     requires { All (λ e. IsSlice text.now e.span) entries.now }
@@ -41,7 +54,7 @@ fn entries_size(tables: &Tables, text: &str, entries: &[Entry]) -> Result<usize,
 }
 
 /// How many bytes the cells of an entry print, if it has any.
-fn cells_size(tables: &Tables, text: &str, entry: Entry) -> Result<usize, Memory>
+pub(crate) fn cells_size(tables: &Tables, text: &str, entry: Entry) -> Result<usize, Memory>
     requires { IsSlice text.now entry.span }
     ensures { IfOk result (λ size. size ≡ length (own_text tables.now text.now entry)) }
 {

@@ -1,9 +1,7 @@
--- The statuses of a text, one code point further.
-use Rattle.std.proofs.Common.{◌≡◌, ℕ, List, [], ◌∷◌, ◌++◌, map, length, sym, ap, ◌∙◌}
-use Rattle.std.proofs.lemmas.List.{append_assoc, nil_from_length}
-use Rattle.std.proofs.lemmas.Str.{chars-nil, chars_past_char, IsUtf8-past_char}
-use Rattle.std.specs.Prelude.{encode_utf8}
-use Rattle.std.specs.Str.{IsUtf8}
+-- The statuses of code points, one further.
+use Rattle.std.proofs.Common.{◌≡◌, ℕ, zero, suc, ◌+◌, ◌-◌, ◌<◌, ◌≤◌, List, [], ◌∷◌, ◌++◌, map, length, take, drop, get_or, sym, ap, ◌∙◌, arith}
+use Rattle.std.proofs.Math.Seq.{take-length}
+use Rattle.std.proofs.lemmas.List.{append_assoc, drop-drop, length-drop, nil_from_length}
 use Rattle.unicode_tables.specs.Tables.{TableValues}
 use Rattle.paragraphs.specs.Text.{code_points}
 use Rattle.line_break.specs.declared.status.Break.{Break}
@@ -11,51 +9,77 @@ use Rattle.line_break.specs.declared.status.Break.TheVariants.{May, Must}
 use Rattle.line_break.specs.Items.{point_of}
 use Rattle.line_break.specs.Context.{before, after}
 use Rattle.line_break.specs.Rules.{first_rule, rules}
-use Rattle.line_break.specs.Statuses.{statuses_behind, breaks}
+use Rattle.line_break.specs.Statuses.{statuses, breaks}
 use Rattle.line_break.specs.States.{IsBehind}
-use Rattle.line_break.specs.Marked.{points, statuses_from, IsMarkedTo}
+use Rattle.line_break.specs.Marked.{statuses_from, IsMarkedTo}
 
-module _ (tables : TableValues) (text : List ℕ) where
-  pub breaks-nil : length text ≡ 0 → [] ≡ breaks tables text
-  unfolding breaks
-  breaks-nil none = sym (ap (λ cs. statuses_behind [] (map (point_of tables) cs)) (ap code_points (nil_from_length text none) ∙ chars-nil))
+-- the statuses of a text's code points are its own
+pub breaks-of : (tables : TableValues) (text points : List ℕ) (all : List Break) → points ≡ code_points text
+    → all ≡ statuses (map (point_of tables) points) → all ≡ breaks tables text
+unfolding breaks
+breaks-of tables text points all same e = e ∙ ap (λ ps. statuses (map (point_of tables) ps)) same
 
-  points-head : (bytes : List ℕ) (c : ℕ) (rest : List ℕ) → IsUtf8 bytes → bytes ≡ encode_utf8 c ++ rest → points tables bytes ≡ point_of tables c ∷ points tables rest
-  unfolding points
-  points-head bytes c rest u e = ap (map (point_of tables)) (chars_past_char bytes rest c u e)
-
+module _ (tables : TableValues) (points : List ℕ) where
   -- after the first code point
-  pub IsMarkedTo-start : (c : ℕ) (rest : List ℕ) (done : List Break) (state : ℕ) → IsUtf8 text → text ≡ encode_utf8 c ++ rest → done ≡ []
-      → IsBehind (point_of tables c ∷ []) state → IsMarkedTo tables text rest done state
-  unfolding breaks points statuses_from
-  IsMarkedTo-start c rest done state u e none k = record {
+  pub IsMarkedTo-start : (c : ℕ) (rest : List ℕ) (done : List Break) (state : ℕ) → points ≡ c ∷ rest → done ≡ []
+      → IsBehind (point_of tables c ∷ []) state → IsMarkedTo tables points rest done state
+  unfolding statuses_from
+  IsMarkedTo-start c rest done state e none k = record {
     front = point_of tables c ∷ [];
-    utf8 = IsUtf8-past_char text rest c u e;
     behind = k;
-    so_far = ap (λ d. d ++ statuses_from (point_of tables c ∷ []) (points tables rest)) none ∙ ap (statuses_behind []) (sym (points-head text c rest u e));
+    so_far =
+        ap (λ d. d ++ statuses_from (point_of tables c ∷ []) (map (point_of tables) rest)) none
+        ∙ ap (λ ps. statuses (map (point_of tables) ps)) (sym e);
   }
 
-  module _ (rest : List ℕ) (done : List Break) (state : ℕ) (m : IsMarkedTo tables text rest done state) where
+  module _ (rest : List ℕ) (done : List Break) (state : ℕ) (m : IsMarkedTo tables points rest done state) where
     -- one code point further
-    pub IsMarkedTo-on : (c : ℕ) (later : List ℕ) (s : Break) (more : List Break) (next : ℕ) → rest ≡ encode_utf8 c ++ later
+    pub IsMarkedTo-on : (c : ℕ) (later : List ℕ) (s : Break) (more : List Break) (next : ℕ) → rest ≡ c ∷ later
         → s ≡ first_rule rules May (before m.front) (after (point_of tables c)) → more ≡ done ++ s ∷ []
-        → IsBehind (m.front ++ point_of tables c ∷ []) next → IsMarkedTo tables text later more next
+        → IsBehind (m.front ++ point_of tables c ∷ []) next → IsMarkedTo tables points later more next
     unfolding statuses_from
     IsMarkedTo-on c later s more next e here put k =
         let p = point_of tables c in
         record {
           front = m.front ++ p ∷ [];
-          utf8 = IsUtf8-past_char rest later c m.utf8 e;
           behind = k;
           so_far =
-              ap (λ d. d ++ statuses_from (m.front ++ p ∷ []) (points tables later)) put
+              ap (λ d. d ++ statuses_from (m.front ++ p ∷ []) (map (point_of tables) later)) put
               ∙ append_assoc done (s ∷ []) _
-              ∙ ap (λ t. done ++ t ∷ statuses_from (m.front ++ p ∷ []) (points tables later)) here
-              ∙ ap (λ ps. done ++ statuses_from m.front ps) (sym (points-head rest c later m.utf8 e)) ∙ m.so_far;
+              ∙ ap (λ t. done ++ t ∷ statuses_from (m.front ++ p ∷ []) (map (point_of tables) later)) here
+              ∙ ap (λ ps. done ++ statuses_from m.front (map (point_of tables) ps)) (sym e) ∙ m.so_far;
         }
 
-    -- at the text's end
-    pub breaks-end : (all : List Break) → length rest ≡ 0 → all ≡ done ++ Must ∷ [] → all ≡ breaks tables text
-    unfolding points statuses_from
-    breaks-end all none put =
-        put ∙ ap (λ cs. done ++ statuses_from m.front (map (point_of tables) cs)) (sym (ap code_points (nil_from_length rest none) ∙ chars-nil)) ∙ m.so_far
+    -- behind the last one
+    pub statuses-end : (all : List Break) → rest ≡ [] → all ≡ done ++ Must ∷ [] → all ≡ statuses (map (point_of tables) points)
+    unfolding statuses_from
+    statuses-end all none put = put ∙ ap (λ cs. done ++ statuses_from m.front (map (point_of tables) cs)) (sym none) ∙ m.so_far
+
+-- the list that a loop goes over, of all code points but the first
+abbrev behind_first : List ℕ → List ℕ
+behind_first points = take (length points - 1) (drop 1 points)
+
+-- what a slice from a place on has
+pub slice-from : (i : ℕ) (points : List ℕ) → take (length points - i) (drop i points) ≡ drop i points
+slice-from i points = ap (λ k. take k (drop i points)) (sym (length-drop i points)) ∙ take-length (drop i points)
+
+drop-at : (points : List ℕ) (i c : ℕ) → i < length points → c ≡ get_or points i c → drop i points ≡ c ∷ drop (suc i) points
+drop-at [] i c lt at = absurd (omega arith)
+drop-at (p ∷ points) zero c lt at = ap (λ x. x ∷ points) (sym at)
+drop-at (p ∷ points) (suc i) c lt at = drop-at points i c (omega arith) at
+
+module _ (points : List ℕ) (i : ℕ) where
+  pub next-point : (c : ℕ) → i < length (behind_first points) → c ≡ get_or (behind_first points) i c → drop (1 + i) points ≡ c ∷ drop (1 + (i + 1)) points
+  next-point c lt at =
+      let same = slice-from 1 points in
+      let n = ap length same in
+      let next : suc i ≡ i + 1 = omega arith in
+      sym (drop-drop i 1 points) ∙ drop-at (drop 1 points) i c (omega arith) (at ∙ ap (λ xs. get_or xs i c) same)
+      ∙ ap (λ xs. c ∷ xs) (drop-drop (suc i) 1 points ∙ ap (λ k. drop (1 + k) points) next)
+
+  pub no_point : length (behind_first points) ≤ i → drop (1 + i) points ≡ []
+  no_point le =
+      let n = ap length (slice-from 1 points) in
+      let whole = length-drop 1 points in
+      let left = length-drop (1 + i) points in
+      nil_from_length (drop (1 + i) points) (omega arith)

@@ -1,7 +1,8 @@
 -- The clusters of a paragraph, outlined up to one of them.
-use Rattle.std.proofs.Common.{◌≡◌, ℕ, ◌+◌, ◌-◌, ◌<◌, ◌≤◌, List, [], ◌∷◌, ◌++◌, map, length, sym, ap, subst, ◌∙◌, arith, append-nil, append_assoc, length-append}
+use Rattle.std.proofs.Common.{◌≡◌, ℕ, ◌+◌, ◌-◌, ◌<◌, ◌≤◌, List, [], ◌∷◌, ◌++◌, map, length, drop, sym, ap, subst, ◌∙◌, arith, append-nil, append_assoc, length-append}
+use Rattle.std.proofs.lemmas.List.{drop-drop, drop_at}
 use Rattle.std.proofs.lemmas.List.Elements.{All-head, All-tail}
-use Rattle.std.proofs.lemmas.Str.{IsUtf8-nil, IsUtf8-append}
+use Rattle.std.proofs.lemmas.Str.{IsUtf8-nil, IsUtf8-append, chars-append}
 use Rattle.std.specs.List.{All, concat}
 use Rattle.std.specs.Str.{IsUtf8}
 use Rattle.paragraphs.proofs.Interface.{points-fit}
@@ -23,6 +24,7 @@ pub record IsOutlinedTo (text : List ℕ) (left : List (List ℕ)) (done : List 
   pub places : place ≤ byte
   pub all_spans : done ++ spans_from byte place left ≡ spans text
   pub all_sizes : sizes ++ map length (map code_points left) ≡ cluster_sizes text
+  pub points : drop place (code_points text) ≡ code_points (concat left)
 
 -- a list of this many entries up to a place, with room for one at each of `count` places
 pub record HasRoom (count place entries capacity : ℕ) : Type 0 where
@@ -46,6 +48,7 @@ module _ (text : List ℕ) where
     places = omega arith;
     all_spans = ap (λ l. l ++ spans_from 0 0 left) no_spans ∙ ap (spans_from 0 0) all;
     all_sizes = ap (λ l. l ++ map length (map code_points left)) no_sizes ∙ ap (λ (l : List (List ℕ)). map length (map code_points l)) all;
+    points = ap code_points (sym joined);
   }
 
   module _ (left : List (List ℕ)) (done : List Span) (sizes : List ℕ) (byte place : ℕ) (m : IsOutlinedTo text left done sizes byte place) where
@@ -89,6 +92,10 @@ module _ (text : List ℕ) where
         all_sizes =
             ap (λ l. l ++ map length (map code_points later)) (put_size ∙ ap (λ k. sizes ++ k ∷ []) count)
             ∙ append_assoc sizes (length (code_points c) ∷ []) (map length (map code_points later)) ∙ at_cluster.all_sizes;
+        points =
+            sym (drop-drop size place (code_points text))
+            ∙ ap (drop size) (at_cluster.points ∙ chars-append c (concat later) cluster-utf8)
+            ∙ drop_at (code_points c) (code_points (concat later)) size (sym count);
       }
 
       -- the cluster ends where those after it begin

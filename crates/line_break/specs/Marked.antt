@@ -1,23 +1,17 @@
--- A text whose statuses are known up to a place.
+-- Code points whose statuses are known up to a place.
 use Rattle.std.specs.Prelude.{◌≡◌, ℕ, List, ◌∷◌, ◌++◌, map}
-use Rattle.std.specs.Str.{IsUtf8}
 use Rattle.unicode_tables.specs.Tables.{TableValues}
-use Rattle.paragraphs.specs.Text.{code_points}
 use Rattle.line_break.specs.declared.status.Break.{Break}
 use Rattle.line_break.specs.Items.{Item, point_of}
-use Rattle.line_break.specs.Statuses.{status, statuses_behind, breaks}
+use Rattle.line_break.specs.Statuses.{status, statuses_behind, statuses}
 use Rattle.line_break.specs.States.{IsBehind}
-
-unfoldable pub points : TableValues → List ℕ → List Item
-points tables text = map (point_of tables) (code_points text)
 
 -- the statuses right after `front` and after each later code point
 unfoldable pub statuses_from : List Item → List Item → List Break
 statuses_from front later = status front later ∷ statuses_behind front later
 
 -- `done` are the statuses before the boundary at which `rest` begins, and this state is what stands before it
-pub record IsMarkedTo (tables : TableValues) (text rest : List ℕ) (done : List Break) (state : ℕ) : Type 0 where
+pub record IsMarkedTo (tables : TableValues) (points rest : List ℕ) (done : List Break) (state : ℕ) : Type 0 where
   pub front : List Item
-  pub utf8 : IsUtf8 rest
   pub behind : IsBehind front state
-  pub so_far : done ++ statuses_from front (points tables rest) ≡ breaks tables text
+  pub so_far : done ++ statuses_from front (map (point_of tables) rest) ≡ statuses (map (point_of tables) points)

@@ -9,7 +9,7 @@ use crate::cluster::Cluster;
 use crate::open::Open;
 use crate::outline::outline_of;
 use bg_types::Memory;
-use paragraphs::Para;
+use paragraphs::{Para, code_points_of};
 use std::alloc::Global;
 use unicode_tables::Tables;
 
@@ -33,7 +33,8 @@ pub fn lines(alloc: Global, tables: &Tables, para: &Para, width: u16) -> Result<
     ensures joined { IfOk result (λ v. flat_map (λ line. slice_range (clusters para.now.text) line.start line.end) v.items
         ≡ clusters para.now.text) }
 {
-    let outline = outline_of(alloc, tables, para)?;
+    let points = code_points_of(alloc, para.text())?;
+    let outline = outline_of(alloc, tables, para, &points)?;
     lines_of(alloc, &outline.clusters, width)
 }
 

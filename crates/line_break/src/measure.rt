@@ -21,14 +21,19 @@ pub(crate) struct Measure {
 impl Measure {
     ghost use Rattle.line_break.specs.Measures.{measure_of, IsNext};
 
-    /// The next cluster, which is taken, is measured.
+    /// The next cluster, which is taken, is measured. `points` are the code points still to come.
     #[inline]
-    pub(crate) fn of_next(tables: &Tables, clusters: &mut Clusters) -> Option<Measure>
+    pub(crate) fn of_next(
+        tables: &Tables,
+        clusters: &mut Clusters,
+        points: &[char],
+    ) -> Option<Measure>
         requires some { All (λ cluster. 0 < length cluster) clusters.old }
         requires few { length (concat clusters.old) < 2 ^ 32 }
+        requires points { points.now ≡ code_points (concat clusters.old) }
         ensures { MatchOption result (clusters.old ≡ []) (λ m. IsNext tables.now m clusters.old clusters.new) }
     {
-        if let Some(c) = clusters.next_alone() {
+        if let Some(c) = clusters.next_alone(points) {
             return Some(Measure::of_one(tables, c));
         }
         let cluster = clusters.next()?;

@@ -1,26 +1,29 @@
 //! The clusters of a paragraph.
 
-ghost use Rattle.std.specs.Prelude.{◌≡◌, ◌≤◌, [], length, vec_capacity, vec_len, IfOk};
+ghost use Rattle.std.specs.Prelude.{◌≡◌, ◌≤◌, [], length, map, vec_capacity, vec_len, IfOk};
 ghost use Rattle.std.specs.List.{All};
+ghost use Rattle.paragraphs.specs.Text.{code_points};
 ghost use Rattle.paragraphs.specs.Clusters.{cluster_sizes};
 ghost use Rattle.paragraphs.specs.Spans.{spans};
 ghost use Rattle.line_break.specs.LineClusters.{line_clusters};
 
 use crate::cluster::Cluster;
 use crate::measure::Measure;
-use crate::status::opportunities;
+use crate::status::statuses_of;
 use bg_types::Memory;
 use paragraphs::{Para, Span, laws};
 use std::alloc::Global;
 use unicode_tables::Tables;
 
-/// The clusters of a paragraph, in order: three lists with an element for each.
+/// The clusters of a paragraph, in order: four lists with an element for each.
 #[derive(Debug, Drop)]
 pub struct Outline {
     /// Where each stands, counted from the paragraph's start.
     pub spans: Vec<Span>,
     /// How many code points each has.
     pub sizes: Vec<u32>,
+    /// How many columns each has.
+    pub columns: Vec<u8>,
     /// What lines ask of each.
     pub clusters: Vec<Cluster>,
 }
@@ -30,36 +33,45 @@ impl Outline {
     fn with_room(alloc: Global, clusters: usize) -> Result<Outline, Memory>
         ensures spans { IfOk result (λ o. (o.spans.items ≡ []) × (vec_len o.spans ≡ 0) × (clusters ≤ vec_capacity o.spans)) }
         ensures sizes { IfOk result (λ o. (o.sizes.items ≡ []) × (vec_len o.sizes ≡ 0) × (clusters ≤ vec_capacity o.sizes)) }
+        ensures columns { IfOk result (λ o. (o.columns.items ≡ []) × (vec_len o.columns ≡ 0) × (clusters ≤ vec_capacity o.columns)) }
         ensures clusters { IfOk result (λ o. (o.clusters.items ≡ []) × (vec_len o.clusters ≡ 0) × (clusters ≤ vec_capacity o.clusters)) }
     {
         Ok(Outline {
             spans: Vec::with_capacity(alloc, clusters)?,
             sizes: Vec::with_capacity(alloc, clusters)?,
+            columns: Vec::with_capacity(alloc, clusters)?,
             clusters: Vec::with_capacity(alloc, clusters)?,
         })
     }
 }
 
-/// The clusters of a paragraph of at most 4,000,000 bytes. It is cut into clusters once, and each
-/// is measured once.
+/// The clusters of a paragraph of at most 4,000,000 bytes, which has these code points. It is cut
+/// into clusters once, and each is measured once.
 /// Cost: O(n), memory for the clusters.
-pub fn outline_of(alloc: Global, tables: &Tables, para: &Para) -> Result<Outline, Memory>
-    requires { length para.now.text ≤ 4_000_000 }
+pub fn outline_of(
+    alloc: Global,
+    tables: &Tables,
+    para: &Para,
+    points: &[char],
+) -> Result<Outline, Memory>
+    requires size { length para.now.text ≤ 4_000_000 }
+    requires points { points.now ≡ code_points para.now.text }
     ensures spans { IfOk result (λ o. o.spans.items ≡ spans para.now.text) }
     ensures sizes { IfOk result (λ o. o.sizes.items ≡ cluster_sizes para.now.text) }
     ensures clusters { IfOk result (λ o. o.clusters.items ≡ line_clusters tables.now para.now.text) }
-    ensures columns { IfOk result (λ o. All (λ c. c.columns ≤ 2) o.clusters.items) }
+    ensures columns { IfOk result (λ o. o.columns.items ≡ map (λ c. c.columns) o.clusters.items) }
+    ensures most { IfOk result (λ o. All (λ c. c.columns ≤ 2) o.clusters.items) }
 {
     laws::clusters_join();
     laws::cluster_places();
-    let statuses = opportunities(alloc, tables, para)?;
+    let statuses = statuses_of(alloc, tables, points)?;
     // No paragraph has more clusters than code points.
-    let mut outline = Outline::with_room(alloc, statuses.len())?;
+    let mut outline = Outline::with_room(alloc, points.len())?;
     let length = para.text().len();
     let mut clusters = para.clusters();
     let mut byte = 0;
     let mut place = 0;
-    while let Some(measure) = Measure::of_next(tables, &mut clusters) {
+    while let Some(measure) = Measure::of_next(tables, &mut clusters, &points[place as usize..]) {
         let span = Span {
             first_byte: byte,
             end_byte: (length - clusters.bytes_left()) as u32,
@@ -68,6 +80,7 @@ pub fn outline_of(alloc: Global, tables: &Tables, para: &Para) -> Result<Outline
         };
         outline.spans.push_reserved(span);
         outline.sizes.push_reserved(measure.size);
+        outline.columns.push_reserved(measure.columns);
         outline.clusters.push_reserved(Cluster {
             columns: measure.columns,
             is_space: measure.is_space,

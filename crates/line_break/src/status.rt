@@ -1,12 +1,13 @@
 //! The statuses of a paragraph's boundaries.
 
-ghost use Rattle.std.specs.Prelude.{◌≡◌, IfOk};
-ghost use Rattle.line_break.specs.Statuses.{breaks};
+ghost use Rattle.std.specs.Prelude.{◌≡◌, IfOk, map};
+ghost use Rattle.line_break.specs.Items.{point_of};
+ghost use Rattle.line_break.specs.Statuses.{statuses, breaks};
 ghost use Rattle.line_break.specs.Lines.{is_must, is_break};
 
 use crate::state::{State, column_of};
 use bg_types::Memory;
-use paragraphs::Para;
+use paragraphs::{Para, code_points_of};
 use std::alloc::Global;
 use unicode_tables::Tables;
 
@@ -39,20 +40,29 @@ pub(crate) fn is_break(status: Break) -> bool
 
 /// The status of the boundary after each code point of a paragraph, in order (UAX #14, in the
 /// profile of this crate's rules). The last one is Must.
-/// Cost: O(n), a byte of memory a code point.
+/// Cost: O(n), 5 bytes of memory a code point.
 pub fn opportunities(alloc: Global, tables: &Tables, para: &Para) -> Result<Vec<Break>, Memory>
     ensures { IfOk result (λ v. v.items ≡ breaks tables.now para.now.text) }
 {
-    let text = para.text();
-    // No text has more characters than bytes.
-    let mut statuses = Vec::with_capacity(alloc, text.len())?;
-    let mut chars = text.chars();
-    let Some(first) = chars.next() else {
+    let points = code_points_of(alloc, para.text())?;
+    statuses_of(alloc, tables, &points)
+}
+
+/// The status of the boundary after each of a paragraph's code points, in order.
+pub(crate) fn statuses_of(
+    alloc: Global,
+    tables: &Tables,
+    points: &[char],
+) -> Result<Vec<Break>, Memory>
+    ensures { IfOk result (λ v. v.items ≡ statuses (map (point_of tables.now) points.now)) }
+{
+    let mut statuses = Vec::with_capacity(alloc, points.len())?;
+    let Some(first) = points.first() else {
         return Ok(statuses);
     };
-    let mut state = State::start().next(column_of(tables, first));
-    while let Some(c) = chars.next() {
-        let column = column_of(tables, c);
+    let mut state = State::start().next(column_of(tables, *first));
+    for c in &points[1..] {
+        let column = column_of(tables, *c);
         statuses.push_reserved(state.status_before(column));
         state = state.next(column);
     }

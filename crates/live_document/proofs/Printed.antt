@@ -11,7 +11,7 @@ use Rattle.bg_types.specs.declared.class.Base.{Base}
 use Rattle.unicode_tables.specs.Tables.{TableValues}
 use Rattle.paragraphs.specs.Paragraphs.{Paragraph, paragraphs, StandsIn}
 use Rattle.cell_grid.specs.Rows.{DrawnRow, shifted}
-use Rattle.cell_grid.specs.Print.{row_text, printed, printed_row}
+use Rattle.cell_grid.specs.Print.{own_sizes, row_text, printed, printed_row, printed_sizes}
 use Rattle.cell_grid.specs.Printable.{AreSlices}
 use Rattle.cell_grid.specs.Windows.{DrawnWindow}
 use Rattle.cell_grid.proofs.Interface.{all_at}
@@ -22,7 +22,7 @@ use Rattle.live_document.specs.declared.shown.Shown.{Shown}
 use Rattle.live_document.specs.Documents.{IsLive}
 use Rattle.live_document.specs.Keeping.{KeptText, rows_at, IsKeptAt, flags, is_kept}
 use Rattle.live_document.specs.LawsBelow.{LawsBelow}
-use Rattle.live_document.specs.Showing.{rows_from, window_in, shown_in, there_text}
+use Rattle.live_document.specs.Showing.{rows_from, window_in, shown_in, there_sizes, there_text}
 use Rattle.live_document.proofs.Beside.{rows_at-laid}
 use Rattle.live_document.proofs.Stretches.{front-texts}
 use Rattle.live_document.proofs.Windows.{own-text, own-first, own-byte, own-drawable}
@@ -42,9 +42,12 @@ module _ (below : LawsBelow) (tables : TableValues) (width : ℕ) (base : Base) 
       subst (All (AreSlices q.text)) (sym (rows_at-laid tables width base kept at.laid n there ∙ own-text below tables width base kept at u few n q is))
       (below.slices tables width base q.text at.at_least (own-drawable below tables width base kept at u few n q is).utf8)
 
-  module _ (shown_by : TableValues) (row : DrawnRow) (are : AreSlices q.text row) where
-    -- where it stands it prints as in its paragraph
-    own-alike : row_text shown_by text (shifted q.first_byte q.first_place row) ≡ row_text shown_by q.text row
+  -- what is seen of a row, its print or the sizes in it, which is alike in a longer text
+  module _ (seen : List ℕ → DrawnRow → List ℕ)
+      (alike : (before inner after : List ℕ) (places : ℕ) (row : DrawnRow) → AreSlices inner row → seen (before ++ (inner ++ after)) (shifted (length before) places row) ≡ seen inner row)
+      (row : DrawnRow) (are : AreSlices q.text row) where
+    -- where it stands it is seen as in its paragraph
+    own-alike : seen text (shifted q.first_byte q.first_place row) ≡ seen q.text row
     own-alike =
         let stands = all_at (StandsIn text) (paragraphs tables text) n q (below.paragraphs_stand tables text u) is in
         let end = q.first_byte + length q.text in
@@ -55,15 +58,15 @@ module _ (below : LawsBelow) (tables : TableValues) (width : ℕ) (base : Base) 
         let whole : text ≡ before ++ (q.text ++ after) =
         sym (take-append-drop q.first_byte text)
         ∙ ap (λ t. before ++ t) (drop_split text q.first_byte end order ∙ ap (λ t. t ++ after) (sym stands.bytes)) in
-        ap (λ t. row_text shown_by t (shifted q.first_byte q.first_place row)) whole
-        ∙ ap (λ m. row_text shown_by (before ++ (q.text ++ after)) (shifted m q.first_place row)) (sym size)
-        ∙ below.prints_alike shown_by before q.text after q.first_place row are
+        ap (λ t. seen t (shifted q.first_byte q.first_place row)) whole
+        ∙ ap (λ m. seen (before ++ (q.text ++ after)) (shifted m q.first_place row)) (sym size)
+        ∙ alike before q.text after q.first_place row are
 
-    pub there-alike : (k : ℕ) → n < length kept → slice_get (rows_at kept n) k ≡ Some row → there_text shown_by kept n k ≡ row_text shown_by q.text row
+    pub there-alike : (k : ℕ) → n < length kept → slice_get (rows_at kept n) k ≡ Some row → option_map_or (seen text) (slice_get (rows_from kept n) k) [] ≡ seen q.text row
     there-alike k here there =
         let byte = own-byte below tables width base kept at u few n q is ∙ ap (λ ts. bytes_in (concat ts)) (sym (front-texts kept n)) in
         let place = own-first below tables width base kept at u few n q is ∙ ap (λ ts. length (concat ts)) (sym (front-texts kept n)) in
-        ap (λ o. option_map_or (row_text shown_by text) o []) (row-there kept n k row here there ∙ ap₂ (λ m p. Some (shifted m p row)) (sym byte) (sym place))
+        ap (λ o. option_map_or (seen text) o []) (row-there kept n k row here there ∙ ap₂ (λ m p. Some (shifted m p row)) (sym byte) (sym place))
         ∙ own-alike
 
 -- ---- the rows that are shown
@@ -74,6 +77,11 @@ module _ (tables : TableValues) (kept : KeptText) (s : Shown) where
       → printed_row (shown_in tables kept s) number ≡ there_text tables kept n k
   shown-there number n k same within =
       ap (λ o. option_map_or (row_text tables (encode_utf8_all (text_in kept))) o []) (row-in_window (rows_from kept n) (rows_from kept s.first) k s.skip s.count number same within)
+
+  pub sizes-there : (number n k : ℕ) → drop k (rows_from kept n) ≡ drop (s.skip + number) (rows_from kept s.first) → number < s.count
+      → printed_sizes (shown_in tables kept s) number ≡ there_sizes tables kept n k
+  sizes-there number n k same within =
+      ap (λ o. option_map_or (own_sizes tables (encode_utf8_all (text_in kept))) o []) (row-in_window (rows_from kept n) (rows_from kept s.first) k s.skip s.count number same within)
 
   -- and is a piece of the whole print
   pub shown-piece : (number : ℕ) (d : DrawnRow) → number < length (window_in kept s).rows
@@ -105,15 +113,26 @@ live-printed desk tables width base true kept s held live =
 live-printed desk tables width base false kept s held live =
     ap (λ points. printed (record { tables = tables; text = encode_utf8_all points; rows = (window_in kept s).rows })) (live.text_is refl)
 
-none-row : (tables : TableValues) (text : List ℕ) (number : ℕ) → printed_row (record { tables = tables; text = text; rows = [] }) number ≡ []
-none-row tables text number = ap (λ o. option_map_or (row_text tables text) o []) (slice_get_past [] number (omega arith))
+none-seen : (seen : DrawnRow → List ℕ) (number : ℕ) → option_map_or seen (slice_get [] number) [] ≡ []
+none-seen seen number = ap (λ o. option_map_or seen o []) (slice_get_past [] number (omega arith))
 
 pub live-printed_row : (desk : Desk) (tables : TableValues) (width : ℕ) (base : Base) (behind : Bool) (kept : KeptText) (s : Shown) (held number : ℕ) → IsLive desk tables width base behind kept s held
     → printed_row (shown_in tables kept s) number ≡ printed_row (record { tables = tables; text = encode_utf8_all (desk_text.text desk.set); rows = (window_in kept s).rows }) number
 live-printed_row desk tables width base true kept s held number live =
     let none = live.unshown refl in
     ap (λ (w : DrawnWindow). printed_row (record { tables = tables; text = encode_utf8_all (text_in kept); rows = w.rows }) number) none
-    ∙ none-row tables (encode_utf8_all (text_in kept)) number ∙ sym (none-row tables (encode_utf8_all (desk_text.text desk.set)) number)
+    ∙ none-seen (row_text tables (encode_utf8_all (text_in kept))) number ∙ sym (none-seen (row_text tables (encode_utf8_all (desk_text.text desk.set))) number)
     ∙ sym (ap (λ (w : DrawnWindow). printed_row (record { tables = tables; text = encode_utf8_all (desk_text.text desk.set); rows = w.rows }) number) none)
 live-printed_row desk tables width base false kept s held number live =
     ap (λ points. printed_row (record { tables = tables; text = encode_utf8_all points; rows = (window_in kept s).rows }) number) (live.text_is refl)
+
+-- and so are the sizes of its entries
+pub live-printed_sizes : (desk : Desk) (tables : TableValues) (width : ℕ) (base : Base) (behind : Bool) (kept : KeptText) (s : Shown) (held number : ℕ) → IsLive desk tables width base behind kept s held
+    → printed_sizes (shown_in tables kept s) number ≡ printed_sizes (record { tables = tables; text = encode_utf8_all (desk_text.text desk.set); rows = (window_in kept s).rows }) number
+live-printed_sizes desk tables width base true kept s held number live =
+    let none = live.unshown refl in
+    ap (λ (w : DrawnWindow). printed_sizes (record { tables = tables; text = encode_utf8_all (text_in kept); rows = w.rows }) number) none
+    ∙ none-seen (own_sizes tables (encode_utf8_all (text_in kept))) number ∙ sym (none-seen (own_sizes tables (encode_utf8_all (desk_text.text desk.set))) number)
+    ∙ sym (ap (λ (w : DrawnWindow). printed_sizes (record { tables = tables; text = encode_utf8_all (desk_text.text desk.set); rows = w.rows }) number) none)
+live-printed_sizes desk tables width base false kept s held number live =
+    ap (λ points. printed_sizes (record { tables = tables; text = encode_utf8_all points; rows = (window_in kept s).rows }) number) (live.text_is refl)

@@ -7,7 +7,7 @@ use Rattle.unicode_tables.specs.Tables.{TableValues}
 use Rattle.paragraphs.specs.Text.{code_points}
 use Rattle.paragraphs.specs.Paragraphs.{Paragraph, paragraphs, StandsIn, ParagraphsFollow}
 use Rattle.cell_grid.specs.Rows.{DrawnRow, rows_of, shifted}
-use Rattle.cell_grid.specs.Print.{row_text}
+use Rattle.cell_grid.specs.Print.{own_sizes, row_text}
 use Rattle.cell_grid.specs.Printable.{AreSlices}
 use Rattle.cell_grid.specs.Shifting.{MayShiftRow}
 use Rattle.cell_grid.specs.Grids.{DrawnGrid, IsDrawn, paragraph_rows}
@@ -35,6 +35,8 @@ pub record LawsBelow : Type 0 where
       → All (AreSlices text) (rows_of tables width base text)
   pub prints_alike : (tables : TableValues) (before text after : List ℕ) (places : ℕ) (row : DrawnRow) → AreSlices text row
       → row_text tables (before ++ (text ++ after)) (shifted (length before) places row) ≡ row_text tables text row
+  pub sizes_alike : (tables : TableValues) (before text after : List ℕ) (places : ℕ) (row : DrawnRow) → AreSlices text row
+      → own_sizes tables (before ++ (text ++ after)) (shifted (length before) places row) ≡ own_sizes tables text row
   pub in_stretch : (before rows after : List DrawnRow) (above below place : ℕ) → HasWindow before rows after above below place
       → window_of above below place (before ++ (rows ++ after)) ≡ window_of above below place rows
   pub whole_some : (g : DrawnGrid) → IsDrawn g → 0 < length g.rows

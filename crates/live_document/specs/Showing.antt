@@ -7,7 +7,7 @@ use Rattle.bg_types.specs.declared.class.Base.{Base}
 use Rattle.text_buffer.specs.Buffers.{bytes_in, text_in}
 use Rattle.cell_grid.specs.Rows.{DrawnRow, shifted}
 use Rattle.cell_grid.specs.Grids.{DrawnGrid}
-use Rattle.cell_grid.specs.Print.{row_text}
+use Rattle.cell_grid.specs.Print.{own_sizes, row_text}
 use Rattle.cell_grid.specs.Windows.{DrawnWindow, row_at}
 use Rattle.live_document.specs.declared.shown.Shown.{Shown}
 use Rattle.live_document.specs.Keeping.{KeptText, rows_beside, rows_of_text, IsKeptAt}
@@ -37,6 +37,10 @@ shown_in tables kept s = record { tables = tables; text = encode_utf8_all (text_
 -- what a row prints, by its number among those that are kept from a paragraph on
 abbrev pub there_text : TableValues → KeptText → (number row : ℕ) → List ℕ
 there_text tables kept number row = option_map_or (row_text tables (encode_utf8_all (text_in kept))) (slice_get (rows_from kept number) row) []
+
+-- how many bytes each of its entries has there
+abbrev pub there_sizes : TableValues → KeptText → (number row : ℕ) → List ℕ
+there_sizes tables kept number row = option_map_or (own_sizes tables (encode_utf8_all (text_in kept))) (slice_get (rows_from kept number) row) []
 
 -- all its rows are kept
 abbrev pub IsAtHand : KeptText → Shown → Type 0

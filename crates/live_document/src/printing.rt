@@ -1,20 +1,20 @@
 //! What is shown is printed as the rows of the whole text are.
 
-ghost use Rattle.std.specs.Prelude.{◌≡◌, ◌+◌, ◌<◌, ℕ, false, drop, length, is_err, IfOk, OnOk, OnErr};
+ghost use Rattle.std.specs.Prelude.{◌≡◌, ◌+◌, ◌++◌, ◌<◌, ◌≤◌, ℕ, false, drop, length, is_err, IfOk, OnOk, OnErr};
 ghost use Rattle.std.specs.Io.KnownBytes.{Appends};
 ghost use Rattle.bg_types.specs.Sink.{AppendsBeginning};
 ghost use Rattle.unicode_tables.specs.Tables.{TableValues};
-ghost use Rattle.cell_grid.specs.Print.{printed, printed_row, row_text};
+ghost use Rattle.cell_grid.specs.Print.{own_sizes, printed, printed_row, printed_sizes, row_text};
 ghost use Rattle.cell_grid.specs.Printable.{AreSlices};
 ghost use Rattle.live_document.specs.Keeping.{rows_at};
-ghost use Rattle.live_document.specs.Showing.{shown_in, there_text, IsReadable};
+ghost use Rattle.live_document.specs.Showing.{shown_in, there_sizes, there_text, IsReadable};
 
 use crate::keeping::kept_rows;
 use crate::laws_below::laws_below;
 use crate::shown::Shown;
 use crate::window::{Spot, spot_behind, spot_of};
 use bg_types::{Device, Memory, Sink};
-use cell_grid::{Row, print_row, row_print_size};
+use cell_grid::{Row, print_row, row_entry_sizes, row_print_size};
 use text_buffer::Buffer;
 use unicode_tables::Tables;
 
@@ -32,6 +32,7 @@ fn text_there<'a>(buffer: &'a Buffer<Vec<Row>>, spot: Spot) -> OwnText<'a>
     requires inside { spot.row < length (rows_at buffer.now spot.number) }
     ensures slices { AreSlices result.text.now result.row.now }
     ensures alike { (tables : TableValues) → there_text tables buffer.now spot.number spot.row ≡ row_text tables result.text.now result.row.now }
+    ensures sizes { (tables : TableValues) → there_sizes tables buffer.now spot.number spot.row ≡ own_sizes tables result.text.now result.row.now }
 {
     laws_below();
     let _bytes = buffer.bytes();
@@ -75,6 +76,23 @@ pub fn shown_row_size(
 {
     let own = text_there(buffer, spot_behind(buffer, shown, number));
     row_print_size(tables, own.text, own.row)
+}
+
+/// Tells how many bytes the cells of each entry of that row have there, at the front of a list with room for them.
+pub fn shown_entry_sizes(
+    tables: &Tables,
+    buffer: &Buffer<Vec<Row>>,
+    shown: Shown,
+    number: usize,
+    sizes: &mut [usize],
+) -> Result<(), Memory>
+    requires readable { IsReadable buffer.now shown.first shown.skip shown.count }
+    requires row { number < shown.count }
+    requires room { length (printed_sizes (shown_in tables.now buffer.now shown) number) ≤ length sizes.old }
+    ensures { OnOk result (sizes.new ≡ printed_sizes (shown_in tables.now buffer.now shown) number ++ drop (length (printed_sizes (shown_in tables.now buffer.now shown) number)) sizes.old) }
+{
+    let own = text_there(buffer, spot_behind(buffer, shown, number));
+    row_entry_sizes(tables, own.text, own.row, sizes)
 }
 
 /// Writes all rows that are shown.

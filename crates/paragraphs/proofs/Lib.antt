@@ -12,5 +12,6 @@ pub mod Records
 pub mod Local
 pub mod Plain
 pub mod Afresh
+pub mod Alone
 pub mod Gathered
 pub mod Interface

@@ -1,5 +1,5 @@
 -- ClustersAndColumns, its first half: the clusters of a text.
-use Rattle.std.specs.Prelude.{ℕ, Bool, true, ◌&&◌, ◌||◌, nat_le, List, map, length}
+use Rattle.std.specs.Prelude.{ℕ, Bool, true, ◌&&◌, ◌||◌, nat_le, List, [], ◌∷◌, map, length}
 use Rattle.unicode_segmentation.specs.Grapheme.{graphemes}
 use Rattle.paragraphs.specs.Text.{code_points}
 
@@ -23,3 +23,8 @@ is_between first last c = nat_le first c && nat_le c last
 abbrev pub is_plain : ℕ → Bool
 is_plain c =
     is_between 0x20 0x7E c || (is_between 0x5D0 0x5EA c || (is_between 0x620 0x64A c || (is_between 0xAE 0x2FF c || (is_between 0x370 0x482 c || is_between 0x671 0x6D5 c))))
+
+-- the first of these code points, if there is one, is plain
+abbrev pub begins_plain : List ℕ → Bool
+begins_plain [] = true
+begins_plain (c ∷ rest) = is_plain c

@@ -1,10 +1,10 @@
 //! The clusters of a text (UAX #29).
 
-ghost use Rattle.std.specs.Prelude.{◌≡◌, ◌+◌, true, List, [], ◌∷◌, length, encode_utf8, MatchOption};
+ghost use Rattle.std.specs.Prelude.{◌≡◌, ◌<◌, true, List, [], ◌∷◌, length, take, drop, encode_utf8, MatchOption};
 ghost use Rattle.std.specs.List.{concat};
 ghost use Rattle.unicode_segmentation.specs.Grapheme.{is_grapheme_break};
 ghost use Rattle.paragraphs.specs.Text.{code_points};
-ghost use Rattle.paragraphs.specs.Clusters.{clusters, is_plain};
+ghost use Rattle.paragraphs.specs.Clusters.{clusters, is_plain, begins_plain};
 
 use std::marker::Model;
 use unicode_segmentation::UnicodeSegmentation;
@@ -14,16 +14,21 @@ use unicode_segmentation::UnicodeSegmentation;
 pub struct Clusters<'a> {
     /// The text from where the next cluster begins.
     rest: &'a str,
+    /// Whether its first character, if there is one, is known to be plain.
+    plain: bool,
 }
 
 impl<'a> Model for Clusters<'a> {
-    ghost use Rattle.std.specs.Prelude.{List, ℕ};
-    ghost use Rattle.paragraphs.specs.Clusters.{clusters};
+    ghost use Rattle.std.specs.Prelude.{◌≡◌, true, List, ℕ};
+    ghost use Rattle.paragraphs.specs.Text.{code_points};
+    ghost use Rattle.paragraphs.specs.Clusters.{clusters, begins_plain};
 
     // The clusters still to come, each as its bytes.
     ghost Value = { List (List ℕ) };
 
     ghost view = { λ s. clusters s.rest.now };
+
+    ghost invariant = { λ s. s.plain ≡ true → begins_plain (code_points s.rest.now) ≡ true };
 }
 
 impl<'a> Clusters<'a> {
@@ -32,7 +37,10 @@ impl<'a> Clusters<'a> {
     pub(crate) fn of(text: &'a str) -> Clusters<'a>
         ensures { result ≡ clusters text.now }
     {
-        Clusters { rest: text }
+        Clusters {
+            rest: text,
+            plain: false,
+        }
     }
 
     #[inline]
@@ -51,20 +59,22 @@ impl<'a> Clusters<'a> {
     }
 
     /// Takes the next cluster where it is seen at once that it is a single character, and gives
-    /// this character.
+    /// this character. `points` are the code points still to come.
     #[inline]
-    pub fn next_alone(&mut self) -> Option<char>
+    pub fn next_alone(&mut self, points: &[char]) -> Option<char>
+        requires { points.now ≡ code_points (concat self.old) }
         ensures { MatchOption result (self.new ≡ self.old) (λ c. self.old ≡ encode_utf8 c ∷ self.new) }
     {
         let text = self.rest();
-        let mut chars = text.chars();
-        match chars.next() {
-            Some(c) if stands_alone(c, chars.as_str()) => {
-                self.rest = chars.as_str();
-                Some(c)
-            }
-            _ => None,
+        let c = *points.first()?;
+        if !stands_alone(points, self.plain) {
+            return None;
         }
+        *self = Clusters {
+            rest: &text[c.len_utf8()..],
+            plain: true,
+        };
+        Some(c)
     }
 }
 
@@ -82,19 +92,24 @@ impl<'a> Iterator for Clusters<'a> {
         let text = self.rest();
         let mut graphemes = text.graphemes(true);
         let cluster = graphemes.next()?;
-        self.rest = graphemes.as_str();
+        *self = Clusters::of(graphemes.as_str());
         Some(cluster)
     }
 }
 
-/// Whether a character is a cluster where it begins one, directly before `rest`: both it and the
-/// next character are plain (GB999), or there is none (GB2).
+/// Whether the first of these code points is a cluster where it begins one: both it and the next
+/// one are plain (GB999), or there is no next one (GB2). If it is known to be plain, it isn't
+/// tested again.
 #[inline]
-fn stands_alone(c: char, rest: &str) -> bool
-    ensures { result ≡ true → is_grapheme_break true (c ∷ []) (code_points rest.now) ≡ true }
+fn stands_alone(points: &[char], plain: bool) -> bool
+    requires some { 0 < length points.now }
+    requires plain { plain ≡ true → begins_plain points.now ≡ true }
+    ensures alone { result ≡ true → is_grapheme_break true (take 1 points.now) (drop 1 points.now) ≡ true }
+    // The next one is then known to be plain.
+    ensures next { result ≡ true → begins_plain (drop 1 points.now) ≡ true }
 {
-    match rest.chars().next() {
-        Some(next) => is_plain(c) && is_plain(next),
+    match points.get(1) {
+        Some(next) => is_plain(*next) && (plain || is_plain(points[0])),
         None => true,
     }
 }

@@ -1,10 +1,10 @@
 //! A picture of a text.
 
-ghost use Rattle.std.specs.Prelude.{◌≡◌, ◌+◌, ◌<◌, ◌≤◌, length, IfOk};
+ghost use Rattle.std.specs.Prelude.{◌≡◌, ◌+◌, ◌++◌, ◌<◌, ◌≤◌, drop, length, IfOk, OnOk};
 ghost use Rattle.std.specs.Bool.{OnTrue, OnFalse};
 ghost use Rattle.std.specs.Str.{chars};
 ghost use Rattle.cell_grid.specs.Grids.{grid_of, IsDrawn};
-ghost use Rattle.cell_grid.specs.Print.{printed, printed_row};
+ghost use Rattle.cell_grid.specs.Print.{printed, printed_row, printed_sizes};
 ghost use Rattle.caret.specs.Gaps.{IsCaretOf};
 ghost use Rattle.caret.specs.Moves.{right_of, left_of, up_of, down_of, caret_under};
 ghost use Rattle.caret.specs.Places.{caret_at};
@@ -14,7 +14,9 @@ use crate::shared_tables::SharedTables;
 use bg_types::{Base, Memory};
 use caret::{Caret, at_column, at_place, down, left, right, up};
 use cell_grid::laws::rows_follow;
-use cell_grid::{Grid, Row, draw, print, print_row_at};
+use cell_grid::{
+    Grid, Row, draw, print, print_row_at, row_entry_sizes_at, row_print_size_at,
+};
 use std::alloc::Global;
 use std::marker::Model;
 use std::mem;
@@ -134,19 +136,49 @@ impl Picture {
         }
     }
 
-    /// How many bytes its print has, of which no more than a row is made at a time. `Memory` too where they are more than
-    /// can be counted.
-    /// Cost: that of `print`, memory for the bytes of a row.
+    /// How many bytes its print has. Takes no memory. `Memory` where they are more than can be counted.
+    /// Cost: that of `row_print_size` for each row.
     pub fn print_size(&mut self) -> Result<usize, Memory>
         ensures size { IfOk result (λ size. size ≡ length (printed self.old)) }
         ensures unchanged { self.new ≡ self.old }
     {
         let mut size = 0usize;
         for number in 0..self.rows.len() {
-            let row = self.printed_row(number)?;
-            size = added(size, row.len())?;
+            let row = self.row_print_size(number)?;
+            size = added(size, row)?;
         }
         Ok(size)
+    }
+
+    /// How many bytes the print of the row with this number has, counted from 0. Takes no memory. `Memory` where they are more
+    /// than can be counted.
+    /// Cost: that of `row_print_size_at`.
+    pub fn row_print_size(&mut self, number: usize) -> Result<usize, Memory>
+        requires { number < length self.old.rows }
+        ensures size { IfOk result (λ size. size ≡ length (printed_row self.old number)) }
+        ensures unchanged { self.new ≡ self.old }
+    {
+        let rows = mem::replace(&mut self.rows, Vec::new(self.alloc));
+        let grid = Grid::of(self.tables.tables(), self.text.as_str(), rows);
+        let size = row_print_size_at(&grid, number);
+        self.rows = grid.into_rows();
+        size
+    }
+
+    /// Tells how many bytes the cells of each entry of that row have in its print, as `cell_grid::row_entry_sizes` does, at the
+    /// front of a list with room for them.
+    /// Cost: that of `row_entry_sizes_at`.
+    pub fn row_entry_sizes(&mut self, number: usize, sizes: &mut [usize]) -> Result<(), Memory>
+        requires row { number < length self.old.rows }
+        requires room { length (printed_sizes self.old number) ≤ length sizes.old }
+        ensures sizes { OnOk result (sizes.new ≡ printed_sizes self.old number ++ drop (length (printed_sizes self.old number)) sizes.old) }
+        ensures unchanged { self.new ≡ self.old }
+    {
+        let rows = mem::replace(&mut self.rows, Vec::new(self.alloc));
+        let grid = Grid::of(self.tables.tables(), self.text.as_str(), rows);
+        let outcome = row_entry_sizes_at(&grid, number, sizes);
+        self.rows = grid.into_rows();
+        outcome
     }
 
     /// The print of the row with this number, counted from 0, with its LF.

@@ -3,12 +3,13 @@ use Rattle.std.proofs.Common.{◌≡◌, ◌⊎◌, ℕ, ◌+◌, ◌-◌, ◌<�
 use Rattle.std.proofs.lemmas.Bool.{cases_lt, ne_eqb}
 use Rattle.std.proofs.lemmas.List.{append-nil, append_assoc, length-append, length-drop, take-append-drop, take-append-le, take_at, drop_more, drop_all}
 use Rattle.std.specs.Bool.{then_some}
-use Rattle.std.specs.Prelude.{nat_eq, IfSome}
-use Rattle.std.specs.List.{concat}
+use Rattle.std.specs.Prelude.{◌||◌, nat_eq, IfSome}
+use Rattle.std.specs.List.{concat, list_any}
 use Rattle.bg_types.specs.declared.class.Bidi.{Bidi}
 use Rattle.unicode_tables.specs.Tables.{TableValues, bidi_of}
 use Rattle.paragraphs.specs.Classes.{is_separator}
 use Rattle.paragraphs.specs.Paragraphs.{begins_with_line_feed, ends_paragraph, meets_at_cut}
+use Rattle.text_buffer.specs.Stretches.{separates}
 use Rattle.paragraphs.proofs.Interface.{parts, front, parts-some, IsHalved-from}
 
 abbrev heads : List (List ℕ) → List ℕ
@@ -24,6 +25,10 @@ plain-anywhere : (s x y : Bool) → (s && not (x && false)) ≡ false → (s && 
 plain-anywhere true true y h = cc
 plain-anywhere true false y h = cc
 plain-anywhere false x y h = refl
+
+neither : (x y : Bool) → (x || y) ≡ false → (x ≡ false) × (y ≡ false)
+neither true y h = cc
+neither false y h = (refl, h)
 
 module _ (class : ℕ → Bidi) where
   -- none of these ends a paragraph, directly before `rest`
@@ -85,20 +90,21 @@ module _ (class : ℕ → Bidi) where
   uncut-before (c ∷ []) rest other u last = (plain-anywhere (is_separator (class c)) (c == 0xD) (begins_with_line_feed class other) (last (omega arith)), tt)
   uncut-before (c ∷ d ∷ x) rest other u last = (u.0, uncut-before (d ∷ x) rest other u.1 (λ _. last (omega arith)))
 
-  one-plain : (t rest : List ℕ) → length t ≤ 1 → (0 < length t → meets_at_cut class t [] ≡ false) → Uncut t rest
-  one-plain [] rest few plain = tt
-  one-plain (c ∷ []) rest few plain = (plain-anywhere (is_separator (class c)) (c == 0xD) (begins_with_line_feed class rest) (plain (omega arith)), tt)
-  one-plain (c ∷ d ∷ t) rest few plain = absurd (omega (arith, few))
+  all-plain : (t rest : List ℕ) → list_any (λ c. is_separator (class c)) t ≡ false → Uncut t rest
+  all-plain [] rest plain = tt
+  all-plain (c ∷ t) rest plain =
+      let none = neither (is_separator (class c)) (list_any (λ c. is_separator (class c)) t) plain in
+      (ap (λ b. b && not (c == 0xD && begins_with_line_feed class (t ++ rest))) none.0, all-plain t rest none.1)
 
   -- a paragraph of which `e` is replaced by `t`
   pub stays-one : (f e b t : List ℕ) (qs : List (List ℕ)) → parts class (f ++ (e ++ b)) ≡ (f ++ (e ++ b)) ∷ qs → (0 < length b) ⊎ (length qs ≡ 0)
-      → (0 < length f → meets_at_cut class f [] ≡ false) → length t ≤ 1 → (0 < length t → meets_at_cut class t [] ≡ false)
+      → (0 < length f → meets_at_cut class f [] ≡ false) → list_any (λ c. is_separator (class c)) t ≡ false
       → parts class (f ++ (t ++ b)) ≡ (f ++ (t ++ b)) ∷ qs
-  stays-one f e b t qs is some last few plain =
+  stays-one f e b t qs is some last plain =
       let more : (0 < length (e ++ b)) ⊎ (length qs ≡ 0) = elim some [ inl h ↦ inl (omega (arith, h, length-append e b)) | inr h ↦ inr h ] in
       let first = one-uncut f (e ++ b) qs more is in
       let second = one-uncut e b qs some first.1 in
-      let inner = uncut-one t b qs (one-plain t b few plain) second.1 in
+      let inner = uncut-one t b qs (all-plain t b plain) second.1 in
       uncut-one f (t ++ b) qs (uncut-before f (e ++ b) (t ++ b) first.0 last) inner
 
 -- a paragraph that is followed by others is one, with an empty one behind it
@@ -134,9 +140,9 @@ module _ (tables : TableValues) (kept : List (List ℕ)) (is : kept ≡ parts (b
 
   -- the paragraph is one of the new text too, with nothing behind it where it is not the last
   pub whole-stretch : (f g h b t : List ℕ) → f ++ g ≡ get_or kept n [] → h ++ b ≡ get_or kept n [] → length f ≤ length h → (n + 1 < length kept → 0 < length b)
-      → (0 < length f → meets_at_cut (bidi_of tables) f [] ≡ false) → length t ≤ 1 → (0 < length t → meets_at_cut (bidi_of tables) t [] ≡ false)
+      → (0 < length f → meets_at_cut (bidi_of tables) f [] ≡ false) → list_any (separates tables) t ≡ false
       → cond (nat_eq (n + 1) (length kept)) (parts (bidi_of tables) (f ++ (t ++ b))) (take (length (parts (bidi_of tables) (f ++ (t ++ b))) - 1) (parts (bidi_of tables) (f ++ (t ++ b)))) ≡ (f ++ (t ++ b)) ∷ []
-  whole-stretch f g h b t first second order some last few plain =
+  whole-stretch f g h b t first second order some last plain =
       let class = bidi_of tables in
       let p = get_or kept n [] in
       let new = f ++ (t ++ b) in
@@ -147,13 +153,13 @@ module _ (tables : TableValues) (kept : List (List ℕ)) (is : kept ≡ parts (b
             let one = one-followed more in
             let q = one.0 in
             let was : parts class (f ++ (e ++ b)) ≡ (f ++ (e ++ b)) ∷ q ∷ [] = ap (parts class) (sym is_p) ∙ one.1 ∙ ap (λ x. x ∷ q ∷ []) is_p in
-            let now = stays-one class f e b t (q ∷ []) was (inl (some more)) last few plain in
+            let now = stays-one class f e b t (q ∷ []) was (inl (some more)) last plain in
             let test : nat_eq (n + 1) (length kept) ≡ false = ne_eqb (n + 1) (length kept) (λ same. omega (arith, same, more)) in
             ap (λ x. cond x (parts class new) (take (length (parts class new) - 1) (parts class new))) test ∙ ap (λ ps. take (length ps - 1) ps) now
         | inr end ↦
             let all : n + 1 ≡ length kept = omega (arith, end, within) in
             let was : parts class (f ++ (e ++ b)) ≡ (f ++ (e ++ b)) ∷ [] = ap (parts class) (sym is_p) ∙ one-last all ∙ ap (λ x. x ∷ []) is_p in
-            let now = stays-one class f e b t [] was (inr refl) last few plain in
+            let now = stays-one class f e b t [] was (inr refl) last plain in
             let test : nat_eq (n + 1) (length kept) ≡ true = eq-eqb (n + 1) (length kept) all in
             ap (λ x. cond x (parts class new) (take (length (parts class new) - 1) (parts class new))) test ∙ now
       ]

@@ -2,6 +2,7 @@
 use Rattle.std.specs.Prelude.{◌≡◌, ◌-◌, ◌<◌, ◌≤◌, ◌++◌, ℕ, Bool, true, List, [], ◌∷◌, cond, length, take, drop, map as each}
 use Rattle.std.specs.List.{concat}
 use Rattle.unicode_tables.specs.Tables.{TableValues, bidi_of}
+use Rattle.paragraphs.specs.Classes.{is_separator}
 use Rattle.paragraphs.specs.Text.{code_points}
 use Rattle.paragraphs.specs.Paragraphs.{meets_at_cut, paragraphs}
 
@@ -19,6 +20,10 @@ pub record IsBegun (tables : TableValues) (kept : List (List ℕ)) (from to : �
 pub record IsRemade (tables : TableValues) (kept : List (List ℕ)) (from to : ℕ) (points : List ℕ) : Type 0 where
   pub begun : IsBegun tables kept from to points
   pub after : to < length kept → meets_at_cut (bidi_of tables) points (concat (drop to kept)) ≡ true
+
+-- a code point is a separator
+abbrev pub separates : TableValues → ℕ → Bool
+separates tables c = is_separator (bidi_of tables c)
 
 -- a text of so many code points is one paragraph where it is the last one, or where others follow it
 pub record IsOne (tables : TableValues) (last : Bool) (text : List ℕ) (places : ℕ) : Type 0 where

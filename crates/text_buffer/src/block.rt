@@ -79,6 +79,8 @@ impl<K: Drop> Block<K> {
         ensures err { OnErr result (self.new.pieces.items ≡ self.old.pieces.items) }
     {
         let upper = Block::of(self.pieces.split_off(number)?);
+        // It had room for all of them.
+        self.pieces.shrink_to_fit();
         self.bytes -= upper.bytes;
         self.places -= upper.places;
         self.kept -= upper.kept;

@@ -1,15 +1,16 @@
 //! The stretch of paragraphs that an edit makes anew.
 
 ghost use Rattle.std.specs.Prelude.{◌≡◌, ◌↔◌, ◌⊎◌, ◌+◌, ◌-◌, ◌<◌, ◌≤◌, ◌++◌, ◌==◌, ℕ, true, false, List, [], Err, length, get_or, string_bytes, IfOk, IfSome};
-ghost use Rattle.std.specs.List.{concat};
+ghost use Rattle.std.specs.List.{concat, list_any};
 ghost use Rattle.unicode_tables.specs.Tables.{bidi_of};
+ghost use Rattle.paragraphs.specs.Classes.{is_separator};
 ghost use Rattle.paragraphs.specs.Text.{code_points};
 ghost use Rattle.paragraphs.specs.Paragraphs.{meets_at_cut};
 ghost use Rattle.text_buffer.specs.Buffers.{bytes_in, Fits, IsSplit};
 ghost use Rattle.text_buffer.specs.Edits.{replaced, IsParagraphOf};
 ghost use Rattle.text_buffer.specs.Blocks.{texts_in};
 ghost use Rattle.text_buffer.specs.Places.{IsBlockOf};
-ghost use Rattle.text_buffer.specs.Stretches.{IsBegun, IsRemade, IsOne, text_with};
+ghost use Rattle.text_buffer.specs.Stretches.{IsBegun, IsRemade, IsOne, separates, text_with};
 ghost use Rattle.text_buffer.specs.declared.fault.BufferFault.TheVariants.{TooLong};
 
 use crate::block::Block;
@@ -17,7 +18,7 @@ use crate::fault::BufferFault;
 use crate::find::{Before, block_in_front, first_block};
 use crate::parted::{joined_text, text_between};
 use crate::place::{Place, place_at, place_behind, text_at};
-use bg_types::Memory;
+use bg_types::{Bidi, Memory};
 use paragraphs::meets_at_cut;
 use std::alloc::Global;
 use unicode_tables::Tables;
@@ -82,7 +83,7 @@ pub fn plan_edit<K>(
     let whole = text_between(alloc, first.front, text, last.back)?;
     let stretch = stretch_at(alloc, tables, blocks, &first, last.number + 1, whole)?;
     let more = text.chars().count();
-    let one = stays_one(tables, &first, last.number, stretch.from, text, more);
+    let one = stays_one(tables, &first, last.number, stretch.from, text);
     let places = first.offset + more + last.rest;
     Ok(Plan {
         stretch,
@@ -91,29 +92,38 @@ pub fn plan_edit<K>(
     })
 }
 
-/// Whether it is seen at once that what is made anew stays one paragraph: a part of one is replaced by a text of at most one
-/// code point, which is no separator, and none stands in front.
-fn stays_one(
-    tables: &Tables,
-    first: &Place,
-    last: usize,
-    from: usize,
-    text: &str,
-    more: usize,
-) -> bool
+/// Whether it is seen at once that what is made anew stays one paragraph: a part of one is replaced by a text without
+/// separators, and none stands in front.
+/// Cost: O(n) of the text.
+fn stays_one(tables: &Tables, first: &Place, last: usize, from: usize, text: &str) -> bool
     ensures from { result ≡ true → from ≡ first.now.number }
     ensures last { result ≡ true → last ≡ first.now.number }
     ensures front { result ≡ true → 0 < length (code_points first.now.front.now) → meets_at_cut (bidi_of tables.now) (code_points first.now.front.now) [] ≡ false }
-    ensures few { result ≡ true → more ≤ 1 }
-    ensures text { result ≡ true → 0 < length (code_points text.now) → meets_at_cut (bidi_of tables.now) (code_points text.now) [] ≡ false }
+    ensures text { result ≡ true → list_any (separates tables.now) (code_points text.now) ≡ false }
 {
-    if from != first.number || last != first.number || more > 1 {
+    if from != first.number || last != first.number {
         return false;
     }
     if ends_with_separator(tables, first.front) {
         return false;
     }
-    !ends_with_separator(tables, text)
+    !has_separator(tables, text)
+}
+
+/// Whether a code point of a text is a separator.
+fn has_separator(tables: &Tables, text: &str) -> bool
+    ensures { result ≡ list_any (separates tables.now) (code_points text.now) }
+{
+    text.chars().any(|c| is_separator(tables.bidi(c)))
+}
+
+/// Whether a class is that of separators (P1).
+#[inline]
+#[tactic(auto, unfolding(paragraphs::specs::Classes::is_separator))]
+fn is_separator(class: Bidi) -> bool
+    ensures { result ≡ is_separator class }
+{
+    matches!(class, Bidi::B)
 }
 
 /// Whether the last code point of a text is a separator.

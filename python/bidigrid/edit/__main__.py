@@ -73,13 +73,13 @@ def channel_of(wanted: argparse.Namespace) -> Channel | None:
 
 
 def run(editor: Editor, screen: Screen, waker: int, is_ended: list[int]) -> None:
-    """Goes on until one leaves. A key is seen before the log is flushed, and more keys that wait come first."""
+    """Goes on until one leaves. What a key types is written before the next is read, and no flush is waited for."""
     desk, keys = editor.desk, Keys()
     while not editor.is_left and not is_ended:
         if desk.is_changed:
             desk.is_changed = False
             screen.draw(view_of(editor))
-        patience = 0 if desk.log.waiting and not desk.failed_at else desk.patience()
+        patience = desk.patience()
         if keys.is_waiting():
             patience = WAIT if patience is None else min(WAIT, patience)
         ready, _, _ = select.select([0, waker, *desk.readers()], [], [], patience)
@@ -92,7 +92,7 @@ def run(editor: Editor, screen: Screen, waker: int, is_ended: list[int]) -> None
             editor.press(key)
             if key.name == "ctrl-l":
                 screen.redraw()
-        if desk.turn(is_quiet=0 not in ready):
+        if desk.turn():
             editor.follow()
 
 

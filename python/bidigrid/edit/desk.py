@@ -2,6 +2,7 @@
 
 from __future__ import annotations
 
+import collections
 import random
 import time
 
@@ -14,8 +15,8 @@ from .log import Log
 from .undo import Edits, returns, stretches
 
 MAX_SITE = 65535
-GATHER = 0.02  # seconds for which the first of some keys waits for its flush at most, while others come
 AGAIN = 1.0  # seconds between two tries to write a log that could not be written
+TAKING = 0.02  # seconds in which others' messages are taken, before one looks again whether a key has come
 QUIET = 2.0  # seconds without an edit, after which a whole file may be written for others
 MOST_FAULTS = 10  # of one message
 
@@ -36,11 +37,12 @@ class Desk:
         self.log = log
         self.channel = channel
         self.edits = Edits()
+        self.came: collections.deque[Message] = collections.deque()
         self.notice = ""
         self.caret: Identifier | None = None
         self.is_changed = self.is_whole = True
         self.signs: object = None
-        self.unsaved_since = self.typed_at = self.failed_at = 0.0
+        self.typed_at = self.failed_at = 0.0
         self.wide_ambiguous = wide_ambiguous
         try:
             self.begin(site, width, base)
@@ -122,11 +124,10 @@ class Desk:
         return place
 
     def made(self, message: bytes) -> None:
-        """Has an own message wait for its flush."""
+        """Logs an own message: it is written at once, so that it outlives the editor, and flushed before it is sent."""
         self.typed_at = time.monotonic()
-        if not self.log.waiting:
-            self.unsaved_since = self.typed_at
         self.log.append(message)
+        self.keep()
         self.is_changed = True
 
     def take(self, message: Message) -> None:
@@ -157,25 +158,26 @@ class Desk:
         self.wide_ambiguous = not self.wide_ambiguous
         self.load(self.document.save())
 
-    def turn(self, is_quiet: bool = True) -> bool:
-        """Flushes what was typed, if no more keys wait or the first waits for long; sends, and takes what has come.
-        Answers whether any has."""
+    def turn(self) -> bool:
+        """Goes on with the log, sends what is flushed, and takes what has come, a part of it where that is much. Answers
+        whether any has."""
         now = time.monotonic()
-        if self.log.waiting and (is_quiet or now - self.unsaved_since >= GATHER):
-            self.flush(now)
+        self.keep()
         if not self.channel:
             return False
-        came = self.channel.turn(self.log, self.caret)
-        for message in came:
-            self.take(message)
+        self.came += self.channel.turn(self.log, self.caret)
+        has_come = bool(self.came)
+        until = time.monotonic() + TAKING
+        while self.came and time.monotonic() < until:
+            self.take(self.came.popleft())
         signs = self.state(), {site: (here.name, here.caret) for site, here in self.here().items()}
-        if came or signs != self.signs:
+        if has_come or signs != self.signs:
             self.signs, self.is_changed = signs, True
         # What isn't flushed must not be seen by others, and what a newcomer reads must be all.
-        if now - self.typed_at >= QUIET and self.is_whole and self.is_idle():
+        if now - self.typed_at >= QUIET and self.is_whole and self.is_idle() and not self.came:
             if self.channel.wants_snapshot(len(self.document)):
                 self.channel.snapshot(self.document.save())
-        return bool(came)
+        return has_come
 
     def here(self) -> dict[int, Here]:
         """Who else is here, by site."""
@@ -187,29 +189,36 @@ class Desk:
 
     def readers(self) -> list[int]:
         """What select may wait for."""
-        return self.channel.readers() if self.channel else []
+        files = self.channel.readers() if self.channel else []
+        return files if self.failed_at else [*files, self.log.disk.fileno()]
 
-    def flush(self, now: float) -> None:
-        """Brings the log to the disk. Where that fails it is told, and tried again."""
+    def keep(self, is_waited_for: bool = False) -> None:
+        """Writes what was typed, and has it flushed. Where that fails it is told, and tried again."""
+        now = time.monotonic()
         if now - self.failed_at < AGAIN:
             return
         try:
-            self.log.flush()
-            if self.failed_at:
-                self.notice, self.failed_at, self.is_changed = "the log is written again", 0.0, True
+            if is_waited_for:
+                self.log.flush()
+            else:
+                self.log.turn()
         except OSError as error:
             self.failed_at = now
             self.notice = f"{self.log.path} is not written, what you type is kept: {reason(error)}"
             self.is_changed = True
+        if self.failed_at and not self.log.waiting:
+            self.notice, self.failed_at, self.is_changed = "the log is written again", 0.0, True
 
     def is_saved(self) -> bool:
-        """Tries to write what waits; answers whether none waits then."""
+        """Writes and flushes what waits, if it can; answers whether none waits then."""
         self.failed_at = 0.0
-        self.flush(time.monotonic())
+        self.keep(is_waited_for=True)
         return not self.log.waiting
 
     def patience(self) -> float | None:
         """How many seconds the next turn may be waited for at most; None for as long as nothing is typed."""
+        if self.came:
+            return 0.0
         if self.failed_at:
             return AGAIN
         return self.channel.patience() if self.channel else None

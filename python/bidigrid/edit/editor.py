@@ -2,7 +2,6 @@
 
 from __future__ import annotations
 
-import os
 from collections.abc import Callable, Sequence
 from typing import get_args
 
@@ -10,6 +9,7 @@ from .. import Document, Fault, Identifier, Position, Row
 from ..given import Base
 from . import carets, moves
 from .desk import Desk
+from .disk import write_whole
 from .fault import reason
 from .keys import Key
 
@@ -222,16 +222,14 @@ class Editor:
         self.desk.is_changed = True
 
     def write_text(self) -> None:
-        """Writes the plain text, whole or not at all."""
-        try:
-            with open(f"{self.text_path}.new", "w", encoding="utf-8", newline="") as file:
-                file.write(self.document.text)
-                file.flush()
-                os.fsync(file.fileno())
-            os.replace(file.name, self.text_path)
-            self.desk.notice = f"{self.text_path} is written"
-        except OSError as error:
-            self.desk.notice = f"{self.text_path} is not written: {reason(error)}"
+        """Has the plain text written."""
+        text = self.document.text.encode()
+        self.desk.log.disk.ask(self.tell_written, lambda: write_whole(self.text_path, text))
+
+    def tell_written(self, error: OSError | None) -> None:
+        """Tells what came of that."""
+        self.desk.notice = f"{self.text_path} is {f'not written: {reason(error)}' if error else 'written'}"
+        self.desk.is_changed = True
 
     def leave(self) -> None:
         """Leaves; at the second time also where the log can't be written."""

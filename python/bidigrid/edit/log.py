@@ -1,10 +1,11 @@
-"""The log of a desk: a file of its own operations, each flushed before anyone hears of it."""
+"""The log of a desk: a file of its own operations, each written at once, and flushed before anyone hears of it."""
 
 from __future__ import annotations
 
 import fcntl
 import os
 
+from .disk import Disk, write_whole
 from .fault import EditFault, reason
 from .frames import HEADER, HEADER_2, HEADER_SIZE, operations, sites, spelled, whole_end
 
@@ -13,13 +14,14 @@ class Log:
     """An operation file of version 1, where what is appended leaves all as it is that stands there.
 
     Opening it locks it, and cuts off a last frame that was not written to its end: it was never flushed, so nobody
-    has seen it. `size` is how many bytes are flushed, `waiting` what is still to be.
+    has seen it. `size` is how many bytes are flushed, `waiting` what is still to be. Of that the system has the first
+    `written` bytes, which outlive the editor, and `flushing` of these are on their way to the disk.
     """
 
     def __init__(self, path: str) -> None:
         self.path = path
         self.waiting = bytearray()
-        self.size = 0
+        self.size = self.written = self.flushing = 0
         try:
             self.file = os.open(path, os.O_RDWR | os.O_CREAT | os.O_CLOEXEC, 0o666)
         except OSError as error:
@@ -27,15 +29,18 @@ class Log:
         try:
             self.lock()
             self.size = self.sound_size()
+            # An editor that was killed may have written what it didn't flush.
+            os.fdatasync(self.file)
             self.sites = sites(self.read(0, self.size))
-            if not self.size:
-                self.waiting += HEADER
         except OSError as error:
-            self.close()
+            os.close(self.file)
             raise EditFault(f"cannot read {path}: {reason(error)}") from None
         except EditFault:
-            self.close()
+            os.close(self.file)
             raise
+        if not self.size:
+            self.waiting += HEADER
+        self.disk = Disk()
 
     def lock(self) -> None:
         """Keeps other editors from this file."""
@@ -65,34 +70,54 @@ class Log:
         if not is_cut:
             raise EditFault(f"{self.path} is damaged behind its first {end} bytes")
         anew = spelled(operations(data[:end]))
-        with open(f"{self.path}.new", "wb") as file:
-            file.write(anew)
-            file.flush()
-            os.fsync(file.fileno())
-            os.replace(file.name, self.path)
+        write_whole(self.path, anew)
         os.close(self.file)
         self.file = os.open(self.path, os.O_RDWR | os.O_CLOEXEC)
         self.lock()
         return len(anew)
 
     def append(self, message: bytes) -> None:
-        """Has the operations of a message of version 1 wait for the next flush."""
+        """Has the operations of a message of version 1 wait to be written and flushed."""
         self.waiting += message[HEADER_SIZE:]
 
-    def flush(self) -> None:
-        """Writes what waits, and has the system bring it to the disk. After an error it still waits."""
-        if not self.waiting:
-            return
+    def turn(self) -> None:
+        """Writes what waits, and has it flushed, together where a flush is still under way. After an error it still waits."""
+        self.disk.read()
         try:
-            written = 0
+            self.write()
+        finally:
+            if self.written and not self.flushing:
+                self.flushing = self.written
+                self.disk.ask(self.flushed, lambda: os.fdatasync(self.file))
+
+    def flush(self) -> None:
+        """Writes and flushes all that waits, before it returns."""
+        self.turn()
+        while self.flushing:
+            self.disk.read(is_waited_for=True)
+            self.turn()
+
+    def write(self) -> None:
+        """Gives the system what waits, or after an error nothing of it."""
+        written = self.written
+        try:
             while written < len(self.waiting):
                 written += os.pwrite(self.file, self.waiting[written:], self.size + written)
-            os.fdatasync(self.file)
         except OSError:
-            os.ftruncate(self.file, self.size)
+            os.ftruncate(self.file, self.size + self.written)
             raise
-        self.size += len(self.waiting)
-        self.waiting.clear()
+        self.written = written
+
+    def flushed(self, error: OSError | None) -> None:
+        """Takes over what came of a flush. After an error all is to be written anew: the system keeps nothing that it could
+        not bring to the disk."""
+        flushed, self.flushing = self.flushing, 0
+        if error:
+            self.written = 0
+            raise error
+        self.size += flushed
+        self.written -= flushed
+        del self.waiting[:flushed]
 
     def read(self, start: int, end: int) -> bytes:
         """The bytes of the file from one place up to another."""
@@ -104,6 +129,7 @@ class Log:
 
     def close(self) -> None:
         """Gives the file back, and its lock."""
+        self.disk.close()
         os.close(self.file)
 
     def discard(self) -> None:

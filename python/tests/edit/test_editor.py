@@ -1,5 +1,7 @@
 """What keys do while others write: the caret stays at its character, and one's own edits alone are taken back."""
 
+import os
+import threading
 from collections.abc import Iterator
 from pathlib import Path
 
@@ -11,6 +13,7 @@ from bidigrid.edit.editor import Editor
 from bidigrid.edit.keys import Key
 from bidigrid.edit.view import view_of
 from desks import desk_at
+from waiting import BOUND, until
 
 
 class Pair:
@@ -29,7 +32,7 @@ class Pair:
 
     def meet(self) -> None:
         """The other takes all that was typed here so far."""
-        self.desk.turn()
+        self.desk.log.flush()
         self.other.take(self.desk.log.read(0, self.desk.log.size))
 
     def take(self, message: bytes) -> None:
@@ -155,6 +158,24 @@ def test_a_stretch_that_is_selected_backwards_follows_too(pair: Pair) -> None:
     pair.take(pair.other.type(0, "hot "))
     pair.take(pair.other.type(12, "!"))
     assert pair.editor.selected() == (4, 12)
+
+
+def test_no_key_waits_until_the_text_is_written(pair: Pair, monkeypatch: pytest.MonkeyPatch) -> None:
+    may_end, flush = threading.Event(), os.fsync
+    monkeypatch.setattr(os, "fsync", lambda file: may_end.wait(BOUND) and flush(file))
+    pair.press("'tea'", "ctrl-s", "'m'")
+    assert (pair.text(), pair.desk.notice) == ("team|", "")
+    may_end.set()
+    until(lambda: pair.desk.turn() or pair.desk.notice)
+    assert pair.desk.notice == f"{pair.editor.text_path} is written"
+    assert Path(pair.editor.text_path).read_text(encoding="utf-8") == "tea"
+
+
+def test_a_text_that_can_not_be_written_is_told(pair: Pair) -> None:
+    pair.editor.text_path = "/nowhere/notes.txt"
+    pair.press("ctrl-s")
+    until(lambda: pair.desk.turn() or pair.desk.notice)
+    assert pair.desk.notice == "/nowhere/notes.txt is not written: No such file or directory"
 
 
 def test_a_text_that_is_full_is_told(pair: Pair) -> None:

@@ -1,9 +1,13 @@
 """Desks over a folder: whole frames are taken as files grow, and what is wrong with one stops nobody."""
 
 import os
+import time
 from pathlib import Path
 
 import pytest
+from bidigrid import Document
+from bidigrid.edit.channel import Message
+from bidigrid.edit.desk import TAKING
 from bidigrid.edit.editor import Editor
 from bidigrid.edit.fault import EditFault
 from bidigrid.edit.folder import Folder
@@ -134,6 +138,25 @@ def test_typing_goes_on_while_the_folder_is_away(tmp_path: Path) -> None:
     assert one.document.text == "a team" and one.state() == "folder"
     one.close()
     other.close()
+
+
+def test_keys_are_looked_for_while_much_comes(tmp_path: Path, monkeypatch: pytest.MonkeyPatch) -> None:
+    desk, other = in_folder(tmp_path / "own.bgop", tmp_path), Document(9)
+    messages = [Message("the other", other.type(number, "x")) for number in range(20)]
+    take = desk.take
+
+    def take_long(message: Message) -> None:
+        time.sleep(TAKING / 2)
+        take(message)
+
+    monkeypatch.setattr(desk.channel, "turn", lambda log, caret: [messages.pop(0) for _ in range(len(messages))])
+    monkeypatch.setattr(desk, "take", take_long)
+    turns = 0
+    while desk.turn():
+        turns += 1
+        assert len(desk.document) in range(2 * turns + 1) and (desk.patience() == 0.0) == (len(desk.document) < 20)
+    assert desk.document.text == "x" * 20
+    desk.close()
 
 
 @pytest.mark.parametrize("sign", ["", "{", "[]", '{"name": 1, "caret": [1, 2, 3]}', '{"name": 1, "caret": ["x", 1]}',

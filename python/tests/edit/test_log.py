@@ -1,13 +1,17 @@
-"""The log: what is flushed stays, what was cut is cut off, and no site is used twice."""
+"""The log: what is written stays, what was cut is cut off, and no site is used twice."""
 
+import errno
 import os
+import threading
 from pathlib import Path
 
 import pytest
 from bidigrid import Document
 from bidigrid.edit.fault import EditFault
+from bidigrid.edit.frames import operations
 from bidigrid.edit.log import Log
-from desks import desk_at
+from desks import desk_at, have_met, in_folder
+from waiting import BOUND, until
 
 TEA = bytes.fromhex(
     "42474f5001" "0011 01 00000001 0001 00000000 0000 00000074" "0011 01 00000002 0001 00000001 0001 00000065"
@@ -104,19 +108,60 @@ def test_a_log_that_is_gone_makes_a_new_site(tmp_path: Path) -> None:
     assert len(sites) > 1
 
 
-def test_a_key_waits_20_ms_for_its_flush_at_most(tmp_path: Path, monkeypatch: pytest.MonkeyPatch) -> None:
-    now = 1000.0
-    monkeypatch.setattr("bidigrid.edit.desk.time.monotonic", lambda: now)
-    desk = desk_at(tmp_path / "notes.bgop")
-    first = desk.log.size
-    desk.replace(0, 0, "a")
-    for passed, is_flushed in ((0.001, False), (0.018, False), (0.002, True)):
-        now += passed
-        # Keys go on and on.
-        desk.replace(0, 0, "b")
-        desk.turn(is_quiet=False)
-        assert (desk.log.size > first) == is_flushed
-    desk.replace(0, 0, "c")
-    desk.turn(is_quiet=True)
-    assert not desk.log.waiting and desk.log.size == first + 5 * 19
+def letters(path: Path) -> str:
+    """The letters that a log of insertions has."""
+    return "".join(it.character or "" for it in operations(path.read_bytes()))
+
+
+def test_a_key_is_written_before_it_is_flushed_and_sent_after(tmp_path: Path, monkeypatch: pytest.MonkeyPatch) -> None:
+    log, copy = tmp_path / "own.bgop", tmp_path / "notes.1.bgop"
+    desk = in_folder(log, tmp_path, site=1)
+    have_met(desk)
+    flushes, may_end, flush = [], threading.Event(), os.fdatasync
+
+    def flush_long(file: int) -> None:
+        flushes.append(file)
+        may_end.wait(BOUND)
+        flush(file)
+
+    monkeypatch.setattr(os, "fdatasync", flush_long)
+    for place, letter in enumerate("tea"):
+        desk.replace(place, place, letter)
+        assert letters(log) == "tea"[: place + 1]
+    for _ in range(100):
+        desk.turn()
+    assert desk.log.size == 5 and not desk.is_idle() and letters(copy) == ""
+    may_end.set()
+    have_met(desk)
+    assert copy.read_bytes() == log.read_bytes() and len(flushes) == 2
     desk.close()
+
+
+def test_what_could_not_be_flushed_is_written_anew(tmp_path: Path, monkeypatch: pytest.MonkeyPatch) -> None:
+    log = tmp_path / "notes.bgop"
+    desk = desk_at(log)
+
+    def fail(file: int) -> None:
+        raise OSError(errno.EIO, os.strerror(errno.EIO))
+
+    monkeypatch.setattr(os, "fdatasync", fail)
+    desk.replace(0, 0, "t")
+    until(lambda: desk.turn() or "Input/output error" in desk.notice)
+    desk.replace(1, 1, "e")
+    assert not desk.is_saved() and desk.log.size == 5
+    # As a disk may have it that lost what it could not write.
+    os.truncate(log, 5)
+    monkeypatch.undo()
+    desk.failed_at -= 1
+    until(lambda: desk.turn() or "the log is written again" in desk.notice)
+    assert letters(log) == "te" and desk.is_idle()
+    desk.close()
+
+
+def test_what_a_killed_editor_wrote_is_flushed_at_the_start(tmp_path: Path, monkeypatch: pytest.MonkeyPatch) -> None:
+    path = tmp_path / "notes.bgop"
+    path.write_bytes(TEA)
+    flushed = []
+    monkeypatch.setattr(os, "fdatasync", lambda file: flushed.append(os.fstat(file).st_size))
+    Log(str(path)).close()
+    assert flushed == [len(TEA)]

@@ -50,9 +50,12 @@ def deliver(chance: random.Random, source: Path, target: Path, whole: bool) -> N
 
 
 def look(desk: Desk) -> None:
-    """A turn that looks into the folder now."""
+    """A turn that has all flushed, and looks into the folder now."""
+    desk.log.flush()
     desk.channel.looked = 0.0  # type: ignore[union-attr]
     desk.turn()
+    while desk.came:
+        desk.turn()
 
 
 @pytest.mark.parametrize("seed", [71, 72])

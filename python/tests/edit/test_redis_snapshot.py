@@ -126,7 +126,7 @@ def test_what_is_not_flushed_is_in_no_snapshot(tmp_path: Path, server: Server, m
     def refuse() -> None:
         raise OSError(28, "No space left on device")
 
-    monkeypatch.setattr(one.log, "flush", refuse)
+    monkeypatch.setattr(one.log, "turn", refuse)
     one.replace(0, 0, "a ")
     one.typed_at = -1e9
     one.turn()

@@ -205,9 +205,8 @@ def test_typing_goes_on_while_the_name_of_redis_is_sought(
     until(lambda: one.turn() or one.channel.knock)  # type: ignore[union-attr]
     server.start()
     one.replace(0, 0, "tea")
-    for _ in range(100):
-        one.turn()
-    assert one.document.text == "tea" and not one.log.waiting and one.state().startswith("redis away")
+    until(lambda: one.turn() or not one.log.waiting)
+    assert one.document.text == "tea" and one.state().startswith("redis away")
     is_found.set()
     have_met(one)
     assert one.state() == "redis"

@@ -107,11 +107,12 @@ def test_one_is_killed_and_started_again(terminal: Terminal, server: Server) -> 
         omar.type(ARABIC[: chance.randint(1, 8)])
         for word in HEBREW.split()[: chance.randint(1, 3)]:
             dana.type(word)
+        shown = dana.rows()
         dana.kill()
-        # What another has seen was flushed before, and what is flushed stays.
-        seen = letters("".join(omar.rows()))
+        # What one sees was written before, and what another sees of it was flushed: it stays.
         held = letters(text_of([dana.log, omar.log]))
-        assert all(held.count(letter) >= seen.count(letter) for letter in seen)
+        for seen in (letters("".join(shown)), letters("".join(omar.rows()))):
+            assert all(held.count(letter) >= seen.count(letter) for letter in seen)
         dana.start()
         dana.started()
         have_met(dana, omar)

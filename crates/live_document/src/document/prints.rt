@@ -1,13 +1,15 @@
 //! Prints of what a document shows.
 
-ghost use Rattle.std.specs.Prelude.{◌≡◌, ◌<◌, false, length, is_err, IfOk, OnOk, OnErr};
+ghost use Rattle.std.specs.Prelude.{◌≡◌, ◌++◌, ◌<◌, ◌≤◌, false, drop, length, is_err, IfOk, OnOk, OnErr};
 ghost use Rattle.std.specs.Io.KnownBytes.{Appends};
 ghost use Rattle.bg_types.specs.Sink.{AppendsBeginning};
-ghost use Rattle.cell_grid.specs.Print.{printed, printed_row};
+ghost use Rattle.cell_grid.specs.Print.{printed, printed_row, printed_sizes};
 ghost use Rattle.live_document.specs.Documents.{shown_grid};
 
 use crate::document::Document;
-use crate::printing::{print_shown, print_shown_row, shown_row_size, shown_size};
+use crate::printing::{
+    print_shown, print_shown_row, shown_entry_sizes, shown_row_size, shown_size,
+};
 use bg_types::{Device, Memory, Sink};
 
 impl Document {
@@ -54,5 +56,16 @@ impl Document {
         ensures { IfOk result (λ size. size ≡ length (printed_row (shown_grid self.now) number)) }
     {
         shown_row_size(&self.tables, &self.buffer, self.shown, number)
+    }
+
+    /// Tells how many bytes the cells of each entry of a row that is shown have in what `print_row` writes, as
+    /// `cell_grid::row_entry_sizes` does, at the front of a list with room for them.
+    /// Cost: that of `Window::row` and `row_entry_sizes`.
+    pub fn row_entry_sizes(&self, number: usize, sizes: &mut [usize]) -> Result<(), Memory>
+        requires row { number < length self.now.window.rows }
+        requires room { length (printed_sizes (shown_grid self.now) number) ≤ length sizes.old }
+        ensures { OnOk result (sizes.new ≡ printed_sizes (shown_grid self.now) number ++ drop (length (printed_sizes (shown_grid self.now) number)) sizes.old) }
+    {
+        shown_entry_sizes(&self.tables, &self.buffer, self.shown, number, sizes)
     }
 }

@@ -80,7 +80,7 @@ rows_in-requires-clause-clusters c = c.in_ok-clusters.ensures.clusters ∙ ap (l
 
 pub rows_in-requires-clause-columns : goal.rows_in-requires-clause-columns
 rows_in-requires-clause-columns c =
-    c.in_ok-columns.ensures ∙ ap (map (λ (x : Cluster). x.columns)) (c.deref-4.ensures.value ∙ c.in_ok-clusters.ensures.clusters)
+    c.in_ok-clusters.ensures.columns ∙ ap (map (λ (x : Cluster). x.columns)) c.in_ok-clusters.ensures.clusters
     ∙ ap (own_columns c.args.tables.now) (sym c.text-text.ensures)
 
 pub returns-clause-rows : goal.returns-clause-rows

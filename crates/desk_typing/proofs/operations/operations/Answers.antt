@@ -23,7 +23,7 @@ returns-clause-ok c =
     let within : at + (at + change.erased - at) ≤ length (visible s) = omega arith in
     c.in_ok-replace.ensures.ok
     ∙ ap (λ (ops : List OpView). ops ++ replacement s c.args.desk.now.site at (at + change.erased - at) typed) c.in_ok-ops.ensures.items
-    ∙ c.stretches.ensures.replaced s c.args.desk.now.site at (at + change.erased - at) typed c.op_count-room.ensures.well_formed within
+    ∙ c.stretches.ensures.replaced s c.args.desk.now.site at (at + change.erased - at) typed c.op_count.ensures.well_formed within
     ∙ (λ i. deletions s (place i) (count i) ++ insertions (record { counter = (first_id s change).counter; site = c.requires i }) (parent_at (visible_ids s) (place i)) typed)
 
 pub returns-clause-fits : goal.returns-clause-fits

@@ -1,12 +1,14 @@
 -- Each cluster stands where the one before it ends, and takes the status after its last code point.
-use Rattle.std.proofs.Common.{◌≤◌, length, refl, ap, subst, arith}
+use Rattle.std.proofs.Common.{◌≤◌, [], ◌∷◌, ◌++◌, map, length, drop, refl, sym, ap, subst, ◌∙◌, arith}
+use Rattle.std.proofs.lemmas.List.{map-append}
 use Rattle.std.proofs.lemmas.List.Elements.{All-same}
 use Rattle.std.specs.Str.{IsUtf8}
 use Rattle.paragraphs.specs.Text.{code_points}
 use Rattle.line_break.specs.declared.cluster.Cluster.{Cluster}
 use Rattle.line_break.specs.declared.measure.Measure.{Measure}
 use Rattle.line_break.specs.Statuses.{breaks}
-use Rattle.line_break.proofs.Measuring.{IsMeasuredTo-start, line_clusters-end, IsMeasuredTo-on, measured-is, two-line_clusters}
+use Rattle.line_break.proofs.Marking.{breaks-of, slice-from}
+use Rattle.line_break.proofs.Measuring.{length-breaks, IsMeasuredTo-start, line_clusters-end, IsMeasuredTo-on, measured-is, two-line_clusters}
 use Rattle.line_break.proofs.Measuring.{cluster-some as points-some, cluster-fits as points-within}
 use Rattle.line_break.proofs.Outlining.{IsUtf8-concat, IsOutlinedTo-start, cluster-some, cluster-fits, cluster-points, cluster-end, IsOutlinedTo-at, HasRoom-on, spans-end, sizes-end}
 use Rattle.line_break.proofs.outline.outline_of.Goals as goal
@@ -25,7 +27,10 @@ loop-measure-init c =
           (c.cluster_places.ensures.some text u) (c.cluster_places.ensures.sum text u) c.in_ok-outline.ensures.clusters.0;
       spans = let room = c.in_ok-outline.ensures.spans in record { filled = omega arith; room = omega arith };
       sizes = let room = c.in_ok-outline.ensures.sizes in record { filled = omega arith; room = omega arith };
+      own = c.in_ok-outline.ensures.columns.0 ∙ ap (map (λ (x : Cluster). x.columns)) (sym c.in_ok-outline.ensures.clusters.0);
+      columns = let room = c.in_ok-outline.ensures.columns in record { filled = omega arith; room = omega arith };
       clusters = let room = c.in_ok-outline.ensures.clusters in record { filled = omega arith; room = omega arith };
+      within = omega arith;
     }
 
 pub of_next-requires-clause-some : goal.of_next-requires-clause-some
@@ -34,7 +39,11 @@ of_next-requires-clause-some c = c.loop-measure.invariant.outlined.some
 pub of_next-requires-clause-few : goal.of_next-requires-clause-few
 of_next-requires-clause-few c =
     let all = c.loop-measure.invariant.outlined.bytes in
-    omega (arith, c.requires)
+    omega (arith, c.requires.size)
+
+pub of_next-requires-clause-points : goal.of_next-requires-clause-points
+of_next-requires-clause-points c =
+    slice-from c.loop-measure.place c.args.points.now ∙ ap (drop c.loop-measure.place) c.requires.points ∙ c.loop-measure.invariant.outlined.points
 
 pub overflow_sub-span : goal.overflow_sub-span
 overflow_sub-span c =
@@ -52,7 +61,7 @@ overflow_add-span c =
     let few = cluster-points _ _ _ _ _ _ m cluster _ c.in-Some.ensures.taken in
     let size = ap (λ (x : Measure). x.size) c.in-Some.ensures.measured in
     let so_far = m.places in
-    let all = c.requires in
+    let all = c.requires.size in
     omega arith
 
 pub push_reserved-requires : goal.push_reserved-requires
@@ -63,7 +72,8 @@ push_reserved-requires c =
     let some = points-some t p _ _ c.loop-measure.place c.loop-measure.invariant.measured c.in-Some.ensures.cluster _ c.in-Some.ensures.taken in
     let filled = c.loop-measure.invariant.spans.filled in
     let room = c.loop-measure.invariant.spans.room in
-    let all = ap length c.in_ok-statuses.ensures in
+    let all = ap length c.requires.points in
+    let same = length-breaks t p in
     omega arith
 
 pub push_reserved-requires-in-Some : goal.push_reserved-requires-in-Some
@@ -74,7 +84,8 @@ push_reserved-requires-in-Some c =
     let some = points-some t p _ _ c.loop-measure.place c.loop-measure.invariant.measured c.in-Some.ensures.cluster _ c.in-Some.ensures.taken in
     let filled = c.loop-measure.invariant.sizes.filled in
     let room = c.loop-measure.invariant.sizes.room in
-    let all = ap length c.in_ok-statuses.ensures in
+    let all = ap length c.requires.points in
+    let same = length-breaks t p in
     omega arith
 
 pub push_reserved-requires-in-Some-2 : goal.push_reserved-requires-in-Some-2
@@ -83,9 +94,22 @@ push_reserved-requires-in-Some-2 c =
     let p = c.args.para.now.text in
     let fits = points-within t p _ _ c.loop-measure.place c.loop-measure.invariant.measured c.in-Some.ensures.cluster _ c.in-Some.ensures.taken in
     let some = points-some t p _ _ c.loop-measure.place c.loop-measure.invariant.measured c.in-Some.ensures.cluster _ c.in-Some.ensures.taken in
+    let filled = c.loop-measure.invariant.columns.filled in
+    let room = c.loop-measure.invariant.columns.room in
+    let all = ap length c.requires.points in
+    let same = length-breaks t p in
+    omega arith
+
+pub push_reserved-requires-in-Some-3 : goal.push_reserved-requires-in-Some-3
+push_reserved-requires-in-Some-3 c =
+    let t = c.args.tables.now in
+    let p = c.args.para.now.text in
+    let fits = points-within t p _ _ c.loop-measure.place c.loop-measure.invariant.measured c.in-Some.ensures.cluster _ c.in-Some.ensures.taken in
+    let some = points-some t p _ _ c.loop-measure.place c.loop-measure.invariant.measured c.in-Some.ensures.cluster _ c.in-Some.ensures.taken in
     let filled = c.loop-measure.invariant.clusters.filled in
     let room = c.loop-measure.invariant.clusters.room in
-    let all = ap length c.in_ok-statuses.ensures in
+    let all = ap length c.requires.points in
+    let same = length-breaks t p in
     omega arith
 
 pub index-requires : goal.index-requires
@@ -97,7 +121,7 @@ index-requires c =
     let fits = points-within t p _ _ c.loop-measure.place c.loop-measure.invariant.measured cluster _ at in
     let some = points-some t p _ _ c.loop-measure.place c.loop-measure.invariant.measured cluster _ at in
     let size = ap (λ (x : Measure). x.size) c.in-Some.ensures.measured in
-    let all = ap length c.in_ok-statuses.ensures in
+    let all = ap length (breaks-of t p c.args.points.now _ c.requires.points c.in_ok-statuses.ensures) in
     omega arith
 
 pub loop-measure-smaller : goal.loop-measure-smaller
@@ -123,11 +147,17 @@ loop-measure-preserved c =
       measured =
           IsMeasuredTo-on t p _ _ c.loop-measure.place m cluster _ at _ here.size _ size
           (measured-is t (code_points cluster) c.in_ok-statuses.statuses.items (breaks t p) c.loop-measure.place here.size
-          here.columns here.is_space c.index.result.now c.in_ok-statuses.ensures size some fits columns is_space c.index.ensures)
-          c.push_reserved-in-Some-2.ensures.items;
+          here.columns here.is_space c.index.result.now (breaks-of t p c.args.points.now _ c.requires.points c.in_ok-statuses.ensures) size some fits columns is_space c.index.ensures)
+          c.push_reserved-in-Some-3.ensures.items;
       spans = HasRoom-on _ _ _ _ here.size _ _ c.loop-measure.invariant.spans (omega arith) c.push_reserved.ensures.len c.push_reserved.ensures.capacity;
       sizes = HasRoom-on _ _ _ _ here.size _ _ c.loop-measure.invariant.sizes (omega arith) c.push_reserved-in-Some.ensures.len c.push_reserved-in-Some.ensures.capacity;
-      clusters = HasRoom-on _ _ _ _ here.size _ _ c.loop-measure.invariant.clusters (omega arith) c.push_reserved-in-Some-2.ensures.len c.push_reserved-in-Some-2.ensures.capacity;
+      own =
+          c.push_reserved-in-Some-2.ensures.items
+          ∙ ap (λ l. l ++ here.columns ∷ []) c.loop-measure.invariant.own
+          ∙ sym (ap (map (λ (x : Cluster). x.columns)) c.push_reserved-in-Some-3.ensures.items ∙ map-append _ c.loop-measure.outline.clusters.items _);
+      columns = HasRoom-on _ _ _ _ here.size _ _ c.loop-measure.invariant.columns (omega arith) c.push_reserved-in-Some-2.ensures.len c.push_reserved-in-Some-2.ensures.capacity;
+      clusters = HasRoom-on _ _ _ _ here.size _ _ c.loop-measure.invariant.clusters (omega arith) c.push_reserved-in-Some-3.ensures.len c.push_reserved-in-Some-3.ensures.capacity;
+      within = let all = ap length c.requires.points in let same = length-breaks t p in omega arith;
     }
 
 pub returns-clause-spans : goal.returns-clause-spans
@@ -140,8 +170,8 @@ pub returns-clause-clusters : goal.returns-clause-clusters
 returns-clause-clusters c =
     line_clusters-end c.args.tables.now c.args.para.now.text _ _ c.loop-measure.place c.loop-measure.invariant.measured c.in_default.ensures
 
-pub returns-clause-columns : goal.returns-clause-columns
-returns-clause-columns c =
+pub returns-clause-most : goal.returns-clause-most
+returns-clause-most c =
     All-same (λ (x : Cluster). x.columns ≤ 2) _ _
     (line_clusters-end c.args.tables.now c.args.para.now.text _ _ c.loop-measure.place c.loop-measure.invariant.measured c.in_default.ensures)
     (two-line_clusters c.args.tables.now c.args.para.now.text)

@@ -1,5 +1,6 @@
 -- The clusters so far are outlined and measured, and there is room for those that are left.
-use Rattle.std.proofs.Common.{length, vec_len, vec_capacity}
+use Rattle.std.proofs.Common.{◌≡◌, ◌≤◌, map, length, vec_len, vec_capacity}
+use Rattle.line_break.specs.declared.cluster.Cluster.{Cluster}
 use Rattle.line_break.proofs.Measuring.{IsMeasuredTo}
 use Rattle.line_break.proofs.Outlining.{IsOutlinedTo, HasRoom}
 use Rattle.line_break.proofs.outline.outline_of.Given as goal
@@ -8,9 +9,12 @@ abbrev pub invariant-loop-measure : goal.invariant-loop-measure
 invariant-loop-measure l = record {
   outlined : IsOutlinedTo l.para.text l.clusters l.outline.spans.items l.outline.sizes.items l.byte l.place;
   measured : IsMeasuredTo l.tables l.para.text l.clusters l.outline.clusters.items l.place;
-  spans : HasRoom (length l.statuses.items) l.place (vec_len l.outline.spans) (vec_capacity l.outline.spans);
-  sizes : HasRoom (length l.statuses.items) l.place (vec_len l.outline.sizes) (vec_capacity l.outline.sizes);
-  clusters : HasRoom (length l.statuses.items) l.place (vec_len l.outline.clusters) (vec_capacity l.outline.clusters);
+  spans : HasRoom (length l.points) l.place (vec_len l.outline.spans) (vec_capacity l.outline.spans);
+  sizes : HasRoom (length l.points) l.place (vec_len l.outline.sizes) (vec_capacity l.outline.sizes);
+  own : l.outline.columns.items ≡ map (λ (c : Cluster). c.columns) l.outline.clusters.items;
+  columns : HasRoom (length l.points) l.place (vec_len l.outline.columns) (vec_capacity l.outline.columns);
+  clusters : HasRoom (length l.points) l.place (vec_len l.outline.clusters) (vec_capacity l.outline.clusters);
+  within : l.place ≤ length l.points;
 }
 
 abbrev pub decreases-loop-measure : goal.decreases-loop-measure

@@ -12,6 +12,7 @@ returns c = record {
   may_shift = c.rows_may_shift.ensures;
   slices = c.rows_print_alike.ensures.slices;
   prints_alike = c.rows_print_alike.ensures.alike;
+  sizes_alike = c.rows_print_alike.ensures.sizes;
   in_stretch = c.windows_in_stretches.ensures;
   whole_some = c.rows_follow.ensures.some;
   whole_follow = c.rows_follow.ensures.follow;

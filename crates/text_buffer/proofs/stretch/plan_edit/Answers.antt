@@ -317,7 +317,7 @@ returns-clause-one g c =
     let last = one.last h in
     let own = z.own ∙ ap (λ n. get_or kept n []) last in
     let order : length f ≤ length (code_points high.front.now) = omega (arith, a.place, z.place, c.requires.order, ap (λ n. length (concat (take n kept))) last) in
-    let whole = whole-stretch tables kept is low.number a.there f (code_points low.back.now) (code_points high.front.now) b points a.own own order (λ more. z.more (omega (arith, last, more))) (one.front h) (omega (arith, size, one.few h)) (one.text h) in
+    let whole = whole-stretch tables kept is low.number a.there f (code_points low.back.now) (code_points high.front.now) b points a.own own order (λ more. z.more (omega (arith, last, more))) (one.front h) (one.text h) in
     record {
       count = omega (arith, c.place_at-first.ensures.offset, size, c.place_behind-last.ensures.rest, ap length same, length-append f (points ++ b), length-append points b);
       alone = ap₂ shown (made.to ∙ ap (λ n. n + 1) last) (all ∙ ap (parts (bidi_of tables)) same) ∙ whole ∙ ap (λ x. x ∷ []) (sym same);

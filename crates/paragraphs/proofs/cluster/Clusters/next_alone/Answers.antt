@@ -1,18 +1,34 @@
 -- A character that stands alone, and the clusters after it.
-use Rattle.std.proofs.Common.{true, ◌∷◌, [], refl, ap, sym, ◌∙◌, append-nil}
-use Rattle.std.specs.Prelude.{encode_utf8}
-use Rattle.std.proofs.lemmas.Str.{chars_past_char}
-use Rattle.unicode_segmentation.specs.Grapheme.{is_grapheme_break}
-use Rattle.paragraphs.specs.Text.{code_points}
-use Rattle.paragraphs.specs.Clusters.{clusters}
-use Rattle.paragraphs.proofs.Afresh.{clusters-alone}
+use Rattle.std.proofs.Common.{refl, ap, sym, ◌∙◌}
+use Rattle.paragraphs.specs.Clusters.{begins_plain}
+use Rattle.paragraphs.proofs.Alone.{points-of_clusters, IsCharBoundary-past, points-past, clusters-past}
 use Rattle.paragraphs.proofs.cluster.Clusters.next_alone.Goals as goal
 
-pub returns-in-Some : goal.returns-in-Some
-returns-in-Some c =
+pub stands_alone-requires-clause-plain : goal.stands_alone-requires-clause-plain
+stands_alone-requires-clause-plain c = λ known.
+    ap begins_plain (points-of_clusters c.self.inside.rest.now c.args.points.now _ c.self.ranges.0.1 (sym c.self.view_is) c.requires) ∙ c.self.invariant known
+
+pub range_from-requires : goal.range_from-requires
+range_from-requires c = λ _.
     let text = c.rest-text.result.now in
-    let rest = c.as_str-self-inside.result.now in
-    let head = chars_past_char text _ c.in-Some.c c.rest-text.utf8 (sym c.chars-chars.ensures.rest ∙ c.in-Some.ensures.steps.0)
-    ∙ ap (λ t. c.in-Some.c ∷ code_points t) (sym c.as_str-self-inside.ensures) in
-    let broken = ap (λ t. is_grapheme_break true (c.in-Some.c ∷ []) (code_points t)) (c.as_str-self-inside.ensures ∙ sym c.as_str.ensures) ∙ c.if-stands_alone.ensures refl in
-    c.rest-text.ensures ∙ clusters-alone text rest c.in-Some.c head broken ∙ ap (λ x. x ∷ clusters rest) (append-nil (encode_utf8 c.in-Some.c))
+    IsCharBoundary-past text c.args.points.now c.in_ok-c.field-0.now c.rest-text.utf8
+    (points-of_clusters text c.args.points.now _ c.rest-text.utf8 c.rest-text.ensures c.requires) c.in_ok-c.ensures.value
+    c.len_utf8.result c.len_utf8.ensures.value
+
+pub invariant_of-self : goal.invariant_of-self
+invariant_of-self c = λ _.
+    let text = c.rest-text.result.now in
+    ap begins_plain
+    (sym (points-past text c.args.points.now c.in_ok-c.field-0.now c.rest-text.utf8
+    (points-of_clusters text c.args.points.now _ c.rest-text.utf8 c.rest-text.ensures c.requires) c.in_ok-c.ensures.value
+    c.len_utf8.result c.range_from.result.now c.len_utf8.ensures.value c.range_from.ensures.value))
+    ∙ c.if-not-stands_alone.ensures.next refl
+
+pub returns : goal.returns
+returns c =
+    let text = c.rest-text.result.now in
+    c.rest-text.ensures
+    ∙ clusters-past text c.args.points.now c.in_ok-c.field-0.now c.rest-text.utf8
+    (points-of_clusters text c.args.points.now _ c.rest-text.utf8 c.rest-text.ensures c.requires) c.in_ok-c.ensures.value
+    c.len_utf8.result c.range_from.result.now c.len_utf8.ensures.value c.range_from.ensures.value
+    (c.if-not-stands_alone.ensures.alone refl)

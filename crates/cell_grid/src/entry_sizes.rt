@@ -1,0 +1,59 @@
+//! How many bytes each entry of a row prints.
+
+ghost use Rattle.std.specs.Prelude.{◌≡◌, ◌++◌, ◌<◌, ◌≤◌, drop, length, map, OnOk};
+ghost use Rattle.std.specs.List.{All};
+ghost use Rattle.cell_grid.specs.Print.{own_sizes, own_text, printed_sizes};
+ghost use Rattle.cell_grid.specs.Printable.{IsSlice};
+
+use crate::entry::Entry;
+use crate::grid::Grid;
+use crate::laws_below::laws_below;
+use crate::print_size::cells_size;
+use crate::row::Row;
+use bg_types::Memory;
+use unicode_tables::Tables;
+
+/// Tells how many bytes the cells of each entry have in what `print_row` writes of a row of a text, whose entries are slices
+/// of it: from the left, at the front of a list with room for them. They stand side by side there, behind one space for each
+/// blank at the left. Takes no memory. `Memory` where a size is more than can be counted.
+/// Cost: O(n) of the row's entries and their bytes.
+pub fn row_entry_sizes(
+    tables: &Tables,
+    text: &str,
+    row: &Row,
+    sizes: &mut [usize],
+) -> Result<(), Memory>
+    requires entries { All (λ e. IsSlice text.now e.span) row.now.entries }
+    requires room { length row.now.entries ≤ length sizes.old }
+    ensures { OnOk result (sizes.new ≡ own_sizes tables.now text.now row.now ++ drop (length row.now.entries) sizes.old) }
+{
+    write_sizes(tables, text, row.entries(), sizes)
+}
+
+/// Tells the same of the row with this number, counted from 0, as `row_entry_sizes` does.
+/// Cost: that of `row_entry_sizes`.
+pub fn row_entry_sizes_at(grid: &Grid, number: usize, sizes: &mut [usize]) -> Result<(), Memory>
+    requires row { number < length grid.now.rows }
+    requires room { length (printed_sizes grid.now number) ≤ length sizes.old }
+    ensures { OnOk result (sizes.new ≡ printed_sizes grid.now number ++ drop (length (printed_sizes grid.now number)) sizes.old) }
+{
+    laws_below();
+    row_entry_sizes(grid.tables(), grid.text(), &grid.rows()[number], sizes)
+}
+
+/// Writes how many bytes the cells of each of these entries print to the front of a list.
+fn write_sizes(
+    tables: &Tables,
+    text: &str,
+    entries: &[Entry],
+    sizes: &mut [usize],
+) -> Result<(), Memory>
+    requires entries { All (λ e. IsSlice text.now e.span) entries.now }
+    requires room { length entries.now ≤ length sizes.old }
+    ensures { OnOk result (sizes.new ≡ map (λ e. length (own_text tables.now text.now e)) entries.now ++ drop (length entries.now) sizes.old) }
+{
+    for number in 0..entries.len() {
+        sizes[number] = cells_size(tables, text, entries[number])?;
+    }
+    Ok(())
+}

@@ -1,0 +1,68 @@
+"""What takes a disk long, done by a thread, since select can't wait for a disk."""
+
+from __future__ import annotations
+
+import collections
+import os
+import queue
+import select
+import threading
+from collections.abc import Callable
+
+Task = Callable[[], object]
+Answer = Callable[[OSError | None], None]
+
+
+class Disk:
+    """A thread that does one task after the other. Whether each went well is told to who asked for it, once select says
+    that an answer is there."""
+
+    def __init__(self) -> None:
+        self.tasks: queue.SimpleQueue[Task | None] = queue.SimpleQueue()
+        self.done: queue.SimpleQueue[OSError | None] = queue.SimpleQueue()
+        self.waiting: collections.deque[Answer] = collections.deque()
+        self.ready, self.tell = os.pipe2(os.O_CLOEXEC)
+        self.thread = threading.Thread(target=self.serve, daemon=True)
+        self.thread.start()
+
+    def serve(self) -> None:
+        """What the thread does, until it is closed."""
+        while task := self.tasks.get():
+            error = None
+            try:
+                task()
+            except OSError as caught:
+                error = caught
+            self.done.put(error)
+            os.write(self.tell, b".")
+
+    def ask(self, answer: Answer, task: Task) -> None:
+        """Has a task done. Its answer comes later."""
+        self.waiting.append(answer)
+        self.tasks.put(task)
+
+    def read(self, is_waited_for: bool = False) -> None:
+        """Gives the answers that are there to those who asked, or waits for all."""
+        while self.waiting and (is_waited_for or select.select([self.ready], [], [], 0)[0]):
+            os.read(self.ready, 1)
+            self.waiting.popleft()(self.done.get())
+
+    def fileno(self) -> int:
+        """What select waits for."""
+        return self.ready
+
+    def close(self) -> None:
+        """Ends the thread, after what was asked for."""
+        self.tasks.put(None)
+        self.thread.join()
+        os.close(self.ready)
+        os.close(self.tell)
+
+
+def write_whole(path: str, data: bytes) -> None:
+    """Writes a file, whole or not at all."""
+    with open(f"{path}.new", "wb") as file:
+        file.write(data)
+        file.flush()
+        os.fsync(file.fileno())
+        os.replace(file.name, path)

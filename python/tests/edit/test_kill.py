@@ -1,0 +1,16 @@
+"""What was typed more than 50 ms before a `kill -9` is kept, and no identifier is given twice, however long a flush takes."""
+
+import subprocess
+import sys
+from pathlib import Path
+
+import pytest
+
+KILLS = Path(__file__).parents[3] / "bench" / "kills"
+
+
+@pytest.mark.parametrize("flush", ["0", "1000"])
+def test_a_kill_takes_nothing_but_the_last_50_ms(flush: str) -> None:
+    words = [sys.executable, str(KILLS), "8", flush, "1"]
+    done = subprocess.run(words, capture_output=True, text=True, check=False)
+    assert done.returncode == 0, done.stdout + done.stderr
