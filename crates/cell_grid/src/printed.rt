@@ -78,7 +78,9 @@ pub fn print_row<W: Sink>(
     let_go(&mut held, sink)
 }
 
-/// Holds what the cells of entries that stand side by side print.
+/// Holds what the cells of entries that stand side by side print. Never inlined: as a part of its caller its loops would have
+/// fewer registers.
+#[inline(never)]
 fn hold_entries<W: Sink>(
     tables: &Tables,
     text: &str,
