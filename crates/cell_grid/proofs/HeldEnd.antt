@@ -6,10 +6,6 @@ use Rattle.bg_types.specs.Sink.{AppendsBeginning}
 use Rattle.cell_grid.specs.Held.{AppendsAllBut}
 use Rattle.cell_grid.proofs.Writing.{Appends-on, Begins-on}
 
--- nothing is written yet
-pub but-all : (known : Option (List ℕ)) (held : List ℕ) → AppendsAllBut known known held held
-but-all known held = record { written = []; appends = Appends-nil known; whole = refl }
-
 -- nothing is printed yet
 pub but-start : (known : Option (List ℕ)) (held : List ℕ) → AppendsAllBut known known (held ++ []) held
 but-start known held = record { written = []; appends = Appends-nil known; whole = append-nil held }

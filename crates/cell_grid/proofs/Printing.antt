@@ -1,8 +1,7 @@
 -- What a row prints, entry by entry.
-use Rattle.std.proofs.Common.{◌≡◌, false, ℕ, zero, suc, ◌+◌, ◌%◌, ◌<◌, ◌≤◌, List, [], ◌∷◌, ◌++◌, length, take, drop, get_or, take-append-drop, slice_range, replicate, slice_get, Some, flat_map, refl, sym, ap, ◌∙◌, arith, append_assoc, append-nil, length-append}
+use Rattle.std.proofs.Common.{◌≡◌, false, ℕ, zero, suc, ◌+◌, ◌<◌, ◌≤◌, List, [], ◌∷◌, ◌++◌, length, take, drop, get_or, take-append-drop, slice_range, replicate, slice_get, Some, flat_map, refl, sym, ap, ◌∙◌, arith, append_assoc, append-nil, length-append}
 use Rattle.std.proofs.lemmas.List.Concat.{flat_map-append, flat_map-cons}
 use Rattle.std.specs.Prelude.{if◌then◌else◌}
-use Rattle.std.specs.Str.{IsUtf8}
 use Rattle.unicode_tables.specs.Tables.{TableValues}
 use Rattle.cell_grid.specs.declared.entry.Entry.{Entry}
 use Rattle.cell_grid.specs.declared.cell.Cell.{Cell}
@@ -11,7 +10,6 @@ use Rattle.cell_grid.specs.Cells.{entry_cells, entries_cells}
 use Rattle.cell_grid.specs.Print.{begins_with_tab, mirrored_text, cluster_of, entry_text, text_over, own_text, cell_text}
 use Rattle.cell_grid.proofs.Lookups.{get-right}
 use Rattle.cell_grid.proofs.Steps.{slice-parts, flat_map-take_next}
-use Rattle.cell_grid.proofs.Writing.{even-text}
 
 -- a list of pieces in two parts
 pub pieces-parts : {X : Type 0} (f : X → List ℕ) (xs : List X) (n : ℕ) → flat_map f xs ≡ flat_map f (take n xs) ++ flat_map f (drop n xs)
@@ -27,13 +25,13 @@ text_over-some : (columns : ℕ) (shown : List ℕ) → 0 < columns → text_ove
 text_over-some zero shown some = absurd (omega arith)
 text_over-some (suc n) shown some = refl
 
--- a cluster that is no tab, has columns and is at an even level prints its bytes
-pub own-slice : (tables : TableValues) (text : List ℕ) (e : Entry) → IsUtf8 (slice_range text e.span.first_byte e.span.end_byte) → 0 < e.columns → e.level % 2 ≡ 0
-    → begins_with_tab tables (cluster_of text e) ≡ false → own_text tables text e ≡ slice_range text e.span.first_byte e.span.end_byte
-own-slice tables text e u some even tab =
+-- a cluster that is no tab, has columns and is shown as it stands prints its bytes
+pub own-slice : (tables : TableValues) (text : List ℕ) (e : Entry) → 0 < e.columns → begins_with_tab tables (cluster_of text e) ≡ false
+    → mirrored_text tables e.level (cluster_of text e) ≡ slice_range text e.span.first_byte e.span.end_byte
+    → own_text tables text e ≡ slice_range text e.span.first_byte e.span.end_byte
+own-slice tables text e some tab same =
     text_over-some e.columns (entry_text tables text (Some e)) some
-    ∙ ap (λ b. if b then replicate e.columns 32 else mirrored_text tables e.level (cluster_of text e)) tab
-    ∙ even-text tables e.level (slice_range text e.span.first_byte e.span.end_byte) even u
+    ∙ ap (λ b. if b then replicate e.columns 32 else mirrored_text tables e.level (cluster_of text e)) tab ∙ same
 
 module _ (tables : TableValues) (text : List ℕ) (entries : List Entry) where
   -- a blank prints one space

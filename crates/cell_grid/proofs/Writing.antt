@@ -1,5 +1,5 @@
 -- What is written piece by piece.
-use Rattle.std.proofs.Common.{◌≡◌, ℕ, zero, suc, ◌+◌, ◌-◌, ◌<◌, ◌≤◌, List, [], ◌∷◌, ◌++◌, length, take, drop, get_or, map, map-id, take-append-drop, replicate, encode_utf8, encode_utf8_all, Option, Result, Ok, Err, OnErr, OnOk, flat_map, refl, sym, ap, subst, ◌∙◌, arith, append_assoc, append-nil, inl, inr, ◌%◌, ◌==◌, chars}
+use Rattle.std.proofs.Common.{◌≡◌, ℕ, zero, suc, ◌+◌, ◌-◌, ◌<◌, ◌≤◌, List, [], ◌∷◌, ◌++◌, length, take, drop, get_or, map, map-id, take-append-drop, replicate, encode_utf8, encode_utf8_all, Bool, true, false, Option, None, Some, Result, Ok, Err, OnErr, OnOk, flat_map, refl, sym, ap, subst, ◌∙◌, arith, append_assoc, append-nil, inl, inr, ◌%◌, ◌==◌, chars}
 use Rattle.std.proofs.KnownBytes.{Appends-trans}
 use Rattle.std.proofs.Math.Seq.{take-append-add}
 use Rattle.std.proofs.lemmas.List.{take-append-le}
@@ -8,10 +8,13 @@ use Rattle.std.specs.Io.KnownBytes.{Appends}
 use Rattle.bg_types.specs.Sink.{AppendsBeginning}
 use Rattle.std.proofs.lemmas.List.{map-append}
 use Rattle.std.proofs.lemmas.Str.{encodes-append, encodes-chars}
-use Rattle.std.specs.Prelude.{if◌then◌else◌, unwrap_or}
+use Rattle.std.proofs.lemmas.Bool.{false≢true, or_parts}
+use Rattle.std.specs.Prelude.{if◌then◌else◌, unwrap_or, is_some}
+use Rattle.std.specs.List.{list_any}
 use Rattle.std.specs.Str.{IsUtf8}
 use Rattle.unicode_tables.specs.Tables.{TableValues, mirror_of}
 use Rattle.paragraphs.specs.Text.{code_points}
+use Rattle.reorder.specs.Mirrored.{mirrored_of}
 use Rattle.cell_grid.specs.Print.{mirrored_text}
 use Rattle.cell_grid.proofs.Steps.{take-whole, drop-next, flat_map-take_next, flat_map-split_at}
 
@@ -85,6 +88,22 @@ pub even-text : (tables : TableValues) (level : ℕ) (bytes : List ℕ) → leve
 even-text tables level bytes even u =
     ap (λ n. encode_utf8_all (map (λ c. if n == 1 then unwrap_or (mirror_of tables c) c else c) (chars bytes))) even
     ∙ ap encode_utf8_all (map-id (chars bytes)) ∙ encodes-chars bytes u
+
+-- nor is what has no mirror
+as_it_is : (odd : Bool) (mirror : Option ℕ) (c : ℕ) → is_some mirror ≡ false → (if odd then unwrap_or mirror c else c) ≡ c
+as_it_is true None c h = refl
+as_it_is false None c h = refl
+as_it_is odd (Some m) c h = absurd (false≢true (sym h))
+
+unmirrored : (tables : TableValues) (level : ℕ) (points : List ℕ) → list_any (λ c. is_some (mirror_of tables c)) points ≡ false → map (λ c. mirrored_of tables c level) points ≡ points
+unmirrored tables level [] h = refl
+unmirrored tables level (c ∷ points) h =
+    let both = or_parts (is_some (mirror_of tables c)) (list_any (λ x. is_some (mirror_of tables x)) points) h in
+    ap (λ x. x ∷ map (λ p. mirrored_of tables p level) points) (as_it_is (level % 2 == 1) (mirror_of tables c) c both.0) ∙ ap (λ l. c ∷ l) (unmirrored tables level points both.1)
+
+pub unmirrored-text : (tables : TableValues) (level : ℕ) (bytes : List ℕ) → list_any (λ c. is_some (mirror_of tables c)) (code_points bytes) ≡ false → IsUtf8 bytes
+    → mirrored_text tables level (code_points bytes) ≡ bytes
+unmirrored-text tables level bytes none u = ap encode_utf8_all (unmirrored tables level (chars bytes) none) ∙ encodes-chars bytes u
 
 -- ---- lists of pieces
 

@@ -1,10 +1,11 @@
 //! The print of a grid.
 
-ghost use Rattle.std.specs.Prelude.{◌≡◌, ◌<◌, ◌≤◌, ◌++◌, false, true, length, take, slice_range, is_err, IfOk, OnOk, OnErr};
-ghost use Rattle.std.specs.List.{All, flat_map};
+ghost use Rattle.std.specs.Prelude.{◌≡◌, ◌<◌, ◌≤◌, ◌++◌, false, true, length, take, slice_range, is_some, is_err, IfOk, OnOk, OnErr};
+ghost use Rattle.std.specs.List.{All, flat_map, list_any};
 ghost use Rattle.std.specs.Io.KnownBytes.{Appends};
 ghost use Rattle.std.specs.Str.{IsCharBoundary};
 ghost use Rattle.bg_types.specs.Sink.{AppendsBeginning};
+ghost use Rattle.unicode_tables.specs.Tables.{mirror_of};
 ghost use Rattle.paragraphs.specs.Text.{code_points};
 ghost use Rattle.cell_grid.specs.Held.{AppendsAllBut};
 ghost use Rattle.cell_grid.specs.Print.{is_segment_separator, begins_with_tab, mirrored_text, own_text, row_text, printed, printed_row};
@@ -77,7 +78,9 @@ pub fn print_row<W: Sink>(
     let_go(&mut held, sink)
 }
 
-/// Holds what the cells of entries that stand side by side print.
+/// Holds what the cells of entries that stand side by side print. Never inlined: as a part of its caller its loops would have
+/// fewer registers.
+#[inline(never)]
 fn hold_entries<W: Sink>(
     tables: &Tables,
     text: &str,
@@ -151,11 +154,21 @@ fn prints_its_slice(tables: &Tables, text: &str, entry: Entry) -> bool
     requires { IsSlice text.now entry.span }
     ensures { result ≡ true → own_text tables.now text.now entry ≡ slice_range text.now entry.span.first_byte entry.span.end_byte }
 {
-    if entry.columns == 0 || entry.level % 2 == 1 {
+    let cluster = &text[entry.span.first_byte as usize..entry.span.end_byte as usize];
+    if entry.columns == 0 || begins_with_tab(tables, cluster) {
         return false;
     }
-    let cluster = &text[entry.span.first_byte as usize..entry.span.end_byte as usize];
-    !begins_with_tab(tables, cluster)
+    if entry.level % 2 == 0 {
+        return true;
+    }
+    !has_mirror(tables, cluster)
+}
+
+/// Whether a character of a cluster has a mirror.
+fn has_mirror(tables: &Tables, cluster: &str) -> bool
+    ensures { result ≡ list_any (λ c. is_some (mirror_of tables.now c)) (code_points cluster.now) }
+{
+    cluster.chars().any(|c| tables.mirror(c).is_some())
 }
 
 /// Holds what the cells of an entry print, if it has any.
