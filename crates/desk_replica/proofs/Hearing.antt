@@ -1,6 +1,6 @@
 -- Room for what is told, and what is asked of the calls that tell.
 use Rattle.std.proofs.Common.{◌≡◌, ◌≤◌, ◌<◌, ◌+◌, ◌-◌, ℕ, zero, suc, Bool, true, false, cond, not, List, [], ◌∷◌, length, Option, None, Some, inl, inr, sym, ap, subst, ◌∙◌, refl, true≢false, is_some, arith, length-append}
-use Rattle.std.specs.Prelude.{◌||◌, Result, Ok, Err, MatchResult, IfErr, filter, ◌&&◌, ◌⊎◌}
+use Rattle.std.specs.Prelude.{◌||◌, Result, Ok, Err, MatchResult, OnOk, OnErr, IfErr, filter, ◌&&◌, ◌⊎◌}
 use Rattle.std.specs.Option.{option_map_or}
 use Rattle.std.proofs.lemmas.Bool.{and_parts}
 use Rattle.std.specs.FinMap as map
@@ -23,6 +23,7 @@ use Rattle.pending_ops.specs.Chains.{is_in}
 use Rattle.pending_ops.specs.Waiting.{Waiting, follows, is_after}
 use Rattle.pending_ops.specs.Below.{CountsBelow, IsBelow, IsChain}
 use Rattle.pending_ops.proofs.Interface.{IsDistinct-apart}
+use Rattle.desk_replica.specs.Desk.{Desk}
 use Rattle.desk_replica.specs.Placement.{IsSettled, Places, whole}
 use Rattle.desk_replica.specs.Reply.{IsAdmitted, IsHiding, IsRefused, IsTaken, attached_count}
 use Rattle.desk_replica.specs.declared.answer.TakeFault.{TakeFault}
@@ -235,6 +236,39 @@ seen_taken s (Erase target) Known well part h = let m = more_marks s target in o
 seen_taken s (Erase target) (Placed n) well part h = absurd h.1
 seen_taken s (Erase target) Hidden well part h = let m = one_mark s target h.0.is_new in omega (arith, m)
 seen_taken s (Erase target) Held well part h = let m = more_marks s target in omega (arith, m)
+
+-- an operation is at most one more
+one_more : (s : OperationSet) (op : OpView) → size (with_operation s op) ≤ size s + 1
+one_more s (Insert id parent ch) =
+    let n : Node = record { parent = parent; ch = ch } in
+    let l = map.len-insert id_cmp-total s.ins id n in let m = one_at_most (map.contains_key s.ins id) (map.len s.ins) in omega (arith, l, m)
+  where
+    one_at_most : (b : Bool) (n : ℕ) → cond b n (n + 1) ≤ n + 1
+    one_at_most true n = omega arith
+    one_at_most false n = omega arith
+one_more s (Erase target) = let l = set.len-insert id_cmp-total s.del target in let m = one_at_most (set.contains s.del target) (set.len s.del) in omega (arith, l, m)
+  where
+    one_at_most : (b : Bool) (n : ℕ) → cond b n (n + 1) ≤ n + 1
+    one_at_most true n = omega arith
+    one_at_most false n = omega arith
+
+pub size_taken : {A E : Type 0} (answer : Result A E) (old new : Desk) (op : OpView) → OnOk answer (new.set ≡ with_operation old.set op) → OnErr answer (new ≡ old) → size new.set ≤ size old.set + 1
+size_taken (Ok taken) old new op ok err = let one = one_more old.set op in omega (arith, one, ap size ok)
+size_taken (Err fault) old new op ok err = omega (arith, ap (λ (d : Desk). size d.set) err)
+
+-- beyond one change, what one operation tells is of insertions that wait no more
+pub few_told : (s t : OperationSet) (a b : Option (List Change)) (k m : ℕ) → IsHeard s t a b k m → size t ≤ size s + 1 → told_count b + waiting_count t ≤ told_count a + waiting_count s + 1
+few_told s t a b k m heard one = let last = walk_within t heard.tells.are_steps.well_formed in omega (arith, heard.few, one, last)
+
+-- where an operation is spare and there is room, memory is not short
+pub paid_for : {A : Type 0} (answer : Result A TakeFault) (told : Option (List Change)) (capacity n spare : ℕ) → HasRoom told capacity n → 0 < spare
+    → IfErr answer (λ fault. fault ≡ Memory → (spare ≡ 0) ⊎ (¬ (HasRoom told capacity n))) → IfErr answer (λ fault. ¬ (fault ≡ Memory))
+paid_for (Ok taken) told capacity n spare room some short = tt
+paid_for (Err fault) told capacity n spare room some short = λ memory. neither (short memory)
+  where
+    neither : (spare ≡ 0) ⊎ (¬ (HasRoom told capacity n)) → ⊥
+    neither (inl none) = omega (arith, none, some)
+    neither (inr full) = full room
 
 -- what a merge may still tell
 pub room_to_the_end : (s t u : OperationSet) (a b : Option (List Change)) (k m : ℕ) → AllWellFormed s → IsHeard s u a b k m → size u < size s + size t → HasRoom a k (size t + waiting_count s)

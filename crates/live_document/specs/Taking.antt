@@ -6,7 +6,7 @@ use Rattle.bg_types.specs.declared.change.Change.{Change}
 use Rattle.desk_replica.specs.Desk.{Desk}
 use Rattle.desk_replica.specs.Merging.{with_operations}
 use Rattle.desk_replica.specs.Reply.{IsRefused, IsRefusal}
-use Rattle.desk_replica.specs.Telling.{IsTold}
+use Rattle.desk_replica.specs.Telling.{IsTold, waiting_count}
 use Rattle.desk_replica.specs.declared.answer.TakeFault.{TakeFault}
 use Rattle.desk_replica.specs.declared.answer.TakeFault.TheVariants.{Memory}
 
@@ -34,3 +34,9 @@ pub record IsRefusedNext (desk : Desk) (ops : List OpView) (taken : ℕ) (fault 
 abbrev pub AreTold : OperationSet → List OpView → (old new : List Change) → Type 0
 AreTold s [] old new = new ≡ old
 AreTold s (op ∷ ops) old new = (more : List Change) × IsTold s (with_operation s op) old more × AreTold (with_operation s op) ops more new
+
+-- so many operations are spare, and a list of so many changes has room for what they may tell: one each, and one for each
+-- insertion that waits
+pub record IsPaid (desk : Desk) (count told capacity : ℕ) : Type 0 where
+  pub spare : count ≤ desk.spare
+  pub room : told + count + waiting_count desk.set ≤ capacity

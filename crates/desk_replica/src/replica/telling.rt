@@ -34,6 +34,12 @@ impl<S: Sequence> Replica<S> {
         ensures spare { size self.old.set + self.old.spare ≤ size self.new.set + self.new.spare }
         ensures unpaid { (n : ℕ) → TellsAtMost self.old.set op.now n → vec_len changes.old + n ≤ vec_capacity changes.old
             → IfErr result (λ fault. fault ≡ TakeFault.Memory → (self.old.spare ≡ 0) × (¬ (IsHiding self.old.set op.now))) }
+        // What the operation tells beyond one change waited before, and waits no more.
+        ensures few { vec_len changes.new + waiting_count self.new.set ≤ vec_len changes.old + waiting_count self.old.set + 1 }
+        ensures one { size self.new.set ≤ size self.old.set + 1 }
+        ensures room { vec_capacity changes.old ≤ vec_capacity changes.new }
+        ensures paid { vec_len changes.old + waiting_count self.old.set < vec_capacity changes.old → 0 < self.old.spare
+            → IfErr result (λ fault. ¬ (fault ≡ TakeFault.Memory)) }
     {
         self.take_to(op, changes)
     }

@@ -1,6 +1,6 @@
 //! Taking many operations in order, whose changes the paragraphs follow at once.
 
-ghost use Rattle.std.specs.Prelude.{◌≡◌, ◌<◌, true, false, None, take, drop, length, OnErr, IfSome};
+ghost use Rattle.std.specs.Prelude.{◌≡◌, ◌+◌, ◌<◌, ℕ, true, false, None, take, drop, length, vec_len, vec_capacity, OnErr, IfSome};
 ghost use Rattle.bg_types.specs.Edit.{IsEdit};
 ghost use Rattle.rga_tree.specs.TextOf.{text};
 ghost use Rattle.desk_replica.specs.Reply.{IsTake};
@@ -8,7 +8,7 @@ ghost use Rattle.desk_replica.specs.Telling.{IsTold};
 ghost use Rattle.live_document.specs.Cost.{IsBare, KeepsUnchanged};
 ghost use Rattle.live_document.specs.Documents.{IsDrawnAlike};
 ghost use Rattle.live_document.specs.Showing.{no_window};
-ghost use Rattle.live_document.specs.Taking.{AreTaken, AreTold, IsRefusedNext};
+ghost use Rattle.live_document.specs.Taking.{AreTaken, AreTold, IsPaid, IsRefusedNext};
 
 use super::{Desk, Document};
 use crate::following::follow_all;
@@ -30,8 +30,9 @@ pub struct TakenAll {
 
 impl Document {
     /// Takes operations in order, as `take` does each, up to the first that is refused: those before it stand. Appends to
-    /// the list how the text changed by them, or nothing where there is no memory for all of it. The paragraphs follow
-    /// once, however many operations change one of them. Where one was taken, nothing is shown then.
+    /// the list how the text changed by them, or nothing where there is no memory for all of it: there is while as many
+    /// are spare, and the list has room for that many changes and one for each insertion that waits. The paragraphs
+    /// follow once, however many operations change one of them. Where one was taken, nothing is shown then.
     /// Cost: that of `Replica::take_telling` for each operation, and of `Buffer::apply_all` once; memory for what is
     /// told and for the paragraphs, and memory that must be there as `Replica::take` asks for it.
     pub fn take_all(&mut self, ops: &[Op], changes: &mut Vec<Change>) -> TakenAll
@@ -42,6 +43,7 @@ impl Document {
         ensures edit { result.told ≡ true → IsEdit (text self.old.desk.set) (drop (length changes.old.items) changes.new.items) (text self.new.desk.set) }
         ensures untold { result.told ≡ false → changes.new.items ≡ changes.old.items }
         ensures some { result.told ≡ false → 0 < result.taken }
+        ensures paid { IsPaid self.old.desk (length ops.now) (vec_len changes.old) (vec_capacity changes.old) → result.told ≡ true }
         ensures none { result.taken ≡ 0 → self.new ≡ self.old }
         ensures drawn { IsDrawnAlike self.old self.new }
         ensures window { 0 < result.taken → self.new.window ≡ no_window }
@@ -79,6 +81,7 @@ fn take_each(desk: &mut Desk, ops: &[Op], changes: &mut Vec<Change>) -> TakenAll
     ensures told { result.told ≡ true → AreTold desk.old.set (take result.taken ops.now) changes.old.items changes.new.items }
     ensures behind { take (length changes.old.items) changes.new.items ≡ changes.old.items }
     ensures some { result.told ≡ false → 0 < result.taken }
+    ensures paid { IsPaid desk.old (length ops.now) (vec_len changes.old) (vec_capacity changes.old) → result.told ≡ true }
 {
     let mut told = true;
     for (number, op) in ops.iter().enumerate() {
@@ -110,6 +113,8 @@ fn take_next(
     ensures untold { told.new ≡ false → changes.new.items ≡ changes.old.items }
     ensures same { OnErr result (told.new ≡ told.old) }
     ensures err { OnErr result (changes.new.items ≡ changes.old.items) }
+    ensures paid { told.old ≡ true → (n : ℕ) → IsPaid desk.old (n + 1) (vec_len changes.old) (vec_capacity changes.old)
+        → (told.new ≡ true) × IsPaid desk.new n (vec_len changes.new) (vec_capacity changes.new) }
 {
     if !*told {
         return desk.take(op);
