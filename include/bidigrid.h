@@ -185,7 +185,7 @@ uint32_t bidigrid_picture_row(const bidigrid_picture *picture, size_t row, bidig
 /* An entry is a cluster, as a letter with its marks, where it is seen. Its bytes and places are those of the text:
  * what is shown of it, mirrored where its level is odd, as ( for ), stands in the row's print. There each column
  * before the first entry is one space; an entry without columns has nothing; one that begins with a tab has a space
- * for each column; and any other has as many code points as places. */
+ * for each column; and any other has as many code points as places. bidigrid_picture_entry_sizes counts their bytes. */
 typedef struct bidigrid_entry {
     uint32_t first_byte;
     uint32_t end_byte;
@@ -210,6 +210,12 @@ uint32_t bidigrid_picture_row_print(const bidigrid_picture *picture, size_t row,
 
 /* The same of all rows, a whole screen in one call. */
 uint32_t bidigrid_picture_print(const bidigrid_picture *picture, char *out, size_t room, size_t *size);
+
+/* How many bytes the cells of each entry of a row have in the row's print, into a list beside that of its entries. They
+ * stand there side by side: those of the first entry begin at byte `column` of the row, all others where the ones before
+ * them end. */
+uint32_t bidigrid_picture_entry_sizes(const bidigrid_picture *picture, size_t row, size_t *sizes, size_t room,
+                                      size_t *count);
 
 /* A caret stands in a gap of a row: gap g left of entry g, the last gap right of the last entry. Its place is where
  * the next character goes. */
@@ -339,12 +345,14 @@ typedef struct bidigrid_window {
 uint32_t bidigrid_document_show(bidigrid_document *document, size_t place, size_t above, size_t below,
                                 bidigrid_window *out);
 
-/* Of a row that is shown, from 0: what bidigrid_picture_row, _entries and _row_print tell of a picture's, with
- * places and bytes of the whole text; and the print of all rows that are shown. BIDIGRID_FAULT_BAD_ROW where there
+/* Of a row that is shown, from 0: what bidigrid_picture_row, _entries, _entry_sizes and _row_print tell of a picture's,
+ * with places and bytes of the whole text; and the print of all rows that are shown. BIDIGRID_FAULT_BAD_ROW where there
  * is no such row, as before the first bidigrid_document_show and after a change. */
 uint32_t bidigrid_document_row(const bidigrid_document *document, size_t row, bidigrid_row *out);
 uint32_t bidigrid_document_entries(const bidigrid_document *document, size_t row, bidigrid_entry *entries, size_t room,
                                    size_t *count);
+uint32_t bidigrid_document_entry_sizes(const bidigrid_document *document, size_t row, size_t *sizes, size_t room,
+                                       size_t *count);
 uint32_t bidigrid_document_row_print(const bidigrid_document *document, size_t row, char *out, size_t room,
                                      size_t *size);
 uint32_t bidigrid_document_print(const bidigrid_document *document, char *out, size_t room, size_t *size);

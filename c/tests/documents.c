@@ -100,6 +100,13 @@ static void tries_windows(void)
     CHECK(entries[3].level == 0x3F3F3F3F && entries[2].first_place == 3 && entries[2].first_byte == 3);
     CHECK(entries[1].first_place == 4 && entries[1].end_place == 5);
     CHECK(entries[1].first_byte == 5 && entries[1].end_byte == 7);
+    size_t sizes[4];
+    memset(sizes, '?', sizeof sizes);
+    size_t unwritten = sizes[3];
+    CHECK(bidigrid_document_entry_sizes(&document, 1, sizes, 2, &count) == BIDIGRID_FAULT_SHORT_BUFFER && count == 3);
+    CHECK(sizes[0] == unwritten && bidigrid_document_entry_sizes(&document, 1, sizes, 4, &count) == BIDIGRID_OK);
+    CHECK(count == 3 && sizes[0] == 1 && sizes[1] == 2 && sizes[2] == 2 && sizes[3] == unwritten);
+    CHECK(bidigrid_document_entry_sizes(&document, 2, sizes, 4, &count) == BIDIGRID_FAULT_BAD_ROW && count == 0);
     CHECK(bidigrid_document_row_print(&document, 1, line, sizeof line, &length) == BIDIGRID_OK);
     CHECK(is_text(line, length, "  \u05D1\u05D0\n"));
     CHECK(bidigrid_document_row_print(&document, 1, NULL, 0, &length) == BIDIGRID_FAULT_SHORT_BUFFER && length == 7);
@@ -169,6 +176,7 @@ static void tries_empty_handles(void)
     CHECK(IS_EMPTY(bidigrid_document_place_of(&none, &id, &size)));
     CHECK(IS_EMPTY(bidigrid_document_changes(&none, &change, 1, &size)));
     CHECK(IS_EMPTY(bidigrid_document_entries(&none, 0, &entry, 1, &size)));
+    CHECK(IS_EMPTY(bidigrid_document_entry_sizes(&none, 0, NULL, 0, &size)));
     CHECK(IS_EMPTY(bidigrid_document_print(&none, text, sizeof text, &size)));
     CHECK(IS_EMPTY(bidigrid_document_row_print(&none, 0, text, sizeof text, &size)));
     CHECK(bidigrid_document_take(&none, utf8("BGOP\x01"), 5, &told) == BIDIGRID_FAULT_EMPTY_HANDLE && !none.held);

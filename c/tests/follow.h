@@ -72,6 +72,11 @@ static inline void is_row(const bidigrid_document *document, size_t shown, const
     CHECK(bidigrid_picture_entries(picture, drawn, entries + row.entries, row.entries, &count) == BIDIGRID_OK);
     CHECK(count == row.entries && !memcmp(entries, entries + count, count * sizeof *entries));
     free(entries);
+    size_t *sizes = malloc(2 * (row.entries + 1) * sizeof *sizes);
+    CHECK(sizes && bidigrid_document_entry_sizes(document, shown, sizes, row.entries, &count) == BIDIGRID_OK);
+    CHECK(bidigrid_picture_entry_sizes(picture, drawn, sizes + row.entries, row.entries, &count) == BIDIGRID_OK);
+    CHECK(count == row.entries && !memcmp(sizes, sizes + count, count * sizeof *sizes));
+    free(sizes);
     CHECK(bidigrid_picture_row_print(picture, drawn, NULL, 0, &wanted_size) == BIDIGRID_FAULT_SHORT_BUFFER);
     CHECK(bidigrid_document_row_print(document, shown, NULL, 0, &size) == BIDIGRID_FAULT_SHORT_BUFFER);
     CHECK(size == wanted_size);

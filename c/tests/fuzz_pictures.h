@@ -7,6 +7,20 @@
 static bidigrid_tables tables = BIDIGRID_NONE, read_tables = BIDIGRID_NONE;
 static bidigrid_picture picture = BIDIGRID_NONE;
 
+/* A row's print has blanks, the bytes of its entries side by side, blanks and a line feed. */
+static void has_its_sizes(size_t number, bidigrid_row row, const char *line, size_t length)
+{
+    size_t *sizes = malloc((row.entries + 1) * sizeof *sizes), at = row.column, count;
+    CHECK(sizes && bidigrid_picture_entry_sizes(&picture, number, sizes, row.entries, &count) == BIDIGRID_OK);
+    CHECK(count == row.entries);
+    for (size_t it = 0; it < count; it++)
+        at += sizes[it];
+    free(sizes);
+    while (at < length && line[at] == ' ')
+        at++;
+    CHECK(at + 1 == length && line[at] == '\n');
+}
+
 /* The entries of a row, one by one and all at once, lie in it from left to right. */
 static void has_its_entries(size_t number, bidigrid_row row)
 {
@@ -42,6 +56,8 @@ static void is_its_rows(void)
                                     : answer == BIDIGRID_FAULT_SHORT_BUFFER && length > sizeof line);
         at += length;
         has_its_entries(number, row);
+        if (answer == BIDIGRID_OK)
+            has_its_sizes(number, row, line, length);
         CHECK(bidigrid_picture_entry(&picture, number, row.entries, &entry) == BIDIGRID_FAULT_BAD_ENTRY);
     }
     CHECK(at == whole.size &&

@@ -118,6 +118,32 @@ static void tries_rows(bidigrid_tables *tables)
     bidigrid_picture_free(NULL);
 }
 
+/* How many bytes each entry has in its row's print: in the first row a line feed, mirrored brackets and letters, behind
+ * one blank; in the second a letter with its mark, a tab and a letter. */
+static void tries_sizes(bidigrid_tables *tables)
+{
+    bidigrid_picture picture = drawn(tables, 5, BIDIGRID_BASE_AUTO, "\u05D0(\u05D1)\na\u0301\tb");
+    const size_t first[] = {0, 1, 2, 1, 2}, second[] = {3, 1, 1};
+    size_t sizes[6], count = 7, size;
+    char line[16];
+    CHECK(bidigrid_picture_row_print(&picture, 0, line, sizeof line, &size) == BIDIGRID_OK);
+    CHECK(size == 8 && !memcmp(line, " (\u05D1)\u05D0\n", size));
+    CHECK(bidigrid_picture_entry_sizes(&picture, 0, NULL, 0, &count) == BIDIGRID_FAULT_SHORT_BUFFER && count == 5);
+    memset(sizes, '?', sizeof sizes);
+    size_t unwritten = sizes[5];
+    CHECK(bidigrid_picture_entry_sizes(&picture, 0, sizes, 4, &count) == BIDIGRID_FAULT_SHORT_BUFFER && count == 5);
+    CHECK(sizes[0] == unwritten && bidigrid_picture_entry_sizes(&picture, 0, sizes, 6, &count) == BIDIGRID_OK);
+    CHECK(count == 5 && !memcmp(sizes, first, sizeof first) && sizes[5] == unwritten);
+    CHECK(bidigrid_picture_entry_sizes(&picture, 1, sizes, 3, &count) == BIDIGRID_OK);
+    CHECK(count == 3 && !memcmp(sizes, second, sizeof second));
+    CHECK(bidigrid_picture_entry_sizes(&picture, 1, sizes, 3, NULL) == BIDIGRID_OK);
+    CHECK(bidigrid_picture_entry_sizes(&picture, 2, sizes, 6, &count) == BIDIGRID_FAULT_BAD_ROW && count == 0);
+    bidigrid_picture_free(&picture);
+    picture = drawn(tables, 5, BIDIGRID_BASE_AUTO, "");
+    CHECK(bidigrid_picture_entry_sizes(&picture, 0, NULL, 0, &count) == BIDIGRID_OK && count == 0);
+    bidigrid_picture_free(&picture);
+}
+
 static bool is_at(bidigrid_caret caret, size_t row, size_t gap, size_t place)
 {
     return caret.row == row && caret.gap == gap && caret.place == place;
@@ -195,6 +221,8 @@ static void tries_empty_handles(void)
     CHECK(bidigrid_picture_rows(&none, &size) == BIDIGRID_FAULT_EMPTY_HANDLE && size == 0);
     size = 7;
     CHECK(bidigrid_picture_entries(&none, 0, NULL, 0, &size) == BIDIGRID_FAULT_EMPTY_HANDLE && size == 0);
+    size = 7;
+    CHECK(bidigrid_picture_entry_sizes(&none, 0, NULL, 0, &size) == BIDIGRID_FAULT_EMPTY_HANDLE && size == 0);
     size = 7;
     CHECK(bidigrid_picture_row(&none, 0, &row) == BIDIGRID_FAULT_EMPTY_HANDLE);
     CHECK(bidigrid_picture_entry(&none, 0, 0, &entry) == BIDIGRID_FAULT_EMPTY_HANDLE);
@@ -317,6 +345,7 @@ int main(int count, char **words)
     tries_prints(&tables);
     tries_buffers(&tables);
     tries_rows(&tables);
+    tries_sizes(&tables);
     tries_carets(&tables);
     tries_wrong_texts(&tables);
     tries_empty_handles();

@@ -1,9 +1,9 @@
 mod Edited
 mod Erased
-mod Filled
 mod FromNone
 mod InTurn
 mod Keystrokes
 mod Messages
 mod Sized
+mod Sizes
 mod Texts

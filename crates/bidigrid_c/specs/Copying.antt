@@ -23,6 +23,10 @@ IsLeft before after size = (after ≡ before) × (size ≡ 0)
 abbrev pub IsWritten : (bytes before after : List ℕ) → (size answer : ℕ) → Type 0
 IsWritten bytes before after size answer = IsCopied bytes before after size answer ⊎ ((answer ≡ 9) × IsLeft before after size)
 
+-- sizes were asked for: where one is more than can be counted, the answer is 9, Memory, and how many there are is told as 0
+abbrev pub AreSized : (sizes before after : List ℕ) → (count answer : ℕ) → Type 0
+AreSized sizes before after count answer = IsCopied sizes before after count answer ⊎ ((answer ≡ 9) × (count ≡ 0))
+
 -- how many bytes there are was told, with no buffer for them
 abbrev pub IsSize : (count size answer : ℕ) → Type 0
 IsSize count size answer = (size ≡ count) × (0 < size → answer ≡ 102) × (size ≡ 0 → answer ≡ 0)

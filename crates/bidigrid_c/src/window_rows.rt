@@ -48,7 +48,7 @@ fn tell_row(document: &Document, number: usize, out: &mut RowNumbers) -> u32
 }
 
 /// The row with this number of those that are shown.
-fn row_shown(document: &Document, number: usize) -> Option<WindowRow<'_>>
+pub(crate) fn row_shown(document: &Document, number: usize) -> Option<WindowRow<'_>>
     ensures { MatchOption result (slice_get document.now.window.rows number ≡ None) (λ row. slice_get document.now.window.rows number ≡ Some row) }
 {
     let window = document.window();

@@ -14,9 +14,7 @@ use crate::shared_tables::SharedTables;
 use bg_types::{Base, Memory};
 use caret::{Caret, at_column, at_place, down, left, right, up};
 use cell_grid::laws::rows_follow;
-use cell_grid::{
-    Grid, Row, draw, print, print_row_at, row_entry_sizes_at, row_print_size_at,
-};
+use cell_grid::{Grid, Row, draw, print, print_row_at, row_entry_sizes_at, row_print_size_at};
 use std::alloc::Global;
 use std::marker::Model;
 use std::mem;

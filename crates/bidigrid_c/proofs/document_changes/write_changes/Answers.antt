@@ -1,7 +1,7 @@
 -- One more change was written.
 use Rattle.std.proofs.Common.{◌<◌, ◌+◌, ◌∙◌, length, set, arith}
 use Rattle.bidigrid_c.specs.Numbers.{change_numbers}
-use Rattle.bidigrid_c.proofs.Filled.{filled_next}
+use Rattle.cell_grid.proofs.Interface.{filled_next}
 use Rattle.bidigrid_c.proofs.document_changes.write_changes.Goals as goal
 
 pub loop-number-preserved : goal.loop-number-preserved

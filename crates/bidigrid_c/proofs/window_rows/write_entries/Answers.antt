@@ -3,7 +3,7 @@ use Rattle.std.proofs.Common.{◌<◌, ◌+◌, ◌∙◌, ◌++◌, length, map
 use Rattle.std.proofs.lemmas.Option.{get_or_from_slice_get}
 use Rattle.cell_grid.specs.declared.entry.Entry.{Entry}
 use Rattle.bidigrid_c.specs.Numbers.{entry_numbers}
-use Rattle.bidigrid_c.proofs.Filled.{filled_next}
+use Rattle.cell_grid.proofs.Interface.{filled_next}
 use Rattle.bidigrid_c.proofs.window_rows.write_entries.Goals as goal
 
 pub loop-number-preserved : goal.loop-number-preserved
