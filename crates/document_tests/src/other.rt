@@ -8,7 +8,8 @@ use live_document::{Desk, Document};
 use rga_sequence::Blocks;
 use std::alloc::Global;
 
-const KEY: u128 = 0x5eed;
+/// The key of the tables of desks.
+pub const KEY: u128 = 0x5eed;
 
 /// Another desk, the operations that it sent and that did not arrive yet, and what the document was told of those that did.
 #[derive(Drop)]

@@ -1,5 +1,8 @@
 //! A walk of steps by chance, after each of which a window is compared with the rows of the whole grid.
 
+ghost use Rattle.std.specs.Prelude.{◌≡◌, ◌≤◌, length};
+ghost use Rattle.rga_tree.specs.TextOf.{visible};
+
 use crate::chance::Chance;
 use crate::edits::change;
 use crate::other::Other;
@@ -91,6 +94,23 @@ fn shows(alloc: Global, document: &mut Document, chance: &mut Chance) -> Result<
     let place = chance.below(length.saturating_add(1)).min(length);
     let above = chance.below(ROWS).min(ROWS);
     let below = chance.below(ROWS).min(ROWS);
+    shows_round(alloc, document, place, above, below)
+}
+
+/// Whether the window with so many rows above and below the row of a place is the stretch of the whole grid that it should
+/// be.
+pub fn shows_round(
+    alloc: Global,
+    document: &mut Document,
+    place: usize,
+    above: usize,
+    below: usize,
+) -> Result<bool, Memory>
+    requires place { place ≤ length (visible document.old.desk.set) }
+    requires above { above ≤ 1_000 }
+    requires below { below ≤ 1_000 }
+    ensures desk { document.new.desk ≡ document.old.desk }
+{
     document.show(place, above, below)?;
     let text = document.text()?;
     let width = document.width();
