@@ -30,7 +30,8 @@ pub fn row_entry_sizes(
     write_sizes(tables, text, row.entries(), sizes)
 }
 
-/// Tells the same of the row with this number, counted from 0, as `row_entry_sizes` does.
+/// Tells how many bytes the cells of each entry of the row with this number, counted from 0, have in what `print_row_at` writes,
+/// as `row_entry_sizes` does.
 /// Cost: that of `row_entry_sizes`.
 pub fn row_entry_sizes_at(grid: &Grid, number: usize, sizes: &mut [usize]) -> Result<(), Memory>
     requires row { number < length grid.now.rows }
