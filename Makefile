@@ -96,7 +96,7 @@ check:
 	@tools/check/all $(PARTS)
 
 check-gate:
-	.ci/run
+	tools/check/gate
 
 check-c: lib $(BIDIGRID)
 	BIDIGRID='$(abspath $(BIDIGRID))' c/check
