@@ -14,3 +14,4 @@ mod Taking
 mod Cost
 mod Runs
 mod Forgotten
+mod Carried

@@ -7,3 +7,4 @@ pub mod Documents
 pub mod Cost
 pub mod Runs
 pub mod LawsBelow
+pub mod Carrying

@@ -1,7 +1,10 @@
 //! Laws of the definitions: each function's contract is the law, and its body does nothing.
 
 ghost use Rattle.std.specs.Prelude.{◌≡◌, ◌≤◌, ℕ, false, max, List, length, slice_range};
+ghost use Rattle.bg_types.specs.declared.change.Change.{Change};
+ghost use Rattle.bg_types.specs.Edit.{IsInRange};
 ghost use Rattle.text_buffer.specs.Edits.{Step, IsTouchedInTurn};
+ghost use Rattle.live_document.specs.Carrying.{IsCarried, KeepsItsSide};
 ghost use Rattle.live_document.specs.Cost.{allowed, rows_kept, unmarked, carried, stretch_marks, IsLaidOut};
 ghost use Rattle.live_document.specs.Documents.{LiveDocument, IsWindowOf};
 ghost use Rattle.live_document.specs.Runs.{DocumentCall, Shows, IsCall, IsRun};
@@ -34,4 +37,10 @@ pub fn memory_law()
     ensures { (before shown changed : LiveDocument) (steps : List Step) (place above below : ℕ)
         → (one : IsLaidOut before shown place above below) → IsTouchedInTurn shown.paragraphs steps changed.paragraphs
         → rows_kept changed.paragraphs ≤ max (allowed (length shown.window.rows)) (rows_kept (slice_range shown.paragraphs one.first one.end)) }
+{}
+
+/// A gap that is carried over a change has on its other side what it had there.
+pub fn gaps_are_carried()
+    ensures { (text : List ℕ) (change : Change) (gap after : ℕ) → IsInRange text change → gap ≤ length text
+        → IsCarried change gap after → KeepsItsSide text change gap after }
 {}

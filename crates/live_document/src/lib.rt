@@ -1,6 +1,7 @@
 //! A text that a desk edits and that is shown by windows: a keystroke costs what it changes and what is shown.
 #![tactic(auto)]
 
+mod carrying;
 mod document;
 mod following;
 mod keeping;
@@ -13,5 +14,6 @@ mod shown;
 mod window;
 
 pub use caret::Position;
+pub use carrying::carry;
 pub use document::{Desk, Document, TakenAll};
 pub use window::{Window, WindowRow, WindowRows};
