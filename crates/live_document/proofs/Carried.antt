@@ -33,10 +33,10 @@ take-cut (y ∷ xs) (suc k) (suc g) low within = ap (λ l. y ∷ l) (take-cut xs
 
 pub keeps-side : (text : List ℕ) (change : Change) (gap after : ℕ) → IsInRange text change → gap ≤ length text → IsCarried change gap after → KeepsItsSide text change gap after
 keeps-side text (Put place ch) gap after within has is = record {
-    right = λ left. subst (λ n. drop n (insert text place ch) ≡ drop gap text) (sym (is.put place ch refl left)) (drop-put text place gap ch left has);
-    left = λ right. subst (λ n. take n (insert text place ch) ≡ take gap text) (sym (is.stays right)) (take-put text place gap ch right within)
-  }
+  right = λ left. subst (λ n. drop n (insert text place ch) ≡ drop gap text) (sym (is.put place ch refl left)) (drop-put text place gap ch left has);
+  left = λ right. subst (λ n. take n (insert text place ch) ≡ take gap text) (sym (is.stays right)) (take-put text place gap ch right within);
+}
 keeps-side text (Cut place) gap after within has is = record {
-    right = λ left. subst (λ n. drop after (remove text place) ≡ drop n text) (is.cut place refl left) (drop-cut text place after (let one = is.cut place refl left in omega arith) (let one = is.cut place refl left in omega arith));
-    left = λ right. subst (λ n. take n (remove text place) ≡ take gap text) (sym (is.stays right)) (take-cut text place gap right within)
-  }
+  right = λ left. subst (λ n. drop after (remove text place) ≡ drop n text) (is.cut place refl left) (drop-cut text place after (let one = is.cut place refl left in omega arith) (let one = is.cut place refl left in omega arith));
+  left = λ right. subst (λ n. take n (remove text place) ≡ take gap text) (sym (is.stays right)) (take-cut text place gap right within);
+}
