@@ -6,10 +6,10 @@ ghost use Rattle.std.specs.Coded.{coded_option};
 ghost use Rattle.desk_replica.specs.Desk.{Desk as DeskValue, coded_desk};
 
 use crate::desk::Desk;
-use c_handles::{Opaque, RawBox};
+use c_handles::{NullableBox, Opaque};
 use std::alloc::Global;
 use std::marker::Model;
-use std::{mem, ptr};
+use std::mem;
 
 /// A desk that C holds, or none: `bidigrid_desk` of the header.
 #[repr(C)]
@@ -19,10 +19,10 @@ pub struct DeskHandle {
 }
 
 impl Model for DeskHandle {
-    ghost use Rattle.c_handles.specs.Held.{held_at};
+    ghost use Rattle.c_handles.specs.Held.{owned_at};
     ghost use Rattle.bidigrid_c.specs.Rows.{desk_row};
 
-    ghost also_owns = { λ h. held_at desk_row h.at h.held };
+    ghost also_owns = { λ h. owned_at desk_row h.at h.held };
 }
 
 impl DeskHandle {
@@ -30,33 +30,26 @@ impl DeskHandle {
     pub fn empty() -> DeskHandle
         ensures { result.held ≡ None }
     {
-        DeskHandle {
-            at: ptr::null_mut(),
-        }
+        DeskHandle::of(NullableBox::none())
     }
 
-    /// A handle that holds what is in the box.
-    fn of(boxed: RawBox<Desk, Global>) -> DeskHandle
-        ensures { result.held ≡ Some boxed.value }
+    /// A handle of what stands at a pointer.
+    fn of(owned: NullableBox<Desk>) -> DeskHandle
+        ensures { result.held ≡ owned.held }
     {
-        let RawBox { at, alloc: _ } = boxed;
+        let NullableBox { at } = owned;
         DeskHandle {
             at: at as *mut Opaque,
         }
     }
 
-    /// The box of what it holds.
-    fn into_raw(self, alloc: Global) -> Option<RawBox<Desk, Global>>
-        ensures { MatchOption result (self.held ≡ None) (λ b. self.held ≡ Some b.value) }
+    /// The pointer again.
+    fn into_owned(self) -> NullableBox<Desk>
+        ensures { result.held ≡ self.held }
     {
         let DeskHandle { at } = self;
-        if at.is_null() {
-            None
-        } else {
-            Some(RawBox {
-                at: at as *mut Desk,
-                alloc,
-            })
+        NullableBox {
+            at: at as *mut Desk,
         }
     }
 
@@ -65,19 +58,18 @@ impl DeskHandle {
         ensures taken { MatchOption result (self.old.held ≡ None) (λ b. self.old.held ≡ Some b.value) }
         ensures empty { self.new.held ≡ None }
     {
-        match mem::replace(self, DeskHandle::empty()).into_raw(alloc) {
-            Some(raw) => Some(raw.into_box()),
-            None => None,
-        }
+        mem::replace(self, DeskHandle::empty())
+            .into_owned()
+            .into_box(alloc)
     }
 
     /// Puts this in. What it held is freed.
     pub fn put(&mut self, alloc: Global, boxed: Box<Desk>)
         ensures { self.new.held ≡ Some boxed.value }
     {
-        let old = mem::replace(self, DeskHandle::of(RawBox::of(boxed)));
-        if let Some(raw) = old.into_raw(alloc) {
-            drop(raw.into_box());
+        let old = mem::replace(self, DeskHandle::of(NullableBox::of(boxed)));
+        if let Some(old) = old.into_owned().into_box(alloc) {
+            drop(old);
         }
     }
 }

@@ -7,10 +7,10 @@ ghost use Rattle.bidigrid_c.specs.declared.told_document.ToldDocument.{ToldDocum
 ghost use Rattle.bidigrid_c.specs.contracts.told_document.ToldDocument.{the_row as told_row};
 
 use crate::told_document::ToldDocument;
-use c_handles::{Opaque, RawBox};
+use c_handles::{NullableBox, Opaque};
 use std::alloc::Global;
 use std::marker::Model;
-use std::{mem, ptr};
+use std::mem;
 
 /// A document that C holds, or none: `bidigrid_document` of the header.
 #[repr(C)]
@@ -20,10 +20,10 @@ pub struct DocumentHandle {
 }
 
 impl Model for DocumentHandle {
-    ghost use Rattle.c_handles.specs.Held.{held_at};
+    ghost use Rattle.c_handles.specs.Held.{owned_at};
     ghost use Rattle.bidigrid_c.specs.Rows.{document_row};
 
-    ghost also_owns = { λ h. held_at document_row h.at h.held };
+    ghost also_owns = { λ h. owned_at document_row h.at h.held };
 }
 
 impl DocumentHandle {
@@ -31,33 +31,26 @@ impl DocumentHandle {
     pub fn empty() -> DocumentHandle
         ensures { result.held ≡ None }
     {
-        DocumentHandle {
-            at: ptr::null_mut(),
-        }
+        DocumentHandle::of(NullableBox::none())
     }
 
-    /// A handle that holds what is in the box.
-    fn of(boxed: RawBox<ToldDocument, Global>) -> DocumentHandle
-        ensures { result.held ≡ Some boxed.value }
+    /// A handle of what stands at a pointer.
+    fn of(owned: NullableBox<ToldDocument>) -> DocumentHandle
+        ensures { result.held ≡ owned.held }
     {
-        let RawBox { at, alloc: _ } = boxed;
+        let NullableBox { at } = owned;
         DocumentHandle {
             at: at as *mut Opaque,
         }
     }
 
-    /// The box of what it holds.
-    fn into_raw(self, alloc: Global) -> Option<RawBox<ToldDocument, Global>>
-        ensures { MatchOption result (self.held ≡ None) (λ b. self.held ≡ Some b.value) }
+    /// The pointer again.
+    fn into_owned(self) -> NullableBox<ToldDocument>
+        ensures { result.held ≡ self.held }
     {
         let DocumentHandle { at } = self;
-        if at.is_null() {
-            None
-        } else {
-            Some(RawBox {
-                at: at as *mut ToldDocument,
-                alloc,
-            })
+        NullableBox {
+            at: at as *mut ToldDocument,
         }
     }
 
@@ -66,19 +59,18 @@ impl DocumentHandle {
         ensures taken { MatchOption result (self.old.held ≡ None) (λ b. self.old.held ≡ Some b.value) }
         ensures empty { self.new.held ≡ None }
     {
-        match mem::replace(self, DocumentHandle::empty()).into_raw(alloc) {
-            Some(raw) => Some(raw.into_box()),
-            None => None,
-        }
+        mem::replace(self, DocumentHandle::empty())
+            .into_owned()
+            .into_box(alloc)
     }
 
     /// Puts this in. What it held is freed.
     pub fn put(&mut self, alloc: Global, boxed: Box<ToldDocument>)
         ensures { self.new.held ≡ Some boxed.value }
     {
-        let old = mem::replace(self, DocumentHandle::of(RawBox::of(boxed)));
-        if let Some(raw) = old.into_raw(alloc) {
-            drop(raw.into_box());
+        let old = mem::replace(self, DocumentHandle::of(NullableBox::of(boxed)));
+        if let Some(old) = old.into_owned().into_box(alloc) {
+            drop(old);
         }
     }
 }

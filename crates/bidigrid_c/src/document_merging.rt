@@ -13,7 +13,7 @@ ghost use Rattle.bidigrid_c.specs.Documents.{IsMetWith, IsSilent};
 use crate::desk::Desk;
 use crate::document_handle::DocumentHandle;
 use crate::fault::{EMPTY_HANDLE, OK};
-use crate::taking::merge_number;
+use crate::merging::merge_number;
 use crate::told_document::ToldDocument;
 use desk_replica::TakeFault;
 use desk_replica::laws::told_changes;

@@ -8,7 +8,7 @@ ghost use Rattle.bidigrid_c.specs.Numbers.{no_identifier};
 ghost use Rattle.bidigrid_c.specs.Desks.{IsIdentifierTold, IsPlaceTold, IsSaved};
 
 use crate::document_handle::DocumentHandle;
-use crate::fault::{BAD_PLACE, EMPTY_HANDLE, OK};
+use crate::fault::{BAD_PLACE, EMPTY_HANDLE, OK, SHORT_BUFFER};
 use crate::numbers::{IdentifierNumbers, identifier_numbers, no_identifier};
 use crate::reading::{tell_file, tell_length, tell_place_of, tell_text};
 use live_document::Document;
@@ -31,9 +31,23 @@ pub extern "C" fn bidigrid_document_text(
         *size = 0;
         return EMPTY_HANDLE;
     };
-    let answer = tell_text(held.document.desk(), out, size);
+    let answer = tell_text_of(&held.document, out, size);
     document.put(alloc, held);
     answer
+}
+
+/// Writes a document's text, unless its size is known to be more than there is room for.
+fn tell_text_of(document: &Document, out: &mut [u8], size: &mut usize) -> u32
+    ensures told { IsWritten (encode_utf8_all (text document.now.desk.set)) out.old out.new size.new result }
+    ensures memory { result ≡ 9 → 0 < length (visible document.now.desk.set) }
+{
+    if let Some(count) = document.text_size() {
+        if out.len() < count {
+            *size = count;
+            return SHORT_BUFFER;
+        }
+    }
+    tell_text(document.desk(), out, size)
 }
 
 /// Tells how many characters a document's text has.

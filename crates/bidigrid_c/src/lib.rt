@@ -18,6 +18,7 @@ mod draft;
 mod edit_changes;
 mod fault;
 mod keystroke;
+mod merging;
 mod numbers;
 mod picture;
 mod picture_handle;

@@ -4,11 +4,11 @@ ghost use Rattle.std.specs.Prelude.{◌≡◌, Some, None, Option};
 ghost use Rattle.std.specs.Option.{MatchOption};
 ghost use Rattle.unicode_tables.specs.Tables.{TableValues};
 
-use c_handles::{Opaque, RawBox};
+use c_handles::{NullableBox, Opaque};
 use pictures::SharedTables;
 use std::alloc::Global;
 use std::marker::Model;
-use std::{mem, ptr};
+use std::mem;
 
 /// Tables that C holds, or none: `bidigrid_tables` of the header.
 #[repr(C)]
@@ -18,10 +18,10 @@ pub struct TablesHandle {
 }
 
 impl Model for TablesHandle {
-    ghost use Rattle.c_handles.specs.Held.{held_at};
+    ghost use Rattle.c_handles.specs.Held.{owned_at};
     ghost use Rattle.bidigrid_c.specs.Rows.{tables_row};
 
-    ghost also_owns = { λ h. held_at tables_row h.at h.held };
+    ghost also_owns = { λ h. owned_at tables_row h.at h.held };
 }
 
 impl TablesHandle {
@@ -29,33 +29,26 @@ impl TablesHandle {
     pub fn empty() -> TablesHandle
         ensures { result.held ≡ None }
     {
-        TablesHandle {
-            at: ptr::null_mut(),
-        }
+        TablesHandle::of(NullableBox::none())
     }
 
-    /// A handle that holds what is in the box.
-    fn of(boxed: RawBox<SharedTables, Global>) -> TablesHandle
-        ensures { result.held ≡ Some boxed.value }
+    /// A handle of what stands at a pointer.
+    fn of(owned: NullableBox<SharedTables>) -> TablesHandle
+        ensures { result.held ≡ owned.held }
     {
-        let RawBox { at, alloc: _ } = boxed;
+        let NullableBox { at } = owned;
         TablesHandle {
             at: at as *mut Opaque,
         }
     }
 
-    /// The box of what it holds.
-    fn into_raw(self, alloc: Global) -> Option<RawBox<SharedTables, Global>>
-        ensures { MatchOption result (self.held ≡ None) (λ b. self.held ≡ Some b.value) }
+    /// The pointer again.
+    fn into_owned(self) -> NullableBox<SharedTables>
+        ensures { result.held ≡ self.held }
     {
         let TablesHandle { at } = self;
-        if at.is_null() {
-            None
-        } else {
-            Some(RawBox {
-                at: at as *mut SharedTables,
-                alloc,
-            })
+        NullableBox {
+            at: at as *mut SharedTables,
         }
     }
 
@@ -64,19 +57,18 @@ impl TablesHandle {
         ensures taken { MatchOption result (self.old.held ≡ None) (λ b. self.old.held ≡ Some b.value) }
         ensures empty { self.new.held ≡ None }
     {
-        match mem::replace(self, TablesHandle::empty()).into_raw(alloc) {
-            Some(raw) => Some(raw.into_box()),
-            None => None,
-        }
+        mem::replace(self, TablesHandle::empty())
+            .into_owned()
+            .into_box(alloc)
     }
 
     /// Puts this in. What it held is freed.
     pub fn put(&mut self, alloc: Global, boxed: Box<SharedTables>)
         ensures { self.new.held ≡ Some boxed.value }
     {
-        let old = mem::replace(self, TablesHandle::of(RawBox::of(boxed)));
-        if let Some(raw) = old.into_raw(alloc) {
-            drop(raw.into_box());
+        let old = mem::replace(self, TablesHandle::of(NullableBox::of(boxed)));
+        if let Some(old) = old.into_owned().into_box(alloc) {
+            drop(old);
         }
     }
 }

@@ -1,8 +1,8 @@
-//! Values that C holds: a box as its pointer, and what such a pointer owns.
+//! Values that C holds: a box or none as a pointer, and what such a pointer owns.
 #![tactic(auto)]
 
+mod nullable_box;
 mod opaque;
-mod raw_box;
 
+pub use nullable_box::NullableBox;
 pub use opaque::Opaque;
-pub use raw_box::RawBox;

@@ -42,7 +42,8 @@ fn prints_the_window(alloc: Global) -> Result<bool, Memory> {
     let mut document = document_of(alloc, small_tables(alloc)?, 24, TEXT)?;
     let nothing = prints(&document, "");
     document.show(15.min(document.len()), 0, 1)?;
-    Ok(nothing && prints(&document, SHOWN) && prints_row(&document, 1, THIRD))
+    let sized = document.text_size() == Some(TEXT.len());
+    Ok(nothing && sized && prints(&document, SHOWN) && prints_row(&document, 1, THIRD))
 }
 
 #[test]

@@ -1,6 +1,7 @@
 //! A text that a desk edits and that is shown by windows.
 
 ghost use Rattle.std.specs.Prelude.{◌≡◌, ◌≤◌, ◌<◌, ◌+◌, ◌-◌, ◌++◌, false, Some, max, take, drop, length, slice_get, All, OnOk, OnErr, IfOk, IfErr, IsOk, is_err, string_bytes, encode_utf8_all, vec_len, vec_capacity};
+ghost use Rattle.std.specs.Option.{IfSome};
 ghost use Rattle.std.specs.Str.{chars};
 ghost use Rattle.bg_types.specs.OperationSet.{size, next};
 ghost use Rattle.bg_types.specs.WellFormed.{IsWellFormed};
@@ -215,6 +216,17 @@ impl Document {
         ensures limited { length (text self.now.desk.set) ≤ 1_000_000 }
     {
         self.desk.text()
+    }
+
+    /// How many bytes its text has, where that is known without reading it: after `show`, until an edit has no memory for the
+    /// paragraphs. Takes no memory.
+    pub fn text_size(&self) -> Option<usize>
+        ensures { IfSome result (λ size. size ≡ length (encode_utf8_all (text self.now.desk.set))) }
+    {
+        if self.behind {
+            return None;
+        }
+        Some(self.buffer.bytes())
     }
 
     /// Types characters at a place, as the desk's `type_text` does. Then nothing is shown.
