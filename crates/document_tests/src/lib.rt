@@ -13,6 +13,8 @@ mod other;
 #[cfg(test)]
 mod paid_tests;
 #[cfg(test)]
+mod positions_tests;
+#[cfg(test)]
 mod prints_tests;
 #[cfg(test)]
 mod taking_all_tests;

@@ -1,18 +1,14 @@
 //! A document from its first call on.
 
+use crate::documents::small_tables;
+use crate::other::KEY;
 use bg_types::{Base, Memory};
 use live_document::Document;
 use std::alloc::Global;
-use std::rc::Rc;
-use ucd_files::vectors::SMALL;
 
 /// A new document of site 7.
 fn new_document(alloc: Global) -> Result<Document, Memory> {
-    let Ok(tables) = SMALL.load(alloc) else {
-        return Err(Memory);
-    };
-    let tables = Rc::new(alloc, tables)?;
-    Document::new(alloc, 7, tables, 17, Base::Auto, 0x5eed)
+    Document::new(alloc, 7, small_tables(alloc)?, 17, Base::Auto, KEY)
 }
 
 /// How many rows a window has that might have 19.
@@ -25,7 +21,11 @@ fn rows_shown(document: &mut Document) -> Result<usize, Memory> {
 fn type_three(alloc: Global, document: &mut Document) -> Result<(), Memory> {
     document.reserve(3)?;
     let mut made = Vec::new(alloc);
-    document.type_text(0, "abc", &mut made).map_err(|_| Memory)
+    document.type_text(0, "ab", &mut made).map_err(|_| Memory)?;
+    document
+        .type_char(document.len(), 'c')
+        .map_err(|_| Memory)?;
+    Ok(())
 }
 
 /// Counter and site of the third character.

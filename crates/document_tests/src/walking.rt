@@ -5,7 +5,7 @@ ghost use Rattle.rga_tree.specs.TextOf.{visible};
 
 use crate::chance::Chance;
 use crate::edits::change;
-use crate::other::Other;
+use crate::other::{KEY, Other};
 use bg_types::{Base, Memory};
 use cell_grid::{Row, draw};
 use desk_replica::Replica;
@@ -14,8 +14,6 @@ use rga_sequence::Blocks;
 use std::alloc::Global;
 use std::rc::Rc;
 use ucd_files::Tables;
-
-const KEY: u128 = 0x5eed;
 
 /// The most rows of a window above and below its own, and one more.
 const ROWS: usize = 40;

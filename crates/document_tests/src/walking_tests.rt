@@ -1,20 +1,16 @@
 //! Walks of steps by chance.
 
+use crate::documents::small_tables;
 use crate::walking::walk;
 use bg_types::Memory;
 use std::alloc::Global;
-use std::rc::Rc;
-use ucd_files::vectors::SMALL;
 
 /// How many steps a walk has.
 const STEPS: usize = 40;
 
 /// How far the walks of three seeds come.
 fn least(alloc: Global) -> Result<usize, Memory> {
-    let Ok(tables) = SMALL.load(alloc) else {
-        return Err(Memory);
-    };
-    let tables = Rc::new(alloc, tables)?;
+    let tables = small_tables(alloc)?;
     let first = walk(alloc, tables.clone()?, 3, STEPS)?;
     let second = walk(alloc, tables.clone()?, 4, STEPS)?;
     let third = walk(alloc, tables, 5, STEPS)?;

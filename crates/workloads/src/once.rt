@@ -32,6 +32,8 @@ fn paste_from(rt: &HostRuntime, desk: &mut Desk, text: &str) -> Result<()> {
 
 fn type_anew(rt: &HostRuntime, tables: Rc<Tables>, text: &str) -> Result<()> {
     let mut document = document_of(rt.alloc(), tables)?;
+    // What a document has shown it keeps up to date.
+    show(&mut document, 0)?;
     time_typing(rt, &mut document, text)
 }
 
@@ -52,6 +54,7 @@ fn merge_at_another(rt: &HostRuntime, from: &Desk) -> Result<()> {
 
 fn merge_anew(rt: &HostRuntime, tables: Rc<Tables>, from: &Desk) -> Result<()> {
     let mut document = document_of(rt.alloc(), tables)?;
+    show(&mut document, 0)?;
     time_merging(rt, &mut document, from)
 }
 
