@@ -7,5 +7,5 @@ use Rattle.live_document.proofs.document.Document.text_size.Goals as goal
 pub returns : goal.returns
 returns c =
     c.bytes.ensures.bytes
-    ∙ ap (λ (points : List ℕ). length (encode_utf8_all points)) (c.self.invariant.text_is c.if-behind.false)
+    ∙ ap (λ (points : List ℕ). length (encode_utf8_all points)) (c.self.invariant.text_is c.if-self.false)
     ∙ ap (λ (d : LiveDocument). length (encode_utf8_all (text d.desk.set))) c.self.view_is
