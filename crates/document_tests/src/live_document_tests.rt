@@ -22,9 +22,7 @@ fn type_three(alloc: Global, document: &mut Document) -> Result<(), Memory> {
     document.reserve(3)?;
     let mut made = Vec::new(alloc);
     document.type_text(0, "ab", &mut made).map_err(|_| Memory)?;
-    document
-        .type_char(document.len(), 'c')
-        .map_err(|_| Memory)?;
+    document.type_char(document.len(), 'c').map_err(|_| Memory)?;
     Ok(())
 }
 

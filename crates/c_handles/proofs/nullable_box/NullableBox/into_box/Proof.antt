@@ -86,7 +86,7 @@ into_box_spec {M = M} 𝓤 𝓛 𝓜 𝓡 wired T L d glue =
     let k = triple_of 𝓛 (callee.signature T heap.row ghosts dict heap.drops) (callee.spec T heap.row ghosts dict heap.drops 𝓛 𝓜.mem 𝓡.returns) in let Kept = callee.ended T heap.row ghosts dict heap.drops in
     let y : k.Ghost = (((κs.0, (α ∷ [], tt)), (qs.0, (full_share, tt)), tt, (a, (q, tt)), (h ∷ [], (vptr b o ∷ [], tt))), x) in
     let allocates = passed 𝓡.env (code.calls-std_heap::GlobalAllocator::allocate 𝓡.env wired) (code.calls-std_heap::GlobalAllocator::deallocate 𝓡.env wired)
-        (code.calls-std_heap::GlobalAllocator::grow 𝓡.env wired) (code.calls-std_heap::GlobalAllocator::shrink 𝓡.env wired) M 𝓤 𝓛 𝓜 𝓡 in
+    (code.calls-std_heap::GlobalAllocator::grow 𝓡.env wired) (code.calls-std_heap::GlobalAllocator::shrink 𝓡.env wired) M 𝓤 𝓛 𝓜 𝓡 in
     let drops = glues "c_handles::Destruct++none::drop" 𝓡.env (code.calls-c_handles::Destruct++none::drop 𝓡.env wired) heap.row heap.laws M 𝓤 𝓛 𝓜 𝓡 in
     let given = met 𝓤 𝓛 𝓜 𝓡 (code.calls-std_alloc::boxed::Box::from_raw 𝓡.env wired) T heap.row L heap.laws ghosts dict heap.drops allocates drops in
     move ! (5 ∷ []) $ use1 𝓛 (raw (fact 𝓤 (κs.0 ⊑ T.lives)) ⊛ ‵ ftrue) (id⊢ 𝓤 _) $ split ! $ move ! (1 ∷ []) $ drop ! $
