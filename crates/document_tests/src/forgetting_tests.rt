@@ -36,7 +36,8 @@ fn laid_again(alloc: Global, windows: usize) -> Result<usize, Memory> {
 }
 
 #[test]
-fn rows_of_some_windows_are_kept_and_of_many_forgotten(rt: HostRuntime) {
-    assert_eq!(rt; laid_again(rt.alloc(), 20), Ok(0));
-    assert_eq!(rt; laid_again(rt.alloc(), 40), Ok(ROWS));
+fn rows_of_some_windows_are_kept_and_of_many_forgotten(rt: HostRuntime) -> Result<(), Memory> {
+    assert_eq!(rt; laid_again(rt.alloc(), 20)?, 0);
+    assert_eq!(rt; laid_again(rt.alloc(), 40)?, ROWS);
+    Ok(())
 }

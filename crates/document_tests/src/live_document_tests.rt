@@ -44,7 +44,8 @@ fn from_the_start(alloc: Global) -> Result<(usize, Option<(u32, u16)>), Memory> 
 }
 
 #[test]
-fn a_new_document_has_a_row_and_takes_what_its_site_types(rt: HostRuntime) {
-    let seen = from_the_start(rt.alloc());
-    assert_eq!(rt; seen, Ok((1, Some((3, 7)))));
+fn a_new_document_has_a_row_and_takes_what_its_site_types(rt: HostRuntime) -> Result<(), Memory> {
+    let seen = from_the_start(rt.alloc())?;
+    assert_eq!(rt; seen, (1, Some((3, 7))));
+    Ok(())
 }

@@ -79,7 +79,8 @@ fn stands(alloc: Global) -> Result<bool, Memory> {
 }
 
 #[test]
-fn what_is_paid_for_stands_and_the_next_window_is_right(rt: HostRuntime) {
-    let right = stands(rt.alloc());
-    assert_eq!(rt; right, Ok(true));
+fn what_is_paid_for_stands_and_the_next_window_is_right(rt: HostRuntime) -> Result<(), Memory> {
+    let right = stands(rt.alloc())?;
+    assert_eq!(rt; right, true);
+    Ok(())
 }

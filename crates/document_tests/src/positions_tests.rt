@@ -68,15 +68,17 @@ fn pointed(alloc: Global) -> Result<(usize, usize, usize), Memory> {
 }
 
 #[test]
-fn right_alone_comes_to_every_gap(rt: HostRuntime) {
-    assert_eq!(rt; crossed_rows(rt.alloc()), Ok((6, 6)));
+fn right_alone_comes_to_every_gap(rt: HostRuntime) -> Result<(), Memory> {
+    assert_eq!(rt; crossed_rows(rt.alloc())?, (6, 6));
+    Ok(())
 }
 
 #[test]
-fn steps_and_a_mouse_lead_where_carets_go(rt: HostRuntime) {
-    assert_eq!(rt; stepped(rt.alloc(), Move::Right), Ok((6, 2, 8)));
-    assert_eq!(rt; stepped(rt.alloc(), Move::Left), Ok((6, 0, 6)));
-    assert_eq!(rt; stepped(rt.alloc(), Move::Up), Ok((0, 1, 1)));
-    assert_eq!(rt; stepped(rt.alloc(), Move::Down), Ok((12, 1, 13)));
-    assert_eq!(rt; pointed(rt.alloc()), Ok((6, 1, 7)));
+fn steps_and_a_mouse_lead_where_carets_go(rt: HostRuntime) -> Result<(), Memory> {
+    assert_eq!(rt; stepped(rt.alloc(), Move::Right)?, (6, 2, 8));
+    assert_eq!(rt; stepped(rt.alloc(), Move::Left)?, (6, 0, 6));
+    assert_eq!(rt; stepped(rt.alloc(), Move::Up)?, (0, 1, 1));
+    assert_eq!(rt; stepped(rt.alloc(), Move::Down)?, (12, 1, 13));
+    assert_eq!(rt; pointed(rt.alloc())?, (6, 1, 7));
+    Ok(())
 }

@@ -47,6 +47,7 @@ fn prints_the_window(alloc: Global) -> Result<bool, Memory> {
 }
 
 #[test]
-fn a_window_prints_as_its_rows_of_the_whole_text(rt: HostRuntime) {
-    assert_eq!(rt; prints_the_window(rt.alloc()), Ok(true));
+fn a_window_prints_as_its_rows_of_the_whole_text(rt: HostRuntime) -> Result<(), Memory> {
+    assert_eq!(rt; prints_the_window(rt.alloc())?, true);
+    Ok(())
 }

@@ -40,9 +40,10 @@ fn burst_with_a_refused_one(alloc: Global) -> Result<Left, Memory> {
 }
 
 #[test]
-fn bursts_are_taken_up_to_a_refused_operation(rt: HostRuntime) {
-    let whole = burst(rt.alloc());
-    assert_eq!(rt; whole, Ok((5, None, 5, 2)));
-    let broken = burst_with_a_refused_one(rt.alloc());
-    assert_eq!(rt; broken, Ok((2, Some(TakeFault::IdentifierReused), 2, 1)));
+fn bursts_are_taken_up_to_a_refused_operation(rt: HostRuntime) -> Result<(), Memory> {
+    let whole = burst(rt.alloc())?;
+    assert_eq!(rt; whole, (5, None, 5, 2));
+    let broken = burst_with_a_refused_one(rt.alloc())?;
+    assert_eq!(rt; broken, (2, Some(TakeFault::IdentifierReused), 2, 1));
+    Ok(())
 }

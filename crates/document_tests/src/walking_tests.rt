@@ -18,7 +18,8 @@ fn least(alloc: Global) -> Result<usize, Memory> {
 }
 
 #[test]
-fn each_window_is_a_stretch_of_the_whole_grid(rt: HostRuntime) {
-    let least = least(rt.alloc());
-    assert_eq!(rt; least, Ok(STEPS));
+fn each_window_is_a_stretch_of_the_whole_grid(rt: HostRuntime) -> Result<(), Memory> {
+    let least = least(rt.alloc())?;
+    assert_eq!(rt; least, STEPS);
+    Ok(())
 }
