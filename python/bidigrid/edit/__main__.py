@@ -10,19 +10,22 @@ import os
 import select
 import signal
 import sys
+import time
 
 from .channel import Channel
-from .desk import MAX_SITE, Desk
+from .desk import Desk
 from .editor import Editor
 from .fault import EditFault
 from .folder import Folder
 from .keys import WAIT, Keys
 from .log import Log
 from .screen import Screen
+from .start import MAX_SITE
 from .view import view_of
 
 STATUS_FAULT = 3  # as the program's, where a file can't be read
-PIECE = 1 << 16  # bytes of keys that are read at once
+PIECE = 1 << 14  # bytes of keys that are read at once
+DRAWN = 0.02  # seconds from one drawing to the next at least, while keys wait
 
 
 def asked(words: list[str] | None) -> argparse.Namespace:
@@ -73,13 +76,11 @@ def channel_of(wanted: argparse.Namespace) -> Channel | None:
 
 
 def run(editor: Editor, screen: Screen, waker: int, is_ended: list[int]) -> None:
-    """Goes on until one leaves. What a key types is written before the next is read, and no flush is waited for."""
-    desk, keys = editor.desk, Keys()
+    """Goes on until one leaves. What a key types is written before the next is read, and nothing that may be long is waited
+    for: it is done in pieces, or by a thread."""
+    desk, keys, drawn = editor.desk, Keys(), 0.0
     while not editor.is_left and not is_ended:
-        if desk.is_changed:
-            desk.is_changed = False
-            screen.draw(view_of(editor))
-        patience = desk.patience()
+        patience = 0.0 if desk.is_changed else desk.patience()
         if keys.is_waiting():
             patience = WAIT if patience is None else min(WAIT, patience)
         ready, _, _ = select.select([0, waker, *desk.readers()], [], [], patience)
@@ -92,8 +93,12 @@ def run(editor: Editor, screen: Screen, waker: int, is_ended: list[int]) -> None
             editor.press(key)
             if key.name == "ctrl-l":
                 screen.redraw()
-        if desk.turn():
-            editor.follow()
+        # While keys wait, as when much is pasted, the screen is drawn now and then.
+        if desk.is_changed and (time.monotonic() - drawn > DRAWN or not select.select([0], [], [], 0)[0]):
+            desk.is_changed = False
+            screen.draw(view_of(editor))
+            drawn = time.monotonic()
+        editor.turn()
 
 
 def read_keys() -> bytes:

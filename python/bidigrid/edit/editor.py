@@ -2,7 +2,7 @@
 
 from __future__ import annotations
 
-from collections.abc import Callable, Sequence
+from collections.abc import Callable, Iterator, Sequence
 from typing import get_args
 
 from .. import Document, Fault, Identifier, Position, Row
@@ -11,7 +11,7 @@ from . import carets, moves
 from .desk import Desk
 from .disk import write_whole
 from .fault import reason
-from .keys import Key
+from .keys import Key, plain
 
 BASES: tuple[Base, ...] = get_args(Base)
 
@@ -33,22 +33,23 @@ class Editor:
         self.goal: int | None = None
         self.marked: Between | None = None
         self.is_marking = False
-        self.is_left = self.is_warned = False
+        self.is_left = self.is_leaving = self.is_warned = False
+        self.is_pasting = False
+        self.pressed = 0
         self.stand(self.document.position_at(0))
         self.scroll()
         self.edits: dict[str, Callable[[], None]] = {
             "backspace": self.backspace,
             "delete": self.delete,
-            "enter": lambda: self.type("\n"),
-            "tab": lambda: self.type("\t"),
-            "ctrl-z": self.undo,
+            "pasted": self.end_paste,
+            "ctrl-z": lambda: self.desk.begin_job(self.take_back()),
             "ctrl-s": self.write_text,
             "ctrl-q": self.leave,
             "ctrl-a": self.select_all,
             "mark": self.begin_stretch,
             "escape": self.end_stretch,
             "f2": self.change_base,
-            "f3": self.change_ambiguous,
+            "f3": lambda: self.desk.begin_job(self.change_ambiguous()),
         }
 
     @property
@@ -61,11 +62,14 @@ class Editor:
         if not self.desk.failed_at:
             self.desk.notice = ""
         at = None
+        self.pressed += 1
         try:
             if at := self.moved(key.name.removeprefix("shift-")):
                 self.go(at, key.name)
-            elif key.name in ("text", "paste"):
+            elif key.name == "text":
                 self.type(plain(key.text))
+            elif key.name == "paste":
+                self.paste(plain(key.text))
             elif key.name in self.edits:
                 self.edits[key.name]()
         except (Fault, MemoryError) as fault:
@@ -111,23 +115,9 @@ class Editor:
 
     def moved(self, name: str) -> Position | None:
         """Where a key leads that moves the caret; nothing for another."""
-        document, at = self.document, self.at
-        match name:
-            case "left" | "right":
-                return moves.step(document, at, document.left if name == "left" else document.right)
-            case "ctrl-left" | "ctrl-right":
-                is_left = name == "ctrl-left"
-                return moves.word(document, at, document.left if is_left else document.right, is_left)
-            case "up" | "down" | "page-up" | "page-down":
-                if self.goal is None:
-                    self.goal = moves.column_of(document, at)
-                rows = 1 if name in ("up", "down") else max(1, self.height - 1)
-                return moves.vertical(document, at, -rows if name.endswith("up") else rows, self.goal)
-            case "home" | "end":
-                return moves.edge(document, at, name == "home")
-            case "ctrl-home" | "ctrl-end":
-                return document.position_at(0 if name == "ctrl-home" else len(document))
-        return None
+        if name in moves.VERTICAL and self.goal is None:
+            self.goal = moves.column_of(self.document, self.at)
+        return moves.moved(self.document, self.at, name, self.height, self.goal or 0)
 
     def go(self, at: Position, name: str) -> None:
         """Goes there, selecting on the way where shift is held or a stretch was begun."""
@@ -171,9 +161,9 @@ class Editor:
 
     # Edits
 
-    def replace(self, start: int, stop: int, text: str) -> None:
+    def replace(self, start: int, stop: int, text: str, joins: bool = False) -> None:
         """Edits the text, and stands behind what was typed."""
-        self.desk.replace(start, stop, text)
+        self.desk.replace(start, stop, text, joins)
         self.end_stretch()
         self.goal = None
         self.stand(moves.behind(self.document, start + len(text)))
@@ -181,6 +171,16 @@ class Editor:
     def type(self, text: str) -> None:
         """Types, in the place of what is selected."""
         self.replace(*self.selected(), text)
+
+    def paste(self, text: str) -> None:
+        """Types a piece of what is pasted, which is one edit."""
+        self.replace(*self.selected(), text, self.is_pasting)
+        self.is_pasting = True
+
+    def end_paste(self) -> None:
+        """Has seen the last piece."""
+        self.is_pasting = False
+        self.desk.edits.close()
 
     def backspace(self) -> None:
         """Erases what is selected, or the cluster before the caret .."""
@@ -192,14 +192,18 @@ class Editor:
         start, stop = self.selected()
         self.replace(start, stop if start < stop else moves.cluster_behind(self.document, start), "")
 
-    def undo(self) -> None:
-        """Takes one's last edit back."""
-        place = self.desk.undo()
+    def take_back(self) -> Iterator[object]:
+        """Takes one's last edit back, in pieces. The caret goes there, unless a key is pressed meanwhile."""
         self.end_stretch()
-        if place is None:
+        pressed, is_seen = self.pressed, False
+        for place in self.desk.take_back():
+            if place is not None:
+                is_seen = True
+                if self.pressed == pressed:
+                    self.stand(moves.behind(self.document, place))
+            yield place
+        if not is_seen:
             self.desk.notice = "nothing to take back"
-        else:
-            self.stand(moves.behind(self.document, place))
 
     # The rest
 
@@ -208,9 +212,9 @@ class Editor:
         self.document.base = BASES[(BASES.index(self.document.base) + 1) % len(BASES)]
         self.at = self.document.position_at(self.at.place)
 
-    def change_ambiguous(self) -> None:
-        """Characters of ambiguous width get the other width."""
-        self.desk.change_ambiguous()
+    def change_ambiguous(self) -> Iterator[object]:
+        """Characters of ambiguous width get the other width, in pieces."""
+        yield from self.desk.change_ambiguous()
         self.at = self.document.position_at(self.at.place)
 
     def resize(self, width: int, height: int) -> None:
@@ -232,13 +236,16 @@ class Editor:
         self.desk.is_changed = True
 
     def leave(self) -> None:
-        """Leaves; at the second time also where the log can't be written."""
-        self.is_left = not self.desk.log.waiting or self.desk.is_saved() or self.is_warned
-        self.is_warned = not self.is_left
-        if self.is_warned:
+        """Leaves once all is flushed; at the second time also where it can't be."""
+        self.is_left = self.is_leaving or self.is_warned or not self.desk.log.waiting
+        self.is_leaving = not self.is_left
+        self.desk.failed_at = 0.0
+
+    def turn(self) -> None:
+        """A turn of the desk: stays at one's character where that brings something, and leaves where one wants to."""
+        if self.desk.turn():
+            self.follow()
+        if self.is_leaving and self.desk.failed_at:
+            self.is_leaving, self.is_warned = False, True
             self.desk.notice = "what you typed last is in no file: Ctrl-S writes the text, Ctrl-Q again leaves without it"
-
-
-def plain(text: str) -> str:
-    """A text without control characters but line feeds and tabs."""
-    return "".join(it for it in text if it in "\n\t" or it >= " " and not "\x7f" <= it <= "\x9f")
+        self.is_left = self.is_left or self.is_leaving and not self.desk.log.waiting

@@ -4,10 +4,11 @@ from __future__ import annotations
 
 import fcntl
 import os
+from collections.abc import Iterable, Iterator
 
 from .disk import Disk, write_whole
 from .fault import EditFault, reason
-from .frames import HEADER, HEADER_2, HEADER_SIZE, operations, sites, spelled, whole_end
+from .frames import HEADER, HEADER_2, HEADER_SIZE, PIECE, operations, spelled, survey, whole_end
 
 
 class Log:
@@ -31,7 +32,7 @@ class Log:
             self.size = self.sound_size()
             # An editor that was killed may have written what it didn't flush.
             os.fdatasync(self.file)
-            self.sites = sites(self.read(0, self.size))
+            self.sites, self.marks = survey(self.read(0, self.size))
         except OSError as error:
             os.close(self.file)
             raise EditFault(f"cannot read {path}: {reason(error)}") from None
@@ -78,6 +79,8 @@ class Log:
 
     def append(self, message: bytes) -> None:
         """Has the operations of a message of version 1 wait to be written and flushed."""
+        if self.end() - self.marks[-1] >= PIECE:
+            self.marks.append(self.end())
         self.waiting += message[HEADER_SIZE:]
 
     def turn(self) -> None:
@@ -126,6 +129,21 @@ class Log:
             parts.append(part)
             start += len(part)
         return b"".join(parts)
+
+    def end(self) -> int:
+        """Where what is appended next will stand."""
+        return self.size + len(self.waiting)
+
+    def spans(self, start: int, end: int) -> list[tuple[int, int]]:
+        """The pieces in which what was appended from one place up to another is read."""
+        starts = [start, *(mark for mark in self.marks if start < mark < end)]
+        return list(zip(starts, [*starts[1:], end])) if start < end else []
+
+    def messages(self, spans: Iterable[tuple[int, int]]) -> Iterator[bytes]:
+        """These pieces as messages. What is flushed may be read by any thread."""
+        for start, end in spans:
+            size = self.size
+            yield HEADER + self.read(start, min(end, size)) + self.waiting[max(0, start - size) : max(0, end - size)]
 
     def close(self) -> None:
         """Gives the file back, and its lock."""

@@ -8,6 +8,26 @@ from .. import Document, Position, Row
 from .carets import column_of_gap
 
 Move = Callable[[Position], Position]
+VERTICAL = ("up", "down", "page-up", "page-down")
+
+
+def moved(document: Document, at: Position, name: str, height: int, column: int) -> Position | None:
+    """Where a key leads that moves the caret, on a screen so high, up and down as near to a column as may be; nothing for
+    another key."""
+    match name:
+        case "left" | "right":
+            return step(document, at, document.left if name == "left" else document.right)
+        case "ctrl-left" | "ctrl-right":
+            is_left = name == "ctrl-left"
+            return word(document, at, document.left if is_left else document.right, is_left)
+        case "up" | "down" | "page-up" | "page-down":
+            rows = 1 if name in ("up", "down") else max(1, height - 1)
+            return vertical(document, at, -rows if name.endswith("up") else rows, column)
+        case "home" | "end":
+            return edge(document, at, name == "home")
+        case "ctrl-home" | "ctrl-end":
+            return document.position_at(0 if name == "ctrl-home" else len(document))
+    return None
 
 
 def row_of(document: Document, at: Position) -> Row:
