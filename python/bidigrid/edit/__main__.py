@@ -80,21 +80,25 @@ def run(editor: Editor, screen: Screen, waker: int, is_ended: list[int]) -> None
     for: it is done in pieces, or by a thread."""
     desk, keys, drawn = editor.desk, Keys(), 0.0
     while not editor.is_left and not is_ended:
-        patience = 0.0 if desk.is_changed else desk.patience()
+        patience = 0.0 if desk.is_changed and not screen.outlet.rest else desk.patience()
         if keys.is_waiting():
             patience = WAIT if patience is None else min(WAIT, patience)
-        ready, _, _ = select.select([0, waker, *desk.readers()], [], [], patience)
+        writers = [screen.outlet] if screen.outlet.rest else []
+        ready, writable, _ = select.select([0, waker, *desk.readers()], writers, [], patience)
+        if writable:
+            screen.outlet.flush()
         if waker in ready:
             os.read(waker, PIECE)
             screen.resize()
             editor.resize(*screen.size())
-        typed = keys.feed(read_keys()) if 0 in ready else [] if ready else keys.give_up()
+        typed = keys.feed(read_keys()) if 0 in ready else [] if ready or writable else keys.give_up()
         for key in typed:
             editor.press(key)
             if key.name == "ctrl-l":
                 screen.redraw()
         # While keys wait, as when much is pasted, the screen is drawn now and then.
-        if desk.is_changed and (time.monotonic() - drawn > DRAWN or not select.select([0], [], [], 0)[0]):
+        is_due = time.monotonic() - drawn > DRAWN or not select.select([0], [], [], 0)[0]
+        if desk.is_changed and is_due and not screen.outlet.rest:
             desk.is_changed = False
             screen.draw(view_of(editor))
             drawn = time.monotonic()
