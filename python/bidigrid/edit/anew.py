@@ -1,4 +1,4 @@
-"""A text's document made once more, of what its log has and what others have sent: in pieces, or by another thread."""
+"""What the log has and what others have sent, read again: for another document of the text, in pieces or by a thread."""
 
 from __future__ import annotations
 
@@ -6,7 +6,7 @@ import itertools
 from collections.abc import Callable, Iterator
 
 from .. import Document
-from .frames import HEADER_SIZE
+from .frames import HEADER_SIZE, pieces
 from .log import Log
 from .taking import Held, taken_again
 
@@ -20,6 +20,13 @@ def fill(document: Document, log: Log, held: Held) -> Iterator[None]:
         for _ in taken_again(itertools.chain(messages, log.messages(log.spans(start, end))), document):
             if not is_last:
                 yield
+
+
+def backwards(log: Log, held: Held) -> Iterator[bytes]:
+    """All operations of the text as messages, each short, the last ones first."""
+    yield from log.messages(reversed(log.spans(HEADER_SIZE, log.end())))
+    for message in reversed(held.messages()):
+        yield from pieces(message)
 
 
 def whole_file(log: Log, held: Held, site: int) -> Callable[[], bytes]:

@@ -8,19 +8,24 @@ from collections.abc import Callable, Iterator
 
 from .. import Document, Fault, Identifier
 from ..given import Base
-from .anew import fill, whole_file
+from . import carets
+from .anew import backwards, fill, whole_file
 from .carrier import Carrier
 from .channel import SNAPSHOT, Channel, Here, Message
 from .fault import EditFault, reason
-from .frames import HEADER_SIZE, pieces
+from .frames import pieces
 from .log import Log
 from .start import loaded, site_of
 from .taking import MOST_FAULTS, Held, taken
-from .undo import Edits
+from .undo import Edit, Edits
 
 AGAIN = 1.0  # seconds between two tries to write a log that could not be written
 AT_ONCE = 0.01  # seconds in which one does what is long, before one looks again whether a key has come
+LONG = 20_000  # characters, up to which a stretch is erased at once
 QUIET = 2.0  # seconds without an edit, after which a whole file may be written for others
+
+Ends = tuple[Identifier, Identifier]
+"""The first and the last character of a stretch."""
 
 
 class Desk:
@@ -42,6 +47,7 @@ class Desk:
         self.came: collections.deque[Message] = collections.deque()
         self.part: Iterator[Message] = iter(())
         self.jobs: collections.deque[Iterator[object]] = collections.deque()
+        self.leaving: list[Ends] = []  # the stretches that are being erased
         self.notice = ""
         self.caret: Identifier | None = None
         self.is_changed = self.is_whole = True
@@ -73,23 +79,40 @@ class Desk:
         for message in came:
             self.take(message)
 
-    def replace(self, start: int, stop: int, text: str, joins: bool = False) -> None:
-        """Erases a stretch and types a text where it began, as a part of the last edit where it joins that."""
+    def replace(self, start: int, stop: int, text: str, joined: Edit | None = None) -> Edit | None:
+        """Erases a stretch and types a text where it began, as a part of an edit where it joins one; answers the edit."""
         if start == stop and not text:
-            return
-        message = self.document.replace(start, stop, text)
-        self.edits.add(message, text, joins)
+            return joined
+        message = self.document.replace(start, min(stop, start + LONG), text)
+        edit = self.edits.add(message, text, joined)
         self.made(message)
+        if stop - start > LONG:
+            start, stop = start + len(text), stop - LONG + len(text)
+            ends = self.document.id_at(start), self.document.id_at(stop - 1)
+            self.leaving.append(ends)
+            self.begin_job(self.erase(ends, edit))
+        return edit
+
+    def erase(self, ends: Ends, edit: Edit) -> Iterator[None]:
+        """Erases the rest of a long stretch in pieces, the first ones first. What others send waits meanwhile, so that what
+        they have written in it stays."""
+        start, stop = self.places_of(ends)
+        while start < stop:
+            message = self.document.erase(start, min(stop, start + LONG))
+            self.edits.add(message, "", edit)
+            self.made(message)
+            yield
+            start, stop = self.places_of(ends)
+        self.leaving.remove(ends)
+
+    def places_of(self, ends: Ends) -> tuple[int, int]:
+        """From where up to where a stretch is that is being erased."""
+        first, last = ends
+        return self.document.place_of(first), carets.place_behind(self.document, last) or 0
 
     def take_back(self) -> Iterator[int | None]:
         """Takes one's last edit back that is still to be seen, in pieces; tells after each where that was."""
-        yield from self.edits.take_back(self.document, self.made, self.kept)
-
-    def kept(self) -> Iterator[bytes]:
-        """All operations of the text as messages, each short, the last ones first."""
-        yield from self.log.messages(reversed(self.log.spans(HEADER_SIZE, self.log.end())))
-        for message in reversed(self.held.messages()):
-            yield from pieces(message)
+        yield from self.edits.take_back(self.document, self.made, lambda: backwards(self.log, self.held))
 
     def change_ambiguous(self) -> Iterator[None]:
         """Characters of ambiguous width take two cells where they took one, and one where they took two: in another document,
@@ -146,7 +169,7 @@ class Desk:
         if not self.carrier:
             return is_new
         self.came += self.carrier.turn(self.caret)
-        has_come = self.take_some()
+        has_come = not self.leaving and self.take_some()
         signs = self.state(), {site: (here.name, here.caret) for site, here in self.here().items()}
         if has_come or signs != self.signs:
             self.signs, self.is_changed = signs, True

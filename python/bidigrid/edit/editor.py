@@ -12,12 +12,9 @@ from .desk import Desk
 from .disk import write_whole
 from .fault import reason
 from .keys import Key, plain
+from .undo import Edit
 
 BASES: tuple[Base, ...] = get_args(Base)
-
-Between = tuple[Identifier | None, Identifier | None]
-"""The characters before a place and behind it."""
-
 
 class Editor:
     """A desk, and where one stands in its text. `shown` are the rows on the screen, and `line` is that of the caret among
@@ -31,10 +28,10 @@ class Editor:
         self.shown: tuple[Row, ...] = ()
         self.top: Identifier | None = None  # what the first row that is shown begins behind
         self.goal: int | None = None
-        self.marked: Between | None = None
+        self.marked: carets.Between | None = None
         self.is_marking = False
         self.is_left = self.is_leaving = self.is_warned = False
-        self.is_pasting = False
+        self.pasted: Edit | None = None
         self.pressed = 0
         self.stand(self.document.position_at(0))
         self.scroll()
@@ -66,10 +63,8 @@ class Editor:
         try:
             if at := self.moved(key.name.removeprefix("shift-")):
                 self.go(at, key.name)
-            elif key.name == "text":
-                self.type(plain(key.text))
-            elif key.name == "paste":
-                self.paste(plain(key.text))
+            elif key.name in ("text", "paste"):
+                self.type(key)
             elif key.name in self.edits:
                 self.edits[key.name]()
         except (Fault, MemoryError) as fault:
@@ -129,6 +124,10 @@ class Editor:
         if not name.endswith(("up", "down")):
             self.goal = None
         self.desk.edits.close()
+        # What is being erased has no place for a caret.
+        for start, stop in map(self.desk.places_of, self.desk.leaving):
+            if start < at.place < stop:
+                at = self.document.position_at(start)
         self.stand(at)
 
     # The selected stretch
@@ -161,26 +160,22 @@ class Editor:
 
     # Edits
 
-    def replace(self, start: int, stop: int, text: str, joins: bool = False) -> None:
+    def replace(self, start: int, stop: int, text: str, joined: Edit | None = None) -> Edit | None:
         """Edits the text, and stands behind what was typed."""
-        self.desk.replace(start, stop, text, joins)
+        edit = self.desk.replace(start, stop, text, joined)
         self.end_stretch()
         self.goal = None
         self.stand(moves.behind(self.document, start + len(text)))
+        return edit
 
-    def type(self, text: str) -> None:
-        """Types, in the place of what is selected."""
-        self.replace(*self.selected(), text)
-
-    def paste(self, text: str) -> None:
-        """Types a piece of what is pasted, which is one edit."""
-        self.replace(*self.selected(), text, self.is_pasting)
-        self.is_pasting = True
+    def type(self, key: Key) -> None:
+        """Types, in the place of what is selected. The pieces of a paste are one edit."""
+        edit = self.replace(*self.selected(), plain(key.text), self.pasted)
+        self.pasted = edit if key.name == "paste" else None
 
     def end_paste(self) -> None:
         """Has seen the last piece."""
-        self.is_pasting = False
-        self.desk.edits.close()
+        self.pasted = None
 
     def backspace(self) -> None:
         """Erases what is selected, or the cluster before the caret .."""

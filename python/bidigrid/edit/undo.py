@@ -38,19 +38,21 @@ class Edits:
         self.made: list[Edit] = []
         self.renamed: dict[Identifier, Identifier] = {}
 
-    def add(self, message: bytes, typed: str, joins: bool = False) -> None:
-        """Keeps what a message says, as of the last edit where it joins that. Characters of a word that are typed one after
+    def add(self, message: bytes, typed: str, joined: Edit | None = None) -> Edit:
+        """Keeps what a message says, as a part of an edit where it joins one. Characters of a word that are typed one after
         the other are one edit."""
         first = next(operations(message))
         is_key = len(typed) == 1 and first.character is not None
         last = self.made[-1] if self.made else None
-        if last and joins:
-            last.messages.append(message)
-        elif last and last.is_open and is_key and first.parent == last_identifier(last.messages[-1]):
+        if joined:
+            joined.messages.append(message)
+            return joined
+        if last and last.is_open and is_key and first.parent == last_identifier(last.messages[-1]):
             last.messages.append(message)
             last.is_open = not typed.isspace()
         else:
             self.made.append(Edit([message], is_key))
+        return self.made[-1]
 
     def close(self) -> None:
         """Has what is typed next be an edit of its own."""

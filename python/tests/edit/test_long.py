@@ -164,3 +164,27 @@ def test_another_thread_makes_the_whole_file(editor: Editor) -> None:
     thread.start()
     thread.join()
     assert Document.load(made[0], 3).text == text
+
+
+def test_a_key_is_written_while_a_long_stretch_is_erased_and_what_others_wrote_in_it_stays(
+    editor: Editor, monkeypatch: pytest.MonkeyPatch
+) -> None:
+    monkeypatch.setattr(desks_module, "LONG", 500)
+    paste(editor, f"({LONG})")
+    editor.desk.log.flush()
+    other = Document(2)
+    other.take(editor.desk.log.read(0, editor.desk.log.size))
+    press(editor, "home", "right", "shift-ctrl-end", "shift-left", "'<'")
+    assert editor.desk.jobs
+    editor.desk.came += [Message("another", other.type(place, "X")) for place in (len(LONG) - 5, 700, 3)]
+    press(editor, "'>'", "right", "down", "'!'")
+    assert written(editor.desk)[-3:] == "<>!" and editor.desk.jobs
+    editor.turn()
+    assert "X" not in editor.document.text
+    finish(editor)
+    editor.desk.take_some()
+    assert editor.document.text == "(<>!XXX)"
+    press(editor, "ctrl-z", "ctrl-z")
+    finish(editor)
+    text = editor.document.text
+    assert text.replace("X", "").replace("!", "") == f"({LONG})" and text.count("X") == 3
