@@ -112,7 +112,7 @@ class Desk:
 
     def take_back(self) -> Iterator[int | None]:
         """Takes one's last edit back that is still to be seen, in pieces; tells after each where that was."""
-        yield from self.edits.take_back(self.document, self.made, lambda: backwards(self.log, self.held))
+        return self.edits.take_back(lambda: self.document, self.made, lambda: backwards(self.log, self.held))
 
     def change_ambiguous(self) -> Iterator[None]:
         """Characters of ambiguous width take two cells where they took one, and one where they took two: in another document,

@@ -39,7 +39,7 @@ class Editor:
             "backspace": self.backspace,
             "delete": self.delete,
             "pasted": self.end_paste,
-            "ctrl-z": lambda: self.desk.begin_job(self.take_back()),
+            "ctrl-z": lambda: self.desk.begin_job(self.take_back(self.desk.take_back(), self.pressed)),
             "ctrl-s": self.write_text,
             "ctrl-q": self.leave,
             "ctrl-a": self.select_all,
@@ -187,11 +187,11 @@ class Editor:
         start, stop = self.selected()
         self.replace(start, stop if start < stop else moves.cluster_behind(self.document, start), "")
 
-    def take_back(self) -> Iterator[object]:
+    def take_back(self, places: Iterator[int | None], pressed: int) -> Iterator[object]:
         """Takes one's last edit back, in pieces. The caret goes there, unless a key is pressed meanwhile."""
         self.end_stretch()
-        pressed, is_seen = self.pressed, False
-        for place in self.desk.take_back():
+        is_seen = False
+        for place in places:
             if place is not None:
                 is_seen = True
                 if self.pressed == pressed:

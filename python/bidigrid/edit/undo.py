@@ -13,6 +13,7 @@ from .frames import Operation, Sought, last_identifier, operations
 AT_ONCE = 1000  # characters that are taken back at once
 
 Made = Callable[[bytes], None]
+Kept = Callable[[], Iterable[bytes]]
 
 
 @dataclasses.dataclass
@@ -65,15 +66,22 @@ class Edits:
             identifier = self.renamed[identifier]
         return identifier
 
-    def take_back(self, document: Document, made: Made, kept: Callable[[], Iterable[bytes]]) -> Iterator[int | None]:
+    def take_back(self, now: Callable[[], Document], made: Made, kept: Kept) -> Iterator[int | None]:
         """Takes the last edit back that is still to be seen, in pieces, and answers after each where that was, or nothing
-        where nothing was seen. `kept` has the operations of the text, and `made` takes the new messages."""
+        where nothing was seen. `now` has the document, `kept` the operations of the text, and `made` takes new messages."""
+        return self.take_out(self.made.pop() if self.made else None, len(self.made), now, made, kept)
+
+    def take_out(
+        self, edit: Edit | None, at: int, now: Callable[[], Document], made: Made, kept: Kept
+    ) -> Iterator[int | None]:
+        """Takes an edit back, or where nothing of it is seen the one before, and so on: that which stands before `at`."""
         is_done = False
-        while self.made and not is_done:
-            edit = self.made.pop()
-            for place in itertools.chain(self.erase(document, made, edit), self.type(document, made, edit, kept)):
+        while edit and not is_done:
+            for place in itertools.chain(self.erase(now(), made, edit), self.type(now(), made, edit, kept)):
                 is_done = is_done or place is not None
                 yield place
+            at = min(at, len(self.made)) - 1
+            edit = self.made.pop(at) if at >= 0 and not is_done else None
 
     def erase(self, document: Document, made: Made, edit: Edit) -> Iterator[int | None]:
         """Erases what an edit typed."""
@@ -83,7 +91,7 @@ class Edits:
                 made(document.erase(place, stop))
             yield place
 
-    def type(self, document: Document, made: Made, edit: Edit, kept: Callable[[], Iterable[bytes]]) -> Iterator[int | None]:
+    def type(self, document: Document, made: Made, edit: Edit, kept: Kept) -> Iterator[int | None]:
         """Types again what it erased."""
         sought = Sought()
         for some in batches(it.identifier for it in operations_of(edit) if it.character is None):
