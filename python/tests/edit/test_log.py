@@ -128,6 +128,7 @@ def test_a_key_is_written_before_it_is_flushed_and_sent_after(tmp_path: Path, mo
     for place, letter in enumerate("tea"):
         desk.replace(place, place, letter)
         assert letters(log) == "tea"[: place + 1]
+        desk.turn()
     for _ in range(100):
         desk.turn()
     assert desk.log.size == 5 and not desk.is_idle() and letters(copy) == ""

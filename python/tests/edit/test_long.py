@@ -124,8 +124,8 @@ def test_a_key_is_written_while_a_long_message_is_taken(editor: Editor) -> None:
     assert 0 < len(editor.document) < len(other) and editor.desk.patience() == 0.0
     press(editor, "'x'")
     assert written(editor.desk) == "x"
-    while editor.desk.is_behind:
-        editor.desk.take_some()
+    while editor.desk.take_some():
+        continue
     assert sorted(editor.document.text) == sorted(other.text + "x")
 
 
@@ -174,7 +174,7 @@ def test_a_key_is_written_while_a_long_stretch_is_erased_and_what_others_wrote_i
     editor.desk.log.flush()
     other = Document(2)
     other.take(editor.desk.log.read(0, editor.desk.log.size))
-    press(editor, "home", "right", "shift-ctrl-end", "shift-left", "'<'")
+    press(editor, "ctrl-home", "right", "shift-ctrl-end", "shift-left", "'<'")
     assert editor.desk.jobs
     editor.desk.came += [Message("another", other.type(place, "X")) for place in (len(LONG) - 5, 700, 3)]
     press(editor, "'>'", "right", "down", "'!'")
@@ -182,7 +182,8 @@ def test_a_key_is_written_while_a_long_stretch_is_erased_and_what_others_wrote_i
     editor.turn()
     assert "X" not in editor.document.text
     finish(editor)
-    editor.desk.take_some()
+    while editor.desk.take_some():
+        continue
     assert editor.document.text == "(<>!XXX)"
     press(editor, "ctrl-z", "ctrl-z", "ctrl-z")
     finish(editor)
