@@ -25,6 +25,7 @@ from .view import view_of
 
 STATUS_FAULT = 3  # as the program's, where a file can't be read
 PIECE = 1 << 14  # bytes of keys that are read at once
+SWITCH = 0.0001  # seconds that a thread may compute on: a key calls the library often, and each call lets the threads go on
 DRAWN = 0.02  # seconds from one drawing to the next at least, while keys wait
 
 
@@ -157,6 +158,7 @@ def main(words: list[str] | None = None) -> int:
     try:
         width, height = screen.size()
         desk.document.resize(min(500, width))
+        sys.setswitchinterval(SWITCH)
         gc.freeze()  # what is there by now stays, and is not to be looked through again between two keys
         run(Editor(desk, height, f"{wanted.text}.txt"), screen, waker, is_ended)
     except EOFError:
