@@ -203,6 +203,8 @@ class RedisStream:
         try:
             if self.writer:
                 self.kept.keep(self.writer, upto, make)
+        except MemoryError:
+            return  # there is none for a second document: another desk may have it
         except AWAY as error:
             self.trouble = said(error)
             self.drop()
