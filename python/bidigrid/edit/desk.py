@@ -126,10 +126,10 @@ class Desk:
         old.close()
 
     def made(self, message: bytes) -> None:
-        """Logs an own message: it is written at once, so that it outlives the editor, and flushed before it is sent."""
+        """Logs an own message: it is kept at once, so that it outlives the editor, and flushed before it is sent."""
         self.typed_at = time.monotonic()
         self.log.append(message)
-        self.keep(self.log.write)
+        self.keep(self.log.keep)
         self.is_changed = True
 
     def take(self, message: Message) -> None:

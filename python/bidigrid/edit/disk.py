@@ -66,3 +66,10 @@ def write_whole(path: str, data: bytes) -> None:
         file.flush()
         os.fsync(file.fileno())
         os.replace(file.name, path)
+
+
+def write_at(file: int, data: bytes, at: int) -> None:
+    """Writes at a place of a file."""
+    while data:
+        written = os.pwrite(file, data, at)
+        data, at = data[written:], at + written

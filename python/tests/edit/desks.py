@@ -9,6 +9,7 @@ from bidigrid.edit.desk import Desk
 from bidigrid.edit.folder import Folder
 from bidigrid.edit.log import Log
 from bidigrid.edit.redis_stream import RedisStream
+from bidigrid.edit.staging import OVERLAP
 from servers import Server
 from waiting import until
 
@@ -46,6 +47,12 @@ def redis_of(desk: Desk) -> RedisStream:
     channel = carrier_of(desk).channel
     assert isinstance(channel, RedisStream)
     return channel
+
+
+def kept(log: Log) -> bytes:
+    """The log as it would be after a kill."""
+    held = log.read(0, log.size)
+    return held + log.staging.beyond(held[-OVERLAP:], log.size)
 
 
 def look(desk: Desk) -> None:

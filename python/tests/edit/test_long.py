@@ -13,7 +13,7 @@ from bidigrid.edit.desk import Desk
 from bidigrid.edit.editor import Editor
 from bidigrid.edit.frames import gathered, operations
 from bidigrid.edit.keys import Key
-from desks import desk_at
+from desks import desk_at, kept
 from program import text_of
 
 LONG = "tea תה شاي " * 1000
@@ -52,7 +52,7 @@ def finish(editor: Editor) -> int:
 
 def written(desk: Desk) -> str:
     """What the log types, whether or not it is erased."""
-    return "".join(it.character or "" for it in operations(Path(desk.log.path).read_bytes()))
+    return "".join(it.character or "" for it in operations(kept(desk.log)))
 
 
 def test_each_piece_of_a_paste_is_written_at_once_and_all_are_one_edit(editor: Editor) -> None:
@@ -141,7 +141,7 @@ def test_a_key_is_written_while_the_other_width_is_laid_out(editor: Editor) -> N
     finish(editor)
     assert editor.desk.wide_ambiguous and editor.document.text == before
     press(editor, "'z'")
-    names = [it.identifier for it in operations(Path(editor.desk.log.path).read_bytes())]
+    names = [it.identifier for it in operations(kept(editor.desk.log))]
     assert len(names) == len(set(names)) and len(editor.document) == len(before) + 1
     editor.desk.log.flush()
     assert sorted(text_of([Path(editor.desk.log.path)])) == sorted(LONG + "xz")
