@@ -26,7 +26,7 @@ from .view import view_of
 STATUS_FAULT = 3  # as the program's, where a file can't be read
 PIECE = 1 << 14  # bytes of keys that are read at once
 SWITCH = 0.0001  # seconds that a thread may compute on: a key calls the library often, and each call lets the threads go on
-DRAWN = 0.02  # seconds from one drawing to the next at least, while keys wait
+DRAWN = 0.02  # seconds from one drawing to the next at least, while there is more to do
 
 
 def asked(words: list[str] | None) -> argparse.Namespace:
@@ -79,7 +79,7 @@ def channel_of(wanted: argparse.Namespace) -> Channel | None:
 def run(editor: Editor, screen: Screen, waker: int, is_ended: list[int]) -> None:
     """Goes on until one leaves. What a key types is written before the next is read, and nothing that may be long is waited
     for: it is done in pieces, or by a thread."""
-    desk, keys, drawn = editor.desk, Keys(), 0.0
+    desk, keys, due = editor.desk, Keys(), 0.0
     while not editor.is_left and not is_ended:
         patience = 0.0 if desk.is_changed and not screen.outlet.rest else desk.patience()
         if keys.is_waiting():
@@ -97,12 +97,14 @@ def run(editor: Editor, screen: Screen, waker: int, is_ended: list[int]) -> None
             editor.press(key)
             if key.name == "ctrl-l":
                 screen.redraw()
-        # While keys wait, as when much is pasted, the screen is drawn now and then.
-        is_due = time.monotonic() - drawn > DRAWN or not select.select([0], [], [], 0)[0]
+        # While there is more to do, as when much is pasted, the screen is drawn now and then, for a third of the time at most.
+        begun = time.monotonic()
+        is_due = begun >= due or not (desk.patience() == 0.0 or select.select([0], [], [], 0)[0])
         if desk.is_changed and is_due and not screen.outlet.rest:
             desk.is_changed = False
             screen.draw(view_of(editor))
-            drawn = time.monotonic()
+            ended = time.monotonic()
+            due = ended + max(DRAWN, 2 * (ended - begun))
         editor.turn()
 
 

@@ -18,6 +18,8 @@ def fill(document: Document, log: Log, held: Held) -> Iterator[None]:
         messages, start = held.messages()[parts:], end
         parts, end = len(held.parts), log.end()
         for _ in taken_again(itertools.chain(messages, log.messages(log.spans(start, end))), document):
+            # What is laid out as it grows needn't be laid out whole at the end.
+            document.rows(0, 0, 0)
             if not is_last:
                 yield
 

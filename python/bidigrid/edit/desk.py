@@ -20,7 +20,7 @@ from .taking import MOST_FAULTS, Held, taken
 from .undo import Edit, Edits
 
 AGAIN = 1.0  # seconds between two tries to write a log that could not be written
-AT_ONCE = 0.01  # seconds in which one does what is long, before one looks again whether a key has come
+AT_ONCE = 0.005  # seconds in which one does what is long, before one looks again whether a key has come
 LONG = 20_000  # characters, up to which a stretch is erased at once
 QUIET = 2.0  # seconds without an edit, after which a whole file may be written for others
 

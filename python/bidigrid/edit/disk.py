@@ -6,7 +6,7 @@ import collections
 import os
 import queue
 import threading
-from collections.abc import Callable
+from collections.abc import Callable, Iterable
 
 from .bell import Bell
 
@@ -59,10 +59,10 @@ class Disk:
         self.bell.close()
 
 
-def write_whole(path: str, data: bytes) -> None:
+def write_whole(path: str, parts: Iterable[bytes]) -> None:
     """Writes a file, whole or not at all."""
     with open(f"{path}.new", "wb") as file:
-        file.write(data)
+        file.writelines(parts)
         file.flush()
         os.fsync(file.fileno())
         os.replace(file.name, path)

@@ -2,39 +2,35 @@
 
 from __future__ import annotations
 
-from collections.abc import Callable, Iterator, Sequence
+from collections.abc import Callable, Iterator
 from typing import get_args
 
-from .. import Document, Fault, Identifier, Position, Row
+from .. import Fault, Position
 from ..given import Base
 from . import carets, moves
 from .desk import Desk
 from .disk import write_whole
 from .fault import reason
+from .frames import PIECE
 from .keys import Key, plain
+from .standing import Standing
 from .undo import Edit
 
 BASES: tuple[Base, ...] = get_args(Base)
 
-class Editor:
-    """A desk, and where one stands in its text. `shown` are the rows on the screen, and `line` is that of the caret among
-    them, so that no rows of the text are counted."""
+
+class Editor(Standing):
+    """A desk, and what is done at it where one stands in its text."""
 
     def __init__(self, desk: Desk, height: int, text_path: str) -> None:
-        self.desk = desk
-        self.height = height
+        super().__init__(desk, height)
         self.text_path = text_path
-        self.line = 0
-        self.shown: tuple[Row, ...] = ()
-        self.top: Identifier | None = None  # what the first row that is shown begins behind
         self.goal: int | None = None
         self.marked: carets.Between | None = None
         self.is_marking = False
         self.is_left = self.is_leaving = self.is_warned = False
         self.pasted: Edit | None = None
         self.pressed = 0
-        self.stand(self.document.position_at(0))
-        self.scroll()
         self.edits: dict[str, Callable[[], None]] = {
             "backspace": self.backspace,
             "delete": self.delete,
@@ -46,16 +42,13 @@ class Editor:
             "mark": self.begin_stretch,
             "escape": self.end_stretch,
             "f2": self.change_base,
-            "f3": lambda: self.desk.begin_job(self.change_ambiguous()),
+            "f3": lambda: self.desk.begin_job(self.desk.change_ambiguous()),
         }
-
-    @property
-    def document(self) -> Document:
-        """The desk's document, which is another one after F3."""
-        return self.desk.document
 
     def press(self, key: Key) -> None:
         """Does what a key is for. What the core refuses is told."""
+        if not (key.name == "paste" and self.pasted):
+            self.settle()
         if not self.desk.failed_at:
             self.desk.notice = ""
         at = None
@@ -69,42 +62,11 @@ class Editor:
                 self.edits[key.name]()
         except (Fault, MemoryError) as fault:
             self.desk.notice = str(fault) or "memory"
-        self.scroll(is_same_text=at is not None)
-        self.desk.is_changed = True
-
-    # Where one stands
-
-    def stand(self, at: Position) -> None:
-        """Stands at a position, behind a character that it stays with."""
-        self.at = at
-        self.between = carets.between(self.document, at.place)
-        self.desk.caret = self.between[0]
-
-    def follow(self) -> None:
-        """Stays at one's character, and at its edge, after others have changed the text."""
-        place = carets.place_behind(self.document, self.desk.caret) or 0
-        row = self.at.row + place - self.at.place
-        there = self.document.rows(row, 0, 0)[0] if 0 <= row <= len(self.document) else None
-        if there and there.first_place == row and place in carets.places_of_gap(there, self.at.gap):
-            self.at = Position(row, self.at.gap, place)
+        if at:
+            self.scroll(self.shown)
         else:
-            self.at = self.document.position_at(place)
-        self.scroll()
-
-    def scroll(self, is_same_text: bool = False) -> None:
-        """Has the screen begin where it began, if the caret is seen there; else shows it at the edge that it went over."""
-        rows: Sequence[Row] = self.shown
-        if not is_same_text:
-            rows = self.document.rows(carets.place_behind(self.document, self.top) or 0, 0, self.height - 1)
-        line = next((line for line, row in enumerate(rows) if row.first_place == self.at.row), None)
-        if line is None:
-            above = 0 if self.at.row < rows[0].first_place else self.height - 1
-            rows = window = self.document.rows(self.at.row, above, self.height - 1 - above)
-            line = window.number
-        if rows is not self.shown:
-            self.shown = tuple(rows)
-            self.top = carets.before(self.document, rows[0].first_place)
-        self.line = line
+            self.is_stale = True
+        self.desk.is_changed = True
 
     # Moves
 
@@ -150,7 +112,7 @@ class Editor:
     def selected(self) -> tuple[int, int]:
         """From which place up to which other one; the caret's twice where nothing is selected. What others type at an end
         of the stretch is out of it."""
-        here = self.at.place
+        here = self.place()
         if self.marked is None:
             return here, here
         there = carets.place_behind(self.document, self.marked[0]) or 0
@@ -165,7 +127,7 @@ class Editor:
         edit = self.desk.replace(start, stop, text, joined)
         self.end_stretch()
         self.goal = None
-        self.stand(moves.behind(self.document, start + len(text)))
+        self.stand_behind(start + len(text))
         return edit
 
     def type(self, key: Key) -> None:
@@ -175,7 +137,7 @@ class Editor:
 
     def end_paste(self) -> None:
         """Has seen the last piece."""
-        self.pasted = None
+        self.pasted, self.is_stale = None, True
 
     def backspace(self) -> None:
         """Erases what is selected, or the cluster before the caret .."""
@@ -195,7 +157,7 @@ class Editor:
             if place is not None:
                 is_seen = True
                 if self.pressed == pressed:
-                    self.stand(moves.behind(self.document, place))
+                    self.stand_behind(place)
             yield place
         if not is_seen:
             self.desk.notice = "nothing to take back"
@@ -205,25 +167,19 @@ class Editor:
     def change_base(self) -> None:
         """The next base direction."""
         self.document.base = BASES[(BASES.index(self.document.base) + 1) % len(BASES)]
-        self.at = self.document.position_at(self.at.place)
-
-    def change_ambiguous(self) -> Iterator[object]:
-        """Characters of ambiguous width get the other width, in pieces."""
-        yield from self.desk.change_ambiguous()
-        self.at = self.document.position_at(self.at.place)
 
     def resize(self, width: int, height: int) -> None:
         """Lays out for another screen."""
         self.height = max(1, height)
         self.document.resize(max(2, min(500, width)))
-        self.at = self.document.position_at(self.at.place)
-        self.scroll()
-        self.desk.is_changed = True
+        self.is_stale = self.desk.is_changed = True
 
     def write_text(self) -> None:
         """Has the plain text written."""
-        text = self.document.text.encode()
-        self.desk.log.disk.ask(self.tell_written, lambda: write_whole(self.text_path, text))
+        text = self.document.text
+        # A long text is spelled in pieces, between which the thread lets others compute.
+        parts = (text[at : at + PIECE].encode() for at in range(0, len(text), PIECE))
+        self.desk.log.disk.ask(self.tell_written, lambda: write_whole(self.text_path, parts))
 
     def tell_written(self, error: OSError | None) -> None:
         """Tells what came of that."""
@@ -238,8 +194,7 @@ class Editor:
 
     def turn(self) -> None:
         """A turn of the desk: stays at one's character where that brings something, and leaves where one wants to."""
-        if self.desk.turn():
-            self.follow()
+        self.is_stale = self.desk.turn() or self.is_stale
         if self.is_leaving and self.desk.failed_at:
             self.is_leaving, self.is_warned = False, True
             self.desk.notice = "what you typed last is in no file: Ctrl-S writes the text, Ctrl-Q again leaves without it"

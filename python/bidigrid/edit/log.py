@@ -75,7 +75,7 @@ class Log:
         if not is_cut:
             raise EditFault(f"{self.path} is damaged behind its first {end} bytes")
         anew = spelled(operations(data[:end]))
-        write_whole(self.path, anew)
+        write_whole(self.path, [anew])
         os.close(self.file)
         self.file = os.open(self.path, os.O_RDWR | os.O_CLOEXEC)
         self.lock()

@@ -2,7 +2,7 @@
 
 from __future__ import annotations
 
-from collections.abc import Callable
+from collections.abc import Callable, Iterable
 
 from .. import Document, Position, Row
 from .carets import column_of_gap
@@ -89,10 +89,12 @@ def off_the_end(at: Position, row: Row) -> Position:
     return at
 
 
-def behind(document: Document, place: int) -> Position:
-    """A place at the edge of the character before it, where its writer looks; at the front of a row where none is seen."""
+def behind(document: Document, place: int, rows: Iterable[Row] = ()) -> Position:
+    """A place at the edge of the character before it, where its writer looks; at the front of a row where none is seen. Its
+    row may be among these."""
     if place:
-        row = document.rows(place - 1, 0, 0)[0]
+        row = next((it for it in rows if it.first_place < place <= it.last_place), None)
+        row = row or document.rows(place - 1, 0, 0)[0]
         for gap, entry in enumerate(row.entries):
             if entry.end_place == place and entry.columns:
                 return Position(row.first_place, gap + 1 - entry.level % 2, place)

@@ -10,7 +10,7 @@ from .. import Document, Identifier
 from .carets import is_seen, place_behind
 from .frames import Operation, Sought, last_identifier, operations
 
-AT_ONCE = 1000  # characters that are taken back at once
+AT_ONCE = 250  # characters that are taken back at once
 
 Made = Callable[[bytes], None]
 Kept = Callable[[], Iterable[bytes]]

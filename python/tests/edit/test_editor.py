@@ -40,7 +40,7 @@ class Pair:
     def take(self, message: bytes) -> None:
         """Takes what the other wrote."""
         self.desk.take(Message("the other", message))
-        self.editor.follow()
+        self.editor.is_stale = True
 
     def text(self) -> str:
         """The text, with the caret as |."""

@@ -178,7 +178,8 @@ def test_typing_goes_on_while_the_folder_hangs(tmp_path: Path, monkeypatch: pyte
     until(lambda: one.turn() or one.state() == "folder: no answer")
     may_go_on.set()
     have_met(one, other)
-    assert other.document.text == "tea" and one.state() == "folder"
+    until(lambda: one.turn() or one.state() == "folder")
+    assert other.document.text == "tea"
     one.close()
     other.close()
 

@@ -60,7 +60,7 @@ def test_each_piece_of_a_paste_is_written_at_once_and_all_are_one_edit(editor: E
     editor.press(Key("paste", "one\n"))
     assert written(editor.desk) == "beforeone\n"
     editor.desk.take(Message("another", Document(2).type(0, "X")))
-    editor.follow()
+    editor.is_stale = True
     editor.press(Key("paste", "two"))
     press(editor, "pasted", "'!'", "ctrl-z", "ctrl-z")
     finish(editor)

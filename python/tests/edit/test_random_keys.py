@@ -71,7 +71,7 @@ def test_random_keys_at_three_desks(tmp_path: Path, seed: int) -> None:
             deliver(chance, source, target, whole=False)
         if chance.random() < 0.1:
             look(editor.desk)
-            editor.follow()
+            editor.is_stale = True
     for _ in range(2):
         for desk in desks:
             look(desk)

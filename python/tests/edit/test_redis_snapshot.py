@@ -67,8 +67,9 @@ def test_a_desk_that_was_away_longer_than_the_stream_holds(tmp_path: Path, serve
     have_met(one, other)
     # The other one sleeps; its connections do, or are closed meanwhile.
     if is_cut:
+        theirs = addresses(other)
         for client in store.client_list():
-            if client["id"] != store.client_id() and client["addr"] in addresses(other):
+            if client["id"] != store.client_id() and client["addr"] in theirs:
                 store.client_kill_filter(_id=client["id"])
     write(one, "ms and ")
     keep(one, store)
