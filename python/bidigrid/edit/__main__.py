@@ -97,25 +97,28 @@ def run(editor: Editor, screen: Screen, waker: int, is_ended: list[int]) -> None
             editor.press(key)
             if key.name == "ctrl-l":
                 screen.redraw()
-        # While there is more to do, as when much is pasted, the screen is drawn now and then, for a third of the time at most.
+        # While there is more to do, as when much is pasted, the screen is drawn now and then, for a fifth of the time at most.
         begun = time.monotonic()
         is_due = begun >= due or not (desk.patience() == 0.0 or select.select([0], [], [], 0)[0])
         if desk.is_changed and is_due and not screen.outlet.rest:
             desk.is_changed = False
             screen.draw(view_of(editor))
             ended = time.monotonic()
-            due = ended + max(DRAWN, 2 * (ended - begun))
+            due = ended + max(DRAWN, 4 * (ended - begun))
         editor.turn()
 
 
 def read_keys() -> bytes:
-    """What has come of keys; a terminal that is gone ends it all."""
-    try:
-        data = os.read(0, PIECE)
-    except OSError:
-        data = b""
-    if not data:
-        raise EOFError
+    """What has come of keys, of which the terminal gives a little at a time; one that is gone ends it all."""
+    data = b""
+    while len(data) < PIECE and select.select([0], [], [], 0)[0]:
+        try:
+            part = os.read(0, PIECE)
+        except OSError:
+            part = b""
+        if not part:
+            raise EOFError
+        data += part
     return data
 
 

@@ -47,19 +47,17 @@ class Editor(Standing):
 
     def press(self, key: Key) -> None:
         """Does what a key is for. What the core refuses is told."""
-        if not (key.name == "paste" and self.pasted):
-            self.settle()
         if not self.desk.failed_at:
             self.desk.notice = ""
         at = None
         self.pressed += 1
         try:
-            if at := self.moved(key.name.removeprefix("shift-")):
-                self.go(at, key.name)
-            elif key.name in ("text", "paste"):
+            if key.name in ("text", "paste"):
                 self.type(key)
             elif key.name in self.edits:
                 self.edits[key.name]()
+            elif at := self.moved(key.name.removeprefix("shift-")):
+                self.go(at, key.name)
         except (Fault, MemoryError) as fault:
             self.desk.notice = str(fault) or "memory"
         if at:
@@ -137,7 +135,7 @@ class Editor(Standing):
 
     def end_paste(self) -> None:
         """Has seen the last piece."""
-        self.pasted, self.is_stale = None, True
+        self.pasted = None
 
     def backspace(self) -> None:
         """Erases what is selected, or the cluster before the caret .."""

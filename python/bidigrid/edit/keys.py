@@ -25,6 +25,7 @@ BY_RXVT_LETTER = {"a": "ctrl-up", "b": "ctrl-down", "c": "ctrl-right", "d": "ctr
 MODIFIERS = ("shift-", "alt-", "ctrl-")
 CONTROLS = {0: "mark", 8: "backspace", 127: "backspace"}
 NO_TEXT = re.compile(rb"[\x00-\x08\x0b\x0c\x0e-\x1f\x7f]")
+CONTROL = re.compile("[\x00-\x08\x0b-\x1f\x7f-\x9f]")
 
 
 class Key(NamedTuple):
@@ -130,4 +131,4 @@ def named(match: re.Match[bytes]) -> str | None:
 
 def plain(text: str) -> str:
     """A text without control characters but line feeds and tabs."""
-    return "".join(it for it in text if it in "\n\t" or it >= " " and not "\x7f" <= it <= "\x9f")
+    return CONTROL.sub("", text)

@@ -35,8 +35,8 @@ class Standing:
         return self.found
 
     def place(self) -> int:
-        """The place where one types on."""
-        return carets.place_behind(self.document, self.desk.caret) or 0 if self.is_typed else self.at.place
+        """The place where one types, which needs no layout."""
+        return carets.place_behind(self.document, self.desk.caret) or 0
 
     def stand(self, at: Position) -> None:
         """Stands at a position, behind a character that it stays with."""
@@ -53,19 +53,13 @@ class Standing:
         self.between = carets.between(self.document, place)
         self.desk.caret = self.between[0]
 
-    def settle(self, is_typing: bool = False) -> None:
+    def settle(self) -> None:
         """Finds the caret, at its character and at its edge, and has it on the screen, after the text has changed."""
         if not self.is_stale:
             return
-        self.is_stale = False
-        rows, place = self.rows(), carets.place_behind(self.document, self.desk.caret) or 0
-        if self.is_typed:
-            self.found = moves.behind(self.document, place, rows)
-            # What is typed on stands behind what was typed, and not at the front of a cluster with what follows.
-            if not is_typing:
-                self.stand(self.found)
-        else:
-            self.found = self.followed(place, rows)
+        rows, place = self.rows(), self.place()
+        self.found = moves.behind(self.document, place, rows) if self.is_typed else self.followed(place, rows)
+        self.is_stale = self.is_typed = False
         self.scroll(rows)
 
     def followed(self, place: int, rows: Sequence[Row]) -> Position:

@@ -25,7 +25,7 @@ class View(NamedTuple):
 
 def view_of(editor: Editor) -> View:
     """What is to be seen now."""
-    editor.settle(is_typing=editor.pasted is not None)
+    editor.settle()
     rows = editor.shown
     column = carets.column_of_gap(rows[editor.line], editor.at.gap)
     seen = tuple(others(editor, rows))
