@@ -164,7 +164,9 @@ def main(words: list[str] | None = None) -> int:
         width, height = screen.size()
         desk.document.resize(min(500, width))
         sys.setswitchinterval(SWITCH)
-        gc.freeze()  # what is there by now stays, and is not to be looked through again between two keys
+        # What lives long isn't looked through between two keys.
+        gc.freeze()
+        gc.set_threshold(700, 10, 1 << 30)
         run(Editor(desk, height, f"{wanted.text}.txt"), screen, waker, is_ended)
     except EOFError:
         pass

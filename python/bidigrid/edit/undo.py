@@ -85,27 +85,33 @@ class Edits:
 
     def erase(self, document: Document, made: Made, edit: Edit) -> Iterator[int | None]:
         """Erases what an edit typed."""
-        for some in batches(it.identifier for it in operations_of(edit) if it.character is not None):
+        for some in batches(edit):
             place = None
-            for place, stop in stretches(document, map(self.now, some)):
+            typed = (self.now(it.identifier) for it in some if it.character is not None)
+            for place, stop in stretches(document, typed):
                 made(document.erase(place, stop))
             yield place
 
     def type(self, document: Document, made: Made, edit: Edit, kept: Kept) -> Iterator[int | None]:
         """Types again what it erased."""
         sought = Sought()
-        for some in batches(it.identifier for it in operations_of(edit) if it.character is None):
+        for some in erasures(edit):
             sought.want(some)
             yield None
+        if not sought.count:
+            return
         sought.begin()
-        for message in kept() if sought.count else ():
+        for message in kept():
             if sought.look(message):
                 break
             yield None
-        erased = batches(it.identifier for it in operations_of(edit) if it.character is None)
-        batch, last = next(erased, None), None
-        while batch:
-            following = next(erased, None)
+        batch: list[Identifier] = []
+        last = None
+        for following in itertools.chain(erasures(edit), [None]):
+            if not batch or following == []:
+                batch = following or batch
+                yield None
+                continue
             gone = returns(document, batch)
             # Where a stretch goes on in the next batch, so does what is typed.
             goes_on = following and document.place_of(following[0]) == document.place_of(batch[-1])
@@ -117,18 +123,20 @@ class Edits:
                 made(message)
             last = self.renamed[batch[-1]] if goes_on else None
             yield place_behind(document, self.renamed[batch[-1]])
-            batch = following
+            batch = following or []
 
 
-def operations_of(edit: Edit) -> Iterator[Operation]:
-    """The operations of an edit, in the order of the text."""
-    return itertools.chain.from_iterable(map(operations, edit.messages))
-
-
-def batches(identifiers: Iterator[Identifier]) -> Iterator[list[Identifier]]:
-    """Some of them at once."""
-    while some := list(itertools.islice(identifiers, AT_ONCE)):
+def batches(edit: Edit) -> Iterator[list[Operation]]:
+    """The operations of an edit, in the order of the text, some at once."""
+    all_of_it = itertools.chain.from_iterable(map(operations, edit.messages))
+    while some := list(itertools.islice(all_of_it, AT_ONCE)):
         yield some
+
+
+def erasures(edit: Edit) -> Iterator[list[Identifier]]:
+    """What an edit erases, some at once, or none."""
+    for some in batches(edit):
+        yield [it.identifier for it in some if it.character is None]
 
 
 def stretches(document: Document, typed: Iterable[Identifier]) -> list[tuple[int, int]]:
