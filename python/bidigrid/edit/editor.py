@@ -130,12 +130,15 @@ class Editor(Standing):
 
     def type(self, key: Key) -> None:
         """Types, in the place of what is selected. The pieces of a paste are one edit."""
+        if key.name == "paste" and not self.pasted:
+            self.desk.edits.close()
         edit = self.replace(*self.selected(), plain(key.text), self.pasted)
         self.pasted = edit if key.name == "paste" else None
 
     def end_paste(self) -> None:
         """Has seen the last piece."""
         self.pasted = None
+        self.desk.edits.close()
 
     def backspace(self) -> None:
         """Erases what is selected, or the cluster before the caret .."""

@@ -5,14 +5,16 @@ from collections.abc import Iterator
 from pathlib import Path
 
 import pytest
-from bidigrid import Document
+from bidigrid import Document, Window
 from bidigrid.edit import desk as desks_module
+from bidigrid.edit import undo
 from bidigrid.edit.anew import whole_file
 from bidigrid.edit.channel import Message
 from bidigrid.edit.desk import Desk
 from bidigrid.edit.editor import Editor
 from bidigrid.edit.frames import gathered, operations
 from bidigrid.edit.keys import Key
+from bidigrid.edit.view import view_of
 from desks import desk_at, kept
 from program import text_of
 
@@ -67,6 +69,21 @@ def test_each_piece_of_a_paste_is_written_at_once_and_all_are_one_edit(editor: E
     assert sorted(editor.document.text) == sorted("beforeX")
 
 
+def test_nothing_is_laid_out_before_what_is_typed_is_kept(editor: Editor, monkeypatch: pytest.MonkeyPatch) -> None:
+    rows, then = Document.rows, []
+
+    def watched(document: Document, *words: int) -> Window:
+        then.append(written(editor.desk))
+        return rows(document, *words)
+
+    monkeypatch.setattr(Document, "rows", watched)
+    press(editor, "'tea'")
+    paste(editor, "milk", 1)
+    press(editor, "'s'", "ctrl-z", "'!'")
+    assert not then
+    assert str(view_of(editor).rows[0]).rstrip() == "teamilk!" and set(then) == {"teamilks!"}
+
+
 def test_a_paste_replaces_what_is_selected(editor: Editor) -> None:
     press(editor, "'tea milk'", "home", "shift-ctrl-right")
     paste(editor, "hot", 1)
@@ -93,7 +110,8 @@ def test_a_key_is_written_while_what_was_erased_is_typed_again(editor: Editor) -
     assert sorted(text) == sorted(LONG * 2)
     press(editor, "ctrl-a", "backspace", "ctrl-z", "ctrl-home", "'x'")
     assert written(editor.desk)[-1] == "x" and editor.desk.jobs
-    finish(editor)
+    # Its operations are gone through three times.
+    assert finish(editor) >= 3 * len(text) // undo.AT_ONCE
     assert editor.document.text == "x" + text
     press(editor, "ctrl-z")
     finish(editor)
