@@ -148,15 +148,15 @@ def test_keys_are_looked_for_while_much_comes(tmp_path: Path, monkeypatch: pytes
     take = desk.take
 
     def take_long(message: Message) -> None:
-        time.sleep(AT_ONCE / 2)
+        time.sleep(AT_ONCE)
         take(message)
 
     monkeypatch.setattr(desk, "take", take_long)
     turns = 0
     while desk.turn():
         turns += 1
-        assert len(desk.document) in range(2 * turns + 1) and desk.patience() == 0.0
-    assert desk.document.text == "x" * 20 and desk.patience() != 0.0
+        assert len(desk.document) == turns and desk.patience() == 0.0
+    assert turns == 20 and desk.document.text == "x" * 20 and desk.patience() != 0.0
     desk.close()
 
 
