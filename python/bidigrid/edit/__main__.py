@@ -10,19 +10,23 @@ import os
 import select
 import signal
 import sys
+import time
 
 from .channel import Channel
-from .desk import MAX_SITE, Desk
+from .desk import Desk
 from .editor import Editor
 from .fault import EditFault
 from .folder import Folder
 from .keys import WAIT, Keys
 from .log import Log
 from .screen import Screen
+from .start import MAX_SITE
 from .view import view_of
 
 STATUS_FAULT = 3  # as the program's, where a file can't be read
-PIECE = 1 << 16  # bytes of keys that are read at once
+PIECE = 1 << 14  # bytes of keys that are read at once
+SWITCH = 0.0001  # seconds that a thread may compute on: a key calls the library often, and each call lets the threads go on
+DRAWN = 0.02  # seconds from one drawing to the next at least, while there is more to do
 
 
 def asked(words: list[str] | None) -> argparse.Namespace:
@@ -73,37 +77,48 @@ def channel_of(wanted: argparse.Namespace) -> Channel | None:
 
 
 def run(editor: Editor, screen: Screen, waker: int, is_ended: list[int]) -> None:
-    """Goes on until one leaves. What a key types is written before the next is read, and no flush is waited for."""
-    desk, keys = editor.desk, Keys()
+    """Goes on until one leaves. What a key types is kept before the next is read, and nothing that may be long is waited
+    for: it is done in pieces, or by a thread."""
+    desk, keys, due = editor.desk, Keys(), 0.0
     while not editor.is_left and not is_ended:
-        if desk.is_changed:
-            desk.is_changed = False
-            screen.draw(view_of(editor))
-        patience = desk.patience()
+        patience = 0.0 if desk.is_changed and not screen.outlet.rest else desk.patience()
         if keys.is_waiting():
             patience = WAIT if patience is None else min(WAIT, patience)
-        ready, _, _ = select.select([0, waker, *desk.readers()], [], [], patience)
+        writers = [screen.outlet] if screen.outlet.rest else []
+        ready, writable, _ = select.select([0, waker, *desk.readers()], writers, [], patience)
+        if writable:
+            screen.outlet.flush()
         if waker in ready:
             os.read(waker, PIECE)
             screen.resize()
             editor.resize(*screen.size())
-        typed = keys.feed(read_keys()) if 0 in ready else [] if ready else keys.give_up()
+        typed = keys.feed(read_keys()) if 0 in ready else [] if ready or writable else keys.give_up()
         for key in typed:
             editor.press(key)
             if key.name == "ctrl-l":
                 screen.redraw()
-        if desk.turn():
-            editor.follow()
+        # While there is more to do, as when much is pasted, the screen is drawn now and then, for a fifth of the time at most.
+        begun = time.monotonic()
+        is_due = begun >= due or not (desk.patience() == 0.0 or select.select([0], [], [], 0)[0])
+        if desk.is_changed and is_due and not screen.outlet.rest:
+            desk.is_changed = False
+            screen.draw(view_of(editor))
+            ended = time.monotonic()
+            due = ended + max(DRAWN, 4 * (ended - begun))
+        editor.turn()
 
 
 def read_keys() -> bytes:
-    """What has come of keys; a terminal that is gone ends it all."""
-    try:
-        data = os.read(0, PIECE)
-    except OSError:
-        data = b""
-    if not data:
-        raise EOFError
+    """What has come of keys, of which the terminal gives a little at a time; one that is gone ends it all."""
+    data = b""
+    while len(data) < PIECE and select.select([0], [], [], 0)[0]:
+        try:
+            part = os.read(0, PIECE)
+        except OSError:
+            part = b""
+        if not part:
+            raise EOFError
+        data += part
     return data
 
 
@@ -148,7 +163,10 @@ def main(words: list[str] | None = None) -> int:
     try:
         width, height = screen.size()
         desk.document.resize(min(500, width))
-        gc.freeze()  # what is there by now stays, and is not to be looked through again between two keys
+        sys.setswitchinterval(SWITCH)
+        # What lives long isn't looked through between two keys.
+        gc.freeze()
+        gc.set_threshold(700, 10, 1 << 30)
         run(Editor(desk, height, f"{wanted.text}.txt"), screen, waker, is_ended)
     except EOFError:
         pass

@@ -6,6 +6,9 @@ from collections.abc import Sequence
 
 from .. import Document, Fault, Identifier, Row
 
+Between = tuple[Identifier | None, Identifier | None]
+"""The characters before a place and behind it."""
+
 
 def is_seen(document: Document, identifier: Identifier, place: int) -> bool:
     """Whether the character stands at this place, where it was erased none does."""
@@ -37,7 +40,7 @@ def column_of_gap(row: Row, gap: int) -> int:
     return row.column
 
 
-def between(document: Document, place: int) -> tuple[Identifier | None, Identifier | None]:
+def between(document: Document, place: int) -> Between:
     """The characters before a place and behind it; none at an end of the text."""
     return before(document, place), document.id_at(place) if place < len(document) else None
 

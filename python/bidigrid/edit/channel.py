@@ -2,8 +2,8 @@
 
 from __future__ import annotations
 
-import dataclasses
 import time
+from collections.abc import Callable
 from typing import NamedTuple, Protocol
 
 from .. import Identifier
@@ -21,8 +21,7 @@ class Message(NamedTuple):
     data: bytes
 
 
-@dataclasses.dataclass
-class Here:
+class Here(NamedTuple):
     """A desk that is here: its name, the character that its caret stands behind, and when it last gave a sign."""
 
     site: int
@@ -36,7 +35,7 @@ class Here:
 
 
 class Channel(Protocol):
-    """The way between desks. Nothing here waits but `open`."""
+    """The way between desks. All but `draw_site` and `open`, which come first, is called by one thread, and may wait."""
 
     here: dict[int, Here]
 
@@ -52,8 +51,11 @@ class Channel(Protocol):
     def state(self) -> str:
         """The connection in a few words."""
 
-    def is_sent(self, log: Log) -> bool:
-        """Whether all that is flushed went out."""
+    def sent_size(self) -> int:
+        """How many bytes of the log went out."""
+
+    def reaches(self) -> bytes:
+        """How far one has all who has what `open` and `turn` have answered so far."""
 
     def readers(self) -> list[int]:
         """What select may wait for."""
@@ -61,11 +63,11 @@ class Channel(Protocol):
     def patience(self) -> float:
         """How many seconds the next turn may be waited for at most."""
 
-    def snapshot(self, save: bytes) -> None:
-        """Keeps a whole file for those who come later, where `wants_snapshot` says so."""
-
     def wants_snapshot(self, operations: int) -> bool:
         """Whether a whole file of so many operations is wanted now."""
+
+    def snapshot(self, make: Callable[[], bytes], upto: bytes) -> None:
+        """Makes a whole file and keeps it for those who come later; it has all up to there."""
 
     def close(self) -> None:
         """Says that this desk is gone."""

@@ -5,9 +5,10 @@ from __future__ import annotations
 import collections
 import os
 import queue
-import select
 import threading
-from collections.abc import Callable
+from collections.abc import Callable, Iterable
+
+from .bell import Bell
 
 Task = Callable[[], object]
 Answer = Callable[[OSError | None], None]
@@ -21,7 +22,7 @@ class Disk:
         self.tasks: queue.SimpleQueue[Task | None] = queue.SimpleQueue()
         self.done: queue.SimpleQueue[OSError | None] = queue.SimpleQueue()
         self.waiting: collections.deque[Answer] = collections.deque()
-        self.ready, self.tell = os.pipe2(os.O_CLOEXEC)
+        self.bell = Bell()
         self.thread = threading.Thread(target=self.serve, daemon=True)
         self.thread.start()
 
@@ -34,7 +35,7 @@ class Disk:
             except OSError as caught:
                 error = caught
             self.done.put(error)
-            os.write(self.tell, b".")
+            self.bell.ring()
 
     def ask(self, answer: Answer, task: Task) -> None:
         """Has a task done. Its answer comes later."""
@@ -43,26 +44,32 @@ class Disk:
 
     def read(self, is_waited_for: bool = False) -> None:
         """Gives the answers that are there to those who asked, or waits for all."""
-        while self.waiting and (is_waited_for or select.select([self.ready], [], [], 0)[0]):
-            os.read(self.ready, 1)
+        self.bell.hush()
+        while self.waiting and (is_waited_for or not self.done.empty()):
             self.waiting.popleft()(self.done.get())
 
     def fileno(self) -> int:
         """What select waits for."""
-        return self.ready
+        return self.bell.fileno()
 
     def close(self) -> None:
         """Ends the thread, after what was asked for."""
         self.tasks.put(None)
         self.thread.join()
-        os.close(self.ready)
-        os.close(self.tell)
+        self.bell.close()
 
 
-def write_whole(path: str, data: bytes) -> None:
+def write_whole(path: str, parts: Iterable[bytes]) -> None:
     """Writes a file, whole or not at all."""
     with open(f"{path}.new", "wb") as file:
-        file.write(data)
+        file.writelines(parts)
         file.flush()
         os.fsync(file.fileno())
         os.replace(file.name, path)
+
+
+def write_at(file: int, data: bytes, at: int) -> None:
+    """Writes at a place of a file."""
+    while data:
+        written = os.pwrite(file, data, at)
+        data, at = data[written:], at + written

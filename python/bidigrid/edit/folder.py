@@ -8,6 +8,7 @@ import os
 import random
 import re
 import time
+from collections.abc import Callable
 
 from .. import Identifier
 from .channel import Here, Message, plain_name
@@ -96,7 +97,7 @@ class Folder:
             if is_due:
                 self.looked, self.trouble = now, ""
                 found = self.read_others()
-            if not self.is_sent(log) and (is_due or not self.trouble):
+            if self.sent < log.size and (is_due or not self.trouble):
                 self.append(log)
             if is_due:
                 self.give_sign(caret, now)
@@ -159,7 +160,7 @@ class Folder:
         for name in self.others:
             site = int(name.split(".")[-2])
             try:
-                with open(self.sign_of(site), encoding="utf-8", errors="replace") as file:
+                with open(self.sign_of(site), encoding="utf-8", errors="replace", opener=opened) as file:
                     self.note(site, file.read(1000), now)
             except OSError:
                 self.here.pop(site, None)
@@ -188,9 +189,13 @@ class Folder:
         """The connection in a few words."""
         return f"folder: {self.trouble}" if self.trouble else "folder"
 
-    def is_sent(self, log: Log) -> bool:
-        """Whether all that is flushed went out."""
-        return self.sent >= log.size
+    def sent_size(self) -> int:
+        """How many bytes of the log went out."""
+        return self.sent
+
+    def reaches(self) -> bytes:
+        """Nothing that has a name."""
+        return b""
 
     def readers(self) -> list[int]:
         """Nothing: a folder is looked into again and again, since a synchronised one gives no sign."""
@@ -204,7 +209,7 @@ class Folder:
         """Never: the files are all there."""
         return False
 
-    def snapshot(self, save: bytes) -> None:
+    def snapshot(self, make: Callable[[], bytes], upto: bytes) -> None:
         """Nothing is kept."""
 
     def close(self) -> None:
@@ -213,3 +218,8 @@ class Folder:
             os.unlink(self.sign_of(self.site))
         except OSError:
             return
+
+
+def opened(path: str, flags: int) -> int:
+    """Opens a file, also one that is a pipe nobody writes to."""
+    return os.open(path, flags | os.O_NONBLOCK)

@@ -13,6 +13,7 @@ HEADER_SIZE = 5
 HEADER = b"BGOP\x01"
 HEADER_2 = b"BGOP\x02"
 MOST = 1024  # insertions of a run
+PIECE = 1 << 16  # bytes of a message that are dealt with at once
 
 INSERTION = struct.Struct(">HBIHIHI")
 ERASURE = struct.Struct(">HBIH")
@@ -35,10 +36,11 @@ def is_frame(length: int, kind: int, version: int) -> bool:
     return LENGTHS.get(kind) == length
 
 
-def whole_end(data: bytes, at: int, version: int) -> tuple[int, bool]:
-    """Where the last whole frame ends that begins at a place or behind, and whether what follows may become one."""
-    size = len(data)
-    while at + 3 <= size:
+def whole_end(data: bytes, at: int, version: int, most: int = 1 << 62) -> tuple[int, bool]:
+    """Where the last whole frame ends that begins at a place or behind, in so many bytes, and whether what follows may
+    become one."""
+    size, limit = len(data), at + most
+    while at + 3 <= size and at < limit:
         length = data[at] << 8 | data[at + 1]
         if not is_frame(length, data[at + 2], version):
             return at, False
@@ -46,6 +48,18 @@ def whole_end(data: bytes, at: int, version: int) -> tuple[int, bool]:
             break
         at += 2 + length
     return at, True
+
+
+def pieces(message: bytes, size: int = PIECE) -> Iterator[bytes]:
+    """A message as messages of about so many bytes. What can't be parted stays with the last."""
+    header, at = message[:HEADER_SIZE], HEADER_SIZE
+    is_parted = len(message) > size and header in (HEADER, HEADER_2)
+    while is_parted and at < len(message):
+        end, _ = whole_end(message, at, header[-1], size)
+        yield header + message[at : end if end > at else len(message)]
+        at = end if end > at else len(message)
+    if not is_parted:
+        yield message
 
 
 def operations(message: bytes) -> Iterator[Operation]:
@@ -129,31 +143,49 @@ def run_end(frames: bytes, at: int) -> int:
     return end
 
 
-def characters_of(file: bytes, wanted: list[Identifier]) -> dict[Identifier, str]:
-    """The characters that a sound file inserts under some identifiers."""
-    counters: dict[int, list[int]] = {}
-    for counter, site in sorted(wanted):
-        counters.setdefault(site, []).append(counter)
-    found = {}
-    at = HEADER_SIZE
-    while at < len(file):
-        end = at + 2 + (file[at] << 8 | file[at + 1])
-        first, site = struct.unpack_from(">IH", file, at + 3)
-        if file[at + 2] != 2 and site in counters:
-            named, behind = counters[site], first + (end - at - 15) // 4
-            for counter in named[bisect_left(named, first) : bisect_left(named, behind)]:
-                (scalar,) = struct.unpack_from(">I", file, at + 15 + 4 * (counter - first))
-                found[Identifier(counter, site)] = chr(scalar)
-        at = end
-    return found
+class Sought:
+    """The characters of some identifiers, looked for in one message after the other."""
+
+    def __init__(self) -> None:
+        self.counters: dict[int, list[int]] = {}
+        self.found: dict[Identifier, str] = {}
+        self.count = 0
+
+    def want(self, identifiers: list[Identifier]) -> None:
+        """Looks for these too."""
+        self.count += len(identifiers)
+        for counter, site in identifiers:
+            self.counters.setdefault(site, []).append(counter)
+
+    def begin(self) -> None:
+        """Is told that there are no more."""
+        for counters in self.counters.values():
+            counters.sort()
+
+    def look(self, message: bytes) -> bool:
+        """Looks in a sound message; answers whether all are found."""
+        at = HEADER_SIZE
+        while at < len(message):
+            end = at + 2 + (message[at] << 8 | message[at + 1])
+            first, site = struct.unpack_from(">IH", message, at + 3)
+            if message[at + 2] != 2 and site in self.counters:
+                named, behind = self.counters[site], first + (end - at - 15) // 4
+                for counter in named[bisect_left(named, first) : bisect_left(named, behind)]:
+                    (scalar,) = struct.unpack_from(">I", message, at + 15 + 4 * (counter - first))
+                    self.found[Identifier(counter, site)] = chr(scalar)
+            at = end
+        return len(self.found) == self.count
 
 
-def sites(data: bytes) -> set[int]:
-    """The sites of the insertions of a whole file."""
+def survey(log: bytes) -> tuple[set[int], list[int]]:
+    """The sites of the insertions of a whole file of version 1, and where its pieces begin."""
     found = set()
+    marks = [HEADER_SIZE]
     at = HEADER_SIZE
-    while at < len(data):
-        if data[at + 2] != 2:
-            found.add(data[at + 7] << 8 | data[at + 8])
-        at += 2 + (data[at] << 8 | data[at + 1])
-    return found
+    while at < len(log):
+        if log[at + 2] != 2:
+            found.add(log[at + 7] << 8 | log[at + 8])
+        if at - marks[-1] >= PIECE:
+            marks.append(at)
+        at += 2 + log[at + 1]
+    return found, marks

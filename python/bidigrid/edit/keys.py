@@ -3,6 +3,7 @@
 from __future__ import annotations
 
 import codecs
+import io
 import re
 import time
 from typing import NamedTuple
@@ -22,11 +23,13 @@ BY_NUMBER = {
 }  # fmt: skip
 BY_RXVT_LETTER = {"a": "ctrl-up", "b": "ctrl-down", "c": "ctrl-right", "d": "ctrl-left"}
 MODIFIERS = ("shift-", "alt-", "ctrl-")
-CONTROLS = {0: "mark", 8: "backspace", 9: "tab", 10: "enter", 13: "enter", 127: "backspace"}
+CONTROLS = {0: "mark", 8: "backspace", 127: "backspace"}
+NO_TEXT = re.compile(rb"[\x00-\x08\x0b\x0c\x0e-\x1f\x7f]")
+CONTROL = re.compile("[\x00-\x08\x0b-\x1f\x7f-\x9f]")
 
 
 class Key(NamedTuple):
-    """A key by its name; of "text" and "paste" with the characters."""
+    """A key by its name; of "text" and "paste" with the characters. A paste comes in pieces, and "pasted" ends it."""
 
     name: str
     text: str = ""
@@ -38,8 +41,10 @@ class Keys:
     def __init__(self) -> None:
         self.rest = b""
         self.fed = 0.0
-        self.pasted: bytearray | None = None
+        self.is_pasting = False
         self.decoder = codecs.getincrementaldecoder("utf-8")(errors="replace")
+        # Line ends of what is pasted are line feeds.
+        self.pasted = io.IncrementalNewlineDecoder(codecs.getincrementaldecoder("utf-8")(errors="replace"), translate=True)
 
     def feed(self, data: bytes) -> list[Key]:
         """The keys that these bytes finish."""
@@ -47,13 +52,13 @@ class Keys:
         self.fed = time.monotonic()
         found: list[Key] = []
         while self.rest:
-            if self.pasted is not None:
-                if not self.end_paste(found):
+            if self.is_pasting:
+                if not self.paste(found):
                     break
             elif self.rest.startswith(b"\x1b"):
                 if not self.escape(found):
                     break
-            elif self.rest[0] < 32 or self.rest[0] == 127:
+            elif NO_TEXT.match(self.rest):
                 code, self.rest = self.rest[0], self.rest[1:]
                 found.append(Key(CONTROLS.get(code) or f"ctrl-{chr(code | 96)}"))
             else:
@@ -61,12 +66,12 @@ class Keys:
         return found
 
     def type(self, found: list[Key]) -> None:
-        """Characters up to the next key that is none, as one text."""
-        end = re.search(rb"[\x00-\x1f\x7f]", self.rest)
+        """Characters up to the next key that is none, as one text. Enter types a line feed."""
+        end = NO_TEXT.search(self.rest)
         plain = self.rest[: end.start()] if end else self.rest
         self.rest = self.rest[len(plain) :]
         if text := self.decoder.decode(plain):
-            found.append(Key("text", text))
+            found.append(Key("text", text.replace("\r", "\n")))
 
     def escape(self, found: list[Key]) -> bool:
         """A sequence, if it is all there."""
@@ -74,7 +79,7 @@ class Keys:
         if match:
             self.rest = self.rest[match.end() :]
             if match[0] == PASTE_BEGINS:
-                self.pasted = bytearray()
+                self.is_pasting = True
             elif name := named(match):
                 found.append(Key(name))
             return True
@@ -84,25 +89,24 @@ class Keys:
         self.rest = self.rest[1:]
         return True
 
-    def end_paste(self, found: list[Key]) -> bool:
-        """What is pasted, if its end is there. Line ends are line feeds then."""
-        assert self.pasted is not None
-        # The end may come in pieces, so as much as that is looked at again.
-        before = len(self.pasted)
-        self.pasted += self.rest
-        self.rest = b""
-        at = self.pasted.find(PASTE_ENDS, max(0, before - len(PASTE_ENDS)))
-        if at < 0:
-            return False
-        text = self.pasted[:at].decode(errors="replace")
-        self.rest = bytes(self.pasted[at + len(PASTE_ENDS) :])
-        self.pasted = None
-        found.append(Key("paste", text.replace("\r\n", "\n").replace("\r", "\n")))
-        return True
+    def paste(self, found: list[Key]) -> bool:
+        """A piece of what is pasted; answers whether it is the last."""
+        piece, end, rest = self.rest.partition(PASTE_ENDS)
+        if not end:
+            # The end may come in pieces.
+            held = next(size for size in range(len(PASTE_ENDS) - 1, -1, -1) if piece.endswith(PASTE_ENDS[:size]))
+            piece, rest = piece[: len(piece) - held], piece[len(piece) - held :]
+        self.rest = rest
+        if text := self.pasted.decode(piece, final=bool(end)):
+            found.append(Key("paste", text))
+        if end:
+            found.append(Key("pasted"))
+            self.is_pasting = False
+        return bool(end)
 
     def is_waiting(self) -> bool:
         """Whether an escape may still become a sequence."""
-        return self.pasted is None and bool(self.rest)
+        return not self.is_pasting and bool(self.rest)
 
     def give_up(self, after: float = WAIT) -> list[Key]:
         """The keys of what has come, where nothing has followed for a while."""
@@ -123,3 +127,8 @@ def named(match: re.Match[bytes]) -> str | None:
         return None
     held = given[1] - 1 if len(given) > 1 else {"^": 4, "$": 1}.get(letter, 0)
     return "".join(word for bit, word in enumerate(MODIFIERS) if held >> bit & 1) + name
+
+
+def plain(text: str) -> str:
+    """A text without control characters but line feeds and tabs."""
+    return CONTROL.sub("", text)

@@ -2,12 +2,32 @@
 
 from __future__ import annotations
 
-from collections.abc import Callable
+from collections.abc import Callable, Iterable
 
 from .. import Document, Position, Row
 from .carets import column_of_gap
 
 Move = Callable[[Position], Position]
+VERTICAL = ("up", "down", "page-up", "page-down")
+
+
+def moved(document: Document, at: Position, name: str, height: int, column: int) -> Position | None:
+    """Where a key leads that moves the caret, on a screen so high, up and down as near to a column as may be; nothing for
+    another key."""
+    match name:
+        case "left" | "right":
+            return step(document, at, document.left if name == "left" else document.right)
+        case "ctrl-left" | "ctrl-right":
+            is_left = name == "ctrl-left"
+            return word(document, at, document.left if is_left else document.right, is_left)
+        case "up" | "down" | "page-up" | "page-down":
+            rows = 1 if name in ("up", "down") else max(1, height - 1)
+            return vertical(document, at, -rows if name.endswith("up") else rows, column)
+        case "home" | "end":
+            return edge(document, at, name == "home")
+        case "ctrl-home" | "ctrl-end":
+            return document.position_at(0 if name == "ctrl-home" else len(document))
+    return None
 
 
 def row_of(document: Document, at: Position) -> Row:
@@ -69,10 +89,12 @@ def off_the_end(at: Position, row: Row) -> Position:
     return at
 
 
-def behind(document: Document, place: int) -> Position:
-    """A place at the edge of the character before it, where its writer looks; at the front of a row where none is seen."""
+def behind(document: Document, place: int, rows: Iterable[Row] = ()) -> Position:
+    """A place at the edge of the character before it, where its writer looks; at the front of a row where none is seen. Its
+    row may be among these."""
     if place:
-        row = document.rows(place - 1, 0, 0)[0]
+        row = next((it for it in rows if it.first_place < place <= it.last_place), None)
+        row = row or document.rows(place - 1, 0, 0)[0]
         for gap, entry in enumerate(row.entries):
             if entry.end_place == place and entry.columns:
                 return Position(row.first_place, gap + 1 - entry.level % 2, place)

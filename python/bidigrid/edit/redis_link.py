@@ -3,10 +3,7 @@
 from __future__ import annotations
 
 import collections
-import errno
 import re
-import socket
-import threading
 from collections.abc import Callable
 from typing import Any
 
@@ -61,56 +58,6 @@ class Link:
     def close(self) -> None:
         """Ends the connection."""
         self.connection.disconnect()
-
-
-class Knock:
-    """Whether a Redis that went away is back, asked without waiting for it."""
-
-    def __init__(self, url: str) -> None:
-        self.about = redis.ConnectionPool.from_url(url).connection_kwargs
-        self.is_secret = url.startswith("rediss:")
-        self.is_asked = self.is_secret
-        self.socket: socket.socket | None = None
-        self.address: Any = self.about.get("path")
-        self.family = socket.AF_UNIX
-        # A name may be sought for long, where no select can wait for it.
-        self.search = threading.Thread(target=self.look_up, daemon=True)
-        if not self.address:
-            self.search.start()
-
-    def look_up(self) -> None:
-        """Finds the address of a name."""
-        try:
-            host, port = self.about.get("host", "localhost"), self.about.get("port", 6379)
-            self.family, _, _, _, self.address = socket.getaddrinfo(host, port, type=socket.SOCK_STREAM)[0]
-        except OSError:
-            return
-
-    def is_over(self) -> bool:
-        """Whether nothing is sought any more."""
-        return not self.search.is_alive()
-
-    def is_open(self) -> bool:
-        """Whether someone has answered by now: a word, or where that would be no TLS the connection itself."""
-        if not self.is_over() or not self.address:
-            return False
-        if not self.socket:
-            self.socket = socket.socket(self.family, socket.SOCK_STREAM)
-            self.socket.setblocking(False)
-        if self.socket.connect_ex(self.address) not in (0, errno.EISCONN):
-            return False
-        try:
-            if not self.is_asked:
-                self.is_asked = True
-                self.socket.send(b"PING\r\n")
-            return self.is_secret or bool(self.socket.recv(100))
-        except OSError:
-            return False
-
-    def close(self) -> None:
-        """Leaves."""
-        if self.socket:
-            self.socket.close()
 
 
 def said(error: Exception) -> str:

@@ -53,15 +53,15 @@ class Sent:
         self.size, self.sum, self.is_sending = size, total, False
         return has_forgotten
 
-    def is_all(self, log: Log) -> bool:
-        """Whether all that is flushed went out."""
-        return self.size >= log.size or log.size == HEADER_SIZE
+    def reached(self) -> int:
+        """How many bytes of the log went out: its header goes with the first message."""
+        return max(self.size, HEADER_SIZE)
 
     def send(self, link: Link, log: Log, site: int) -> None:
         """Sends the next piece of the log, as one message of version 2, once the one before is answered."""
-        if self.is_sending or self.is_all(log):
+        start = self.reached()
+        if self.is_sending or start >= log.size:
             return
-        start = max(self.size, HEADER_SIZE)
         piece = log.read(start, min(log.size, start + PIECE))
         piece = piece[: whole_end(piece, 0, 1)[0]]
         total = binascii.crc32(piece, binascii.crc32(log.read(self.size, start), self.sum))

@@ -66,7 +66,7 @@ class Signs:
         """Keeps that another desk wrote a message, where its caret stands then."""
         here = self.here.get(int(site)) if site.isdigit() else None
         if here:
-            here.caret, here.seen = last_identifier(message), time.monotonic()
+            self.here[here.site] = here._replace(caret=last_identifier(message), seen=time.monotonic())
 
     def add(self, link: Link, counter: int, site: int) -> None:
         """Adds a sign: the identifier of the character before the caret, 0 at the front, GONE at the end."""

@@ -3,6 +3,7 @@
 from __future__ import annotations
 
 import re
+from collections.abc import Callable
 
 from .channel import SNAPSHOT, Message
 from .redis_link import Link
@@ -39,15 +40,15 @@ class Snapshot:
         """Whether much came behind the last one, beside what the text has."""
         return self.since >= max(AFTER, operations // 100)
 
-    def keep(self, link: Link, upto: bytes, save: bytes) -> None:
-        """Keeps a file that has all of the stream up to a message, if no other desk does."""
+    def keep(self, link: Link, upto: bytes, make: Callable[[], bytes]) -> None:
+        """Makes and keeps a file that has all of the stream up to a message, if no other desk does."""
         self.since = 0
         if not link.call("SET", f"{self.key}:lock", self.by, "NX", "EX", LOCKED):
             return
         held = link.call("HGET", self.key, "upto") or b""
         if is_later(upto, held):
             cut = held if number_of(held) else b"0"
-            link.call("EVAL", KEEP, 2, self.key, self.stream, held, cut, upto, save)
+            link.call("EVAL", KEEP, 2, self.key, self.stream, held, cut, upto, make())
 
 
 def number_of(name: bytes | None) -> tuple[int, int] | None:

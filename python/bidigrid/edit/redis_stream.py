@@ -4,13 +4,14 @@ from __future__ import annotations
 
 import os
 import time
+from collections.abc import Callable
 from typing import Any
 
 from .. import Identifier
 from .channel import Message, plain_name
 from .fault import EditFault
 from .log import Log
-from .redis_link import AWAY, Knock, Link, said, without_password
+from .redis_link import AWAY, Link, said, without_password
 from .redis_sent import Sent
 from .redis_signs import GONE, Signs
 from .redis_snapshot import AFTER, Snapshot, is_later
@@ -35,7 +36,6 @@ class RedisStream:
         self.is_whole = True
         self.writer: Link | None = None
         self.reader: Link | None = None
-        self.knock: Knock | None = None
         self.trouble = ""
         self.tried = self.heard = self.listens_at = 0.0
         self.is_listening = False
@@ -138,8 +138,8 @@ class RedisStream:
         """Sends the next piece of the log, and answers what has come; tries to come back where Redis was away."""
         now = time.monotonic()
         try:
-            if not self.reader or not self.writer:
-                self.come_back(log, now)
+            if not (self.reader and self.writer) and now - self.tried >= AGAIN:
+                self.come_back(log)
             if self.reader and self.writer:
                 self.writer.read()
                 self.reader.read()
@@ -155,25 +155,14 @@ class RedisStream:
         found, self.found = self.found, []
         return found
 
-    def come_back(self, log: Log, now: float) -> None:
-        """Knocks, and once someone opens makes both connections anew."""
-        if self.knock is None:
-            if now - self.tried < AGAIN:
-                return
-            self.tried = now
-            self.knock = Knock(self.url)
-        if self.knock.is_open():
-            self.knock.close()
-            self.knock = None
-            self.writer = Link(self.url)
-            self.agree(log)
-            self.upto, file = self.kept.beyond(self.writer, self.upto)
-            self.found += file
-            self.listen()
-            self.trouble = ""
-        elif now - self.tried >= 4 * AGAIN and self.knock.is_over():
-            self.knock.close()
-            self.knock = None
+    def come_back(self, log: Log) -> None:
+        """Makes both connections anew, compares what went out, and reads what came meanwhile."""
+        self.writer = Link(self.url)
+        self.agree(log)
+        self.upto, file = self.kept.beyond(self.writer, self.upto)
+        self.found += file
+        self.listen()
+        self.trouble = ""
 
     def drop(self) -> None:
         """Leaves both connections."""
@@ -189,9 +178,13 @@ class RedisStream:
             return f"redis away: {self.trouble}"
         return "redis" if self.is_whole else "redis, where some of the text is gone"
 
-    def is_sent(self, log: Log) -> bool:
-        """Whether all that is flushed went out."""
-        return self.sent.is_all(log)
+    def sent_size(self) -> int:
+        """How many bytes of the log went out."""
+        return self.sent.reached()
+
+    def reaches(self) -> bytes:
+        """The name of the last message that was read."""
+        return self.upto
 
     def readers(self) -> list[int]:
         """What select may wait for."""
@@ -205,11 +198,13 @@ class RedisStream:
         """Whether a whole file is wanted now, and this desk can make it."""
         return bool(self.writer) and self.is_whole and self.kept.is_wanted(operations)
 
-    def snapshot(self, save: bytes) -> None:
-        """Keeps all that this desk holds, which is all of the stream up to where it has read."""
+    def snapshot(self, make: Callable[[], bytes], upto: bytes) -> None:
+        """Keeps all that this desk holds, which is all of the stream up to there."""
         try:
             if self.writer:
-                self.kept.keep(self.writer, self.upto, save)
+                self.kept.keep(self.writer, upto, make)
+        except MemoryError:
+            return  # there is none for a second document: another desk may have it
         except AWAY as error:
             self.trouble = said(error)
             self.drop()

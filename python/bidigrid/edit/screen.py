@@ -9,6 +9,7 @@ import re
 
 from .. import Entry, Row, layout
 from .fault import EditFault
+from .outlet import Outlet
 from .view import View
 
 # Bracketed paste, and a bar as a caret.
@@ -45,6 +46,7 @@ class Screen:
                 ink = curses.COLOR_WHITE if colour == curses.COLOR_BLUE else curses.COLOR_BLACK
                 curses.init_pair(number, ink, colour)
             self.looks = [curses.color_pair(1 + number) for number in range(len(COLOURS))]
+        self.outlet = Outlet()
 
     def size(self) -> tuple[int, int]:
         """The columns and the rows for the text: a caret behind the last column has one, and the status a line."""
@@ -84,6 +86,7 @@ class Screen:
             column = logical_column(view.rows[view.line], view.column)
         self.window.move(min(view.line, lines - 1), min(column, columns - 1))
         self.window.refresh()
+        self.outlet.flush()
 
     def line(self, view: View, number: int) -> object:
         """All that a line's look depends on."""
@@ -130,6 +133,7 @@ class Screen:
 
     def close(self) -> None:
         """Gives the terminal back, if it is still there."""
+        self.outlet.close()
         try:
             curses.noraw()
             curses.echo()

@@ -3,10 +3,17 @@
 from __future__ import annotations
 
 import dataclasses
+import itertools
+from collections.abc import Callable, Iterable, Iterator
 
 from .. import Document, Identifier
-from .carets import is_seen
-from .frames import characters_of, last_identifier, operations
+from .carets import is_seen, place_behind
+from .frames import Operation, Sought, last_identifier, operations
+
+AT_ONCE = 250  # characters that are taken back at once
+
+Made = Callable[[bytes], None]
+Kept = Callable[[], Iterable[bytes]]
 
 
 @dataclasses.dataclass
@@ -22,7 +29,6 @@ class Return:
     """What was erased in one stretch: where it stood, and under which identifiers."""
 
     place: int
-    text: str
     old: list[Identifier]
 
 
@@ -33,33 +39,26 @@ class Edits:
         self.made: list[Edit] = []
         self.renamed: dict[Identifier, Identifier] = {}
 
-    def add(self, message: bytes, typed: str) -> None:
-        """Keeps what a message says. Characters of a word that are typed one after the other are one edit."""
+    def add(self, message: bytes, typed: str, joined: Edit | None = None) -> Edit:
+        """Keeps what a message says, as a part of an edit where it joins one. Characters of a word that are typed one after
+        the other are one edit."""
         first = next(operations(message))
         is_key = len(typed) == 1 and first.character is not None
         last = self.made[-1] if self.made else None
+        if joined:
+            joined.messages.append(message)
+            return joined
         if last and last.is_open and is_key and first.parent == last_identifier(last.messages[-1]):
             last.messages.append(message)
             last.is_open = not typed.isspace()
         else:
             self.made.append(Edit([message], is_key))
+        return self.made[-1]
 
     def close(self) -> None:
         """Has what is typed next be an edit of its own."""
         if self.made:
             self.made[-1].is_open = False
-
-    def last(self) -> tuple[list[Identifier], list[Identifier]] | None:
-        """What the last edit typed, and what it erased; it is kept no longer."""
-        if not self.made:
-            return None
-        found = [it for message in self.made.pop().messages for it in operations(message)]
-        typed = [self.now(it.identifier) for it in found if it.character is not None]
-        return typed, [it.identifier for it in found if it.character is None]
-
-    def rename(self, old: list[Identifier], message: bytes) -> None:
-        """Keeps under which identifiers some characters were typed again."""
-        self.renamed.update(zip(old, (it.identifier for it in operations(message))))
 
     def now(self, identifier: Identifier) -> Identifier:
         """The identifier that a character has by now."""
@@ -67,8 +66,80 @@ class Edits:
             identifier = self.renamed[identifier]
         return identifier
 
+    def take_back(self, now: Callable[[], Document], made: Made, kept: Kept) -> Iterator[int | None]:
+        """Takes the last edit back that is still to be seen, in pieces, and answers after each where that was, or nothing
+        where nothing was seen. `now` has the document, `kept` the operations of the text, and `made` takes new messages."""
+        return self.take_out(self.made.pop() if self.made else None, len(self.made), now, made, kept)
 
-def stretches(document: Document, typed: list[Identifier]) -> list[tuple[int, int]]:
+    def take_out(
+        self, edit: Edit | None, at: int, now: Callable[[], Document], made: Made, kept: Kept
+    ) -> Iterator[int | None]:
+        """Takes an edit back, or where nothing of it is seen the one before, and so on: that which stands before `at`."""
+        is_done = False
+        while edit and not is_done:
+            for place in itertools.chain(self.erase(now(), made, edit), self.type(now(), made, edit, kept)):
+                is_done = is_done or place is not None
+                yield place
+            at = min(at, len(self.made)) - 1
+            edit = self.made.pop(at) if at >= 0 and not is_done else None
+
+    def erase(self, document: Document, made: Made, edit: Edit) -> Iterator[int | None]:
+        """Erases what an edit typed."""
+        for some in batches(edit):
+            place = None
+            typed = (self.now(it.identifier) for it in some if it.character is not None)
+            for place, stop in stretches(document, typed):
+                made(document.erase(place, stop))
+            yield place
+
+    def type(self, document: Document, made: Made, edit: Edit, kept: Kept) -> Iterator[int | None]:
+        """Types again what it erased."""
+        sought = Sought()
+        for some in erasures(edit):
+            sought.want(some)
+            yield None
+        if not sought.count:
+            return
+        sought.begin()
+        for message in kept():
+            if sought.look(message):
+                break
+            yield None
+        batch: list[Identifier] = []
+        last = None
+        for following in itertools.chain(erasures(edit), [None]):
+            if not batch or following == []:
+                batch = following or batch
+                yield None
+                continue
+            gone = returns(document, batch)
+            # Where a stretch goes on in the next batch, so does what is typed.
+            goes_on = following and document.place_of(following[0]) == document.place_of(batch[-1])
+            if last:
+                gone[0].place = place_behind(document, last) or 0
+            for stretch in reversed(gone):
+                message = document.type(stretch.place, "".join(sought.found[it] for it in stretch.old))
+                self.renamed.update(zip(stretch.old, (it.identifier for it in operations(message))))
+                made(message)
+            last = self.renamed[batch[-1]] if goes_on else None
+            yield place_behind(document, self.renamed[batch[-1]])
+            batch = following or []
+
+
+def batches(edit: Edit) -> Iterator[list[Operation]]:
+    """The operations of an edit, in the order of the text, some at once."""
+    all_of_it = itertools.chain.from_iterable(map(operations, edit.messages))
+    while some := list(itertools.islice(all_of_it, AT_ONCE)):
+        yield some
+
+
+def erasures(edit: Edit) -> Iterator[list[Identifier]]:
+    """What an edit erases, some at once, or none."""
+    for some in batches(edit):
+        yield [it.identifier for it in some if it.character is None]
+
+
+def stretches(document: Document, typed: Iterable[Identifier]) -> list[tuple[int, int]]:
     """Where characters stand now that were not erased since: from one place up to another, the last first."""
     found: list[tuple[int, int]] = []
     for identifier in typed:
@@ -83,13 +154,12 @@ def stretches(document: Document, typed: list[Identifier]) -> list[tuple[int, in
 
 
 def returns(document: Document, erased: list[Identifier]) -> list[Return]:
-    """What is to be typed again, the last first. What was erased is kept by the document, and is sought only now."""
-    characters = characters_of(document.save(), erased) if erased else {}
-    found: list[tuple[int, list[Identifier]]] = []
+    """What is to be typed again: where it stood, the first first."""
+    found: list[Return] = []
     for identifier in erased:
         place = document.place_of(identifier)
-        if found and found[-1][0] == place:
-            found[-1][1].append(identifier)
+        if found and found[-1].place == place:
+            found[-1].old.append(identifier)
         else:
-            found.append((place, [identifier]))
-    return [Return(place, "".join(characters[it] for it in old), old) for place, old in reversed(found)]
+            found.append(Return(place, [identifier]))
+    return found

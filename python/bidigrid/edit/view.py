@@ -8,7 +8,6 @@ from .. import Row
 from . import carets
 from .editor import Editor
 
-
 NAMED = 3  # of those who are here
 
 
@@ -26,6 +25,7 @@ class View(NamedTuple):
 
 def view_of(editor: Editor) -> View:
     """What is to be seen now."""
+    editor.settle()
     rows = editor.shown
     column = carets.column_of_gap(rows[editor.line], editor.at.gap)
     seen = tuple(others(editor, rows))

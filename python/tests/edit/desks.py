@@ -1,12 +1,15 @@
 """Desks without a screen, as the tests make them."""
 
+import time
 from pathlib import Path
 
+from bidigrid.edit.carrier import Carrier
 from bidigrid.edit.channel import Channel
 from bidigrid.edit.desk import Desk
 from bidigrid.edit.folder import Folder
 from bidigrid.edit.log import Log
 from bidigrid.edit.redis_stream import RedisStream
+from bidigrid.edit.staging import OVERLAP
 from servers import Server
 from waiting import until
 
@@ -24,6 +27,44 @@ def in_folder(log: Path, folder: Path, site: int | None = None) -> Desk:
 def over_redis(log: Path, server: Server) -> Desk:
     """A desk of the text `notes` over Redis."""
     return desk_at(log, RedisStream(server.url, "notes", "someone"))
+
+
+def carrier_of(desk: Desk) -> Carrier:
+    """What carries a desk's messages."""
+    assert desk.carrier
+    return desk.carrier
+
+
+def folder_of(desk: Desk) -> Folder:
+    """The folder that a desk is over."""
+    channel = carrier_of(desk).channel
+    assert isinstance(channel, Folder)
+    return channel
+
+
+def redis_of(desk: Desk) -> RedisStream:
+    """The Redis that a desk is over."""
+    channel = carrier_of(desk).channel
+    assert isinstance(channel, RedisStream)
+    return channel
+
+
+def kept(log: Log) -> bytes:
+    """The log as it would be after a kill."""
+    held = log.read(0, log.size)
+    return held + log.staging.beyond(held[-OVERLAP:], log.size)
+
+
+def look(desk: Desk) -> None:
+    """Has all flushed, and the folder looked into now; takes what is found there."""
+    folder, carrier = folder_of(desk), carrier_of(desk)
+    desk.log.flush()
+    began, folder.looked = time.monotonic(), 0.0
+    carrier.wake.ring()
+    until(lambda: folder.looked >= began and carrier.began is None, pause=0.0005)
+    desk.turn()
+    while desk.is_behind:
+        desk.turn()
 
 
 def have_met(*desks: Desk) -> None:

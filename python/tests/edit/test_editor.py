@@ -29,6 +29,8 @@ class Pair:
         """Keys by their names, and texts in quotes."""
         for key in keys:
             self.editor.press(Key("text", key[1:-1]) if key[0] == "'" else Key(key))
+            while self.desk.jobs:
+                self.editor.turn()
 
     def meet(self) -> None:
         """The other takes all that was typed here so far."""
@@ -38,7 +40,7 @@ class Pair:
     def take(self, message: bytes) -> None:
         """Takes what the other wrote."""
         self.desk.take(Message("the other", message))
-        self.editor.follow()
+        self.editor.is_stale = True
 
     def text(self) -> str:
         """The text, with the caret as |."""
@@ -81,7 +83,7 @@ def test_a_caret_stays_at_its_edge(pair: Pair) -> None:
 
 def test_a_word_that_is_not_there_is_not_sought_for_ever(pair: Pair) -> None:
     # Left of a row from right to left comes the next row, and left of one from left to right the row above.
-    pair.press("'\u2067(('", "enter", "'\u2066))'")
+    pair.press("'\u2067((\n\u2066))'")
     for key in ("ctrl-left", "ctrl-right", "ctrl-left"):
         pair.press(key, key, key, key)
         assert pair.desk.document.rows(pair.editor.at.row, 0, 0)[0].first_place == pair.editor.at.row

@@ -1,19 +1,22 @@
 """Desks over a folder: whole frames are taken as files grow, and what is wrong with one stops nobody."""
 
 import os
+import threading
 import time
 from pathlib import Path
+from typing import Any
 
 import pytest
 from bidigrid import Document
 from bidigrid.edit.channel import Message
-from bidigrid.edit.desk import TAKING
+from bidigrid.edit import carrier
+from bidigrid.edit.desk import AT_ONCE
 from bidigrid.edit.editor import Editor
 from bidigrid.edit.fault import EditFault
 from bidigrid.edit.folder import Folder
 from bidigrid.edit.view import view_of
-from desks import desk_at, have_met, in_folder
-from waiting import until
+from desks import desk_at, have_met, in_folder, look
+from waiting import BOUND, until
 
 STRANGER = bytes.fromhex("42474f5001 0011 01 00000001 0009 00000000 0000 00000058")
 
@@ -39,8 +42,7 @@ def test_a_cut_frame_is_one_that_is_being_written(tmp_path: Path) -> None:
     theirs = tmp_path / "notes.9.bgop"
     for size in range(len(STRANGER) + 1):
         theirs.write_bytes(STRANGER[:size])
-        desk.channel.looked = 0.0  # type: ignore[union-attr]
-        desk.turn()
+        look(desk)
         assert (desk.document.text, desk.notice) == ("X" if size == len(STRANGER) else "", "")
     desk.close()
 
@@ -142,21 +144,56 @@ def test_typing_goes_on_while_the_folder_is_away(tmp_path: Path) -> None:
 
 def test_keys_are_looked_for_while_much_comes(tmp_path: Path, monkeypatch: pytest.MonkeyPatch) -> None:
     desk, other = in_folder(tmp_path / "own.bgop", tmp_path), Document(9)
-    messages = [Message("the other", other.type(number, "x")) for number in range(20)]
+    desk.came += [Message("the other", other.type(number, "x")) for number in range(20)]
     take = desk.take
 
     def take_long(message: Message) -> None:
-        time.sleep(TAKING / 2)
+        time.sleep(AT_ONCE)
         take(message)
 
-    monkeypatch.setattr(desk.channel, "turn", lambda log, caret: [messages.pop(0) for _ in range(len(messages))])
     monkeypatch.setattr(desk, "take", take_long)
     turns = 0
     while desk.turn():
         turns += 1
-        assert len(desk.document) in range(2 * turns + 1) and (desk.patience() == 0.0) == (len(desk.document) < 20)
-    assert desk.document.text == "x" * 20
+        assert len(desk.document) == turns and desk.patience() == 0.0
+    assert turns == 20 and desk.document.text == "x" * 20 and desk.patience() != 0.0
     desk.close()
+
+
+def test_typing_goes_on_while_the_folder_hangs(tmp_path: Path, monkeypatch: pytest.MonkeyPatch) -> None:
+    one, other = in_folder(tmp_path / "one.bgop", tmp_path), in_folder(tmp_path / "other.bgop", tmp_path)
+    have_met(one, other)
+    may_go_on, scan, main = threading.Event(), os.scandir, threading.main_thread()
+
+    def scan_long(path: str) -> Any:
+        assert threading.current_thread() is not main
+        may_go_on.wait(BOUND)
+        return scan(path)
+
+    monkeypatch.setattr(os, "scandir", scan_long)
+    monkeypatch.setattr(carrier, "SLOW", 0.1)
+    for place, letter in enumerate("tea"):
+        one.replace(place, place, letter)
+        until(lambda: one.turn() or not one.log.waiting)
+    until(lambda: one.turn() or one.state() == "folder: no answer")
+    may_go_on.set()
+    have_met(one, other)
+    until(lambda: one.turn() or one.state() == "folder")
+    assert other.document.text == "tea"
+    one.close()
+    other.close()
+
+
+def test_a_pipe_that_nobody_writes_to_stops_nobody(tmp_path: Path) -> None:
+    one, other = in_folder(tmp_path / "one.bgop", tmp_path), in_folder(tmp_path / "other.bgop", tmp_path)
+    os.mkfifo(tmp_path / "notes.9.bgop")
+    os.mkfifo(tmp_path / ".notes.8.here")
+    (tmp_path / "notes.8.bgop").write_bytes(STRANGER)
+    one.replace(0, 0, "tea")
+    have_met(one, other)
+    assert sorted(other.document.text) == sorted("teaX") and one.state() == other.state() == "folder"
+    one.close()
+    other.close()
 
 
 @pytest.mark.parametrize("sign", ["", "{", "[]", '{"name": 1, "caret": [1, 2, 3]}', '{"name": 1, "caret": ["x", 1]}',

@@ -5,11 +5,13 @@ from bidigrid import Identifier
 from bidigrid.edit.frames import (
     HEADER,
     Operation,
-    characters_of,
+    Sought,
     gathered,
     last_identifier,
     operations,
+    pieces,
     spelled,
+    survey,
     whole_end,
     without_frame,
 )
@@ -68,8 +70,29 @@ def test_a_frame_is_left_out() -> None:
 
 @pytest.mark.parametrize("file", [IN_VERSION_1, IN_VERSION_2])
 def test_a_file_is_looked_into(file: bytes) -> None:
-    wanted = [Identifier(3, 2), Identifier(2, 1), Identifier(2, 2), Identifier(9, 2), Identifier(1, 3)]
-    assert characters_of(file, wanted) == {Identifier(3, 2): "y", Identifier(2, 1): "b", Identifier(2, 2): "x"}
+    sought = Sought()
+    sought.want([Identifier(3, 2), Identifier(2, 1), Identifier(2, 2)])
+    sought.begin()
+    assert sought.look(file) and sought.found == {Identifier(3, 2): "y", Identifier(2, 1): "b", Identifier(2, 2): "x"}
+    sought.want([Identifier(9, 2), Identifier(1, 3)])
+    assert not sought.look(file) and len(sought.found) == 3
     assert last_identifier(file) == (2, 1) and last_identifier(file[:47]) in ((3, 2), None)
     for cut in range(len(file)):
         last_identifier(file[:cut])
+
+
+@pytest.mark.parametrize("file", [IN_VERSION_1, IN_VERSION_2])
+def test_a_message_is_parted_between_frames(file: bytes) -> None:
+    for size in range(1, len(file) + 1):
+        parts = list(pieces(file, size))
+        assert [it for part in parts for it in operations(part)] == OPERATIONS
+        assert all(len(part) < 5 + size + 28 for part in parts)
+    # What can't be parted is left to who takes it.
+    assert b"".join(part[5:] for part in pieces(file + b"\x00", 1)) == file[5:] + b"\x00"
+    assert list(pieces(b"Dear all, ..", 1)) == [b"Dear all, .."]
+    assert list(pieces(HEADER + b"\x00\x12\x01" + file[5:], 1)) == [HEADER + b"\x00\x12\x01" + file[5:]]
+
+
+def test_a_log_has_marks_at_frames() -> None:
+    log = HEADER + chain(10_000)
+    assert survey(log) == ({1}, [5, 5 + 19 * 3450, 5 + 19 * 6900]) and survey(HEADER) == (set(), [5])

@@ -6,25 +6,26 @@ from bidigrid.edit.keys import Key, Keys
 ROWS = [
     (b"tea", [Key("text", "tea")]),
     ("תה".encode(), [Key("text", "תה")]),
-    (b"\r\n\x7f\x08\t", [Key("enter"), Key("enter"), Key("backspace"), Key("backspace"), Key("tab")]),
+    (b"\r\n\x7f\x08\t", [Key("text", "\n\n"), Key("backspace"), Key("backspace"), Key("text", "\t")]),
     (b"\x11\x13\x1a\x01", [Key("ctrl-q"), Key("ctrl-s"), Key("ctrl-z"), Key("ctrl-a")]),
     (b"\x1b[A\x1bOB\x1b[C\x1bOD", [Key("up"), Key("down"), Key("right"), Key("left")]),
     (b"\x1b[1;5C\x1b[1;2D\x1b[1;6D", [Key("ctrl-right"), Key("shift-left"), Key("shift-ctrl-left")]),
     (b"\x1b[H\x1b[4~\x1bOF\x1b[7~", [Key("home"), Key("end"), Key("end"), Key("home")]),
     (b"\x1b[3~\x1b[5~\x1b[6~\x1b[1;2H", [Key("delete"), Key("page-up"), Key("page-down"), Key("shift-home")]),
     (b"\x1bOQ\x1b[13~", [Key("f2"), Key("f3")]),
-    (b"a\x1b[200~one\r\ntwo\x1b[A\r\x1b[201~b", [Key("text", "a"), Key("paste", "one\ntwo\x1b[A\n"), Key("text", "b")]),
+    (b"a\x1b[200~one\r\ntwo\x1b[A\r\x1b[201~b", [Key("text", "a"), Key("paste", "one\ntwo\x1b[A\n"), Key("pasted"),
+                                                   Key("text", "b")]),
     (b"\x1b[99~\x1b[Ia", [Key("text", "a")]),
     (b"\x1b\x1b[A", [Key("escape"), Key("up")]),
 ]
 
 
 def joined(found: list[Key]) -> list[Key]:
-    """Typed texts that follow each other as one."""
+    """Texts and pieces of a paste that follow each other as one."""
     made: list[Key] = []
     for key in found:
-        if made and key.name == made[-1].name == "text":
-            made[-1] = Key("text", made[-1].text + key.text)
+        if made and key.name == made[-1].name and key.text:
+            made[-1] = Key(key.name, made[-1].text + key.text)
         else:
             made.append(key)
     return made

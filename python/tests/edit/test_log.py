@@ -2,6 +2,9 @@
 
 import errno
 import os
+import signal
+import subprocess
+import sys
 import threading
 from pathlib import Path
 
@@ -10,13 +13,36 @@ from bidigrid import Document
 from bidigrid.edit.fault import EditFault
 from bidigrid.edit.frames import operations
 from bidigrid.edit.log import Log
-from desks import desk_at, have_met, in_folder
+from bidigrid.edit.staging import Staging
+from desks import desk_at, have_met, in_folder, kept
 from waiting import BOUND, until
 
 TEA = bytes.fromhex(
     "42474f5001" "0011 01 00000001 0001 00000000 0000 00000074" "0011 01 00000002 0001 00000001 0001 00000065"
     "0011 01 00000003 0001 00000002 0001 00000061"
 )  # fmt: skip
+
+# A desk whose disk takes nothing more, and that is killed then; what could be staged is told.
+KILLED = """
+import errno, os, pathlib, signal, sys, threading
+from desks import desk_at
+desk = desk_at(pathlib.Path(sys.argv[1]), site=1)
+desk.replace(0, 0, "t")
+desk.log.flush()
+os.fdatasync = lambda file: threading.Event().wait()
+def pwrite(file, data, at, write=os.pwrite):
+    if threading.current_thread() is not threading.main_thread():
+        threading.Event().wait()
+    if file == desk.log.staging.file and desk.log.end() > int(sys.argv[2]):
+        raise OSError(errno.ENOSPC, os.strerror(errno.ENOSPC))
+    return write(file, data, at)
+os.pwrite = pwrite
+for place, letter in enumerate(" and tea", 1):
+    desk.replace(place, place, letter)
+    desk.turn()
+desk.replace(1, 5, "")
+os.kill(os.getpid(), signal.SIGKILL)
+"""
 
 
 def test_a_desk_goes_on_from_its_log(tmp_path: Path) -> None:
@@ -108,12 +134,12 @@ def test_a_log_that_is_gone_makes_a_new_site(tmp_path: Path) -> None:
     assert len(sites) > 1
 
 
-def letters(path: Path) -> str:
+def letters(log: bytes) -> str:
     """The letters that a log of insertions has."""
-    return "".join(it.character or "" for it in operations(path.read_bytes()))
+    return "".join(it.character or "" for it in operations(log))
 
 
-def test_a_key_is_written_before_it_is_flushed_and_sent_after(tmp_path: Path, monkeypatch: pytest.MonkeyPatch) -> None:
+def test_a_key_is_kept_before_it_is_flushed_and_sent_after(tmp_path: Path, monkeypatch: pytest.MonkeyPatch) -> None:
     log, copy = tmp_path / "own.bgop", tmp_path / "notes.1.bgop"
     desk = in_folder(log, tmp_path, site=1)
     have_met(desk)
@@ -127,10 +153,11 @@ def test_a_key_is_written_before_it_is_flushed_and_sent_after(tmp_path: Path, mo
     monkeypatch.setattr(os, "fdatasync", flush_long)
     for place, letter in enumerate("tea"):
         desk.replace(place, place, letter)
-        assert letters(log) == "tea"[: place + 1]
+        assert letters(kept(desk.log)) == "tea"[: place + 1]
+        desk.turn()
     for _ in range(100):
         desk.turn()
-    assert desk.log.size == 5 and not desk.is_idle() and letters(copy) == ""
+    assert desk.log.size == 5 and not desk.is_idle() and letters(copy.read_bytes()) == ""
     may_end.set()
     have_met(desk)
     assert copy.read_bytes() == log.read_bytes() and len(flushes) == 2
@@ -154,7 +181,7 @@ def test_what_could_not_be_flushed_is_written_anew(tmp_path: Path, monkeypatch: 
     monkeypatch.undo()
     desk.failed_at -= 1
     until(lambda: desk.turn() or "the log is written again" in desk.notice)
-    assert letters(log) == "te" and desk.is_idle()
+    assert letters(log.read_bytes()) == "te" and desk.is_idle()
     desk.close()
 
 
@@ -165,3 +192,73 @@ def test_what_a_killed_editor_wrote_is_flushed_at_the_start(tmp_path: Path, monk
     monkeypatch.setattr(os, "fdatasync", lambda file: flushed.append(os.fstat(file).st_size))
     Log(str(path)).close()
     assert flushed == [len(TEA)]
+
+
+@pytest.mark.parametrize("room", [1000, 5 + 19 * 4, 0])
+def test_a_killed_editor_loses_nothing_that_its_disk_did_not_take(tmp_path: Path, room: int) -> None:
+    path = tmp_path / "notes.bgop"
+    for text in ("t tea", "t teat tea"):
+        done = subprocess.run([sys.executable, "-c", KILLED, str(path), str(room)], cwd=Path(__file__).parent, check=False)
+        assert done.returncode == -signal.SIGKILL
+        desk = desk_at(path)
+        assert (desk.site, len(desk.document)) == (1, len(text)) and sorted(desk.document.text) == sorted(text)
+        names = [it.identifier for it in operations(path.read_bytes()) if it.character]
+        assert len(names) == len(set(names)) and list(Path("/dev/shm").glob(f"bidigrid-edit.*.{path.stat().st_ino:x}"))
+        desk.close()
+        assert not list(Path("/dev/shm").glob(f"bidigrid-edit.*.{path.stat().st_ino:x}"))
+
+
+@pytest.mark.parametrize("cut", range(len(TEA)))
+def test_what_is_staged_goes_on_where_the_log_was_cut(tmp_path: Path, cut: int) -> None:
+    path = tmp_path / "notes.bgop"
+    path.write_bytes(TEA[:24])
+    log = Log(str(path))
+    log.append(b"BGOP\x01" + TEA[24:])
+    assert kept(log) == TEA
+    leave(log)
+    path.write_bytes(TEA[:cut])
+    Log(str(path)).close()
+    assert path.read_bytes() == (TEA if cut >= 5 else b"")
+
+
+def test_what_is_staged_for_another_log_is_left(tmp_path: Path) -> None:
+    path = tmp_path / "notes.bgop"
+    path.write_bytes(TEA)
+    log = Log(str(path))
+    log.append(TEA)
+    leave(log)
+    other = TEA[:-1] + b"b"
+    path.write_bytes(other)
+    Log(str(path)).close()
+    assert path.read_bytes() == other
+
+
+def test_a_staging_that_is_anothers_or_no_file_is_left(tmp_path: Path) -> None:
+    path = tmp_path / "notes.bgop"
+    path.write_bytes(TEA)
+    with open(path, "rb") as file:
+        first = Staging(file.fileno())
+        first.close(is_needed=False)
+        os.symlink(path, first.path)
+        assert not Staging(file.fileno()).put(b"x", 0)
+        os.unlink(first.path)
+    assert path.read_bytes() == TEA
+
+
+def test_what_is_staged_is_begun_anew_once_it_is_flushed(tmp_path: Path) -> None:
+    log = Log(str(tmp_path / "notes.bgop"))
+    log.flush()
+    made = Document(1).type(0, "tea" * 30_000)
+    log.append(made)
+    log.flush()
+    assert os.stat(log.staging.path).st_blocks * 512 < 10_000
+    log.append(TEA)
+    assert kept(log) == made + TEA[5:]
+    log.close()
+
+
+def leave(log: Log) -> None:
+    """Leaves a log as a kill does."""
+    log.disk.close()
+    log.staging.give_up()
+    os.close(log.file)

@@ -6,20 +6,19 @@ from pathlib import Path
 
 import pytest
 from bidigrid import layout
-from bidigrid.edit.desk import Desk
 from bidigrid.edit.editor import Editor
 from bidigrid.edit.keys import Key
 from bidigrid.edit.view import view_of
-from desks import in_folder
+from desks import in_folder, look
 from program import text_of
 
 KEYS = 10_000
 HEIGHT = 12
-WORDS = ["tea", "milk ", "שלום", "חלב ", "شاي", "حليب ", "١٢٣", "42", " ", "(", ")", "é", "e\u0301", "茶", "\u200f", "\u2067",
+WORDS = ["\n", "\t", "tea", "milk ", "שלום", "חלב ", "شاي", "حليب ", "١٢٣", "42", " ", "(", ")", "é", "e\u0301", "茶", "\u200f", "\u2067",
          "\u2069", "ש\u05b8", "👩\u200d👧"]  # fmt: skip
 MOVES = ["left", "right", "up", "down", "home", "end", "ctrl-left", "ctrl-right", "page-up", "page-down", "ctrl-home",
          "ctrl-end"]  # fmt: skip
-EDITS = ["backspace", "delete", "enter", "tab", "ctrl-z"]
+EDITS = ["backspace", "delete", "ctrl-z"]
 
 
 def drawn_key(chance: random.Random) -> Key:
@@ -33,7 +32,7 @@ def drawn_key(chance: random.Random) -> Key:
         return Key("shift-" + chance.choice(MOVES[:8]))
     if kind < 0.98:
         return Key(chance.choice(EDITS))
-    return chance.choice([Key("paste", "".join(chance.choices(WORDS, k=30))), Key("f2"), Key("escape"), Key("mark")])
+    return chance.choice([Key("text", "".join(chance.choices(WORDS, k=30))), Key("f2"), Key("escape"), Key("mark")])
 
 
 def deliver(chance: random.Random, source: Path, target: Path, whole: bool) -> None:
@@ -49,15 +48,6 @@ def deliver(chance: random.Random, source: Path, target: Path, whole: bool) -> N
                 written.write(read.read(end - held))
 
 
-def look(desk: Desk) -> None:
-    """A turn that has all flushed, and looks into the folder now."""
-    desk.log.flush()
-    desk.channel.looked = 0.0  # type: ignore[union-attr]
-    desk.turn()
-    while desk.came:
-        desk.turn()
-
-
 @pytest.mark.parametrize("seed", [71, 72])
 def test_random_keys_at_three_desks(tmp_path: Path, seed: int) -> None:
     chance = random.Random(seed)
@@ -69,6 +59,8 @@ def test_random_keys_at_three_desks(tmp_path: Path, seed: int) -> None:
     for _ in range(KEYS):
         editor = chance.choice(editors)
         editor.press(drawn_key(chance))
+        while editor.desk.jobs:
+            editor.turn()
         assert editor.selected()[1] <= len(editor.document)
         if chance.random() < 0.1:
             seen = view_of(editor)
@@ -79,7 +71,7 @@ def test_random_keys_at_three_desks(tmp_path: Path, seed: int) -> None:
             deliver(chance, source, target, whole=False)
         if chance.random() < 0.1:
             look(editor.desk)
-            editor.follow()
+            editor.is_stale = True
     for _ in range(2):
         for desk in desks:
             look(desk)

@@ -4,11 +4,13 @@ from pathlib import Path
 
 import pytest
 import redis  # type: ignore[import]
+from bidigrid.edit.anew import whole_file
 from bidigrid.edit.desk import Desk
 from bidigrid.edit.fault import EditFault
+from bidigrid.edit.redis_link import Link
 from bidigrid.edit.redis_snapshot import is_later
 from bidigrid.edit.redis_stream import RedisStream
-from desks import desk_at, have_met, over_redis
+from desks import carrier_of, desk_at, have_met, over_redis, redis_of
 from servers import Server
 from waiting import until
 
@@ -22,13 +24,19 @@ def write(desk: Desk, text: str) -> None:
         have_met(desk)
 
 
+def addresses(desk: Desk) -> set[str]:
+    """The addresses of a desk's connections."""
+    links = (redis_of(desk).writer, redis_of(desk).reader)
+    return {":".join(map(str, link.connection._sock.getsockname())) for link in links if link}
+
+
 def keep(desk: Desk, store: "redis.Redis[bytes]") -> None:
     """Has a desk keep all that is in the stream."""
-    assert isinstance(desk.channel, RedisStream)
-    channel, last = desk.channel, store.xrevrange(STREAM, count=1)[0][0]
-    until(lambda: (desk.turn(), channel.upto == last)[1])
+    carrier, last = carrier_of(desk), store.xrevrange(STREAM, count=1)[0][0]
+    until(lambda: (desk.turn(), carrier.told.reaches == last)[1])
     store.delete(f"{SNAPSHOT}:lock")
-    channel.snapshot(desk.document.save())
+    carrier.keep(whole_file(desk.log, desk.held, desk.site))
+    until(lambda: not carrier.wanted)
 
 
 def test_a_newcomer_reads_the_snapshot_and_the_tail(tmp_path: Path, server: Server) -> None:
@@ -59,8 +67,10 @@ def test_a_desk_that_was_away_longer_than_the_stream_holds(tmp_path: Path, serve
     have_met(one, other)
     # The other one sleeps; its connections do, or are closed meanwhile.
     if is_cut:
-        for link in (other.channel.reader, other.channel.writer):  # type: ignore[union-attr]
-            store.client_kill_filter(_id=link.call("CLIENT", "ID"))
+        theirs = addresses(other)
+        for client in store.client_list():
+            if client["id"] != store.client_id() and client["addr"] in theirs:
+                store.client_kill_filter(_id=client["id"])
     write(one, "ms and ")
     keep(one, store)
     write(one, "more")
@@ -82,7 +92,7 @@ def test_an_older_snapshot_is_not_kept(tmp_path: Path, server: Server) -> None:
     keep(one, store)
     kept = store.hgetall(SNAPSHOT)
     store.delete(f"{SNAPSHOT}:lock")
-    other.channel.snapshot(other.document.save())  # type: ignore[union-attr]
+    redis_of(other).kept.keep(Link(server.url), store.xrange(STREAM)[1][0], other.document.save)
     assert store.hgetall(SNAPSHOT) == kept
     one.close()
     other.close()
@@ -93,9 +103,9 @@ def test_what_is_gone_is_told_and_no_snapshot_is_made_of_the_rest(tmp_path: Path
     write(one, "tea")
     store.xtrim(STREAM, maxlen=1, approximate=False)
     late = over_redis(tmp_path / "late.bgop", server)
-    late.channel.kept.since = 10**6  # type: ignore[union-attr]
+    redis_of(late).kept.since = 10**6
     assert late.state() == "redis, where some of the text is gone"
-    assert late.channel and not late.channel.wants_snapshot(0)
+    assert not redis_of(late).wants_snapshot(0)
     # One who has it all keeps it, for those who come then.
     keep(one, store)
     later = over_redis(tmp_path / "later.bgop", server)
@@ -120,8 +130,7 @@ def test_a_hostile_snapshot_stops_nobody(tmp_path: Path, server: Server, upto: b
 def test_what_is_not_flushed_is_in_no_snapshot(tmp_path: Path, server: Server, monkeypatch: pytest.MonkeyPatch) -> None:
     one, store = over_redis(tmp_path / "one.bgop", server), redis.Redis.from_url(server.url)
     write(one, "tea")
-    assert isinstance(one.channel, RedisStream)
-    one.channel.kept.since = 10**6
+    redis_of(one).kept.since = 10**6
 
     def refuse() -> None:
         raise OSError(28, "No space left on device")
@@ -142,7 +151,7 @@ def test_a_desk_that_could_not_take_all_makes_no_snapshot(tmp_path: Path, server
     one.replace(0, 0, "x" * 999_999)
     other.replace(0, 0, "ab")
     until(lambda: (one.turn(), other.turn(), "202 Full" in one.notice and one.is_idle())[2])
-    one.channel.kept.since, one.typed_at = 10**6, -1e9  # type: ignore[union-attr]
+    redis_of(one).kept.since, one.typed_at = 10**6, -1e9
     one.turn()
     assert not redis.Redis.from_url(server.url).exists(SNAPSHOT)
     one.close()

@@ -8,11 +8,13 @@ from typing import Any
 
 import pytest
 import redis  # type: ignore[import]
+from bidigrid.edit import redis_link
 from bidigrid.edit.editor import Editor
 from bidigrid.edit.fault import EditFault
+from bidigrid.edit.redis_stream import RedisStream
 from bidigrid.edit.view import view_of
 from desks import desk_at, have_met, over_redis
-from servers import Server
+from servers import Server, Way
 from waiting import BOUND, until
 
 
@@ -193,21 +195,44 @@ def test_typing_goes_on_while_the_name_of_redis_is_sought(
     tmp_path: Path, server: Server, monkeypatch: pytest.MonkeyPatch
 ) -> None:
     one = over_redis(tmp_path / "one.bgop", server)
-    is_found, seek = threading.Event(), socket.getaddrinfo
+    is_sought, is_found, seek = threading.Event(), threading.Event(), socket.getaddrinfo
 
     def seek_long(*about: Any, **more: Any) -> Any:
-        assert threading.current_thread() is not threading.main_thread() or is_found.is_set()
+        assert threading.current_thread() is not threading.main_thread()
+        is_sought.set()
         is_found.wait(BOUND)
         return seek(*about, **more)
 
     monkeypatch.setattr(socket, "getaddrinfo", seek_long)
     server.stop()
-    until(lambda: one.turn() or one.channel.knock)  # type: ignore[union-attr]
-    server.start()
+    until(lambda: one.turn() or is_sought.is_set())
     one.replace(0, 0, "tea")
     until(lambda: one.turn() or not one.log.waiting)
     assert one.document.text == "tea" and one.state().startswith("redis away")
     is_found.set()
+    server.start()
     have_met(one)
     assert one.state() == "redis"
     one.close()
+
+
+def test_typing_goes_on_while_an_answer_stops_in_the_middle(
+    tmp_path: Path, server: Server, monkeypatch: pytest.MonkeyPatch
+) -> None:
+    monkeypatch.setattr(redis_link, "TIMEOUT", BOUND)
+    way = Way(server)
+    one = desk_at(tmp_path / "one.bgop", RedisStream(way.url, "notes", "someone"))
+    other = over_redis(tmp_path / "other.bgop", server)
+    have_met(one, other)
+    way.flows.clear()
+    other.replace(0, 0, "hot ")
+    until(lambda: (other.turn(), way.is_stopped.is_set())[1])
+    for place, letter in enumerate("tea"):
+        one.replace(place, place, letter)
+        until(lambda: one.turn() or not one.log.waiting)
+    assert one.document.text == "tea" and not one.is_idle()
+    way.flows.set()
+    have_met(one, other)
+    one.close()
+    other.close()
+    way.close()

@@ -109,12 +109,12 @@ def test_one_is_killed_and_started_again(terminal: Terminal, server: Server) -> 
             dana.type(word)
         shown = dana.rows()
         dana.kill()
-        # What one sees was written before, and what another sees of it was flushed: it stays.
+        dana.start()
+        dana.started()
+        # What one sees was kept before, and what another sees of it was flushed: it stays.
         held = letters(text_of([dana.log, omar.log]))
         for seen in (letters("".join(shown)), letters("".join(omar.rows()))):
             assert all(held.count(letter) >= seen.count(letter) for letter in seen)
-        dana.start()
-        dana.started()
         have_met(dana, omar)
 
 
