@@ -86,7 +86,7 @@ pub fn walk_right(document: &mut Document, place: usize, steps: usize) -> Result
     Ok(position)
 }
 
-/// A session: an editor types, hears of what another desk typed, and makes its window narrower.
+/// What the example does: an editor types, hears of what another desk typed, and makes its window narrower.
 pub fn edit<S: Sink>(alloc: Global, key: u128, out: &mut S) -> Result<(), Fault>
     requires { S.has_failed out.old ≡ false }
 {
@@ -96,7 +96,7 @@ pub fn edit<S: Sink>(alloc: Global, key: u128, out: &mut S) -> Result<(), Fault>
     edit_both(alloc, &mut document, &mut desk, out)
 }
 
-/// The session, over a document and a desk that hold nothing yet.
+/// Its steps, over a document and a desk that hold nothing yet.
 fn edit_both<S: Sink>(
     alloc: Global,
     document: &mut Document,
