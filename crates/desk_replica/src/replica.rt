@@ -129,6 +129,7 @@ impl<S: Sequence> Replica<S> {
     /// Types a character at a place: makes the insertion, takes it, and returns it. A fault changes
     /// nothing.
     /// Cost: `id_at`, then `take`; memory likewise.
+    #[inline(always)]
     pub fn type_char(&mut self, place: usize, ch: char) -> Result<Op, TypeFault>
         requires { place ≤ length (visible self.old.set) }
         ensures op { IfOk result (λ op. op ≡ insertion (typed self.old.set self.old.site place ch)) }

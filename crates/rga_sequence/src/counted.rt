@@ -5,8 +5,9 @@ ghost use Rattle.rga_sequence.specs.BlockRows.{items_of};
 ghost use Rattle.rga_sequence.specs.Blocks.{seen, seen_all};
 ghost use Rattle.rga_sequence.specs.Sums.{AreSums};
 
-use crate::before::before_block;
+use crate::before::before_block_from;
 use crate::block::Block;
+use crate::bounds::NEIGHBOURS;
 use rga_tree::Element;
 
 /// How many elements of a block are visible. This is one look.
@@ -32,7 +33,8 @@ pub fn headers(blocks: &[Block], sums: &[usize], from: usize, to: usize, looks: 
     ensures looks { looks.new ≡ looks.old + (to - from) }
 {
     *looks += (to - from) as u64;
-    before_block(blocks, sums, to) - before_block(blocks, sums, from)
+    let g = sums.len().min(from / NEIGHBOURS);
+    before_block_from(blocks, sums, g, to) - before_block_from(blocks, sums, g, from)
 }
 
 /// How many elements of a block, from one up to another, are visible, where in all `visible` are. Each is looked at; where

@@ -98,6 +98,7 @@ pub fn find<L: Look>(row: &mut L, k: usize) -> Element
 /// The block of visible element k, its place there, and the element. Looks at the header of each block up to that one,
 /// and at each element there up to it: as often as the place of the block and the place of the element in it together
 /// say, both counted from 1.
+#[inline(always)]
 pub fn find_spot<L: Look>(row: &mut L, k: usize) -> (usize, usize, Element)
     requires there { k < seen_all (L.blocks row.old) }
     requires room { L.looked row.old + length (L.blocks row.old) + 512 < 2 ^ 64 }

@@ -9,10 +9,10 @@ pub overflow_sub-result : goal.overflow_sub-result
 overflow_sub-result c =
     let xs = items_of c.args.blocks.now in
     let n : c.args.from + (c.args.to - c.args.from) ≡ c.args.to = omega (arith, c.requires.order) in
-    omega (arith, seen_all-add xs c.args.from (c.args.to - c.args.from), ap (λ k. seen_all (take k xs)) n, c.before_block.ensures, c.before_block-2.ensures)
+    omega (arith, seen_all-add xs c.args.from (c.args.to - c.args.from), ap (λ k. seen_all (take k xs)) n, c.before_block_from.ensures, c.before_block_from-2.ensures)
 
 pub returns-clause-visible : goal.returns-clause-visible
 returns-clause-visible c =
     let xs = items_of c.args.blocks.now in
     let n : c.args.from + (c.args.to - c.args.from) ≡ c.args.to = omega (arith, c.requires.order) in
-    omega (arith, seen_all-add xs c.args.from (c.args.to - c.args.from), ap (λ k. seen_all (take k xs)) n, c.before_block.ensures, c.before_block-2.ensures)
+    omega (arith, seen_all-add xs c.args.from (c.args.to - c.args.from), ap (λ k. seen_all (take k xs)) n, c.before_block_from.ensures, c.before_block_from-2.ensures)
