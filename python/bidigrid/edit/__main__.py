@@ -18,7 +18,7 @@ from .desk import Desk
 from .editor import Editor
 from .fault import EditFault
 from .folder import Folder
-from .keys import WAIT, Key, Keys
+from .keys import WAIT, Key, Keys, plain
 from .log import Log
 from .screen import Screen
 from .start import MAX_SITE
@@ -121,12 +121,16 @@ def press(editor: Editor, unread: Unread, keys: Keys, key: Key) -> None:
 
 def press_left(editor: Editor, unread: Unread) -> None:
     """Presses what came to an editor that was killed before it got to that, where one stood; but it isn't left again."""
-    keys, data, caret = unread.left()
-    if data:
+    keys, caret, typed = unread.left()
+    if unread.came:
         editor.stand_behind(place_behind(editor.document, caret) or 0)
-    for key in keys.feed(data):
-        if key.name != "ctrl-q":
-            press(editor, unread, keys, key)
+    while data := unread.take():
+        for key in keys.feed(data):
+            if typed:
+                text = plain(key.text)
+                key, typed = Key(key.name, text[typed:]), max(0, typed - len(text))
+            if key.name != "ctrl-q":
+                press(editor, unread, keys, key)
     if keys.is_pasting:
         editor.press(Key("pasted"))
     unread.end(Keys(), editor.desk.caret)

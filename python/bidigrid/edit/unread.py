@@ -8,12 +8,13 @@ import threading
 from typing import NamedTuple
 
 from .. import Identifier
-from .frames import HEADER, last_identifier
+from .frames import HEADER, last_identifier, operations
 from .keys import Keys
 from .log import Log
 from .memory import MemoryFile
 from .staging import OVERLAP
 
+PIECE = 1 << 14  # bytes that are pressed at once
 HEAD = struct.Struct(f">Q?Q?IHQ{OVERLAP}s")
 
 
@@ -23,18 +24,46 @@ class Mark(NamedTuple):
     size: int = 0
     is_pasting: bool = False
 
+    def keys(self) -> Keys:
+        """Keys that go on from there."""
+        made = Keys()
+        made.is_pasting = self.is_pasting
+        return made
+
+
+class Head(NamedTuple):
+    """The head of the file: up to where the keys are done, up to where they are once the key is done that is being pressed, the
+    identifier that one stands behind before that, and how far the log goes then, with its last bytes, by which it is known
+    again."""
+
+    size: int
+    is_pasting: bool
+    ahead: int
+    goes_on: bool
+    counter: int
+    site: int
+    end: int
+    tail: bytes
+
+
+class Left(NamedTuple):
+    """Where an editor was killed: keys that go on from there, where one stood, and how many characters of the first of them are
+    typed."""
+
+    keys: Keys
+    caret: Identifier | None
+    typed: int
+
 
 class Unread:
-    """The bytes of the keys that came since none was left. The file's head tells up to where they are done, up to where they
-    are once the key is done that is being pressed, where one stood before that, and how far the log went then, with its last
-    bytes, by which it is known again."""
+    """The bytes of the keys that came since none was left."""
 
     def __init__(self, log: Log) -> None:
         self.log = log
         self.file = MemoryFile(log.file, ".keys")
         self.lock = threading.Lock()
-        self.size = self.fed = 0
-        self.came = b""
+        self.size = self.taken = 0
+        self.came = bytearray()
         self.done = Mark()
 
     def put(self, data: bytes) -> None:
@@ -44,50 +73,62 @@ class Unread:
             self.size += len(data)
             self.came += data
 
-    def take(self) -> bytes:
-        """What has come since this was asked last."""
+    def take(self, most: int = PIECE) -> bytes:
+        """What has come and wasn't taken yet, or so many bytes of it."""
         with self.lock:
-            came, self.came = self.came, b""
-            self.fed = self.size
-        return came
+            data = bytes(self.came[:most])
+            del self.came[:most]
+        self.taken += len(data)
+        return data
 
     def begin(self, keys: Keys, caret: Identifier | None) -> None:
         """Is told that a key is pressed by one who stands there: that before the bytes which `keys` still hold."""
-        self.tell(Mark(self.fed - keys.held(), keys.is_pasting), caret)
+        self.tell(self.mark(keys), caret)
 
     def end(self, keys: Keys, caret: Identifier | None) -> None:
         """Is told that it is done, and where one stands now."""
-        self.done = Mark(self.fed - keys.held(), keys.is_pasting)
         with self.lock:
+            self.done = self.mark(keys)
             if self.done.size == self.size:
                 self.done = Mark(0, keys.is_pasting)
-                self.size = self.fed = 0
+                self.size = self.taken = 0
                 self.file.cut(HEAD.size)
             self.tell(self.done, caret)
+
+    def mark(self, keys: Keys) -> Mark:
+        """Up to where the keys are read."""
+        return Mark(self.taken - keys.held(), keys.is_pasting)
 
     def tell(self, ahead: Mark, caret: Identifier | None) -> None:
         """Writes the head."""
         tail = (self.log.tail() + self.log.waiting[-OVERLAP:])[-OVERLAP:]
         self.file.put(HEAD.pack(*self.done, *ahead, *(caret or (0, 0)), self.log.end(), tail), 0)
 
-    def left(self) -> tuple[Keys, bytes, Identifier | None]:
-        """Of an editor that was killed: bytes that it had not done, keys that they go on from, and where it stood."""
+    def left(self) -> Left:
+        """Has come again what an editor had not done that was killed."""
         held = self.file.read(0)
-        keys, caret = Keys(), None
-        if len(held) <= HEAD.size:
-            return keys, b"", caret
-        size, is_pasting, ahead, goes_on, counter, site, end, tail = HEAD.unpack(held[: HEAD.size])
-        if self.log.size < end or self.log.read(max(0, end - OVERLAP), end).ljust(OVERLAP, b"\0") != tail:
-            return keys, b"", caret
-        caret = Identifier(counter, site) if site else None
-        if ahead > size and self.log.size > end:
-            # What the last key did is in the log.
-            size, is_pasting = ahead, goes_on
-            caret = last_identifier(HEADER + self.log.read(end, self.log.size)) or caret
-        keys.is_pasting = is_pasting
+        head = Head(*HEAD.unpack(held[: HEAD.size])) if len(held) > HEAD.size else None
+        if not head or not self.is_known(head):
+            return Left(Keys(), None, 0)
         self.put(held[HEAD.size :])
-        self.done = Mark(size, is_pasting)
-        return keys, self.take()[size:], caret
+        self.done, typed = Mark(head.size, head.is_pasting), 0
+        caret = Identifier(head.counter, head.site) if head.site else None
+        if head.ahead > head.size and self.log.size > head.end:
+            # What the key did that was being pressed is in the log, or a part of it.
+            made = HEADER + self.log.read(head.end, self.log.size)
+            caret = last_identifier(made) or caret
+            key = next(self.done.keys().feed(bytes(self.came[head.size : head.ahead])), None)
+            if key and key.text:
+                typed = sum(it.character is not None for it in operations(made))
+            else:
+                self.done = Mark(head.ahead, head.goes_on)
+        self.take(self.done.size)
+        return Left(self.done.keys(), caret, typed)
+
+    def is_known(self, head: Head) -> bool:
+        """Whether that stands in a file of this log."""
+        before = self.log.read(max(0, head.end - OVERLAP), head.end)
+        return self.log.size >= head.end and before.ljust(OVERLAP, b"\0") == head.tail
 
     def close(self, is_needed: bool) -> None:
         """Leaves what is not done to the next start, where that is wanted."""

@@ -8,11 +8,11 @@ import select
 import threading
 import time
 
-from .unread import Unread
+from .unread import PIECE, Unread
 
 BUSY = 0.01  # seconds of work, after which the thread looks for keys
 AWAKE = 1.0  # seconds after the last work, for which it sees whether there is more
-PIECE = 1 << 14  # bytes of keys that are read at once
+MOST = 1 << 22  # bytes that may wait: those of the longest text that there can be
 
 
 class Watch:
@@ -64,7 +64,7 @@ class Watch:
     def look(self) -> None:
         """Takes in what comes for as long as one is busy, or the terminal is gone."""
         try:
-            while self.since and len(self.unread.came) < PIECE:
+            while self.since and len(self.unread.came) < MOST:
                 if select.select([self.file], [], [], BUSY)[0]:
                     with self.lock:
                         if self.since:

@@ -25,10 +25,10 @@ class Session:
         self.keys = Keys()
         press_left(self.editor, self.unread)
 
-    def press(self, data: bytes, most: int = 1000) -> None:
-        """These bytes come, and so many of their keys are pressed."""
+    def press(self, data: bytes) -> None:
+        """These bytes come, and their keys are pressed."""
         self.unread.put(data)
-        for _, key in zip(range(most), self.keys.feed(self.unread.take())):
+        for key in self.keys.feed(self.unread.take()):
             press(self.editor, self.unread, self.keys, key)
 
     def kill(self) -> None:
@@ -67,16 +67,32 @@ def test_what_has_come_is_pressed_at_the_next_start(tmp_path: Path, wanted: str,
 
 
 @pytest.mark.parametrize("is_in_log", [False, True])
-@pytest.mark.parametrize("most", range(9))
-def test_a_key_at_which_it_is_killed_is_pressed_once(tmp_path: Path, wanted: str, most: int, is_in_log: bool) -> None:
+@pytest.mark.parametrize("count", range(8))
+def test_a_key_at_which_it_is_killed_is_pressed_once(tmp_path: Path, wanted: str, count: int, is_in_log: bool) -> None:
     first = Session(tmp_path / "notes.bgop")
-    first.press(TYPED, most)
-    key = next(first.keys.feed(b""))
+    first.unread.put(TYPED)
+    keys = first.keys.feed(first.unread.take())
+    for _ in range(count):
+        press(first.editor, first.unread, first.keys, next(keys))
+    key = next(keys)
     first.unread.begin(first.keys, first.editor.desk.caret)
     if is_in_log:
         first.editor.press(key)
     first.kill()
     assert Session(tmp_path / "notes.bgop").text() == wanted
+
+
+@pytest.mark.parametrize("count", range(5))
+def test_a_text_of_which_the_front_is_in_the_log_is_typed_to_its_end(tmp_path: Path, count: int) -> None:
+    first = Session(tmp_path / "notes.bgop")
+    first.press(b"(milk)\x1b[D\x1b[1;2D")
+    first.unread.put(b"\x1b[200~te\x01a \x1b[201~")
+    next(first.keys.feed(first.unread.take()))
+    first.unread.begin(first.keys, first.editor.desk.caret)
+    # The selected letter is erased, and not yet all is typed.
+    first.editor.desk.replace(4, 5, "tea "[:count])
+    first.kill()
+    assert Session(tmp_path / "notes.bgop").text() == "(miltea )"
 
 
 def test_a_start_that_is_killed_too_loses_nothing(tmp_path: Path, wanted: str) -> None:
@@ -85,8 +101,8 @@ def test_a_start_that_is_killed_too_loses_nothing(tmp_path: Path, wanted: str) -
     first.kill()
     again = Editor(desk_at(tmp_path / "notes.bgop", site=1), 10, "")
     unread = Unread(again.desk.log)
-    keys, data, _ = unread.left()
-    for _, key in zip(range(3), keys.feed(data)):
+    keys = unread.left().keys
+    for _, key in zip(range(3), keys.feed(unread.take())):
         press(again, unread, keys, key)
     again.desk.log.flush()
     again.desk.log.close()
