@@ -12,19 +12,21 @@ import signal
 import sys
 import time
 
+from .carets import place_behind
 from .channel import Channel
 from .desk import Desk
 from .editor import Editor
 from .fault import EditFault
 from .folder import Folder
-from .keys import WAIT, Keys
+from .keys import WAIT, Key, Keys, plain
 from .log import Log
 from .screen import Screen
 from .start import MAX_SITE
+from .unread import Unread
 from .view import view_of
+from .watch import Watch
 
 STATUS_FAULT = 3  # as the program's, where a file can't be read
-PIECE = 1 << 14  # bytes of keys that are read at once
 SWITCH = 0.0001  # seconds that a thread may compute on: a key calls the library often, and each call lets the threads go on
 DRAWN = 0.02  # seconds from one drawing to the next at least, while there is more to do
 
@@ -76,7 +78,7 @@ def channel_of(wanted: argparse.Namespace) -> Channel | None:
     return None
 
 
-def run(editor: Editor, screen: Screen, waker: int, is_ended: list[int]) -> None:
+def run(editor: Editor, screen: Screen, watch: Watch, waker: int, is_ended: list[int]) -> None:
     """Goes on until one leaves. What a key types is kept before the next is read, and nothing that may be long is waited
     for: it is done in pieces, or by a thread."""
     desk, keys, due = editor.desk, Keys(), 0.0
@@ -85,21 +87,23 @@ def run(editor: Editor, screen: Screen, waker: int, is_ended: list[int]) -> None
         if keys.is_waiting():
             patience = WAIT if patience is None else min(WAIT, patience)
         writers = [screen.outlet] if screen.outlet.rest else []
+        if watch.rest():
+            patience = 0.0
         ready, writable, _ = select.select([0, waker, *desk.readers()], writers, [], patience)
+        data = watch.begin(0 in ready)
         if writable:
             screen.outlet.flush()
         if waker in ready:
-            os.read(waker, PIECE)
+            os.read(waker, select.PIPE_BUF)
             screen.resize()
             editor.resize(*screen.size())
-        typed = keys.feed(read_keys()) if 0 in ready else [] if ready or writable else keys.give_up()
-        for key in typed:
-            editor.press(key)
+        for key in keys.feed(data) if data or ready or writable else keys.give_up():
+            press(editor, watch.unread, keys, key)
             if key.name == "ctrl-l":
                 screen.redraw()
         # While there is more to do, as when much is pasted, the screen is drawn now and then, for a fifth of the time at most.
         begun = time.monotonic()
-        is_due = begun >= due or not (desk.patience() == 0.0 or select.select([0], [], [], 0)[0])
+        is_due = begun >= due or not (desk.patience() == 0.0 or watch.has_more())
         if desk.is_changed and is_due and not screen.outlet.rest:
             desk.is_changed = False
             screen.draw(view_of(editor))
@@ -108,18 +112,28 @@ def run(editor: Editor, screen: Screen, waker: int, is_ended: list[int]) -> None
         editor.turn()
 
 
-def read_keys() -> bytes:
-    """What has come of keys, of which the terminal gives a little at a time; one that is gone ends it all."""
-    data = b""
-    while len(data) < PIECE and select.select([0], [], [], 0)[0]:
-        try:
-            part = os.read(0, PIECE)
-        except OSError:
-            part = b""
-        if not part:
-            raise EOFError
-        data += part
-    return data
+def press(editor: Editor, unread: Unread, keys: Keys, key: Key) -> None:
+    """Presses a key, whose bytes are unread until that is done."""
+    unread.begin(keys, editor.desk.caret)
+    editor.press(key)
+    unread.end(keys, editor.desk.caret)
+
+
+def press_left(editor: Editor, unread: Unread) -> None:
+    """Presses what came to an editor that was killed before it got to that, where one stood; but it isn't left again."""
+    keys, caret, typed = unread.left()
+    if unread.came:
+        editor.stand_behind(place_behind(editor.document, caret) or 0)
+    while data := unread.take():
+        for key in keys.feed(data):
+            if typed:
+                text = plain(key.text)
+                key, typed = Key(key.name, text[typed:]), max(0, typed - len(text))
+            if key.name != "ctrl-q":
+                press(editor, unread, keys, key)
+    if keys.is_pasting:
+        editor.press(Key("pasted"))
+    unread.end(Keys(), editor.desk.caret)
 
 
 def speak_utf_8() -> None:
@@ -160,6 +174,8 @@ def main(words: list[str] | None = None) -> int:
     except EditFault as fault:
         desk.close()
         return refuse(fault)
+    unread = Unread(desk.log)
+    watch, is_left = Watch(unread), False
     try:
         width, height = screen.size()
         desk.document.resize(min(500, width))
@@ -167,10 +183,15 @@ def main(words: list[str] | None = None) -> int:
         # What lives long isn't looked through between two keys.
         gc.freeze()
         gc.set_threshold(700, 10, 1 << 30)
-        run(Editor(desk, height, f"{wanted.text}.txt"), screen, waker, is_ended)
+        editor = Editor(desk, height, f"{wanted.text}.txt")
+        press_left(editor, unread)
+        run(editor, screen, watch, waker, is_ended)
+        is_left = editor.is_left
     except EOFError:
         pass
     finally:
+        watch.rest()
+        unread.close(is_needed=not is_left)
         desk.close()
         screen.close()
     return 0

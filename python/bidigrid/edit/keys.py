@@ -6,6 +6,7 @@ import codecs
 import io
 import re
 import time
+from collections.abc import Iterator
 from typing import NamedTuple
 
 WAIT = 0.05  # seconds, after which an escape that nothing follows is the key itself
@@ -46,24 +47,29 @@ class Keys:
         # Line ends of what is pasted are line feeds.
         self.pasted = io.IncrementalNewlineDecoder(codecs.getincrementaldecoder("utf-8")(errors="replace"), translate=True)
 
-    def feed(self, data: bytes) -> list[Key]:
-        """The keys that these bytes finish."""
+    def feed(self, data: bytes) -> Iterator[Key]:
+        """The keys that these bytes finish, each before what follows it is looked at."""
         self.rest += data
         self.fed = time.monotonic()
         found: list[Key] = []
-        while self.rest:
-            if self.is_pasting:
-                if not self.paste(found):
-                    break
-            elif self.rest.startswith(b"\x1b"):
-                if not self.escape(found):
-                    break
-            elif NO_TEXT.match(self.rest):
-                code, self.rest = self.rest[0], self.rest[1:]
-                found.append(Key(CONTROLS.get(code) or f"ctrl-{chr(code | 96)}"))
-            else:
-                self.type(found)
-        return found
+        is_more = True
+        while is_more and self.rest:
+            is_more = self.step(found)
+            yield from found
+            found.clear()
+
+    def step(self, found: list[Key]) -> bool:
+        """What the rest begins with; answers whether more may follow."""
+        if self.is_pasting:
+            return self.paste(found)
+        if self.rest.startswith(b"\x1b"):
+            return self.escape(found)
+        if NO_TEXT.match(self.rest):
+            code, self.rest = self.rest[0], self.rest[1:]
+            found.append(Key(CONTROLS.get(code) or f"ctrl-{chr(code | 96)}"))
+        else:
+            self.type(found)
+        return True
 
     def type(self, found: list[Key]) -> None:
         """Characters up to the next key that is none, as one text. Enter types a line feed."""
@@ -108,12 +114,17 @@ class Keys:
         """Whether an escape may still become a sequence."""
         return not self.is_pasting and bool(self.rest)
 
-    def give_up(self, after: float = WAIT) -> list[Key]:
+    def held(self) -> int:
+        """How many of the last bytes are in no key yet."""
+        begun, has_return = self.pasted.getstate()
+        return len(self.rest) + len(self.decoder.getstate()[0]) + len(begun) + (has_return & 1)
+
+    def give_up(self, after: float = WAIT) -> Iterator[Key]:
         """The keys of what has come, where nothing has followed for a while."""
-        if not self.is_waiting() or time.monotonic() - self.fed < after:
-            return []
-        rest, self.rest = self.rest, b""
-        return [Key("escape"), *self.feed(rest[1:])]
+        if self.is_waiting() and time.monotonic() - self.fed >= after:
+            self.rest = self.rest[1:]
+            yield Key("escape")
+            yield from self.feed(b"")
 
 
 def named(match: re.Match[bytes]) -> str | None:

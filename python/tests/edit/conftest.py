@@ -4,8 +4,18 @@ from collections.abc import Iterator
 from pathlib import Path
 
 import pytest
+from bidigrid.edit.memory import FOLDER
 from servers import Server
 from terminal import Terminal
+
+
+@pytest.fixture(autouse=True)
+def memory(tmp_path: Path) -> Iterator[None]:
+    """Has no file stay in memory of an editor that was killed."""
+    yield
+    for log in tmp_path.rglob("*.bgop"):
+        for left in Path(FOLDER).glob(f"bidigrid-edit.*.{log.stat().st_dev:x}.{log.stat().st_ino:x}*"):
+            left.unlink()
 
 
 @pytest.fixture

@@ -33,7 +33,7 @@ def joined(found: list[Key]) -> list[Key]:
 
 @pytest.mark.parametrize(("data", "wanted"), ROWS)
 def test_bytes_are_keys(data: bytes, wanted: list[Key]) -> None:
-    assert Keys().feed(data) == wanted
+    assert list(Keys().feed(data)) == wanted
     for size in (1, 2, 3):
         keys = Keys()
         found = [key for at in range(0, len(data), size) for key in keys.feed(data[at : at + size])]
@@ -42,10 +42,10 @@ def test_bytes_are_keys(data: bytes, wanted: list[Key]) -> None:
 
 def test_an_escape_that_nothing_follows_is_the_key() -> None:
     keys = Keys()
-    assert keys.feed(b"a\x1b") == [Key("text", "a")] and keys.is_waiting()
-    assert keys.give_up(0) == [Key("escape")] and not keys.is_waiting()
-    assert keys.feed(b"\x1b[") == [] and keys.give_up(0) == [Key("escape"), Key("text", "[")]
+    assert list(keys.feed(b"a\x1b")) == [Key("text", "a")] and keys.is_waiting()
+    assert list(keys.give_up(0)) == [Key("escape")] and not keys.is_waiting()
+    assert not list(keys.feed(b"\x1b[")) and list(keys.give_up(0)) == [Key("escape"), Key("text", "[")]
 
 
 def test_bytes_that_are_no_utf_8_are_replaced() -> None:
-    assert Keys().feed(b"a\xffb") == [Key("text", "a\ufffdb")]
+    assert list(Keys().feed(b"a\xffb")) == [Key("text", "a\ufffdb")]

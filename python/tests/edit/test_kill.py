@@ -14,7 +14,7 @@ KILLS = Path(__file__).parents[3] / "bench" / "kills"
 
 @pytest.mark.parametrize(
     ("kind", "flush"),
-    [("alone", "0"), ("alone", "1000"), ("unread", "0"), ("pastes", "0"), ("folder", "0"), ("redis", "0"), ("snapshots", "0")],
+    [("alone", "0"), ("alone", "1000"), ("unread", "0"), ("pastes", "0"), ("folder", "0"), ("paragraph", "0"), ("redis", "0"), ("snapshots", "0")],
 )
 def test_a_kill_takes_nothing_but_the_last_50_ms(kind: str, flush: str) -> None:
     words = [sys.executable, str(KILLS), kind, "6", flush, "1"]
