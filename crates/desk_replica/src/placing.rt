@@ -49,6 +49,7 @@ fn kept_at<S: Sequence>(seq: &S, held: &Held, id: Id) -> Option<Op>
 }
 
 /// How an operation stands to those that are kept, of which none names a counter above `greatest`.
+#[inline(always)]
 pub fn look_up<S: Sequence>(seq: &S, held: &Held, greatest: u32, op: &Op) -> Standing
     requires settled { IsSettled (S.content seq.now) held.now }
     requires greatest { next (whole (S.content seq.now) held.now) ≡ greatest + 1 }
@@ -213,6 +214,7 @@ fn keep_waiting(held: &mut Held, op: &Op)
 }
 
 /// Whether an operation need not wait: its parent or its target is placed.
+#[inline(always)]
 fn reaches<S: Sequence>(seq: &S, op: &Op) -> bool
     ensures value { result ≡ reaches_in (S.content seq.now) op.now }
     ensures well_formed { IsWellFormed op.now }

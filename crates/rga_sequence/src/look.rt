@@ -113,6 +113,7 @@ pub fn find_spot<L: Look>(row: &mut L, k: usize) -> (usize, usize, Element)
 }
 
 /// The block in which visible element k stands, how many visible ones it has, and how many of them are before it there.
+#[inline(always)]
 fn block_of<L: Look>(row: &mut L, k: usize) -> (usize, usize, usize)
     requires there { k < seen_all (L.blocks row.old) }
     requires room { L.looked row.old + length (L.blocks row.old) < 2 ^ 64 }
@@ -157,6 +158,7 @@ fn passed_together<L: Look>(row: &mut L, k: usize) -> (usize, usize)
 
 /// The place of a visible element in its block, and the element. As many elements as visible ones are left before it are
 /// passed at once, or as many as can be counted.
+#[inline(always)]
 fn element_of<L: Look>(row: &mut L, b: usize, visible: usize, k: usize) -> (usize, Element)
     requires block { b < length (L.blocks row.old) }
     requires visible { visible ≡ seen (get_or (L.blocks row.old) b []) }
