@@ -15,7 +15,7 @@ def memory(tmp_path: Path) -> Iterator[None]:
     yield
     for log in tmp_path.rglob("*.bgop"):
         for left in Path(FOLDER).glob(f"bidigrid-edit.*.{log.stat().st_dev:x}.{log.stat().st_ino:x}*"):
-            left.unlink()
+            left.unlink(missing_ok=True)
 
 
 @pytest.fixture
