@@ -16,7 +16,7 @@ from waiting import until
 TYPED = b"tea" + "תה".encode() + b"\x1b[D\x7f\x1b[H\x1b[200~one\r\ntwo\x1b[201~\x1b[C!."
 
 
-class Session:
+class Opened:
     """An editor, and what has come to it."""
 
     def __init__(self, path: Path) -> None:
@@ -50,26 +50,26 @@ class Session:
 @pytest.fixture
 def wanted(tmp_path: Path) -> str:
     """The text where nobody is killed."""
-    session = Session(tmp_path / "whole.bgop")
-    session.press(TYPED)
-    return session.text()
+    opened = Opened(tmp_path / "whole.bgop")
+    opened.press(TYPED)
+    return opened.text()
 
 
 @pytest.mark.parametrize("size", [1, 4, 100])
 @pytest.mark.parametrize("cut", range(len(TYPED) + 1))
 def test_what_has_come_is_pressed_at_the_next_start(tmp_path: Path, wanted: str, cut: int, size: int) -> None:
-    first = Session(tmp_path / "notes.bgop")
+    first = Opened(tmp_path / "notes.bgop")
     for at in range(0, cut, size):
         first.press(TYPED[at : min(at + size, cut)])
     first.unread.put(TYPED[cut:])
     first.kill()
-    assert Session(tmp_path / "notes.bgop").text() == wanted
+    assert Opened(tmp_path / "notes.bgop").text() == wanted
 
 
 @pytest.mark.parametrize("is_in_log", [False, True])
 @pytest.mark.parametrize("count", range(8))
 def test_a_key_at_which_it_is_killed_is_pressed_once(tmp_path: Path, wanted: str, count: int, is_in_log: bool) -> None:
-    first = Session(tmp_path / "notes.bgop")
+    first = Opened(tmp_path / "notes.bgop")
     first.unread.put(TYPED)
     keys = first.keys.feed(first.unread.take())
     for _ in range(count):
@@ -79,12 +79,12 @@ def test_a_key_at_which_it_is_killed_is_pressed_once(tmp_path: Path, wanted: str
     if is_in_log:
         first.editor.press(key)
     first.kill()
-    assert Session(tmp_path / "notes.bgop").text() == wanted
+    assert Opened(tmp_path / "notes.bgop").text() == wanted
 
 
 @pytest.mark.parametrize("count", range(5))
 def test_a_text_of_which_the_front_is_in_the_log_is_typed_to_its_end(tmp_path: Path, count: int) -> None:
-    first = Session(tmp_path / "notes.bgop")
+    first = Opened(tmp_path / "notes.bgop")
     first.press(b"(milk)\x1b[D\x1b[1;2D")
     first.unread.put(b"\x1b[200~te\x01a \x1b[201~")
     next(first.keys.feed(first.unread.take()))
@@ -92,11 +92,11 @@ def test_a_text_of_which_the_front_is_in_the_log_is_typed_to_its_end(tmp_path: P
     # The selected letter is erased, and not yet all is typed.
     first.editor.desk.replace(4, 5, "tea "[:count])
     first.kill()
-    assert Session(tmp_path / "notes.bgop").text() == "(miltea )"
+    assert Opened(tmp_path / "notes.bgop").text() == "(miltea )"
 
 
 def test_a_start_that_is_killed_too_loses_nothing(tmp_path: Path, wanted: str) -> None:
-    first = Session(tmp_path / "notes.bgop")
+    first = Opened(tmp_path / "notes.bgop")
     first.unread.put(TYPED)
     first.kill()
     again = Editor(desk_at(tmp_path / "notes.bgop", site=1), 10, "")
@@ -107,30 +107,30 @@ def test_a_start_that_is_killed_too_loses_nothing(tmp_path: Path, wanted: str) -
     again.desk.log.flush()
     again.desk.log.close()
     unread.file.give_up()
-    assert Session(tmp_path / "notes.bgop").text() == wanted
+    assert Opened(tmp_path / "notes.bgop").text() == wanted
 
 
 def test_keys_for_another_log_are_left(tmp_path: Path) -> None:
     path = tmp_path / "notes.bgop"
-    first = Session(path)
+    first = Opened(path)
     first.press(b"one")
     first.unread.put(b"never")
     first.kill()
     path.write_bytes(Document(1).type(0, "two"))
-    assert Session(path).text() == "two"
+    assert Opened(path).text() == "two"
 
 
 def test_what_is_left_is_not_left_again(tmp_path: Path) -> None:
-    first = Session(tmp_path / "notes.bgop")
+    first = Opened(tmp_path / "notes.bgop")
     first.unread.put(b"a\x11b")
     first.kill()
-    second = Session(tmp_path / "notes.bgop")
+    second = Opened(tmp_path / "notes.bgop")
     assert not second.editor.is_leaving and second.text() == "ab"
-    assert Session(tmp_path / "notes.bgop").text() == "ab"
+    assert Opened(tmp_path / "notes.bgop").text() == "ab"
 
 
 def test_keys_are_read_while_one_is_busy(tmp_path: Path) -> None:
-    first = Session(tmp_path / "notes.bgop")
+    first = Opened(tmp_path / "notes.bgop")
     ear, mouth = os.pipe()
     watch = Watch(first.unread, ear)
     for text in (b"one", b"two"):
