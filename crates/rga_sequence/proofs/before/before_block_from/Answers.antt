@@ -1,5 +1,5 @@
 -- The goals of `before_block_from` that are answered by hand.
-use Rattle.std.proofs.Common.{◌≡◌, ◌*◌, arith}
+use Rattle.std.proofs.Common.{arith}
 use Rattle.rga_sequence.specs.BlockRows.{items_of}
 use Rattle.rga_sequence.proofs.InFront.{seen_all-within}
 use Rattle.rga_sequence.proofs.Summed.{sums-between}

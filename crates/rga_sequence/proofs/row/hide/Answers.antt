@@ -1,5 +1,5 @@
 -- The goals of `hide` that are answered by hand.
-use Rattle.std.proofs.Common.{◌≡◌, ◌<◌, ◌+◌, ◌/◌, ◌++◌, ◌∙◌, [], not, true, false, sym, ap, subst, length, take, drop, get_or, length-set, arith}
+use Rattle.std.proofs.Common.{◌≡◌, ◌<◌, ◌/◌, ◌++◌, ◌∙◌, [], not, true, false, sym, ap, subst, length, take, drop, get_or, length-set, arith}
 use Rattle.std.specs.Prelude.{set, slice_get}
 use Rattle.std.specs.Ordering.{is_lt}
 use Rattle.std.proofs.lemmas.List.{take_at}

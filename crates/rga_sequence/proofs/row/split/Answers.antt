@@ -7,7 +7,7 @@ use Rattle.std.proofs.lemmas.List.{take-append-drop, take_at}
 use Rattle.bg_types.specs.Identifier.{Identifier}
 use Rattle.rga_tree.specs.declared.element.Element.{Element}
 use Rattle.rga_sequence.specs.declared.block.Block.{Block}
-use Rattle.rga_sequence.specs.Blocks.{seen_all, joined}
+use Rattle.rga_sequence.specs.Blocks.{joined}
 use Rattle.rga_sequence.specs.BlockRows.{items_of, numbers_of, has, home_of, AreHalfFull}
 use Rattle.rga_sequence.specs.Indexed.{blocks_in}
 use Rattle.rga_sequence.specs.Bounds.{AreBounds, AreBoundsBelow}

@@ -1,5 +1,5 @@
 -- The goals of `count` that are answered by hand.
-use Rattle.std.proofs.Common.{◌≡◌, ◌+◌, ◌-◌, ◌*◌, length, refl, ◌∙◌, arith}
+use Rattle.std.proofs.Common.{◌+◌, ◌-◌, ◌*◌, refl, ◌∙◌, arith}
 use Rattle.rga_sequence.specs.BlockRows.{items_of}
 use Rattle.rga_sequence.proofs.Numbers.{length-items}
 use Rattle.rga_sequence.proofs.Summed.{seen_among-read, seen_among-within, sums-counted}

@@ -1,5 +1,5 @@
 -- The goals of `lower` that are answered by hand.
-use Rattle.std.proofs.Common.{◌/◌, arith}
+use Rattle.std.proofs.Common.{arith}
 use Rattle.rga_sequence.proofs.Summed.{sums-lowered, sums-kept}
 use Rattle.rga_sequence.proofs.sums.lower.Goals as goal
 

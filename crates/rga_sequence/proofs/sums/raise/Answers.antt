@@ -1,5 +1,5 @@
 -- The goals of `raise` that are answered by hand.
-use Rattle.std.proofs.Common.{◌/◌, arith}
+use Rattle.std.proofs.Common.{arith}
 use Rattle.rga_sequence.proofs.Summed.{sums-raised, sums-kept}
 use Rattle.rga_sequence.proofs.sums.raise.Goals as goal
 

@@ -1,5 +1,5 @@
 -- The goals of `renew` that are answered by hand.
-use Rattle.std.proofs.Common.{◌≡◌, ◌++◌, ◌∙◌, length, take, drop, sym, ap, subst, arith}
+use Rattle.std.proofs.Common.{◌≡◌, ◌++◌, length, take, drop, sym, ap, subst, arith}
 use Rattle.std.proofs.lemmas.List.{take_at}
 use Rattle.rga_sequence.specs.BlockRows.{items_of}
 use Rattle.rga_sequence.specs.Sums.{AreSums, AreSumsBelow}
