@@ -30,7 +30,7 @@ fn before_block(blocks: &[Block], sums: &[usize], b: usize) -> usize
     before_block_from(blocks, sums, 0, b)
 }
 
-/// How many visible elements stand before block b, but for those of which the first g sums tell, none of a later block.
+/// How many visible elements stand before block b, less those of which the first g sums tell. All of these stand before it.
 pub fn before_block_from(blocks: &[Block], sums: &[usize], g: usize, b: usize) -> usize
     requires block { b ≤ length blocks.now }
     requires there { g ≤ length sums.now }

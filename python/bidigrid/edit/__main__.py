@@ -175,7 +175,7 @@ def main(words: list[str] | None = None) -> int:
         desk.close()
         return refuse(fault)
     unread = Unread(desk.log)
-    watch, is_left = Watch(unread), False
+    watch, is_needed = Watch(unread), False
     try:
         width, height = screen.size()
         desk.document.resize(min(500, width))
@@ -186,12 +186,13 @@ def main(words: list[str] | None = None) -> int:
         editor = Editor(desk, height, f"{wanted.text}.txt")
         press_left(editor, unread)
         run(editor, screen, watch, waker, is_ended)
-        is_left = editor.is_left
+        is_needed = not editor.is_left
     except EOFError:
-        pass
+        is_needed = True
     finally:
         watch.rest()
-        unread.close(is_needed=not is_left)
+        # A key at which the editor itself fails must not come again at each start.
+        unread.close(is_needed)
         desk.close()
         screen.close()
     return 0
