@@ -71,6 +71,8 @@ fn own_row(
     ensures made { IfOk result (λ own. own.made ≤ own.rows) }
     ensures laid { IfOk result (λ own. own.laid ≡ (if is_kept (flags buffer.old) own.number then 0 else 1)) }
 {
+    // All that is looked up for a window is near its place.
+    buffer.go_to(place);
     let number = buffer.paragraph_of(place);
     let out = lay_out(alloc, tables, width, base, buffer, number)?;
     laws_below();

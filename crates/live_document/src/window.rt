@@ -59,7 +59,7 @@ impl<'a> Window<'a> {
     }
 
     /// The row with this number, from 0 at the top.
-    /// Cost: O(n / 256 + 512) of the paragraphs for each that has a row in the window up to it.
+    /// Cost: O(64) for each paragraph that has a row in the window up to it.
     pub fn row(&self, number: usize) -> WindowRow<'a>
         requires { number < length self.now.rows }
         ensures { slice_get self.now.rows number ≡ Some result }
@@ -81,7 +81,7 @@ impl<'a> Window<'a> {
     }
 
     /// Its rows from the top.
-    /// Cost: O(n / 256 + 512) of the paragraphs; a step of it O(1).
+    /// Cost: O(64), and after an edit elsewhere O(n / 32) of the paragraphs; a step of it O(1).
     pub fn rows(&self) -> WindowRows<'a>
         ensures { result ≡ self.now.rows }
     {

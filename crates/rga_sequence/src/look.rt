@@ -5,6 +5,7 @@ ghost use Rattle.rga_tree.specs.declared.element.Element.{Element};
 ghost use Rattle.rga_sequence.specs.Blocks.{seen, seen_all, joined, FindsBy, IsVisiblePlace};
 
 use crate::block::FULL;
+use crate::bounds::NEIGHBOURS;
 use rga_tree::Element;
 
 /// How many blocks are passed together at least. Of fewer each is looked at alone, so that no step leads over one block.
@@ -149,11 +150,24 @@ fn passed_together<L: Look>(row: &mut L, k: usize) -> (usize, usize)
     let mut b = 0;
     let mut left = k;
     while left / FULL >= FEWEST_BLOCKS {
-        let end = b + left / FULL;
+        let end = b + in_one_step(left / FULL);
         left -= row.headers(b, end);
         b = end;
     }
     (b, left)
+}
+
+/// How many of so many blocks are passed in one step: of many only whole neighbours, of which a sum tells.
+#[inline]
+fn in_one_step(blocks: usize) -> usize
+    requires { 0 < blocks }
+    ensures some { 0 < result }
+    ensures within { result ≤ blocks }
+{
+    if blocks < NEIGHBOURS {
+        return blocks;
+    }
+    blocks - blocks % NEIGHBOURS
 }
 
 /// The place of a visible element in its block, and the element. As many elements as visible ones are left before it are

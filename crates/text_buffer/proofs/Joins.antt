@@ -87,6 +87,10 @@ module _ {A : Type 0} where
       let n : i ≡ length (take i rows) + 0 = omega (arith, length-take-le i rows (omega (arith, within))) in
       ap (λ k. drop k (remove rows i)) n ∙ drop-append-add (take i rows) (drop (suc i) rows) 0
 
+  pub removed-before : (rows : List (List A)) (q : ℕ) → q + 1 < length rows → take q (remove rows (q + 1)) ≡ take q rows
+  removed-before rows q more =
+      sym (take-take q (q + 1) (remove rows (q + 1)) (omega arith)) ∙ ap (take q) (front-without rows (q + 1) more) ∙ take-take q (q + 1) rows (omega arith)
+
   -- it is put in again
   pub taken-again : (rows : List (List A)) (i : ℕ) → i < length rows → insert (remove rows i) i (get_or rows i []) ≡ rows
   taken-again rows i within =

@@ -5,6 +5,7 @@ use Rattle.std.proofs.lemmas.List.{append-nil, length-append, length-map, get_or
 use Rattle.std.proofs.lemmas.List.Concat.{get_or-flat_map}
 use Rattle.std.proofs.Math.Seq.{take-append-add}
 use Rattle.std.specs.List.{concat, insert, remove}
+use Rattle.std.specs.Prelude.{OnOk, OnErr}
 use Rattle.std.specs.Result.{IsOk, is_ok}
 use Rattle.text_buffer.specs.declared.piece.Piece.{Piece}
 use Rattle.text_buffer.specs.declared.block.Block.{Block}
@@ -15,6 +16,11 @@ use Rattle.text_buffer.specs.Blocks.{rows_of, joined, pieces_in, texts_in}
 use Rattle.text_buffer.specs.Places.{IsInFront}
 use Rattle.text_buffer.proofs.Sums.{bytes-both, places-both}
 use Rattle.text_buffer.proofs.Joins.{joined-at, joined-more, joined-set, joined-onto, within-less}
+
+-- a block before which something stands is not the first
+pub record HasFront (b : Before) : Type 0 where
+  pub paragraphs : 0 < b.paragraphs → 0 < b.block
+  pub places : 0 < b.places → 0 < b.block
 
 module _ {K : Type 0} where
   pub length-rows : (bs : List (Block K)) → length (rows_of bs) ≡ length bs
@@ -31,10 +37,20 @@ module _ {K : Type 0} where
   pub length-points : (ps : List (Piece K)) → length (points_in ps) ≡ length ps
   length-points ps = length-map ps points_of
 
+  -- where a paragraph stands, a block does
+  pub blocks-some : (bs : List (Block K)) → 0 < length (pieces_in bs) → 0 < length bs
+  blocks-some [] some = absurd (omega (arith, some))
+  blocks-some (b ∷ bs) some = omega arith
+
   -- what is seen of paragraphs has their code points
   pub seen-points : (ps : List (Piece K)) → paragraphs_in (map seen ps) ≡ points_in ps
   seen-points [] = refl
   seen-points (p ∷ ps) = ap (λ t. points_of p ∷ t) (seen-points ps)
+
+-- what follows from either follows
+pub ok-or-err : {T E P Q R : Type 0} (r : Result T E) → (P → R) → (Q → R) → OnOk r P → OnErr r Q → R
+ok-or-err (Ok v) f h p q = f p
+ok-or-err (Err e) f h p q = h q
 
 pub if_ok : {T E X : Type 0} (r : Result T E) (x a b : X) → IsOk r → x ≡ cond (is_ok r) a b → x ≡ a
 if_ok (Ok v) x a b h e = e
@@ -171,6 +187,23 @@ module _ {K : Type 0} where
         places = places ∙ sym (ap (λ t. length (concat (points_in t))) none);
       }
 
+  -- where something stands before a block, that isn't the first
+  pub first-none : (bs : List (Block K)) (b : Before) → IsInFront bs b → HasFront b
+  first-none bs b s =
+      let none : b.block ≡ 0 → joined (take b.block (rows_of bs)) ≡ [] = λ is. ap (λ n. joined (take n (rows_of bs))) is in
+      record {
+        paragraphs = λ some.
+            elim (cases_lt 0 b.block) [
+              | inl more ↦ more
+              | inr last ↦ absurd (omega (arith, s.paragraphs, ap (λ t. length (points_in t)) (none (omega (arith, last))), some))
+            ];
+        places = λ some.
+            elim (cases_lt 0 b.block) [
+              | inl more ↦ more
+              | inr last ↦ absurd (omega (arith, s.places, ap (λ t. length (concat (points_in t))) (none (omega (arith, last))), some))
+            ];
+      }
+
   -- with the same blocks before it and one there a block stands where it stood
   pub stands-same : (old new : List (Block K)) (b : Before) → IsInFront old b → take b.block (rows_of new) ≡ take b.block (rows_of old) → b.block < length new → IsInFront new b
   stands-same old new b s same within =
@@ -180,6 +213,34 @@ module _ {K : Type 0} where
         bytes = s.bytes ∙ sym (ap (λ t. bytes_in (concat (points_in (joined t)))) same);
         places = s.places ∙ sym (ap (λ t. length (concat (points_in (joined t)))) same);
       }
+
+  -- with the same texts in each block a block stands where it stood
+  points-joined : (rows : List (List (Piece K))) → points_in (joined rows) ≡ joined (map points_in rows)
+  points-joined [] = refl
+  points-joined (r ∷ rows) = map-append points_of r (joined rows) ∙ ap (λ t. points_in r ++ t) (points-joined rows)
+
+  pub stands-alike : (old new : List (Block K)) (b : Before) → IsInFront old b → map points_in (rows_of new) ≡ map points_in (rows_of old) → IsInFront new b
+  stands-alike old new b s same =
+      let q = b.block in
+      let front : points_in (joined (take q (rows_of new))) ≡ points_in (joined (take q (rows_of old))) =
+      points-joined (take q (rows_of new)) ∙ ap joined (sym (take-map points_in q (rows_of new)) ∙ ap (take q) same ∙ take-map points_in q (rows_of old)) ∙ sym (points-joined (take q (rows_of old))) in
+      let size = sym (length-map (rows_of new) points_in) ∙ ap length same ∙ length-map (rows_of old) points_in in
+      record {
+        within = omega (arith, size, length-rows new, length-rows old, s.within);
+        paragraphs = s.paragraphs ∙ sym (ap length front);
+        bytes = s.bytes ∙ sym (ap (λ t. bytes_in (concat t)) front);
+        places = s.places ∙ sym (ap (λ t. length (concat t)) front);
+      }
+
+  -- where the blocks before it stay and a paragraph stands behind these, a block stands where it stood
+  pub stands-still : (old new : List (Block K)) (b : Before) → IsInFront old b → take b.block (rows_of new) ≡ take b.block (rows_of old) → b.paragraphs < length (pieces_in new) → IsInFront new b
+  stands-still old new b s same there =
+      elim (cases_lt b.block (length new)) [
+        | inl within ↦ stands-same old new b s same within
+        | inr last ↦
+            let all = sym (ap joined same) ∙ ap joined (take_all b.block (rows_of new) (omega (arith, length-rows new, last))) in
+            absurd (omega (arith, ap length all, s.paragraphs, length-points (joined (take b.block (rows_of old))), there))
+      ]
 
   -- ---- one block that is made anew
 

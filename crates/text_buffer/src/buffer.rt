@@ -15,7 +15,9 @@ use crate::block::{Block, sum_up};
 use crate::change::{change, pieces_of};
 use crate::cursor::Cursor;
 use crate::fault::{BufferFault, Stopped};
-use crate::find::{block_of, first_block, spot_at};
+use crate::find::{
+    Before, at_or_in_front, back_to_place, block_at, block_near, first_block, spot_at,
+};
 use crate::forget::forget_but;
 use crate::found::{find, find_at};
 use crate::replace::blocks_of;
@@ -39,6 +41,8 @@ pub struct Buffer<K> {
     bytes: usize,
     places: usize,
     paragraphs: usize,
+    /// Where look-ups begin: a block near the last edit, or that of the last `go_to`.
+    near: Before,
 }
 
 impl<K> Model for Buffer<K> {
@@ -52,7 +56,7 @@ impl<K> Model for Buffer<K> {
 
     ghost view = { λ b. seen_in b.blocks.items };
 
-    ghost invariant = { λ b. IsCounted b.blocks.items b.bytes b.places b.paragraphs };
+    ghost invariant = { λ b. IsCounted b.blocks.items b.bytes b.places b.paragraphs b.near };
 }
 
 impl<K: Drop> Buffer<K> {
@@ -72,12 +76,14 @@ impl<K: Drop> Buffer<K> {
         let paragraphs = pieces.len();
         let sums = sum_up(&pieces);
         let blocks = blocks_of(alloc, pieces)?;
+        let near = first_block(&blocks);
         Ok(Buffer {
             alloc,
             blocks,
             bytes: sums.bytes,
             places: sums.places,
             paragraphs,
+            near,
         })
     }
 
@@ -100,6 +106,17 @@ impl<K: Drop> Buffer<K> {
         self.bytes
     }
 
+    /// Goes to a place: what is asked for next is found from there. The text and what is kept of it stay. An edit goes to
+    /// where it is made.
+    /// Cost: O(d / 32) of the d paragraphs between it and where the buffer is.
+    pub fn go_to(&mut self, place: usize)
+        requires { place ≤ length (text_in self.old) }
+        ensures { self.new ≡ self.old }
+    {
+        let start = back_to_place(&self.blocks, self.near, place);
+        self.near = block_at(&self.blocks, start, place);
+    }
+
     /// How many paragraphs it has: at least one, and more than separators at most by one.
     #[inline]
     pub fn paragraph_count(&self) -> usize
@@ -109,7 +126,7 @@ impl<K: Drop> Buffer<K> {
     }
 
     /// A paragraph by its number, from 0.
-    /// Cost: O(n / 256 + 512) of the paragraphs.
+    /// Cost: O(d / 32 + 64) of the d paragraphs between it and where the buffer is.
     pub fn paragraph(&self, number: usize) -> Para<'_>
         requires { number < length self.now }
         ensures paragraph { (tables : TableValues) → IsSplit tables (paragraphs_in self.now) → slice_get (paragraphs tables (encode_utf8_all (text_in self.now))) number ≡ Some result }
@@ -118,72 +135,73 @@ impl<K: Drop> Buffer<K> {
     }
 
     /// A cursor at a paragraph.
-    /// Cost: O(n / 256 + 512) of the paragraphs.
+    /// Cost: O(d / 32 + 64) of the d paragraphs between it and where the buffer is.
     pub fn cursor(&self, number: usize) -> Cursor<'_, K>
         requires { number < length self.now }
         ensures paragraphs { result.paragraphs ≡ self.now }
         ensures number { result.number ≡ number }
     {
-        Cursor::at(&self.blocks, find(&self.blocks, number))
+        Cursor::at(&self.blocks, find(&self.blocks, self.near, number))
     }
 
     /// A cursor at the paragraph in which a place stands.
-    /// Cost: O(n / 256 + 512) of the paragraphs.
+    /// Cost: O(d / 32 + 64) of the d paragraphs between it and where the buffer is.
     pub fn cursor_at(&self, place: usize) -> Cursor<'_, K>
         requires { place ≤ length (text_in self.now) }
         ensures paragraphs { result.paragraphs ≡ self.now }
         ensures number { IsParagraphOf (paragraphs_in self.now) place result.number }
     {
-        Cursor::at(&self.blocks, find_at(&self.blocks, place))
+        Cursor::at(&self.blocks, find_at(&self.blocks, self.near, place))
     }
 
     /// The number of the paragraph in which a place stands: of the last one that begins at it or before.
-    /// Cost: O(n / 256 + 512) of the paragraphs.
+    /// Cost: O(d / 32 + 64) of the d paragraphs between it and where the buffer is.
     pub fn paragraph_of(&self, place: usize) -> usize
         requires { place ≤ length (text_in self.now) }
         ensures { IsParagraphOf (paragraphs_in self.now) place result }
     {
-        let (_, spot) = spot_at(&self.blocks, first_block(&self.blocks), place);
+        let start = back_to_place(&self.blocks, self.near, place);
+        let (_, spot) = spot_at(&self.blocks, start, place);
         spot.number
     }
 
     /// What is kept of a paragraph, or nothing.
-    /// Cost: O(n / 256 + 512) of the paragraphs.
+    /// Cost: O(d / 32 + 64) of the d paragraphs between it and where the buffer is.
     pub fn kept(&self, number: usize) -> Option<&K>
         requires { number < length self.now }
         ensures { slice_get (kept_in self.now) number ≡ Some (option_copied result) }
     {
-        let before = block_of(&self.blocks, first_block(&self.blocks), number);
+        let before = block_near(&self.blocks, self.near, number);
         let index = number - before.paragraphs;
         kept_at(&self.blocks, before.block, index)
     }
 
     /// Keeps a value beside a paragraph, until an edit makes it anew or another takes its place.
-    /// Cost: O(n / 256 + 512) of the paragraphs.
+    /// Cost: O(d / 32 + 64) of the d paragraphs between it and where the buffer is.
     pub fn keep(&mut self, number: usize, value: K)
         requires { number < length self.old }
         ensures paragraphs { paragraphs_in self.new ≡ paragraphs_in self.old }
         ensures kept { kept_in self.new ≡ slice_set (kept_in self.old) number (Some value) }
     {
-        let before = block_of(&self.blocks, first_block(&self.blocks), number);
+        let before = block_near(&self.blocks, self.near, number);
         let index = number - before.paragraphs;
         set_kept_in(&mut self.blocks, before.block, index, Some(value));
     }
 
     /// Drops what is kept of a paragraph.
-    /// Cost: O(n / 256 + 512) of the paragraphs.
+    /// Cost: O(d / 32 + 64) of the d paragraphs between it and where the buffer is.
     pub fn forget(&mut self, number: usize)
         requires { number < length self.old }
         ensures paragraphs { paragraphs_in self.new ≡ paragraphs_in self.old }
         ensures kept { kept_in self.new ≡ slice_set (kept_in self.old) number None }
     {
-        let before = block_of(&self.blocks, first_block(&self.blocks), number);
+        let before = block_near(&self.blocks, self.near, number);
         let index = number - before.paragraphs;
         set_kept_in(&mut self.blocks, before.block, index, None);
     }
 
     /// Drops what is kept of all paragraphs but those from one number up to another.
-    /// Cost: O(n / 256) of the paragraphs, and O(512) for each 512 of them of which something is kept.
+    /// Cost: O(n / 32) of the paragraphs, and O(64) for each block of at most 64 of which something is kept.
     pub fn forget_but(&mut self, from: usize, to: usize)
         requires { from ≤ to }
         ensures paragraphs { paragraphs_in self.new ≡ paragraphs_in self.old }
@@ -195,8 +213,8 @@ impl<K: Drop> Buffer<K> {
     /// Puts a text in the place of the code points from one place up to another, and tells which paragraphs it made anew; of
     /// these nothing is kept, and of the others what was. After a fault all is as it was: `TooLong` where the text would have
     /// more than 4,000,000 bytes.
-    /// Cost: O(n / 256 + 512) of the paragraphs, and O(m) of those that it touches and of the text put in; memory for
-    /// their text.
+    /// Cost: O(d / 32 + 64) of the d paragraphs between it and where the buffer is, and O(m) of those that it
+    /// touches and of the text put in; memory for their text.
     pub fn edit(
         &mut self,
         tables: &Tables,
@@ -213,7 +231,18 @@ impl<K: Drop> Buffer<K> {
         ensures unchanged { OnErr result (self.new ≡ self.old) }
         ensures too_long { (result ≡ Err TooLong) ↔ (4_000_000 < bytes_in (replaced (text_in self.old) from to (code_points text.now))) }
     {
-        let plan = plan_edit(self.alloc, tables, &self.blocks, self.bytes, from, to, text)?;
+        let plan = plan_edit(
+            self.alloc,
+            tables,
+            &self.blocks,
+            self.near,
+            self.bytes,
+            from,
+            to,
+            text,
+        )?;
+        // What stands in front of that one stays, whether the change is made or not.
+        self.near = at_or_in_front(&self.blocks, plan.stretch.block);
         let touched = change(
             self.alloc,
             tables,
@@ -230,8 +259,8 @@ impl<K: Drop> Buffer<K> {
     }
 
     /// Puts a character at a place, as `edit` does.
-    /// Cost: O(n / 256 + 512) of the paragraphs, and O(m) of the one at the place and those it joins; memory for their
-    /// text.
+    /// Cost: O(d / 32 + 64) of the d paragraphs between it and where the buffer is, and O(m) of the one at the
+    /// place and those it joins; memory for their text.
     pub fn put(&mut self, tables: &Tables, place: usize, ch: char) -> Result<Touched, BufferFault>
         requires split { IsSplit tables.now (paragraphs_in self.old) }
         requires place { place ≤ length (text_in self.old) }
@@ -246,8 +275,8 @@ impl<K: Drop> Buffer<K> {
     }
 
     /// Erases the character at a place, as `edit` does. The fault is `Memory`.
-    /// Cost: O(n / 256 + 512) of the paragraphs, and O(m) of the one at the place and those it joins; memory for their
-    /// text.
+    /// Cost: O(d / 32 + 64) of the d paragraphs between it and where the buffer is, and O(m) of the one at the
+    /// place and those it joins; memory for their text.
     pub fn cut(&mut self, tables: &Tables, place: usize) -> Result<Touched, BufferFault>
         requires split { IsSplit tables.now (paragraphs_in self.old) }
         requires place { place < length (text_in self.old) }

@@ -7,7 +7,7 @@ ghost use Rattle.paragraphs.specs.Paragraphs.{paragraphs};
 ghost use Rattle.text_buffer.specs.Buffers.{bytes_in, IsSplit};
 ghost use Rattle.text_buffer.specs.Edits.{anew};
 ghost use Rattle.text_buffer.specs.Pieces.{points_in, seen};
-ghost use Rattle.text_buffer.specs.Blocks.{pieces_in, texts_in, seen_in};
+ghost use Rattle.text_buffer.specs.Blocks.{rows_of, pieces_in, texts_in, seen_in};
 ghost use Rattle.text_buffer.specs.Places.{IsBlockOf};
 ghost use Rattle.text_buffer.specs.Stretches.{IsRemade, IsOne, text_with};
 
@@ -107,6 +107,8 @@ pub fn change<K: Drop>(
     ensures split { OnOk result (IsSplit tables.now (texts_in blocks.new.items)) }
     ensures count { IfOk result (λ t. length (texts_in blocks.new.items) + t.old ≡ count + t.new) }
     ensures err { OnErr result (pieces_in blocks.new.items ≡ pieces_in blocks.old.items) }
+    ensures front { take (stretch.block.block - 1) (rows_of blocks.new.items) ≡ take (stretch.block.block - 1) (rows_of blocks.old.items) }
+    ensures there { stretch.from < length (pieces_in blocks.new.items) }
 {
     let last = stretch.to == count;
     let pieces = pieces_of_stretch(alloc, tables, stretch.text, last, one)?;

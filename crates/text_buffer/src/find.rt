@@ -74,6 +74,7 @@ fn previous_to<K>(blocks: &[Block<K>], before: Before) -> Before
     requires stands { IsInFront blocks.now before }
     requires some { 0 < before.block }
     ensures stands { IsInFront blocks.now result }
+    ensures block { result.block + 1 ≡ before.block }
     ensures paragraphs { result.paragraphs + length (get_or (rows_of blocks.now) result.block []) ≡ before.paragraphs }
 {
     let block = before.block - 1;
@@ -93,6 +94,56 @@ pub fn block_in_front<K>(blocks: &[Block<K>], before: Before, number: usize) -> 
     ensures { IsBlockOf blocks.now result (number - 1) }
 {
     if before.paragraphs < number {
+        return before;
+    }
+    previous_to(blocks, before)
+}
+
+/// The block of paragraph `number`, found from any block on.
+/// Cost: O(n) of the blocks between the two.
+pub fn block_near<K>(blocks: &[Block<K>], near: Before, number: usize) -> Before
+    requires near { IsInFront blocks.now near }
+    requires there { number < length (texts_in blocks.now) }
+    requires fits { Fits (texts_in blocks.now) }
+    ensures { IsBlockOf blocks.now result number }
+{
+    block_of(blocks, back_to_paragraph(blocks, near, number), number)
+}
+
+/// A block, or the nearest one in front of it that isn't behind paragraph `number`.
+fn back_to_paragraph<K>(blocks: &[Block<K>], near: Before, number: usize) -> Before
+    requires near { IsInFront blocks.now near }
+    ensures stands { IsInFront blocks.now result }
+    ensures reached { result.paragraphs ≤ number }
+{
+    let mut before = near;
+    while before.paragraphs > number {
+        before = previous_to(blocks, before);
+    }
+    before
+}
+
+/// A block, or the nearest one in front of it that isn't behind a place.
+pub fn back_to_place<K>(blocks: &[Block<K>], near: Before, place: usize) -> Before
+    requires near { IsInFront blocks.now near }
+    ensures stands { IsInFront blocks.now result }
+    ensures reached { result.places ≤ place }
+{
+    let mut before = near;
+    while before.places > place {
+        before = previous_to(blocks, before);
+    }
+    before
+}
+
+/// A block, or the one in front of it where there is one.
+pub fn at_or_in_front<K>(blocks: &[Block<K>], before: Before) -> Before
+    requires stands { IsInFront blocks.now before }
+    ensures stands { IsInFront blocks.now result }
+    ensures block { result.block ≡ before.block - 1 }
+    ensures order { result.paragraphs ≤ before.paragraphs }
+{
+    if before.block == 0 {
         return before;
     }
     previous_to(blocks, before)

@@ -1,6 +1,6 @@
 //! What is kept is dropped, but for a stretch of paragraphs.
 
-ghost use Rattle.std.specs.Prelude.{◌≡◌, ◌<◌, ◌≤◌, [], length, get_or, slice_set};
+ghost use Rattle.std.specs.Prelude.{◌≡◌, ◌<◌, ◌≤◌, [], length, map as each, get_or, slice_set};
 ghost use Rattle.std.specs.List.{concat};
 ghost use Rattle.text_buffer.specs.Buffers.{bytes_in, Fits};
 ghost use Rattle.text_buffer.specs.Pieces.{points_in, kept_of};
@@ -13,6 +13,7 @@ use crate::rows::count_in;
 /// Drops what is kept of all but the paragraphs from `from` up to `to`. Only blocks that keep something are gone over.
 pub fn forget_but<K: Drop>(blocks: &mut [Block<K>], from: usize, to: usize)
     requires { Fits (texts_in blocks.old) }
+    ensures rows { each points_in (rows_of blocks.new) ≡ each points_in (rows_of blocks.old) }
     ensures texts { texts_in blocks.new ≡ texts_in blocks.old }
     ensures kept { kept_of (pieces_in blocks.new) ≡ left_of from to (kept_of (pieces_in blocks.old)) }
 {

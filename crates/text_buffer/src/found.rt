@@ -9,7 +9,7 @@ ghost use Rattle.text_buffer.specs.Blocks.{rows_of, joined, pieces_in, texts_in}
 ghost use Rattle.text_buffer.specs.Places.{IsInFront, IsFound};
 
 use crate::block::{Block, Sums, sum_up};
-use crate::find::{block_of, first_block, spot_at};
+use crate::find::{Before, back_to_place, block_near, spot_at};
 use crate::piece::Piece;
 use crate::rows::count_in;
 
@@ -23,15 +23,15 @@ pub struct Found {
     pub places: usize,
 }
 
-/// Paragraph `number`.
-pub fn find<K>(blocks: &[Block<K>], number: usize) -> Found
-    requires some { 0 < length blocks.now }
+/// Paragraph `number`, found from any block on.
+pub fn find<K>(blocks: &[Block<K>], near: Before, number: usize) -> Found
+    requires near { IsInFront blocks.now near }
     requires there { number < length (texts_in blocks.now) }
     requires fits { Fits (texts_in blocks.now) }
     ensures found { IsFound blocks.now result }
     ensures number { result.number ≡ number }
 {
-    let before = block_of(blocks, first_block(blocks), number);
+    let before = block_near(blocks, near, number);
     let index = number - before.paragraphs;
     let sums = sums_before(blocks, before.block, index);
     Found {
@@ -54,15 +54,15 @@ fn sums_before<K>(blocks: &[Block<K>], block: usize, index: usize) -> Sums
     sum_up(&blocks[block].pieces[..index])
 }
 
-/// The paragraph in which a place stands.
-pub fn find_at<K>(blocks: &[Block<K>], place: usize) -> Found
-    requires some { 0 < length blocks.now }
+/// The paragraph in which a place stands, found from any block on.
+pub fn find_at<K>(blocks: &[Block<K>], near: Before, place: usize) -> Found
+    requires near { IsInFront blocks.now near }
     requires within { place ≤ length (concat (texts_in blocks.now)) }
     requires fits { Fits (texts_in blocks.now) }
     ensures found { IsFound blocks.now result }
     ensures number { IsParagraphOf (texts_in blocks.now) place result.number }
 {
-    let (before, spot) = spot_at(blocks, first_block(blocks), place);
+    let (before, spot) = spot_at(blocks, back_to_place(blocks, near, place), place);
     Found {
         block: before.block,
         index: spot.number - before.paragraphs,

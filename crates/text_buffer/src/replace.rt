@@ -1,6 +1,6 @@
 //! Paragraphs in the place of others, whatever blocks they stand in.
 
-ghost use Rattle.std.specs.Prelude.{◌≡◌, ◌+◌, ◌<◌, ◌≤◌, ◌++◌, [], true, length, take, drop, get_or, vec_len, IfOk, OnOk, OnErr};
+ghost use Rattle.std.specs.Prelude.{◌≡◌, ◌+◌, ◌-◌, ◌<◌, ◌≤◌, ◌++◌, [], true, length, take, drop, get_or, vec_len, IfOk, OnOk, OnErr};
 ghost use Rattle.std.specs.List.{concat};
 ghost use Rattle.text_buffer.specs.Buffers.{bytes_in, Fits};
 ghost use Rattle.text_buffer.specs.Pieces.{points_in};
@@ -8,7 +8,7 @@ ghost use Rattle.text_buffer.specs.Blocks.{rows_of, joined, pieces_in, texts_in}
 ghost use Rattle.text_buffer.specs.Places.{IsInFront, IsBlockOf};
 
 use crate::block::Block;
-use crate::find::{Before, block_of, first_block, next_to};
+use crate::find::{Before, block_of, next_to};
 use crate::piece::Piece;
 use crate::row::splice;
 use crate::rows::{count_in, drop_front_in, join_at, part_at, replace_in};
@@ -16,10 +16,10 @@ use bg_types::Memory;
 use std::alloc::Global;
 
 /// How many paragraphs a block has at most.
-const FULL: usize = 512;
+const FULL: usize = 64;
 
 /// How many paragraphs a block has where many come at once.
-const HALF: usize = 256;
+const HALF: usize = 32;
 
 /// Paragraphs in blocks.
 pub fn blocks_of<K: Drop>(alloc: Global, pieces: Vec<Piece<K>>) -> Result<Vec<Block<K>>, Memory>
@@ -59,6 +59,7 @@ pub fn replace<K: Drop>(
     requires paragraphs { length (pieces_in blocks.old.items) + vec_len pieces ≤ 9_000_000 }
     ensures ok { OnOk result (pieces_in blocks.new.items ≡ take from (pieces_in blocks.old.items) ++ (pieces.items ++ drop to (pieces_in blocks.old.items))) }
     ensures err { OnErr result (pieces_in blocks.new.items ≡ pieces_in blocks.old.items) }
+    ensures front { take (before.block - 1) (rows_of blocks.new.items) ≡ take (before.block - 1) (rows_of blocks.old.items) }
 {
     // These blocks come at most, beside what is left of the first and the last one.
     let more = pieces.len() / HALF + 1;
@@ -88,6 +89,7 @@ fn replace_apart<K: Drop>(
     requires paragraphs { length (pieces_in blocks.old.items) + vec_len pieces ≤ 9_000_000 }
     ensures ok { OnOk result (pieces_in blocks.new.items ≡ take from (pieces_in blocks.old.items) ++ (pieces.items ++ drop to (pieces_in blocks.old.items))) }
     ensures err { OnErr result (pieces_in blocks.new.items ≡ pieces_in blocks.old.items) }
+    ensures front { take before.block (rows_of blocks.new.items) ≡ take before.block (rows_of blocks.old.items) }
 {
     let count = count_in(blocks, before.block);
     if to > before.paragraphs + count || count - (to - from) + pieces.len() > FULL {
@@ -99,7 +101,8 @@ fn replace_apart<K: Drop>(
 /// Joins each of these blocks with the one behind it, where the two are sparse.
 fn join_sparse<K: Drop>(blocks: &mut Vec<Block<K>>, from: usize, to: usize)
     requires { bytes_in (concat (texts_in blocks.old.items)) ≤ 9_000_000 }
-    ensures { pieces_in blocks.new.items ≡ pieces_in blocks.old.items }
+    ensures kept { pieces_in blocks.new.items ≡ pieces_in blocks.old.items }
+    ensures front { take from (rows_of blocks.new.items) ≡ take from (rows_of blocks.old.items) }
 {
     for q in (from..to).rev() {
         join_if_sparse(blocks, q);
@@ -108,7 +111,8 @@ fn join_sparse<K: Drop>(blocks: &mut Vec<Block<K>>, from: usize, to: usize)
 
 fn join_if_sparse<K: Drop>(blocks: &mut Vec<Block<K>>, q: usize)
     requires { bytes_in (concat (texts_in blocks.old.items)) ≤ 9_000_000 }
-    ensures { pieces_in blocks.new.items ≡ pieces_in blocks.old.items }
+    ensures kept { pieces_in blocks.new.items ≡ pieces_in blocks.old.items }
+    ensures front { take q (rows_of blocks.new.items) ≡ take q (rows_of blocks.old.items) }
 {
     if is_sparse(blocks, q) {
         join_at(blocks, q);
@@ -141,6 +145,7 @@ fn replace_near<K: Drop>(
     requires few { bytes_in (concat (texts_in blocks.old)) + bytes_in (concat (points_in pieces.items)) ≤ 9_000_000 }
     ensures ok { OnOk result (pieces_in blocks.new ≡ take from (pieces_in blocks.old) ++ (pieces.items ++ drop to (pieces_in blocks.old))) }
     ensures err { OnErr result (pieces_in blocks.new ≡ pieces_in blocks.old) }
+    ensures front { take before.block (rows_of blocks.new) ≡ take before.block (rows_of blocks.old) }
 {
     let number = before.paragraphs;
     replace_in(blocks, before.block, from - number, to - number, pieces)
@@ -166,6 +171,7 @@ fn replace_far<K: Drop>(
     requires paragraphs { length (pieces_in blocks.old.items) + vec_len pieces ≤ 9_000_000 }
     ensures ok { OnOk result (pieces_in blocks.new.items ≡ take from (pieces_in blocks.old.items) ++ (pieces.items ++ drop to (pieces_in blocks.old.items))) }
     ensures err { OnErr result (pieces_in blocks.new.items ≡ pieces_in blocks.old.items) }
+    ensures front { take before.block (rows_of blocks.new.items) ≡ take before.block (rows_of blocks.old.items) }
 {
     let others = blocks_of(alloc, pieces)?;
     let count = others.len();
@@ -193,6 +199,8 @@ fn begin_at<K: Drop>(
     ensures kept { pieces_in blocks.new.items ≡ pieces_in blocks.old.items }
     ensures stands { IfOk result (λ b. IsInFront blocks.new.items b) }
     ensures begins { IfOk result (λ b. b.paragraphs ≡ number) }
+    ensures front { take before.block (rows_of blocks.new.items) ≡ take before.block (rows_of blocks.old.items) }
+    ensures order { IfOk result (λ b. before.block ≤ b.block) }
 {
     if number == before.paragraphs {
         return Ok(before);

@@ -1,6 +1,6 @@
 //! Blocks in the order of the text.
 
-ghost use Rattle.std.specs.Prelude.{◌≡◌, ◌+◌, ◌<◌, ◌≤◌, ◌++◌, [], Some, length, take, drop, get_or, slice_get, slice_set, option_copied, vec_len, IfOk, IfErr, OnOk, OnErr};
+ghost use Rattle.std.specs.Prelude.{◌≡◌, ◌+◌, ◌<◌, ◌≤◌, ◌++◌, [], Some, length, map as each, take, drop, get_or, slice_get, slice_set, option_copied, vec_len, IfOk, IfErr, OnOk, OnErr};
 ghost use Rattle.std.specs.List.{concat};
 ghost use Rattle.text_buffer.specs.Buffers.{bytes_in};
 ghost use Rattle.text_buffer.specs.Pieces.{points_in, kept_of};
@@ -25,7 +25,7 @@ pub fn part_at<K: Drop>(blocks: &mut Vec<Block<K>>, q: usize, number: usize) -> 
     requires within { number < length (get_or (rows_of blocks.old.items) q []) }
     requires few { bytes_in (concat (texts_in blocks.old.items)) ≤ 9_000_000 }
     ensures kept { pieces_in blocks.new.items ≡ pieces_in blocks.old.items }
-    ensures before { OnOk result (take q (rows_of blocks.new.items) ≡ take q (rows_of blocks.old.items)) }
+    ensures front { take q (rows_of blocks.new.items) ≡ take q (rows_of blocks.old.items) }
     ensures low { OnOk result (get_or (rows_of blocks.new.items) q [] ≡ take number (get_or (rows_of blocks.old.items) q [])) }
     ensures more { OnOk result (vec_len blocks.new ≡ vec_len blocks.old + 1) }
 {
@@ -51,7 +51,8 @@ fn part_in<K: Drop>(blocks: &mut [Block<K>], q: usize, number: usize) -> Result<
 pub fn join_at<K: Drop>(blocks: &mut Vec<Block<K>>, q: usize)
     requires next { q + 1 < vec_len blocks.old }
     requires few { bytes_in (concat (texts_in blocks.old.items)) ≤ 9_000_000 }
-    ensures { pieces_in blocks.new.items ≡ pieces_in blocks.old.items }
+    ensures kept { pieces_in blocks.new.items ≡ pieces_in blocks.old.items }
+    ensures front { take q (rows_of blocks.new.items) ≡ take q (rows_of blocks.old.items) }
 {
     let next = blocks.remove(q + 1);
     let Err(next) = take_on_in(blocks, q, next) else {
@@ -113,6 +114,7 @@ pub fn kept_at<K>(blocks: &[Block<K>], q: usize, number: usize) -> Option<&K>
 pub fn set_kept_in<K: Drop>(blocks: &mut [Block<K>], q: usize, number: usize, kept: Option<K>)
     requires block { q < length blocks.old }
     requires within { number < length (get_or (rows_of blocks.old) q []) }
+    ensures rows { each points_in (rows_of blocks.new) ≡ each points_in (rows_of blocks.old) }
     ensures texts { texts_in blocks.new ≡ texts_in blocks.old }
     ensures kept { kept_of (pieces_in blocks.new) ≡ slice_set (kept_of (pieces_in blocks.old)) (length (joined (take q (rows_of blocks.old))) + number) kept }
 {

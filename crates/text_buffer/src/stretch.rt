@@ -9,13 +9,13 @@ ghost use Rattle.paragraphs.specs.Paragraphs.{meets_at_cut};
 ghost use Rattle.text_buffer.specs.Buffers.{bytes_in, Fits, IsSplit};
 ghost use Rattle.text_buffer.specs.Edits.{replaced, IsParagraphOf};
 ghost use Rattle.text_buffer.specs.Blocks.{texts_in};
-ghost use Rattle.text_buffer.specs.Places.{IsBlockOf};
+ghost use Rattle.text_buffer.specs.Places.{IsInFront, IsBlockOf};
 ghost use Rattle.text_buffer.specs.Stretches.{IsBegun, IsRemade, IsOne, separates, text_with};
 ghost use Rattle.text_buffer.specs.declared.fault.BufferFault.TheVariants.{TooLong};
 
 use crate::block::Block;
 use crate::fault::BufferFault;
-use crate::find::{Before, block_in_front, first_block};
+use crate::find::{Before, back_to_place, block_in_front};
 use crate::parted::{joined_text, text_between};
 use crate::place::{Place, place_at, place_behind, text_at};
 use bg_types::{Bidi, Memory};
@@ -44,18 +44,19 @@ pub struct Plan {
     pub bytes: usize,
 }
 
-/// What is made anew where a text takes the place of what stands from one place up to another. The paragraph of the second
-/// place is, with what stands behind the place: so the stretch ends as that paragraph does.
+/// What is made anew where a text takes the place of what stands from one place up to another, found from any block on. The
+/// paragraph of the second place is, with what stands behind the place: so the stretch ends as that paragraph does.
 pub fn plan_edit<K>(
     alloc: Global,
     tables: &Tables,
     blocks: &[Block<K>],
+    near: Before,
     bytes: usize,
     from: usize,
     to: usize,
     text: &str,
 ) -> Result<Plan, BufferFault>
-    requires some { 0 < length blocks.now }
+    requires near { IsInFront blocks.now near }
     requires bytes { bytes ≡ bytes_in (concat (texts_in blocks.now)) }
     requires few { bytes ≤ 4_000_000 }
     requires order { from ≤ to }
@@ -74,7 +75,7 @@ pub fn plan_edit<K>(
     ensures last { IfOk result (λ p. IsParagraphOf (texts_in blocks.now) to (p.stretch.to - 1)) }
     ensures too_long { (result ≡ Err TooLong) ↔ (4_000_000 < bytes_in (replaced (concat (texts_in blocks.now)) from to (code_points text.now))) }
 {
-    let first = place_at(blocks, first_block(blocks), from);
+    let first = place_at(blocks, back_to_place(blocks, near, from), from);
     let last = place_behind(blocks, first, from, to);
     let others = bytes - (last.bytes - first.bytes);
     if text.len() > LIMIT - others {

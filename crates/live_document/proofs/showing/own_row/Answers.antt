@@ -5,6 +5,7 @@ use Rattle.cell_grid.specs.Rows.{rows_of}
 use Rattle.text_buffer.specs.Buffers.{bytes_in, paragraphs_in, text_in}
 use Rattle.cell_grid.specs.Windows.{FirstPlacesRise, begins_by, row_at}
 use Rattle.live_document.specs.Keeping.{flags, rows_of_text}
+use Rattle.live_document.specs.Showing.{IsRowOf}
 use Rattle.live_document.proofs.Beside.{rows_at-laid}
 use Rattle.live_document.proofs.Marks.{set-mark}
 use Rattle.live_document.proofs.Stretches.{count-texts, count-flags}
@@ -12,17 +13,17 @@ use Rattle.live_document.proofs.Windows.{own-text, own-first, own-rises, own-beg
 use Rattle.live_document.proofs.showing.own_row.Goals as goal
 
 pub lay_out-requires-clause-number : goal.lay_out-requires-clause-number
-lay_out-requires-clause-number c = let n = count-texts c.args.buffer.now in omega (arith, n, c.paragraph_of-number.ensures.there)
+lay_out-requires-clause-number c = let n = count-texts c.go_to.new.self in omega (arith, n, c.paragraph_of-number.ensures.there)
 
 pub paragraph-requires : goal.paragraph-requires
 paragraph-requires c =
-    let n = count-texts c.args.buffer.now in
+    let n = count-texts c.go_to.new.self in
     let m = count-texts c.lay_out.new.buffer in
     omega (arith, n, m, ap length c.in_ok-out.ensures.paragraphs, c.paragraph_of-number.ensures.there)
 
 pub kept_rows-rows-requires : goal.kept_rows-rows-requires
 kept_rows-rows-requires c =
-    let n = count-texts c.args.buffer.now in
+    let n = count-texts c.go_to.new.self in
     let m = count-texts c.lay_out.new.buffer in
     omega (arith, n, m, ap length c.in_ok-out.ensures.paragraphs, c.paragraph_of-number.ensures.there)
 
@@ -40,7 +41,7 @@ row_at-requires-clause-rises c =
     let T = c.args.tables.now in
     let w = c.args.width in
     let base = c.args.base in
-    let old = c.args.buffer.now in
+    let old = c.go_to.new.self in
     let new = c.lay_out.new.buffer in
     let n = c.paragraph_of-number.result in
     let e = c.in_ok-out.ensures in
@@ -60,7 +61,7 @@ row_at-requires-clause-begun c =
     let T = c.args.tables.now in
     let w = c.args.width in
     let base = c.args.base in
-    let old = c.args.buffer.now in
+    let old = c.go_to.new.self in
     let new = c.lay_out.new.buffer in
     let n = c.paragraph_of-number.result in
     let e = c.in_ok-out.ensures in
@@ -84,7 +85,7 @@ returns-clause-row c =
     let T = c.args.tables.now in
     let w = c.args.width in
     let base = c.args.base in
-    let old = c.args.buffer.now in
+    let old = c.go_to.new.self in
     let new = c.lay_out.new.buffer in
     let n = c.paragraph_of-number.result in
     let e = c.in_ok-out.ensures in
@@ -98,9 +99,10 @@ returns-clause-row c =
     let rows = c.kept_rows-rows.ensures ∙ rows_at-laid T w base new e.kept.laid n flag ∙ ap (λ ts. rows_of_text T w base (get_or ts n [])) e.paragraphs in
     let first = own-first c.laws_below.ensures T w base new e.kept b.utf8 few n q is ∙ ap (λ ts. length (concat (take n ts))) e.paragraphs in
     let place = c.first_place-first_place.ensures ∙ first in
-    record {
+    subst (λ was. IsRowOf T w base (paragraphs_in was) c.args.place n c.row_at.result c.in_ok-out.out.rows) c.go_to.ensures
+    (record {
       is = c.row_at.ensures.number ∙ ap (λ l. row_at l (c.args.place - c.first_place-first_place.result)) rows
           ∙ ap (λ m. row_at (rows_of_text T w base (get_or (paragraphs_in old) n [])) (c.args.place - m)) place;
       count = e.rows;
       within = omega (arith, c.row_at.ensures.within, ap length rows, e.rows);
-    }
+    })

@@ -111,3 +111,36 @@ returns-clause-count g c =
       c.in_ok-pieces.pieces.ok,
       c.len.ensures,
     )
+
+pub returns-in_err-replace-clause-there : goal.returns-in_err-replace-clause-there
+returns-in_err-replace-clause-there g c = omega (arith, ap length c.in_err-replace.ensures.err, length-points (pieces_in c.args.blocks.now.items), c.requires.stretch.begun.order, c.requires.stretch.begun.within)
+
+pub returns-in_err-pieces-clause-there : goal.returns-in_err-pieces-clause-there
+returns-in_err-pieces-clause-there g c = omega (arith, length-points (pieces_in c.args.blocks.now.items), c.requires.stretch.begun.order, c.requires.stretch.begun.within)
+
+pub returns-clause-there : goal.returns-clause-there
+returns-clause-there g c =
+    let old = c.args.blocks.now.items in
+    let s = c.args.stretch in
+    let ps = c.in_ok-pieces.pieces.items in
+    let tables = c.args.tables.now in
+    let is = split-parts tables (texts_in old) (utf8-kept old) c.requires.split in
+    let made = made-change tables (texts_in old) s.from s.to c.args.count (code_points (string_bytes s.text)) (string_bytes s.text) (points_in ps) is c.requires.count c.requires.stretch c.requires.some
+    (IsUtf8-string_bytes s.text) refl (points-anew ps _ c.in_ok-pieces.ensures) in
+    let kept = pieces_in old in
+    let size = ap length c.in_ok-replace.ensures.ok in
+    omega (
+      arith,
+      size,
+      length-append (take s.from kept) (ps ++ drop s.to kept),
+      length-append ps (drop s.to kept),
+      length-take-le s.from kept (omega (arith, c.requires.stretch.begun.order, c.requires.stretch.begun.within, length-points kept)),
+      length-drop s.to kept,
+      length-points kept,
+      made.some,
+      length-points ps,
+      c.requires.stretch.begun.order,
+      c.requires.stretch.begun.within,
+      c.in_ok-pieces.pieces.ok,
+      c.len.ensures,
+    )

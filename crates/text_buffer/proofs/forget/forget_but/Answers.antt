@@ -1,6 +1,7 @@
 -- One row more is done.
-use Rattle.std.proofs.Common.{◌+◌, ◌<◌, ◌≤◌, [], length, get_or, refl, sym, ap, ap₂, subst, ◌∙◌, arith}
+use Rattle.std.proofs.Common.{◌+◌, ◌<◌, ◌≤◌, [], length, map, get_or, refl, sym, ap, ap₂, subst, ◌∙◌, arith}
 use Rattle.std.proofs.lemmas.List.{take_all}
+use Rattle.std.proofs.Math.Seq.{map-set_same}
 use Rattle.std.specs.List.{concat}
 use Rattle.text_buffer.specs.Buffers.{bytes_in}
 use Rattle.text_buffer.specs.Pieces.{points_in, kept_of}
@@ -12,14 +13,14 @@ use Rattle.text_buffer.proofs.Forgets.{AreSwept, rows-swept, same-at}
 use Rattle.text_buffer.proofs.forget.forget_but.Goals as goal
 
 pub loop-q-init : goal.loop-q-init
-loop-q-init g c = record { size = refl; before_is = refl; points = refl; kept = refl; back = refl }
+loop-q-init g c = record { swept = record { size = refl; before_is = refl; points = refl; kept = refl; back = refl }; rows = refl }
 
 pub forget_but_in-requires-clause-few : goal.forget_but_in-requires-clause-few
 forget_but_in-requires-clause-few g c =
     let old = c.args.blocks.now in
     let now = c.loop-q.blocks in
     let q = c.loop-q.q in
-    let s = c.loop-q.invariant in
+    let s = c.loop-q.invariant.swept in
     let within : q < length old = omega (arith, c.loop-q-test.true, c.loop-q.auto.blocks) in
     let row = same-at (rows_of now) (rows_of old) q [] s.back in
     omega (arith, ap (λ r. bytes_in (concat (points_in r))) row, bytes-row old q within, c.requires.bytes)
@@ -29,7 +30,7 @@ overflow_add-before g c =
     let old = c.args.blocks.now in
     let now = c.loop-q.blocks in
     let q = c.loop-q.q in
-    let s = c.loop-q.invariant in
+    let s = c.loop-q.invariant.swept in
     let within : q < length old = omega (arith, c.loop-q-test.true, c.loop-q.auto.blocks) in
     let row = same-at (rows_of now) (rows_of old) q [] s.back in
     omega (arith, s.before_is, ap length row, texts-length old q within, c.count_in-count.ensures, c.requires.paragraphs)
@@ -39,20 +40,23 @@ loop-q-preserved g c =
     let old = c.args.blocks.now in
     let now = c.loop-q.blocks in
     let q = c.loop-q.q in
-    let s = c.loop-q.invariant in
+    let s = c.loop-q.invariant.swept in
     let e = c.forget_but_in.ensures in
     let within : q < length (rows_of old) = omega (arith, c.loop-q-test.true, c.loop-q.auto.blocks, length-rows old) in
     let kept = e.kept ∙ ap₂ (λ i j. left_of i j (kept_of (get_or (rows_of now) q []))) c.saturating_sub.ensures c.saturating_sub-in-loop-q.ensures in
     let next = rows-swept c.args.from c.args.to (rows_of old) (rows_of now) q c.loop-q.before s (get_or (rows_of c.forget_but_in.new.blocks) q []) within e.points kept in
-    subst (λ b. AreSwept c.args.from c.args.to (rows_of old) (rows_of c.forget_but_in.new.blocks) (q + 1) (c.loop-q.before + b)) (sym c.count_in-count.ensures)
-    (subst (λ r. AreSwept c.args.from c.args.to (rows_of old) r (q + 1) (c.loop-q.before + length (get_or (rows_of now) q []))) (sym e.row) next)
+    record {
+      swept = subst (λ b. AreSwept c.args.from c.args.to (rows_of old) (rows_of c.forget_but_in.new.blocks) (q + 1) (c.loop-q.before + b)) (sym c.count_in-count.ensures)
+          (subst (λ r. AreSwept c.args.from c.args.to (rows_of old) r (q + 1) (c.loop-q.before + length (get_or (rows_of now) q []))) (sym e.row) next);
+      rows = ap (map points_in) e.row ∙ map-set_same points_in (rows_of now) q (get_or (rows_of c.forget_but_in.new.blocks) q []) [] e.points ∙ c.loop-q.invariant.rows;
+    }
 
 pub returns-clause-texts : goal.returns-clause-texts
 returns-clause-texts g c =
     let old = rows_of c.args.blocks.now in
     let now = rows_of c.loop-q.blocks in
     let q = c.loop-q.q in
-    let s = c.loop-q.invariant in
+    let s = c.loop-q.invariant.swept in
     let few : length now ≤ q = omega (arith, s.size, length-rows c.loop-q.blocks, c.loop-q.auto.blocks, c.loop-q-test.false) in
     sym (ap (λ r. points_in (joined r)) (take_all q now few)) ∙ s.points ∙ ap (λ r. points_in (joined r)) (take_all q old (omega (arith, few, s.size)))
 
@@ -61,6 +65,6 @@ returns-clause-kept g c =
     let old = rows_of c.args.blocks.now in
     let now = rows_of c.loop-q.blocks in
     let q = c.loop-q.q in
-    let s = c.loop-q.invariant in
+    let s = c.loop-q.invariant.swept in
     let few : length now ≤ q = omega (arith, s.size, length-rows c.loop-q.blocks, c.loop-q.auto.blocks, c.loop-q-test.false) in
     sym (ap (λ r. kept_of (joined r)) (take_all q now few)) ∙ s.kept ∙ ap (λ r. left_of c.args.from c.args.to (kept_of (joined r))) (take_all q old (omega (arith, few, s.size)))

@@ -13,7 +13,7 @@ pub next_to-requires-clause-stands : goal.next_to-requires-clause-stands
 next_to-requires-clause-stands g c =
     let new = c.part_at.new.blocks.items in
     subst (λ bs. IsInFront bs c.args.before) (sym c.deref.ensures.value)
-    (stands-same c.args.blocks.now.items new c.args.before c.requires.stands c.in_ok-part_at.ensures.before (omega (arith, c.in_ok-part_at.ensures.more, c.requires.stands.within, c.args.blocks.now.ok, c.part_at.new.blocks.ok)))
+    (stands-same c.args.blocks.now.items new c.args.before c.requires.stands c.in_ok-part_at.ensures.front (omega (arith, c.in_ok-part_at.ensures.more, c.requires.stands.within, c.args.blocks.now.ok, c.part_at.new.blocks.ok)))
 
 pub next_to-requires-clause-more : goal.next_to-requires-clause-more
 next_to-requires-clause-more g c =

@@ -35,8 +35,8 @@ returns-clause-kept g c =
     let all = ap rows_of (put ∙ ap (λ bs. insert bs (q + 1) upper) whole) ∙ rows-insert new (q + 1) upper ∙ ap₂ (λ r h. insert r (q + 1) h) rows other in
     ap joined all ∙ joined-parted (rows_of old) q low high within (take-append-drop c.args.number row)
 
-pub returns-clause-before : goal.returns-clause-before
-returns-clause-before g c =
+pub returns-clause-front : goal.returns-clause-front
+returns-clause-front g c =
     let old = c.args.blocks.now.items in
     let new = c.part_in.new.blocks in
     let q = c.args.q in

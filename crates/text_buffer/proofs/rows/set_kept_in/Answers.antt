@@ -1,12 +1,20 @@
 -- A row in which another is kept.
-use Rattle.std.proofs.Common.{map, sym, ap, ◌∙◌, arith}
+use Rattle.std.proofs.Common.{[], map, sym, ap, ◌∙◌, arith}
+use Rattle.std.proofs.Math.Seq.{map-set_same}
 use Rattle.std.specs.Prelude.{slice_set}
 use Rattle.text_buffer.specs.declared.piece.Piece.{Piece}
-use Rattle.text_buffer.specs.Pieces.{points_of, kept_of}
+use Rattle.text_buffer.specs.Pieces.{points_of, points_in, kept_of}
 use Rattle.text_buffer.specs.Blocks.{rows_of, joined}
 use Rattle.text_buffer.proofs.Joins.{joined-same, joined-written}
 use Rattle.text_buffer.proofs.Places.{length-rows, rows-set, row-get}
 use Rattle.text_buffer.proofs.rows.set_kept_in.Goals as goal
+
+pub returns-clause-rows : goal.returns-clause-rows
+returns-clause-rows g c =
+    let bs = c.args.blocks.now in
+    let q = c.args.q in
+    let row = row-get bs q c.index-blocks-q.result c.requires.block in
+    ap (map points_in) (rows-set bs q c.set_kept.new.self) ∙ map-set_same points_in (rows_of bs) q c.set_kept.new.self.pieces.items [] (c.set_kept.ensures.points ∙ sym (ap points_in row))
 
 pub returns-clause-texts : goal.returns-clause-texts
 returns-clause-texts g c =

@@ -7,12 +7,14 @@ use Rattle.std.specs.Prelude.{string_bytes}
 use Rattle.paragraphs.specs.Text.{code_points}
 use Rattle.text_buffer.specs.Buffers.{bytes_in, paragraphs_in, IsSplit}
 use Rattle.text_buffer.specs.Edits.{replaced, anew, IsParagraphOf}
-use Rattle.text_buffer.specs.Blocks.{pieces_in, texts_in}
+use Rattle.text_buffer.specs.Pieces.{points_in}
+use Rattle.text_buffer.specs.Blocks.{rows_of, pieces_in, texts_in}
+use Rattle.text_buffer.specs.Places.{IsInFront}
 use Rattle.text_buffer.specs.Stretches.{text_with}
-use Rattle.text_buffer.proofs.Places.{seen-points}
+use Rattle.text_buffer.proofs.Places.{seen-points, stands-still}
 use Rattle.text_buffer.proofs.Edits.{places-replaced}
 use Rattle.text_buffer.proofs.Sums.{places-few}
-use Rattle.text_buffer.proofs.Counted.{counted-new, fits-split, fault-of, ok-fits, memory-fits}
+use Rattle.text_buffer.proofs.Counted.{counted-new, counted-same, fits-split, fault-of, ok-fits, memory-fits}
 use Rattle.text_buffer.proofs.buffer.Buffer.edit.Goals as goal
 
 pub plan_edit-requires-clause-within : goal.plan_edit-requires-clause-within
@@ -49,6 +51,16 @@ change-requires-clause-split g c =
     let e = c.deref.ensures.value in
     let is = ap texts_in e ∙ view in
     subst (IsSplit c.args.tables.now) (sym view) c.requires.split
+
+pub invariant_of-self : goal.invariant_of-self
+invariant_of-self g c =
+    let bs = c.self.inside.blocks.items in
+    let new = c.change.new.blocks.items in
+    let before = c.at_or_in_front-self-inside.result in
+    let stood = subst (λ all. IsInFront all before) c.deref-2.ensures.value c.at_or_in_front-self-inside.ensures.stands in
+    let front = subst (λ n. take n (rows_of new) ≡ take n (rows_of bs)) (sym c.at_or_in_front-self-inside.ensures.block) c.change.ensures.front in
+    let still = stands-still bs new before stood front (omega (arith, c.at_or_in_front-self-inside.ensures.order, c.in_ok-plan.ensures.block.reached, c.change.ensures.there)) in
+    counted-same bs new _ _ _ _ _ (ap points_in c.in_err-touched.ensures.err) still c.self.invariant
 
 pub returns-in_err-touched-clause-too_long : goal.returns-in_err-touched-clause-too_long
 returns-in_err-touched-clause-too_long g c =
@@ -166,7 +178,11 @@ invariant_of-self-2 g c =
     let more : c.count-more.result ≡ length points = search (rules, chars_from_encodes) in
     let begun = planned.stretch.begun in
     let size = ap (λ b. length (texts_in b)) e in
-    counted-new tables new _ _ _ text made.split whole (planned.bytes ∙ ap (λ b. bytes_in (replaced (concat (texts_in b)) from to points)) e) (omega (arith, i.places_is, within, c.requires.order, places, more))
+    let before = c.at_or_in_front-self-inside.result in
+    let stood = subst (λ all. IsInFront all before) c.deref-2.ensures.value c.at_or_in_front-self-inside.ensures.stands in
+    let front = subst (λ n. take n (rows_of new) ≡ take n (rows_of bs)) (sym c.at_or_in_front-self-inside.ensures.block) c.change.ensures.front in
+    let still = stands-still bs new before stood front (omega (arith, c.at_or_in_front-self-inside.ensures.order, planned.block.reached, c.change.ensures.there)) in
+    counted-new tables new _ _ _ _ text still made.split whole (planned.bytes ∙ ap (λ b. bytes_in (replaced (concat (texts_in b)) from to points)) e) (omega (arith, i.places_is, within, c.requires.order, places, more))
     (omega (arith, i.paragraphs_is, size, begun.within, made.old, made.count)) planned.few
 
 pub returns-clause-text : goal.returns-clause-text

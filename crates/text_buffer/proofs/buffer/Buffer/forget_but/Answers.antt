@@ -1,13 +1,13 @@
 -- The texts are the same, and what is left of what is kept is that stretch.
-use Rattle.std.proofs.Common.{sym, ap, subst, ◌∙◌, arith}
+use Rattle.std.proofs.Common.{map, sym, ap, subst, ◌∙◌, arith}
 use Rattle.text_buffer.specs.Buffers.{paragraphs_in, kept_in}
-use Rattle.text_buffer.specs.Pieces.{kept_of}
-use Rattle.text_buffer.specs.Blocks.{pieces_in, texts_in, seen_in}
+use Rattle.text_buffer.specs.Pieces.{points_in, kept_of}
+use Rattle.text_buffer.specs.Blocks.{rows_of, pieces_in, texts_in, seen_in}
 use Rattle.text_buffer.specs.Counted.{IsCounted}
 use Rattle.text_buffer.specs.Forgetting.{left_of}
 use Rattle.text_buffer.proofs.Counted.{counted-same}
 use Rattle.text_buffer.proofs.Forgets.{left-but}
-use Rattle.text_buffer.proofs.Places.{seen-points, seen-kept, written}
+use Rattle.text_buffer.proofs.Places.{seen-points, seen-kept, stands-alike, written}
 use Rattle.text_buffer.proofs.buffer.Buffer.forget_but.Goals as goal
 
 pub invariant_of-self : goal.invariant_of-self
@@ -17,7 +17,9 @@ invariant_of-self g c =
     let new = c.forget_but.new.blocks in
     let texts = c.forget_but.ensures.texts ∙ ap texts_in e in
     let all = written new bs c.self.inside.blocks.len (omega (arith, c.forget_but.auto.blocks, c.deref_mut.ensures.len)) (omega (arith, c.self.inside.blocks.ok)) in
-    subst (λ x. IsCounted x c.self.inside.bytes c.self.inside.places c.self.inside.paragraphs) (sym all) (counted-same bs new _ _ _ texts c.self.invariant)
+    let rows = c.forget_but.ensures.rows ∙ ap (λ x. map points_in (rows_of x)) e in
+    subst (λ x. IsCounted x c.self.inside.bytes c.self.inside.places c.self.inside.paragraphs c.self.inside.near) (sym all)
+    (counted-same bs new _ _ _ _ _ texts (stands-alike bs new c.self.inside.near c.self.invariant.near_is rows) c.self.invariant)
 
 pub returns-clause-paragraphs : goal.returns-clause-paragraphs
 returns-clause-paragraphs g c =

@@ -10,10 +10,10 @@ use Rattle.text_buffer.proofs.buffer.Buffer.paragraph_of.Goals as goal
 
 pub spot_at-requires-clause-within : goal.spot_at-requires-clause-within
 spot_at-requires-clause-within g c =
-    let is = ap texts_in c.deref.ensures.value ∙ sym (seen-points (pieces_in c.self.inside.blocks.items)) ∙ ap paragraphs_in c.self.view_is in
+    let is = ap texts_in c.deref-2.ensures.value ∙ sym (seen-points (pieces_in c.self.inside.blocks.items)) ∙ ap paragraphs_in c.self.view_is in
     omega (arith, ap (λ t. length (concat t)) is, c.requires)
 
 pub returns : goal.returns
 returns g c =
-    let is = ap texts_in c.deref.ensures.value ∙ sym (seen-points (pieces_in c.self.inside.blocks.items)) ∙ ap paragraphs_in c.self.view_is in
-    subst (λ t. IsParagraphOf t c.args.place c.spot_at.result.1.number) is (paragraph-of (texts_in c.deref.result.now) c.args.place c.spot_at.result.1 c.spot_at.ensures.spot)
+    let is = ap texts_in c.deref-2.ensures.value ∙ sym (seen-points (pieces_in c.self.inside.blocks.items)) ∙ ap paragraphs_in c.self.view_is in
+    subst (λ t. IsParagraphOf t c.args.place c.spot_at.result.1.number) is (paragraph-of (texts_in c.deref-2.result.now) c.args.place c.spot_at.result.1 c.spot_at.ensures.spot)
