@@ -1,5 +1,5 @@
 -- Where the visible elements of a row stand.
-use Rattle.std.proofs.Common.{◌≡◌, ℕ, zero, suc, ◌<◌, ◌≤◌, ◌+◌, ◌*◌, ◌/◌, true, false, cond, List, [], ◌∷◌, ◌++◌, length, take, drop, get_or, Some, sym, ap, ◌∙◌, zero-add, length-append, length-drop, arith}
+use Rattle.std.proofs.Common.{◌≡◌, ℕ, ◌<◌, ◌≤◌, ◌+◌, true, false, cond, List, [], ◌∷◌, ◌++◌, length, take, drop, Some, sym, ap, ◌∙◌, zero-add, length-append, length-drop, arith}
 use Rattle.std.specs.Prelude.{slice_get}
 use Rattle.std.proofs.Math.Seq.{take-add}
 use Rattle.std.proofs.lemmas.List.{drop-map, length-take-le, take-append-drop, take-map}
@@ -59,31 +59,6 @@ further-there es at from e is hidden same few = not_all es (at + 1) (omega (arit
 -- a part of a row of blocks
 pub items_part : (bs : List Block) (b n : ℕ) → take n (drop b (items_of bs)) ≡ items_of (take n (drop b bs))
 items_part bs b n = let f = λ (x : Block). x.elements.items in ap (take n) (drop-map f b bs) ∙ take-map f n (drop b bs)
-
--- no block is long
-abbrev pub AreFew : List (List Element) → Type 0
-AreFew bs = (b : ℕ) → length (get_or bs b []) ≤ 512
-
--- the next n blocks have at most 512 visible ones each
-pub seen_part : (bs : List (List Element)) (b n : ℕ) → AreFew bs → seen_all (take n (drop b bs)) ≤ 512 * n
-seen_part [] zero zero few = omega arith
-seen_part [] zero (suc n) few = omega arith
-seen_part [] (suc b) zero few = omega arith
-seen_part [] (suc b) (suc n) few = omega arith
-seen_part (x ∷ bs) zero zero few = omega arith
-seen_part (x ∷ bs) zero (suc n) few = omega (arith, seen_part bs zero n (λ b. few (suc b)), seen_le x, few zero)
-seen_part (x ∷ bs) (suc b) n few = seen_part bs b n (λ b. few (suc b))
-
-seen_most : (bs : List (List Element)) → AreFew bs → seen_all bs ≤ 512 * length bs
-seen_most [] few = omega arith
-seen_most (x ∷ bs) few = omega (arith, seen_most bs (λ b. few (suc b)), seen_le x, few zero)
-
--- for each 512 visible ones that are left there is one more block
-pub blocks_behind : (bs : List (List Element)) (b left : ℕ) → AreFew bs → seen_all (take b bs) + left < seen_all bs → b + left / 512 < length bs
-blocks_behind [] zero left few more = absurd (omega arith)
-blocks_behind [] (suc b) left few more = absurd (omega arith)
-blocks_behind (x ∷ bs) zero left few more = omega (arith, seen_most (x ∷ bs) few, more)
-blocks_behind (x ∷ bs) (suc b) left few more = omega (arith, blocks_behind bs b left (λ b. few (suc b)) (omega (arith, more)))
 
 pub seen_all-append : (xs ys : List (List Element)) → seen_all (xs ++ ys) ≡ seen_all xs + seen_all ys
 seen_all-append [] ys = sym (zero-add (seen_all ys))

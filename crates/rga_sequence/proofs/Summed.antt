@@ -1,9 +1,9 @@
 -- Sums of neighbouring blocks, as blocks change, and what they tell of the blocks before a place.
-use Rattle.std.proofs.Common.{◌≡◌, ◌≢◌, ℕ, zero, suc, ◌<◌, ◌≤◌, ◌+◌, ◌-◌, ◌*◌, ◌/◌, Bool, true, false, List, [], ◌∷◌, length, take, drop, get_or, sum, refl, sym, ap, ◌∙◌, length-set, take-add, arith}
+use Rattle.std.proofs.Common.{◌≡◌, ◌≢◌, ℕ, zero, suc, ◌<◌, ◌≤◌, ◌+◌, ◌-◌, ◌*◌, ◌/◌, Bool, true, false, List, [], ◌∷◌, length, take, drop, get_or, sum, refl, sym, ap, ◌∙◌, length-set, arith}
 use Rattle.std.specs.Prelude.{insert, set, nat_lt, nat_eq}
 use Rattle.std.proofs.lemmas.Bool.{ltb-true, ltb-false, eqb-true, eqb-false}
 use Rattle.std.proofs.lemmas.List.{drop-set-lt, get_or-set_same, get_or-set_other, take-map, drop-map}
-use Rattle.std.proofs.lemmas.List.Sums.{sum_by_more, sum_by-append}
+use Rattle.std.proofs.lemmas.List.Sums.{sum_by_more}
 use Rattle.rga_tree.specs.declared.element.Element.{Element}
 use Rattle.rga_sequence.specs.declared.block.Block.{Block}
 use Rattle.rga_sequence.specs.Blocks.{seen, seen_all}
@@ -132,10 +132,6 @@ sums-front ss xs (suc g) are within =
     let further : seen_all (take (32 * suc g) xs) ≡ seen_all (take (32 * g) xs) + seen_among xs g = ap (λ k. seen_all (take k xs)) t ∙ seen_all-add xs (32 * g) 32 in
     omega (arith, more, further, sums-front ss xs g are (omega (arith, within)), are.sums g 0 (omega (arith, within)))
 
--- those of the next n, too
-sum-add : (ss : List ℕ) (g n : ℕ) → sum (take (g + n) ss) ≡ sum (take g ss) + sum (take n (drop g ss))
-sum-add ss g n = ap sum (take-add g n ss) ∙ sum_by-append (λ (n : ℕ). n) (take g ss) (take n (drop g ss))
-
 -- and the blocks from there up to a place
 pub sums-before : (ss : List ℕ) (bs : List Block) (g b : ℕ) → AreSums ss (items_of bs) → g ≤ length ss → 32 * g ≤ b → sum (take g ss) + seen_all (items_of (take (b - 32 * g) (drop (32 * g) bs))) ≡ seen_all (take b (items_of bs))
 sums-before ss bs g b are within up_to =
@@ -143,10 +139,3 @@ sums-before ss bs g b are within up_to =
     let parted : seen_all (take b (items_of bs)) ≡ seen_all (take (32 * g) (items_of bs)) + seen_all (take (b - 32 * g) (drop (32 * g) (items_of bs))) =
     ap (λ k. seen_all (take k (items_of bs))) (sym s) ∙ seen_all-add (items_of bs) (32 * g) (b - 32 * g) in
     omega (arith, parted, sums-front ss (items_of bs) g are within, seen-read bs (32 * g) (b - 32 * g))
-
--- from the first sums on
-pub sums-between : (ss : List ℕ) (bs : List Block) (g u b : ℕ) → AreSums ss (items_of bs) → g ≤ u → u ≤ length ss → 32 * u ≤ b
-    → sum (take g ss) + (sum (take (u - g) (drop g ss)) + seen_all (items_of (take (b - 32 * u) (drop (32 * u) bs)))) ≡ seen_all (take b (items_of bs))
-sums-between ss bs g u b are order within up_to =
-    let n : g + (u - g) ≡ u = omega (arith, order) in
-    omega (arith, sums-before ss bs u b are within up_to, sum-add ss g (u - g), ap (λ k. sum (take k ss)) n)

@@ -1,6 +1,6 @@
 //! How many visible elements stand before a place of the row.
 
-ghost use Rattle.std.specs.Prelude.{◌≡◌, ◌+◌, ◌*◌, ◌^◌, ◌<◌, ◌≤◌, length, take, get_or, sum, []};
+ghost use Rattle.std.specs.Prelude.{◌≡◌, ◌+◌, ◌^◌, ◌<◌, ◌≤◌, length, take, get_or, sum, []};
 ghost use Rattle.rga_sequence.specs.BlockRows.{items_of};
 ghost use Rattle.rga_sequence.specs.Blocks.{seen, seen_all};
 ghost use Rattle.rga_sequence.specs.Sums.{AreSums};
@@ -27,20 +27,8 @@ fn before_block(blocks: &[Block], sums: &[usize], b: usize) -> usize
     requires few { seen_all (items_of blocks.now) < 2 ^ 64 }
     ensures { result ≡ seen_all (take b (items_of blocks.now)) }
 {
-    before_block_from(blocks, sums, 0, b)
-}
-
-/// How many visible elements stand before block b, less those of which the first g sums tell. All of these stand before it.
-pub fn before_block_from(blocks: &[Block], sums: &[usize], g: usize, b: usize) -> usize
-    requires block { b ≤ length blocks.now }
-    requires there { g ≤ length sums.now }
-    requires order { 32 * g ≤ b }
-    requires sums { AreSums sums.now (items_of blocks.now) }
-    requires few { seen_all (items_of blocks.now) < 2 ^ 64 }
-    ensures { sum (take g sums.now) + result ≡ seen_all (take b (items_of blocks.now)) }
-{
-    let last = sums.len().min(b / NEIGHBOURS);
-    total(&sums[g..last]) + visible_in(&blocks[NEIGHBOURS * last..b])
+    let g = sums.len().min(b / NEIGHBOURS);
+    total(&sums[..g]) + visible_in(&blocks[NEIGHBOURS * g..b])
 }
 
 /// The sums together.

@@ -121,9 +121,9 @@ impl Look for Blocks {
         counted::header(&self.row.blocks[b], &mut self.looks)
     }
 
-    fn headers(&mut self, from: usize, to: usize) -> usize {
+    fn pass(&mut self, k: usize) -> (usize, usize) {
         let row = &self.row;
-        counted::headers(&row.blocks, &row.sums, from, to, &mut self.looks)
+        counted::pass(&row.blocks, &row.sums, k, &mut self.looks)
     }
 
     fn element(&mut self, b: usize, j: usize) -> Element {

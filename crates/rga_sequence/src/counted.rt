@@ -5,7 +5,6 @@ ghost use Rattle.rga_sequence.specs.BlockRows.{items_of};
 ghost use Rattle.rga_sequence.specs.Blocks.{seen, seen_all};
 ghost use Rattle.rga_sequence.specs.Sums.{AreSums};
 
-use crate::before::before_block_from;
 use crate::block::Block;
 use crate::bounds::NEIGHBOURS;
 use rga_tree::Element;
@@ -21,20 +20,24 @@ pub fn header(block: &Block, looks: &mut u64) -> usize
     block.visible
 }
 
-/// How many elements of the blocks from one up to another, which is left out, are visible. Neighbours that have a sum are
-/// passed in one step, which is as many looks as they have headers.
-pub fn headers(blocks: &[Block], sums: &[usize], from: usize, to: usize, looks: &mut u64) -> usize
-    requires order { from ≤ to }
-    requires there { to ≤ length blocks.now }
+/// Passes neighbours that have a sum, from the front, as long as k isn't among them: how many blocks these are, and how many of
+/// the k elements before k are left. That is as many looks as they have headers.
+pub fn pass(blocks: &[Block], sums: &[usize], k: usize, looks: &mut u64) -> (usize, usize)
     requires sums { AreSums sums.now (items_of blocks.now) }
-    requires few { seen_all (items_of blocks.now) < 2 ^ 64 }
-    requires room { looks.old + (to - from) < 2 ^ 64 }
-    ensures visible { result ≡ seen_all (take (to - from) (drop from (items_of blocks.now))) }
-    ensures looks { looks.new ≡ looks.old + (to - from) }
+    requires room { looks.old + length blocks.now < 2 ^ 64 }
+    ensures there { result.0 ≤ length blocks.now }
+    ensures before { seen_all (take result.0 (items_of blocks.now)) + result.1 ≡ k }
+    ensures looks { looks.new ≡ looks.old + result.0 }
 {
-    *looks += (to - from) as u64;
-    let g = sums.len().min(from / NEIGHBOURS);
-    before_block_from(blocks, sums, g, to) - before_block_from(blocks, sums, g, from)
+    let mut left = k;
+    let mut passed = 0;
+    while passed < sums.len() && sums[passed] <= left {
+        left -= sums[passed];
+        passed += 1;
+    }
+    let count = NEIGHBOURS * passed;
+    *looks += count as u64;
+    (count, left)
 }
 
 /// How many elements of a block, from one up to another, are visible, where in all `visible` are. Each is looked at; where

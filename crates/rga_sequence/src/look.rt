@@ -4,14 +4,9 @@ ghost use Rattle.std.specs.Prelude.{◌≡◌, ◌+◌, ◌-◌, ◌<◌, ◌≤
 ghost use Rattle.rga_tree.specs.declared.element.Element.{Element};
 ghost use Rattle.rga_sequence.specs.Blocks.{seen, seen_all, joined, FindsBy, IsVisiblePlace};
 
-use crate::block::FULL;
-use crate::bounds::NEIGHBOURS;
 use rga_tree::Element;
 
-/// How many blocks are passed together at least. Of fewer each is looked at alone, so that no step leads over one block.
-const FEWEST_BLOCKS: usize = 8;
-
-/// How many elements are passed together at least, likewise.
+/// How many elements are passed together at least. Of fewer each is looked at alone, so that no step leads over one.
 const FEWEST_ELEMENTS: usize = 16;
 
 /// How many elements are counted together at most: as many as a byte can count.
@@ -38,15 +33,15 @@ pub trait Look {
         ensures content { blocks self.new ≡ blocks self.old }
         ensures aside { aside self.new ≡ aside self.old };
 
-    /// How many elements of the blocks from one up to another, which is left out, are visible. This is
-    /// a look at the header of each.
-    /// Cost: O(n) of the blocks.
-    fn headers(&mut self, from: usize, to: usize) -> usize
-        requires order { from ≤ to }
-        requires there { to ≤ length (blocks self.old) }
-        requires room { looked self.old + (to - from) < 2 ^ 64 }
-        ensures value { result ≡ seen_all (take (to - from) (drop from (blocks self.old))) }
-        ensures looks { looked self.new ≡ looked self.old + (to - from) }
+    /// Passes neighbouring blocks whole, from the front, as far as it is known how many of their elements are visible
+    /// together and k isn't among them: how many blocks these are, and how many of the k elements before k are left. This is a
+    /// look at the header of each.
+    /// Cost: O(n / 32) of the blocks.
+    fn pass(&mut self, k: usize) -> (usize, usize)
+        requires room { looked self.old + length (blocks self.old) < 2 ^ 64 }
+        ensures there { result.0 ≤ length (blocks self.old) }
+        ensures before { seen_all (take result.0 (blocks self.old)) + result.1 ≡ k }
+        ensures looks { looked self.new ≡ looked self.old + result.0 }
         ensures content { blocks self.new ≡ blocks self.old }
         ensures aside { aside self.new ≡ aside self.old };
 
@@ -126,7 +121,7 @@ fn block_of<L: Look>(row: &mut L, k: usize) -> (usize, usize, usize)
     ensures content { L.blocks row.new ≡ L.blocks row.old }
     ensures aside { L.aside row.new ≡ L.aside row.old }
 {
-    let (mut b, mut left) = passed_together(row, k);
+    let (mut b, mut left) = row.pass(k);
     let mut visible = row.header(b);
     while visible <= left {
         left -= visible;
@@ -134,40 +129,6 @@ fn block_of<L: Look>(row: &mut L, k: usize) -> (usize, usize, usize)
         visible = row.header(b);
     }
     (b, visible, left)
-}
-
-/// A block up to that one, and how many visible ones are left from its front on. A block has at most 512 visible ones,
-/// so for each 512 that are left one is passed, whatever its header says.
-fn passed_together<L: Look>(row: &mut L, k: usize) -> (usize, usize)
-    requires there { k < seen_all (L.blocks row.old) }
-    requires room { L.looked row.old + length (L.blocks row.old) < 2 ^ 64 }
-    ensures there { result.0 < length (L.blocks row.old) }
-    ensures before { seen_all (take result.0 (L.blocks row.old)) + result.1 ≡ k }
-    ensures looks { L.looked row.new ≡ L.looked row.old + result.0 }
-    ensures content { L.blocks row.new ≡ L.blocks row.old }
-    ensures aside { L.aside row.new ≡ L.aside row.old }
-{
-    let mut b = 0;
-    let mut left = k;
-    while left / FULL >= FEWEST_BLOCKS {
-        let end = b + in_one_step(left / FULL);
-        left -= row.headers(b, end);
-        b = end;
-    }
-    (b, left)
-}
-
-/// How many of so many blocks are passed in one step: of many only whole neighbours, of which a sum tells.
-#[inline]
-fn in_one_step(blocks: usize) -> usize
-    requires { 0 < blocks }
-    ensures some { 0 < result }
-    ensures within { result ≤ blocks }
-{
-    if blocks < NEIGHBOURS {
-        return blocks;
-    }
-    blocks - blocks % NEIGHBOURS
 }
 
 /// The place of a visible element in its block, and the element. As many elements as visible ones are left before it are

@@ -159,6 +159,7 @@ impl<K: Drop> Block<K> {
     }
 
     /// Drops what is kept of all but its paragraphs from `from` up to `to`.
+    #[inline(always)]
     pub fn forget_but(&mut self, from: usize, to: usize)
         requires few { bytes_in (concat (points_in self.old.pieces.items)) ≤ 9_000_000 }
         ensures points { points_in self.new.pieces.items ≡ points_in self.old.pieces.items }

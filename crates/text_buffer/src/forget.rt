@@ -31,6 +31,7 @@ pub fn forget_but<K: Drop>(blocks: &mut [Block<K>], from: usize, to: usize)
 }
 
 /// Drops what block q keeps of all but those paragraphs.
+#[inline(always)]
 fn forget_but_in<K: Drop>(blocks: &mut [Block<K>], q: usize, from: usize, to: usize)
     requires block { q < length blocks.old }
     requires few { bytes_in (concat (points_in (get_or (rows_of blocks.old) q []))) ≤ 9_000_000 }

@@ -1,0 +1,34 @@
+-- The goals of `before_block` that are answered by hand.
+use Rattle.std.proofs.Common.{arith}
+use Rattle.rga_sequence.specs.BlockRows.{items_of}
+use Rattle.rga_sequence.proofs.InFront.{seen_all-within}
+use Rattle.rga_sequence.proofs.Summed.{sums-before}
+use Rattle.rga_sequence.proofs.before.before_block.Goals as goal
+
+pub total-requires : goal.total-requires
+total-requires c =
+    let bs = c.args.blocks.now in
+    let b = c.args.b in
+    let all = sums-before c.args.sums.now bs c.min-g.result b c.requires.sums (omega (arith, c.min-g.ensures)) (omega (arith, c.min-g.ensures)) in
+    record { few = omega (arith, all, seen_all-within (items_of bs) b, c.requires.few) }
+
+pub visible_in-requires : goal.visible_in-requires
+visible_in-requires c =
+    let bs = c.args.blocks.now in
+    let b = c.args.b in
+    let all = sums-before c.args.sums.now bs c.min-g.result b c.requires.sums (omega (arith, c.min-g.ensures)) (omega (arith, c.min-g.ensures)) in
+    record { few = omega (arith, all, seen_all-within (items_of bs) b, c.requires.few) }
+
+pub returns : goal.returns
+returns c =
+    let bs = c.args.blocks.now in
+    let b = c.args.b in
+    let all = sums-before c.args.sums.now bs c.min-g.result b c.requires.sums (omega (arith, c.min-g.ensures)) (omega (arith, c.min-g.ensures)) in
+    omega (arith, all, c.total.ensures, c.visible_in.ensures)
+
+pub overflow_add-result : goal.overflow_add-result
+overflow_add-result c =
+    let bs = c.args.blocks.now in
+    let b = c.args.b in
+    let all = sums-before c.args.sums.now bs c.min-g.result b c.requires.sums (omega (arith, c.min-g.ensures)) (omega (arith, c.min-g.ensures)) in
+    omega (arith, all, c.total.ensures, c.visible_in.ensures, seen_all-within (items_of bs) b, c.requires.few)
