@@ -241,7 +241,7 @@ impl<K: Drop> Buffer<K> {
             to,
             text,
         )?;
-        // What stands in front of that one stays, whether the change is made or not.
+        // The blocks before this one stay, whether the change is made or not.
         self.near = at_or_in_front(&self.blocks, plan.stretch.block);
         let touched = change(
             self.alloc,
