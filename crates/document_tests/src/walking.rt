@@ -18,14 +18,17 @@ use ucd_files::Tables;
 /// The most rows of a window above and below its own, and one more.
 const ROWS: usize = 40;
 
-/// How many paragraphs the text has from the start: more than one block of a buffer.
-const PARAGRAPHS: usize = 600;
-
-/// Makes so many steps by chance, and shows a window at some place after each. Tells the number of the first step after which
-/// the window is not the stretch of the rows of `cell_grid::draw` that it should be, or the number of steps where there is
-/// none.
-pub fn walk(alloc: Global, tables: Rc<Tables>, seed: u64, steps: usize) -> Result<usize, Memory> {
-    let mut walker = Walker::begin(alloc, tables, seed)?;
+/// Makes so many steps by chance in a text that has so many paragraphs at first, and shows a window at some place after each.
+/// Tells the number of the first step after which the window is not the stretch of the rows of `cell_grid::draw` that it should
+/// be, or the number of steps where there is none.
+pub fn walk(
+    alloc: Global,
+    tables: Rc<Tables>,
+    paragraphs: usize,
+    seed: u64,
+    steps: usize,
+) -> Result<usize, Memory> {
+    let mut walker = Walker::begin(alloc, tables, paragraphs, seed)?;
     walker.walk(steps)
 }
 
@@ -39,10 +42,15 @@ struct Walker {
 }
 
 impl Walker {
-    fn begin(alloc: Global, tables: Rc<Tables>, seed: u64) -> Result<Walker, Memory> {
+    fn begin(
+        alloc: Global,
+        tables: Rc<Tables>,
+        paragraphs: usize,
+        seed: u64,
+    ) -> Result<Walker, Memory> {
         Ok(Walker {
             alloc,
-            document: begun(alloc, tables)?,
+            document: begun(alloc, tables, paragraphs)?,
             other: Other::new(alloc),
             chance: Chance::new(seed),
         })
@@ -75,9 +83,9 @@ impl Walker {
 }
 
 /// A document over a desk that holds the first text.
-fn begun(alloc: Global, tables: Rc<Tables>) -> Result<Document, Memory> {
+fn begun(alloc: Global, tables: Rc<Tables>, paragraphs: usize) -> Result<Document, Memory> {
     let mut text = String::new(alloc);
-    for _ in 0..PARAGRAPHS {
+    for _ in 0..paragraphs {
         text.push_str("ab \u{5D0}\n")?;
     }
     let mut desk: Desk = Replica::new(alloc, 1, Blocks::keyed(alloc, KEY), KEY);
