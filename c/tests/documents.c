@@ -136,6 +136,11 @@ static void tries_room(void)
     CHECK(bidigrid_document_reserve(&document, SIZE_MAX) == BIDIGRID_FAULT_TOO_MANY);
     CHECK(bidigrid_document_reserve(&document, 0) == BIDIGRID_OK);
     CHECK(bidigrid_document_reserve(&document, 100) == BIDIGRID_OK);
+    CHECK(bidigrid_document_keep_rows(&document, BIDIGRID_MAX_OPERATIONS + 1) == BIDIGRID_FAULT_TOO_MANY);
+    CHECK(bidigrid_document_keep_rows(&document, SIZE_MAX) == BIDIGRID_FAULT_TOO_MANY);
+    CHECK(shows(&document, 0, 0, 0, 1, 0, "        \n"));
+    CHECK(bidigrid_document_keep_rows(&document, BIDIGRID_MAX_OPERATIONS) == BIDIGRID_OK && !shows_nothing(&document));
+    CHECK(bidigrid_document_keep_rows(&document, 0) == BIDIGRID_OK && !shows_nothing(&document));
     bidigrid_document_free(&document);
 }
 
@@ -187,6 +192,7 @@ static void tries_empty_handles(void)
     CHECK(bidigrid_document_resize(&none, 8) == BIDIGRID_FAULT_EMPTY_HANDLE && !none.held);
     CHECK(bidigrid_document_set_base(&none, 0) == BIDIGRID_FAULT_EMPTY_HANDLE && !none.held);
     CHECK(bidigrid_document_reserve(&none, 1) == BIDIGRID_FAULT_EMPTY_HANDLE && !none.held);
+    CHECK(bidigrid_document_keep_rows(&none, 1) == BIDIGRID_FAULT_EMPTY_HANDLE && !none.held);
     CHECK(bidigrid_document_id_at(&none, 0, &id) == BIDIGRID_FAULT_EMPTY_HANDLE && id.counter == 0 && id.site == 0);
     bidigrid_document_free(&none);
 }

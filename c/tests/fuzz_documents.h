@@ -159,6 +159,10 @@ static void document_turns(input *from)
     answer = bidigrid_document_set_base(&it->document, base);
     CHECK(answer == (!held ? BIDIGRID_FAULT_EMPTY_HANDLE : base < 3 ? BIDIGRID_OK : BIDIGRID_FAULT_BAD_BASE));
     it->base = answer == BIDIGRID_OK ? base : it->base;
+    size_t rows = next_number(from);
+    answer = bidigrid_document_keep_rows(&it->document, rows);
+    bool can_be_kept = rows <= BIDIGRID_MAX_OPERATIONS;
+    CHECK(answer == (!held ? BIDIGRID_FAULT_EMPTY_HANDLE : can_be_kept ? BIDIGRID_OK : BIDIGRID_FAULT_TOO_MANY));
 }
 
 /* Two documents that have met have one text, and save a file that makes a new one the same. */

@@ -131,6 +131,12 @@ class Document(Positions):
         must(lib.bidigrid_document_set_base(self._full(), given.base(base)))
         self._base = base
 
+    def keep_rows(self, rows: int) -> None:
+        """Keeps so many rows once they are laid out, at most 1,000,000, or those of four windows where these are more. Where
+        all rows of a text are kept, only what changes is laid out again; they take up to 20 bytes a character. A Fault where
+        they are more."""
+        must(lib.bidigrid_document_keep_rows(self._full(), given.count(rows)))
+
     def type(self, place: int, text: str) -> bytes:
         """Types a text at a place, 0 to the text's length, and returns the message for the others: all of it, or nothing.
         An IndexError where there is no such place, a ValueError where the text has a lone surrogate, a Fault where the

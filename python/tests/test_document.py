@@ -113,6 +113,7 @@ def test_other_types_are_a_type_error() -> None:
         lambda: document.resize("80"),
         lambda: document.rows([]),
         lambda: document.reserve(1.5),
+        lambda: document.keep_rows("all"),
         lambda: document.place_of(7),
         lambda: make("1"),
         lambda: make(1, base=0),
@@ -210,6 +211,19 @@ def test_room_is_paid_in_advance() -> None:
     for operations in (1_000_001, 2**64, -1):
         with pytest.raises(Fault) as raised:
             document.reserve(operations)
+        assert raised.value.name == "TooMany"
+
+
+def test_rows_are_kept_as_many_as_are_asked_for() -> None:
+    document = Document(1, width=4)
+    document.type(0, "a\nb")
+    window = document.rows()
+    for rows in (1_000_000, 0):
+        document.keep_rows(rows)
+        assert document.rows() == window
+    for rows in (1_000_001, 2**64, -1):
+        with pytest.raises(Fault) as raised:
+            document.keep_rows(rows)
         assert raised.value.name == "TooMany"
 
 

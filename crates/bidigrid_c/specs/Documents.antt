@@ -47,6 +47,7 @@ pub record IsLaidOut (tables : TableValues) (width base : ℕ) (desk : Desk) (ne
   pub tables_are : new.document.tables ≡ tables
   pub width_is : new.document.width ≡ width
   pub base_is : base_of base ≡ Some new.document.base
+  pub most : new.document.most ≡ 0
   pub hidden : new.document.window ≡ no_window
   pub silent : IsSilent new
 
@@ -76,7 +77,13 @@ pub record IsDrawnAt (old : ToldDocument) (width : ℕ) (base : Base) (new : Tol
   pub tables : new.document.tables ≡ old.document.tables
   pub width_is : new.document.width ≡ width
   pub base_is : new.document.base ≡ base
+  pub most : new.document.most ≡ old.document.most
   pub hidden : new.document.window ≡ no_window
+  pub alike : TellAlike old new
+
+-- so many rows may be kept from now on; all else stays, what is shown and told too
+pub record KeepsRows (old : ToldDocument) (rows : ℕ) (new : ToldDocument) : Type 0 where
+  pub document : new.document ≡ record old.document { most = rows }
   pub alike : TellAlike old new
 
 -- so many new operations are paid for; all else stays, what is shown and told too

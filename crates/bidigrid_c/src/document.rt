@@ -1,11 +1,11 @@
-//! Documents: made, opened from a file, drawn at another width, paid for, freed.
+//! Documents: made, opened from a file, drawn at another width, paid for, freed, and how many rows they keep.
 
 ghost use Rattle.std.specs.Prelude.{◌≡◌, ◌⊎◌, ◌<◌, Some, None, IfOk, IfErr};
 ghost use Rattle.std.specs.Option.{IfSome};
 ghost use Rattle.bg_types.specs.declared.class.Base.{Base as BaseValue};
 ghost use Rattle.desk_replica.specs.Desk.{fresh};
 ghost use Rattle.bidigrid_c.specs.Bases.{base_of};
-ghost use Rattle.bidigrid_c.specs.Documents.{IsLaidOut, IsNotMade, IsOpened, IsNotOpened, IsDrawnAt, IsPaidFor};
+ghost use Rattle.bidigrid_c.specs.Documents.{IsLaidOut, IsNotMade, IsOpened, IsNotOpened, IsDrawnAt, IsPaidFor, KeepsRows};
 ghost use Rattle.bidigrid_c.specs.Drawing.{IsWidth};
 ghost use Rattle.bidigrid_c.specs.Numbers.{IsSite, none_taken};
 
@@ -255,6 +255,39 @@ fn set_base_in(held: &mut ToldDocument, base: u32) -> u32
         }
         None => BAD_BASE,
     }
+}
+
+/// Lets so many rows be kept from now on.
+#[unsafe(no_mangle)]
+pub extern "C" fn bidigrid_document_keep_rows(
+    alloc: Global,
+    document: &mut DocumentHandle,
+    rows: usize,
+) -> u32
+    ensures ok { result ≡ 0 → IfSome document.old.held (λ d. IfSome document.new.held (KeepsRows d rows)) }
+    ensures err { (result ≡ 0 → ⊥) → document.new.held ≡ document.old.held }
+    ensures fault { (result ≡ 0 → ⊥) → IfSome document.old.held (λ _. (result ≡ 115) × (1_000_000 < rows)) }
+    ensures empty { document.old.held ≡ None → (result ≡ 101) × (document.new.held ≡ None) }
+    ensures held { document.new.held ≡ None → document.old.held ≡ None }
+{
+    let Some(mut held) = document.take(alloc) else {
+        return EMPTY_HANDLE;
+    };
+    let answer = keep_rows_in(&mut held, rows);
+    document.put(alloc, held);
+    answer
+}
+
+fn keep_rows_in(held: &mut ToldDocument, rows: usize) -> u32
+    ensures ok { result ≡ 0 → KeepsRows held.old rows held.new }
+    ensures err { (result ≡ 0 → ⊥) → held.new ≡ held.old }
+    ensures fault { (result ≡ 0 → ⊥) → (result ≡ 115) × (1_000_000 < rows) }
+{
+    if rows > MOST {
+        return TOO_MANY;
+    }
+    held.document.keep_rows(rows);
+    OK
 }
 
 /// Pays in advance for new operations.

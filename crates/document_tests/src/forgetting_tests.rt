@@ -1,4 +1,6 @@
-//! Rows are kept for some windows, and no longer.
+//! Rows are kept for some windows, or as many as were asked for, and no longer.
+
+ghost use Rattle.std.specs.Prelude.{◌≤◌};
 
 use crate::documents::{document_of, small_tables};
 use bg_types::Memory;
@@ -26,9 +28,13 @@ fn shown_from(document: &mut Document, line: usize) -> Result<usize, Memory> {
     Ok(document.laid())
 }
 
-/// How many lines of the first window are laid out again after so many windows were shown one below the other.
-fn laid_again(alloc: Global, windows: usize) -> Result<usize, Memory> {
+/// How many lines of the first window are laid out again after so many windows were shown one below the other, where so many
+/// rows may be kept.
+fn laid_again(alloc: Global, rows: usize, windows: usize) -> Result<usize, Memory>
+    requires { rows ≤ 1_000_000 }
+{
     let mut document = document_of(alloc, small_tables(alloc)?, 17, &lines(alloc)?)?;
+    document.keep_rows(rows);
     for number in 0..windows {
         shown_from(&mut document, number.saturating_mul(ROWS))?;
     }
@@ -37,7 +43,30 @@ fn laid_again(alloc: Global, windows: usize) -> Result<usize, Memory> {
 
 #[test]
 fn rows_of_some_windows_are_kept_and_of_many_forgotten(rt: HostRuntime) -> Result<(), Memory> {
-    assert_eq!(rt; laid_again(rt.alloc(), 20)?, 0);
-    assert_eq!(rt; laid_again(rt.alloc(), 40)?, ROWS);
+    assert_eq!(rt; laid_again(rt.alloc(), 0, 20)?, 0);
+    assert_eq!(rt; laid_again(rt.alloc(), 0, 40)?, ROWS);
+    Ok(())
+}
+
+#[test]
+fn as_many_rows_are_kept_as_were_asked_for(rt: HostRuntime) -> Result<(), Memory> {
+    assert_eq!(rt; laid_again(rt.alloc(), LINES, 40)?, 0);
+    assert_eq!(rt; laid_again(rt.alloc(), LINES - 1, 40)?, ROWS);
+    // Those of four windows are more.
+    assert_eq!(rt; laid_again(rt.alloc(), 100, 20)?, 0);
+    Ok(())
+}
+
+#[test]
+fn the_next_window_forgets_what_is_too_much(rt: HostRuntime) -> Result<(), Memory> {
+    let mut document = document_of(rt.alloc(), small_tables(rt.alloc())?, 17, &lines(rt.alloc())?)?;
+    document.keep_rows(LINES);
+    for number in 0..40 {
+        shown_from(&mut document, ROWS * number)?;
+    }
+    document.keep_rows(0);
+    assert_eq!(rt; shown_from(&mut document, 0)?, 0);
+    assert_eq!(rt; shown_from(&mut document, 0)?, 0);
+    assert_eq!(rt; shown_from(&mut document, ROWS)?, ROWS);
     Ok(())
 }

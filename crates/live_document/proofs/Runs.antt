@@ -9,7 +9,7 @@ use Rattle.unicode_tables.specs.Tables.{TableValues}
 use Rattle.cell_grid.specs.Grids.{grid_rows}
 use Rattle.cell_grid.specs.Windows.{window_of}
 use Rattle.live_document.specs.Documents.{LiveDocument, IsWindowOf, window_round}
-use Rattle.live_document.specs.Runs.{DocumentCall, Takes, Merges, Types, Erases, Replaces, Resizes, Turns, Shows, IsChanged, IsShown, IsCall, IsRun}
+use Rattle.live_document.specs.Runs.{DocumentCall, Takes, Merges, Types, Erases, Replaces, Resizes, Turns, Keeps, Shows, IsChanged, IsShown, IsCall, IsRun}
 
 abbrev IsOfNow : LiveDocument → Type 0
 IsOfNow d = IsWindowOf d.desk.set d.tables d.width d.base d.window
@@ -40,6 +40,7 @@ call-of_now old new (Erases from to) refused of_now h = changed-of_now old new _
 call-of_now old new (Replaces from to characters) refused of_now h = changed-of_now old new _ refused of_now h
 call-of_now old new (Resizes width) refused of_now h = inl h.window
 call-of_now old new (Turns base) refused of_now h = inl h.window
+call-of_now old new (Keeps rows) refused of_now h = subst IsOfNow (sym h) of_now
 call-of_now old new (Shows place above below) refused of_now h = shown-of_now old new place above below refused h
 
 pub run-of_now : (old new : LiveDocument) (calls : List DocumentCall) → IsOfNow old → IsRun old calls new → IsOfNow new

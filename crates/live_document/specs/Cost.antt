@@ -42,9 +42,9 @@ unmarked ms from to = count_by not (slice_range ms from to)
 abbrev pub rows_kept : List (KeptParagraph ℕ) → ℕ
 rows_kept paragraphs = sum_by (λ (p : KeptParagraph ℕ). option_map_or (λ rows. rows) p.kept 0) paragraphs
 
--- so many rows may be kept at least: those of four windows, with 64 rows each or more
-abbrev pub allowed : (rows : ℕ) → ℕ
-allowed rows = 4 * max rows 64
+-- so many rows may be kept: those of four windows, with 64 rows each or more, or as many as were asked for
+abbrev pub allowed : (most rows : ℕ) → ℕ
+allowed most rows = max most (4 * max rows 64)
 
 -- a window was laid out: its rows are those of the paragraphs from `first` up to `end`; so many of these were laid out as were
 -- not kept, and all of them are kept now; others only where not too many rows are
@@ -56,7 +56,7 @@ pub record IsLaidOut (old new : LiveDocument) (place above below : ℕ) : Type 0
   pub bottom : HasRow new.tables new.width new.base (paragraphs_in new.paragraphs) (end - 1) (bottom_of place below (whole_rows new))
   pub laid : new.laid ≡ unmarked (marks old.paragraphs) first end
   pub kept : (k : ℕ) → first ≤ k → k < end → is_kept (marks new.paragraphs) k ≡ true
-  pub held : (rows_kept new.paragraphs ≤ allowed (length new.window.rows)) ⊎ ((k : ℕ) → is_kept (marks new.paragraphs) k ≡ true → (first ≤ k) × (k < end))
+  pub held : (rows_kept new.paragraphs ≤ allowed new.most (length new.window.rows)) ⊎ ((k : ℕ) → is_kept (marks new.paragraphs) k ≡ true → (first ≤ k) × (k < end))
   pub texts : paragraphs_in new.paragraphs ≡ paragraph_points new.tables (text new.desk.set)
   pub same : paragraphs_in new.paragraphs ≡ paragraphs_in old.paragraphs
 

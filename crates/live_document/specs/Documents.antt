@@ -20,13 +20,15 @@ use Rattle.live_document.specs.Keeping.{Rows, KeptText, rows_held, IsKeptAt}
 use Rattle.live_document.specs.Showing.{window_in, no_window, IsAtHand}
 
 -- a document: its desk; the tables, the width and the base that it is drawn at; the paragraphs of its text, each with how many
--- rows are kept of it, or nothing; the window that is shown; how many paragraphs the last window took to lay out
+-- rows are kept of it, or nothing; how many rows may be kept, where a window doesn't need more; the window that is shown; how many
+-- paragraphs the last window took to lay out
 pub record LiveDocument : Type 0 where
   pub desk : Desk
   pub tables : TableValues
   pub width : ℕ
   pub base : Base
   pub paragraphs : List (KeptParagraph ℕ)
+  pub most : ℕ
   pub window : DrawnWindow
   pub laid : ℕ
 
@@ -75,22 +77,24 @@ paragraph_code = code_by (List ℕ × Option ℕ) (coded× (coded_list coded_ℕ
 -- a document is stored as the tuple of its parts
 abbrev pub live_code : Coded LiveDocument
 live_code =
-    code_by (Desk × (TableValues × (ℕ × (Base × (List (KeptParagraph ℕ) × ((List DrawnRow × ℕ) × ℕ))))))
-    (coded× coded_desk (coded× tables_row.coded (coded× coded_ℕ (coded× base_row.coded (coded× (coded_list paragraph_code) (coded× (coded× (coded_list drawn_row.coded) coded_ℕ) coded_ℕ))))))
-    (λ d. (d.desk, (d.tables, (d.width, (d.base, (d.paragraphs, ((d.window.rows, d.window.number), d.laid)))))))
+    code_by (Desk × (TableValues × (ℕ × (Base × (List (KeptParagraph ℕ) × (ℕ × ((List DrawnRow × ℕ) × ℕ)))))))
+    (coded× coded_desk (coded× tables_row.coded (coded× coded_ℕ (coded× base_row.coded (coded× (coded_list paragraph_code) (coded× coded_ℕ (coded× (coded× (coded_list drawn_row.coded) coded_ℕ) coded_ℕ)))))))
+    (λ d. (d.desk, (d.tables, (d.width, (d.base, (d.paragraphs, (d.most, ((d.window.rows, d.window.number), d.laid))))))))
     (λ p. record {
       desk = p.0;
       tables = p.1.0;
       width = p.1.1.0;
       base = p.1.1.1.0;
       paragraphs = p.1.1.1.1.0;
-      window = record { rows = p.1.1.1.1.1.0.0; number = p.1.1.1.1.1.0.1 };
-      laid = p.1.1.1.1.1.1;
+      most = p.1.1.1.1.1.0;
+      window = record { rows = p.1.1.1.1.1.1.0.0; number = p.1.1.1.1.1.1.0.1 };
+      laid = p.1.1.1.1.1.1.1;
     })
     (λ _. refl)
 
--- both are drawn by the same tables, at the same width and base
+-- both are drawn by the same tables, at the same width and base, and may keep as many rows
 pub record IsDrawnAlike (old new : LiveDocument) : Type 0 where
   pub tables : new.tables ≡ old.tables
   pub width : new.width ≡ old.width
   pub base : new.base ≡ old.base
+  pub most : new.most ≡ old.most

@@ -9,7 +9,7 @@ use Rattle.live_document.specs.Documents.{LiveDocument, IsDrawnAlike, window_rou
 use Rattle.live_document.specs.Showing.{no_window}
 
 -- a call: the operation that is taken, or what the desk holds that is merged; what is typed, erased or replaced, by places; the
--- new width or base; the place of the window that is shown, and how many rows above and below it
+-- new width or base; how many rows may be kept; the place of the window that is shown, and how many rows above and below it
 pub data DocumentCall : Type 0 where
   Takes : OpView → DocumentCall
   Merges : OperationSet → DocumentCall
@@ -18,6 +18,7 @@ pub data DocumentCall : Type 0 where
   Replaces : (from to : ℕ) → List ℕ → DocumentCall
   Resizes : (width : ℕ) → DocumentCall
   Turns : Base → DocumentCall
+  Keeps : (rows : ℕ) → DocumentCall
   Shows : (place above below : ℕ) → DocumentCall
 
 -- the desk holds this set now, and nothing is shown; where the call was refused all is as it was
@@ -39,6 +40,7 @@ pub record IsTurned (old : LiveDocument) (width : ℕ) (base : Base) (new : Live
   pub tables : new.tables ≡ old.tables
   pub width_is : new.width ≡ width
   pub base_is : new.base ≡ base
+  pub most : new.most ≡ old.most
   pub window : new.window ≡ no_window
 
 -- the window is shown, or nothing where there was no memory for it
@@ -57,6 +59,7 @@ IsCall old (Erases from to) refused new = IsChanged old (with_operations old.des
 IsCall old (Replaces from to characters) refused new = IsChanged old (with_operations old.desk.set (replacement old.desk.set old.desk.site from (to - from) characters)) refused new
 IsCall old (Resizes width) refused new = IsTurned old width old.base new
 IsCall old (Turns base) refused new = IsTurned old old.width base new
+IsCall old (Keeps rows) refused new = new ≡ record old { most = rows }
 IsCall old (Shows place above below) refused new = IsShown old place above below refused new
 
 -- calls, one after the other, do

@@ -12,7 +12,7 @@ ghost use Rattle.desk_replica.specs.Stretch.{typed_text, deletions, replacement,
 ghost use Rattle.desk_replica.specs.declared.answer.TypeFault.{TypeFault as Untyped};
 ghost use Rattle.live_document.specs.Cost.{rows_kept, IsLaidOut, KeepsOthers};
 ghost use Rattle.live_document.specs.Documents.{window_round, IsDrawnAlike, IsWindowOf};
-ghost use Rattle.live_document.specs.Runs.{Types, Erases, Replaces, Resizes, Turns, Shows, IsCall};
+ghost use Rattle.live_document.specs.Runs.{Types, Erases, Replaces, Resizes, Turns, Keeps, Shows, IsCall};
 ghost use Rattle.live_document.specs.Showing.{no_window};
 
 mod positions;
@@ -22,7 +22,7 @@ mod taking_all;
 mod typing;
 
 use crate::following::{buffer_of, catch_up, follow};
-use crate::keeping::forget_rows;
+use crate::keeping::{Most, forget_rows};
 use crate::showing::lay_window_out;
 use crate::shown::Shown;
 use crate::window::Window;
@@ -58,6 +58,8 @@ pub struct Document {
     laid: usize,
     /// At most so many rows are kept.
     held: usize,
+    /// So many may be.
+    most: Most,
 }
 
 impl Model for Document {
@@ -76,6 +78,7 @@ impl Model for Document {
       width = d.width;
       base = d.base;
       paragraphs = paragraphs_of d.behind d.tables.value d.desk.set d.buffer;
+      most = d.most.rows;
       window = window_in d.buffer d.shown;
       laid = d.laid;
     } };
@@ -104,6 +107,7 @@ impl Document {
         ensures width { IfOk result (λ document. document.width ≡ width) }
         ensures base { IfOk result (λ document. document.base ≡ base) }
         ensures window { IfOk result (λ document. document.window ≡ no_window) }
+        ensures most { IfOk result (λ document. document.most ≡ 0) }
         ensures laid { IfOk result (λ document. document.laid ≡ 0) }
     {
         let desk = Replica::new(alloc, site, Blocks::keyed(alloc, key), key);
@@ -127,6 +131,7 @@ impl Document {
         ensures width { IfOk result (λ document. document.width ≡ width) }
         ensures base { IfOk result (λ document. document.base ≡ base) }
         ensures window { IfOk result (λ document. document.window ≡ no_window) }
+        ensures most { IfOk result (λ document. document.most ≡ 0) }
         ensures laid { IfOk result (λ document. document.laid ≡ 0) }
     {
         let buffer = buffer_of(alloc, &tables, "")?;
@@ -141,6 +146,7 @@ impl Document {
             shown: Shown::nothing(),
             laid: 0,
             held: 0,
+            most: Most { rows: 0 },
         })
     }
 
@@ -358,6 +364,7 @@ impl Document {
         ensures base { self.new.base ≡ self.old.base }
         ensures tables { self.new.tables ≡ self.old.tables }
         ensures desk { self.new.desk ≡ self.old.desk }
+        ensures most { self.new.most ≡ self.old.most }
         ensures window { self.new.window ≡ no_window }
         ensures call { IsCall self.old (Resizes width) false self.new }
     {
@@ -374,6 +381,7 @@ impl Document {
         ensures width { self.new.width ≡ self.old.width }
         ensures tables { self.new.tables ≡ self.old.tables }
         ensures desk { self.new.desk ≡ self.old.desk }
+        ensures most { self.new.most ≡ self.old.most }
         ensures window { self.new.window ≡ no_window }
         ensures call { IsCall self.old (Turns base) false self.new }
     {
@@ -383,9 +391,21 @@ impl Document {
         self.shown = Shown::nothing();
     }
 
+    /// From now on so many rows may be kept (at most 1,000,000), or those of four windows where these are more; a document is
+    /// made with 0. Where the rows of a whole text may be kept, a paragraph is laid out once and after edits of its own alone.
+    /// What is shown stays, and the next `show` forgets what is too much.
+    /// Cost: O(1); `show` then keeps up to 20 bytes for each cluster of a row.
+    pub fn keep_rows(&mut self, rows: usize)
+        requires { rows ≤ 1_000_000 }
+        ensures most { self.new ≡ record self.old { most = rows } }
+        ensures call { IsCall self.old (Keeps rows) false self.new }
+    {
+        self.most = Most { rows };
+    }
+
     /// Lays out what is not kept of a window: the rows from so many above the row of a place to so many below it, each at
     /// most 1,000. `window` shows it then. No more rows are kept then than four such windows have, each of at least 64 rows, or
-    /// none but those of the window's paragraphs. After `Memory` nothing is shown, and no rows are kept.
+    /// than `keep_rows` was asked for, or none but those of the window's paragraphs. After `Memory` nothing is shown, and no rows are kept.
     /// Cost: O(d / 32) of the d paragraphs between the place and where the last edit or `show` was, O(64) for each that has a
     /// row in the window, and that of `rows` for each of them of which nothing is kept; memory for their rows. Where rows
     /// are forgotten, O(n / 32) of all paragraphs. Where an edit was refused memory before, that of `text` and
@@ -422,6 +442,7 @@ impl Document {
             above,
             below,
             self.held,
+            self.most.rows,
         ) {
             Ok(outcome) => {
                 self.shown = outcome.shown;

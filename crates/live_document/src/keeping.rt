@@ -13,6 +13,13 @@ use std::alloc::Global;
 use text_buffer::Buffer;
 use unicode_tables::Tables;
 
+/// How many rows may be kept, where a window doesn't need more.
+#[derive(Clone, Copy)]
+pub struct Most {
+    pub rows: usize,
+    ghost few: { rows ≤ 1_000_000 },
+}
+
 /// The rows that are kept of a paragraph, counted from its start; none where none are.
 pub fn kept_rows(buffer: &Buffer<Vec<Row>>, number: usize) -> &[Row]
     requires { number < length buffer.now }

@@ -32,11 +32,11 @@ pub fn cost_law()
 {}
 
 /// The memory law. After a window was laid out and then edits came, no more rows are kept than four such windows have, each of at
-/// least 64 rows, or than the window's paragraphs had.
+/// least 64 rows, or than were asked for, or than the window's paragraphs had.
 pub fn memory_law()
     ensures { (before shown changed : LiveDocument) (steps : List Step) (place above below : ℕ)
         → (one : IsLaidOut before shown place above below) → IsTouchedInTurn shown.paragraphs steps changed.paragraphs
-        → rows_kept changed.paragraphs ≤ max (allowed (length shown.window.rows)) (rows_kept (slice_range shown.paragraphs one.first one.end)) }
+        → rows_kept changed.paragraphs ≤ max (allowed shown.most (length shown.window.rows)) (rows_kept (slice_range shown.paragraphs one.first one.end)) }
 {}
 
 /// A gap that is carried over a change has on its other side what it had there.

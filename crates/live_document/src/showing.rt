@@ -19,7 +19,7 @@ use std::alloc::Global;
 use text_buffer::Buffer;
 use unicode_tables::Tables;
 
-/// Rows of so many windows may be kept.
+/// Rows of so many windows may be kept at least.
 const WINDOWS: usize = 4;
 
 /// So many rows are a window's at least: a caret's move shows a row or three, and must leave what an editor draws.
@@ -88,8 +88,8 @@ fn own_row(
     })
 }
 
-/// Lays out what isn't kept of the window round the row of a place. Where more rows may be kept then than four such windows
-/// have, those of other paragraphs are forgotten.
+/// Lays out what isn't kept of the window round the row of a place. Where more rows may be kept then than the most, and than four
+/// such windows have, those of other paragraphs are forgotten.
 pub fn lay_window_out(
     alloc: Global,
     tables: &Tables,
@@ -100,6 +100,7 @@ pub fn lay_window_out(
     above: usize,
     below: usize,
     held: usize,
+    most: usize,
 ) -> Result<Outcome, Memory>
     requires kept { IsKeptAt tables.now width base buffer.old }
     requires place { place ≤ length (text_in buffer.old) }
@@ -107,6 +108,7 @@ pub fn lay_window_out(
     requires below { below ≤ 1_000 }
     requires held { rows_held buffer.old ≤ held }
     requires held_few { held ≤ 15_000_000 }
+    requires most { most ≤ 1_000_000 }
     ensures kept { IsKeptAt tables.now width base buffer.new }
     ensures paragraphs { paragraphs_in buffer.new ≡ paragraphs_in buffer.old }
     ensures window { IfOk result (λ outcome. window_in buffer.new outcome.shown
@@ -118,7 +120,7 @@ pub fn lay_window_out(
     ensures bottom { IfOk result (λ outcome. HasRow tables.now width base (paragraphs_in buffer.old) (outcome.end - 1)
         (bottom_of place below (grid_rows tables.now width base (encode_utf8_all (text_in buffer.old))))) }
     ensures marked { IfOk result (λ outcome. (k : ℕ) → outcome.shown.first ≤ k → k < outcome.end → is_kept (flags buffer.new) k ≡ true) }
-    ensures bounded { IfOk result (λ outcome. (rows_held buffer.new ≤ allowed outcome.shown.count)
+    ensures bounded { IfOk result (λ outcome. (rows_held buffer.new ≤ allowed most outcome.shown.count)
         ⊎ ((k : ℕ) → is_kept (flags buffer.new) k ≡ true → (outcome.shown.first ≤ k) × (k < outcome.end))) }
     ensures held { IfOk result (λ outcome. rows_held buffer.new ≤ outcome.held) }
     ensures few { IfOk result (λ outcome. outcome.held ≤ 15_000_000) }
@@ -140,13 +142,14 @@ pub fn lay_window_out(
         wanted_down,
     )?;
     let shown = cut_out(up, own, down, above, below);
+    let allowed = most.max(WINDOWS * shown.count.max(FEWEST_ROWS));
     let held = forget_others(
         buffer,
         up.number,
         down.number,
         up.rows + own.rows + down.rows,
         held + up.made + own.made + down.made,
-        WINDOWS * shown.count.max(FEWEST_ROWS),
+        allowed,
     );
     laws_below();
     let _bytes = buffer.bytes();

@@ -41,7 +41,7 @@ const NAMES: [&str; 8] = [
 ];
 
 const USAGE: &str = "usage: workloads NAME SEED [SHARE]
-       workloads keys window|draw|nothing bursts|elsewhere|remote|corrected COUNT <TEXT
+       workloads keys window|kept|draw|nothing bursts|elsewhere|remote|corrected COUNT <TEXT
        workloads once paste|open <TEXT";
 
 /// Does the work of a name.

@@ -14,6 +14,9 @@ use view_cache::View;
 /// How many paragraphs a view keeps.
 const ROOM: usize = 10_000;
 
+/// More rows than the texts have.
+const ROWS: usize = 1_000_000;
+
 /// The way of a name.
 fn way_of(name: &str) -> Result<Way> {
     match name {
@@ -26,13 +29,18 @@ fn way_of(name: &str) -> Result<Way> {
 }
 
 /// Presses keys in a text, and writes for each the nanoseconds that it took with what follows it: the window of a live
-/// document, a whole draw from a view, or nothing, at a desk alone.
+/// document, which keeps the rows of four windows or all, a whole draw from a view, or nothing, at a desk alone.
 pub fn keys(rt: &HostRuntime, follows: &str, way: &str, count: usize, text: &str) -> Result<()> {
     let way = way_of(way)?;
     let tables = shared_tables(rt.alloc())?;
     match follows {
         "window" => {
             let mut document = document_of(rt.alloc(), tables)?;
+            show_each(rt, &mut document, way, count, text)
+        }
+        "kept" => {
+            let mut document = document_of(rt.alloc(), tables)?;
+            document.keep_rows(ROWS);
             show_each(rt, &mut document, way, count, text)
         }
         "draw" => {

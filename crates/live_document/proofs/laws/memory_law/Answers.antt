@@ -7,4 +7,4 @@ use Rattle.live_document.proofs.laws.memory_law.Goals as goal
 pub returns : goal.returns
 returns c = λ before shown changed steps place above below one touched.
     let order = one.order in
-    kept-edited shown.paragraphs changed.paragraphs steps one.first one.end (allowed (length shown.window.rows)) (omega arith) touched one.held
+    kept-edited shown.paragraphs changed.paragraphs steps one.first one.end (allowed shown.most (length shown.window.rows)) (omega arith) touched one.held

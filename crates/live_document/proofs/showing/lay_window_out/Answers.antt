@@ -123,10 +123,10 @@ returns c =
           (subst (λ ts. HasRow T w base ts up.number (top_of place above (grid_rows T w base (encode_utf8_all (concat ts))))) e04 top);
       bottom = subst (λ ts. HasRow T w base ts (down.number - 1) (bottom_of place below (grid_rows T w base (encode_utf8_all (concat ts))))) e04 bottom;
       marked = λ k from to. inside k (omega (arith, from, c.cut_out-shown.ensures.first)) to;
-      bounded = subst (λ (n : ℕ). (rows_held b4 ≤ allowed shown.count) ⊎ ((k : ℕ) → is_kept (flags b4) k ≡ true → (n ≤ k) × (k < down.number))) (sym c.cut_out-shown.ensures.first)
-          (elim fe.bounded [ inl some ↦ inl (omega (arith, some, c.max.ensures)) | inr none ↦ inr none ]);
+      bounded = subst (λ (n : ℕ). (rows_held b4 ≤ allowed c.args.most shown.count) ⊎ ((k : ℕ) → is_kept (flags b4) k ≡ true → (n ≤ k) × (k < down.number))) (sym c.cut_out-shown.ensures.first)
+          (elim fe.bounded [ inl some ↦ inl (omega (arith, some, c.max.ensures, c.max-allowed.ensures)) | inr none ↦ inr none ]);
       held = fe.held;
-      few = omega (arith, fe.few, ue.few, oe.few, de.few, c.max.ensures, c.cut_out-shown.ensures.count);
+      few = omega (arith, fe.few, ue.few, oe.few, de.few, c.max.ensures, c.max-allowed.ensures, c.cut_out-shown.ensures.count);
       laid =
           laid-whole (flags b0) (flags b1) (flags b2) (flags b3) up.number own.number down.number (omega arith) ue.order (omega (arith, de.order)) oe.marks ue.marked de.marked
           own.laid up.laid down.laid (omega (arith, de.within)) oe.laid ue.laid de.laid

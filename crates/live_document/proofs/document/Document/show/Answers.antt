@@ -32,8 +32,8 @@ returns-in-Ok-clause-laid c =
     let old = subst (λ (tables : TableValues). IsKeptAt tables i.width i.base i.buffer) (sym c.deref.ensures) c.self.invariant.kept_at in
     let split = (caught.kept i.width i.base old).split ∙ ap₂ (λ (t : TableValues) (ps : List ℕ). paragraph_points t ps) c.deref.ensures caught.text in
     let texts = texts-counted after ∙ e.paragraphs ∙ split in
-    let count = ap allowed (shown-count after o.shown e.at_hand) in
-    let new : LiveDocument = record { desk = i.desk; tables = i.tables.value; width = i.width; base = i.base; paragraphs = map counted after; window = window_in after o.shown; laid = o.laid } in
+    let count = ap (allowed i.most.rows) (shown-count after o.shown e.at_hand) in
+    let new : LiveDocument = record { desk = i.desk; tables = i.tables.value; width = i.width; base = i.base; paragraphs = map counted after; most = i.most.rows; window = window_in after o.shown; laid = o.laid } in
     subst (λ (d : LiveDocument). IsLaidOut d new c.args.place c.args.above c.args.below) c.self.view_is
     (record {
       first = o.shown.first;
