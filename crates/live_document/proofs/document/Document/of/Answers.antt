@@ -7,8 +7,8 @@ use Rattle.live_document.proofs.Followed.{live-behind}
 use Rattle.live_document.proofs.Forgotten.{held-anew}
 use Rattle.live_document.proofs.document.Document.of.Goals as goal
 
-pub invariant_of-result : goal.invariant_of-result
-invariant_of-result c =
+pub invariant_of-result-2 : goal.invariant_of-result-2
+invariant_of-result-2 c =
     let kept = c.in_ok-buffer.buffer in
     let width = c.args.width in
     let base = c.args.base in
