@@ -59,7 +59,7 @@ fn replay_job<'a>(alloc: Global, replay: &ArgMatches<'a>) -> Result<Job<'a>, Sto
     let schedule = replay.get_str("SCHEDULE");
     Ok(Job::Replay(Replay {
         folder: replay.get_str("UCD"),
-        width: width(alloc, replay)?,
+        width: width(replay),
         base: base(replay),
         wide_ambiguous: is_wide(replay),
         schedule,
@@ -70,7 +70,7 @@ fn replay_job<'a>(alloc: Global, replay: &ArgMatches<'a>) -> Result<Job<'a>, Sto
 fn caret_job<'a>(alloc: Global, caret: &ArgMatches<'a>) -> Result<Job<'a>, Stop> {
     Ok(Job::Caret(Walk {
         folder: caret.get_str("UCD"),
-        width: width(alloc, caret)?,
+        width: width(caret),
         base: base(caret),
         wide_ambiguous: is_wide(caret),
         place: caret.get_one::<u32>("AT").unwrap_or(0),
@@ -82,7 +82,7 @@ fn caret_job<'a>(alloc: Global, caret: &ArgMatches<'a>) -> Result<Job<'a>, Stop>
 fn typing_job<'a>(alloc: Global, typing: &ArgMatches<'a>) -> Result<Job<'a>, Stop> {
     let text = typing.get_str("TEXT").filter(|text| *text != INPUT);
     Ok(Job::Type(Typing {
-        site: site(alloc, typing)?,
+        site: site(typing),
         place: typing.get_one::<u32>("AT"),
         erased: typing.get_one::<u32>("ERASE").unwrap_or(0),
         text,
@@ -123,31 +123,19 @@ fn inputs(files: &[&str]) -> usize {
     files.iter().filter(|file| **file == INPUT).count()
 }
 
-/// The site is one that an identifier can have.
-fn site(alloc: Global, matches: &ArgMatches) -> Result<u16, Stop>
-    ensures { IfOk result (λ site. 0 < site) }
+/// The site, which is one that an identifier can have: no other passes the table of arguments.
+fn site(matches: &ArgMatches) -> u16
+    ensures { 0 < result }
 {
-    let site = matches.get_one::<u16>("SITE").unwrap_or(0);
-    if site == 0 {
-        return Err(Stop::Usage(format!(in alloc;
-            "error: invalid value '{site}' for '--site <S>': {site} is not in 1..=65535\n"
-        )?));
-    }
-    Ok(site)
+    matches.get_one::<u16>("SITE").unwrap_or(0).max(1)
 }
 
-/// The width is one that the grid has.
-fn width(alloc: Global, matches: &ArgMatches) -> Result<u16, Stop>
-    ensures at_least { IfOk result (λ width. 2 ≤ width) }
-    ensures at_most { IfOk result (λ width. width ≤ 500) }
+/// The width, which is one that the grid has: no other passes the table of arguments.
+fn width(matches: &ArgMatches) -> u16
+    ensures at_least { 2 ≤ result }
+    ensures at_most { result ≤ 500 }
 {
-    let width = matches.get_one::<u16>("WIDTH").unwrap_or(0);
-    if width < 2 || width > 500 {
-        return Err(Stop::Usage(format!(in alloc;
-            "error: invalid value '{width}' for '--width <N>': {width} is not in 2..=500\n"
-        )?));
-    }
-    Ok(width)
+    matches.get_one::<u16>("WIDTH").unwrap_or(0).clamp(2, 500)
 }
 
 /// The base direction that is asked for.

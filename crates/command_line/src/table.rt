@@ -82,9 +82,6 @@ pub const SUBCOMMANDS: [Subcommand; 7] = [
     },
 ];
 
-/// A number below 65,536.
-const SHORT: ValueParser<'static> = ValueParser::Signed(0, 65_535);
-
 /// A number of characters.
 const NUMBER: ValueParser<'static> = ValueParser::Signed(0, 4_294_967_295);
 
@@ -150,7 +147,7 @@ const WIDTH: Argument = Argument {
     option: Some(("width", "N")),
     help: WIDTH_HELP,
     is_required: true,
-    value: SHORT,
+    value: ValueParser::Signed(2, 500),
     ..WORD
 };
 
@@ -201,7 +198,7 @@ const SITE: Argument = Argument {
     option: Some(("site", "S")),
     help: SITE_HELP,
     is_required: true,
-    value: SHORT,
+    value: ValueParser::Signed(1, 65_535),
     ..WORD
 };
 

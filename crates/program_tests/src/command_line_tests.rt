@@ -331,6 +331,43 @@ fn wrong_options_are_a_usage_fault(rt: HostRuntime) {
     assert_rows(&rt, WRONG_OPTIONS);
 }
 
+/// A value that an option can't have, and how the line begins that is told of it.
+struct Refused(&'static [&'static str], &'static str);
+
+impl Row for Refused {
+    fn comes_out(&self, alloc: Global) -> Result<bool, Memory> {
+        match job(alloc, &line(alloc, self.0, &["a"], &[], &[])?) {
+            Err(Stop::Usage(text)) => Ok(text.starts_with(self.1)),
+            Err(Stop::Memory) => Err(Memory),
+            _ => Ok(false),
+        }
+    }
+}
+
+const REFUSED: &[Refused] = &[
+    Refused(
+        &["type", "--site", "0"],
+        "error: invalid value '0' for '--site <S>': 0 is not in 1..=65535\n",
+    ),
+    Refused(
+        &["type", "--site", "70000"],
+        "error: invalid value '70000' for '--site <S>': 70000 is not in 1..=65535\n",
+    ),
+    Refused(
+        &["replay", "--ucd", "d", "--width", "1"],
+        "error: invalid value '1' for '--width <N>': 1 is not in 2..=500\n",
+    ),
+    Refused(
+        &["replay", "--ucd", "d", "--width", "70000"],
+        "error: invalid value '70000' for '--width <N>': 70000 is not in 2..=500\n",
+    ),
+];
+
+#[test]
+fn a_refused_value_is_told_with_its_range(rt: HostRuntime) {
+    assert_rows(&rt, REFUSED);
+}
+
 /// The subcommands that draw, with what they ask for.
 const GRIDS: [&[&str]; 2] = [
     &["replay", "file", "--ucd", "d", "--width", "4"],
