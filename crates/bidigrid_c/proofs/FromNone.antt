@@ -5,7 +5,7 @@ use Rattle.bg_types.specs.OperationSet.{OperationSet}
 use Rattle.bg_types.specs.declared.change.Change.{Change}
 use Rattle.bg_types.specs.declared.op.OpView.{OpView}
 use Rattle.desk_replica.specs.Telling.{IsTold}
-use Rattle.live_document.specs.Taking.{AreTold}
+use Rattle.desk_replica.specs.Taking.{AreTold}
 
 pub all_told : (s : OperationSet) (ops : List OpView) (old new : List Change) → old ≡ [] → AreTold s ops old new → AreTold s ops [] new
 all_told s ops old new none told = subst (λ (changes : List Change). AreTold s ops changes new) none told

@@ -8,7 +8,7 @@ use Rattle.bg_types.specs.declared.op.OpView.{OpView}
 use Rattle.desk_replica.specs.Merging.{with_operations}
 use Rattle.desk_replica.specs.Reply.{IsRefusal}
 use Rattle.desk_replica.specs.declared.answer.TakeFault.{TakeFault}
-use Rattle.live_document.specs.Taking.{AreAccepted}
+use Rattle.desk_replica.specs.Taking.{AreAccepted}
 
 with-append_one : (s : OperationSet) (ops : List OpView) (op : OpView) → with_operations s (ops ++ op ∷ []) ≡ with_operation (with_operations s ops) op
 with-append_one s [] op = refl

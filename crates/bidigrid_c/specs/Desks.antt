@@ -21,7 +21,7 @@ use Rattle.desk_replica.specs.Listed.{listed}
 use Rattle.desk_replica.specs.declared.answer.TakeFault.{TakeFault}
 use Rattle.desk_replica.specs.declared.answer.TypeFault.{TypeFault}
 use Rattle.desk_replica.specs.declared.answer.TypeFault.TheVariants.{CounterSpent, Full}
-use Rattle.live_document.specs.Taking.{AreTaken, IsRefusedNext}
+use Rattle.desk_replica.specs.Taking.{AreTaken, IsRefusedNext}
 use Rattle.bidigrid_c.specs.Copying.{IsCopied, IsLeft}
 use Rattle.bidigrid_c.specs.Faults.{take_number, message_number}
 use Rattle.bidigrid_c.specs.declared.numbers.IdentifierNumbers.{IdentifierNumbers}

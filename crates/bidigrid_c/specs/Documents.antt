@@ -16,7 +16,7 @@ use Rattle.caret.specs.Moves.{caret_under}
 use Rattle.caret.specs.Positions.{position_at, position_of, position_moved, IsPositionOf}
 use Rattle.live_document.specs.Documents.{whole_rows, window_round, IsDrawnAlike}
 use Rattle.live_document.specs.Showing.{no_window}
-use Rattle.live_document.specs.Taking.{AreTold}
+use Rattle.desk_replica.specs.Taking.{AreTold}
 use Rattle.bidigrid_c.specs.declared.told_document.ToldDocument.{ToldDocument}
 use Rattle.bidigrid_c.specs.declared.numbers.ChangeNumbers.{ChangeNumbers}
 use Rattle.bidigrid_c.specs.declared.numbers.PositionNumbers.{PositionNumbers}

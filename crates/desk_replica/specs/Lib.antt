@@ -9,6 +9,7 @@ pub mod Stretch
 pub mod Merging
 pub mod Listed
 pub mod Telling
+pub mod Taking
 pub mod Listening
 pub mod SetOf
 pub mod Refusal

@@ -16,7 +16,7 @@ use Rattle.desk_replica.specs.Reply.{IsRefusal}
 use Rattle.desk_replica.specs.Telling.{IsTold, IsUntaken, changes_of, is_shown, waiting_count}
 use Rattle.desk_replica.specs.declared.answer.TakeFault.{TakeFault}
 use Rattle.desk_replica.specs.declared.answer.TakeFault.TheVariants.{IdentifierReused, Full, Memory}
-use Rattle.live_document.specs.Taking.{AreAccepted, AreTaken, AreTold, IsPaid}
+use Rattle.desk_replica.specs.Taking.{AreAccepted, AreTaken, AreTold, IsPaid}
 use Rattle.live_document.proofs.Followed.{told-behind}
 
 with-append_one : (s : OperationSet) (ops : List OpView) (op : OpView) → with_operations s (ops ++ op ∷ []) ≡ with_operation (with_operations s ops) op

@@ -2,7 +2,6 @@
 pub mod Keeping
 pub mod Showing
 pub mod Reading
-pub mod Taking
 pub mod Documents
 pub mod Cost
 pub mod Runs

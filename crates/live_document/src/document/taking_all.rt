@@ -8,7 +8,7 @@ ghost use Rattle.desk_replica.specs.Telling.{IsTold};
 ghost use Rattle.live_document.specs.Cost.{IsBare, KeepsUnchanged};
 ghost use Rattle.live_document.specs.Documents.{IsDrawnAlike};
 ghost use Rattle.live_document.specs.Showing.{no_window};
-ghost use Rattle.live_document.specs.Taking.{AreTaken, AreTold, IsPaid, IsRefusedNext};
+ghost use Rattle.desk_replica.specs.Taking.{AreTaken, AreTold, IsPaid, IsRefusedNext};
 
 use super::{Desk, Document};
 use crate::following::follow_all;

@@ -1,5 +1,5 @@
 -- The desk so far has taken the operations that were gone over.
-use Rattle.live_document.specs.Taking.{AreTaken}
+use Rattle.desk_replica.specs.Taking.{AreTaken}
 use Rattle.bidigrid_c.proofs.taking.take_each.Given as goal
 
 abbrev pub invariant-loop-number : goal.invariant-loop-number

@@ -1,7 +1,7 @@
 -- The operations so far were taken, and are told unless there was no memory for that.
 use Rattle.std.proofs.Common.{◌≡◌, ◌-◌, ◌<◌, true, false, take, length}
 use Rattle.std.specs.Prelude.{vec_len, vec_capacity}
-use Rattle.live_document.specs.Taking.{AreTaken, AreTold, IsPaid}
+use Rattle.desk_replica.specs.Taking.{AreTaken, AreTold, IsPaid}
 use Rattle.live_document.proofs.document.taking_all.take_each.Given as goal
 
 abbrev pub invariant-loop-number : goal.invariant-loop-number

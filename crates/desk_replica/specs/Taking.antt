@@ -1,4 +1,4 @@
--- Operations that a document takes in order.
+-- Operations that a desk takes in order.
 use Rattle.std.specs.Prelude.{◌≡◌, ◌<◌, ◌≤◌, ◌+◌, ℕ, List, [], ◌∷◌, length, take, slice_get, Some}
 use Rattle.bg_types.specs.OperationSet.{OperationSet, with_operation, size}
 use Rattle.bg_types.specs.declared.op.OpView.{OpView}
