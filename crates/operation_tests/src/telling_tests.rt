@@ -177,7 +177,7 @@ fn deliver<S: Fresh>(
             None => Ok(false),
         },
         1..=8 => follower.types(dice.below(8), 'a'),
-        _ => match world.made.get(dice.below(200)) {
+        _ => match world.made.get(dice.below(world.made.len().max(1))) {
             Some(op) => Ok(follower.take(op)),
             None => Ok(true),
         },
@@ -292,6 +292,19 @@ fn a_list_that_follows_what_is_told_is_the_text(rt: HostRuntime) {
         },
     ];
     assert_rows(&rt, &rows);
+}
+
+/// For trials with each growth refused: nine changes are told at once, so that their list grows again, as the list that follows
+/// does, and four insertions wait, so that the desk's tables are made anew.
+#[test]
+fn a_short_list_that_follows_what_is_told_is_the_text(rt: HostRuntime) {
+    let row = Told {
+        seed: 2_294,
+        letters: 2,
+        steps: 60,
+        delivered: 8,
+    };
+    assert_rows(&rt, &[row]);
 }
 
 /// A desk of a site, which has typed a text, and what that made.

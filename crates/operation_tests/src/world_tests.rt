@@ -365,6 +365,12 @@ fn tables_come_out(rt: HostRuntime) {
     assert_rows(&rt, &[MadeByTwo]);
 }
 
+/// For trials with each growth refused: the lists of desks, operations and replies grow again.
+#[test]
+fn a_world_of_three_desks_comes_out(rt: HostRuntime) {
+    assert_rows(&rt, &[UpTo(&PLAYED[1], 12)]);
+}
+
 /// Sites, and whether they are those of a world without desks, or else are refused.
 struct Sites(&'static [u16], bool);
 
