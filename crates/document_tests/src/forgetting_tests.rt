@@ -59,7 +59,12 @@ fn as_many_rows_are_kept_as_were_asked_for(rt: HostRuntime) -> Result<(), Memory
 
 #[test]
 fn the_next_window_forgets_what_is_too_much(rt: HostRuntime) -> Result<(), Memory> {
-    let mut document = document_of(rt.alloc(), small_tables(rt.alloc())?, 17, &lines(rt.alloc())?)?;
+    let mut document = document_of(
+        rt.alloc(),
+        small_tables(rt.alloc())?,
+        17,
+        &lines(rt.alloc())?,
+    )?;
     document.keep_rows(LINES);
     for number in 0..40 {
         shown_from(&mut document, ROWS * number)?;
