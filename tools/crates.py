@@ -34,6 +34,16 @@ def is_of_tests(crate):
     return crate.endswith("_tests") or crate == "test_rows"
 
 
+def is_for_c(crate):
+    """Whether a crate is one of those below the library for C, which its header tells of."""
+    return crate.startswith("c_")
+
+
+def is_timed(crate):
+    """Whether a crate has work that is timed, and nothing that is called."""
+    return crate.endswith("workloads")
+
+
 def is_static(crate):
     """Whether a crate is a static library, for programs that are not in Rattle."""
     lines = (ROOT / "crates.txt").read_text(encoding="utf-8").splitlines()

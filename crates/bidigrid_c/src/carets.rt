@@ -6,12 +6,14 @@ ghost use Rattle.std.specs.Str.{chars};
 ghost use Rattle.caret.specs.Gaps.{IsCaretOf};
 ghost use Rattle.caret.specs.Moves.{caret_under, right_of, left_of, up_of, down_of};
 ghost use Rattle.caret.specs.Places.{caret_at};
-ghost use Rattle.bidigrid_c.specs.Numbers.{caret_numbers, caret_of, no_caret, IsTold};
+ghost use Rattle.c_pictures.specs.Numbers.{caret_numbers, caret_of, no_caret};
+ghost use Rattle.c_answers.specs.Told.{IsTold};
 
-use crate::fault::{BAD_CARET, BAD_PLACE, BAD_ROW, EMPTY_HANDLE, OK};
-use crate::numbers::{CaretNumbers, caret_numbers, caret_of, no_caret};
-use crate::picture_handle::PictureHandle;
-use pictures::Picture;
+use c_answers::EMPTY_HANDLE;
+use c_pictures::{
+    CaretNumbers, PictureHandle, caret_numbers, caret_of, no_caret, tell_caret, tell_caret_under,
+    tell_down, tell_left, tell_right, tell_up,
+};
 use std::alloc::Global;
 
 /// Tells the caret at a place of the text.
@@ -33,18 +35,6 @@ pub extern "C" fn bidigrid_caret_at(
     let answer = tell_caret(&mut held, place, caret);
     picture.put(alloc, held);
     answer
-}
-
-fn tell_caret(picture: &mut Picture, place: usize, caret: &mut CaretNumbers) -> u32
-    ensures told { IsTold (place ≤ length (chars picture.old.text)) (caret_numbers (caret_at picture.old place)) no_caret 107 caret.new result }
-    ensures same { picture.new ≡ picture.old }
-{
-    if place > picture.len() {
-        *caret = no_caret();
-        return BAD_PLACE;
-    }
-    *caret = caret_numbers(picture.at_place(place));
-    OK
 }
 
 /// Tells the caret where a mouse points: in a row at the last gap that is not right of a column.
@@ -69,23 +59,6 @@ pub extern "C" fn bidigrid_caret_under(
     answer
 }
 
-fn tell_caret_under(
-    picture: &mut Picture,
-    row: usize,
-    column: usize,
-    caret: &mut CaretNumbers,
-) -> u32
-    ensures told { IsTold (row < length picture.old.rows) (caret_numbers (caret_under picture.old.rows row column)) no_caret 108 caret.new result }
-    ensures same { picture.new ≡ picture.old }
-{
-    if row >= picture.rows().len() {
-        *caret = no_caret();
-        return BAD_ROW;
-    }
-    *caret = caret_numbers(picture.at_column(row, column));
-    OK
-}
-
 /// Moves a caret one step to the right, as the eye sees it.
 #[unsafe(no_mangle)]
 pub extern "C" fn bidigrid_caret_right(
@@ -103,18 +76,6 @@ pub extern "C" fn bidigrid_caret_right(
     let answer = tell_right(&mut held, caret);
     picture.put(alloc, held);
     answer
-}
-
-fn tell_right(picture: &mut Picture, caret: &mut CaretNumbers) -> u32
-    ensures told { IsTold (IsCaretOf picture.old.rows (caret_of caret.old)) (caret_numbers (right_of picture.old.rows (caret_of caret.old))) caret.old 110 caret.new result }
-    ensures same { picture.new ≡ picture.old }
-{
-    let from = caret_of(caret);
-    if !picture.holds(from) {
-        return BAD_CARET;
-    }
-    *caret = caret_numbers(picture.right(from));
-    OK
 }
 
 /// Moves a caret one step to the left, as the eye sees it.
@@ -136,18 +97,6 @@ pub extern "C" fn bidigrid_caret_left(
     answer
 }
 
-fn tell_left(picture: &mut Picture, caret: &mut CaretNumbers) -> u32
-    ensures told { IsTold (IsCaretOf picture.old.rows (caret_of caret.old)) (caret_numbers (left_of picture.old.rows (caret_of caret.old))) caret.old 110 caret.new result }
-    ensures same { picture.new ≡ picture.old }
-{
-    let from = caret_of(caret);
-    if !picture.holds(from) {
-        return BAD_CARET;
-    }
-    *caret = caret_numbers(picture.left(from));
-    OK
-}
-
 /// Moves a caret one row up, as the eye sees it.
 #[unsafe(no_mangle)]
 pub extern "C" fn bidigrid_caret_up(
@@ -167,18 +116,6 @@ pub extern "C" fn bidigrid_caret_up(
     answer
 }
 
-fn tell_up(picture: &mut Picture, caret: &mut CaretNumbers) -> u32
-    ensures told { IsTold (IsCaretOf picture.old.rows (caret_of caret.old)) (caret_numbers (up_of picture.old.rows (caret_of caret.old))) caret.old 110 caret.new result }
-    ensures same { picture.new ≡ picture.old }
-{
-    let from = caret_of(caret);
-    if !picture.holds(from) {
-        return BAD_CARET;
-    }
-    *caret = caret_numbers(picture.up(from));
-    OK
-}
-
 /// Moves a caret one row down, as the eye sees it.
 #[unsafe(no_mangle)]
 pub extern "C" fn bidigrid_caret_down(
@@ -196,16 +133,4 @@ pub extern "C" fn bidigrid_caret_down(
     let answer = tell_down(&mut held, caret);
     picture.put(alloc, held);
     answer
-}
-
-fn tell_down(picture: &mut Picture, caret: &mut CaretNumbers) -> u32
-    ensures told { IsTold (IsCaretOf picture.old.rows (caret_of caret.old)) (caret_numbers (down_of picture.old.rows (caret_of caret.old))) caret.old 110 caret.new result }
-    ensures same { picture.new ≡ picture.old }
-{
-    let from = caret_of(caret);
-    if !picture.holds(from) {
-        return BAD_CARET;
-    }
-    *caret = caret_numbers(picture.down(from));
-    OK
 }

@@ -1,15 +1,11 @@
 //! What the last edit, take or merge of a document changed in its text.
 
-ghost use Rattle.std.specs.Prelude.{◌≡◌, ◌≤◌, ◌++◌, None, drop, length, map};
+ghost use Rattle.std.specs.Prelude.{◌≡◌, None};
 ghost use Rattle.std.specs.Option.{IfSome};
-ghost use Rattle.bidigrid_c.specs.Documents.{AreChangesTold};
-ghost use Rattle.bidigrid_c.specs.Numbers.{change_numbers};
+ghost use Rattle.c_documents.specs.Documents.{AreChangesTold};
 
-use crate::document_handle::DocumentHandle;
-use crate::fault::{EMPTY_HANDLE, MEMORY, OK, SHORT_BUFFER};
-use crate::numbers::{ChangeNumbers, change_numbers};
-use crate::told_document::ToldDocument;
-use bg_types::Change;
+use c_answers::EMPTY_HANDLE;
+use c_documents::{ChangeNumbers, DocumentHandle, tell_changes};
 use std::alloc::Global;
 
 /// Tells what the last edit, take or merge changed in the text, in order.
@@ -31,30 +27,4 @@ pub extern "C" fn bidigrid_document_changes(
     let answer = tell_changes(&held, out, count);
     document.put(alloc, held);
     answer
-}
-
-fn tell_changes(held: &ToldDocument, out: &mut [ChangeNumbers], count: &mut usize) -> u32
-    ensures { AreChangesTold held.now out.old out.new count.new result }
-{
-    *count = 0;
-    if held.lost {
-        return MEMORY;
-    }
-    let changes = held.told.as_slice();
-    *count = changes.len();
-    if out.len() < changes.len() {
-        return SHORT_BUFFER;
-    }
-    write_changes(changes, out);
-    OK
-}
-
-/// Writes the numbers of changes to the front of a list, which has room for them.
-fn write_changes(changes: &[Change], out: &mut [ChangeNumbers])
-    requires { length changes.now ≤ length out.old }
-    ensures { out.new ≡ map change_numbers changes.now ++ drop (length changes.now) out.old }
-{
-    for number in 0..changes.len() {
-        out[number] = change_numbers(&changes[number]);
-    }
 }

@@ -3,15 +3,13 @@
 ghost use Rattle.std.specs.Prelude.{◌≡◌, ◌<◌, None, length, encode_utf8_all};
 ghost use Rattle.std.specs.Option.{IfSome};
 ghost use Rattle.rga_tree.specs.TextOf.{text, visible};
-ghost use Rattle.bidigrid_c.specs.Copying.{IsLeft, IsWritten};
-ghost use Rattle.bidigrid_c.specs.Numbers.{no_identifier};
-ghost use Rattle.bidigrid_c.specs.Desks.{IsIdentifierTold, IsPlaceTold, IsSaved};
+ghost use Rattle.c_answers.specs.Copying.{IsLeft, IsWritten};
+ghost use Rattle.c_desks.specs.Numbers.{no_identifier};
+ghost use Rattle.c_desks.specs.Desks.{IsIdentifierTold, IsPlaceTold, IsSaved};
 
-use crate::document_handle::DocumentHandle;
-use crate::fault::{BAD_PLACE, EMPTY_HANDLE, OK, SHORT_BUFFER};
-use crate::numbers::{IdentifierNumbers, identifier_numbers, no_identifier};
-use crate::reading::{tell_file, tell_length, tell_place_of, tell_text};
-use live_document::Document;
+use c_answers::EMPTY_HANDLE;
+use c_desks::{IdentifierNumbers, no_identifier, tell_file, tell_length, tell_place_of};
+use c_documents::{DocumentHandle, tell_id_in, tell_text_of};
 use std::alloc::Global;
 
 /// Writes a document's text in UTF-8.
@@ -34,20 +32,6 @@ pub extern "C" fn bidigrid_document_text(
     let answer = tell_text_of(&held.document, out, size);
     document.put(alloc, held);
     answer
-}
-
-/// Writes a document's text, unless its size is known to be more than there is room for.
-fn tell_text_of(document: &Document, out: &mut [u8], size: &mut usize) -> u32
-    ensures told { IsWritten (encode_utf8_all (text document.now.desk.set)) out.old out.new size.new result }
-    ensures memory { result ≡ 9 → 0 < length (visible document.now.desk.set) }
-{
-    if let Some(count) = document.text_size() {
-        if out.len() < count {
-            *size = count;
-            return SHORT_BUFFER;
-        }
-    }
-    tell_text(document.desk(), out, size)
 }
 
 /// Tells how many characters a document's text has.
@@ -89,18 +73,6 @@ pub extern "C" fn bidigrid_document_id_at(
     let answer = tell_id_in(&mut held.document, place, id);
     document.put(alloc, held);
     answer
-}
-
-fn tell_id_in(document: &mut Document, place: usize, id: &mut IdentifierNumbers) -> u32
-    ensures told { IsIdentifierTold document.old.desk.set place id.new result }
-    ensures same { document.new ≡ document.old }
-{
-    if place >= document.len() {
-        *id = no_identifier();
-        return BAD_PLACE;
-    }
-    *id = identifier_numbers(document.id_at(place));
-    OK
 }
 
 /// Tells how many characters stand before the one with an identifier, which may be erased.

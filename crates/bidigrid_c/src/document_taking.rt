@@ -2,16 +2,13 @@
 
 ghost use Rattle.std.specs.Prelude.{◌≡◌, None};
 ghost use Rattle.std.specs.Option.{IfSome};
-ghost use Rattle.bidigrid_c.specs.Desks.{IsTooLong};
-ghost use Rattle.bidigrid_c.specs.Documents.{IsHeard, IsSilent, IsTakenInTurn};
-ghost use Rattle.bidigrid_c.specs.Numbers.{none_taken};
+ghost use Rattle.c_desks.specs.Desks.{IsTooLong};
+ghost use Rattle.c_documents.specs.Documents.{IsHeard};
+ghost use Rattle.c_desks.specs.Numbers.{none_taken};
 
-use crate::document_handle::DocumentHandle;
-use crate::fault::{EMPTY_HANDLE, OK, take_number};
-use crate::numbers::{Taken, none_taken};
-use crate::taking::read_message;
-use crate::told_document::ToldDocument;
-use bg_types::Op;
+use c_answers::EMPTY_HANDLE;
+use c_desks::{Taken, none_taken};
+use c_documents::{DocumentHandle, take_in};
 use std::alloc::Global;
 
 /// Lets a document take a message: its bytes are read whole first, and then its operations are taken in order, up to
@@ -35,31 +32,4 @@ pub extern "C" fn bidigrid_document_take(
     let answer = take_in(alloc, &mut held, bytes, told);
     document.put(alloc, held);
     answer
-}
-
-fn take_in(alloc: Global, held: &mut ToldDocument, bytes: &[u8], told: &mut Taken) -> u32
-    ensures taken { IsHeard held.old bytes.now held.new told.new result }
-    ensures too_long { IsTooLong bytes.now → result ≡ 116 }
-{
-    held.forget();
-    match read_message(alloc, bytes, told) {
-        Ok(ops) => take_all(held, &ops, &mut told.taken),
-        Err(fault) => fault,
-    }
-}
-
-/// Lets a document take operations in order, up to the first that it refuses, tells how many it took, and keeps what they
-/// changed.
-#[tactic(auto, using(crate::proofs::FromNone::all_told, crate::proofs::FromNone::all_edits))]
-fn take_all(held: &mut ToldDocument, ops: &[Op], taken: &mut usize) -> u32
-    requires { IsSilent held.old }
-    ensures { IsTakenInTurn held.old ops.now held.new taken.new result }
-{
-    let outcome = held.document.take_all(ops, &mut held.told);
-    held.lost = !outcome.told;
-    *taken = outcome.taken;
-    match outcome.fault {
-        Some(fault) => take_number(fault),
-        None => OK,
-    }
 }

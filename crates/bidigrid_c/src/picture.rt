@@ -1,26 +1,17 @@
 //! Pictures: drawn, their rows and entries, freed.
 
-ghost use Rattle.std.specs.Prelude.{◌≡◌, ◌<◌, ◌≤◌, ◌++◌, Some, None, drop, length, map, slice_get, IfOk, IfErr};
+ghost use Rattle.std.specs.Prelude.{◌≡◌, Some, None, drop, length, slice_get};
 ghost use Rattle.std.specs.Option.{IfSome, MatchOption};
-ghost use Rattle.bidigrid_c.specs.Bases.{base_of};
-ghost use Rattle.bidigrid_c.specs.Drawing.{IsDrawnBy, IsRefusedDrawing, IsWidth};
-ghost use Rattle.bidigrid_c.specs.Numbers.{row_numbers, no_row, entry_numbers, no_entry};
-ghost use Rattle.bidigrid_c.specs.Copying.{AreListed};
+ghost use Rattle.c_pictures.specs.Drawing.{IsDrawnBy, IsRefusedDrawing};
+ghost use Rattle.c_pictures.specs.Numbers.{row_numbers, no_row, entry_numbers, no_entry};
+ghost use Rattle.c_answers.specs.Copying.{AreListed};
 
-use crate::fault::{
-    BAD_BASE, BAD_ENTRY, BAD_ROW, BAD_WIDTH, EMPTY_HANDLE, MEMORY, NOT_UTF8, OK, SHORT_BUFFER,
-    TEXT_TOO_LONG,
+use c_answers::{EMPTY_HANDLE, OK};
+use c_pictures::{
+    EntryNumbers, PictureHandle, RowNumbers, TablesHandle, draw_text, entry_numbers, no_entry,
+    no_row, row_numbers, tell_entries, tell_entry, tell_row, tell_rows,
 };
-use crate::numbers::{EntryNumbers, RowNumbers, entry_numbers, no_entry, no_row, row_numbers};
-use crate::picture_handle::PictureHandle;
-use crate::tables_handle::TablesHandle;
-use bg_types::Base;
-use cell_grid::Entry;
-use pictures::{Picture, SharedTables};
 use std::alloc::Global;
-
-/// The most bytes that are drawn.
-const LONGEST: usize = 4_000_000;
 
 /// Draws a text. What the handle held is freed.
 #[unsafe(no_mangle)]
@@ -50,61 +41,6 @@ pub extern "C" fn bidigrid_picture_new(
             OK
         }
         Err(fault) => fault,
-    }
-}
-
-/// The picture of a text, to be held, or the number of the fault.
-fn draw_text(
-    alloc: Global,
-    tables: &SharedTables,
-    width: u32,
-    base: u32,
-    text: &[u8],
-) -> Result<Box<Picture>, u32>
-    ensures ok { IfOk result (λ boxed. IsDrawnBy tables.now width base text.now boxed.value) }
-    ensures fault { IfErr result (IsRefusedDrawing width base text.now) }
-    ensures some { IfErr result (λ fault. 0 < fault) }
-{
-    let Some(width) = width_of(width) else {
-        return Err(BAD_WIDTH);
-    };
-    let Some(base) = base_of(base) else {
-        return Err(BAD_BASE);
-    };
-    if text.len() > LONGEST {
-        return Err(TEXT_TOO_LONG);
-    }
-    let Ok(text) = std::str::from_utf8(text) else {
-        return Err(NOT_UTF8);
-    };
-    let Ok(picture) = Picture::draw(alloc, tables, width, base, text) else {
-        return Err(MEMORY);
-    };
-    match Box::new(alloc, picture) {
-        Ok(boxed) => Ok(boxed),
-        Err(_) => Err(MEMORY),
-    }
-}
-
-/// The width of this many columns.
-pub(crate) fn width_of(columns: u32) -> Option<u16>
-    ensures { MatchOption result (¬ (IsWidth columns)) (λ width. (width ≡ columns) × IsWidth columns) }
-{
-    if columns < 2 || columns > 500 {
-        return None;
-    }
-    Some(columns as u16)
-}
-
-/// The base direction with this number.
-pub(crate) fn base_of(number: u32) -> Option<Base>
-    ensures { result ≡ base_of number }
-{
-    match number {
-        0 => Some(Base::Auto),
-        1 => Some(Base::Left),
-        2 => Some(Base::Right),
-        _ => None,
     }
 }
 
@@ -138,14 +74,6 @@ pub extern "C" fn bidigrid_picture_rows(
     answer
 }
 
-fn tell_rows(picture: &Picture, count: &mut usize) -> u32
-    ensures answer { result ≡ 0 }
-    ensures count { count.new ≡ length picture.now.rows }
-{
-    *count = picture.rows().len();
-    OK
-}
-
 /// Tells of a row, counted from 0 at the top.
 #[unsafe(no_mangle)]
 pub extern "C" fn bidigrid_picture_row(
@@ -165,21 +93,6 @@ pub extern "C" fn bidigrid_picture_row(
     let answer = tell_row(&held, number, out);
     picture.put(alloc, held);
     answer
-}
-
-fn tell_row(picture: &Picture, number: usize, out: &mut RowNumbers) -> u32
-    ensures { MatchOption (slice_get picture.now.rows number) ((result ≡ 108) × (out.new ≡ no_row)) (λ r. (result ≡ 0) × (out.new ≡ row_numbers r)) }
-{
-    match picture.rows().get(number) {
-        Some(row) => {
-            *out = row_numbers(row);
-            OK
-        }
-        None => {
-            *out = no_row();
-            BAD_ROW
-        }
-    }
 }
 
 /// Tells of an entry of a row, counted from 0 at the left.
@@ -204,22 +117,6 @@ pub extern "C" fn bidigrid_picture_entry(
     answer
 }
 
-fn tell_entry(picture: &Picture, row: usize, number: usize, out: &mut EntryNumbers) -> u32
-    ensures { MatchOption (slice_get picture.now.rows row) ((result ≡ 108) × (out.new ≡ no_entry)) (λ r. MatchOption (slice_get r.entries number) ((result ≡ 109) × (out.new ≡ no_entry)) (λ e. (result ≡ 0) × (out.new ≡ entry_numbers e))) }
-{
-    *out = no_entry();
-    let Some(row) = picture.rows().get(row) else {
-        return BAD_ROW;
-    };
-    match row.entries().get(number) {
-        Some(entry) => {
-            *out = entry_numbers(entry);
-            OK
-        }
-        None => BAD_ENTRY,
-    }
-}
-
 /// Tells of all entries of a row, from the left.
 #[unsafe(no_mangle)]
 pub extern "C" fn bidigrid_picture_entries(
@@ -240,30 +137,4 @@ pub extern "C" fn bidigrid_picture_entries(
     let answer = tell_entries(&held, row, out, count);
     picture.put(alloc, held);
     answer
-}
-
-fn tell_entries(picture: &Picture, row: usize, out: &mut [EntryNumbers], count: &mut usize) -> u32
-    ensures { MatchOption (slice_get picture.now.rows row) ((result ≡ 108) × (out.new ≡ out.old) × (count.new ≡ 0)) (λ r. AreListed entry_numbers r.entries out.old out.new count.new result) }
-{
-    *count = 0;
-    let Some(row) = picture.rows().get(row) else {
-        return BAD_ROW;
-    };
-    let entries = row.entries();
-    *count = entries.len();
-    if out.len() < entries.len() {
-        return SHORT_BUFFER;
-    }
-    write_entries(entries, out);
-    OK
-}
-
-/// Writes the numbers of entries to the front of a list, which has room for them.
-fn write_entries(entries: &[Entry], out: &mut [EntryNumbers])
-    requires { length entries.now ≤ length out.old }
-    ensures { out.new ≡ map entry_numbers entries.now ++ drop (length entries.now) out.old }
-{
-    for number in 0..entries.len() {
-        out[number] = entry_numbers(&entries[number]);
-    }
 }

@@ -1,18 +1,12 @@
 //! Typing a text, and putting one in the place of characters.
 
-ghost use Rattle.std.specs.Prelude.{◌≡◌, ◌+◌, ◌-◌, None, length};
+ghost use Rattle.std.specs.Prelude.{◌≡◌, ◌-◌, None, length};
 ghost use Rattle.std.specs.Option.{IfSome};
 ghost use Rattle.std.specs.Str.{chars, IsUtf8};
-ghost use Rattle.bidigrid_c.specs.declared.keystroke.Keystroke.TheVariants.{Typed};
-ghost use Rattle.bidigrid_c.specs.Keystrokes.{IsKeystroke};
-ghost use Rattle.bidigrid_c.specs.Desks.{HasRoomFor, IsReplaced, IsRefusedExchange, IsRefusedReplacing, IsUnwritten};
+ghost use Rattle.c_desks.specs.Desks.{IsReplaced, IsRefusedReplacing, IsUnwritten};
 
-use crate::desk::Desk;
-use crate::desk_handle::DeskHandle;
-use crate::draft::{Draft, code_points, refusal_of};
-use crate::fault::{EMPTY_HANDLE, MEMORY, NOT_UTF8, OK, type_number};
-use crate::keystroke::{Keystroke, keystroke_of};
-use crate::typing::{erase_one_in, type_one_in};
+use c_answers::EMPTY_HANDLE;
+use c_desks::{DeskHandle, replace_in};
 use std::alloc::Global;
 
 /// Types a text at a place, and writes the message for the other desks: all of it, or nothing.
@@ -67,101 +61,4 @@ pub extern "C" fn bidigrid_desk_replace(
     let answer = replace_in(alloc, &mut held, from, to, text, out, size);
     desk.put(alloc, held);
     answer
-}
-
-/// Puts the bytes of a text in the place of characters.
-fn replace_in(
-    alloc: Global,
-    desk: &mut Desk,
-    from: usize,
-    to: usize,
-    text: &[u8],
-    out: &mut [u8],
-    size: &mut usize,
-) -> u32
-    ensures ok { result ≡ 0 → IsReplaced desk.old from to (chars text.now) desk.new out.old out.new size.new }
-    ensures utf8 { result ≡ 0 → IsUtf8 text.now }
-    ensures err { (result ≡ 0 → ⊥) → (desk.new ≡ desk.old) × IsUnwritten out.old out.new size.new result }
-    ensures fault { (result ≡ 0 → ⊥) → IsRefusedReplacing desk.old from to text.now (length out.old) size.new result }
-{
-    let Ok(text) = std::str::from_utf8(text) else {
-        *size = 0;
-        return NOT_UTF8;
-    };
-    exchange_in(alloc, desk, from, to, text, out, size)
-}
-
-/// Puts a text in the place of characters. One character is typed or erased without memory for its message.
-#[tactic(auto, using(crate::proofs::Keystrokes::erased_place, crate::proofs::Keystrokes::erased_room, crate::proofs::Keystrokes::erased_key, crate::proofs::Keystrokes::unerased_exchange))]
-pub(crate) fn exchange_in(
-    alloc: Global,
-    desk: &mut Desk,
-    from: usize,
-    to: usize,
-    text: &str,
-    out: &mut [u8],
-    size: &mut usize,
-) -> u32
-    ensures ok { result ≡ 0 → IsReplaced desk.old from to (chars text.now) desk.new out.old out.new size.new }
-    ensures err { (result ≡ 0 → ⊥) → (desk.new ≡ desk.old) × IsUnwritten out.old out.new size.new result }
-    ensures fault { (result ≡ 0 → ⊥) → IsRefusedExchange desk.old from to (length (chars text.now)) (length out.old) size.new result }
-{
-    let answer = refusal_of(desk, from, to, code_points(text), out.len(), size);
-    if answer != OK {
-        return answer;
-    }
-    match keystroke_of(to - from, text) {
-        Some(Keystroke::Typed(ch)) => type_key_in(desk, from, to, text, ch, out, size),
-        Some(Keystroke::Erased) => erase_one_in(desk, from, out, size),
-        None => exchange_many_in(alloc, desk, from, to, text, out, size),
-    }
-}
-
-/// Types the character of a text that is a keystroke.
-#[tactic(auto, using(crate::proofs::Keystrokes::typed_place, crate::proofs::Keystrokes::typed_room, crate::proofs::Keystrokes::untyped_exchange))]
-fn type_key_in(
-    desk: &mut Desk,
-    from: usize,
-    to: usize,
-    text: &str,
-    ch: char,
-    out: &mut [u8],
-    size: &mut usize,
-) -> u32
-    requires room { HasRoomFor desk.old from to (length (chars text.now)) (length out.old) }
-    requires key { IsKeystroke (to - from) (chars text.now) (Typed ch) }
-    ensures ok { result ≡ 0 → IsReplaced desk.old from to (chars text.now) desk.new out.old out.new size.new }
-    ensures err { (result ≡ 0 → ⊥) → (desk.new ≡ desk.old) × (out.new ≡ out.old) × (size.new ≡ size.old) }
-    ensures fault { (result ≡ 0 → ⊥) → IsRefusedExchange desk.old from to (length (chars text.now)) (length out.old) size.new result }
-{
-    type_one_in(desk, from, ch, out, size)
-}
-
-/// Puts a text in the place of characters, which is no keystroke and for which there is room.
-#[tactic(auto, using(crate::proofs::Messages::not_exchanged))]
-fn exchange_many_in(
-    alloc: Global,
-    desk: &mut Desk,
-    from: usize,
-    to: usize,
-    text: &str,
-    out: &mut [u8],
-    size: &mut usize,
-) -> u32
-    requires room { HasRoomFor desk.old from to (length (chars text.now)) (length out.old) }
-    requires many { (to - from) + length (chars text.now) ≡ 1 → ⊥ }
-    ensures ok { result ≡ 0 → IsReplaced desk.old from to (chars text.now) desk.new out.old out.new size.new }
-    ensures err { (result ≡ 0 → ⊥) → (desk.new ≡ desk.old) × (out.new ≡ out.old) × (size.new ≡ size.old) }
-    ensures fault { (result ≡ 0 → ⊥) → IsRefusedExchange desk.old from to (length (chars text.now)) (length out.old) size.new result }
-{
-    let Ok(mut draft) = Draft::of(alloc, to - from + code_points(text)) else {
-        return MEMORY;
-    };
-    match desk.replace(from, to, text, &mut draft.ops) {
-        Ok(()) => {
-            draft.write(out, size);
-            OK
-        }
-        Err(fault) => type_number(fault),
-    }
 }

@@ -1,17 +1,17 @@
 //! Tables.
 
-ghost use Rattle.std.specs.Prelude.{◌≡◌, ◌≢◌, Some, None, IfOk, IfErr, OnOk};
+ghost use Rattle.std.specs.Prelude.{◌≡◌, Some, None};
 ghost use Rattle.unicode_tables.specs.Tables.{with_width};
-ghost use Rattle.ucd_files.specs.Ucd.{tables_of, tables_of_ucd, fault_of_ucd};
-ghost use Rattle.bidigrid_c.specs.Faults.{IsRefusedData, no_data_fault};
-ghost use Rattle.bidigrid_c.specs.Files.{tables_of_files, fault_of_files};
+ghost use Rattle.ucd_files.specs.Ucd.{tables_of};
+ghost use Rattle.c_pictures.specs.Files.{IsRefusedData, no_data_fault};
+ghost use Rattle.c_pictures.specs.Files.{tables_of_files, fault_of_files};
 
-use crate::fault::{MEMORY, OK, data_number};
-use crate::numbers::{DataFault, DataFiles, data_fault, no_data_fault};
-use crate::tables_handle::TablesHandle;
-use pictures::SharedTables;
+use c_answers::{MEMORY, OK};
+use c_pictures::{
+    DataFault, DataFiles, TablesHandle, data_fault, data_number, load, no_data_fault,
+};
 use std::alloc::Global;
-use ucd_files::{Ucd, UcdFault};
+use ucd_files::Ucd;
 use unicode_data::{
     BIDI_BRACKETS, BIDI_CLASS, BIDI_MIRRORING, EAST_ASIAN_WIDTH, LINE_BREAK, unicode_15_0,
 };
@@ -78,21 +78,5 @@ pub extern "C" fn bidigrid_tables_free(alloc: Global, tables: &mut TablesHandle)
 {
     if let Some(held) = tables.take(alloc) {
         drop(held);
-    }
-}
-
-/// The tables of files, to be held.
-fn load(alloc: Global, ucd: &Ucd) -> Result<Box<SharedTables>, UcdFault>
-    ensures ok { IfOk result (λ boxed. boxed.value ≡ tables_of_ucd ucd.now) }
-    ensures sound { OnOk result (fault_of_ucd ucd.now ≡ None) }
-    ensures fault { IfErr result (λ fault. fault ≢ UcdFault.Memory → fault_of_ucd ucd.now ≡ Some fault) }
-{
-    let tables = ucd.load(alloc)?;
-    let Ok(shared) = SharedTables::new(alloc, tables) else {
-        return Err(UcdFault::Memory);
-    };
-    match Box::new(alloc, shared) {
-        Ok(boxed) => Ok(boxed),
-        Err(_) => Err(UcdFault::Memory),
     }
 }

@@ -1,11 +1,8 @@
 //! Keys in live documents, each of which is followed by the window at its place.
 
-use crate::chance::Chance;
-use crate::digest::Digest;
-use crate::keys::{KEY, Key, Way, keys_of, press};
-use crate::prose::MIXED;
 use anyhow::Result;
 use bg_types::{Base, Op};
+use desk_workloads::{Chance, Digest, KEY, Key, MIXED, Way, keys_of};
 use live_document::Document;
 use std::alloc::Global;
 use std::rc::Rc;
@@ -69,6 +66,23 @@ fn press_all(
     for key in &keys_of(alloc, document.desk(), way, count)? {
         press_and_show(document, key, &mut made)?;
         digest.add_number(look(document));
+    }
+    Ok(())
+}
+
+/// Presses a key in a document.
+fn press(document: &mut Document, key: &Key, made: &mut Vec<Op>) -> Result<()> {
+    let length = document.len();
+    let from = key.place().min(length);
+    match key {
+        Key::Type { .. } => document.type_text(from, "e", made)?,
+        Key::Erase { .. } => {
+            let to = from.saturating_add(1).min(length);
+            document.erase_range(from, to, made)?;
+        }
+        Key::Take { op, .. } => {
+            document.take(op)?;
+        }
     }
     Ok(())
 }

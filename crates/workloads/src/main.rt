@@ -8,26 +8,15 @@
 //! each part took. `workloads --help` tells its words.
 #![tactic(auto)]
 
-mod chance;
-mod digest;
-mod draw;
-mod early;
-mod edit;
-mod history;
-mod keys;
 mod keystroke;
-mod listing;
-mod live;
-mod meet;
 mod once;
-mod open;
-mod prose;
 mod timed;
 
 use anyhow::{Result, bail};
-use digest::Digest;
+use desk_workloads::{Digest, early, listing, live, open};
 use std::alloc::Global;
 use std::{env, io};
+use view_workloads::{draw, edit, meet};
 
 const NAMES: [&str; 8] = [
     "open",

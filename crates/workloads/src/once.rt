@@ -1,11 +1,10 @@
 //! What is done to a whole text at once: it is pasted, told by another desk, and opened.
 
-use crate::digest::Digest;
-use crate::keys::{KEY, desk_of};
 use crate::keystroke::{WIDTH, document_of, shared_tables, show};
 use anyhow::Result;
 use bg_types::{Base, Op};
-use live_document::{Desk, Document};
+use desk_workloads::{Desk, Digest, KEY, desk_of};
+use live_document::Document;
 use op_codec::{decode_file, encode_file};
 use std::alloc::Global;
 use std::rc::Rc;

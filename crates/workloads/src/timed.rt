@@ -1,15 +1,15 @@
 //! Keys of which each is timed.
 
-use crate::draw::LONGEST;
-use crate::keys::{Key, Way, desk_of, keys_of, press_at_desk};
 use crate::keystroke::{WIDTH, document_of, look, press_and_show, shared_tables, show};
 use anyhow::{Result, bail};
 use bg_types::Base;
-use live_document::{Desk, Document};
+use desk_workloads::{Desk, Way, desk_of, keys_of, press_at_desk};
+use live_document::Document;
 use std::rc::Rc;
 use std::time::Instant;
 use ucd_files::Tables;
 use view_cache::View;
+use view_workloads::draw::LONGEST;
 
 /// How many paragraphs a view keeps.
 const ROOM: usize = 10_000;

@@ -4,8 +4,8 @@ use Rattle.std.specs.Prelude.{Option}
 use Rattle.std.specs.Option.{IfSome}
 use Rattle.cell_grid.specs.Print.{printed}
 use Rattle.live_document.specs.Documents.{shown_grid}
-use Rattle.bidigrid_c.specs.Copying.{IsWritten}
-use Rattle.bidigrid_c.specs.declared.told_document.ToldDocument.{ToldDocument}
+use Rattle.c_answers.specs.Copying.{IsWritten}
+use Rattle.c_documents.specs.declared.told_document.ToldDocument.{ToldDocument}
 use Rattle.bidigrid_c.proofs.window_prints.bidigrid_document_print.Goals as goal
 
 pub returns-clause-told : goal.returns-clause-told

@@ -1,9 +1,0 @@
-mod Edited
-mod Erased
-mod FromNone
-mod InTurn
-mod Keystrokes
-mod Messages
-mod Sized
-mod Sizes
-mod Texts

@@ -1,7 +1,0 @@
--- The front of the list has the numbers of the entries that were gone over, and the rest is as it was.
-use Rattle.std.proofs.Common.{◌≡◌, ◌++◌, map, take, drop}
-use Rattle.bidigrid_c.specs.Numbers.{entry_numbers}
-use Rattle.bidigrid_c.proofs.picture.write_entries.Given as goal
-
-abbrev pub invariant-loop-number : goal.invariant-loop-number
-invariant-loop-number l = l.out ≡ map entry_numbers (take l.number l.entries) ++ drop l.number l.fn.out

@@ -1,0 +1,3 @@
+-- The modules of this crate's proofs.
+pub mod Edited
+pub mod FromNone

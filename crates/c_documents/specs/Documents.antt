@@ -1,0 +1,203 @@
+-- What the calls do to a document.
+use Rattle.std.specs.Prelude.{◌≡◌, ◌⊎◌, ◌<◌, ◌≤◌, ℕ, max, true, false, List, [], length, take, None, Some}
+use Rattle.bg_types.specs.declared.class.Base.{Base}
+use Rattle.bg_types.specs.declared.op.OpView.{OpView}
+use Rattle.bg_types.specs.Edit.{IsEdit}
+use Rattle.unicode_tables.specs.Tables.{TableValues}
+use Rattle.op_codec.specs.Spelling.{Spells}
+use Rattle.rga_tree.specs.TextOf.{text, visible}
+use Rattle.desk_replica.specs.Desk.{Desk, fresh}
+use Rattle.desk_replica.specs.Telling.{IsTold}
+use Rattle.desk_replica.specs.Taking.{AreTold}
+use Rattle.cell_grid.specs.Rows.{DrawnRow}
+use Rattle.cell_grid.specs.Windows.{row_at}
+use Rattle.caret.specs.declared.caret.Caret.{Caret}
+use Rattle.caret.specs.declared.position.Position.{Position}
+use Rattle.caret.specs.Moves.{caret_under}
+use Rattle.caret.specs.Positions.{position_at, position_of, position_moved, IsPositionOf}
+use Rattle.live_document.specs.Documents.{whole_rows, window_round, IsDrawnAlike}
+use Rattle.live_document.specs.Showing.{no_window}
+use Rattle.c_documents.specs.declared.told_document.ToldDocument.{ToldDocument}
+use Rattle.c_documents.specs.declared.numbers.ChangeNumbers.{ChangeNumbers}
+use Rattle.c_documents.specs.declared.numbers.PositionNumbers.{PositionNumbers}
+use Rattle.c_desks.specs.declared.numbers.Taken.{Taken}
+use Rattle.c_documents.specs.declared.numbers.WindowNumbers.{WindowNumbers}
+use Rattle.c_pictures.specs.Bases.{base_of}
+use Rattle.c_documents.specs.Changes.{edit_changes}
+use Rattle.c_answers.specs.Copying.{AreListed}
+use Rattle.c_desks.specs.Desks.{IsTakenUpTo, IsMessageTaken, IsUnread, IsMergedWith}
+use Rattle.c_pictures.specs.Drawing.{IsWidth}
+use Rattle.c_desks.specs.Numbers.{IsSite, none_taken}
+use Rattle.c_documents.specs.Numbers.{change_numbers, position_numbers, position_with, window_numbers}
+
+-- nothing is told of an edit, a take or a merge
+pub record IsSilent (d : ToldDocument) : Type 0 where
+  pub told : d.told.items ≡ []
+  pub all : d.lost ≡ false
+
+-- both tell the same
+pub record TellAlike (old new : ToldDocument) : Type 0 where
+  pub told : new.told ≡ old.told
+  pub lost : new.lost ≡ old.lost
+
+-- ---- made and drawn
+
+-- a new document of a desk, drawn by these tables at this width and the base with this number
+pub record IsLaidOut (tables : TableValues) (width base : ℕ) (desk : Desk) (new : ToldDocument) : Type 0 where
+  pub desk_is : new.document.desk ≡ desk
+  pub tables_are : new.document.tables ≡ tables
+  pub width_is : new.document.width ≡ width
+  pub base_is : base_of base ≡ Some new.document.base
+  pub most : new.document.most ≡ 0
+  pub hidden : new.document.window ≡ no_window
+  pub silent : IsSilent new
+
+-- why no document was made
+abbrev pub IsNotMade : (site width base : ℕ) → (answer : ℕ) → Type 0
+IsNotMade site width base answer =
+    (answer ≡ 9)
+    ⊎ (((answer ≡ 112) × (¬ (IsSite site)))
+    ⊎ (((answer ≡ 105) × (¬ (IsWidth width)))
+    ⊎ ((answer ≡ 106) × (base_of base ≡ None))))
+
+-- a new document of a site that has taken a file
+pub record IsOpened (tables : TableValues) (site width base : ℕ) (file : List ℕ) (told : Taken) (new : ToldDocument) : Type 0 where
+  pub desk : Desk
+  pub taken : IsMessageTaken (fresh site) file desk told 0
+  pub laid_out : IsLaidOut tables width base desk new
+
+-- why none was made of a file
+abbrev pub IsNotOpened : (site width base : ℕ) → (file : List ℕ) → Taken → (answer : ℕ) → Type 0
+IsNotOpened site width base file told answer =
+    (IsNotMade site width base answer × (told ≡ none_taken 0))
+    ⊎ ((left : Desk) × IsMessageTaken (fresh site) file left told answer)
+
+-- a document is drawn at this width and base from now on, and nothing is shown; its desk and what it tells stay
+pub record IsDrawnAt (old : ToldDocument) (width : ℕ) (base : Base) (new : ToldDocument) : Type 0 where
+  pub desk : new.document.desk ≡ old.document.desk
+  pub tables : new.document.tables ≡ old.document.tables
+  pub width_is : new.document.width ≡ width
+  pub base_is : new.document.base ≡ base
+  pub most : new.document.most ≡ old.document.most
+  pub hidden : new.document.window ≡ no_window
+  pub alike : TellAlike old new
+
+-- so many rows may be kept from now on; all else stays, what is shown and told too
+pub record KeepsRows (old : ToldDocument) (rows : ℕ) (new : ToldDocument) : Type 0 where
+  pub document : new.document ≡ record old.document { most = rows }
+  pub alike : TellAlike old new
+
+-- so many new operations are paid for; all else stays, what is shown and told too
+pub record IsPaidFor (old : ToldDocument) (operations : ℕ) (new : ToldDocument) : Type 0 where
+  pub set : new.document.desk.set ≡ old.document.desk.set
+  pub site : new.document.desk.site ≡ old.document.desk.site
+  pub waiting : new.document.desk.waiting ≡ old.document.desk.waiting
+  pub spare : new.document.desk.spare ≡ max old.document.desk.spare operations
+  pub drawn : IsDrawnAlike old.document new.document
+  pub shown : new.document.window ≡ old.document.window
+  pub alike : TellAlike old new
+
+-- ---- edited
+
+-- a document was changed: it is drawn as before, and nothing is shown
+pub record IsHidden (old new : ToldDocument) : Type 0 where
+  pub drawn : IsDrawnAlike old.document new.document
+  pub hidden : new.document.window ≡ no_window
+
+-- a document was edited: these characters stand in the place of those from one place up to another. Unless there was no memory
+-- for it, it tells that as changes, and these lead from the text before to the text now
+pub record IsEdited (old : ToldDocument) (from to : ℕ) (typed : List ℕ) (new : ToldDocument) : Type 0 where
+  pub hidden : IsHidden old new
+  pub told : new.lost ≡ false → new.told.items ≡ edit_changes from to typed
+  pub edit : new.lost ≡ false → IsEdit (text old.document.desk.set) new.told.items (text new.document.desk.set)
+
+-- ---- taking and merging
+
+-- a document took the first operations of a list, as a desk does. Unless there was no memory to tell all, it tells of each of
+-- them how the text changed, and these changes lead from the text before to the text now
+pub record IsTakenInTurn (old : ToldDocument) (ops : List OpView) (new : ToldDocument) (count answer : ℕ) : Type 0 where
+  pub desk : IsTakenUpTo old.document.desk ops new.document.desk count answer
+  pub drawn : IsDrawnAlike old.document new.document
+  pub none : count ≡ 0 → new.document ≡ old.document
+  pub hidden : 0 < count → new.document.window ≡ no_window
+  pub told : new.lost ≡ false → AreTold old.document.desk.set (take count ops) [] new.told.items
+  pub edit : new.lost ≡ false → IsEdit (text old.document.desk.set) new.told.items (text new.document.desk.set)
+
+-- a message was taken: its bytes spell operations, taken in order as far as was told; or it was not read, the document is as it
+-- was, and nothing is told
+abbrev pub IsHeard : ToldDocument → (bytes : List ℕ) → ToldDocument → Taken → (answer : ℕ) → Type 0
+IsHeard old bytes new told answer =
+    ((ops : List OpView) × Spells bytes ops × (told.operations ≡ length ops) × (told.frame ≡ 0) × IsTakenInTurn old ops new told.taken answer)
+    ⊎ ((new.document ≡ old.document) × IsSilent new × IsUnread bytes told answer)
+
+-- a document met another one, as desks do, and nothing is shown. Unless there was no memory to tell all, it tells how the text
+-- changed, and these changes lead from the text before to the text now
+pub record IsMetWith (old : ToldDocument) (other : Desk) (new : ToldDocument) (answer : ℕ) : Type 0 where
+  pub desk : IsMergedWith old.document.desk other new.document.desk answer
+  pub drawn : IsDrawnAlike old.document new.document
+  pub hidden : new.document.window ≡ no_window
+  pub told : new.lost ≡ false → IsTold old.document.desk.set new.document.desk.set [] new.told.items
+  pub edit : new.lost ≡ false → IsEdit (text old.document.desk.set) new.told.items (text new.document.desk.set)
+
+-- the changes that a document tells were listed; where there was no memory to tell all, the answer is 9, and none is
+abbrev pub AreChangesTold : ToldDocument → (before after : List ChangeNumbers) → (count answer : ℕ) → Type 0
+AreChangesTold d before after count answer =
+    ((d.lost ≡ false) × AreListed change_numbers d.told.items before after count answer)
+    ⊎ ((d.lost ≡ true) × (answer ≡ 9) × (after ≡ before) × (count ≡ 0))
+
+-- ---- showing
+
+-- the window round a place is shown, and how many rows it has, and which of them is the place's, was told
+pub record IsShown (old : ToldDocument) (place above below : ℕ) (new : ToldDocument) (told : WindowNumbers) : Type 0 where
+  pub window : new.document.window ≡ window_round old.document place above below
+  pub numbers : told ≡ window_numbers new.document.window
+  pub desk : new.document.desk ≡ old.document.desk
+  pub drawn : IsDrawnAlike old.document new.document
+  pub alike : TellAlike old new
+
+-- why it is not: no memory, and nothing is shown; no such place, or more rows than are shown, and the document is as it was
+abbrev pub IsNotShown : (old : ToldDocument) → (place above below : ℕ) → (new : ToldDocument) → (answer : ℕ) → Type 0
+IsNotShown old place above below new answer =
+    ((answer ≡ 9) × (new.document.window ≡ no_window) × (new.document.desk ≡ old.document.desk) × IsDrawnAlike old.document new.document × TellAlike old new)
+    ⊎ (((answer ≡ 107) × (length (visible old.document.desk.set) < place) × (new ≡ old))
+    ⊎ ((answer ≡ 108) × ((1_000 < above) ⊎ (1_000 < below)) × (new ≡ old)))
+
+-- ---- positions
+
+-- a document answered where a caret stands: its text, and how it is drawn and what it tells, are as before
+pub record IsAsked (old new : ToldDocument) : Type 0 where
+  pub desk : new.document.desk ≡ old.document.desk
+  pub drawn : IsDrawnAlike old.document new.document
+  pub alike : TellAlike old new
+
+-- this position was told, and the rows from so many above that of a place to so many below it are shown
+pub record IsPositionTold (old : ToldDocument) (position : Position) (place around : ℕ) (new : ToldDocument) (told : PositionNumbers) : Type 0 where
+  pub numbers : told ≡ position_numbers position
+  pub window : new.document.window ≡ window_round old.document place around around
+  pub asked : IsAsked old new
+
+-- the position of a place, or of a column in the row of a place
+abbrev pub IsPlaceTold : ToldDocument → (place : ℕ) → ToldDocument → PositionNumbers → Type 0
+IsPlaceTold old place new told =
+    (place ≤ length (visible old.document.desk.set)) × IsPositionTold old (position_at (whole_rows old.document) place) place 0 new told
+
+abbrev pub IsColumnTold : ToldDocument → (place column : ℕ) → ToldDocument → PositionNumbers → Type 0
+IsColumnTold old place column new told =
+    (place ≤ length (visible old.document.desk.set))
+    × IsPositionTold old (position_of (whole_rows old.document) (caret_under (whole_rows old.document) (row_at (whole_rows old.document) place) column)) place 0 new told
+
+-- why none was told: no memory, or no such place
+abbrev pub IsNoPlace : ToldDocument → (place : ℕ) → ToldDocument → (answer : ℕ) → Type 0
+IsNoPlace old place new answer =
+    ((answer ≡ 9) ⊎ ((answer ≡ 107) × (length (visible old.document.desk.set) < place))) × IsAsked old new
+
+-- a caret of the text's grid was moved by this move
+abbrev pub IsMoved : (List DrawnRow → Caret → Caret) → ToldDocument → (from : PositionNumbers) → ToldDocument → (to : PositionNumbers) → Type 0
+IsMoved move old from new to =
+    IsPositionOf (whole_rows old.document) (position_with from)
+    × IsPositionTold old (position_moved move (whole_rows old.document) (position_with from)) from.row 1 new to
+
+-- why it was not: no memory, or the grid has no such row, or the row no such gap; it is as it was
+abbrev pub IsUnmoved : ToldDocument → (from : PositionNumbers) → ToldDocument → (to : PositionNumbers) → (answer : ℕ) → Type 0
+IsUnmoved old from new to answer =
+    ((answer ≡ 9) ⊎ ((answer ≡ 110) × (¬ (IsPositionOf (whole_rows old.document) (position_with from))))) × (to ≡ from) × IsAsked old new

@@ -1,0 +1,96 @@
+//! Carets in pictures.
+
+ghost use Rattle.std.specs.Prelude.{◌≡◌, ◌<◌, ◌≤◌, length};
+ghost use Rattle.std.specs.Str.{chars};
+ghost use Rattle.caret.specs.Gaps.{IsCaretOf};
+ghost use Rattle.caret.specs.Moves.{caret_under, right_of, left_of, up_of, down_of};
+ghost use Rattle.caret.specs.Places.{caret_at};
+ghost use Rattle.c_pictures.specs.Numbers.{caret_numbers, caret_of, no_caret};
+ghost use Rattle.c_answers.specs.Told.{IsTold};
+
+use crate::numbers::{CaretNumbers, caret_numbers, caret_of, no_caret};
+use c_answers::{BAD_CARET, BAD_PLACE, BAD_ROW, OK};
+use pictures::Picture;
+
+/// Tells the caret at a place of the text.
+pub fn tell_caret(picture: &mut Picture, place: usize, caret: &mut CaretNumbers) -> u32
+    ensures told { IsTold (place ≤ length (chars picture.old.text)) (caret_numbers (caret_at picture.old place)) no_caret 107 caret.new result }
+    ensures same { picture.new ≡ picture.old }
+{
+    if place > picture.len() {
+        *caret = no_caret();
+        return BAD_PLACE;
+    }
+    *caret = caret_numbers(picture.at_place(place));
+    OK
+}
+
+/// Tells the caret where a mouse points: in a row at the last gap that is not right of a column.
+pub fn tell_caret_under(
+    picture: &mut Picture,
+    row: usize,
+    column: usize,
+    caret: &mut CaretNumbers,
+) -> u32
+    ensures told { IsTold (row < length picture.old.rows) (caret_numbers (caret_under picture.old.rows row column)) no_caret 108 caret.new result }
+    ensures same { picture.new ≡ picture.old }
+{
+    if row >= picture.rows().len() {
+        *caret = no_caret();
+        return BAD_ROW;
+    }
+    *caret = caret_numbers(picture.at_column(row, column));
+    OK
+}
+
+/// Moves a caret one step to the right, as the eye sees it.
+pub fn tell_right(picture: &mut Picture, caret: &mut CaretNumbers) -> u32
+    ensures told { IsTold (IsCaretOf picture.old.rows (caret_of caret.old)) (caret_numbers (right_of picture.old.rows (caret_of caret.old))) caret.old 110 caret.new result }
+    ensures same { picture.new ≡ picture.old }
+{
+    let from = caret_of(caret);
+    if !picture.holds(from) {
+        return BAD_CARET;
+    }
+    *caret = caret_numbers(picture.right(from));
+    OK
+}
+
+/// Moves a caret one step to the left, as the eye sees it.
+pub fn tell_left(picture: &mut Picture, caret: &mut CaretNumbers) -> u32
+    ensures told { IsTold (IsCaretOf picture.old.rows (caret_of caret.old)) (caret_numbers (left_of picture.old.rows (caret_of caret.old))) caret.old 110 caret.new result }
+    ensures same { picture.new ≡ picture.old }
+{
+    let from = caret_of(caret);
+    if !picture.holds(from) {
+        return BAD_CARET;
+    }
+    *caret = caret_numbers(picture.left(from));
+    OK
+}
+
+/// Moves a caret one row up, as the eye sees it.
+pub fn tell_up(picture: &mut Picture, caret: &mut CaretNumbers) -> u32
+    ensures told { IsTold (IsCaretOf picture.old.rows (caret_of caret.old)) (caret_numbers (up_of picture.old.rows (caret_of caret.old))) caret.old 110 caret.new result }
+    ensures same { picture.new ≡ picture.old }
+{
+    let from = caret_of(caret);
+    if !picture.holds(from) {
+        return BAD_CARET;
+    }
+    *caret = caret_numbers(picture.up(from));
+    OK
+}
+
+/// Moves a caret one row down, as the eye sees it.
+pub fn tell_down(picture: &mut Picture, caret: &mut CaretNumbers) -> u32
+    ensures told { IsTold (IsCaretOf picture.old.rows (caret_of caret.old)) (caret_numbers (down_of picture.old.rows (caret_of caret.old))) caret.old 110 caret.new result }
+    ensures same { picture.new ≡ picture.old }
+{
+    let from = caret_of(caret);
+    if !picture.holds(from) {
+        return BAD_CARET;
+    }
+    *caret = caret_numbers(picture.down(from));
+    OK
+}
