@@ -144,9 +144,10 @@ pub fn rows(
         return separator_rows(alloc, width, para_level, text);
     }
     let points = code_points_of(alloc, text)?;
+    let words = tables.words_of_each(alloc, &points)?;
     let classes = tables.bidi_of_each(alloc, &points)?;
     let levels = levels_at(alloc, tables, para_level, &points, &classes)?;
-    let clusters = outline_of(alloc, tables, para, &points)?;
+    let clusters = outline_of(alloc, tables, para, &points, &words)?;
     let material = Material {
         tables,
         text,

@@ -2,7 +2,9 @@
 use Rattle.std.specs.Prelude.{ℕ, Bool, not, List, [], ◌∷◌, fold, if◌then◌else◌}
 use Rattle.bg_types.specs.declared.class.Lb.{Lb}
 use Rattle.bg_types.specs.declared.class.Lb.TheVariants.{Al, Bk, Cm, Cr, Lf, Nl, Sp, Zw, Zwj}
-use Rattle.unicode_tables.specs.Tables.{TableValues, bidi_of, lb_of, ea_of}
+use Rattle.unicode_tables.specs.Tables.{TableValues}
+use Rattle.unicode_tables.specs.Word.{word_of}
+use Rattle.unicode_tables.specs.declared.word.Word.{Word}
 use Rattle.line_break.specs.Classes.{one_of, resolved, is_east_asian}
 
 -- a code point, or a base with its marks: its class or its base's, and whether it is East Asian F, W or H
@@ -11,8 +13,11 @@ pub record Item : Type 0 where
   pub wide : Bool
 
 -- a code point: its class by LB1
+abbrev pub point_of_word : Word → Item
+point_of_word word = record { class = resolved word.bidi word.lb; wide = is_east_asian word.ea }
+
 abbrev pub point_of : TableValues → ℕ → Item
-point_of tables c = record { class = resolved (bidi_of tables c) (lb_of tables c); wide = is_east_asian (ea_of tables c) }
+point_of tables c = point_of_word (word_of tables c)
 
 -- a mark
 abbrev pub is_mark : Lb → Bool

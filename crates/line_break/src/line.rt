@@ -34,7 +34,8 @@ pub fn lines(alloc: Global, tables: &Tables, para: &Para, width: u16) -> Result<
         ≡ clusters para.now.text) }
 {
     let points = code_points_of(alloc, para.text())?;
-    let outline = outline_of(alloc, tables, para, &points)?;
+    let words = tables.words_of_each(alloc, &points)?;
+    let outline = outline_of(alloc, tables, para, &points, &words)?;
     lines_of(alloc, &outline.clusters, width)
 }
 

@@ -1,14 +1,15 @@
 //! What is read of a cluster by itself.
 
-ghost use Rattle.std.specs.Prelude.{◌≡◌, ◌<◌, ◌^◌, List, [], ◌∷◌, length, encode_utf8, MatchOption};
+ghost use Rattle.std.specs.Prelude.{◌≡◌, ◌<◌, ◌^◌, List, [], ◌∷◌, length, map, encode_utf8, MatchOption};
 ghost use Rattle.std.specs.List.{All, concat};
+ghost use Rattle.unicode_tables.specs.Word.{word_of};
 ghost use Rattle.paragraphs.specs.Text.{code_points};
 
 use crate::class::is_one_of;
 use crate::cluster::is_space;
 use bg_types::Lb;
 use paragraphs::{Clusters, columns, columns_of_one};
-use unicode_tables::Tables;
+use unicode_tables::{Tables, Word};
 
 /// How many code points a cluster has, its columns, and whether it has only spaces.
 #[derive(Clone, Copy)]
@@ -21,36 +22,39 @@ pub(crate) struct Measure {
 impl Measure {
     ghost use Rattle.line_break.specs.Measures.{measure_of, IsNext};
 
-    /// The next cluster, which is taken, is measured. `points` are the code points still to come.
+    /// The next cluster, which is taken, is measured. `points` are the code points still to
+    /// come, and `words` are theirs.
     #[inline]
     pub(crate) fn of_next(
         tables: &Tables,
         clusters: &mut Clusters,
         points: &[char],
+        words: &[Word],
     ) -> Option<Measure>
         requires some { All (λ cluster. 0 < length cluster) clusters.old }
         requires few { length (concat clusters.old) < 2 ^ 32 }
         requires points { points.now ≡ code_points (concat clusters.old) }
+        requires words { words.now ≡ map (word_of tables.now) points.now }
         ensures { MatchOption result (clusters.old ≡ []) (λ m. IsNext tables.now m clusters.old clusters.new) }
     {
-        if let Some(c) = clusters.next_alone(points) {
-            return Some(Measure::of_one(tables, c));
+        if let Some(c) = clusters.next_alone(points, words) {
+            return Some(Measure::of_one(tables, words[0], c));
         }
         let cluster = clusters.next()?;
         Some(Measure::of_several(tables, cluster))
     }
 
-    /// A cluster of one character: each of its classes is looked up once.
+    /// A cluster of one character, of which this is the word.
     #[inline]
-    fn of_one(tables: &Tables, c: char) -> Measure
+    fn of_one(tables: &Tables, word: Word, c: char) -> Measure
+        requires { word ≡ word_of tables.now c }
         ensures measured { result ≡ measure_of tables.now (c ∷ []) }
         ensures points { code_points (encode_utf8 c) ≡ c ∷ [] }
     {
-        let class = tables.lb(c);
         Measure {
             size: 1,
-            columns: columns_of_one(tables, c),
-            is_space: is_one_of(class, &[Lb::Sp]),
+            columns: columns_of_one(tables, word, c),
+            is_space: is_one_of(word.lb, &[Lb::Sp]),
         }
     }
 

@@ -2,6 +2,7 @@
 
 ghost use Rattle.std.specs.Prelude.{◌≡◌, ◌≤◌, [], length, map, vec_capacity, vec_len, IfOk};
 ghost use Rattle.std.specs.List.{All};
+ghost use Rattle.unicode_tables.specs.Word.{word_of};
 ghost use Rattle.paragraphs.specs.Text.{code_points};
 ghost use Rattle.paragraphs.specs.Clusters.{cluster_sizes};
 ghost use Rattle.paragraphs.specs.Spans.{spans};
@@ -13,7 +14,7 @@ use crate::status::statuses_of;
 use bg_types::Memory;
 use paragraphs::{Para, Span, laws};
 use std::alloc::Global;
-use unicode_tables::Tables;
+use unicode_tables::{Tables, Word};
 
 /// The clusters of a paragraph, in order: four lists with an element for each.
 #[derive(Debug, Drop)]
@@ -45,17 +46,19 @@ impl Outline {
     }
 }
 
-/// The clusters of a paragraph of at most 4,000,000 bytes, which has these code points. It is cut
-/// into clusters once, and each is measured once.
+/// The clusters of a paragraph of at most 4,000,000 bytes, which has these code points with
+/// these words. It is cut into clusters once, and each is measured once.
 /// Cost: O(n), memory for the clusters.
 pub fn outline_of(
     alloc: Global,
     tables: &Tables,
     para: &Para,
     points: &[char],
+    words: &[Word],
 ) -> Result<Outline, Memory>
     requires size { length para.now.text ≤ 4_000_000 }
     requires points { points.now ≡ code_points para.now.text }
+    requires words { words.now ≡ map (word_of tables.now) points.now }
     ensures spans { IfOk result (λ o. o.spans.items ≡ spans para.now.text) }
     ensures sizes { IfOk result (λ o. o.sizes.items ≡ cluster_sizes para.now.text) }
     ensures clusters { IfOk result (λ o. o.clusters.items ≡ line_clusters tables.now para.now.text) }
@@ -64,14 +67,19 @@ pub fn outline_of(
 {
     laws::clusters_join();
     laws::cluster_places();
-    let statuses = statuses_of(alloc, tables, points)?;
+    let statuses = statuses_of(alloc, words)?;
     // No paragraph has more clusters than code points.
     let mut outline = Outline::with_room(alloc, points.len())?;
     let length = para.text().len();
     let mut clusters = para.clusters();
     let mut byte = 0;
     let mut place = 0;
-    while let Some(measure) = Measure::of_next(tables, &mut clusters, &points[place as usize..]) {
+    while let Some(measure) = Measure::of_next(
+        tables,
+        &mut clusters,
+        &points[place as usize..],
+        &words[place as usize..],
+    ) {
         let span = Span {
             first_byte: byte,
             end_byte: (length - clusters.bytes_left()) as u32,

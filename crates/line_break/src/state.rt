@@ -1,10 +1,9 @@
 //! The break rules as an automaton: from boundary to boundary by the pair table.
 
 ghost use Rattle.std.specs.Prelude.{◌≡◌, ◌<◌, List, [], ◌∷◌, ◌++◌, if◌then◌else◌};
-ghost use Rattle.unicode_tables.specs.Tables.{ea_of};
 ghost use Rattle.line_break.specs.declared.status.Break.TheVariants.{May};
 ghost use Rattle.line_break.specs.Classes.{is_east_asian};
-ghost use Rattle.line_break.specs.Items.{Item, point_of};
+ghost use Rattle.line_break.specs.Items.{Item, point_of_word};
 ghost use Rattle.line_break.specs.Context.{before, after};
 ghost use Rattle.line_break.specs.Rules.{first_rule, rules};
 ghost use Rattle.line_break.specs.States.{IsBehind, IsColumn};
@@ -13,7 +12,7 @@ use crate::state_table::STATES;
 use crate::status::Break;
 use crate::status_table::STATUSES;
 use bg_types::{Ea, Lb};
-use unicode_tables::Tables;
+use unicode_tables::Word;
 
 /// The column of a wide character of CP, behind those of the classes.
 const WIDE_CP: usize = 43;
@@ -60,36 +59,31 @@ impl State {
     }
 }
 
-/// The column of a character. But for SA, LB1 is in the table.
+/// The column of a character of this word. But for SA, LB1 is in the table.
 #[inline]
-pub(crate) fn column_of(tables: &Tables, c: char) -> usize
-    ensures { IsColumn (point_of tables.now c) result }
+pub(crate) fn column_of(word: Word) -> usize
+    ensures { IsColumn (point_of_word word) result }
 {
-    let class = tables.lb(c);
-    match class {
-        Lb::Cp => column_by_width(tables, c, Lb::Cp as usize, WIDE_CP),
-        Lb::Op => column_by_width(tables, c, Lb::Op as usize, WIDE_OP),
+    match word.lb {
+        Lb::Cp => column_by_width(word.ea, Lb::Cp as usize, WIDE_CP),
+        Lb::Op => column_by_width(word.ea, Lb::Op as usize, WIDE_OP),
         // Own: SA becomes AL, not ID or a class from a dictionary.
         Lb::Sa => {
-            if tables.bidi(c).is_nonspacing() {
+            if word.bidi.is_nonspacing() {
                 Lb::Cm as usize
             } else {
                 Lb::Al as usize
             }
         }
-        _ => class as usize,
+        _ => word.lb as usize,
     }
 }
 
 /// One of two columns, by the width of a character.
-fn column_by_width(tables: &Tables, c: char, narrow: usize, wide: usize) -> usize
-    ensures { result ≡ (if is_east_asian (ea_of tables.now c) then wide else narrow) }
+fn column_by_width(width: Ea, narrow: usize, wide: usize) -> usize
+    ensures { result ≡ (if is_east_asian width then wide else narrow) }
 {
-    if is_east_asian(tables.ea(c)) {
-        wide
-    } else {
-        narrow
-    }
+    if is_east_asian(width) { wide } else { narrow }
 }
 
 /// Whether LB30 leaves out a character of this width.

@@ -1,7 +1,7 @@
 //! The statuses of a paragraph's boundaries.
 
 ghost use Rattle.std.specs.Prelude.{◌≡◌, IfOk, map};
-ghost use Rattle.line_break.specs.Items.{point_of};
+ghost use Rattle.line_break.specs.Items.{point_of_word};
 ghost use Rattle.line_break.specs.Statuses.{statuses, breaks};
 ghost use Rattle.line_break.specs.Lines.{is_must, is_break};
 
@@ -9,7 +9,7 @@ use crate::state::{State, column_of};
 use bg_types::Memory;
 use paragraphs::{Para, code_points_of};
 use std::alloc::Global;
-use unicode_tables::Tables;
+use unicode_tables::{Tables, Word};
 
 /// What the boundary after a code point means for a line (UAX #14, LD).
 #[derive(Clone, Copy, Debug, PartialEq, Eq, Hash)]
@@ -40,29 +40,27 @@ pub(crate) fn is_break(status: Break) -> bool
 
 /// The status of the boundary after each code point of a paragraph, in order (UAX #14, in the
 /// profile of this crate's rules). The last one is Must.
-/// Cost: O(n), 5 bytes of memory a code point.
+/// Cost: O(n), 12 bytes of memory a code point.
 pub fn opportunities(alloc: Global, tables: &Tables, para: &Para) -> Result<Vec<Break>, Memory>
     ensures { IfOk result (λ v. v.items ≡ breaks tables.now para.now.text) }
 {
     let points = code_points_of(alloc, para.text())?;
-    statuses_of(alloc, tables, &points)
+    let words = tables.words_of_each(alloc, &points)?;
+    statuses_of(alloc, &words)
 }
 
-/// The status of the boundary after each of a paragraph's code points, in order.
-pub(crate) fn statuses_of(
-    alloc: Global,
-    tables: &Tables,
-    points: &[char],
-) -> Result<Vec<Break>, Memory>
-    ensures { IfOk result (λ v. v.items ≡ statuses (map (point_of tables.now) points.now)) }
+/// The status of the boundary after each of a paragraph's code points, which have these words, in
+/// order.
+pub(crate) fn statuses_of(alloc: Global, words: &[Word]) -> Result<Vec<Break>, Memory>
+    ensures { IfOk result (λ v. v.items ≡ statuses (map point_of_word words.now)) }
 {
-    let mut statuses = Vec::with_capacity(alloc, points.len())?;
-    let Some(first) = points.first() else {
+    let mut statuses = Vec::with_capacity(alloc, words.len())?;
+    let Some(first) = words.first() else {
         return Ok(statuses);
     };
-    let mut state = State::start().next(column_of(tables, *first));
-    for c in &points[1..] {
-        let column = column_of(tables, *c);
+    let mut state = State::start().next(column_of(*first));
+    for word in &words[1..] {
+        let column = column_of(*word);
         statuses.push_reserved(state.status_before(column));
         state = state.next(column);
     }

@@ -40,7 +40,7 @@ module _ (text points : List ℕ) (c : ℕ) (u : IsUtf8 text) (all : points ≡ 
     points-rest : code_points text ≡ c ∷ code_points rest
     points-rest = chars_past_char text rest c u split-rest
 
-    pub points-past : drop 1 points ≡ code_points rest
+    points-past : drop 1 points ≡ code_points rest
     points-past = ap (drop 1) (all ∙ points-rest)
 
     -- it stands alone where a cluster ends after it

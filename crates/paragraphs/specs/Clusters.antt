@@ -1,5 +1,6 @@
 -- ClustersAndColumns, its first half: the clusters of a text.
-use Rattle.std.specs.Prelude.{ℕ, Bool, true, ◌&&◌, ◌||◌, nat_le, List, [], ◌∷◌, map, length}
+use Rattle.std.specs.Prelude.{ℕ, true, List, map, length}
+pub use Rattle.unicode_tables.specs.Alone.{is_plain}
 use Rattle.unicode_segmentation.specs.Grapheme.{graphemes}
 use Rattle.paragraphs.specs.Text.{code_points}
 
@@ -14,17 +15,3 @@ cluster_code_points text = map code_points (clusters text)
 -- how many code points each has
 abbrev pub cluster_sizes : List ℕ → List ℕ
 cluster_sizes text = map length (cluster_code_points text)
-
--- c stands between these two, both included
-abbrev pub is_between : ℕ → ℕ → ℕ → Bool
-is_between first last c = nat_le first c && nat_le c last
-
--- the blocks without marks in which most text of Latin, Greek, Cyrillic, Hebrew and Arabic stands
-abbrev pub is_plain : ℕ → Bool
-is_plain c =
-    is_between 0x20 0x7E c || (is_between 0x5D0 0x5EA c || (is_between 0x620 0x64A c || (is_between 0xAE 0x2FF c || (is_between 0x370 0x482 c || is_between 0x671 0x6D5 c))))
-
--- the first of these code points, if there is one, is plain
-abbrev pub begins_plain : List ℕ → Bool
-begins_plain [] = true
-begins_plain (c ∷ rest) = is_plain c

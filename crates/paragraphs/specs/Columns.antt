@@ -2,6 +2,7 @@
 use Rattle.std.specs.Prelude.{ℕ, Bool, false, ◌==◌, ◌&&◌, ◌||◌, if◌then◌else◌, List, [], ◌∷◌}
 use Rattle.std.specs.List.{list_all, list_any}
 use Rattle.unicode_tables.specs.Tables.{TableValues, bidi_of, lb_of, ea_of}
+pub use Rattle.unicode_tables.specs.Alone.{is_direction_mark}
 use Rattle.paragraphs.specs.Classes.{is_separator, is_removed, is_isolate_control, is_line_end, is_wide, is_ambiguous}
 
 -- c has Bidi class B or break class BK, CR, LF or NL
@@ -12,10 +13,6 @@ ends_line tables c = is_separator (bidi_of tables c) || is_line_end (lb_of table
 abbrev pub begins_with_end : TableValues → List ℕ → Bool
 begins_with_end tables [] = false
 begins_with_end tables (c ∷ rest) = ends_line tables c
-
--- the marks of direction, which are named by their code points: LRM, RLM and ALM
-abbrev pub is_direction_mark : ℕ → Bool
-is_direction_mark c = c == 0x200E || c == 0x200F || c == 0x61C
 
 -- c has an X9 class, is an isolate control by its class or is a mark of direction
 abbrev pub is_invisible : TableValues → ℕ → Bool

@@ -1,34 +1,31 @@
 //! The clusters of a text (UAX #29).
 
-ghost use Rattle.std.specs.Prelude.{◌≡◌, ◌<◌, true, List, [], ◌∷◌, length, take, drop, encode_utf8, MatchOption};
+ghost use Rattle.std.specs.Prelude.{◌≡◌, ◌<◌, true, map, List, [], ◌∷◌, length, take, drop, encode_utf8, MatchOption};
 ghost use Rattle.std.specs.List.{concat};
 ghost use Rattle.unicode_segmentation.specs.Grapheme.{is_grapheme_break};
 ghost use Rattle.paragraphs.specs.Text.{code_points};
-ghost use Rattle.paragraphs.specs.Clusters.{clusters, is_plain, begins_plain};
+ghost use Rattle.unicode_tables.specs.declared.word.Word.{Word};
+ghost use Rattle.paragraphs.specs.Clusters.{clusters, is_plain};
 
 use std::marker::Model;
 use unicode_segmentation::UnicodeSegmentation;
+use unicode_tables::Word;
 
 /// Iterates over clusters, each as a slice of the text. Takes no memory.
 #[derive(Debug, Drop)]
 pub struct Clusters<'a> {
     /// The text from where the next cluster begins.
     rest: &'a str,
-    /// Whether its first character, if there is one, is known to be plain.
-    plain: bool,
 }
 
 impl<'a> Model for Clusters<'a> {
-    ghost use Rattle.std.specs.Prelude.{◌≡◌, true, List, ℕ};
-    ghost use Rattle.paragraphs.specs.Text.{code_points};
-    ghost use Rattle.paragraphs.specs.Clusters.{clusters, begins_plain};
+    ghost use Rattle.std.specs.Prelude.{List, ℕ};
+    ghost use Rattle.paragraphs.specs.Clusters.{clusters};
 
     // The clusters still to come, each as its bytes.
     ghost Value = { List (List ℕ) };
 
     ghost view = { λ s. clusters s.rest.now };
-
-    ghost invariant = { λ s. s.plain ≡ true → begins_plain (code_points s.rest.now) ≡ true };
 }
 
 impl<'a> Clusters<'a> {
@@ -37,10 +34,7 @@ impl<'a> Clusters<'a> {
     pub(crate) fn of(text: &'a str) -> Clusters<'a>
         ensures { result ≡ clusters text.now }
     {
-        Clusters {
-            rest: text,
-            plain: false,
-        }
+        Clusters { rest: text }
     }
 
     #[inline]
@@ -59,21 +53,19 @@ impl<'a> Clusters<'a> {
     }
 
     /// Takes the next cluster where it is seen at once that it is a single character, and gives
-    /// this character. `points` are the code points still to come.
+    /// this character. `points` are the code points still to come, and `words` are theirs.
     #[inline]
-    pub fn next_alone(&mut self, points: &[char]) -> Option<char>
-        requires { points.now ≡ code_points (concat self.old) }
+    pub fn next_alone(&mut self, points: &[char], words: &[Word]) -> Option<char>
+        requires points { points.now ≡ code_points (concat self.old) }
+        requires words { map (λ (w : Word). w.is_plain) words.now ≡ map is_plain points.now }
         ensures { MatchOption result (self.new ≡ self.old) (λ c. self.old ≡ encode_utf8 c ∷ self.new) }
     {
         let text = self.rest();
         let c = *points.first()?;
-        if !stands_alone(points, self.plain) {
+        if !stands_alone(points, words) {
             return None;
         }
-        *self = Clusters {
-            rest: &text[c.len_utf8()..],
-            plain: true,
-        };
+        self.rest = &text[c.len_utf8()..];
         Some(c)
     }
 }
@@ -92,40 +84,21 @@ impl<'a> Iterator for Clusters<'a> {
         let text = self.rest();
         let mut graphemes = text.graphemes(true);
         let cluster = graphemes.next()?;
-        *self = Clusters::of(graphemes.as_str());
+        self.rest = graphemes.as_str();
         Some(cluster)
     }
 }
 
 /// Whether the first of these code points is a cluster where it begins one: both it and the next
-/// one are plain (GB999), or there is no next one (GB2). If it is known to be plain, it isn't
-/// tested again.
+/// one are plain (GB999), or there is no next one (GB2).
 #[inline]
-fn stands_alone(points: &[char], plain: bool) -> bool
+fn stands_alone(points: &[char], words: &[Word]) -> bool
     requires some { 0 < length points.now }
-    requires plain { plain ≡ true → begins_plain points.now ≡ true }
-    ensures alone { result ≡ true → is_grapheme_break true (take 1 points.now) (drop 1 points.now) ≡ true }
-    // The next one is then known to be plain.
-    ensures next { result ≡ true → begins_plain (drop 1 points.now) ≡ true }
+    requires words { map (λ (w : Word). w.is_plain) words.now ≡ map is_plain points.now }
+    ensures { result ≡ true → is_grapheme_break true (take 1 points.now) (drop 1 points.now) ≡ true }
 {
-    match points.get(1) {
-        Some(next) => is_plain(*next) && (plain || is_plain(points[0])),
+    match words.get(1) {
+        Some(next) => words[0].is_plain && next.is_plain,
         None => true,
     }
-}
-
-/// Whether a character stands in a block without marks, in which most text does.
-#[inline]
-fn is_plain(c: char) -> bool
-    ensures { result ≡ is_plain c }
-{
-    matches!(
-        c,
-        ' '..='~'
-            | '\u{5D0}'..='\u{5EA}'
-            | '\u{620}'..='\u{64A}'
-            | '\u{AE}'..='\u{2FF}'
-            | '\u{370}'..='\u{482}'
-            | '\u{671}'..='\u{6D5}'
-    )
 }

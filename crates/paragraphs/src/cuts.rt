@@ -6,11 +6,10 @@ ghost use Rattle.unicode_tables.specs.Tables.{bidi_of};
 ghost use Rattle.paragraphs.specs.Text.{code_points};
 ghost use Rattle.paragraphs.specs.Paragraphs.{begins_with_line_feed, ends_paragraph, meets_at_cut, paragraphs, StandsIn};
 
-use crate::class::is_separator;
 use crate::para::Para;
 use bg_types::Memory;
 use std::alloc::Global;
-use unicode_tables::Tables;
+use unicode_tables::{Tables, is_separator};
 
 /// Whether a text begins with a U+000A of class B.
 #[inline]

@@ -1,7 +1,6 @@
 //! A text as paragraphs, clusters and columns.
 #![tactic(auto)]
 
-mod class;
 mod cluster;
 mod cuts;
 pub mod laws;

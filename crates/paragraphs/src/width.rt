@@ -1,14 +1,14 @@
 //! The columns of a cluster.
 
-ghost use Rattle.std.specs.Prelude.{◌≡◌, ◌<◌, ◌||◌, length, [], ◌∷◌};
+ghost use Rattle.std.specs.Prelude.{◌≡◌, ◌<◌, length, [], ◌∷◌};
 ghost use Rattle.std.specs.List.{list_all, list_any};
-ghost use Rattle.paragraphs.specs.Classes.{is_separator, is_removed, is_isolate_control};
+ghost use Rattle.unicode_tables.specs.Word.{word_of};
 ghost use Rattle.paragraphs.specs.Text.{code_points};
-ghost use Rattle.paragraphs.specs.Columns.{ends_line, begins_with_end, is_direction_mark, is_invisible, takes_two, takes_two_by_choice, columns_by_choice, columns_of};
+ghost use Rattle.paragraphs.specs.Columns.{ends_line, begins_with_end, is_invisible, takes_two, takes_two_by_choice, columns_by_choice, columns_of};
 
-use crate::class::{is_ambiguous, is_line_end, is_separator, is_wide};
-use bg_types::Bidi;
-use unicode_tables::Tables;
+use unicode_tables::{
+    Tables, Word, is_ambiguous, is_direction_mark, is_line_end, is_separator, is_wide,
+};
 
 /// The columns of a cluster, 0 to 2. It has none if it begins with what ends a line or a
 /// paragraph, or if each of its characters is invisible; and two if one of them is wide, or
@@ -21,32 +21,22 @@ pub fn columns(tables: &Tables, cluster: &str) -> u8
 {
     let mut chars = cluster.chars();
     match chars.next() {
-        Some(c) if chars.as_str().is_empty() => columns_of_one(tables, c),
+        Some(c) if chars.as_str().is_empty() => columns_of_one(tables, tables.word(c), c),
         _ => columns_of_several(tables, cluster),
     }
 }
 
-/// The columns of a cluster of one code point: each of its classes is looked up once.
+/// The columns of a cluster of one code point, of which this is the word.
 #[inline]
-pub fn columns_of_one(tables: &Tables, c: char) -> u8
+pub fn columns_of_one(tables: &Tables, word: Word, c: char) -> u8
+    requires { word ≡ word_of tables.now c }
     ensures { result ≡ columns_of tables.now (c ∷ []) }
 {
-    let class = tables.bidi(c);
-    if has_no_columns(class) || is_line_end(tables.lb(c)) || is_direction_mark(c) {
-        0
-    } else if is_wide(tables.ea(c)) || takes_two_by_choice(tables, c) {
+    if word.columns == 1 && tables.wide_ambiguous() && is_ambiguous(word.ea) {
         2
     } else {
-        1
+        word.columns
     }
-}
-
-/// Whether a character of this class has no columns where it stands alone.
-#[inline]
-fn has_no_columns(class: Bidi) -> bool
-    ensures { result ≡ (is_separator class || (is_removed class || is_isolate_control class)) }
-{
-    is_separator(class) || class.is_removed() || class.is_isolate_control()
 }
 
 /// The columns of a cluster of any number of code points.
@@ -94,14 +84,7 @@ fn is_invisible(tables: &Tables, c: char) -> bool
     ensures { result ≡ is_invisible tables.now c }
 {
     let class = tables.bidi(c);
-    class.is_removed() || class.is_isolate_control() || is_direction_mark(c)
-}
-
-#[inline]
-fn is_direction_mark(c: char) -> bool
-    ensures { result ≡ is_direction_mark c }
-{
-    c == '\u{200E}' || c == '\u{200F}' || c == '\u{61C}'
+    class.is_removed() || class.is_isolate_control() || is_direction_mark(c as usize)
 }
 
 #[inline]

@@ -1,5 +1,6 @@
 -- The tables that words make, and what look-ups find in them.
-use Rattle.std.proofs.Common.{◌≡◌, ℕ, ◌<◌, Bool, false, List, Option, Some, None, get_or, refl, ap, ◌∙◌, sym}
+use Rattle.std.proofs.Common.{◌≡◌, ℕ, ◌+◌, ◌*◌, ◌<◌, ◌≤◌, Bool, false, List, Option, Some, None, get_or, refl, ap, subst, ◌∙◌, sym, arith}
+use Rattle.std.proofs.lemmas.Bool.Decides.{nat_tests}
 use Rattle.std.specs.Prelude.{is_some}
 use Rattle.bg_types.specs.declared.class.Bidi.{Bidi}
 use Rattle.bg_types.specs.declared.class.Bidi.TheVariants.{L}
@@ -13,6 +14,7 @@ use Rattle.unicode_tables.specs.declared.word.Word.{Word}
 use Rattle.unicode_tables.specs.declared.word.Properties.{Properties}
 use Rattle.unicode_tables.specs.declared.words.Words.{Words}
 use Rattle.unicode_tables.specs.Tables.{TableValues, tables_of_lists, bracket_of, mirror_of}
+use Rattle.unicode_tables.specs.Alone.{is_plain, is_direction_mark, columns_alone}
 use Rattle.unicode_tables.specs.Word.{is_bracket, word_of_lists, word_of, word_with}
 use Rattle.unicode_tables.specs.Words.{word_in, HasMarks, tables_of_words}
 use Rattle.unicode_tables.proofs.CodePoints.{each_below-at, each_below-same}
@@ -37,6 +39,8 @@ pub words-marks : (bidi : List Bidi) (bracket : List Bracket) (mirror : List (Op
 words-marks bidi bracket mirror lb ea words is = record {
   brackets = λ c h. ap (λ w. w.is_bracket) (is c h);
   mirrors = λ c h. ap (λ w. w.has_mirror) (is c h);
+  plain = λ c h. ap (λ w. w.is_plain) (is c h);
+  columns = λ c h. subst (λ (w : Word). w.columns ≡ columns_alone w.bidi w.lb w.ea c) (sym (is c h)) refl;
 }
 
 pub not_bracket : (bracket : Bracket) → is_bracket bracket ≡ false → bracket ≡ no_bracket
@@ -48,19 +52,25 @@ pub not_mirror : (mirror : Option ℕ) → is_some mirror ≡ false → mirror �
 not_mirror None h = refl
 not_mirror (Some c) h = absurd cc
 
-pub same_word : {b b' : Bidi} {l l' : Lb} {e e' : Ea} {k k' m m' : Bool} → b ≡ b' → l ≡ l' → e ≡ e' → k ≡ k' → m ≡ m'
-    → ◌≡◌ {A = Word} (record { bidi = b; lb = l; ea = e; is_bracket = k; has_mirror = m }) (record { bidi = b'; lb = l'; ea = e'; is_bracket = k'; has_mirror = m' })
-same_word p q r s t = cc
+pub same_word : {b b' : Bidi} {l l' : Lb} {e e' : Ea} {k k' m m' i i' : Bool} {n n' : ℕ} → b ≡ b' → l ≡ l' → e ≡ e' → k ≡ k' → m ≡ m' → i ≡ i' → n ≡ n'
+    → ◌≡◌ {A = Word} (record { bidi = b; lb = l; ea = e; is_bracket = k; has_mirror = m; is_plain = i; columns = n })
+    (record { bidi = b'; lb = l'; ea = e'; is_bracket = k'; has_mirror = m'; is_plain = i'; columns = n' })
+same_word p q r s t u v = cc
+
+same_columns : {b b' : Bidi} {l l' : Lb} {e e' : Ea} (c : ℕ) → b ≡ b' → l ≡ l' → e ≡ e' → columns_alone b l e c ≡ columns_alone b' l' e' c
+same_columns {b} {b'} {l} {l'} {e} {e'} c p q r = ap (λ x. columns_alone x l e c) p ∙ ap (λ x. columns_alone b' x e c) q ∙ ap (λ x. columns_alone b' l' x c) r
 
 -- what a look-up finds is what the tables of the words say
 pub word-found : (words : Words) (bracket : List Bracket) (mirror : List (Option ℕ)) (c : ℕ) → c < 0x110000 → HasMarks words bracket mirror
     → word_in words c ≡ word_of (tables_of_words words bracket mirror) c
-word-found words bracket mirror c h marks = same_word
-    (sym (each_below-at 0x110000 (λ k. (word_in words k).bidi) c L h))
-    (sym (each_below-at 0x110000 (λ k. (word_in words k).lb) c Xx h))
-    (sym (each_below-at 0x110000 (λ k. (word_in words k).ea) c N h))
+word-found words bracket mirror c h marks =
+    let bidi = sym (each_below-at 0x110000 (λ k. (word_in words k).bidi) c L h) in
+    let lb = sym (each_below-at 0x110000 (λ k. (word_in words k).lb) c Xx h) in
+    let ea = sym (each_below-at 0x110000 (λ k. (word_in words k).ea) c N h) in
+    same_word bidi lb ea
     (marks.brackets c h ∙ ap is_bracket (sym (each_below-at 0x110000 (λ k. get_or bracket k no_bracket) c no_bracket h)))
     (marks.mirrors c h ∙ ap is_some (sym (each_below-at 0x110000 (λ k. get_or mirror k None) c None h)))
+    (marks.plain c h) (marks.columns c h ∙ same_columns c bidi lb ea)
 
 -- a code point whose word has no mark has no bracket, or no mirror
 pub bracket-absent : (words : Words) (bracket : List Bracket) (mirror : List (Option ℕ)) (c : ℕ) → c < 0x110000 → HasMarks words bracket mirror
@@ -74,11 +84,31 @@ mirror-absent words bracket mirror c h marks off =
     sym (each_below-at 0x110000 (λ k. get_or mirror k None) c None h ∙ not_mirror (get_or mirror c None) (sym (marks.mirrors c h) ∙ off))
 
 -- where five properties are the same, the words are
-pub words-same : (properties : Properties) (n m : ℕ)
+words-same : (properties : Properties) (n m : ℕ)
     → get_or properties.bidi.now n L ≡ get_or properties.bidi.now m L
     → get_or properties.bracket.now n no_bracket ≡ get_or properties.bracket.now m no_bracket
     → get_or properties.mirror.now n None ≡ get_or properties.mirror.now m None
     → get_or properties.lb.now n Xx ≡ get_or properties.lb.now m Xx
     → get_or properties.ea.now n N ≡ get_or properties.ea.now m N
+    → is_plain n ≡ is_plain m → is_direction_mark n ≡ is_direction_mark m
     → word_with properties n ≡ word_with properties m
-words-same properties n m p q r s t = cc
+words-same properties n m p q r s t u v = cc
+
+not-plain : (c : ℕ) → 33 * 256 ≤ c → is_plain c ≡ false
+not-plain c h = grind (arith, nat_tests)
+
+not-direction_mark : (c : ℕ) → 33 * 256 ≤ c → is_direction_mark c ≡ false
+not-direction_mark c h = grind (arith, nat_tests)
+
+-- behind the blocks of plain code points and marks of direction the properties tell the word
+pub words_even : (properties : Properties) (block k : ℕ) → 33 ≤ block
+    → get_or properties.bidi.now (block * 256 + k) L ≡ get_or properties.bidi.now (block * 256) L
+    → get_or properties.bracket.now (block * 256 + k) no_bracket ≡ get_or properties.bracket.now (block * 256) no_bracket
+    → get_or properties.mirror.now (block * 256 + k) None ≡ get_or properties.mirror.now (block * 256) None
+    → get_or properties.lb.now (block * 256 + k) Xx ≡ get_or properties.lb.now (block * 256) Xx
+    → get_or properties.ea.now (block * 256 + k) N ≡ get_or properties.ea.now (block * 256) N
+    → word_with properties (block * 256 + k) ≡ word_with properties (block * 256)
+words_even properties block k far p q r s t =
+    words-same properties (block * 256 + k) (block * 256) p q r s t
+    (not-plain (block * 256 + k) (omega arith) ∙ sym (not-plain (block * 256) (omega arith)))
+    (not-direction_mark (block * 256 + k) (omega arith) ∙ sym (not-direction_mark (block * 256) (omega arith)))

@@ -11,6 +11,7 @@ use Rattle.unicode_tables.specs.declared.bracket.Bracket.TheVariants.{None as no
 use Rattle.unicode_tables.specs.declared.word.Word.{Word}
 use Rattle.unicode_tables.specs.declared.word.Properties.{Properties}
 use Rattle.unicode_tables.specs.Tables.{TableValues}
+use Rattle.unicode_tables.specs.Alone.{is_plain, columns_alone}
 
 -- BD14 and BD15
 abbrev pub is_bracket : Bracket → Bool
@@ -20,7 +21,7 @@ is_bracket (Close paired) = true
 
 -- the word of what is no code point
 abbrev pub absent_word : Word
-absent_word = record { bidi = L; lb = Xx; ea = N; is_bracket = false; has_mirror = false }
+absent_word = record { bidi = L; lb = Xx; ea = N; is_bracket = false; has_mirror = false; is_plain = false; columns = 1 }
 
 -- the word at c, of lists of the five properties
 abbrev pub word_of_lists : List Bidi → List Bracket → List (Option ℕ) → List Lb → List Ea → ℕ → Word
@@ -30,6 +31,8 @@ word_of_lists bidi bracket mirror lb ea c = record {
   ea = slice_index_or ea c N;
   is_bracket = is_bracket (slice_index_or bracket c no_bracket);
   has_mirror = is_some (slice_index_or mirror c None);
+  is_plain = is_plain c;
+  columns = columns_alone (slice_index_or bidi c L) (slice_index_or lb c Xx) (slice_index_or ea c N) c;
 }
 
 -- what tables say of c

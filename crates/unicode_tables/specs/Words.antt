@@ -5,6 +5,7 @@ use Rattle.unicode_tables.specs.declared.bracket.Bracket.TheVariants.{None as no
 use Rattle.unicode_tables.specs.declared.word.Word.{Word}
 use Rattle.unicode_tables.specs.declared.words.Words.{Words}
 use Rattle.unicode_tables.specs.Tables.{TableValues, each_code_point}
+use Rattle.unicode_tables.specs.Alone.{is_plain, columns_alone}
 use Rattle.unicode_tables.specs.Word.{is_bracket, absent_word}
 
 -- the word at c: that of its place in the page of its block
@@ -16,10 +17,12 @@ pub record IsWordTable (words : Words) : Type 0 where
   pub blocks : length words.starts.items ≡ 4352
   pub pages : (b : ℕ) → b < 4352 → slice_index_or words.starts.items b 0 + 256 ≤ length words.pages.items
 
--- the words say where there are brackets and mirrors
+-- the words say where there are brackets and mirrors, and what follows for each code point by itself
 pub record HasMarks (words : Words) (bracket : List Bracket) (mirror : List (Option ℕ)) : Type 0 where
   pub brackets : (c : ℕ) → c < 0x110000 → (word_in words c).is_bracket ≡ is_bracket (slice_index_or bracket c no_bracket)
   pub mirrors : (c : ℕ) → c < 0x110000 → (word_in words c).has_mirror ≡ is_some (slice_index_or mirror c None)
+  pub plain : (c : ℕ) → c < 0x110000 → (word_in words c).is_plain ≡ is_plain c
+  pub columns : (c : ℕ) → c < 0x110000 → (word_in words c).columns ≡ columns_alone (word_in words c).bidi (word_in words c).lb (word_in words c).ea c
 
 -- the tables of words, brackets and mirrors. Ambiguous characters are narrow
 abbrev pub tables_of_words : Words → List Bracket → List (Option ℕ) → TableValues

@@ -90,6 +90,14 @@ impl Tables {
         self.words.at(c as usize)
     }
 
+    /// The word of each of these characters.
+    /// Cost: O(n), 7 bytes of memory a character.
+    pub fn words_of_each(&self, alloc: Global, points: &[char]) -> Result<Vec<Word>, Memory>
+        ensures { IfOk result (λ words. words.items ≡ map (word_of self.now) points.now) }
+    {
+        Ok(points.iter().map(|c| self.word(*c)).collect(alloc)?)
+    }
+
     /// Bidi_Class of a character.
     #[inline]
     pub fn bidi(&self, c: char) -> Bidi

@@ -1,8 +1,9 @@
 //! What the tables say of a code point, in one word.
 
-ghost use Rattle.std.specs.Prelude.{◌≡◌, ℕ, ◌+◌, ◌-◌, ◌*◌, ◌<◌, true};
+ghost use Rattle.std.specs.Prelude.{◌≡◌, ℕ, ◌+◌, ◌-◌, ◌*◌, ◌<◌, ◌≤◌, true};
 ghost use Rattle.unicode_tables.specs.Word.{is_bracket, word_with};
 
+use crate::alone::{columns_alone, is_plain};
 use crate::bracket::Bracket;
 use crate::page::BLOCK;
 use crate::property::Property;
@@ -21,7 +22,14 @@ pub struct Word {
     pub is_bracket: bool,
     /// Whether it has a mirrored character.
     pub has_mirror: bool,
+    /// Whether it stands in a block without marks, in which most text does.
+    pub is_plain: bool,
+    /// The columns of a cluster of it alone, 0 to 2, where ambiguous characters are narrow.
+    pub columns: u8,
 }
+
+/// From this block on no code point is plain or a mark of direction: the properties tell its word.
+const FIRST_BLOCK_BY_CLASSES: usize = 33;
 
 /// The five properties that words are made of.
 #[derive(Clone, Copy)]
@@ -55,18 +63,23 @@ impl Properties<'_> {
         requires { c < 0x110000 }
         ensures { result ≡ word_with self.now c }
     {
+        let (bidi, lb, ea) = (self.bidi.at(c), self.lb.at(c), self.ea.at(c));
         Word {
-            bidi: self.bidi.at(c),
-            lb: self.lb.at(c),
-            ea: self.ea.at(c),
+            bidi,
+            lb,
+            ea,
             is_bracket: is_bracket(self.bracket.at(c)),
             has_mirror: self.mirror.at(c).is_some(),
+            is_plain: is_plain(c),
+            columns: columns_alone(bidi, lb, ea, c),
         }
     }
 
     /// Whether a block is known to have one word.
+    #[tactic(auto, using(crate::proofs::Marks::words_even))]
     fn are_even(&self, block: usize) -> bool
-        requires { block < 4352 }
+        requires by_classes { 33 ≤ block }
+        requires within { block < 4352 }
         ensures { result ≡ true → (k : ℕ) → k < 256
             → word_with self.now (block * 256 + k) ≡ word_with self.now (block * 256) }
     {
@@ -84,7 +97,7 @@ impl Properties<'_> {
         ensures same { result ≡ true → (k : ℕ) → k < 256
             → word_with self.now (block * 256 + k) ≡ word_with self.now ((block - 1) * 256 + k) }
     {
-        block > 0
+        block > FIRST_BLOCK_BY_CLASSES
             && self.are_even(block - 1)
             && self.are_even(block)
             && are_same(self.word(block * BLOCK), self.word((block - 1) * BLOCK))

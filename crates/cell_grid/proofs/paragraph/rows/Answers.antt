@@ -64,16 +64,16 @@ returns-then-is_separator_alone-clause-may_shift c =
 
 pub levels_at-requires-clause-classes : goal.levels_at-requires-clause-classes
 levels_at-requires-clause-classes c =
-    points-lent c.args.tables.now _ _ _ _ c.deref-3.ensures.value c.in_ok-classes.ensures (c.deref.ensures.value ∙ sym c.deref-2.ensures.value)
+    points-lent c.args.tables.now _ _ _ _ c.deref-4.ensures.value c.in_ok-classes.ensures (c.deref-2.ensures.value ∙ sym c.deref-3.ensures.value)
 
 pub rows_in-requires-clause-text : goal.rows_in-requires-clause-text
 rows_in-requires-clause-text c = c.text-text.utf8
 
 pub rows_in-requires-clause-classes : goal.rows_in-requires-clause-classes
-rows_in-requires-clause-classes c = c.in_ok-classes.ensures ∙ ap (map (bidi_of c.args.tables.now)) (c.deref.ensures.value ∙ c.in_ok-points.ensures)
+rows_in-requires-clause-classes c = c.in_ok-classes.ensures ∙ ap (map (bidi_of c.args.tables.now)) (c.deref-2.ensures.value ∙ c.in_ok-points.ensures)
 
 pub rows_in-requires-clause-levels : goal.rows_in-requires-clause-levels
-rows_in-requires-clause-levels c = c.in_ok-levels.ensures.one_each ∙ ap length (c.deref-2.ensures.value ∙ c.in_ok-points.ensures)
+rows_in-requires-clause-levels c = c.in_ok-levels.ensures.one_each ∙ ap length (c.deref-3.ensures.value ∙ c.in_ok-points.ensures)
 
 pub rows_in-requires-clause-clusters : goal.rows_in-requires-clause-clusters
 rows_in-requires-clause-clusters c = c.in_ok-clusters.ensures.clusters ∙ ap (line_clusters c.args.tables.now) (sym c.text-text.ensures)
@@ -88,8 +88,8 @@ returns-clause-rows c =
     let tables = c.args.tables.now in
     let text = c.args.para.now.text in
     let level = c.paragraph_level-para_level.ensures.level in
-    let own = levels-are tables text c.args.base _ _ _ _ c.in_ok-levels.ensures.levels (c.deref-2.ensures.value ∙ c.in_ok-points.ensures ∙ ap code_points c.text-text.ensures)
-    (points-lent tables _ _ _ _ c.deref-3.ensures.value c.in_ok-classes.ensures (c.deref.ensures.value ∙ sym c.deref-2.ensures.value)) level in
+    let own = levels-are tables text c.args.base _ _ _ _ c.in_ok-levels.ensures.levels (c.deref-3.ensures.value ∙ c.in_ok-points.ensures ∙ ap code_points c.text-text.ensures)
+    (points-lent tables _ _ _ _ c.deref-4.ensures.value c.in_ok-classes.ensures (c.deref-2.ensures.value ∙ sym c.deref-3.ensures.value)) level in
     IfOk-weaker c.rows_in.result _ _
     (λ rows made. rows-are tables c.args.width c.args.base text c.text-text.result.now c.paragraph_level-para_level.result c.in_ok-levels.levels.items rows.items made level c.text-text.ensures own)
     c.rows_in.ensures

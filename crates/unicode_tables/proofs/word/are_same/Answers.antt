@@ -1,5 +1,5 @@
 -- The goals of `are_same` that are answered by hand.
-use Rattle.std.proofs.Common.{◌≡◌, Bool, true, false, refl, sym, ◌∙◌, rules}
+use Rattle.std.proofs.Common.{◌≡◌, Bool, true, false, eqb-true, refl, sym, ◌∙◌, rules}
 use Rattle.std.specs.Prelude.{◌&&◌}
 use Rattle.std.proofs.Math.Bool.{beq}
 use denote.Enum.Bare.{same_true}
@@ -25,6 +25,8 @@ returns c = λ on.
     let lb = both _ _ bidi.1 in
     let ea = both _ _ lb.1 in
     let marks = both _ _ ea.1 in
+    let mirror = both _ _ marks.1 in
+    let plain = both _ _ mirror.1 in
     same_word
     (same_true bidi_type (search rules) _ _ bidi.0) (same_true lb_type (search rules) _ _ lb.0) (same_true ea_type (search rules) _ _ ea.0)
-    (same_bool _ _ marks.0) (same_bool _ _ marks.1)
+    (same_bool _ _ marks.0) (same_bool _ _ mirror.0) (same_bool _ _ plain.0) (eqb-true _ _ plain.1)

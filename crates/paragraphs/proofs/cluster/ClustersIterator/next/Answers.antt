@@ -9,11 +9,10 @@ pub returns-clause-steps : goal.returns-clause-steps
 returns-clause-steps c =
     let text = c.rest-text.result.now in
     let cluster = c.in_ok-cluster.cluster.now in
-    let rest = c.as_str.result.now in
+    let rest = c.as_str-self-inside.result.now in
     let first = sym c.graphemes-graphemes.ensures.left ∙ c.in_ok-cluster.ensures.steps in
-    let joined = sym (concat-clusters text c.rest-text.utf8) ∙ ap concat first ∙ ap (λ t. cluster ++ t) (sym c.as_str.ensures) in
-    c.rest-text.ensures ∙ first
-    ∙ ap (λ left. cluster ∷ left) (sym (clusters-rest text cluster rest _ c.rest-text.utf8 c.as_str.utf8 first joined) ∙ sym c.of.ensures)
+    let joined = sym (concat-clusters text c.rest-text.utf8) ∙ ap concat first ∙ ap (λ t. cluster ++ t) (sym c.as_str-self-inside.ensures) in
+    c.rest-text.ensures ∙ first ∙ ap (λ left. cluster ∷ left) (sym (clusters-rest text cluster rest _ c.rest-text.utf8 c.as_str-self-inside.utf8 first joined))
 
 pub returns-clause-goes : goal.returns-clause-goes
 returns-clause-goes c =

@@ -1,14 +1,14 @@
 //! Sets of character classes.
 
 ghost use Rattle.std.specs.Prelude.{◌≡◌};
-ghost use Rattle.paragraphs.specs.Classes.{is_separator, is_line_end, is_wide, is_ambiguous};
+ghost use Rattle.unicode_tables.specs.Classes.{is_separator, is_line_end, is_wide, is_ambiguous};
 
 use bg_types::{Bidi, Ea, Lb};
 
 /// Whether a character of this class ends a paragraph (P1).
 #[inline]
 #[tactic(auto, unfolding(crate::specs::Classes::is_separator))]
-pub(crate) fn is_separator(class: Bidi) -> bool
+pub fn is_separator(class: Bidi) -> bool
     ensures { result ≡ is_separator class }
 {
     matches!(class, Bidi::B)
@@ -17,7 +17,7 @@ pub(crate) fn is_separator(class: Bidi) -> bool
 /// Whether a line must end after a character of this class (LB4, LB5).
 #[inline]
 #[tactic(auto, unfolding(crate::specs::Classes::is_line_end))]
-pub(crate) fn is_line_end(class: Lb) -> bool
+pub fn is_line_end(class: Lb) -> bool
     ensures { result ≡ is_line_end class }
 {
     matches!(class, Lb::Bk | Lb::Cr | Lb::Lf | Lb::Nl)
@@ -26,7 +26,7 @@ pub(crate) fn is_line_end(class: Lb) -> bool
 /// Whether a character of this width takes two columns.
 #[inline]
 #[tactic(auto, unfolding(crate::specs::Classes::is_wide))]
-pub(crate) fn is_wide(width: Ea) -> bool
+pub fn is_wide(width: Ea) -> bool
     ensures { result ≡ is_wide width }
 {
     matches!(width, Ea::W | Ea::F)
@@ -35,7 +35,7 @@ pub(crate) fn is_wide(width: Ea) -> bool
 /// Whether the context decides how wide a character of this East_Asian_Width is.
 #[inline]
 #[tactic(auto, unfolding(crate::specs::Classes::is_ambiguous))]
-pub(crate) fn is_ambiguous(width: Ea) -> bool
+pub fn is_ambiguous(width: Ea) -> bool
     ensures { result ≡ is_ambiguous width }
 {
     matches!(width, Ea::A)
