@@ -1,4 +1,4 @@
--- The column of a code point.
+-- The column of a word.
 use Rattle.std.proofs.Common.{◌≡◌, ℕ, Bool, true, false, refl, subst, arith, if◌then◌else◌}
 use Rattle.bg_types.specs.Classes.{is_nonspacing}
 use Rattle.bg_types.specs.declared.class.Bidi.{Bidi}
@@ -6,9 +6,9 @@ use Rattle.bg_types.specs.declared.class.Lb.{Lb}
 use Rattle.bg_types.specs.declared.class.Lb.TheVariants.{Cp, Op, Sa}
 use Rattle.bg_types.specs.contracts.class.Lb.{the_type}
 use denote.Enum.Declared.{tag_of}
-use Rattle.unicode_tables.specs.Tables.{TableValues, bidi_of, lb_of, ea_of}
+use Rattle.unicode_tables.specs.declared.word.Word.{Word}
 use Rattle.line_break.specs.Classes.{one_of, resolved, is_east_asian}
-use Rattle.line_break.specs.Items.{Item, point_of}
+use Rattle.line_break.specs.Items.{Item, point_of_word}
 use Rattle.line_break.specs.States.{columns, IsColumn}
 
 -- a code point of this class of the data file
@@ -42,7 +42,6 @@ module _ (bidi : Bidi) where
   column-other Sa w cp op sa = absurd (sa refl)
   column-other _ w cp op sa = record { within = omega arith; same = refl }
 
--- the same of a character whose class is known
-pub IsColumn-of : (tables : TableValues) (c : ℕ) (x : Lb) (n : ℕ) → x ≡ lb_of tables c
-    → IsColumn (of_class (bidi_of tables c) x (is_east_asian (ea_of tables c))) n → IsColumn (point_of tables c) n
-IsColumn-of tables c x n e k = subst (λ y. IsColumn (of_class (bidi_of tables c) y (is_east_asian (ea_of tables c))) n) e k
+-- the same of a word whose class is known
+pub IsColumn-of : (word : Word) (x : Lb) (n : ℕ) → x ≡ word.lb → IsColumn (of_class word.bidi x (is_east_asian word.ea)) n → IsColumn (point_of_word word) n
+IsColumn-of word x n e k = subst (λ y. IsColumn (of_class word.bidi y (is_east_asian word.ea)) n) e k

@@ -15,3 +15,4 @@ pub mod Afresh
 pub mod Alone
 pub mod Gathered
 pub mod Interface
+pub mod OneColumns

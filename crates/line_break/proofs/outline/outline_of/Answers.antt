@@ -121,7 +121,7 @@ index-requires c =
     let fits = points-within t p _ _ c.loop-measure.place c.loop-measure.invariant.measured cluster _ at in
     let some = points-some t p _ _ c.loop-measure.place c.loop-measure.invariant.measured cluster _ at in
     let size = ap (λ (x : Measure). x.size) c.in-Some.ensures.measured in
-    let all = ap length (breaks-of t p c.args.points.now _ c.requires.points c.in_ok-statuses.ensures) in
+    let all = ap length (breaks-of t p c.args.points.now c.args.words.now _ c.requires.points c.requires.words c.in_ok-statuses.ensures) in
     omega arith
 
 pub loop-measure-smaller : goal.loop-measure-smaller
@@ -147,7 +147,7 @@ loop-measure-preserved c =
       measured =
           IsMeasuredTo-on t p _ _ c.loop-measure.place m cluster _ at _ here.size _ size
           (measured-is t (code_points cluster) c.in_ok-statuses.statuses.items (breaks t p) c.loop-measure.place here.size
-          here.columns here.is_space c.index.result.now (breaks-of t p c.args.points.now _ c.requires.points c.in_ok-statuses.ensures) size some fits columns is_space c.index.ensures)
+          here.columns here.is_space c.index.result.now (breaks-of t p c.args.points.now c.args.words.now _ c.requires.points c.requires.words c.in_ok-statuses.ensures) size some fits columns is_space c.index.ensures)
           c.push_reserved-in-Some-3.ensures.items;
       spans = HasRoom-on _ _ _ _ here.size _ _ c.loop-measure.invariant.spans (omega arith) c.push_reserved.ensures.len c.push_reserved.ensures.capacity;
       sizes = HasRoom-on _ _ _ _ here.size _ _ c.loop-measure.invariant.sizes (omega arith) c.push_reserved-in-Some.ensures.len c.push_reserved-in-Some.ensures.capacity;

@@ -8,6 +8,6 @@ use Rattle.line_break.proofs.status.opportunities.Goals as goal
 pub returns : goal.returns
 returns c =
     IfOk-weaker c.statuses_of.result _ _
-    (λ v e. breaks-of c.args.tables.now c.args.para.now.text c.deref.result.now _
-    (c.deref.ensures.value ∙ c.in_ok-points.ensures ∙ ap code_points c.text.ensures) e)
+    (λ v e. breaks-of c.args.tables.now c.args.para.now.text c.deref.result.now c.deref-2.result.now _
+    (c.deref.ensures.value ∙ c.in_ok-points.ensures ∙ ap code_points c.text.ensures) (c.deref-2.ensures.value ∙ c.in_ok-words.ensures) e)
     c.statuses_of.ensures
