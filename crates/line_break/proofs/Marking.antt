@@ -1,8 +1,8 @@
 -- The statuses of code points, one further.
-use Rattle.std.proofs.Common.{◌≡◌, ℕ, zero, suc, ◌+◌, ◌-◌, ◌<◌, ◌≤◌, Some, List, [], ◌∷◌, ◌++◌, map, length, take, drop, get_or, sym, ap, ◌∙◌, arith}
+use Rattle.std.proofs.Common.{◌≡◌, ℕ, zero, suc, ◌+◌, ◌-◌, ◌<◌, ◌≤◌, Some, List, [], ◌∷◌, ◌++◌, map, length, take, drop, get_or, refl, sym, ap, ◌∙◌, arith}
 use Rattle.std.specs.List.{slice_get}
 use Rattle.std.proofs.Math.Seq.{take-length}
-use Rattle.std.proofs.lemmas.List.{append_assoc, drop-drop, length-drop, nil_from_length}
+use Rattle.std.proofs.lemmas.List.{append_assoc, drop-drop, drop-map, length-drop, nil_from_length}
 use Rattle.std.proofs.lemmas.Simd.{map-map}
 use Rattle.unicode_tables.specs.Tables.{TableValues}
 use Rattle.unicode_tables.specs.Word.{word_of}
@@ -74,19 +74,20 @@ behind_first words = take (length words - 1) (drop 1 words)
 pub slice-from : {A : Type 0} (i : ℕ) (xs : List A) → take (length xs - i) (drop i xs) ≡ drop i xs
 slice-from i xs = ap (λ k. take k (drop i xs)) (sym (length-drop i xs)) ∙ take-length (drop i xs)
 
-drop-at : (words : List Word) (i : ℕ) (word : Word) → i < length words → word ≡ get_or words i word → drop i words ≡ word ∷ drop (suc i) words
-drop-at [] i word lt at = absurd (omega arith)
-drop-at (w ∷ words) zero word lt at = ap (λ x. x ∷ words) (sym at)
-drop-at (w ∷ words) (suc i) word lt at = drop-at words i word (omega arith) at
+drop-at : (words : List Word) (i : ℕ) (d : Word) → i < length words → drop i words ≡ get_or words i d ∷ drop (suc i) words
+drop-at [] i d lt = absurd (omega arith)
+drop-at (w ∷ words) zero d lt = refl
+drop-at (w ∷ words) (suc i) d lt = drop-at words i d (omega arith)
 
 module _ (words : List Word) (i : ℕ) where
-  pub next-word : (word : Word) → i < length (behind_first words) → word ≡ get_or (behind_first words) i word → drop (1 + i) words ≡ word ∷ drop (1 + (i + 1)) words
-  next-word word lt at =
+  pub next-word : (d : Word) → i < length (behind_first words) → drop (1 + i) words ≡ get_or (behind_first words) i d ∷ drop (1 + (i + 1)) words
+  next-word d lt =
       let same = slice-from 1 words in
       let n = ap length same in
       let next : suc i ≡ i + 1 = omega arith in
-      sym (drop-drop i 1 words) ∙ drop-at (drop 1 words) i word (omega arith) (at ∙ ap (λ xs. get_or xs i word) same)
-      ∙ ap (λ xs. word ∷ xs) (drop-drop (suc i) 1 words ∙ ap (λ k. drop (1 + k) words) next)
+      sym (drop-drop i 1 words) ∙ drop-at (drop 1 words) i d (omega arith)
+      ∙ ap (λ xs. get_or xs i d ∷ drop (suc i) (drop 1 words)) (sym same)
+      ∙ ap (λ xs. get_or (behind_first words) i d ∷ xs) (drop-drop (suc i) 1 words ∙ ap (λ k. drop (1 + k) words) next)
 
   pub no_word : length (behind_first words) ≤ i → drop (1 + i) words ≡ []
   no_word le =
@@ -94,3 +95,9 @@ module _ (words : List Word) (i : ℕ) where
       let whole = length-drop 1 words in
       let left = length-drop (1 + i) words in
       nil_from_length (drop (1 + i) words) (omega arith)
+
+-- the words of the code points from a place on
+pub words-from : (tables : TableValues) (points : List ℕ) (words : List Word) (i : ℕ) → words ≡ map (word_of tables) points
+    → take (length words - i) (drop i words) ≡ map (word_of tables) (take (length points - i) (drop i points))
+words-from tables points words i each =
+    slice-from i words ∙ ap (drop i) each ∙ drop-map (word_of tables) i points ∙ ap (map (word_of tables)) (sym (slice-from i points))

@@ -1,6 +1,6 @@
 //! The clusters of a text (UAX #29).
 
-ghost use Rattle.std.specs.Prelude.{◌≡◌, ◌<◌, true, map, List, [], ◌∷◌, length, take, drop, encode_utf8, MatchOption};
+ghost use Rattle.std.specs.Prelude.{◌≡◌, ◌<◌, true, map, List, [], ◌∷◌, length, take, drop, encode_utf8, IfSome, MatchOption};
 ghost use Rattle.std.specs.List.{concat};
 ghost use Rattle.unicode_segmentation.specs.Grapheme.{is_grapheme_break};
 ghost use Rattle.paragraphs.specs.Text.{code_points};
@@ -58,7 +58,8 @@ impl<'a> Clusters<'a> {
     pub fn next_alone(&mut self, points: &[char], words: &[Word]) -> Option<char>
         requires points { points.now ≡ code_points (concat self.old) }
         requires words { map (λ (w : Word). w.is_plain) words.now ≡ map is_plain points.now }
-        ensures { MatchOption result (self.new ≡ self.old) (λ c. self.old ≡ encode_utf8 c ∷ self.new) }
+        ensures taken { MatchOption result (self.new ≡ self.old) (λ c. self.old ≡ encode_utf8 c ∷ self.new) }
+        ensures first { IfSome result (λ c. points.now ≡ c ∷ drop 1 points.now) }
     {
         let text = self.rest();
         let c = *points.first()?;

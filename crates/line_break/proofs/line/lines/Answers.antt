@@ -12,12 +12,12 @@ use Rattle.line_break.proofs.line.lines.Goals as goal
 
 pub lines_of-requires-clause-columns : goal.lines_of-requires-clause-columns
 lines_of-requires-clause-columns c =
-    All-same (λ (x : Cluster). x.columns ≤ 2) _ _ c.deref-2.ensures.value c.in_ok-outline.ensures.most
+    All-same (λ (x : Cluster). x.columns ≤ 2) _ _ c.deref-4.ensures.value c.in_ok-outline.ensures.most
 
 pub returns-clause-joined : goal.returns-clause-joined
 returns-clause-joined c =
     let part = λ (line : Line). slice_range (clusters c.args.para.now.text) line.start line.end in
     IfOk-weaker c.lines_of.result _ _
-    (λ v e. ap (flat_map part) (e ∙ ap (lines_of c.args.width) (c.deref-2.ensures.value ∙ c.in_ok-outline.ensures.clusters))
+    (λ v e. ap (flat_map part) (e ∙ ap (lines_of c.args.width) (c.deref-4.ensures.value ∙ c.in_ok-outline.ensures.clusters))
     ∙ joined-lines c.args.tables.now c.args.para.now.text c.args.width)
     c.lines_of.ensures

@@ -7,7 +7,7 @@ use Rattle.paragraphs.specs.Text.{code_points}
 use Rattle.line_break.specs.declared.cluster.Cluster.{Cluster}
 use Rattle.line_break.specs.declared.measure.Measure.{Measure}
 use Rattle.line_break.specs.Statuses.{breaks}
-use Rattle.line_break.proofs.Marking.{breaks-of, slice-from}
+use Rattle.line_break.proofs.Marking.{breaks-of, slice-from, words-from}
 use Rattle.line_break.proofs.Measuring.{length-breaks, IsMeasuredTo-start, line_clusters-end, IsMeasuredTo-on, measured-is, two-line_clusters}
 use Rattle.line_break.proofs.Measuring.{cluster-some as points-some, cluster-fits as points-within}
 use Rattle.line_break.proofs.Outlining.{IsUtf8-concat, IsOutlinedTo-start, cluster-some, cluster-fits, cluster-points, cluster-end, IsOutlinedTo-at, HasRoom-on, spans-end, sizes-end}
@@ -44,6 +44,9 @@ of_next-requires-clause-few c =
 pub of_next-requires-clause-points : goal.of_next-requires-clause-points
 of_next-requires-clause-points c =
     slice-from c.loop-measure.place c.args.points.now ∙ ap (drop c.loop-measure.place) c.requires.points ∙ c.loop-measure.invariant.outlined.points
+
+pub of_next-requires-clause-words : goal.of_next-requires-clause-words
+of_next-requires-clause-words c = words-from c.args.tables.now c.args.points.now c.args.words.now c.loop-measure.place c.requires.words
 
 pub overflow_sub-span : goal.overflow_sub-span
 overflow_sub-span c =

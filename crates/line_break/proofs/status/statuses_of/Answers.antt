@@ -19,8 +19,8 @@ loop-word-preserved c =
     let m = c.loop-word.invariant.marked in
     record {
       marked =
-          IsMarkedTo-on c.args.words.now _ _ _ m c.word-item.result _ c.status_before.result _ _
-          (next-word c.args.words.now c.loop-word.word-index c.word-item.result c.loop-word-test.true c.word-item.is)
+          IsMarkedTo-on c.args.words.now _ _ _ m _ _ c.status_before.result _ _
+          (next-word c.args.words.now c.loop-word.word-index _ c.loop-word-test.true)
           (c.status_before.ensures m.front m.behind _ c.column_of-column.ensures)
           c.push_reserved.ensures.items
           (c.next-state-in-loop-word.ensures m.front m.behind _ c.column_of-column.ensures);

@@ -1,12 +1,24 @@
 -- A cluster of one character, as its bytes.
-use Rattle.std.proofs.Common.{ap, sym, ◌∙◌}
+use Rattle.std.proofs.Common.{List, map, length, get_or, ap, sym, ◌∙◌, arith}
 use Rattle.std.specs.Prelude.{encode_utf8}
+use Rattle.std.proofs.lemmas.Simd.{map-map}
+use Rattle.unicode_tables.specs.Word.{word_of}
+use Rattle.unicode_tables.specs.declared.word.Word.{Word}
 use Rattle.line_break.specs.Measures.{measure_of}
 use Rattle.line_break.proofs.measure.Measure.of_next.Goals as goal
+
+pub next_alone-requires-clause-words : goal.next_alone-requires-clause-words
+next_alone-requires-clause-words c = ap (map (λ (w : Word). w.is_plain)) c.requires.words ∙ map-map (λ (w : Word). w.is_plain) (word_of c.args.tables.now) c.args.points.now
+
+pub bounds-words-0 : goal.bounds-words-0
+bounds-words-0 c = let words = ap length (c.requires.words ∙ ap (map (word_of c.args.tables.now)) c.in-Some.ensures.first) in omega arith
+
+pub of_one-requires : goal.of_one-requires
+of_one-requires c = ap (λ (words : List Word). get_or words 0 _) (c.requires.words ∙ ap (map (word_of c.args.tables.now)) c.in-Some.ensures.first)
 
 pub returns-in-Some : goal.returns-in-Some
 returns-in-Some c = record {
   cluster = encode_utf8 c.in-Some.c;
-  taken = c.in-Some.ensures;
+  taken = c.in-Some.ensures.taken;
   measured = c.of_one.ensures.measured ∙ ap (measure_of c.args.tables.now) (sym c.of_one.ensures.points);
 }
