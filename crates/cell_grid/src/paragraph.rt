@@ -3,6 +3,7 @@
 ghost use Rattle.std.specs.Prelude.{◌≡◌, ℕ, ◌+◌, ◌≤◌, length, map, slice_range, IfOk};
 ghost use Rattle.std.specs.List.{All};
 ghost use Rattle.std.specs.Str.{IsUtf8};
+ghost use Rattle.unicode_tables.specs.declared.word.Word.{Word};
 ghost use Rattle.paragraphs.specs.Text.{code_points};
 ghost use Rattle.paragraphs.specs.Clusters.{clusters, cluster_sizes};
 ghost use Rattle.paragraphs.specs.Spans.{spans};
@@ -24,7 +25,7 @@ use line_break::{Line, Outline, lines_of, outline_of};
 use paragraphs::{Para, Span, code_points_of};
 use reorder::line_levels_at;
 use std::alloc::Global;
-use unicode_tables::Tables;
+use unicode_tables::{Tables, Word};
 
 /// What the rows of a paragraph are made of.
 #[derive(Drop)]
@@ -119,6 +120,13 @@ fn rows_in(alloc: Global, material: &Material, width: u16) -> Result<Vec<Row>, M
     Ok(rows)
 }
 
+/// The Bidi class that each of these words tells.
+fn classes_of(alloc: Global, words: &[Word]) -> Result<Vec<Bidi>, Memory>
+    ensures { IfOk result (λ classes. classes.items ≡ map (λ (w : Word). w.bidi) words.now) }
+{
+    Ok(words.iter().map(|word| word.bidi).collect(alloc)?)
+}
+
 /// The rows of a paragraph of at most 4,000,000 bytes at a width in columns, from the top, with bytes and
 /// places counted from the paragraph's start.
 /// Cost: O(n), 20 bytes of memory a cluster.
@@ -145,7 +153,7 @@ pub fn rows(
     }
     let points = code_points_of(alloc, text)?;
     let words = tables.words_of_each(alloc, &points)?;
-    let classes = tables.bidi_of_each(alloc, &points)?;
+    let classes = classes_of(alloc, &words)?;
     let levels = levels_at(alloc, tables, para_level, &points, &classes)?;
     let clusters = outline_of(alloc, tables, para, &points, &words)?;
     let material = Material {

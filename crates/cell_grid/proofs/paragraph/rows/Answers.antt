@@ -1,11 +1,14 @@
 -- A row for each line.
 use Rattle.std.proofs.Common.{◌≡◌, ℕ, ◌∷◌, [], List, length, map, sym, ap, subst, ◌∙◌}
 use Rattle.std.proofs.lemmas.Result.{IfOk-weaker}
+use Rattle.std.proofs.lemmas.Simd.{map-map}
 use Rattle.std.specs.List.{All}
 use Rattle.std.specs.Str.{IsUtf8}
 use Rattle.bg_types.specs.declared.class.Bidi.{Bidi}
 use Rattle.bg_types.specs.declared.class.Base.{Base}
 use Rattle.unicode_tables.specs.Tables.{TableValues, bidi_of}
+use Rattle.unicode_tables.specs.Word.{word_of}
+use Rattle.unicode_tables.specs.declared.word.Word.{Word}
 use Rattle.paragraphs.specs.Text.{code_points}
 use Rattle.bidi_explicit.specs.Embedding.{paragraph_level, classes_of, embedding_at}
 use Rattle.bidi_weak_neutral.specs.Levels.{levels_of, resolved_levels}
@@ -24,6 +27,11 @@ use Rattle.cell_grid.proofs.paragraph.rows.Goals as goal
 points-lent : (tables : TableValues) (classes lent : List Bidi) (once twice : List ℕ) → lent ≡ classes → classes ≡ map (bidi_of tables) once → once ≡ twice
     → lent ≡ map (bidi_of tables) twice
 points-lent tables classes lent once twice a b d = a ∙ b ∙ ap (map (bidi_of tables)) d
+
+-- the classes that the words of points tell
+classes-told : (tables : TableValues) (classes : List Bidi) (words lent : List Word) (points : List ℕ) → classes ≡ map (λ (w : Word). w.bidi) lent → lent ≡ words
+    → words ≡ map (word_of tables) points → classes ≡ map (bidi_of tables) points
+classes-told tables classes words lent points a b d = a ∙ ap (map (λ (w : Word). w.bidi)) (b ∙ d) ∙ map-map (λ (w : Word). w.bidi) (word_of tables) points
 
 -- the levels of the points are those of the text
 levels-are : (tables : TableValues) (text : List ℕ) (base : Base) (found points : List ℕ) (classes : List Bidi) (level : ℕ) → found ≡ resolved_levels tables points (embedding_at level classes)
@@ -64,13 +72,15 @@ returns-then-is_separator_alone-clause-may_shift c =
 
 pub levels_at-requires-clause-classes : goal.levels_at-requires-clause-classes
 levels_at-requires-clause-classes c =
-    points-lent c.args.tables.now _ _ _ _ c.deref-4.ensures.value c.in_ok-classes.ensures (c.deref-2.ensures.value ∙ sym c.deref-3.ensures.value)
+    points-lent c.args.tables.now _ _ _ _ c.deref-4.ensures.value (classes-told c.args.tables.now _ _ _ _ c.in_ok-classes.ensures c.deref-2.ensures.value c.in_ok-words.ensures) (c.deref.ensures.value ∙ sym c.deref-3.ensures.value)
 
 pub rows_in-requires-clause-text : goal.rows_in-requires-clause-text
 rows_in-requires-clause-text c = c.text-text.utf8
 
 pub rows_in-requires-clause-classes : goal.rows_in-requires-clause-classes
-rows_in-requires-clause-classes c = c.in_ok-classes.ensures ∙ ap (map (bidi_of c.args.tables.now)) (c.deref-2.ensures.value ∙ c.in_ok-points.ensures)
+rows_in-requires-clause-classes c =
+    classes-told c.args.tables.now _ _ _ _ c.in_ok-classes.ensures c.deref-2.ensures.value c.in_ok-words.ensures
+    ∙ ap (map (bidi_of c.args.tables.now)) (c.deref.ensures.value ∙ c.in_ok-points.ensures)
 
 pub rows_in-requires-clause-levels : goal.rows_in-requires-clause-levels
 rows_in-requires-clause-levels c = c.in_ok-levels.ensures.one_each ∙ ap length (c.deref-3.ensures.value ∙ c.in_ok-points.ensures)
@@ -89,7 +99,7 @@ returns-clause-rows c =
     let text = c.args.para.now.text in
     let level = c.paragraph_level-para_level.ensures.level in
     let own = levels-are tables text c.args.base _ _ _ _ c.in_ok-levels.ensures.levels (c.deref-3.ensures.value ∙ c.in_ok-points.ensures ∙ ap code_points c.text-text.ensures)
-    (points-lent tables _ _ _ _ c.deref-4.ensures.value c.in_ok-classes.ensures (c.deref-2.ensures.value ∙ sym c.deref-3.ensures.value)) level in
+    (points-lent tables _ _ _ _ c.deref-4.ensures.value (classes-told c.args.tables.now _ _ _ _ c.in_ok-classes.ensures c.deref-2.ensures.value c.in_ok-words.ensures) (c.deref.ensures.value ∙ sym c.deref-3.ensures.value)) level in
     IfOk-weaker c.rows_in.result _ _
     (λ rows made. rows-are tables c.args.width c.args.base text c.text-text.result.now c.paragraph_level-para_level.result c.in_ok-levels.levels.items rows.items made level c.text-text.ensures own)
     c.rows_in.ensures
