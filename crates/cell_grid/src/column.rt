@@ -1,6 +1,6 @@
 //! The columns of a line's clusters.
 
-ghost use Rattle.std.specs.Prelude.{◌≡◌, ◌+◌, ◌^◌, ◌<◌, ◌≤◌, nat_le, sum, IfOk};
+ghost use Rattle.std.specs.Prelude.{◌≡◌, ◌+◌, ◌^◌, ◌<◌, ◌≤◌, length, sum, IfOk};
 ghost use Rattle.cell_grid.specs.Cells.{ColumnsFollow, total};
 ghost use Rattle.cell_grid.specs.Hanging.{hung};
 ghost use Rattle.cell_grid.specs.Rows.{start_column};
@@ -9,18 +9,12 @@ use crate::entry::Entry;
 use bg_types::Memory;
 use std::alloc::Global;
 
-/// Whether clusters of these columns fit.
-pub(crate) fn fit(width: u16, columns: &[u8]) -> bool
-    ensures { result ≡ nat_le (sum columns.now) width }
+/// The columns of at most 4,000,000 clusters together.
+pub(crate) fn sum_of(columns: &[u8]) -> usize
+    requires { length columns.now ≤ 4_000_000 }
+    ensures { result ≡ sum columns.now }
 {
-    let mut room = width;
-    for own in columns {
-        if u16::from(*own) > room {
-            return false;
-        }
-        room -= u16::from(*own);
-    }
-    true
+    columns.iter().map(|own| usize::from(*own)).sum()
 }
 
 /// Each cluster takes its columns while there is room; the first that does not fit and all later

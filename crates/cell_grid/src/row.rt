@@ -10,7 +10,7 @@ ghost use Rattle.cell_grid.specs.Separators.{separator_row};
 ghost use Rattle.cell_grid.specs.Shifting.{MayShift, MayShiftRow};
 
 use crate::cell::{Cell, Cells, cell_in};
-use crate::column::{end_column, fit, hung, start_column};
+use crate::column::{end_column, hung, start_column, sum_of};
 use crate::entry::{Entry, entries_from};
 use crate::span::{extent, shifted};
 use bg_types::Memory;
@@ -96,7 +96,7 @@ impl Row {
         requires count { length spans.now ≤ 4_000_000 }
         ensures { IfOk result (λ row. row ≡ row_with width para_level spans.now levels.now (hung width own.now)) }
     {
-        if fit(width, own) {
+        if sum_of(own) <= usize::from(width) {
             return Row::with(alloc, width, para_level, spans, levels, own);
         }
         let columns = hung(alloc, width, own)?;

@@ -11,6 +11,7 @@ pub mod LinesLeft
 pub mod Breaking
 pub mod Joining
 pub mod Measuring
+pub mod Spaces
 pub mod Outlining
 pub mod Following
 pub mod Fitting

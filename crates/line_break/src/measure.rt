@@ -5,9 +5,7 @@ ghost use Rattle.std.specs.List.{All, concat};
 ghost use Rattle.unicode_tables.specs.Word.{word_of};
 ghost use Rattle.paragraphs.specs.Text.{code_points};
 
-use crate::class::is_one_of;
 use crate::cluster::is_space;
-use bg_types::Lb;
 use paragraphs::{Clusters, columns, columns_of_one};
 use unicode_tables::{Tables, Word};
 
@@ -54,7 +52,7 @@ impl Measure {
         Measure {
             size: 1,
             columns: columns_of_one(tables, word, c),
-            is_space: is_one_of(word.lb, &[Lb::Sp]),
+            is_space: word.is_space,
         }
     }
 

@@ -40,7 +40,7 @@ pub(crate) fn is_break(status: Break) -> bool
 
 /// The status of the boundary after each code point of a paragraph, in order (UAX #14, in the
 /// profile of this crate's rules). The last one is Must.
-/// Cost: O(n), 12 bytes of memory a code point.
+/// Cost: O(n), 13 bytes of memory a code point.
 pub fn opportunities(alloc: Global, tables: &Tables, para: &Para) -> Result<Vec<Break>, Memory>
     ensures { IfOk result (λ v. v.items ≡ breaks tables.now para.now.text) }
 {

@@ -15,8 +15,18 @@ fn is_reset(class: Bidi, follower_is_reset: bool) -> bool
 {
     match class {
         Bidi::S | Bidi::B => true,
-        Bidi::Ws => follower_is_reset,
-        _ => (class.is_isolate_control() || class.is_removed()) && follower_is_reset,
+        Bidi::Ws
+        | Bidi::Lri
+        | Bidi::Rli
+        | Bidi::Fsi
+        | Bidi::Pdi
+        | Bidi::Lre
+        | Bidi::Rle
+        | Bidi::Lro
+        | Bidi::Rlo
+        | Bidi::Pdf
+        | Bidi::Bn => follower_is_reset,
+        _ => false,
     }
 }
 

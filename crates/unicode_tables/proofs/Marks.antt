@@ -14,6 +14,7 @@ use Rattle.unicode_tables.specs.declared.word.Word.{Word}
 use Rattle.unicode_tables.specs.declared.word.Properties.{Properties}
 use Rattle.unicode_tables.specs.declared.words.Words.{Words}
 use Rattle.unicode_tables.specs.Tables.{TableValues, tables_of_lists, bracket_of, mirror_of}
+use Rattle.unicode_tables.specs.Classes.{is_space}
 use Rattle.unicode_tables.specs.Alone.{is_plain, is_direction_mark, columns_alone}
 use Rattle.unicode_tables.specs.Word.{is_bracket, word_of_lists, word_of, word_with}
 use Rattle.unicode_tables.specs.Words.{word_in, HasMarks, tables_of_words}
@@ -41,6 +42,7 @@ words-marks bidi bracket mirror lb ea words is = record {
   mirrors = λ c h. ap (λ w. w.has_mirror) (is c h);
   plain = λ c h. ap (λ w. w.is_plain) (is c h);
   columns = λ c h. subst (λ (w : Word). w.columns ≡ columns_alone w.bidi w.lb w.ea c) (sym (is c h)) refl;
+  spaces = λ c h. subst (λ (w : Word). w.is_space ≡ is_space w.lb) (sym (is c h)) refl;
 }
 
 pub not_bracket : (bracket : Bracket) → is_bracket bracket ≡ false → bracket ≡ no_bracket
@@ -52,10 +54,10 @@ pub not_mirror : (mirror : Option ℕ) → is_some mirror ≡ false → mirror �
 not_mirror None h = refl
 not_mirror (Some c) h = absurd cc
 
-pub same_word : {b b' : Bidi} {l l' : Lb} {e e' : Ea} {k k' m m' i i' : Bool} {n n' : ℕ} → b ≡ b' → l ≡ l' → e ≡ e' → k ≡ k' → m ≡ m' → i ≡ i' → n ≡ n'
-    → ◌≡◌ {A = Word} (record { bidi = b; lb = l; ea = e; is_bracket = k; has_mirror = m; is_plain = i; columns = n })
-    (record { bidi = b'; lb = l'; ea = e'; is_bracket = k'; has_mirror = m'; is_plain = i'; columns = n' })
-same_word p q r s t u v = cc
+pub same_word : {b b' : Bidi} {l l' : Lb} {e e' : Ea} {k k' m m' i i' s s' : Bool} {n n' : ℕ} → b ≡ b' → l ≡ l' → e ≡ e' → k ≡ k' → m ≡ m' → i ≡ i' → n ≡ n' → s ≡ s'
+    → ◌≡◌ {A = Word} (record { bidi = b; lb = l; ea = e; is_bracket = k; has_mirror = m; is_plain = i; columns = n; is_space = s })
+    (record { bidi = b'; lb = l'; ea = e'; is_bracket = k'; has_mirror = m'; is_plain = i'; columns = n'; is_space = s' })
+same_word p q r s t u v w = cc
 
 same_columns : {b b' : Bidi} {l l' : Lb} {e e' : Ea} (c : ℕ) → b ≡ b' → l ≡ l' → e ≡ e' → columns_alone b l e c ≡ columns_alone b' l' e' c
 same_columns {b} {b'} {l} {l'} {e} {e'} c p q r = ap (λ x. columns_alone x l e c) p ∙ ap (λ x. columns_alone b' x e c) q ∙ ap (λ x. columns_alone b' l' x c) r
@@ -70,7 +72,7 @@ word-found words bracket mirror c h marks =
     same_word bidi lb ea
     (marks.brackets c h ∙ ap is_bracket (sym (each_below-at 0x110000 (λ k. get_or bracket k no_bracket) c no_bracket h)))
     (marks.mirrors c h ∙ ap is_some (sym (each_below-at 0x110000 (λ k. get_or mirror k None) c None h)))
-    (marks.plain c h) (marks.columns c h ∙ same_columns c bidi lb ea)
+    (marks.plain c h) (marks.columns c h ∙ same_columns c bidi lb ea) (marks.spaces c h ∙ ap is_space lb)
 
 -- a code point whose word has no mark has no bracket, or no mirror
 pub bracket-absent : (words : Words) (bracket : List Bracket) (mirror : List (Option ℕ)) (c : ℕ) → c < 0x110000 → HasMarks words bracket mirror

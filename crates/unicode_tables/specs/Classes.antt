@@ -3,7 +3,7 @@ use Rattle.std.specs.Prelude.{Bool, true, false}
 use Rattle.bg_types.specs.declared.class.Bidi.{Bidi}
 use Rattle.bg_types.specs.declared.class.Bidi.TheVariants.{B}
 use Rattle.bg_types.specs.declared.class.Lb.{Lb}
-use Rattle.bg_types.specs.declared.class.Lb.TheVariants.{Bk, Cr, Lf, Nl}
+use Rattle.bg_types.specs.declared.class.Lb.TheVariants.{Bk, Cr, Lf, Nl, Sp}
 use Rattle.bg_types.specs.declared.class.Ea.{Ea}
 use Rattle.bg_types.specs.declared.class.Ea.TheVariants.{A, F, W}
 unfoldable pub use Rattle.bg_types.specs.Classes.{is_removed, is_isolate_control}
@@ -20,6 +20,11 @@ is_line_end Cr = true
 is_line_end Lf = true
 is_line_end Nl = true
 is_line_end _ = false
+
+-- UAX #14: the class of spaces
+unfoldable pub is_space : Lb → Bool
+is_space Sp = true
+is_space _ = false
 
 -- UAX #11: the widths of two columns
 unfoldable pub is_wide : Ea → Bool

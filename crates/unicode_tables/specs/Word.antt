@@ -11,6 +11,7 @@ use Rattle.unicode_tables.specs.declared.bracket.Bracket.TheVariants.{None as no
 use Rattle.unicode_tables.specs.declared.word.Word.{Word}
 use Rattle.unicode_tables.specs.declared.word.Properties.{Properties}
 use Rattle.unicode_tables.specs.Tables.{TableValues}
+use Rattle.unicode_tables.specs.Classes.{is_space}
 use Rattle.unicode_tables.specs.Alone.{is_plain, columns_alone}
 
 -- BD14 and BD15
@@ -21,7 +22,7 @@ is_bracket (Close paired) = true
 
 -- the word of what is no code point
 abbrev pub absent_word : Word
-absent_word = record { bidi = L; lb = Xx; ea = N; is_bracket = false; has_mirror = false; is_plain = false; columns = 1 }
+absent_word = record { bidi = L; lb = Xx; ea = N; is_bracket = false; has_mirror = false; is_plain = false; columns = 1; is_space = false }
 
 -- the word at c, of lists of the five properties
 abbrev pub word_of_lists : List Bidi → List Bracket → List (Option ℕ) → List Lb → List Ea → ℕ → Word
@@ -33,6 +34,7 @@ word_of_lists bidi bracket mirror lb ea c = record {
   has_mirror = is_some (slice_index_or mirror c None);
   is_plain = is_plain c;
   columns = columns_alone (slice_index_or bidi c L) (slice_index_or lb c Xx) (slice_index_or ea c N) c;
+  is_space = is_space (slice_index_or lb c Xx);
 }
 
 -- what tables say of c

@@ -5,6 +5,7 @@ use Rattle.unicode_tables.specs.declared.bracket.Bracket.TheVariants.{None as no
 use Rattle.unicode_tables.specs.declared.word.Word.{Word}
 use Rattle.unicode_tables.specs.declared.words.Words.{Words}
 use Rattle.unicode_tables.specs.Tables.{TableValues, each_code_point}
+use Rattle.unicode_tables.specs.Classes.{is_space}
 use Rattle.unicode_tables.specs.Alone.{is_plain, columns_alone}
 use Rattle.unicode_tables.specs.Word.{is_bracket, absent_word}
 
@@ -23,6 +24,7 @@ pub record HasMarks (words : Words) (bracket : List Bracket) (mirror : List (Opt
   pub mirrors : (c : ℕ) → c < 0x110000 → (word_in words c).has_mirror ≡ is_some (slice_index_or mirror c None)
   pub plain : (c : ℕ) → c < 0x110000 → (word_in words c).is_plain ≡ is_plain c
   pub columns : (c : ℕ) → c < 0x110000 → (word_in words c).columns ≡ columns_alone (word_in words c).bidi (word_in words c).lb (word_in words c).ea c
+  pub spaces : (c : ℕ) → c < 0x110000 → (word_in words c).is_space ≡ is_space (word_in words c).lb
 
 -- the tables of words, brackets and mirrors. Ambiguous characters are narrow
 abbrev pub tables_of_words : Words → List Bracket → List (Option ℕ) → TableValues

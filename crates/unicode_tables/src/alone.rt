@@ -6,19 +6,23 @@ ghost use Rattle.unicode_tables.specs.Alone.{is_plain, is_direction_mark, is_uns
 use crate::class::{is_line_end, is_separator, is_wide};
 use bg_types::{Bidi, Ea, Lb};
 
+/// The last code point of these blocks, behind which no other test is made.
+const LAST_PLAIN: usize = 0x6D5;
+
 /// Whether a code point stands in a block without marks, in which most text does.
 pub(crate) fn is_plain(c: usize) -> bool
     ensures { result ≡ is_plain c }
 {
-    matches!(
-        c,
-        0x20..=0x7E
-            | 0x5D0..=0x5EA
-            | 0x620..=0x64A
-            | 0xAE..=0x2FF
-            | 0x370..=0x482
-            | 0x671..=0x6D5
-    )
+    c <= LAST_PLAIN
+        && matches!(
+            c,
+            0x20..=0x7E
+                | 0x5D0..=0x5EA
+                | 0x620..=0x64A
+                | 0xAE..=0x2FF
+                | 0x370..=0x482
+                | 0x671..=0x6D5
+        )
 }
 
 /// Whether a code point is a mark of direction.

@@ -1,7 +1,7 @@
 //! Sets of character classes.
 
 ghost use Rattle.std.specs.Prelude.{◌≡◌};
-ghost use Rattle.unicode_tables.specs.Classes.{is_separator, is_line_end, is_wide, is_ambiguous};
+ghost use Rattle.unicode_tables.specs.Classes.{is_separator, is_line_end, is_space, is_wide, is_ambiguous};
 
 use bg_types::{Bidi, Ea, Lb};
 
@@ -21,6 +21,15 @@ pub fn is_line_end(class: Lb) -> bool
     ensures { result ≡ is_line_end class }
 {
     matches!(class, Lb::Bk | Lb::Cr | Lb::Lf | Lb::Nl)
+}
+
+/// Whether a character of this class is a space.
+#[inline]
+#[tactic(auto, unfolding(crate::specs::Classes::is_space))]
+pub(crate) fn is_space(class: Lb) -> bool
+    ensures { result ≡ is_space class }
+{
+    matches!(class, Lb::Sp)
 }
 
 /// Whether a character of this width takes two columns.

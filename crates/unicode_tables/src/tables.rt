@@ -91,7 +91,7 @@ impl Tables {
     }
 
     /// The word of each of these characters.
-    /// Cost: O(n), 7 bytes of memory a character.
+    /// Cost: O(n), 8 bytes of memory a character.
     pub fn words_of_each(&self, alloc: Global, points: &[char]) -> Result<Vec<Word>, Memory>
         ensures { IfOk result (λ words. words.items ≡ map (word_of self.now) points.now) }
     {

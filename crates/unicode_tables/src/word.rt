@@ -5,6 +5,7 @@ ghost use Rattle.unicode_tables.specs.Word.{is_bracket, word_with};
 
 use crate::alone::{columns_alone, is_plain};
 use crate::bracket::Bracket;
+use crate::class::is_space;
 use crate::page::BLOCK;
 use crate::property::Property;
 use bg_types::{Bidi, Ea, Lb};
@@ -26,6 +27,8 @@ pub struct Word {
     pub is_plain: bool,
     /// The columns of a cluster of it alone, 0 to 2, where ambiguous characters are narrow.
     pub columns: u8,
+    /// Whether it is a space (UAX #14, SP).
+    pub is_space: bool,
 }
 
 /// From this block on no code point is plain or a mark of direction: the properties tell its word.
@@ -72,6 +75,7 @@ impl Properties<'_> {
             has_mirror: self.mirror.at(c).is_some(),
             is_plain: is_plain(c),
             columns: columns_alone(bidi, lb, ea, c),
+            is_space: is_space(lb),
         }
     }
 

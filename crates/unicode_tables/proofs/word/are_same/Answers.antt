@@ -27,6 +27,7 @@ returns c = λ on.
     let marks = both _ _ ea.1 in
     let mirror = both _ _ marks.1 in
     let plain = both _ _ mirror.1 in
+    let columns = both _ _ plain.1 in
     same_word
     (same_true bidi_type (search rules) _ _ bidi.0) (same_true lb_type (search rules) _ _ lb.0) (same_true ea_type (search rules) _ _ ea.0)
-    (same_bool _ _ marks.0) (same_bool _ _ mirror.0) (same_bool _ _ plain.0) (eqb-true _ _ plain.1)
+    (same_bool _ _ marks.0) (same_bool _ _ mirror.0) (same_bool _ _ plain.0) (eqb-true _ _ columns.0) (same_bool _ _ columns.1)
