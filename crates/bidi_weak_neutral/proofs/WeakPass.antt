@@ -281,6 +281,21 @@ strong-step base strong last beside Al xs h =
     (and-false (is last (lettered Al (marked Al (first_type xs)))))
 strong-step base strong last beside x xs h = absurd (false≢true h)
 
+-- a mark right behind a strong type
+pub mark-step : (x : Bidi) (xs : List Bidi) → is_strong x ≡ true
+    → weak_from x x (lettered x x) (lettered x x) (Nsm ∷ xs) ≡ lettered x x ∷ weak_from x x (lettered x x) (lettered x x) xs
+unfolding is_strong is_isolate_control
+mark-step L xs h =
+    ap (λ b. let j = if b then L else L in settled L (separated (terminated L j (lettered L (marked L (past_marks xs))))) ∷ weak_from L L L (unterminated L j) xs)
+    (and-false (is L (lettered L (marked L (first_type xs)))))
+mark-step R xs h =
+    ap (λ b. let j = if b then R else R in settled R (separated (terminated R j (lettered R (marked R (past_marks xs))))) ∷ weak_from R R R (unterminated R j) xs)
+    (and-false (is R (lettered R (marked R (first_type xs)))))
+mark-step Al xs h =
+    ap (λ b. let j = if b then R else R in settled Al (separated (terminated R j (lettered Al (marked Al (past_marks xs))))) ∷ weak_from Al Al R (unterminated R j) xs)
+    (and-false (is R (lettered Al (marked Al (first_type xs)))))
+mark-step x xs h = absurd (false≢true h)
+
 -- a type that is neither strong nor weak
 pub neutral-step : (base strong last beside x : Bidi) (xs : List Bidi) → is_strong x ≡ false → is_weak x ≡ false
     → weak_from base strong last beside (x ∷ xs) ≡ x ∷ weak_from x strong x x xs

@@ -129,6 +129,8 @@ pub(crate) fn resolve_weak(before: &[Bidi], types: &mut [Bidi], sos: Bidi)
     let (mut base, mut strong) = (sos, sos);
     let (mut last, mut beside) = (Bidi::On, Bidi::On);
     let mut end = 0;
+    // Whether only marks stand after the last strong type: a mark takes what that one has become.
+    let mut on_letter = false;
     for place in 0..before.len() {
         let class = before[place];
         if is_strong(class) {
@@ -136,9 +138,15 @@ pub(crate) fn resolve_weak(before: &[Bidi], types: &mut [Bidi], sos: Bidi)
             strong = class;
             last = lettered(class, class);
             beside = last;
+            on_letter = true;
             types[place] = last;
             continue;
         }
+        if on_letter && class == Bidi::Nsm {
+            types[place] = last;
+            continue;
+        }
+        on_letter = false;
         if !is_weak(class) {
             base = class;
             last = class;

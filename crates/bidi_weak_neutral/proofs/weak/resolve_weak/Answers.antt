@@ -1,15 +1,18 @@
 -- The goals of `resolve_weak` that are answered by hand.
-use Rattle.std.proofs.Common.{arith, ◌+◌, ◌<◌, ◌≤◌, ◌≡◌, ◌∙◌, ap, sym, subst, length, get_or, drop, ◌∷◌, true, false}
-use Rattle.bg_types.specs.declared.class.Bidi.TheVariants.{L, On}
+use Rattle.std.proofs.Common.{arith, ◌+◌, ◌<◌, ◌≤◌, ◌≡◌, ◌∙◌, ap, sym, subst, length, get_or, drop, ◌∷◌, true, false, rules}
+use Rattle.bg_types.specs.declared.class.Bidi.TheVariants.{L, Nsm, On}
+use Rattle.std.proofs.lemmas.Bool.{false≢true}
+use denote.Enum.Bare.{same_true}
+use Rattle.bg_types.specs.contracts.class.Bidi.{the_type}
 use Rattle.bidi_weak_neutral.specs.Classes.{is_strong}
 use Rattle.bidi_weak_neutral.specs.Pass.{is_past_terminators, is_weak}
 use Rattle.bidi_weak_neutral.proofs.Runs.{IsRun, IsRun-on}
-use Rattle.bidi_weak_neutral.proofs.WeakPass.{weak_types-is, weak_from, weak-step, weak-read, strong-step, neutral-step}
+use Rattle.bidi_weak_neutral.proofs.WeakPass.{weak_types-is, weak_from, weak-step, weak-read, strong-step, mark-step, neutral-step}
 use Rattle.bidi_weak_neutral.proofs.weak.resolve_weak.Goals as goal
 use Rattle.bidi_weak_neutral.proofs.weak.resolve_weak.Goals.{then-end-place, else-end-place}
 
 pub loop-place-init : goal.loop-place-init
-loop-place-init c = record { so_far = sym (weak_types-is c.args.sos c.args.before.now); run = λ lt. absurd (omega arith) }
+loop-place-init c = record { so_far = sym (weak_types-is c.args.sos c.args.before.now); marks = λ xs on. absurd (false≢true on); run = λ lt. absurd (omega arith) }
 
 pub loop-place-preserved-then-is_strong : goal.loop-place-preserved-then-is_strong
 loop-place-preserved-then-is_strong c =
@@ -27,6 +30,25 @@ loop-place-preserved-then-is_strong c =
           (strong-step c.loop-place.base c.loop-place.strong c.loop-place.last c.loop-place.beside x (drop (i + 1) before) strong
           ∙ ap (λ z. z ∷ weak_from x x z z (drop (i + 1) before)) (sym c.lettered-last.ensures))
           h.so_far;
+      marks = λ xs on.
+          subst (λ z. weak_from x x z z (Nsm ∷ xs) ≡ z ∷ weak_from x x z z xs) (sym c.lettered-last.ensures) (mark-step x xs strong);
+      run = λ more. IsRun-on _ _ _ _ _ lt (omega arith) (h.run (omega arith));
+    }
+
+pub loop-place-preserved-then-eq : goal.loop-place-preserved-then-eq
+loop-place-preserved-then-eq c =
+    let h = c.loop-place.invariant in
+    let i = c.loop-place.place in
+    let before = c.args.before.now in
+    let lt : c.loop-place.place < length c.args.before.now = omega arith in
+    let long : length c.loop-place.types ≡ length c.args.before.now = omega arith in
+    let mark : get_or c.args.before.now c.loop-place.place L ≡ Nsm = same_true the_type (search rules) _ _ (sym c.eq.ensures ∙ c.if-eq.true) in
+    record {
+      so_far =
+          weak-step c.loop-place.base c.loop-place.strong c.loop-place.last c.loop-place.beside c.loop-place.base c.loop-place.strong c.loop-place.last c.loop-place.beside
+          c.loop-place.last c.loop-place.types _ before i lt long
+          (ap (λ y. weak_from c.loop-place.base c.loop-place.strong c.loop-place.last c.loop-place.beside (y ∷ drop (i + 1) before)) mark ∙ h.marks (drop (i + 1) before) c.if-on_letter.true) h.so_far;
+      marks = h.marks;
       run = λ more. IsRun-on _ _ _ _ _ lt (omega arith) (h.run (omega arith));
     }
 
@@ -44,6 +66,7 @@ loop-place-preserved-then-not-is_weak c =
       so_far =
           weak-step c.loop-place.base c.loop-place.strong c.loop-place.last c.loop-place.beside x c.loop-place.strong x x x c.loop-place.types _ before i lt long
           (neutral-step c.loop-place.base c.loop-place.strong c.loop-place.last c.loop-place.beside x (drop (i + 1) before) other calm) h.so_far;
+      marks = λ xs on. absurd (false≢true on);
       run = λ more. IsRun-on _ _ _ _ _ lt (omega arith) (h.run (omega arith));
     }
 
@@ -79,5 +102,6 @@ loop-place-preserved c =
           (c.type_at-in-loop-place.ensures ∙ sym run.1.ahead) c.marked-in-loop-place.ensures c.lettered-after.ensures c.terminated.ensures
           c.settled.ensures c.unterminated-beside.ensures)
           h.so_far;
+      marks = λ xs on. absurd (false≢true on);
       run = λ more. run.1;
     }
