@@ -1,7 +1,8 @@
 -- The tables that words make, and what look-ups find in them.
-use Rattle.std.proofs.Common.{◌≡◌, ℕ, ◌+◌, ◌*◌, ◌<◌, ◌≤◌, Bool, false, List, Option, Some, None, get_or, refl, ap, subst, ◌∙◌, sym, arith}
+use Rattle.std.proofs.Common.{◌≡◌, ℕ, ◌+◌, ◌*◌, ◌<◌, ◌≤◌, Bool, true, false, List, Option, Some, None, get_or, refl, ap, subst, ◌∙◌, sym, arith}
 use Rattle.std.proofs.lemmas.Bool.Decides.{nat_tests}
 use Rattle.std.specs.Prelude.{is_some}
+use Rattle.std.proofs.Math.Bool.{beq}
 use Rattle.bg_types.specs.declared.class.Bidi.{Bidi}
 use Rattle.bg_types.specs.declared.class.Bidi.TheVariants.{L}
 use Rattle.bg_types.specs.declared.class.Lb.{Lb}
@@ -114,3 +115,29 @@ words_even properties block k far p q r s t =
     words-same properties (block * 256 + k) (block * 256) p q r s t
     (not-plain (block * 256 + k) (omega arith) ∙ sym (not-plain (block * 256) (omega arith)))
     (not-direction_mark (block * 256 + k) (omega arith) ∙ sym (not-direction_mark (block * 256) (omega arith)))
+
+-- two tests of which a comparison tells that they are the same
+pub same_bool : (a b : Bool) → beq a b ≡ true → a ≡ b
+same_bool true true h = refl
+same_bool true false h = absurd cc
+same_bool false true h = absurd cc
+same_bool false false h = refl
+
+-- of a code point nothing but whether it is a mark of direction is asked
+columns-unmarked : (b : Bidi) (l : Lb) (e : Ea) (n m : ℕ) → is_direction_mark n ≡ is_direction_mark m → columns_alone b l e n ≡ columns_alone b l e m
+columns-unmarked b l e n m same = cc
+
+-- where the five properties tell the same, the word is one that is known
+pub word-beside : (properties : Properties) (known : Word) (n m : ℕ) → known ≡ word_with properties m → 33 * 256 ≤ m → 33 * 256 ≤ n
+    → get_or properties.bidi.now n L ≡ known.bidi → get_or properties.lb.now n Xx ≡ known.lb → get_or properties.ea.now n N ≡ known.ea
+    → is_bracket (get_or properties.bracket.now n no_bracket) ≡ known.is_bracket → is_some (get_or properties.mirror.now n None) ≡ known.has_mirror
+    → known ≡ word_with properties n
+word-beside properties known n m same far near p q r s t =
+    let bidi = sym (ap (λ (w : Word). w.bidi) same) ∙ sym p in
+    let lb = sym (ap (λ (w : Word). w.lb) same) ∙ sym q in
+    let ea = sym (ap (λ (w : Word). w.ea) same) ∙ sym r in
+    same
+    ∙ same_word bidi lb ea (sym (ap (λ (w : Word). w.is_bracket) same) ∙ sym s) (sym (ap (λ (w : Word). w.has_mirror) same) ∙ sym t)
+    (not-plain m far ∙ sym (not-plain n near))
+    (same_columns m bidi lb ea ∙ columns-unmarked _ _ _ m n (not-direction_mark m far ∙ sym (not-direction_mark n near)))
+    (ap is_space lb)

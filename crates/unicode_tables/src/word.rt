@@ -79,6 +79,27 @@ impl Properties<'_> {
         }
     }
 
+    /// The word of a code point, given that of another: it is the same if the five properties tell the same of both.
+    #[inline]
+    pub(crate) fn word_beside(&self, known: Word, other: usize, c: usize) -> Word
+        requires known { known ≡ word_with self.now other }
+        requires code_point { c < 0x110000 }
+        ensures { result ≡ word_with self.now c }
+    {
+        let by_classes = FIRST_BLOCK_BY_CLASSES * BLOCK;
+        if other >= by_classes
+            && c >= by_classes
+            && self.bidi.at(c) == known.bidi
+            && self.lb.at(c) == known.lb
+            && self.ea.at(c) == known.ea
+            && is_bracket(self.bracket.at(c)) == known.is_bracket
+            && self.mirror.at(c).is_some() == known.has_mirror
+        {
+            return known;
+        }
+        self.word(c)
+    }
+
     /// Whether a block is known to have one word.
     #[tactic(auto, using(crate::proofs::Marks::words_even))]
     fn are_even(&self, block: usize) -> bool

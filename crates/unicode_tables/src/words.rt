@@ -27,8 +27,12 @@ fn push_page(pages: &mut Vec<Word>, properties: &Properties, block: usize) -> Re
         → slice_index_or pages.new.items (vec_len pages.old + k) absent_word
         ≡ word_with properties.now (block * 256 + k)) }
 {
+    let mut last = block * BLOCK;
+    let mut word = properties.word(last);
     for k in 0..BLOCK {
-        pages.push(properties.word(block * BLOCK + k))?;
+        word = properties.word_beside(word, last, block * BLOCK + k);
+        last = block * BLOCK + k;
+        pages.push(word)?;
     }
     Ok(())
 }

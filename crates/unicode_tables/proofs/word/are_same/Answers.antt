@@ -1,23 +1,16 @@
 -- The goals of `are_same` that are answered by hand.
 use Rattle.std.proofs.Common.{◌≡◌, Bool, true, false, eqb-true, refl, sym, ◌∙◌, rules}
 use Rattle.std.specs.Prelude.{◌&&◌}
-use Rattle.std.proofs.Math.Bool.{beq}
 use denote.Enum.Bare.{same_true}
 use Rattle.bg_types.specs.contracts.class.Bidi.{the_type as bidi_type}
 use Rattle.bg_types.specs.contracts.class.Lb.{the_type as lb_type}
 use Rattle.bg_types.specs.contracts.class.Ea.{the_type as ea_type}
-use Rattle.unicode_tables.proofs.Marks.{same_word}
+use Rattle.unicode_tables.proofs.Marks.{same_word, same_bool}
 use Rattle.unicode_tables.proofs.word.are_same.Goals as goal
 
 both : (a b : Bool) → (a && b) ≡ true → (a ≡ true) × (b ≡ true)
 both true b h = (refl, h)
 both false b h = absurd cc
-
-same_bool : (a b : Bool) → beq a b ≡ true → a ≡ b
-same_bool true true h = refl
-same_bool true false h = absurd cc
-same_bool false true h = absurd cc
-same_bool false false h = refl
 
 pub returns : goal.returns
 returns c = λ on.
