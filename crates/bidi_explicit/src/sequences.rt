@@ -194,7 +194,7 @@ fn is_unclosed(control: Control) -> bool
 fn begins(place: Option<Kept>, follows: bool) -> bool
     ensures { result ≡ (is_some place && not follows) }
 {
-    place.is_some() && !follows
+    !follows && place.is_some()
 }
 
 /// Appends the sequence that begins at `first`.
