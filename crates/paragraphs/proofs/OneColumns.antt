@@ -2,11 +2,9 @@
 use Rattle.std.proofs.Common.{◌≡◌, ℕ, Bool, true, false, ◌||◌, ◌&&◌, ◌==◌, [], ◌∷◌, sym, ap, ◌∙◌, refl, arith}
 use Rattle.std.proofs.lemmas.Bool.Decides.{nat_tests}
 use Rattle.std.specs.Prelude.{if◌then◌else◌}
-use Rattle.unicode_tables.specs.Tables.{TableValues, bidi_of, lb_of, ea_of}
-use Rattle.unicode_tables.specs.Alone.{columns_alone}
+use Rattle.unicode_tables.specs.Tables.{TableValues}
 use Rattle.unicode_tables.specs.Word.{word_of}
 use Rattle.unicode_tables.specs.declared.word.Word.{Word}
-use Rattle.paragraphs.specs.Classes.{is_wide}
 use Rattle.paragraphs.specs.Columns.{ends_line, is_invisible, takes_two, takes_two_by_choice, columns_of}
 
 -- the columns where ambiguous code points are narrow

@@ -1,5 +1,5 @@
 -- ClustersAndColumns, its second half: the columns of a cluster, by cases in their order.
-use Rattle.std.specs.Prelude.{ℕ, Bool, false, ◌==◌, ◌&&◌, ◌||◌, if◌then◌else◌, List, [], ◌∷◌}
+use Rattle.std.specs.Prelude.{ℕ, Bool, false, ◌&&◌, ◌||◌, if◌then◌else◌, List, [], ◌∷◌}
 use Rattle.std.specs.List.{list_all, list_any}
 use Rattle.unicode_tables.specs.Tables.{TableValues, bidi_of, lb_of, ea_of}
 pub use Rattle.unicode_tables.specs.Alone.{is_direction_mark}

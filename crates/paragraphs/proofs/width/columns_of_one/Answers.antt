@@ -10,6 +10,7 @@ pub returns-else-word-eq1 : goal.returns-else-word-eq1
 returns-else-word-eq1 c =
     columns-of_word c.args.tables.now c.args.word c.args.c c.requires
     (elim c.else-word-eq1.branch [
-    else-word-eq1-via-then-word-eq1+then-wide_ambiguous+else-is_ambiguous w ↦ off-narrow _ _ _ (sym (ap (λ (x : Word). is_ambiguous x.ea) c.requires) ∙ sym w.is_ambiguous.ensures ∙ w.if-is_ambiguous.false)
-    | else-word-eq1-via-then-word-eq1+else-wide_ambiguous w ↦ off-tables _ _ _ (sym w.wide_ambiguous.ensures ∙ w.if-wide_ambiguous.false)
-    | else-word-eq1-via-else-word-eq1 w ↦ off-columns _ _ w.if-word-eq1.false ])
+      | else-word-eq1-via-then-word-eq1+then-wide_ambiguous+else-is_ambiguous w ↦ off-narrow _ _ _ (sym (ap (λ (x : Word). is_ambiguous x.ea) c.requires) ∙ sym w.is_ambiguous.ensures ∙ w.if-is_ambiguous.false)
+      | else-word-eq1-via-then-word-eq1+else-wide_ambiguous w ↦ off-tables _ _ _ (sym w.wide_ambiguous.ensures ∙ w.if-wide_ambiguous.false)
+      | else-word-eq1-via-else-word-eq1 w ↦ off-columns _ _ w.if-word-eq1.false
+    ])

@@ -1,5 +1,5 @@
 -- The five properties tell the same.
-use Rattle.std.proofs.Common.{None, sym, ap, ◌∙◌, rules, arith}
+use Rattle.std.proofs.Common.{None, sym, ap, ◌∙◌, rules}
 use Rattle.std.specs.Prelude.{is_some}
 use Rattle.bg_types.specs.declared.class.Bidi.TheVariants.{L}
 use Rattle.bg_types.specs.declared.class.Lb.TheVariants.{Xx}
