@@ -4,7 +4,7 @@ ghost use Rattle.std.specs.Prelude.{◌+◌, ◌≤◌, All, Contains};
 ghost use Rattle.rga_tree.specs.Elements.{elements};
 
 use bg_types::Id;
-use rga_tree::{Element, Sequence};
+use rga_tree::{Element, Sequence, Unpacked};
 
 /// How many own elements may be read for each of the other desk.
 const READ_FOR_ONE: usize = 8;
@@ -44,19 +44,19 @@ impl Cursor {
     }
 
     /// The elements ahead: the rest of the part, or at its end the next part.
-    pub fn ahead<'a, S: Sequence>(&self, seq: &'a S) -> &'a [Element]
+    pub fn ahead<'a, S: Sequence>(&self, seq: &'a S, unpacked: &'a mut Unpacked) -> &'a [Element]
         ensures { All (Contains (elements (S.content seq.now))) result.now }
     {
-        let rest = rest_of(seq, self.part, self.at);
-        if rest.is_empty() {
-            return rest_of(seq, self.part.saturating_add(1), 0);
+        if is_behind(seq, self.part, self.at) {
+            rest_of(seq, self.part.saturating_add(1), 0, unpacked)
+        } else {
+            rest_of(seq, self.part, self.at, unpacked)
         }
-        rest
     }
 
     /// Moves behind this many of the elements ahead.
     pub fn skip<S: Sequence>(&mut self, seq: &S, count: usize) {
-        if count > 0 && rest_of(seq, self.part, self.at).is_empty() {
+        if count > 0 && is_behind(seq, self.part, self.at) {
             self.go_on();
         }
         self.at = self.at.saturating_add(count);
@@ -72,8 +72,10 @@ impl Cursor {
     /// Moves to the element with this identifier, if that stands here or later and what stands before it is paid for, and
     /// tells whether it does. Else it moves as far as is paid for.
     pub fn find<S: Sequence>(&mut self, seq: &S, id: Id) -> bool {
+        let mut unpacked = Unpacked::new();
         for _ in self.part..seq.part_count() {
-            if self.find_in(rest_of(seq, self.part, self.at), id) {
+            let rest = rest_of(seq, self.part, self.at, &mut unpacked);
+            if self.find_in(rest, id) {
                 return true;
             }
             if self.paid == 0 {
@@ -144,14 +146,24 @@ impl Cursor {
     }
 }
 
+/// Whether a part has no elements from a place on.
+fn is_behind<S: Sequence>(seq: &S, part: usize, at: usize) -> bool {
+    part >= seq.part_count() || at >= seq.part_len(part)
+}
+
 /// The elements of a part from a place on, if there are any.
-fn rest_of<S: Sequence>(seq: &S, part: usize, at: usize) -> &[Element]
+fn rest_of<'a, S: Sequence>(
+    seq: &'a S,
+    part: usize,
+    at: usize,
+    unpacked: &'a mut Unpacked,
+) -> &'a [Element]
     ensures { All (Contains (elements (S.content seq.now))) result.now }
 {
     if part >= seq.part_count() {
         return &[];
     }
-    match seq.part(part).get(at..) {
+    match seq.part(part, unpacked).get(at..) {
         Some(rest) => rest,
         None => &[],
     }

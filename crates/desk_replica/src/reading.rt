@@ -7,7 +7,7 @@ ghost use Rattle.rga_tree.specs.Elements.{elements};
 ghost use Rattle.rga_tree.specs.Row.{hidden_ids};
 
 use bg_types::{Id, Op};
-use rga_tree::{Element, Sequence};
+use rga_tree::{Element, Sequence, Unpacked};
 
 /// The insertion that made an element.
 pub fn insertion_of(e: &Element) -> Op
@@ -23,8 +23,9 @@ pub fn hidden_at<S: Sequence>(seq: &S, k: usize) -> Id
     ensures { slice_get (hidden_ids (elements (S.content seq.now))) k ≡ Some result }
 {
     let mut left = k;
+    let mut unpacked = Unpacked::new();
     for p in 0..seq.part_count() {
-        match hidden_in(seq.part(p), left) {
+        match hidden_in(seq.part(p, &mut unpacked), left) {
             Ok(id) => return id,
             Err(rest) => left = rest,
         }

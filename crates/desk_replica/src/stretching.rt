@@ -15,7 +15,7 @@ ghost use Rattle.desk_replica.specs.Stretch.{MayHide, deletions, insertions};
 
 use bg_types::{Id, Memory, Op, OpView, Place};
 use pending_ops::Held;
-use rga_tree::{Element, Sequence};
+use rga_tree::{Element, Sequence, Unpacked};
 
 /// Pays for placing n characters that are typed, beside the spare operations that are left then. They are never early, so
 /// the store of early operations needs no room for them.
@@ -74,12 +74,13 @@ fn list_stretch<S: Sequence>(seq: &mut S, from: usize, count: usize, made: &mut 
 {
     let (part, at) = seq.spot_at(from);
     let parts = seq.part_count();
-    let mut left = list_row(&seq.part(part)[at..], count, made);
+    let mut unpacked = Unpacked::new();
+    let mut left = list_row(&seq.part(part, &mut unpacked)[at..], count, made);
     for p in part + 1..parts {
         if left == 0 {
             return;
         }
-        left = list_row(seq.part(p), left, made);
+        left = list_row(seq.part(p, &mut unpacked), left, made);
     }
 }
 

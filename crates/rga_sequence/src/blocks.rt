@@ -20,7 +20,7 @@ use crate::index::empty;
 use crate::look::{Look, find, find_spot};
 use crate::row::{Row, block_at, hide, make_memory, put, spot, stands};
 use bg_types::{Hashed, Id, Keyed, Memory, Place};
-use rga_tree::{Element, Fresh, Sequence};
+use rga_tree::{Element, Fresh, Sequence, Unpacked};
 use std::alloc::Global;
 
 /// A sequence in blocks.
@@ -234,7 +234,11 @@ impl Sequence for Blocks {
         self.blocks()
     }
 
-    fn part(&self, p: usize) -> &[Element] {
+    fn part_len(&self, p: usize) -> usize {
+        self.row.blocks[p].elements.len()
+    }
+
+    fn part<'a>(&'a self, p: usize, _unpacked: &'a mut Unpacked) -> &'a [Element] {
         &self.row.blocks[p].elements
     }
 

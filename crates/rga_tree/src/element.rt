@@ -19,6 +19,31 @@ pub struct Element {
 
 const _: () = prove!(size_of::<Element>() == 20);
 
+/// How many elements a part has at most that is unpacked.
+pub const UNPACKED: usize = 32;
+
+/// Room for the elements of a part that are not kept as elements.
+#[derive(Drop)]
+pub struct Unpacked {
+    pub elements: [Element; UNPACKED],
+    ghost long: { length elements ≡ 32 },
+}
+
+impl Unpacked {
+    /// Room in which nothing is unpacked yet.
+    pub fn new() -> Unpacked {
+        let nothing = Element {
+            ch: ' ',
+            id: Id::new(1, 1).unwrap(),
+            parent: Place::Root,
+            hidden: true,
+        };
+        Unpacked {
+            elements: [nothing; UNPACKED],
+        }
+    }
+}
+
 /// How many elements at the front of a row are greater than the identifier.
 /// Cost: O(n).
 pub fn greater_in_front(row: &[Element], id: Id) -> usize

@@ -7,6 +7,6 @@ mod plain;
 mod sequence;
 mod shown;
 
-pub use element::{Element, greater_in_front};
+pub use element::{Element, UNPACKED, Unpacked, greater_in_front};
 pub use plain::Plain;
 pub use sequence::{Fresh, Sequence, text_of};

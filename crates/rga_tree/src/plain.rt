@@ -12,7 +12,7 @@ ghost use Rattle.rga_tree.specs.KeepsWalk.{KeepsWalk, KeepsWalk-prop};
 ghost use Rattle.rga_tree.specs.Spot.{seen, IsVisiblePlace};
 ghost use Rattle.rga_tree.specs.declared.element.Element.{Element as Shown};
 
-use crate::element::{Element, greater_in_front};
+use crate::element::{Element, Unpacked, greater_in_front};
 use crate::sequence::{Fresh, Sequence};
 use bg_types::{Id, Memory, Place};
 use std::alloc::Global;
@@ -106,7 +106,11 @@ impl Sequence for Plain {
         1
     }
 
-    fn part(&self, _p: usize) -> &[Element] {
+    fn part_len(&self, _p: usize) -> usize {
+        self.row.len()
+    }
+
+    fn part<'a>(&'a self, _p: usize, _unpacked: &'a mut Unpacked) -> &'a [Element] {
         &self.row
     }
 

@@ -14,7 +14,7 @@ ghost use Rattle.rga_tree.specs.Tree.{stands_in, IsTree, OnlyErasesPlaced};
 ghost use Rattle.rga_tree.specs.Elements.{elements, element_of, with_element};
 ghost use Rattle.rga_tree.specs.Spot.{IsVisiblePlace};
 
-use crate::element::Element;
+use crate::element::{Element, Unpacked};
 use crate::shown::{PIECE_BYTES, push_shown};
 use bg_types::{Id, Memory, Place};
 use std::alloc::Global;
@@ -124,8 +124,15 @@ pub trait Sequence {
     fn part_count(&self) -> usize
         ensures { result ≡ length (parts self.now) };
 
-    /// The elements of part p. To read all elements in order, read part after part.
-    fn part(&self, p: usize) -> &[Element]
+    /// How many elements part p has.
+    fn part_len(&self, p: usize) -> usize
+        requires { p < length (parts self.now) }
+        ensures { result ≡ length (get_or (parts self.now) p []) };
+
+    /// The elements of part p. To read all elements in order, read part after part. Where they are not kept as elements, they
+    /// are unpacked into what is given.
+    /// Cost: `Runs`: O(32) for a part, `Blocks` and `Plain`: O(1).
+    fn part<'a>(&'a self, p: usize, unpacked: &'a mut Unpacked) -> &'a [Element]
         requires { p < length (parts self.now) }
         ensures { result.now ≡ get_or (parts self.now) p [] };
 
@@ -169,8 +176,9 @@ pub fn text_of<S: Sequence>(alloc: Global, seq: &S) -> Result<String, Memory>
 {
     let mut read = String::with_capacity(alloc, seq.placed())?;
     let mut bytes = [0; PIECE_BYTES];
+    let mut unpacked = Unpacked::new();
     for p in 0..seq.part_count() {
-        push_shown(&mut read, &mut bytes, seq.part(p))?;
+        push_shown(&mut read, &mut bytes, seq.part(p, &mut unpacked))?;
     }
     Ok(read)
 }

@@ -15,7 +15,7 @@ use crate::placing::{Standing, count_waiting, look_up};
 use crate::reading::insertion_of;
 use bg_types::{Id, Op};
 use pending_ops::Held;
-use rga_tree::{Element, Sequence};
+use rga_tree::{Element, Sequence, Unpacked};
 
 impl<S: Sequence> Replica<S> {
     /// Whether an identifier is kept by both, with another parent or character.
@@ -31,8 +31,9 @@ impl<S: Sequence> Replica<S> {
         ensures no { OnFalse result (Agree self.now.set (S.content seq.now)) }
     {
         let mut cursor = Cursor::front();
+        let mut unpacked = Unpacked::new();
         for p in 0..seq.part_count() {
-            if self.disagrees_row(seq.part(p), &mut cursor) {
+            if self.disagrees_row(seq.part(p, &mut unpacked), &mut cursor) {
                 return true;
             }
         }
@@ -99,7 +100,8 @@ impl<S: Sequence> Replica<S> {
         ensures within { result ≤ length row.now }
         ensures known { All (Holds self.now.set) (insertions_in (take result row.now)) }
     {
-        let known = alike_in_front(cursor.ahead(&self.seq), row);
+        let mut unpacked = Unpacked::new();
+        let known = alike_in_front(cursor.ahead(&self.seq, &mut unpacked), row);
         cursor.skip(&self.seq, known);
         known
     }

@@ -14,7 +14,7 @@ use crate::placing::count_waiting;
 use crate::reading::insertion_of;
 use bg_types::{Memory, Op};
 use pending_ops::Held;
-use rga_tree::{Element, Sequence};
+use rga_tree::{Element, Sequence, Unpacked};
 
 impl<S: Sequence> Replica<S> {
     /// All operations that are kept, each once, in the order in which `op_at` tells them. Memory is
@@ -38,8 +38,9 @@ impl<S: Sequence> Replica<S> {
 fn push_insertions<S: Sequence>(seq: &S, ops: &mut Vec<Op>) -> Result<(), Memory>
     ensures { OnOk result (ops.new.items ≡ ops.old.items ++ insertions_in (elements (S.content seq.now))) }
 {
+    let mut unpacked = Unpacked::new();
     for p in 0..seq.part_count() {
-        push_row(seq.part(p), ops)?;
+        push_row(seq.part(p, &mut unpacked), ops)?;
     }
     Ok(())
 }
@@ -58,8 +59,9 @@ fn push_row(row: &[Element], ops: &mut Vec<Op>) -> Result<(), Memory>
 fn push_deletions<S: Sequence>(seq: &S, ops: &mut Vec<Op>) -> Result<(), Memory>
     ensures { OnOk result (ops.new.items ≡ ops.old.items ++ deletions_in (elements (S.content seq.now))) }
 {
+    let mut unpacked = Unpacked::new();
     for p in 0..seq.part_count() {
-        push_hidden(seq.part(p), ops)?;
+        push_hidden(seq.part(p, &mut unpacked), ops)?;
     }
     Ok(())
 }

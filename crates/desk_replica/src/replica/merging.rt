@@ -26,7 +26,7 @@ use crate::placing::count_waiting;
 use crate::reading::insertion_of;
 use bg_types::{Id, Op, OpView};
 use pending_ops::Held;
-use rga_tree::{Element, Sequence};
+use rga_tree::{Element, Sequence, Unpacked};
 
 impl<S: Sequence> Replica<S> {
     /// Takes all operations of another desk, and returns how many were new. After
@@ -161,8 +161,9 @@ impl<S: Sequence> Replica<S> {
         ensures ok { OnOk result (All (IsErasedIn self.new.set) (elements (S.content seq.now))) }
     {
         let mut cursor = Cursor::front();
+        let mut unpacked = Unpacked::new();
         for p in 0..seq.part_count() {
-            self.erase_row(seq.part(p), &mut cursor, listener)?;
+            self.erase_row(seq.part(p, &mut unpacked), &mut cursor, listener)?;
         }
         Ok(())
     }
@@ -239,7 +240,8 @@ impl<S: Sequence> Replica<S> {
     fn hides(&self, id: Id, cursor: &Cursor) -> bool
         ensures { OnTrue result (Holds self.now.set (Erase id)) }
     {
-        match cursor.ahead(&self.seq).first() {
+        let mut unpacked = Unpacked::new();
+        match cursor.ahead(&self.seq, &mut unpacked).first() {
             Some(own) => is_hidden(own, id),
             None => false,
         }
@@ -282,7 +284,8 @@ impl<S: Sequence> Replica<S> {
         ensures fault { IfErr result (IsStopped (operations_in (elements (S.content seq.now))) self.new (L.told listener.old) (L.told listener.new) (L.capacity listener.old)) }
         ensures ok { OnOk result (All (Holds self.new.set) (insertions_in (get_or (S.parts seq.now) p []))) }
     {
-        let row = seq.part(p);
+        let mut unpacked = Unpacked::new();
+        let row = seq.part(p, &mut unpacked);
         cursor.pay(row.len());
         let mut at = self.known_in_front(row, cursor);
         while at < row.len() {
