@@ -1,0 +1,55 @@
+-- The stretches and the numbers of blocks.
+use Rattle.std.proofs.Common.{◌≡◌, ℕ, zero, suc, ◌<◌, ◌≤◌, ◌*◌, List, [], ◌∷◌, ◌++◌, length, take, drop, get_or, refl, sym, ap, ◌∙◌, length-append, arith}
+use Rattle.std.specs.Prelude.{insert, set}
+use Rattle.std.proofs.lemmas.List.{length-map, get_or-map, drop-map, map-append, take-map}
+use Rattle.rga_runs.specs.declared.block.Block.{Block}
+use Rattle.rga_runs.specs.Blocks.{row_of}
+use Rattle.rga_runs.specs.BlockRows.{items_of, numbers_of}
+
+pub length-items : (bs : List Block) → length (items_of bs) ≡ length bs
+length-items bs = length-map bs (λ b. b.stretches.items)
+
+pub length-numbers : (bs : List Block) → length (numbers_of bs) ≡ length bs
+length-numbers bs = length-map bs (λ b. b.number)
+
+pub as_many_numbers : (bs : List Block) → length (items_of bs) ≡ length (numbers_of bs)
+as_many_numbers bs = length-items bs ∙ sym (length-numbers bs)
+
+pub items_there : (bs : List Block) (p : ℕ) (b : Block) → p < length bs → get_or (items_of bs) p [] ≡ (get_or bs p b).stretches.items
+items_there bs p b there = get_or-map (λ (b : Block). b.stretches.items) bs p b [] there
+
+-- those of a block that was read
+pub items_at : (bs : List Block) (p : ℕ) (b : Block) → p < length bs → b ≡ get_or bs p b → get_or (items_of bs) p [] ≡ b.stretches.items
+items_at bs p b there is = items_there bs p b there ∙ ap (λ (b : Block). b.stretches.items) (sym is)
+
+pub items-insert : (bs : List Block) (i : ℕ) (b : Block) → items_of (insert bs i b) ≡ insert (items_of bs) i b.stretches.items
+items-insert bs i b =
+    map-append (λ (b : Block). b.stretches.items) (take i bs) (b ∷ drop i bs)
+    ∙ (λ j. sym (take-map (λ (b : Block). b.stretches.items) i bs) j ++ b.stretches.items ∷ sym (drop-map (λ (b : Block). b.stretches.items) i bs) j)
+
+-- a block that keeps its number
+pub numbers-set : (bs : List Block) (q : ℕ) (d new : Block) → q < length bs → new.number ≡ (get_or bs q d).number → numbers_of (set bs q new) ≡ numbers_of bs
+numbers-set [] q d new there same = absurd (omega arith)
+numbers-set (b ∷ bs) zero d new there same = ap (λ n. n ∷ numbers_of bs) same
+numbers-set (b ∷ bs) (suc q) d new there same = ap (λ ns. b.number ∷ ns) (numbers-set bs q d new (omega arith) same)
+
+pub numbers-insert : (bs : List Block) (i : ℕ) (b : Block) → numbers_of (insert bs i b) ≡ insert (numbers_of bs) i b.number
+numbers-insert bs i b =
+    map-append (λ (b : Block). b.number) (take i bs) (b ∷ drop i bs)
+    ∙ (λ j. sym (take-map (λ (b : Block). b.number) i bs) j ++ b.number ∷ sym (drop-map (λ (b : Block). b.number) i bs) j)
+
+pub number_there : (bs : List Block) (p : ℕ) (d : Block) → p < length bs → get_or (numbers_of bs) p 0 ≡ (get_or bs p d).number
+number_there [] p d there = absurd (omega arith)
+number_there (x ∷ bs) zero d there = refl
+number_there (x ∷ bs) (suc p) d there = number_there bs p d (omega arith)
+
+-- each has at most 256
+pub few_stretches : (bs : List Block) → length (row_of (items_of bs)) ≤ 256 * length bs
+few_stretches [] = omega arith
+few_stretches (b ∷ bs) =
+    let few = b.few in
+    omega (arith, few, b.stretches.ok, few_stretches bs, length-append b.stretches.items (row_of (items_of bs)))
+
+pub length_none : {X : Type 0} (xs : List X) → length xs ≡ 0 → xs ≡ []
+length_none [] h = refl
+length_none (x ∷ xs) h = absurd (omega (arith, h))

@@ -1,0 +1,23 @@
+-- The modules of this crate's proofs.
+pub mod Bits
+pub mod Chunks
+pub mod Typed
+pub mod Parents
+pub mod Sums
+pub mod Keyed
+pub mod LeafRows
+pub mod Low
+pub mod Rows
+pub mod BlockLists
+pub mod Numbers
+pub mod Halves
+pub mod Places
+pub mod Passed
+pub mod Apart
+pub mod Homes
+pub mod Known
+pub mod Spots
+pub mod Parted
+pub mod Whole
+pub mod Filled
+pub mod Counters

@@ -1,0 +1,79 @@
+-- What stands in stretches, as a row of elements.
+use Rattle.std.proofs.Common.{◌≡◌, ℕ, ◌<◌, ◌+◌, true, false, List, [], length, take, get_or, Option, Some, None, refl, sym, ap, subst, ◌∙◌, arith}
+use Rattle.std.specs.Prelude.{All, IfSome, IfNone, is_some, slice_get, vec_len}
+use Rattle.bg_types.specs.Identifier.{Identifier}
+use Rattle.rga_tree.specs.declared.element.Element.{Element}
+use Rattle.rga_tree.specs.KeepsWalk.{KeepsWalk}
+use Rattle.rga_tree.specs.Spot.{seen, IsVisiblePlace}
+use Rattle.rga_sequence.specs.Blocks.{offset}
+use Rattle.rga_sequence.specs.BlockRows.{has}
+use Rattle.rga_sequence.proofs.Spots.{slice_get_joined, offset_less}
+use Rattle.rga_sequence.proofs.Whole.{seen_all-joined}
+use Rattle.rga_runs.specs.declared.stretch.Stretch.{Stretch}
+use Rattle.rga_runs.specs.declared.row.Row.{Row}
+use Rattle.rga_runs.specs.Typed.{later, is_odd, bits_from, unset}
+use Rattle.rga_runs.specs.Stretches.{elements_of, parts_in, elements_in, are_stored, visible_in, IsOutside, AreApart}
+use Rattle.rga_runs.specs.Blocks.{at_spot}
+use Rattle.rga_runs.specs.BlockRows.{items_of}
+use Rattle.rga_runs.specs.Indexed.{stretches_in}
+use Rattle.rga_runs.proofs.Apart.{apart_of}
+use Rattle.rga_runs.proofs.Chunks.{any_item, one_there}
+use Rattle.rga_runs.proofs.Rows.{length-parts, part_there, outside_row, until_has, seen_row, seen_front, seen_in_part, stored_at, hidden_at, some_of_get}
+use Rattle.rga_runs.proofs.Spots.{StandsAt, spot_stands, place_is, part_within}
+
+pub kept_apart : (chars : List ℕ) (ss : List Stretch) → are_stored (length chars) ss ≡ true → KeepsWalk (elements_in chars ss) → AreApart ss
+kept_apart chars ss stored keeps = apart_of chars ss stored keeps.distinct
+
+pub seen_elements : (chars : List ℕ) (ss : List Stretch) → are_stored (length chars) ss ≡ true → visible_in ss ≡ seen (elements_in chars ss)
+seen_elements chars ss stored = sym (seen_row chars ss stored) ∙ seen_all-joined (parts_in chars ss)
+
+-- ---- what stands
+
+pub stands_has : (q : Identifier) (chars : List ℕ) (ss : List Stretch) (p k : ℕ) → are_stored (length chars) ss ≡ true → AreApart ss → StandsAt ss p k q → has q (elements_in chars ss) ≡ true
+stands_has q chars ss p k stored apart at =
+    let xs = parts_in chars ss in
+    let d = one_there ss p at.there in
+    let less = offset_less xs p k (omega (arith, length-parts chars ss, at.there)) (part_within chars ss p k d stored at.there (at.inside d)) in
+    until_has q (elements_in chars ss) (omega (arith, place_is q chars ss p k stored apart at, less))
+
+pub all_outside : (q : Identifier) (chars : List ℕ) (ss : List Stretch) → are_stored (length chars) ss ≡ true → AreApart ss → has q (elements_in chars ss) ≡ false → All (IsOutside q) ss
+all_outside q chars ss stored apart none = λ p d there k less is.
+    let at : StandsAt ss p k q = record {
+      there = there;
+      inside = λ e. subst (λ (s : Stretch). k < s.count) (any_item ss p d e there) less;
+      is = λ e. is ∙ ap (λ (s : Stretch). later s.first k) (any_item ss p d e there);
+    } in
+    let here = stands_has q chars ss p k stored apart at in
+    absurd cc
+
+-- whether a spot was found
+pub has_spot : (r : Row) (q : Identifier) (chars : List ℕ) (o : Option (ℕ × ℕ × ℕ)) → are_stored (length chars) (stretches_in r) ≡ true → AreApart (stretches_in r)
+    → IfSome o (λ s. s.0 < vec_len r.blocks) → IfSome o (λ s. s.1 < length (get_or (items_of r.blocks.items) s.0 []))
+    → IfSome o (λ s. (d : Stretch) → s.2 < (get_or (get_or (items_of r.blocks.items) s.0 []) s.1 d).count)
+    → IfSome o (λ s. (d : Stretch) → q ≡ later (get_or (get_or (items_of r.blocks.items) s.0 []) s.1 d).first s.2)
+    → IfNone o (All (IsOutside q) (stretches_in r)) → is_some o ≡ has q (elements_in chars (stretches_in r))
+has_spot r q chars None stored apart block within inside there absent = sym (outside_row q chars (stretches_in r) absent)
+has_spot r q chars (Some v) stored apart block within inside there absent =
+    sym (stands_has q chars (stretches_in r) (at_spot (items_of r.blocks.items) v.0 v.1) v.2 stored apart (spot_stands r q (Some v) v refl block within inside there))
+
+-- ---- what is read
+
+pub read_element : (chars : List ℕ) (ss : List Stretch) (p k : ℕ) (d : Stretch) (e : Element) → are_stored (length chars) ss ≡ true → p < length ss → k < (get_or ss p d).count
+    → slice_get (elements_of chars (get_or ss p d)) k ≡ Some e → slice_get (elements_in chars ss) (offset (parts_in chars ss) p k) ≡ Some e
+read_element chars ss p k d e stored there inside is =
+    slice_get_joined (parts_in chars ss) p k (omega (arith, length-parts chars ss, there)) (part_within chars ss p k d stored there inside)
+    ∙ ap (λ (es : List Element). slice_get es k) (part_there chars ss p d there) ∙ is
+
+pub visible_read : (chars : List ℕ) (ss : List Stretch) (p k : ℕ) (d : Stretch) (e : Element) → are_stored (length chars) ss ≡ true → p < length ss → k < (get_or ss p d).count → is_odd (bits_from k (get_or ss p d).hidden) ≡ false
+    → slice_get (elements_of chars (get_or ss p d)) k ≡ Some e → e.hidden ≡ false
+visible_read chars ss p k d e stored there inside visible is =
+    let s = get_or ss p d in
+    ap (λ (z : Element). z.hidden) (sym (some_of_get (elements_of chars s) k e e is)) ∙ hidden_at chars s k e (stored_at (length chars) ss p d stored there) inside ∙ visible
+
+pub visible_place : (chars : List ℕ) (ss : List Stretch) (n p k : ℕ) (d : Stretch) (e : Element) → are_stored (length chars) ss ≡ true → p < length ss → k < (get_or ss p d).count → is_odd (bits_from k (get_or ss p d).hidden) ≡ false
+    → visible_in (take p ss) + unset k (get_or ss p d).hidden ≡ n → slice_get (elements_of chars (get_or ss p d)) k ≡ Some e → IsVisiblePlace (parts_in chars ss) n p k e
+visible_place chars ss n p k d e stored there inside visible place is = record {
+  there = ap (λ (es : List Element). slice_get es k) (part_there chars ss p d there) ∙ is;
+  visible = visible_read chars ss p k d e stored there inside visible is;
+  before = omega (arith, seen_front chars ss p stored, seen_in_part chars ss p k d stored there (omega (arith, inside)), place);
+}

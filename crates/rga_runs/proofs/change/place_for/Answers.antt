@@ -1,0 +1,22 @@
+-- The goal of `place_for` that is answered by hand.
+use Rattle.std.proofs.Common.{◌≡◌, ◌+◌, ◌∙◌, List, length, take, drop, refl, sym, ap}
+use Rattle.rga_sequence.specs.Blocks.{joined}
+use Rattle.rga_runs.specs.declared.block.Block.{Block}
+use Rattle.rga_runs.specs.Stretches.{parts_in}
+use Rattle.rga_runs.specs.Blocks.{row_of, at_spot, passed}
+use Rattle.rga_runs.specs.BlockRows.{items_of}
+use Rattle.rga_runs.specs.Indexed.{stretches_in}
+use Rattle.rga_runs.proofs.Rows.{lands}
+use Rattle.rga_runs.proofs.change.place_for.Goals as goal
+
+pub returns-clause-place : goal.returns-clause-place
+returns-clause-place c = λ chars stored.
+    let new = c.behind_parent-b.new.row in
+    let ss = stretches_in new in
+    let from = at_spot (items_of new.blocks.items) c.behind_parent-b.result.0 c.behind_parent-b.result.1 in
+    let is = c.deref.ensures.value in
+    let reached : at_spot (items_of new.blocks.items) c.passed_from.result.0 c.passed_from.result.1 ≡ from + passed c.args.id (drop from ss) =
+    ap (λ (bs : List Block). at_spot (items_of bs) c.passed_from.result.0 c.passed_from.result.1) (sym is) ∙ c.passed_from.ensures.place
+    ∙ ap (λ (bs : List Block). at_spot (items_of bs) c.behind_parent-b.result.0 c.behind_parent-b.result.1 + passed c.args.id (drop (at_spot (items_of bs) c.behind_parent-b.result.0 c.behind_parent-b.result.1) (row_of (items_of bs)))) is in
+    ap (λ n. length (joined (take n (parts_in chars ss)))) reached ∙ lands c.args.id chars ss from (passed c.args.id (drop from ss)) (c.behind_parent-b.ensures.stored (length chars) stored) refl
+    ∙ c.behind_parent-b.ensures.place chars stored

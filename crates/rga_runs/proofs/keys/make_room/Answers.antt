@@ -1,0 +1,54 @@
+-- The goals of `make_room` that are answered by hand.
+use Rattle.std.proofs.Common.{◌≡◌, ℕ, ◌+◌, ◌<◌, ◌∙◌, [], refl, ap, take, drop, length, get_or, arith}
+use Rattle.std.specs.Prelude.{insert, set, vec_len}
+use Rattle.rga_runs.specs.declared.keys.Keys.{Keys}
+use Rattle.rga_runs.specs.Leaves.{keys_of}
+use Rattle.rga_runs.proofs.Halves.{IsInTwo, in_two}
+use Rattle.rga_runs.proofs.LeafRows.{length-keys}
+use Rattle.rga_runs.proofs.keys.make_room.Goals as goal
+
+split_full : (k new : Keys) (b cut : ℕ) → b < vec_len k.leaves → length (get_or (keys_of k.leaves.items) b []) ≡ 256 → cut < 256
+    → keys_of new.leaves.items ≡ insert (set (keys_of k.leaves.items) b (take cut (get_or (keys_of k.leaves.items) b []))) (b + 1) (drop cut (get_or (keys_of k.leaves.items) b []))
+    → IsInTwo (keys_of k.leaves.items) (keys_of new.leaves.items) b cut
+split_full k new b cut there full most is = in_two (keys_of k.leaves.items) (keys_of new.leaves.items) b cut (omega (arith, there, length-keys k.leaves.items, k.leaves.ok)) full most is
+
+pub returns-then-len_of-lt-FULL : goal.returns-then-len_of-lt-FULL
+returns-then-len_of-lt-FULL c =
+    let here = c.len_of.ensures.len ∙ ap (λ d. length (get_or (keys_of d) c.args.b [])) c.deref.ensures.value in
+    record {
+      leaf = c.requires.leaf;
+      within = c.requires.within;
+      free = omega (arith, here, c.if-len_of-lt-FULL.true);
+      place = refl;
+      keys = refl;
+      room = refl;
+      spares = omega arith;
+    }
+
+pub returns-then-at-cut : goal.returns-then-at-cut
+returns-then-at-cut c =
+    let here = c.len_of.ensures.len ∙ ap (λ d. length (get_or (keys_of d) c.args.b [])) c.deref.ensures.value in
+    let h = split_full c.args.keys.now c.split.new.keys c.args.b c.kept_of-cut.result c.requires.leaf (omega (arith, here, c.len_of.ensures.most, c.if-len_of-lt-FULL.false)) c.kept_of-cut.ensures.most c.split.ensures.leaves in
+    record {
+      leaf = omega (arith, c.split.ensures.len, c.requires.leaf);
+      within = omega (arith, h.low, c.if-at-cut.true);
+      free = omega (arith, h.low, c.kept_of-cut.ensures.most);
+      place = h.place_low c.args.at;
+      keys = h.same;
+      room = c.split.ensures.room;
+      spares = omega (arith, c.split.ensures.spares);
+    }
+
+pub returns-else-at-cut : goal.returns-else-at-cut
+returns-else-at-cut c =
+    let here = c.len_of.ensures.len ∙ ap (λ d. length (get_or (keys_of d) c.args.b [])) c.deref.ensures.value in
+    let h = split_full c.args.keys.now c.split.new.keys c.args.b c.kept_of-cut.result c.requires.leaf (omega (arith, here, c.len_of.ensures.most, c.if-len_of-lt-FULL.false)) c.kept_of-cut.ensures.most c.split.ensures.leaves in
+    record {
+      leaf = omega (arith, c.split.ensures.len, c.requires.leaf);
+      within = omega (arith, h.high, c.requires.within, here, c.len_of.ensures.most);
+      free = omega (arith, h.high, c.kept_of-cut.ensures.least);
+      place = h.place_high c.args.at (omega (arith, c.if-at-cut.false));
+      keys = h.same;
+      room = c.split.ensures.room;
+      spares = omega (arith, c.split.ensures.spares);
+    }

@@ -1,0 +1,74 @@
+-- The goals of `put` that are answered by hand.
+use Rattle.std.proofs.Common.{◌≡◌, ◌<◌, ◌≤◌, ◌∷◌, ◌∙◌, ℕ, [], List, cond, Some, length, get_or, sym, ap, subst, arith, rules}
+use Rattle.std.specs.Prelude.{vec_len}
+use Rattle.std.proofs.lemmas.List.Edits.{length-insert}
+use Rattle.rga_runs.specs.declared.key.Key.{Key}
+use Rattle.rga_runs.specs.declared.leaf.Leaf.{Leaf}
+use Rattle.rga_runs.specs.Keyed.{rank, look_in, reaches}
+use Rattle.rga_runs.specs.Leaves.{keys_of, all_keys, place_in}
+use Rattle.rga_runs.proofs.BlockLists.{length_none}
+use Rattle.rga_runs.proofs.Chunks.{at_within}
+use Rattle.rga_runs.proofs.Halves.{some_spare}
+use Rattle.rga_runs.proofs.LeafRows.{Gained, length-keys, put_keys}
+use Rattle.rga_runs.proofs.keys.put.Goals as goal
+
+pub returns-then-is_empty-clause-looks : goal.returns-then-is_empty-clause-looks
+returns-then-is_empty-clause-looks c = λ q fits.
+    let k = c.args.keys.now in
+    let key = c.of-key.result in
+    let zero : vec_len k.leaves ≡ 0 = search rules in
+    let none : all_keys k.leaves.items ≡ [] = ap all_keys (length_none k.leaves.items (omega (arith, zero, k.leaves.ok))) in
+    let all : Gained (key ∷ []) [] c.args.id c.args.number =
+    put_keys [] 0 key c.args.id c.args.number c.of-key.ensures.first c.of-key.ensures.number (omega arith) (λ i d less. absurd (omega (arith, less))) (λ i d from less. absurd (omega (arith, less))) in
+    ap (λ l. look_in l q) c.begin.ensures.keys ∙ all q fits
+    ∙ ap (λ l. cond (reaches c.args.id q (look_in l q)) (Some (c.args.id, c.args.number)) (look_in l q)) (sym none)
+
+pub returns-then-is_empty-clause-len : goal.returns-then-is_empty-clause-len
+returns-then-is_empty-clause-len c =
+    let k = c.args.keys.now in
+    let zero : vec_len k.leaves ≡ 0 = search rules in
+    let none : all_keys k.leaves.items ≡ [] = ap all_keys (length_none k.leaves.items (omega (arith, zero, k.leaves.ok))) in
+    omega (arith, ap length c.begin.ensures.keys, ap length none)
+
+pub begin-requires-clause-room : goal.begin-requires-clause-room
+begin-requires-clause-room c =
+    let k = c.args.keys.now in
+    let zero : vec_len k.leaves ≡ 0 = search rules in
+    some_spare (vec_len k.spares) (length (all_keys k.leaves.items)) (vec_len k.leaves) c.requires.room (omega (arith, zero))
+
+pub put_in-requires-clause-below : goal.put_in-requires-clause-below
+put_in-requires-clause-below c = λ i d less.
+    let b = c.spot-b.result.0 in
+    let j = c.spot-b.result.1 in
+    let below = subst (λ (l : List Leaf). (i : ℕ) (d : Key) → i < place_in (keys_of l) b j → rank (get_or (all_keys l) i d).first ≤ rank c.args.id) c.deref.ensures.value c.spot-b.ensures.below in
+    omega (arith, below i d less, ap rank c.of-key.ensures.first)
+
+pub put_in-requires-clause-above : goal.put_in-requires-clause-above
+put_in-requires-clause-above c = λ i d from less.
+    let b = c.spot-b.result.0 in
+    let j = c.spot-b.result.1 in
+    let above = subst (λ (l : List Leaf). (i : ℕ) (d : Key) → place_in (keys_of l) b j ≤ i → i < length (all_keys l) → rank c.args.id < rank (get_or (all_keys l) i d).first) c.deref.ensures.value c.spot-b.ensures.above in
+    omega (arith, above i d from less, ap rank c.of-key.ensures.first)
+
+pub returns-else-is_empty-clause-looks : goal.returns-else-is_empty-clause-looks
+returns-else-is_empty-clause-looks c = λ q fits.
+    let ls = c.args.keys.now.leaves in
+    let b = c.spot-b.result.0 in
+    let j = c.spot-b.result.1 in
+    let is = c.deref.ensures.value in
+    let there : b < length (keys_of ls.items) = omega (arith, c.spot-b.ensures.leaf, ap length is, length-keys ls.items) in
+    let within = subst (λ (l : List Leaf). j ≤ length (get_or (keys_of l) b [])) is c.spot-b.ensures.within in
+    let below = subst (λ (l : List Leaf). (i : ℕ) (d : Key) → i < place_in (keys_of l) b j → rank (get_or (all_keys l) i d).first ≤ rank c.args.id) is c.spot-b.ensures.below in
+    let above = subst (λ (l : List Leaf). (i : ℕ) (d : Key) → place_in (keys_of l) b j ≤ i → i < length (all_keys l) → rank c.args.id < rank (get_or (all_keys l) i d).first) is c.spot-b.ensures.above in
+    ap (λ l. look_in l q) c.put_in.ensures.keys
+    ∙ put_keys (all_keys ls.items) (place_in (keys_of ls.items) b j) c.of-key.result c.args.id c.args.number c.of-key.ensures.first c.of-key.ensures.number (at_within (keys_of ls.items) b j there within) below above q fits
+
+pub returns-else-is_empty-clause-len : goal.returns-else-is_empty-clause-len
+returns-else-is_empty-clause-len c =
+    let ls = c.args.keys.now.leaves in
+    let b = c.spot-b.result.0 in
+    let j = c.spot-b.result.1 in
+    let is = c.deref.ensures.value in
+    let there : b < length (keys_of ls.items) = omega (arith, c.spot-b.ensures.leaf, ap length is, length-keys ls.items) in
+    let within = subst (λ (l : List Leaf). j ≤ length (get_or (keys_of l) b [])) is c.spot-b.ensures.within in
+    ap length c.put_in.ensures.keys ∙ length-insert (all_keys ls.items) (place_in (keys_of ls.items) b j) c.of-key.result (at_within (keys_of ls.items) b j there within)

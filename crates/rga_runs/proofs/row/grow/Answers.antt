@@ -1,0 +1,68 @@
+-- The goal of `grow` that is answered by hand.
+use Rattle.std.proofs.Common.{◌≡◌, ℕ, ◌<◌, ◌∙◌, [], sym, ap, subst, length, get_or, arith}
+use Rattle.std.specs.Prelude.{All, set, slice_get}
+use Rattle.std.proofs.lemmas.List.Elements.{All-set}
+use Rattle.bg_types.specs.Identifier.{Identifier}
+use Rattle.rga_runs.specs.declared.stretch.Stretch.{Stretch}
+use Rattle.rga_runs.specs.Changed.{IsGrown}
+use Rattle.rga_runs.specs.Typed.{later}
+use Rattle.rga_runs.specs.Stretches.{IsOutside}
+use Rattle.rga_runs.specs.Blocks.{row_of, at_spot, AreHalfFull}
+use Rattle.rga_runs.specs.BlockRows.{items_of, numbers_of}
+use Rattle.rga_runs.specs.Keyed.{look_in}
+use Rattle.rga_runs.specs.KeyRows.{keys_in}
+use Rattle.rga_runs.specs.Indexed.{IsHome, AreHome, AreKnown}
+use Rattle.rga_runs.proofs.BlockLists.{length-items}
+use Rattle.rga_runs.proofs.Chunks.{set_row, get_or_row, at_less, one_there, any_item, length_set}
+use Rattle.rga_runs.proofs.Halves.{AreHalfFull-set}
+use Rattle.rga_runs.proofs.Homes.{told, homes_set, home_grown}
+use Rattle.rga_runs.proofs.Known.{known_set}
+use Rattle.rga_runs.proofs.row.grow.Goals as goal
+
+pub returns : goal.returns
+returns c =
+    let r = c.args.row.now in
+    let was = c.requires.indexed in
+    let bs = r.blocks.items in
+    let xs = items_of bs in
+    let ns = numbers_of bs in
+    let b = c.args.b in
+    let j = c.args.j in
+    let x = get_or xs b [] in
+    let p = at_spot xs b j in
+    let there : b < length xs = omega (arith, length-items bs, r.blocks.ok, c.requires.block) in
+    let d = one_there x j c.requires.within in
+    let e = c.grow_at.ensures.items d in
+    let s = e.0 in
+    let is = e.1 in
+    let new = c.grow_at.new.blocks.items in
+    let row_is : row_of (items_of new) ≡ set (row_of xs) p s = ap row_of e.2 ∙ set_row xs b j s there c.requires.within in
+    let long : length (row_of (items_of new)) ≡ length (row_of xs) = ap length row_is ∙ length_set (row_of xs) p s in
+    let look = look_in (keys_in r.keys) in
+    let item = λ (z : Stretch). get_or_row xs b j z there c.requires.within in
+    let old = get_or x j d in
+    let end = later old.first old.count in
+    let none : (f : Identifier) (m : ℕ) → look end ≡ told f m → f ≡ end → ⊥ = λ f m found same. was.known end f m (c.requires.counter d) found (subst (λ z. All (IsOutside z) (row_of xs)) (sym same) (c.requires.new d)) in
+    let own : IsHome look (get_or ns b 0) s = home_grown (keys_in r.keys) (get_or ns b 0) old s is.first is.count (c.requires.counter d) none (was.homes b there j d c.requires.within) in
+    record {
+      row = λ d2. (s, subst (λ (z : Stretch). IsGrown z s) (any_item x j d d2 c.requires.within ∙ sym (item d2)) is, row_is);
+      indexed = record {
+        homes = subst (λ ys. AreHome look ys (numbers_of new)) (sym e.2) (subst (AreHome look (set xs b (set x j s))) (sym c.grow_at.ensures.numbers)
+            (homes_set look xs ns b (set x j s) there was.homes (All-set (IsHome look (get_or ns b 0)) x j s own (was.homes b there))));
+        known = subst (AreKnown look) (sym row_is) (known_set look (row_of xs) p d s (at_less xs b j there c.requires.within) (is.first ∙ ap (λ (z : Stretch). z.first) (sym (item d)))
+            (omega (arith, is.count, ap (λ (z : Stretch). z.count) (item d))) was.known);
+        places = λ p less. ap (λ l. slice_get r.places.items (get_or l p 0)) c.grow_at.ensures.numbers
+            ∙ was.places p (omega (arith, less, c.grow_at.ensures.len, c.grow_at.new.blocks.ok, r.blocks.ok));
+        as_many = omega (arith, c.grow_at.ensures.len, was.as_many);
+        keyed = omega (arith, was.keyed, long);
+        counted = omega (arith, was.counted, long);
+        halves = subst AreHalfFull (sym e.2) (AreHalfFull-set xs b (set x j s) was.halves (omega (arith, length_set x j s)));
+      };
+      room = λ n room. record {
+        paid = λ few. omega (arith, room.paid few, long, c.grow_at.ensures.len);
+        keys = λ few. omega (arith, room.keys few, long);
+        blocks = omega (arith, room.blocks, c.grow_at.ensures.len, c.grow_at.ensures.capacity);
+        places = omega (arith, room.places, c.grow_at.ensures.len);
+        few = omega (arith, room.few, c.grow_at.ensures.len);
+      };
+    }

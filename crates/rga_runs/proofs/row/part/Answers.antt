@@ -1,0 +1,153 @@
+-- The goals of `part` that are answered by hand.
+use Rattle.std.proofs.Common.{◌≡◌, ℕ, ◌<◌, ◌≤◌, ◌+◌, ◌-◌, ◌∙◌, [], List, sym, ap, subst, length, get_or, arith}
+use Rattle.std.specs.Prelude.{insert, set, slice_get}
+use Rattle.std.proofs.lemmas.List.Edits.{length-insert}
+use Rattle.rga_runs.specs.declared.stretch.Stretch.{Stretch}
+use Rattle.rga_runs.specs.declared.block.Block.{Block}
+use Rattle.rga_runs.specs.Changed.{IsParted}
+use Rattle.rga_runs.specs.Typed.{later}
+use Rattle.rga_runs.specs.Stretches.{AreApart}
+use Rattle.rga_runs.specs.Blocks.{row_of, at_spot, AreHalfFull}
+use Rattle.rga_runs.specs.BlockRows.{items_of, numbers_of}
+use Rattle.rga_runs.specs.Keyed.{look_in}
+use Rattle.rga_runs.specs.KeyRows.{keys_in}
+use Rattle.rga_runs.specs.Indexed.{AreHome, AreKnown}
+use Rattle.rga_runs.proofs.BlockLists.{length-items, items_there, length-numbers, number_there, few_stretches}
+use Rattle.rga_runs.proofs.Chunks.{part_row, get_or_row, at_less, one_there, any_item, there_set, front_set, length_set}
+use Rattle.rga_runs.proofs.Halves.{AreHalfFull-set}
+use Rattle.rga_runs.proofs.Homes.{Gains}
+use Rattle.rga_runs.proofs.Known.{homes_parted, known_parted}
+use Rattle.rga_runs.proofs.Numbers.{few_numbers}
+use Rattle.rga_runs.proofs.row.part.Goals as goal
+
+-- the stretch, where it stands once there is room behind it
+moved_item : (xs ys : List (List Stretch)) (b j q at : ℕ) (d : Stretch) → b < length xs → j < length (get_or xs b []) → q < length ys → at ≤ length (get_or ys q []) → 0 < at
+    → at_spot ys q at ≡ at_spot xs b (j + 1) → row_of ys ≡ row_of xs → get_or (get_or ys q []) (at - 1) d ≡ get_or (get_or xs b []) j d
+moved_item xs ys b j q at d there within here inside some place same =
+    let spot : at_spot ys q (at - 1) ≡ at_spot xs b j = omega (arith, place, some) in
+    sym (get_or_row ys q (at - 1) d here (omega (arith, inside, some))) ∙ (λ i. get_or (same i) (spot i) d) ∙ get_or_row xs b j d there within
+
+pub overflow_add-j : goal.overflow_add-j
+overflow_add-j c =
+    let bs = c.args.row.now.blocks in
+    let x = one_there bs.items c.args.b (omega (arith, bs.ok, c.requires.block)) in
+    let few = (get_or bs.items c.args.b x).few in
+    omega (arith, c.requires.within, ap length (items_there bs.items c.args.b x (omega (arith, bs.ok, c.requires.block))), (get_or bs.items c.args.b x).stretches.ok, few)
+
+pub part_at-first-requires-clause-within : goal.part_at-first-requires-clause-within
+part_at-first-requires-clause-within c = omega (arith, c.make_room-q.ensures.within, c.make_room-q.ensures.behind (omega arith))
+
+pub part_at-first-requires-clause-inside : goal.part_at-first-requires-clause-inside
+part_at-first-requires-clause-inside c = λ d.
+    let old = c.args.row.now in
+    let mid = c.make_room-q.new.row in
+    let xs = items_of old.blocks.items in
+    let ys = items_of mid.blocks.items in
+    let item = moved_item xs ys c.args.b c.args.j c.make_room-q.result.0 c.make_room-q.result.1 d (omega (arith, length-items old.blocks.items, old.blocks.ok, c.requires.block)) c.requires.within
+    (omega (arith, length-items mid.blocks.items, mid.blocks.ok, c.make_room-q.ensures.block)) c.make_room-q.ensures.within (c.make_room-q.ensures.behind (omega arith)) c.make_room-q.ensures.place c.make_room-q.ensures.row in
+    subst (λ (s : Stretch). c.args.k < s.count) (sym item) (c.requires.inside d)
+
+pub overflow_add-row : goal.overflow_add-row
+overflow_add-row c =
+    let mid = c.make_room-q.new.row in
+    let room = c.make_room-q.ensures.room 0 c.requires.room in
+    omega (arith, c.make_room-q.ensures.indexed.counted, few_stretches mid.blocks.items, mid.blocks.ok, room.few)
+
+pub put-requires-clause-few : goal.put-requires-clause-few
+put-requires-clause-few c =
+    let mid = c.make_room-q.new.row in
+    let bs = mid.blocks.items in
+    let ns = numbers_of bs in
+    let q = c.make_room-q.result.0 in
+    let len_ns : length ns ≡ length bs = length-numbers bs in
+    let number_is : (c.index.result.now).number ≡ get_or ns q 0 =
+    ap (λ (b : Block). b.number) c.index.ensures ∙ sym (number_there c.part_at-first.new.blocks.items q c.index.result.now (omega (arith, c.part_at-first.new.blocks.ok, c.part_at-first.ensures.len, c.make_room-q.ensures.block))) ∙ ap (λ r. get_or r q 0) c.part_at-first.ensures.numbers in
+    let many : length mid.places.items ≡ length ns = omega (arith, len_ns, mid.blocks.ok, mid.places.ok, c.make_room-q.ensures.indexed.as_many) in
+    let below = few_numbers ns mid.places.items q (λ p h. c.make_room-q.ensures.indexed.places p (omega (arith, len_ns, h))) many (omega (arith, len_ns, mid.blocks.ok, c.make_room-q.ensures.block)) in
+    let room = c.make_room-q.ensures.room 0 c.requires.room in
+    omega (arith, number_is, below, len_ns, mid.blocks.ok, room.few)
+
+pub put-requires-clause-room : goal.put-requires-clause-room
+put-requires-clause-room c =
+    let room = c.make_room-q.ensures.room 0 c.requires.room in
+    λ none. omega (arith, none, c.make_room-q.ensures.indexed.keyed, room.keys (omega (arith, none)))
+
+pub returns : goal.returns
+returns c =
+    let old = c.args.row.now in
+    let mid = c.make_room-q.new.row in
+    let was = c.make_room-q.ensures.indexed in
+    let bs = mid.blocks.items in
+    let xs = items_of old.blocks.items in
+    let ys = items_of bs in
+    let ns = numbers_of bs in
+    let q = c.make_room-q.result.0 in
+    let at = c.make_room-q.result.1 in
+    let i = at - 1 in
+    let y = get_or ys q [] in
+    let p = at_spot xs c.args.b c.args.j in
+    let behind : 0 < at = c.make_room-q.ensures.behind (omega arith) in
+    let old_there : c.args.b < length xs = omega (arith, length-items old.blocks.items, old.blocks.ok, c.requires.block) in
+    let there : q < length ys = omega (arith, length-items bs, mid.blocks.ok, c.make_room-q.ensures.block) in
+    let within : i < length y = omega (arith, c.make_room-q.ensures.within, behind) in
+    let d = one_there y i within in
+    let item = λ (z : Stretch). moved_item xs ys c.args.b c.args.j q at z old_there c.requires.within there c.make_room-q.ensures.within behind c.make_room-q.ensures.place c.make_room-q.ensures.row in
+    let e = c.part_at-first.ensures.items d in
+    let low = e.0 in
+    let rest = e.1 in
+    let is = e.2 in
+    let first = e.3 in
+    let next : i + 1 ≡ at = omega (arith, behind) in
+    let new = c.part_at-first.new.blocks.items in
+    let items : items_of new ≡ set ys q (insert (set y i low) (i + 1) rest) = e.4 in
+    let row_is : row_of (items_of new) ≡ insert (set (row_of ys) (at_spot ys q i) low) (at_spot ys q i + 1) rest = ap row_of items ∙ part_row ys q i low rest there within in
+    let less = at_less ys q i there within in
+    let long_set : length (set (row_of ys) (at_spot ys q i) low) ≡ length (row_of ys) = length_set (row_of ys) (at_spot ys q i) low in
+    let long : length (row_of (items_of new)) ≡ length (row_of ys) + 1 =
+    ap length row_is ∙ length-insert (set (row_of ys) (at_spot ys q i) low) (at_spot ys q i + 1) rest (omega (arith, long_set, less)) ∙ omega (arith, long_set) in
+    let spot : at_spot ys q i ≡ p = omega (arith, c.make_room-q.ensures.place, behind) in
+    let old_look = look_in (keys_in mid.keys) in
+    let look = look_in (keys_in c.put.new.keys) in
+    let number_is : (c.index.result.now).number ≡ get_or ns q 0 =
+    ap (λ (b : Block). b.number) c.index.ensures ∙ sym (number_there new q c.index.result.now (omega (arith, c.part_at-first.new.blocks.ok, c.part_at-first.ensures.len, c.make_room-q.ensures.block))) ∙ ap (λ r. get_or r q 0) c.part_at-first.ensures.numbers in
+    let gains : Gains look old_look rest.first (get_or ns q 0) = subst (λ f. Gains look old_look f (get_or ns q 0)) (sym first) (subst (Gains look old_look c.part_at-first.result) number_is c.put.ensures.looks) in
+    let apart : AreApart (row_of ys) = subst AreApart (sym c.make_room-q.ensures.row) c.requires.apart in
+    let count = ap (λ n. n + rest.count) is.count ∙ is.rest_count in
+    let begins = is.rest_first ∙ ap (λ n. later (get_or y i d).first n) (sym is.count) in
+    let homes = homes_parted look old_look ys ns q i d low rest there within apart gains is.first begins count was.homes in
+    let row_item : get_or (row_of ys) (at_spot ys q i) d ≡ get_or y i d = get_or_row ys q i d there within in
+    let known = known_parted look old_look (get_or ns q 0) (row_of ys) (at_spot ys q i) d low rest less gains (is.first ∙ ap (λ (z : Stretch). z.first) (sym row_item))
+    (begins ∙ ap (λ (z : Stretch). later z.first low.count) (sym row_item)) (count ∙ ap (λ (z : Stretch). z.count) (sym row_item)) was.known in
+    let z = insert (set y i low) (i + 1) rest in
+    let longer : length z ≡ length y + 1 = omega (arith, length-insert (set y i low) (i + 1) rest (omega (arith, length_set y i low, within)), length_set y i low) in
+    record {
+      block = omega (arith, c.part_at-first.ensures.len, c.make_room-q.ensures.block);
+      within = omega (arith, ap (λ zs. length (get_or zs q [])) items, ap length (there_set ys q z there), longer, c.make_room-q.ensures.within);
+      behind = behind;
+      place = ap (λ zs. at_spot zs q at) items ∙ ap (λ zs. length (row_of zs) + at) (front_set ys q z) ∙ omega (arith, c.make_room-q.ensures.place);
+      row = λ d2. (
+        low,
+        rest,
+        subst (λ (s : Stretch). IsParted s low rest c.args.k) (any_item y i d d2 within ∙ item d2 ∙ sym (get_or_row xs c.args.b c.args.j d2 old_there c.requires.within)) is,
+        row_is ∙ (λ t. insert (set (c.make_room-q.ensures.row t) (spot t) low) (spot t + 1) rest),
+      );
+      indexed = record {
+        homes = subst (λ zs. AreHome look zs (numbers_of new)) (sym items) (subst (AreHome look (set ys q (insert (set y i low) (i + 1) rest))) (sym c.part_at-first.ensures.numbers) homes);
+        known = subst (AreKnown look) (sym row_is) known;
+        places = λ p less. ap (λ r. slice_get mid.places.items (get_or r p 0)) c.part_at-first.ensures.numbers
+            ∙ was.places p (omega (arith, less, c.part_at-first.ensures.len, c.part_at-first.new.blocks.ok, mid.blocks.ok));
+        as_many = omega (arith, c.part_at-first.ensures.len, was.as_many);
+        keyed = omega (arith, c.put.ensures.len, was.keyed, long);
+        counted = omega (arith, was.counted, long);
+        halves = subst AreHalfFull (sym items) (AreHalfFull-set ys q (insert (set y i low) (i + 1) rest) was.halves (omega (arith, longer)));
+      };
+      room = λ n paid.
+          let room = c.make_room-q.ensures.room n paid in
+          record {
+            paid = λ few. omega (arith, room.paid few, long, c.part_at-first.ensures.len);
+            keys = λ few. omega (arith, room.keys (omega (arith, few, c.put.ensures.spares)), long, c.put.ensures.room);
+            blocks = omega (arith, room.blocks, c.part_at-first.ensures.len, c.part_at-first.ensures.capacity);
+            places = omega (arith, room.places, c.part_at-first.ensures.len);
+            few = omega (arith, room.few, c.part_at-first.ensures.len);
+          };
+    }

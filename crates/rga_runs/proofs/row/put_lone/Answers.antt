@@ -1,0 +1,91 @@
+-- The goals of `put_lone` that are answered by hand.
+use Rattle.std.proofs.Common.{◌≡◌, ◌<◌, ◌+◌, ◌∙◌, [], sym, ap, subst, length, get_or, arith}
+use Rattle.std.specs.Prelude.{All, insert, set, slice_get}
+use Rattle.std.proofs.lemmas.List.Edits.{length-insert}
+use Rattle.rga_runs.specs.declared.block.Block.{Block}
+use Rattle.rga_runs.specs.Stretches.{IsOutside}
+use Rattle.rga_runs.specs.Blocks.{row_of, at_spot, AreHalfFull}
+use Rattle.rga_runs.specs.BlockRows.{items_of, numbers_of}
+use Rattle.rga_runs.specs.Keyed.{look_in}
+use Rattle.rga_runs.specs.KeyRows.{keys_in}
+use Rattle.rga_runs.specs.Indexed.{AreHome, AreKnown}
+use Rattle.rga_runs.proofs.BlockLists.{length-items, length-numbers, number_there, few_stretches}
+use Rattle.rga_runs.proofs.Chunks.{insert_row, at_within}
+use Rattle.rga_runs.proofs.Halves.{AreHalfFull-set}
+use Rattle.rga_runs.proofs.Homes.{Gains, homes_insert}
+use Rattle.rga_runs.proofs.Known.{home_lone, known_insert}
+use Rattle.rga_runs.proofs.Numbers.{few_numbers}
+use Rattle.rga_runs.proofs.row.put_lone.Goals as goal
+
+pub overflow_add-row : goal.overflow_add-row
+overflow_add-row c =
+    let mid = c.make_room-q.new.row in
+    let room = c.make_room-q.ensures.room 0 c.requires.room in
+    omega (arith, c.make_room-q.ensures.indexed.counted, few_stretches mid.blocks.items, mid.blocks.ok, room.few)
+
+pub put-requires-clause-few : goal.put-requires-clause-few
+put-requires-clause-few c =
+    let mid = c.make_room-q.new.row in
+    let bs = mid.blocks.items in
+    let ns = numbers_of bs in
+    let q = c.make_room-q.result.0 in
+    let len_ns : length ns ≡ length bs = length-numbers bs in
+    let number_is : (c.index.result.now).number ≡ get_or ns q 0 =
+    ap (λ (b : Block). b.number) c.index.ensures ∙ sym (number_there c.put_at.new.blocks.items q c.index.result.now (omega (arith, c.put_at.new.blocks.ok, c.put_at.ensures.len, c.make_room-q.ensures.block))) ∙ ap (λ r. get_or r q 0) c.put_at.ensures.numbers in
+    let many : length mid.places.items ≡ length ns = omega (arith, len_ns, mid.blocks.ok, mid.places.ok, c.make_room-q.ensures.indexed.as_many) in
+    let below = few_numbers ns mid.places.items q (λ p h. c.make_room-q.ensures.indexed.places p (omega (arith, len_ns, h))) many (omega (arith, len_ns, mid.blocks.ok, c.make_room-q.ensures.block)) in
+    let room = c.make_room-q.ensures.room 0 c.requires.room in
+    omega (arith, number_is, below, len_ns, mid.blocks.ok, room.few)
+
+pub put-requires-clause-room : goal.put-requires-clause-room
+put-requires-clause-room c =
+    let room = c.make_room-q.ensures.room 0 c.requires.room in
+    λ none. omega (arith, none, c.make_room-q.ensures.indexed.keyed, room.keys (omega (arith, none)))
+
+pub returns : goal.returns
+returns c =
+    let mid = c.make_room-q.new.row in
+    let was = c.make_room-q.ensures.indexed in
+    let bs = mid.blocks.items in
+    let xs = items_of bs in
+    let ns = numbers_of bs in
+    let q = c.make_room-q.result.0 in
+    let at = c.make_room-q.result.1 in
+    let x = get_or xs q [] in
+    let id = c.args.id in
+    let e = c.put_at.ensures.items in
+    let s = e.0 in
+    let new = c.put_at.new.blocks.items in
+    let there : q < length xs = omega (arith, length-items bs, mid.blocks.ok, c.make_room-q.ensures.block) in
+    let row_is : row_of (items_of new) ≡ insert (row_of xs) (at_spot xs q at) s = ap row_of e.2 ∙ insert_row xs q at s there c.make_room-q.ensures.within in
+    let long : length (row_of (items_of new)) ≡ length (row_of xs) + 1 = ap length row_is ∙ length-insert (row_of xs) (at_spot xs q at) s (at_within xs q at there c.make_room-q.ensures.within) in
+    let old_look = look_in (keys_in mid.keys) in
+    let look = look_in (keys_in c.put.new.keys) in
+    let number_is : (c.index.result.now).number ≡ get_or ns q 0 =
+    ap (λ (b : Block). b.number) c.index.ensures ∙ sym (number_there new q c.index.result.now (omega (arith, c.put_at.new.blocks.ok, c.put_at.ensures.len, c.make_room-q.ensures.block))) ∙ ap (λ r. get_or r q 0) c.put_at.ensures.numbers in
+    let gains : Gains look old_look id (get_or ns q 0) = subst (Gains look old_look id) number_is c.put.ensures.looks in
+    let outside : All (IsOutside id) (row_of xs) = subst (All (IsOutside id)) (sym c.make_room-q.ensures.row) c.requires.new in
+    let own = home_lone look (keys_in mid.keys) id (get_or ns q 0) s gains e.1.first e.1.count in
+    let homes : AreHome look (set xs q (insert x at s)) ns = homes_insert look old_look id xs ns q at s there gains outside was.homes own in
+    record {
+      row = (s, e.1, row_is ∙ (λ i. insert (c.make_room-q.ensures.row i) (c.make_room-q.ensures.place i) s));
+      indexed = record {
+        homes = subst (λ ys. AreHome look ys (numbers_of new)) (sym e.2) (subst (AreHome look (set xs q (insert x at s))) (sym c.put_at.ensures.numbers) homes);
+        known = subst (AreKnown look) (sym row_is) (known_insert look old_look id (get_or ns q 0) (row_of xs) (at_spot xs q at) s gains e.1.first was.known);
+        places = λ p less. ap (λ r. slice_get mid.places.items (get_or r p 0)) c.put_at.ensures.numbers
+            ∙ was.places p (omega (arith, less, c.put_at.ensures.len, c.put_at.new.blocks.ok, mid.blocks.ok));
+        as_many = omega (arith, c.put_at.ensures.len, was.as_many);
+        keyed = omega (arith, c.put.ensures.len, was.keyed, long);
+        counted = omega (arith, was.counted, long);
+        halves = subst AreHalfFull (sym e.2) (AreHalfFull-set xs q (insert x at s) was.halves (omega (arith, length-insert x at s c.make_room-q.ensures.within)));
+      };
+      room = λ n paid.
+          let room = c.make_room-q.ensures.room n paid in
+          record {
+            paid = λ few. omega (arith, room.paid few, long, c.put_at.ensures.len);
+            keys = λ few. omega (arith, room.keys (omega (arith, few, c.put.ensures.spares)), long, c.put.ensures.room);
+            blocks = omega (arith, room.blocks, c.put_at.ensures.len, c.put_at.ensures.capacity);
+            places = omega (arith, room.places, c.put_at.ensures.len);
+            few = omega (arith, room.few, c.put_at.ensures.len);
+          };
+    }

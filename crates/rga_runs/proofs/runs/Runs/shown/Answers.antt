@@ -1,0 +1,48 @@
+-- The goals of `shown` that are answered by hand.
+use Rattle.std.proofs.Common.{◌≡◌, ◌+◌, ◌<◌, ◌∙◌, [], List, Some, false, length, take, get_or, ap, subst, arith}
+use Rattle.std.specs.Prelude.{slice_get}
+use Rattle.rga_tree.proofs.Interface.{seen_at, visible_at, visible_row}
+use Rattle.rga_runs.specs.declared.stretch.Stretch.{Stretch}
+use Rattle.rga_runs.specs.declared.block.Block.{Block}
+use Rattle.rga_runs.specs.Typed.{is_odd, bits_from, unset}
+use Rattle.rga_runs.specs.Stretches.{elements_of, parts_in, elements_in, visible_in}
+use Rattle.rga_runs.specs.Blocks.{row_of, at_spot}
+use Rattle.rga_runs.specs.BlockRows.{items_of}
+use Rattle.rga_runs.specs.Indexed.{stretches_in}
+use Rattle.rga_runs.proofs.BlockLists.{length-items}
+use Rattle.rga_runs.proofs.Chunks.{get_or_row, at_less, one_there}
+use Rattle.rga_runs.proofs.Whole.{seen_elements, visible_place}
+use Rattle.rga_runs.proofs.runs.Runs.shown.Goals as goal
+
+pub visible_spot-b-requires : goal.visible_spot-b-requires
+visible_spot-b-requires c =
+    let self = c.args.self.now in
+    let chars = self.characters.items in
+    let ss = stretches_in self.row in
+    omega (arith, ap (λ bs. visible_in (row_of (items_of bs))) c.deref.ensures.value, seen_elements chars ss self.stored, visible_row (elements_in chars ss) self.keeps_walk.in_order, c.requires)
+
+pub returns : goal.returns
+returns c =
+    let self = c.args.self.now in
+    let r = self.row in
+    let chars = self.characters.items in
+    let xs = items_of r.blocks.items in
+    let ss = stretches_in r in
+    let b = c.visible_spot-b.result.0 in
+    let j = c.visible_spot-b.result.1 in
+    let k = c.visible_spot-b.result.2 in
+    let is = c.deref.ensures.value in
+    let there : b < length xs = omega (arith, c.visible_spot-b.ensures.block, ap length is, length-items r.blocks.items) in
+    let within : j < length (get_or xs b []) = subst (λ (bs : List Block). j < length (get_or (items_of bs) b [])) is c.visible_spot-b.ensures.within in
+    let inside = subst (λ (bs : List Block). (d : Stretch) → k < (get_or (get_or (items_of bs) b []) j d).count) is c.visible_spot-b.ensures.inside in
+    let shown = subst (λ (bs : List Block). (d : Stretch) → is_odd (bits_from k (get_or (get_or (items_of bs) b []) j d).hidden) ≡ false) is c.visible_spot-b.ensures.visible in
+    let place = subst (λ (bs : List Block). (d : Stretch) → visible_in (take (at_spot (items_of bs) b j) (row_of (items_of bs))) + unset k (get_or (get_or (items_of bs) b []) j d).hidden ≡ c.args.k) is c.visible_spot-b.ensures.place in
+    let p = at_spot xs b j in
+    let less = at_less xs b j there within in
+    let d = one_there ss p less in
+    let item = get_or_row xs b j d there within in
+    let read : slice_get (elements_of chars (get_or ss p d)) k ≡ Some c.at.result = ap (λ (s : Stretch). slice_get (elements_of chars s) k) item ∙ c.at.ensures d in
+    let spot = visible_place chars ss c.args.k p k d c.at.result self.stored less (omega (arith, inside d, ap (λ (s : Stretch). s.count) item))
+    (ap (λ (s : Stretch). is_odd (bits_from k s.hidden)) item ∙ shown d) (ap (λ (s : Stretch). visible_in (take p ss) + unset k s.hidden) item ∙ place d) read in
+    let both = seen_at (elements_in chars ss) c.args.k c.at.result self.keeps_walk.in_order (visible_at (parts_in chars ss) c.args.k p k c.at.result spot) in
+    record { id = both.0; ch = both.1 }

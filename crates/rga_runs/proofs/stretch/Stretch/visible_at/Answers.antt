@@ -1,0 +1,15 @@
+-- The goals of `visible_at` that are answered by hand.
+use Rattle.std.proofs.Common.{◌≡◌, suc, ◌+◌, ap, arith}
+use Rattle.rga_runs.specs.Typed.{unset, is_odd, bits_from}
+use Rattle.rga_runs.proofs.Bits.{unset-more, weighs}
+use Rattle.rga_runs.proofs.stretch.Stretch.visible_at.Goals as goal
+
+pub loop-k-preserved : goal.loop-k-preserved
+loop-k-preserved c =
+    let bits = c.args.self.now.hidden in
+    let k = c.loop-k.k in
+    let one_more : k + 1 ≡ suc k = omega arith in
+    omega (arith, c.loop-k.invariant, c.weight-weight.ensures, unset-more k bits, ap (λ n. unset n bits) one_more, c.if-left-weight.false)
+
+pub returns-then-left-weight-clause-visible : goal.returns-then-left-weight-clause-visible
+returns-then-left-weight-clause-visible c = weighs (is_odd (bits_from c.loop-k.k c.args.self.now.hidden)) (omega (arith, c.if-left-weight.true, c.weight-weight.ensures))

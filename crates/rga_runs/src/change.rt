@@ -1,0 +1,169 @@
+//! A row with a character more, and with one that is hidden.
+
+ghost use Rattle.std.specs.Prelude.{◌≡◌, ◌+◌, ◌^◌, ◌<◌, ◌≤◌, ◌++◌, ◌∷◌, ℕ, List, [], All, length, take, drop, get_or, insert, slice_set, slice_index_or, not, true, vec_len};
+ghost use Rattle.std.specs.Ordering.{is_lt};
+ghost use Rattle.std.specs.List.{prefix_len};
+ghost use Rattle.bg_types.specs.Identifier.{id_cmp, same_id};
+ghost use Rattle.bg_types.specs.declared.op.Place.TheVariants.{After};
+ghost use Rattle.rga_tree.specs.declared.element.Element.{Element};
+ghost use Rattle.rga_tree.specs.Row.{place_of};
+ghost use Rattle.rga_sequence.specs.Blocks.{joined};
+ghost use Rattle.rga_runs.specs.declared.stretch.Stretch.{Stretch as Kept};
+ghost use Rattle.rga_runs.specs.Stretches.{parts_in, elements_in, are_stored, visible_in, IsOutside, IsPlaced, AreApart};
+ghost use Rattle.rga_runs.specs.Blocks.{at_spot};
+ghost use Rattle.rga_runs.specs.BlockRows.{items_of};
+ghost use Rattle.rga_runs.specs.Indexed.{stretches_in, IsIndexed, HasRoom};
+
+use crate::row::{Row, grow, hide_character, part, passed_from, put_first, put_lone, spot};
+use bg_types::{Id, Place};
+
+/// Places an element whose character is stored behind all others.
+pub fn put(row: &mut Row, id: Id, parent: Place, start: usize, hidden: bool)
+    requires stored { are_stored start (stretches_in row.old) ≡ true }
+    requires place { start < 2 ^ 32 }
+    requires parent { IsPlaced parent (stretches_in row.old) }
+    requires new { All (IsOutside id) (stretches_in row.old) }
+    requires apart { AreApart (stretches_in row.old) }
+    requires indexed { IsIndexed row.old }
+    requires room { HasRoom row.old 2 }
+    ensures elements { (chars : List ℕ) (ch : ℕ) → length chars ≡ start → elements_in (chars ++ ch ∷ []) (stretches_in row.new)
+        ≡ insert (elements_in chars (stretches_in row.old)) (place_of parent id (elements_in chars (stretches_in row.old)))
+        (record { id = id; parent = parent; ch = ch; hidden = hidden }) }
+    ensures stored { are_stored (start + 1) (stretches_in row.new) ≡ true }
+    ensures indexed { IsIndexed row.new }
+    ensures room { (n : ℕ) → HasRoom row.old (n + 2) → HasRoom row.new n }
+{
+    if row.blocks.is_empty() {
+        put_first(row, id, parent, start, hidden);
+    } else {
+        let (b, j) = place_for(row, id, &parent);
+        put_at_spot(row, b, j, id, parent, start, hidden);
+    }
+}
+
+/// The spot where an element goes. A stretch that has that place inside is parted there.
+fn place_for(row: &mut Row, id: Id, parent: &Place) -> (usize, usize)
+    requires some { 0 < vec_len row.old.blocks }
+    requires parent { IsPlaced parent.now (stretches_in row.old) }
+    requires apart { AreApart (stretches_in row.old) }
+    requires indexed { IsIndexed row.old }
+    requires room { HasRoom row.old 1 }
+    ensures block { result.0 < vec_len row.new.blocks }
+    ensures within { result.1 ≤ length (get_or (items_of row.new.blocks.items) result.0 []) }
+    ensures place { (chars : List ℕ) → are_stored (length chars) (stretches_in row.old) ≡ true
+        → length (joined (take (at_spot (items_of row.new.blocks.items) result.0 result.1) (parts_in chars (stretches_in row.new))))
+        ≡ place_of parent.now id (elements_in chars (stretches_in row.old)) }
+    ensures elements { (chars : List ℕ) → elements_in chars (stretches_in row.new) ≡ elements_in chars (stretches_in row.old) }
+    ensures stored { (n : ℕ) → are_stored n (stretches_in row.old) ≡ true → are_stored n (stretches_in row.new) ≡ true }
+    ensures outside { All (IsOutside id) (stretches_in row.old) → All (IsOutside id) (stretches_in row.new) }
+    ensures apart { AreApart (stretches_in row.new) }
+    ensures indexed { IsIndexed row.new }
+    ensures room { (n : ℕ) → HasRoom row.old (n + 1) → HasRoom row.new n }
+{
+    let (b, j) = behind_parent(row, id, parent);
+    passed_from(&row.blocks, b, j, id)
+}
+
+/// The spot right behind the parent, or behind greater elements of its stretch: from there on greater stretches are passed.
+fn behind_parent(row: &mut Row, id: Id, parent: &Place) -> (usize, usize)
+    requires some { 0 < vec_len row.old.blocks }
+    requires parent { IsPlaced parent.now (stretches_in row.old) }
+    requires apart { AreApart (stretches_in row.old) }
+    requires indexed { IsIndexed row.old }
+    requires room { HasRoom row.old 1 }
+    ensures block { result.0 < vec_len row.new.blocks }
+    ensures within { result.1 ≤ length (get_or (items_of row.new.blocks.items) result.0 []) }
+    ensures place { (chars : List ℕ) → are_stored (length chars) (stretches_in row.old) ≡ true
+        → let p = at_spot (items_of row.new.blocks.items) result.0 result.1 in
+        length (joined (take p (parts_in chars (stretches_in row.new))))
+        + prefix_len (λ e. is_lt (id_cmp id e.id)) (joined (drop p (parts_in chars (stretches_in row.new))))
+        ≡ place_of parent.now id (elements_in chars (stretches_in row.old)) }
+    ensures elements { (chars : List ℕ) → elements_in chars (stretches_in row.new) ≡ elements_in chars (stretches_in row.old) }
+    ensures stored { (n : ℕ) → are_stored n (stretches_in row.old) ≡ true → are_stored n (stretches_in row.new) ≡ true }
+    ensures outside { All (IsOutside id) (stretches_in row.old) → All (IsOutside id) (stretches_in row.new) }
+    ensures apart { AreApart (stretches_in row.new) }
+    ensures indexed { IsIndexed row.new }
+    ensures room { (n : ℕ) → HasRoom row.old (n + 1) → HasRoom row.new n }
+{
+    match parent {
+        Place::Root => (0, 0),
+        Place::After(above) => behind(row, *above, id),
+    }
+}
+
+/// What follows an element, for a child of it: greater elements that follow in its own stretch are passed with that, and before one
+/// that isn't greater it is parted.
+fn behind(row: &mut Row, above: Id, id: Id) -> (usize, usize)
+    requires parent { All (IsOutside above) (stretches_in row.old) → ⊥ }
+    requires apart { AreApart (stretches_in row.old) }
+    requires indexed { IsIndexed row.old }
+    requires room { HasRoom row.old 1 }
+    ensures block { result.0 < vec_len row.new.blocks }
+    ensures within { result.1 ≤ length (get_or (items_of row.new.blocks.items) result.0 []) }
+    ensures place { (chars : List ℕ) → are_stored (length chars) (stretches_in row.old) ≡ true
+        → let p = at_spot (items_of row.new.blocks.items) result.0 result.1 in
+        length (joined (take p (parts_in chars (stretches_in row.new))))
+        + prefix_len (λ e. is_lt (id_cmp id e.id)) (joined (drop p (parts_in chars (stretches_in row.new))))
+        ≡ place_of (After above) id (elements_in chars (stretches_in row.old)) }
+    ensures elements { (chars : List ℕ) → elements_in chars (stretches_in row.new) ≡ elements_in chars (stretches_in row.old) }
+    ensures stored { (n : ℕ) → are_stored n (stretches_in row.old) ≡ true → are_stored n (stretches_in row.new) ≡ true }
+    ensures outside { All (IsOutside id) (stretches_in row.old) → All (IsOutside id) (stretches_in row.new) }
+    ensures apart { AreApart (stretches_in row.new) }
+    ensures indexed { IsIndexed row.new }
+    ensures room { (n : ℕ) → HasRoom row.old (n + 1) → HasRoom row.new n }
+{
+    let (b, j, k) = spot(row, above).unwrap();
+    if row.blocks[b].stretches[j].stops(k + 1, id) {
+        part(row, b, j, k + 1)
+    } else {
+        (b, j + 1)
+    }
+}
+
+/// Puts an element in at a spot: into the stretch before that, if it is the next one of that, or else as a stretch of its own.
+fn put_at_spot(row: &mut Row, b: usize, j: usize, id: Id, parent: Place, start: usize, hidden: bool)
+    requires block { b < vec_len row.old.blocks }
+    requires within { j ≤ length (get_or (items_of row.old.blocks.items) b []) }
+    requires stored { are_stored start (stretches_in row.old) ≡ true }
+    requires place { start < 2 ^ 32 }
+    requires new { All (IsOutside id) (stretches_in row.old) }
+    requires apart { AreApart (stretches_in row.old) }
+    requires indexed { IsIndexed row.old }
+    requires room { HasRoom row.old 1 }
+    ensures elements { (chars : List ℕ) (ch : ℕ) → length chars ≡ start → elements_in (chars ++ ch ∷ []) (stretches_in row.new)
+        ≡ insert (elements_in chars (stretches_in row.old))
+        (length (joined (take (at_spot (items_of row.old.blocks.items) b j) (parts_in chars (stretches_in row.old)))))
+        (record { id = id; parent = parent; ch = ch; hidden = hidden }) }
+    ensures stored { are_stored (start + 1) (stretches_in row.new) ≡ true }
+    ensures indexed { IsIndexed row.new }
+    ensures room { (n : ℕ) → HasRoom row.old (n + 1) → HasRoom row.new n }
+{
+    // Reading the identifier tells the proof that its counter fits.
+    let _known = id.counter();
+    if j > 0 && row.blocks[b].stretches[j - 1].goes_on(id, &parent, start, hidden) {
+        grow(row, b, j - 1);
+    } else {
+        put_lone(row, b, j, id, parent, start, hidden);
+    }
+}
+
+/// Hides an element, and returns how many fewer are visible.
+pub fn hide(row: &mut Row, id: Id) -> usize
+    requires placed { All (IsOutside id) (stretches_in row.old) → ⊥ }
+    requires apart { AreApart (stretches_in row.old) }
+    requires indexed { IsIndexed row.old }
+    ensures elements { (chars : List ℕ) → are_stored (length chars) (stretches_in row.old) ≡ true → (d : Element)
+        → let es = elements_in chars (stretches_in row.old) in let at = prefix_len (λ e. not (same_id id e.id)) es in
+        elements_in chars (stretches_in row.new) ≡ slice_set es at (record (slice_index_or es at d) { hidden = true }) }
+    ensures visible { visible_in (stretches_in row.new) + result ≡ visible_in (stretches_in row.old) }
+    ensures stored { (n : ℕ) → are_stored n (stretches_in row.old) ≡ true → are_stored n (stretches_in row.new) ≡ true }
+    ensures indexed { IsIndexed row.new }
+    ensures room { (n : ℕ) → HasRoom row.old n → HasRoom row.new n }
+{
+    let (b, j, k) = spot(row, id).unwrap();
+    if row.blocks[b].stretches[j].hides(k) {
+        return 0;
+    }
+    hide_character(row, b, j, k);
+    1
+}

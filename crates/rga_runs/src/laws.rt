@@ -1,0 +1,24 @@
+//! Laws of the definitions: each function's contract is the law, and its body is empty.
+
+ghost use Rattle.std.specs.Prelude.{◌≡◌, ◌++◌, ◌∷◌, ℕ, List, [], true, false, take, drop, codes};
+ghost use Rattle.bg_types.specs.Identifier.{Identifier};
+ghost use Rattle.bg_types.specs.declared.op.Place.{Place};
+ghost use Rattle.bg_types.specs.declared.op.Place.TheVariants.{Root, After};
+ghost use Rattle.rga_tree.specs.Examples.{stamp};
+ghost use Rattle.rga_runs.specs.Typed.{later, parent_at, typed, bits_from};
+
+/// A stretch that is parted has the same elements, wherever it is parted.
+pub fn parting()
+    ensures { (id : Identifier) (parent : Place) (hidden : ℕ) (chs : List ℕ) (k : ℕ)
+        → typed id parent hidden (take k chs) ++ typed (later id k) (parent_at id parent k) (bits_from k hidden) (drop k chs)
+        ≡ typed id parent hidden chs }
+{}
+
+/// The elements of "ab", typed by site 1 on an empty text, and of "y", typed by site 2 behind (2,2) and erased.
+pub fn examples()
+    ensures two { typed (stamp 1 1) Root 0 (codes "ab")
+        ≡ record { id = stamp 1 1; parent = Root; ch = 97; hidden = false }
+        ∷ record { id = stamp 2 1; parent = After (stamp 1 1); ch = 98; hidden = false } ∷ [] }
+    ensures one { typed (stamp 3 2) (After (stamp 2 2)) 1 (codes "y")
+        ≡ record { id = stamp 3 2; parent = After (stamp 2 2); ch = 121; hidden = true } ∷ [] }
+{}

@@ -1,0 +1,101 @@
+//! Leaves of keys.
+
+ghost use Rattle.std.specs.Prelude.{◌≡◌, ◌+◌, ◌<◌, ◌≤◌, ◌∷◌, [], length, take, drop, insert, slice_set, vec_len, vec_capacity};
+ghost use Rattle.rga_runs.specs.Keyed.{rank, begins};
+
+use crate::cut::FULL;
+use crate::key::Key;
+use crate::rank::rank_of;
+use bg_types::Id;
+
+/// At least one key and at most 256, with memory for 256.
+#[derive(Drop)]
+pub struct Leaf {
+    pub keys: Vec<Key>,
+    /// With what its first key begins.
+    first: Id,
+    ghost some: { 0 < vec_len keys },
+    ghost few: { vec_len keys ≤ 256 },
+    ghost room: { 256 ≤ vec_capacity keys },
+    ghost begun: { rank first ≡ begins keys.items },
+}
+
+/// An empty row with memory for a leaf.
+#[derive(Drop)]
+pub struct SpareLeaf {
+    pub keys: Vec<Key>,
+    ghost empty: { keys.items ≡ [] },
+    ghost room: { 256 ≤ vec_capacity keys },
+}
+
+impl Leaf {
+    /// A leaf of one key.
+    pub fn lone(mut keys: Vec<Key>, key: Key) -> Leaf
+        requires empty { keys.items ≡ [] }
+        requires room { 256 ≤ vec_capacity keys }
+        ensures { result.keys.items ≡ key ∷ [] }
+    {
+        let first = key.first;
+        keys.push(key).unwrap();
+        Leaf { keys, first }
+    }
+
+    /// The number of its first key.
+    pub fn rank(&self) -> u64
+        ensures { result ≡ begins self.now.keys.items }
+    {
+        rank_of(self.first)
+    }
+
+    /// Puts in a key, with room for it.
+    pub fn insert(&mut self, at: usize, key: Key)
+        requires within { at ≤ length self.old.keys.items }
+        requires room { length self.old.keys.items < 256 }
+        ensures { self.new.keys.items ≡ insert self.old.keys.items at key }
+    {
+        put_in(&mut self.keys, at, key);
+        self.first = self.keys[0].first;
+    }
+
+    /// Writes a key in place of another.
+    pub fn write(&mut self, at: usize, key: Key)
+        requires { at < length self.old.keys.items }
+        ensures { self.new.keys.items ≡ slice_set self.old.keys.items at key }
+    {
+        self.keys[at] = key;
+        self.first = self.keys[0].first;
+    }
+
+    /// Moves the keys of a full leaf from one on to a new leaf.
+    pub fn split(&mut self, cut: usize, mut upper: Vec<Key>) -> Leaf
+        requires full { length self.old.keys.items ≡ 256 }
+        requires some { 0 < cut }
+        requires most { cut < 256 }
+        requires empty { upper.items ≡ [] }
+        requires room { 256 ≤ vec_capacity upper }
+        ensures keys { self.new.keys.items ≡ take cut self.old.keys.items }
+        ensures upper { result.keys.items ≡ drop cut self.old.keys.items }
+    {
+        upper.extend_from_slice(&self.keys[cut..]).unwrap();
+        self.keys.truncate(cut);
+        let first = upper[0].first;
+        Leaf { keys: upper, first }
+    }
+}
+
+/// Puts a key into a row that has memory for it. At the end nothing moves.
+fn put_in(keys: &mut Vec<Key>, at: usize, key: Key)
+    requires within { at ≤ vec_len keys.old }
+    requires few { vec_len keys.old < 256 }
+    requires room { vec_len keys.old < vec_capacity keys.old }
+    ensures items { keys.new.items ≡ insert keys.old.items at key }
+    ensures len { vec_len keys.new ≡ vec_len keys.old + 1 }
+    ensures capacity { vec_capacity keys.new ≡ vec_capacity keys.old }
+{
+    if at == keys.len() {
+        keys.push_reserved(key);
+    } else {
+        // The remainder is the place: by it compiled code sees no wrap behind it, and moves all in one piece.
+        keys.insert(at % FULL, key).unwrap();
+    }
+}

@@ -1,0 +1,23 @@
+//! A sequence in stretches: characters that one site typed one after the other are kept as one.
+#![tactic(auto)]
+
+mod block;
+mod change;
+mod cut;
+mod key;
+mod keys;
+pub mod laws;
+mod leaf;
+mod leaves;
+mod marks;
+mod order;
+mod parent;
+mod rank;
+mod read;
+mod room;
+mod row;
+mod runs;
+mod search;
+mod stretch;
+
+pub use runs::Runs;

@@ -1,0 +1,66 @@
+//! Where keys stand in a row of them.
+
+ghost use Rattle.std.specs.Prelude.{◌≡◌, ◌+◌, ◌<◌, ◌≤◌, ℕ, length, get_or};
+ghost use Rattle.std.specs.Bool.{OnTrue};
+ghost use Rattle.std.specs.List.Sorted.{IsNonDecreasingBy};
+ghost use Rattle.rga_runs.specs.declared.key.Key.{Key as Kept};
+ghost use Rattle.rga_runs.specs.Keyed.{rank};
+
+use crate::key::Key;
+use bg_types::Id;
+
+/// The number by which keys are in order.
+pub fn rank_of(id: Id) -> u64
+    ensures { result ≡ rank id }
+{
+    u64::from(id.site()) * 4_294_967_296 + u64::from(id.counter())
+}
+
+/// About which of the numbers up to a count stands where a number stands between two others: the count from the greater one on.
+pub fn share(from: u64, to: u64, count: usize, at: u64) -> usize {
+    if at >= to {
+        return count;
+    }
+    let part = at.saturating_sub(from).saturating_mul(count as u64);
+    (part / to.saturating_sub(from).max(1)) as usize
+}
+
+/// How many keys at the front aren't above an identifier. Identifiers of one site are often dense, and its place then is known.
+pub fn not_above(keys: &[Key], id: Id) -> usize
+    requires { IsNonDecreasingBy (λ k. rank k.first) keys.now }
+    ensures within { result ≤ length keys.now }
+    ensures below { (i : ℕ) (d : Kept) → i < result → rank (get_or keys.now i d).first ≤ rank id }
+    ensures above { (i : ℕ) (d : Kept) → result ≤ i → i < length keys.now → rank id < rank (get_or keys.now i d).first }
+{
+    let last = rank_of(id);
+    let likely = likely_key(keys, last);
+    if ends_not_above(keys, likely, last) {
+        return likely + 1;
+    }
+    keys.partition_point(|k| rank_of(k.first) <= last)
+}
+
+/// Where the last key would stand that isn't above a number, if the numbers of keys rose evenly.
+fn likely_key(keys: &[Key], last: u64) -> usize {
+    match keys.last() {
+        Some(end) => share(
+            rank_of(keys[0].first),
+            rank_of(end.first),
+            keys.len() - 1,
+            last,
+        ),
+        None => 0,
+    }
+}
+
+/// Whether key j isn't above a number, and the next one is.
+fn ends_not_above(keys: &[Key], j: usize, last: u64) -> bool
+    ensures there { OnTrue result (j < length keys.now) }
+    ensures below { OnTrue result ((d : Kept) → rank (get_or keys.now j d).first ≤ last) }
+    ensures above { OnTrue result ((d : Kept) → j + 1 < length keys.now → last < rank (get_or keys.now (j + 1) d).first) }
+{
+    if j >= keys.len() || last < rank_of(keys[j].first) {
+        return false;
+    }
+    j + 1 == keys.len() || last < rank_of(keys[j + 1].first)
+}

@@ -1,0 +1,103 @@
+//! Where characters stand in blocks of stretches.
+
+ghost use Rattle.std.specs.Prelude.{◌≡◌, ◌+◌, ◌^◌, ◌<◌, ◌≤◌, ℕ, List, [], length, take, get_or, false};
+ghost use Rattle.rga_runs.specs.declared.stretch.Stretch.{Stretch as Kept};
+ghost use Rattle.rga_runs.specs.Typed.{is_odd, bits_from, unset};
+ghost use Rattle.rga_runs.specs.Stretches.{count_in, visible_in};
+ghost use Rattle.rga_runs.specs.Blocks.{row_of, at_spot};
+ghost use Rattle.rga_runs.specs.BlockRows.{items_of};
+
+use crate::block::Block;
+use crate::search::{count_visible, spot_of, visible_stretch};
+
+/// Where element n stands: its block, its stretch there, and its place in that.
+pub fn nth_spot(blocks: &[Block], n: usize) -> (usize, usize, usize)
+    requires { n < count_in (row_of (items_of blocks.now)) }
+    ensures block { result.0 < length blocks.now }
+    ensures within { result.1 < length (get_or (items_of blocks.now) result.0 []) }
+    ensures inside { (d : Kept) → result.2 < (get_or (get_or (items_of blocks.now) result.0 []) result.1 d).count }
+    ensures place { count_in (take (at_spot (items_of blocks.now) result.0 result.1) (row_of (items_of blocks.now))) + result.2 ≡ n }
+{
+    let (b, left) = block_of(blocks, n);
+    let (j, k) = spot_of(&blocks[b].stretches, left);
+    (b, j, k)
+}
+
+/// The block of element n, and how many stand before it there.
+fn block_of(blocks: &[Block], n: usize) -> (usize, usize)
+    requires { n < count_in (row_of (items_of blocks.now)) }
+    ensures block { result.0 < length blocks.now }
+    ensures within { result.1 < count_in (get_or (items_of blocks.now) result.0 []) }
+    ensures place { count_in (row_of (take result.0 (items_of blocks.now))) + result.1 ≡ n }
+{
+    let mut left = n;
+    for b in 0..blocks.len() {
+        let count = blocks[b].count;
+        if left < count {
+            return (b, left);
+        }
+        left -= count;
+    }
+    unreachable!()
+}
+
+/// Where visible element n stands: its block, its stretch there, and its place in that.
+pub fn visible_spot(blocks: &[Block], n: usize) -> (usize, usize, usize)
+    requires { n < visible_in (row_of (items_of blocks.now)) }
+    ensures block { result.0 < length blocks.now }
+    ensures within { result.1 < length (get_or (items_of blocks.now) result.0 []) }
+    ensures inside { (d : Kept) → result.2 < (get_or (get_or (items_of blocks.now) result.0 []) result.1 d).count }
+    ensures visible { (d : Kept) → is_odd (bits_from result.2 (get_or (get_or (items_of blocks.now) result.0 []) result.1 d).hidden) ≡ false }
+    ensures place { (d : Kept) → visible_in (take (at_spot (items_of blocks.now) result.0 result.1) (row_of (items_of blocks.now)))
+        + unset result.2 (get_or (get_or (items_of blocks.now) result.0 []) result.1 d).hidden ≡ n }
+{
+    let (b, left) = visible_block(blocks, n);
+    let (j, rest) = visible_stretch(&blocks[b].stretches, left);
+    let k = blocks[b].stretches[j].visible_at(rest);
+    (b, j, k)
+}
+
+/// The block of visible element n, and how many visible ones stand before it there.
+fn visible_block(blocks: &[Block], n: usize) -> (usize, usize)
+    requires { n < visible_in (row_of (items_of blocks.now)) }
+    ensures block { result.0 < length blocks.now }
+    ensures within { result.1 < visible_in (get_or (items_of blocks.now) result.0 []) }
+    ensures place { visible_in (row_of (take result.0 (items_of blocks.now))) + result.1 ≡ n }
+{
+    let mut left = n;
+    for b in 0..blocks.len() {
+        let visible = blocks[b].visible;
+        if left < visible {
+            return (b, left);
+        }
+        left -= visible;
+    }
+    unreachable!()
+}
+
+/// How many visible elements stand before character k of a stretch.
+pub fn count_before(blocks: &[Block], b: usize, j: usize, k: usize) -> usize
+    requires few { visible_in (row_of (items_of blocks.now)) < 2 ^ 64 }
+    requires block { b < length blocks.now }
+    requires within { j < length (get_or (items_of blocks.now) b []) }
+    requires inside { (d : Kept) → k ≤ (get_or (get_or (items_of blocks.now) b []) j d).count }
+    ensures { (d : Kept) → result ≡ visible_in (take (at_spot (items_of blocks.now) b j) (row_of (items_of blocks.now)))
+        + unset k (get_or (get_or (items_of blocks.now) b []) j d).hidden }
+{
+    let stretches = &blocks[b].stretches;
+    visible_in_blocks(&blocks[..b])
+        + count_visible(&stretches[..j])
+        + stretches[j].visible_before(k)
+}
+
+/// How many elements of these blocks are visible.
+fn visible_in_blocks(blocks: &[Block]) -> usize
+    requires few { visible_in (row_of (items_of blocks.now)) < 2 ^ 64 }
+    ensures { result ≡ visible_in (row_of (items_of blocks.now)) }
+{
+    let mut visible = 0;
+    for block in blocks {
+        visible += block.visible;
+    }
+    visible
+}

@@ -1,0 +1,258 @@
+//! The row of blocks with the index of its stretches.
+
+ghost use Rattle.std.specs.Prelude.{◌≡◌, ◌+◌, ◌-◌, ◌^◌, ◌<◌, ◌≤◌, ◌∷◌, [], ℕ, All, length, take, drop, get_or, insert, slice_set, nat_eq, false, IfSome, IfNone, vec_len};
+ghost use Rattle.std.specs.List.{prefix_len};
+ghost use Rattle.rga_runs.specs.declared.stretch.Stretch.{Stretch as Kept};
+ghost use Rattle.rga_runs.specs.Typed.{later, is_odd, bits_from};
+ghost use Rattle.rga_runs.specs.Stretches.{IsOutside, AreApart};
+ghost use Rattle.rga_runs.specs.Changed.{IsGrown, IsHidden, IsParted, IsLone};
+ghost use Rattle.rga_runs.specs.Blocks.{row_of, at_spot, passed};
+ghost use Rattle.rga_runs.specs.BlockRows.{items_of};
+ghost use Rattle.rga_runs.specs.Indexed.{stretches_in, IsIndexed, HasRoom};
+
+use crate::block::{Block, Spare, is_below};
+use crate::keys::{self, Keys};
+use crate::order::{grow_at, hide_at, part_at, put_at};
+use crate::room::make_room;
+use crate::search;
+use bg_types::{Id, Place};
+
+/// Blocks in order, memory for more, the key of each stretch, and the place of the block of each number.
+#[derive(Drop)]
+pub struct Row {
+    pub blocks: Vec<Block>,
+    pub spares: Vec<Spare>,
+    pub keys: Keys,
+    pub places: Vec<usize>,
+    /// How many stretches the blocks have.
+    pub count: usize,
+    /// Where a character was put in last. The next one is often put after it, or after what it was put after.
+    pub recent: (usize, usize),
+}
+
+/// The block of an identifier, the place of its stretch there, and which character of that it is.
+pub fn spot(row: &Row, id: Id) -> Option<(usize, usize, usize)>
+    requires indexed { IsIndexed row.now }
+    requires apart { AreApart (stretches_in row.now) }
+    ensures block { IfSome result (λ s. s.0 < vec_len row.now.blocks) }
+    ensures within { IfSome result (λ s. s.1 < length (get_or (items_of row.now.blocks.items) s.0 [])) }
+    ensures inside { IfSome result (λ s. (d : Kept) → s.2 < (get_or (get_or (items_of row.now.blocks.items) s.0 []) s.1 d).count) }
+    ensures there { IfSome result (λ s. (d : Kept) → id ≡ later (get_or (get_or (items_of row.now.blocks.items) s.0 []) s.1 d).first s.2) }
+    ensures absent { IfNone result (All (IsOutside id) (stretches_in row.now)) }
+{
+    let (b, j) = row.recent;
+    match spot_in(row, b, j, id) {
+        Some(found) => Some(found),
+        None => match spot_in(row, b, j.saturating_sub(1), id) {
+            Some(found) => Some(found),
+            None => keyed_spot(row, id),
+        },
+    }
+}
+
+/// The same of a character of stretch j of block b, if there is one.
+fn spot_in(row: &Row, b: usize, j: usize, id: Id) -> Option<(usize, usize, usize)>
+    ensures block { IfSome result (λ s. s.0 < vec_len row.now.blocks) }
+    ensures within { IfSome result (λ s. s.1 < length (get_or (items_of row.now.blocks.items) s.0 [])) }
+    ensures inside { IfSome result (λ s. (d : Kept) → s.2 < (get_or (get_or (items_of row.now.blocks.items) s.0 []) s.1 d).count) }
+    ensures there { IfSome result (λ s. (d : Kept) → id ≡ later (get_or (get_or (items_of row.now.blocks.items) s.0 []) s.1 d).first s.2) }
+{
+    let block = row.blocks.get(b)?;
+    let stretch = block.stretches.get(j)?;
+    let k = stretch.place_in(id)?;
+    Some((b, j, k))
+}
+
+/// The same by the keys: an identifier that isn't of the stretch to which its key leads stands nowhere.
+#[inline(never)]
+fn keyed_spot(row: &Row, id: Id) -> Option<(usize, usize, usize)>
+    requires indexed { IsIndexed row.now }
+    requires apart { AreApart (stretches_in row.now) }
+    ensures block { IfSome result (λ s. s.0 < vec_len row.now.blocks) }
+    ensures within { IfSome result (λ s. s.1 < length (get_or (items_of row.now.blocks.items) s.0 [])) }
+    ensures inside { IfSome result (λ s. (d : Kept) → s.2 < (get_or (get_or (items_of row.now.blocks.items) s.0 []) s.1 d).count) }
+    ensures there { IfSome result (λ s. (d : Kept) → id ≡ later (get_or (get_or (items_of row.now.blocks.items) s.0 []) s.1 d).first s.2) }
+    ensures absent { IfNone result (All (IsOutside id) (stretches_in row.now)) }
+{
+    let key = keys::find(&row.keys, id)?;
+    let b = *row.places.get(key.number as usize)?;
+    let block = row.blocks.get(b)?;
+    let j = search::begun_by(&block.stretches, usize::from(key.hint), key.first)?;
+    let stretch = block.stretches.get(j)?;
+    let k = stretch.place_in(id)?;
+    Some((b, j, k))
+}
+
+/// From a spot of the row on, where the first stretch stands that doesn't begin with a greater identifier. Blocks in which all do
+/// are passed whole.
+pub fn passed_from(blocks: &[Block], b: usize, j: usize, id: Id) -> (usize, usize)
+    requires block { b < length blocks.now }
+    requires within { j ≤ length (get_or (items_of blocks.now) b []) }
+    ensures block { result.0 < length blocks.now }
+    ensures within { result.1 ≤ length (get_or (items_of blocks.now) result.0 []) }
+    ensures place { let start = at_spot (items_of blocks.now) b j in
+        at_spot (items_of blocks.now) result.0 result.1 ≡ start + passed id (drop start (row_of (items_of blocks.now))) }
+{
+    let here = &blocks[b];
+    let at = j + search::greater_in_front(&here.stretches[j..], id);
+    if at < here.stretches.len() {
+        return (b, at);
+    }
+    landing(blocks, b + 1 + passed_in_front(&blocks[b + 1..], id), id)
+}
+
+/// Where the first stretch of block q, or of those behind it, stands that doesn't begin with a greater identifier. Where that is the
+/// first of its block, the end of the block before it is answered.
+fn landing(blocks: &[Block], q: usize, id: Id) -> (usize, usize)
+    requires some { 0 < q }
+    requires block { q ≤ length blocks.now }
+    ensures block { result.0 < length blocks.now }
+    ensures within { result.1 ≤ length (get_or (items_of blocks.now) result.0 []) }
+    ensures place { at_spot (items_of blocks.now) result.0 result.1 ≡ length (row_of (take q (items_of blocks.now))) + passed id (get_or (items_of blocks.now) q []) }
+{
+    if q == blocks.len() {
+        return end_of(blocks, q - 1);
+    }
+    let at = search::greater_in_front(&blocks[q].stretches, id);
+    if at == 0 {
+        return end_of(blocks, q - 1);
+    }
+    (q, at)
+}
+
+/// The spot behind the last stretch of a block.
+fn end_of(blocks: &[Block], b: usize) -> (usize, usize)
+    requires { b < length blocks.now }
+    ensures block { result.0 < length blocks.now }
+    ensures within { result.1 ≤ length (get_or (items_of blocks.now) result.0 []) }
+    ensures place { at_spot (items_of blocks.now) result.0 result.1 ≡ length (row_of (take (b + 1) (items_of blocks.now))) }
+{
+    (b, blocks[b].stretches.len())
+}
+
+/// How many blocks at the front have only stretches that begin with a greater identifier.
+fn passed_in_front(blocks: &[Block], id: Id) -> usize
+    ensures count { result ≡ prefix_len (λ b. nat_eq (passed id b.stretches.items) (length b.stretches.items)) blocks.now }
+    ensures within { result ≤ length blocks.now }
+{
+    blocks.iter().take_while(|b| passes(b, id)).count()
+}
+
+/// Whether all stretches of a block begin with a greater identifier.
+fn passes(block: &Block, id: Id) -> bool
+    ensures { result ≡ nat_eq (passed id block.now.stretches.items) (length block.now.stretches.items) }
+{
+    is_below(id, block.least)
+        || search::greater_in_front(&block.stretches, id) == block.stretches.len()
+}
+
+/// Puts in the first stretch.
+#[inline(never)]
+pub fn put_first(row: &mut Row, id: Id, parent: Place, start: usize, hidden: bool)
+    requires none { vec_len row.old.blocks ≡ 0 }
+    requires indexed { IsIndexed row.old }
+    requires place { start < 2 ^ 32 }
+    requires room { HasRoom row.old 1 }
+    ensures row { (s : Kept) × IsLone s id parent start hidden × (stretches_in row.new ≡ s ∷ []) }
+    ensures indexed { IsIndexed row.new }
+    ensures room { (n : ℕ) → HasRoom row.old (n + 1) → HasRoom row.new n }
+{
+    let stretches = row.spares.pop().unwrap().stretches;
+    let block = Block::lone(stretches, 0, id, parent, start, hidden);
+    row.blocks.push(block).unwrap();
+    row.places.push(0).unwrap();
+    keys::put(&mut row.keys, id, 0, 0);
+    row.count = 1;
+    row.recent = (0, 0);
+}
+
+/// Puts in a stretch of one character at a spot.
+pub fn put_lone(
+    row: &mut Row,
+    b: usize,
+    j: usize,
+    id: Id,
+    parent: Place,
+    start: usize,
+    hidden: bool,
+)
+    requires block { b < vec_len row.old.blocks }
+    requires within { j ≤ length (get_or (items_of row.old.blocks.items) b []) }
+    requires indexed { IsIndexed row.old }
+    requires apart { AreApart (stretches_in row.old) }
+    requires new { All (IsOutside id) (stretches_in row.old) }
+    requires place { start < 2 ^ 32 }
+    requires room { HasRoom row.old 1 }
+    ensures row { (s : Kept) × IsLone s id parent start hidden
+        × (stretches_in row.new ≡ insert (stretches_in row.old) (at_spot (items_of row.old.blocks.items) b j) s) }
+    ensures indexed { IsIndexed row.new }
+    ensures room { (n : ℕ) → HasRoom row.old (n + 1) → HasRoom row.new n }
+{
+    let (q, at) = make_room(row, b, j);
+    put_at(&mut row.blocks, q, at, id, parent, start, hidden);
+    let number = row.blocks[q].number;
+    keys::put(&mut row.keys, id, number, at);
+    row.count += 1;
+    row.recent = (q, at);
+}
+
+/// Parts stretch j of block b before its character k, and answers where the rest stands: its block, and its place there, which
+/// is right behind the stretch.
+pub fn part(row: &mut Row, b: usize, j: usize, k: usize) -> (usize, usize)
+    requires block { b < vec_len row.old.blocks }
+    requires within { j < length (get_or (items_of row.old.blocks.items) b []) }
+    requires some { 0 < k }
+    requires inside { (d : Kept) → k < (get_or (get_or (items_of row.old.blocks.items) b []) j d).count }
+    requires indexed { IsIndexed row.old }
+    requires apart { AreApart (stretches_in row.old) }
+    requires room { HasRoom row.old 1 }
+    ensures block { result.0 < vec_len row.new.blocks }
+    ensures within { result.1 < length (get_or (items_of row.new.blocks.items) result.0 []) }
+    ensures behind { 0 < result.1 }
+    ensures place { at_spot (items_of row.new.blocks.items) result.0 result.1 ≡ at_spot (items_of row.old.blocks.items) b j + 1 }
+    ensures row { (d : Kept) → let p = at_spot (items_of row.old.blocks.items) b j in (s : Kept) × (rest : Kept) × IsParted (get_or (stretches_in row.old) p d) s rest k
+        × (stretches_in row.new ≡ insert (slice_set (stretches_in row.old) p s) (p + 1) rest) }
+    ensures indexed { IsIndexed row.new }
+    ensures room { (n : ℕ) → HasRoom row.old (n + 1) → HasRoom row.new n }
+{
+    let (q, at) = make_room(row, b, j + 1);
+    let first = part_at(&mut row.blocks, q, at - 1, k);
+    let number = row.blocks[q].number;
+    keys::put(&mut row.keys, first, number, at);
+    row.count += 1;
+    (q, at)
+}
+
+/// Lets stretch j of block b take in the character behind its last one.
+pub fn grow(row: &mut Row, b: usize, j: usize)
+    requires block { b < vec_len row.old.blocks }
+    requires within { j < length (get_or (items_of row.old.blocks.items) b []) }
+    requires new { (d : Kept) → let s = get_or (get_or (items_of row.old.blocks.items) b []) j d in All (IsOutside (later s.first s.count)) (stretches_in row.old) }
+    requires counter { (d : Kept) → let s = get_or (get_or (items_of row.old.blocks.items) b []) j d in s.first.counter + s.count < 2 ^ 32 }
+    requires place { (d : Kept) → let s = get_or (get_or (items_of row.old.blocks.items) b []) j d in s.start + s.count < 2 ^ 32 }
+    requires few { (d : Kept) → (get_or (get_or (items_of row.old.blocks.items) b []) j d).count < 24 }
+    requires bits { (d : Kept) → let s = get_or (get_or (items_of row.old.blocks.items) b []) j d in bits_from s.count s.hidden ≡ 0 }
+    requires indexed { IsIndexed row.old }
+    ensures row { (d : Kept) → let p = at_spot (items_of row.old.blocks.items) b j in (s : Kept) × IsGrown (get_or (stretches_in row.old) p d) s
+        × (stretches_in row.new ≡ slice_set (stretches_in row.old) p s) }
+    ensures indexed { IsIndexed row.new }
+    ensures room { (n : ℕ) → HasRoom row.old n → HasRoom row.new n }
+{
+    grow_at(&mut row.blocks, b, j);
+    row.recent = (b, j);
+}
+
+/// Hides character k of stretch j of block b, which is visible.
+pub fn hide_character(row: &mut Row, b: usize, j: usize, k: usize)
+    requires block { b < vec_len row.old.blocks }
+    requires within { j < length (get_or (items_of row.old.blocks.items) b []) }
+    requires inside { (d : Kept) → k < (get_or (get_or (items_of row.old.blocks.items) b []) j d).count }
+    requires visible { (d : Kept) → is_odd (bits_from k (get_or (get_or (items_of row.old.blocks.items) b []) j d).hidden) ≡ false }
+    requires indexed { IsIndexed row.old }
+    ensures row { (d : Kept) → let p = at_spot (items_of row.old.blocks.items) b j in (s : Kept) × IsHidden (get_or (stretches_in row.old) p d) s k
+        × (stretches_in row.new ≡ slice_set (stretches_in row.old) p s) }
+    ensures indexed { IsIndexed row.new }
+    ensures room { (n : ℕ) → HasRoom row.old n → HasRoom row.new n }
+{
+    hide_at(&mut row.blocks, b, j, k);
+}

@@ -1,0 +1,221 @@
+//! The sequence in stretches.
+
+ghost use Rattle.std.specs.Prelude.{◌≡◌, ◌+◌, ◌*◌, ◌^◌, ◌<◌, ◌≤◌, true, false, length, get_or, [], slice_get, Some, IsOk, OnOk, OnErr, vec_len, vec_capacity};
+ghost use Rattle.std.proofs.Common.{◌∙◌};
+ghost use Rattle.std.specs.FinMap as map;
+ghost use Rattle.std.specs.Option.{option_map};
+ghost use Rattle.bg_types.specs.WellFormed.{MayFollow};
+ghost use Rattle.bg_types.specs.OperationSet.{no_operations, with_operation, AllWellFormed};
+ghost use Rattle.bg_types.specs.declared.op.OpView.{OpView};
+ghost use Rattle.bg_types.specs.declared.op.OpView.TheVariants.{Erase};
+ghost use Rattle.rga_tree.specs.declared.element.Element.{Element};
+ghost use Rattle.rga_tree.specs.TextOf.{visible, visible_ids, visible_before, text};
+ghost use Rattle.rga_tree.specs.Tree.{stands_in};
+ghost use Rattle.rga_tree.specs.Elements.{elements, element_of, with_element};
+ghost use Rattle.rga_tree.specs.Spot.{IsVisiblePlace};
+ghost use Rattle.rga_tree.specs.Row.{operations_of};
+ghost use Rattle.rga_tree.specs.KeepsWalk.{KeepsWalk, KeepsWalk-prop};
+ghost use Rattle.rga_runs.specs.declared.stretch.Stretch.{Stretch as Kept};
+ghost use Rattle.rga_runs.specs.Stretches.{elements_of, elements_in, are_stored, visible_in};
+ghost use Rattle.rga_runs.specs.Counters.{are_up_to};
+ghost use Rattle.rga_runs.specs.Filled.{filled};
+ghost use Rattle.rga_runs.specs.BlockRows.{items_of};
+ghost use Rattle.rga_runs.specs.Whole.{whole_parts};
+ghost use Rattle.rga_runs.specs.Indexed.{stretches_in, IsIndexed, IsIndexed-prop, HasRoom, HasRoom-prop};
+
+use crate::change::{hide, put};
+use crate::cut::FULL;
+use crate::keys;
+use crate::read::{count_before, nth_spot, visible_spot};
+use crate::room::make_memory;
+use crate::row::{Row, spot};
+use crate::stretch::weight;
+use bg_types::{Id, Memory, Place};
+use rga_tree::{Element, Fresh, Sequence, Unpacked};
+use std::alloc::Global;
+
+/// How many characters there are at most: more than any desk keeps. So a stretch has its place among them in 32 bits.
+const MOST: usize = 4_294_967_296;
+
+/// For how many placings there is room at least, where some is made.
+const FEW: usize = 16;
+
+/// The elements of a tree in the order of its walk, in stretches: what one site typed in a row takes the room of its characters.
+/// Places count elements, from 0.
+#[derive(Drop)]
+pub struct Runs {
+    row: Row,
+    /// The characters of all elements, in the order of their arrival.
+    characters: Vec<char>,
+    alloc: Global,
+    visible: usize,
+    room: usize,
+    /// No character has a greater counter.
+    highest: u32,
+    ghost keeps_walk: { KeepsWalk (elements_in characters.items (stretches_in row)) } by { KeepsWalk-prop (elements_in characters.items (stretches_in row)) },
+    ghost stored: { are_stored (length characters.items) (stretches_in row) ≡ true },
+    ghost indexed: { IsIndexed row } by { IsIndexed-prop row },
+    ghost counted: { vec_len characters ≡ length (elements_in characters.items (stretches_in row)) },
+    ghost visible_are: { visible ≡ visible_in (stretches_in row) },
+    ghost up_to: { are_up_to highest (elements_in characters.items (stretches_in row)) ≡ true },
+    ghost enough: { HasRoom row (2 * room) } by { HasRoom-prop row (2 * room) },
+    ghost enough_characters: { vec_len characters + room ≤ vec_capacity characters },
+    ghost few: { vec_len characters + room ≤ 2 ^ 32 },
+}
+
+impl Runs {
+    /// An empty sequence, which takes no memory.
+    pub fn new(alloc: Global) -> Runs
+        ensures content { ⟦<Runs as Sequence>⟧.content result ≡ no_operations }
+        ensures room { ⟦<Runs as Sequence>⟧.free result ≡ 0 }
+    {
+        Runs {
+            row: Row {
+                blocks: Vec::new(alloc),
+                spares: Vec::new(alloc),
+                keys: keys::none(alloc),
+                places: Vec::new(alloc),
+                count: 0,
+                recent: (0, 0),
+            },
+            characters: Vec::new(alloc),
+            alloc,
+            visible: 0,
+            room: 0,
+            highest: 0,
+        }
+    }
+
+    /// Visible element k.
+    fn shown(&self, k: usize) -> Element
+        requires { k < length (visible (⟦<Runs as Sequence>⟧.content self.now)) }
+        ensures id { slice_get (visible_ids (⟦<Runs as Sequence>⟧.content self.now)) k ≡ Some result.id }
+        ensures ch { slice_get (text (⟦<Runs as Sequence>⟧.content self.now)) k ≡ Some result.ch }
+    {
+        let (b, j, i) = visible_spot(&self.row.blocks, k);
+        self.at(b, j, i)
+    }
+
+    /// Character k of stretch j of block b, as an element.
+    fn at(&self, b: usize, j: usize, k: usize) -> Element
+        requires block { b < vec_len self.now.row.blocks }
+        requires within { j < length (get_or (items_of self.now.row.blocks.items) b []) }
+        requires inside { (d : Kept) → k < (get_or (get_or (items_of self.now.row.blocks.items) b []) j d).count }
+        ensures { (d : Kept) → slice_get (elements_of self.now.characters.items (get_or (get_or (items_of self.now.row.blocks.items) b []) j d)) k ≡ Some result }
+    {
+        self.row.blocks[b].stretches[j].element(&self.characters, k)
+    }
+}
+
+impl Fresh for Runs {
+    fn fresh(alloc: Global, _key: u128) -> Runs {
+        Runs::new(alloc)
+    }
+}
+
+impl Sequence for Runs {
+    ghost content = { λ s. operations_of (elements_in s.characters.items (stretches_in s.row)) };
+
+    ghost free = { λ s. s.room };
+
+    ghost parts = { λ s. filled s.characters.items (items_of s.row.blocks.items) };
+
+    fn reserve(&mut self, n: usize) -> Result<(), Memory> {
+        if n <= self.room {
+            return Ok(());
+        }
+        let room = n.max(FEW);
+        if MOST - self.characters.len() < room {
+            return Err(Memory);
+        }
+        self.characters.reserve(room)?;
+        make_memory(&mut self.row, self.alloc, 2 * room)?;
+        self.room = room;
+        Ok(())
+    }
+
+    fn room(&self) -> usize {
+        self.room
+    }
+
+    fn place(&mut self, id: Id, parent: Place, ch: char, hidden: bool) {
+        // Reading the identifier tells the proof that it is well formed.
+        let known = id.counter();
+        put(&mut self.row, id, parent, self.characters.len(), hidden);
+        self.characters.push_reserved(ch);
+        self.visible += weight(hidden);
+        self.room -= 1;
+        self.highest = self.highest.max(known);
+    }
+
+    fn hide(&mut self, id: Id) {
+        self.visible -= hide(&mut self.row, id);
+    }
+
+    fn len(&self) -> usize {
+        self.visible
+    }
+
+    fn id_at(&mut self, k: usize) -> Id {
+        self.shown(k).id
+    }
+
+    fn char_at(&mut self, k: usize) -> char {
+        self.shown(k).ch
+    }
+
+    fn spot_at(&mut self, k: usize) -> (usize, usize) {
+        let (b, j, i) = visible_spot(&self.row.blocks, k);
+        (FULL * b + j, i)
+    }
+
+    fn visible_before(&self, id: Id) -> usize {
+        let (b, j, k) = spot(&self.row, id).unwrap();
+        count_before(&self.row.blocks, b, j, k)
+    }
+
+    fn placed(&self) -> usize {
+        self.characters.len()
+    }
+
+    fn nth(&self, j: usize) -> Element {
+        let (b, at, k) = nth_spot(&self.row.blocks, j);
+        self.at(b, at, k)
+    }
+
+    fn part_count(&self) -> usize {
+        FULL * self.row.blocks.len()
+    }
+
+    fn part_len(&self, p: usize) -> usize {
+        match self.row.blocks[p / FULL].stretches.get(p % FULL) {
+            Some(stretch) => stretch.len(),
+            None => 0,
+        }
+    }
+
+    fn part<'a>(&'a self, p: usize, unpacked: &'a mut Unpacked) -> &'a [Element] {
+        match self.row.blocks[p / FULL].stretches.get(p % FULL) {
+            Some(stretch) => stretch.unpack(&self.characters, unpacked),
+            None => &[],
+        }
+    }
+
+    fn has(&self, id: Id) -> bool {
+        // A new identifier most often has a greater counter than all.
+        id.counter() <= self.highest && spot(&self.row, id).is_some()
+    }
+
+    fn element(&self, id: Id) -> Option<Element> {
+        let (b, j, k) = spot(&self.row, id)?;
+        Some(self.at(b, j, k))
+    }
+
+    ghost whole = { λ s. whole_parts s.characters.items s.row.blocks.items ∙ s.keeps_walk.in_order };
+
+    ghost is_tree = { λ s. s.keeps_walk.tree };
+
+    ghost only_placed = { λ s. s.keeps_walk.only_placed };
+
+    ghost well_formed = { λ s. s.keeps_walk.well_formed };
+}

@@ -1,0 +1,106 @@
+//! Where elements stand in stretches.
+
+ghost use Rattle.std.specs.Prelude.{◌≡◌, ◌+◌, ◌^◌, ◌<◌, ◌≤◌, ℕ, List, length, take, get_or, All, IfSome, IfNone};
+ghost use Rattle.std.specs.List.{prefix_len, sum_by};
+ghost use Rattle.std.specs.Ordering.{is_lt};
+ghost use Rattle.bg_types.specs.Identifier.{id_cmp};
+ghost use Rattle.rga_runs.specs.declared.stretch.Stretch.{Stretch as Kept};
+ghost use Rattle.rga_runs.specs.Stretches.{count_in, visible_in, visible_of, BeginsElsewhere};
+
+use crate::stretch::Stretch;
+use bg_types::Id;
+
+/// Which stretch begins with an identifier. It is sought from a place on first.
+pub fn begun_by(stretches: &[Stretch], hint: usize, first: Id) -> Option<usize>
+    ensures there { IfSome result (λ j. j < length stretches.now) }
+    ensures first { IfSome result (λ j. (d : Kept) → (get_or stretches.now j d).first ≡ first) }
+    ensures absent { IfNone result (All (BeginsElsewhere first) stretches.now) }
+{
+    let likely = sought_from(stretches, hint, first);
+    if likely < stretches.len() && stretches[likely].first == first {
+        return Some(likely);
+    }
+    for j in 0..stretches.len() {
+        if stretches[j].first == first {
+            return Some(j);
+        }
+    }
+    None
+}
+
+/// Where the first stretch from a place on stands that begins with an identifier, or the end.
+fn sought_from(stretches: &[Stretch], hint: usize, first: Id) -> usize {
+    let from = hint.min(stretches.len());
+    from + stretches[from..]
+        .iter()
+        .take_while(|s| first != s.first)
+        .count()
+}
+
+/// Where element j stands: its stretch, and its place there.
+pub fn spot_of(stretches: &[Stretch], j: usize) -> (usize, usize)
+    requires { j < count_in stretches.now }
+    ensures block { result.0 < length stretches.now }
+    ensures within { (d : Kept) → result.1 < (get_or stretches.now result.0 d).count }
+    ensures place { count_in (take result.0 stretches.now) + result.1 ≡ j }
+{
+    let mut left = j;
+    for p in 0..stretches.len() {
+        let count = stretches[p].len();
+        if left < count {
+            return (p, left);
+        }
+        left -= count;
+    }
+    unreachable!()
+}
+
+/// The stretch that has visible element k, and how many visible ones are before it there.
+pub fn visible_stretch(stretches: &[Stretch], k: usize) -> (usize, usize)
+    requires { k < visible_in stretches.now }
+    ensures block { result.0 < length stretches.now }
+    ensures within { (d : Kept) → result.1 < visible_of (get_or stretches.now result.0 d) }
+    ensures place { visible_in (take result.0 stretches.now) + result.1 ≡ k }
+{
+    let mut left = k;
+    for p in 0..stretches.len() {
+        let visible = stretches[p].visible();
+        if left < visible {
+            return (p, left);
+        }
+        left -= visible;
+    }
+    unreachable!()
+}
+
+/// How many elements of these stretches are visible.
+pub fn count_visible(stretches: &[Stretch]) -> usize
+    requires { visible_in stretches.now < 2 ^ 64 }
+    ensures { result ≡ visible_in stretches.now }
+{
+    let mut visible = 0;
+    for stretch in stretches {
+        visible += stretch.visible();
+    }
+    visible
+}
+
+/// How many characters these stretches have.
+pub fn count_all(stretches: &[Stretch]) -> usize
+    requires { count_in stretches.now < 2 ^ 64 }
+    ensures { result ≡ count_in stretches.now }
+{
+    let mut count = 0;
+    for stretch in stretches {
+        count += stretch.len();
+    }
+    count
+}
+
+/// How many stretches at the front begin with a greater identifier. What follows in a stretch is greater still.
+pub fn greater_in_front(stretches: &[Stretch], id: Id) -> usize
+    ensures count { result ≡ prefix_len (λ s. is_lt (id_cmp id s.first)) stretches.now }
+    ensures within { result ≤ length stretches.now }
+{
+    stretches.iter().take_while(|s| id < s.first).count()
+}
