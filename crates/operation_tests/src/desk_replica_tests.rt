@@ -11,6 +11,7 @@ use crate::rows::assert_none;
 use OpRow::{Erase, Insert};
 use bg_types::{Memory, Op};
 use desk_replica::{Replica, TakeFault, Taken, TypeFault};
+use rga_runs::Runs;
 use rga_sequence::Blocks;
 use rga_tree::{Fresh, Plain};
 use std::alloc::Global;
@@ -218,10 +219,13 @@ fn comes_out_on<S: Fresh>(one: &mut Desk<S>, two: &mut Desk<S>, case: Case) -> b
     }
 }
 
-/// The first case that does not come out over both sequences.
+/// The first case that does not come out over all sequences.
 fn first_wrong(alloc: Global, cases: &[Case]) -> Option<usize> {
     for (n, case) in cases.iter().enumerate() {
-        if !comes_out::<Blocks>(alloc, *case) || !comes_out::<Plain>(alloc, *case) {
+        if !comes_out::<Blocks>(alloc, *case)
+            || !comes_out::<Plain>(alloc, *case)
+            || !comes_out::<Runs>(alloc, *case)
+        {
             return Some(n);
         }
     }
@@ -444,7 +448,7 @@ fn fills<S: Fresh>(desk: &mut Desk<S>) -> bool {
     desk.reads("") && held && full && known && typed
 }
 
-/// Compares what cases come to over both sequences.
+/// Compares what cases come to over all sequences.
 pub(crate) fn assert_cases(rt: &(impl Abort + AllocGlobal), cases: &[Case]) {
     assert_none(rt, "the cases", first_wrong(rt.alloc(), cases));
 }

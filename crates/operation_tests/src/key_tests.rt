@@ -2,7 +2,7 @@
 
 use bg_types::{Id, Memory, Place};
 use desk_replica::{Step, run_world};
-use rga_tree::{Element, Fresh, Plain, Sequence};
+use rga_tree::{Element, Fresh, Plain, Sequence, Unpacked};
 use std::alloc::Global;
 
 /// The one key with which a sequence of these tests gets memory.
@@ -82,8 +82,12 @@ impl<S: Fresh> Sequence for UnderKey<S> {
         self.seq.part_count()
     }
 
-    fn part(&self, p: usize) -> &[Element] {
-        self.seq.part(p)
+    fn part_len(&self, p: usize) -> usize {
+        self.seq.part_len(p)
+    }
+
+    fn part<'a>(&'a self, p: usize, unpacked: &'a mut Unpacked) -> &'a [Element] {
+        self.seq.part(p, unpacked)
     }
 
     fn has(&self, id: Id) -> bool {

@@ -1,14 +1,18 @@
-//! What no clause says: texts, blocks, and where elements stand, over both sequences.
+//! What no clause says: texts, blocks, and where elements stand, over all sequences.
 
 use crate::every_sequence::*;
 use crate::rows::assert_none;
+use rga_runs::Runs;
 use rga_sequence::*;
-use rga_tree::{Plain, Sequence};
+use rga_tree::{Fresh, Plain, Sequence};
 use std::alloc::Global;
 use std::process::Abort;
 
-/// Tries both sequences.
-fn assert_both<T: Trial<Blocks> + Trial<Plain>>(rt: &(impl Abort + AllocGlobal), trials: &[T]) {
+/// Tries all sequences.
+fn assert_all<T: Trial<Blocks> + Trial<Plain> + Trial<Runs>>(
+    rt: &(impl Abort + AllocGlobal),
+    trials: &[T],
+) {
     assert_none(
         rt,
         "the blocks",
@@ -18,6 +22,11 @@ fn assert_both<T: Trial<Blocks> + Trial<Plain>>(rt: &(impl Abort + AllocGlobal),
         rt,
         "the plain row",
         first_wrong::<Plain, T>(rt.alloc(), trials),
+    );
+    assert_none(
+        rt,
+        "the stretches",
+        first_wrong::<Runs, T>(rt.alloc(), trials),
     );
 }
 
@@ -31,18 +40,18 @@ fn assert_blocks<T: Trial<Blocks>>(rt: &(impl Abort + AllocGlobal), trials: &[T]
 }
 
 #[test]
-fn both_keep_every_line(rt: HostRuntime) {
-    assert_both(&rt, LINES);
+fn all_keep_every_line(rt: HostRuntime) {
+    assert_all(&rt, LINES);
 }
 
 #[test]
-fn both_keep_long_rows(rt: HostRuntime) {
-    assert_both(&rt, THOUSANDS);
+fn all_keep_long_rows(rt: HostRuntime) {
+    assert_all(&rt, THOUSANDS);
 }
 
 #[test]
-fn both_keep_all_where_room_is_refused(rt: HostRuntime) {
-    assert_both(&rt, ROOMS);
+fn all_keep_all_where_room_is_refused(rt: HostRuntime) {
+    assert_all(&rt, ROOMS);
 }
 
 fn letter(counter: u32) -> char {
@@ -238,34 +247,43 @@ fn random_row(seq: &Tried<Plain>, seed: u64) -> Row {
 }
 
 /// Makes 2,500 changes to both, and returns whether both answered the same.
-fn change_both(blocks: &mut Tried<Blocks>, plain: &mut Tried<Plain>) -> bool {
+fn change_both<S: Fresh>(seq: &mut Tried<S>, plain: &mut Tried<Plain>) -> bool {
     let mut seed = 20;
     let mut same = true;
     for _ in 0..2_500 {
         seed = stir(seed);
         let row = random_row(plain, seed);
-        same = blocks.put(row) == plain.put(row) && same;
+        same = seq.put(row) == plain.put(row) && same;
         if seed % 11 == 0 {
-            same = blocks.erase(row.0) == plain.erase(row.0) && same;
+            same = seq.erase(row.0) == plain.erase(row.0) && same;
         }
     }
     same
 }
 
 /// Whether both show the same at each place.
-fn show_the_same(blocks: &mut Tried<Blocks>, plain: &mut Tried<Plain>) -> bool {
-    let mut same = blocks.seq.placed() == plain.seq.placed();
+fn show_the_same<S: Fresh>(seq: &mut Tried<S>, plain: &mut Tried<Plain>) -> bool {
+    let mut same = seq.seq.placed() == plain.seq.placed();
     for j in 0..plain.seq.placed() {
         same = match plain.nth(j) {
-            Some(row) => blocks.stands_at(j, row) && same,
+            Some(row) => seq.stands_at(j, row) && same,
             None => false,
         };
     }
     for k in 0..=plain.seq.len() {
-        same = blocks.at(k) == plain.at(k) && same;
-        same = blocks.seq.looks() <= (blocks.seq.blocks() as u64).saturating_add(512) && same;
+        same = seq.at(k) == plain.at(k) && same;
     }
     same
+}
+
+/// Whether each visible element is found in few looks.
+fn are_found_soon(blocks: &mut Tried<Blocks>) -> bool {
+    let most = (blocks.seq.blocks() as u64).saturating_add(512);
+    let mut soon = true;
+    for k in 0..blocks.seq.len() {
+        soon = blocks.at(k).is_some() && blocks.seq.looks() <= most && soon;
+    }
+    soon
 }
 
 /// Changes that look random are made to blocks and to a plain row alike.
@@ -283,6 +301,70 @@ fn stand_alike(blocks: &mut Tried<Blocks>, plain: &mut Tried<Plain>) -> bool {
         && 2_000 < blocks.seq.placed()
         && 5 < blocks.seq.blocks()
         && show_the_same(blocks, plain)
+        && are_found_soon(blocks)
+}
+
+impl Trial<Runs> for Random {
+    fn comes_out(&self, runs: &mut Tried<Runs>) -> bool {
+        let mut plain = Tried::new(runs.alloc);
+        change_both(runs, &mut plain)
+            && 2_000 < runs.seq.placed()
+            && show_the_same(runs, &mut plain)
+    }
+}
+
+/// Changes that look random, of which most go on where the one before stood, so that stretches grow and are parted.
+#[derive(Drop)]
+struct Stretches {
+    seed: u64,
+    /// How many changes in a row begin anew, of this many.
+    anew: u64,
+}
+
+/// The row that goes on behind the one before, or one that begins anew.
+fn typed_row(plain: &Tried<Plain>, last: Row, seed: u64, anew: u64) -> Row {
+    let (counter, site) = last.0;
+    if counter == 0 || (seed >> 20) % anew.max(1) == 0 {
+        return random_row(plain, seed);
+    }
+    let next = counter.saturating_add(if seed % 17 == 0 { 3 } else { 1 });
+    ((next, site), last.0, letter(next), seed % 29 == 0)
+}
+
+/// Makes 2,500 such changes to both, and returns whether both answered the same.
+fn type_both(runs: &mut Tried<Runs>, plain: &mut Tried<Plain>, seed: u64, anew: u64) -> bool {
+    let mut seed = seed;
+    let mut last = ((0, 0), (0, 0), 'a', false);
+    let mut same = true;
+    for _ in 0..2_500 {
+        seed = stir(seed);
+        last = typed_row(plain, last, seed, anew);
+        same = runs.put(last) == plain.put(last) && same;
+        if seed % 11 == 0 {
+            same = runs.erase(last.0) == plain.erase(last.0) && same;
+        }
+    }
+    same
+}
+
+impl Trial<Runs> for Stretches {
+    fn comes_out(&self, runs: &mut Tried<Runs>) -> bool {
+        let mut plain = Tried::new(runs.alloc);
+        type_both(runs, &mut plain, self.seed, self.anew) && show_the_same(runs, &mut plain)
+    }
+}
+
+#[test]
+fn stretches_stand_as_the_plain_row(rt: HostRuntime) {
+    let random = first_wrong::<Runs, Random>(rt.alloc(), &[Random]);
+    assert_none(&rt, "random rows", random);
+    let trials = [
+        Stretches { seed: 3, anew: 4 },
+        Stretches { seed: 5, anew: 20 },
+        Stretches { seed: 8, anew: 90 },
+    ];
+    let typed = first_wrong::<Runs, Stretches>(rt.alloc(), &trials);
+    assert_none(&rt, "typed rows", typed);
 }
 
 #[test]

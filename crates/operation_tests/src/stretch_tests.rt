@@ -11,6 +11,7 @@ use crate::rows::assert_rows;
 use OpRow::{Erase, Insert};
 use bg_types::{Memory, Op};
 use desk_replica::{Replica, TypeFault};
+use rga_runs::Runs;
 use rga_sequence::Blocks;
 use rga_tree::{Fresh, Plain};
 use std::alloc::Global;
@@ -98,7 +99,11 @@ struct Case(
 
 impl Row for Case {
     fn comes_out(&self, alloc: Global) -> Result<bool, Memory> {
-        Ok(comes_out::<Blocks>(alloc, self)? && comes_out::<Plain>(alloc, self)?)
+        Ok(
+            comes_out::<Blocks>(alloc, self)?
+                && comes_out::<Plain>(alloc, self)?
+                && comes_out::<Runs>(alloc, self)?,
+        )
     }
 }
 
@@ -303,6 +308,7 @@ fn replaces_across_blocks<S: Fresh>(alloc: Global) -> Result<bool, Memory> {
 enum Across {
     OverBlocks,
     OverPlain,
+    OverRuns,
 }
 
 impl Row for Across {
@@ -310,19 +316,24 @@ impl Row for Across {
         match self {
             Across::OverBlocks => replaces_across_blocks::<Blocks>(alloc),
             Across::OverPlain => replaces_across_blocks::<Plain>(alloc),
+            Across::OverRuns => replaces_across_blocks::<Runs>(alloc),
         }
     }
 }
 
 #[test]
 fn a_stretch_across_blocks_is_replaced(rt: HostRuntime) {
-    assert_rows(&rt, &[Across::OverBlocks, Across::OverPlain]);
+    assert_rows(
+        &rt,
+        &[Across::OverBlocks, Across::OverPlain, Across::OverRuns],
+    );
 }
 
 /// Which sequence is tried without memory.
 enum Paid {
     OverBlocks,
     OverPlain,
+    OverRuns,
 }
 
 impl Row for Paid {
@@ -330,11 +341,12 @@ impl Row for Paid {
         match self {
             Paid::OverBlocks => types_paid::<Blocks>(alloc),
             Paid::OverPlain => types_paid::<Plain>(alloc),
+            Paid::OverRuns => types_paid::<Runs>(alloc),
         }
     }
 }
 
 #[test]
 fn a_stretch_that_is_paid_for_takes_no_memory(rt: HostRuntime) {
-    assert_rows(&rt, &[Paid::OverBlocks, Paid::OverPlain]);
+    assert_rows(&rt, &[Paid::OverBlocks, Paid::OverPlain, Paid::OverRuns]);
 }

@@ -9,6 +9,7 @@ ghost use Rattle.std.specs.Prelude.{◌<◌, ◌≤◌};
 use crate::rows::assert_rows;
 use bg_types::{Change, Id, Memory, Op};
 use desk_replica::{Replica, Step, TakeFault, TypeFault, World, WorldFault, run_world};
+use rga_runs::Runs;
 use rga_sequence::Blocks;
 use rga_tree::{Fresh, Plain};
 use std::alloc::Global;
@@ -259,7 +260,11 @@ impl Told {
 
 impl Row for Told {
     fn comes_out(&self, alloc: Global) -> Result<bool, Memory> {
-        Ok(self.is_told_over::<Blocks>(alloc)? && self.is_told_over::<Plain>(alloc)?)
+        Ok(
+            self.is_told_over::<Blocks>(alloc)?
+                && self.is_told_over::<Plain>(alloc)?
+                && self.is_told_over::<Runs>(alloc)?,
+        )
     }
 }
 

@@ -8,6 +8,7 @@ use Reply::{Done, NoSuch};
 use Step::{Deliver, Erase, Merge, Typed};
 use bg_types::{Id, Memory, Op, Place};
 use desk_replica::{Replica, Reply, Step, World, WorldFault, run_world};
+use rga_runs::Runs;
 use rga_sequence::Blocks;
 use rga_tree::{Fresh, Plain, Sequence};
 use std::alloc::{AllocError, Global};
@@ -78,16 +79,12 @@ fn makes<S: Fresh>(
     is_made(&made, wanted)
 }
 
-/// Whether steps make what is wanted over both sequences.
-fn both_make(
-    alloc: Global,
-    sites: &[u16],
-    steps: &[Step],
-    wanted: &Wanted,
-) -> Result<bool, Memory> {
+/// Whether steps make what is wanted over all sequences.
+fn all_make(alloc: Global, sites: &[u16], steps: &[Step], wanted: &Wanted) -> Result<bool, Memory> {
     Ok(
         makes::<Blocks>(alloc, sites, steps, wanted)?
-            && makes::<Plain>(alloc, sites, steps, wanted)?,
+            && makes::<Plain>(alloc, sites, steps, wanted)?
+            && makes::<Runs>(alloc, sites, steps, wanted)?,
     )
 }
 
@@ -115,7 +112,7 @@ impl Row for UpTo<'_> {
         };
         let steps = steps_of(alloc, &played.2[..=*n])?;
         let wanted = Wanted::Ends(*reply, texts);
-        both_make(alloc, played.1, &steps, &wanted)
+        all_make(alloc, played.1, &steps, &wanted)
     }
 }
 
@@ -200,7 +197,7 @@ impl Row for MadeByTwo {
             return Ok(false);
         };
         let steps = steps_of(alloc, TWO)?;
-        both_make(alloc, &[1, 2], &steps, &Wanted::Makes(&made))
+        all_make(alloc, &[1, 2], &steps, &Wanted::Makes(&made))
     }
 }
 
@@ -381,7 +378,7 @@ impl Row for Sites {
         } else {
             Wanted::BadSites
         };
-        both_make(alloc, self.0, &[], &wanted)
+        all_make(alloc, self.0, &[], &wanted)
     }
 }
 
