@@ -75,3 +75,24 @@ fn the_next_window_forgets_what_is_too_much(rt: HostRuntime) -> Result<(), Memor
     assert_eq!(rt; shown_from(&mut document, ROWS)?, ROWS);
     Ok(())
 }
+
+#[test]
+fn rows_that_edits_dropped_are_not_counted(rt: HostRuntime) -> Result<(), Memory> {
+    let mut document = document_of(
+        rt.alloc(),
+        small_tables(rt.alloc())?,
+        17,
+        &lines(rt.alloc())?,
+    )?;
+    document.keep_rows(LINES);
+    for number in 0..40 {
+        shown_from(&mut document, ROWS * number)?;
+    }
+    for _ in 0..5 {
+        let mut made = Vec::new(rt.alloc());
+        document.type_text(0, "b", &mut made).map_err(|_| Memory)?;
+        assert_eq!(rt; shown_from(&mut document, 0)?, 1);
+    }
+    assert_eq!(rt; shown_from(&mut document, 10 * ROWS)?, 0);
+    Ok(())
+}

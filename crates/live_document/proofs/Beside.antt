@@ -117,8 +117,15 @@ module _ (tables : TableValues) (width : ℕ) (base : Base) where
 
 -- ---- how many rows are kept
 
+abbrev pub own_held : KeptParagraph Rows → ℕ
+own_held p = option_map_or (λ (rows : Rows). length rows.items) p.kept 0
+
+pub held-beside : (o : Option Rows) → option_map_or (λ (rows : Rows). length rows.items) o 0 ≡ length (option_map_or (λ (rows : Rows). rows.items) o [])
+held-beside None = refl
+held-beside (Some rows) = refl
+
 pub held-cons : (p : KeptParagraph Rows) (kept : KeptText) → rows_held (p ∷ kept) ≡ length (rows_beside p) + rows_held kept
-held-cons p kept = sum_by-cons (λ (q : KeptParagraph Rows). length (rows_beside q)) p kept
+held-cons p kept = sum_by-cons own_held p kept ∙ ap (λ n. n + rows_held kept) (held-beside p.kept)
 
 -- one more paragraph is kept
 pub held-set : (kept new : KeptText) (n : ℕ) (rows : Rows) → paragraphs_in new ≡ paragraphs_in kept → kept_in new ≡ set (kept_in kept) n (Some rows)

@@ -221,12 +221,11 @@ pub texts-live : (desk : Desk) (tables : TableValues) (width : ℕ) (base : Base
 texts-live desk tables width base true kept s held live = texts-anew (paragraph_points tables (text desk.set))
 texts-live desk tables width base false kept s held live = texts-counted kept ∙ live.kept_at.split ∙ ap (paragraph_points tables) (live.text_is refl)
 
--- what is kept after catching up is what the document showed of it
-pub marks-caught : (behind : Bool) (tables : TableValues) (set : OperationSet) (old new : KeptText) → (behind ≡ false → new ≡ old) → (behind ≡ true → new ≡ map anew (paragraphs_in new))
-    → paragraphs_in new ≡ paragraph_points tables (text set) → flags new ≡ marks (paragraphs_of behind tables set old)
-marks-caught false tables set old new same fresh split = ap flags (same refl) ∙ sym (marks-counted old)
-marks-caught true tables set old new same fresh split =
-    ap flags (fresh refl) ∙ flags-anew (paragraphs_in new) ∙ ap (λ (ts : List (List ℕ)). replicate (length ts) false) split ∙ sym (marks-anew (paragraph_points tables (text set)))
+-- after catching up the paragraphs are what the document showed
+pub live-caught : (behind : Bool) (tables : TableValues) (set : OperationSet) (old new : KeptText) → (behind ≡ false → new ≡ old) → (behind ≡ true → new ≡ map anew (paragraphs_in new))
+    → paragraphs_in new ≡ paragraph_points tables (text set) → map counted new ≡ paragraphs_of behind tables set old
+live-caught false tables set old new same fresh split = ap (map counted) (same refl)
+live-caught true tables set old new same fresh split = ap (map counted) (fresh refl) ∙ counted-anew (paragraphs_in new) ∙ ap (map anew) split
 
 -- a paragraph's row, by the same tables, paragraphs and text
 pub row-alike : (one two : TableValues) (width : ℕ) (base : Base) (texts same : List (List ℕ)) (points alike : List ℕ) (number : ℕ) (row : List DrawnRow → ℕ)

@@ -20,12 +20,12 @@ use Rattle.text_buffer.specs.Edits.{anew, AreTouched, IsTouched, IsTouchedInTurn
 use Rattle.text_buffer.specs.declared.fault.BufferFault.{BufferFault}
 use Rattle.text_buffer.specs.declared.fault.Stopped.{Stopped}
 use Rattle.text_buffer.specs.declared.touched.Touched.{Touched}
-use Rattle.live_document.specs.Keeping.{Rows, KeptText, rows_of_text, rows_of_texts, rows_beside, rows_held, IsLaid, flags, is_kept}
-use Rattle.live_document.specs.Cost.{marks, rows_kept}
+use Rattle.live_document.specs.Keeping.{Rows, KeptText, rows_of_text, rows_of_texts, rows_beside, rows_held, held_outside, IsLaid, flags, is_kept}
+use Rattle.live_document.specs.Cost.{marks, rows_kept, rows_outside}
 use Rattle.live_document.specs.Documents.{counted, paragraphs_of}
 use Rattle.live_document.specs.Showing.{rows_from, window_in, IsAtHand}
 use Rattle.live_document.specs.declared.shown.Shown.{Shown}
-use Rattle.live_document.proofs.Beside.{kept-same, laid-anew, held-cons}
+use Rattle.live_document.proofs.Beside.{kept-same, laid-anew, own_held, held-cons}
 use Rattle.live_document.proofs.Cost.{flags-anew}
 
 flags-both : (xs ys : KeptText) → flags (xs ++ ys) ≡ flags xs ++ flags ys
@@ -64,9 +64,6 @@ module _ {K : Type 0} (f : KeptParagraph K → ℕ) (bare : (points : List ℕ) 
       omega arith
 
 -- ---- how many rows are kept
-
-abbrev own_held : KeptParagraph Rows → ℕ
-own_held p = length (rows_beside p)
 
 -- nothing is kept of any of them
 pub held-none : (kept new : KeptText) → kept_in new ≡ forgotten (kept_in kept) → rows_held new ≡ 0
@@ -253,6 +250,17 @@ kept-held (p ∷ kept) =
     let own = beside-counted p.kept in
     let later = kept-held kept in
     omega arith
+
+-- so outside a stretch, and inside
+pub outside-held : (kept : KeptText) (from to : ℕ) → held_outside kept from to ≡ rows_outside (map counted kept) from to
+outside-held kept from to =
+    let a = sym (kept-held (take from kept)) ∙ ap rows_kept (sym (take-map counted from kept)) in
+    let b = sym (kept-held (drop to kept)) ∙ ap rows_kept (sym (drop-map counted to kept)) in
+    omega (arith, a, b)
+
+pub slice-held : (kept : KeptText) (from to : ℕ) → rows_held (slice_range kept from to) ≡ rows_kept (slice_range (map counted kept) from to)
+slice-held kept from to =
+    sym (kept-held (slice_range kept from to)) ∙ ap rows_kept (sym (ap (take (to - from)) (drop-map counted from kept) ∙ take-map counted (to - from) (drop from kept)))
 
 -- ---- the same of what is seen
 

@@ -14,4 +14,5 @@ mod Taking
 mod Cost
 mod Runs
 mod Forgotten
+mod Staying
 mod Carried

@@ -64,7 +64,8 @@ count-both : (xs ys : List Bool) → count_by not (xs ++ ys) ≡ count_by not xs
 count-both [] ys = omega arith
 count-both (x ∷ xs) ys = let e = count-cons x (xs ++ ys) in let f = count-cons x xs in let g = count-both xs ys in omega arith
 
-slice-agrees : (xs ys : List Bool) (i j : ℕ) → length xs ≡ length ys → j ≤ length ys → ((k : ℕ) → i ≤ k → k < j → is_kept xs k ≡ is_kept ys k)
+-- lists that agree inside a stretch have it alike
+pub slice-agrees : (xs ys : List Bool) (i j : ℕ) → length xs ≡ length ys → j ≤ length ys → ((k : ℕ) → i ≤ k → k < j → is_kept xs k ≡ is_kept ys k)
     → slice_range xs i j ≡ slice_range ys i j
 slice-agrees xs ys i j size within same =
     ext_get_or false (slice_range xs i j) (slice_range ys i j)

@@ -1,12 +1,12 @@
 -- Rows that are kept beside the paragraphs of a text.
-use Rattle.std.specs.Prelude.{◌≡◌, ◌≤◌, ◌<◌, ◌⊎◌, ℕ, List, [], Bool, true, false, is_some, Vec, map as each, length, sum_by, slice_get, slice_index_or, encode_utf8_all, IfSome}
+use Rattle.std.specs.Prelude.{◌≡◌, ◌+◌, ◌≤◌, ◌<◌, ◌⊎◌, ℕ, List, [], Bool, true, false, is_some, Vec, map as each, length, take, drop, slice_get, slice_index_or, encode_utf8_all, IfSome}
 use Rattle.std.specs.Global.{Global}
 use Rattle.std.specs.List.{All, flat_map}
 use Rattle.std.specs.Option.{option_map_or}
 use Rattle.bg_types.specs.declared.class.Base.{Base}
 use Rattle.unicode_tables.specs.Tables.{TableValues}
 use Rattle.cell_grid.specs.Rows.{DrawnRow, rows_of}
-use Rattle.text_buffer.specs.Buffers.{KeptParagraph, paragraphs_in, IsSplit}
+use Rattle.text_buffer.specs.Buffers.{KeptParagraph, paragraphs_in, kept_items, IsSplit}
 
 abbrev pub Rows : Type 0
 Rows = Vec DrawnRow Global
@@ -43,7 +43,11 @@ rows_at kept number = option_map_or rows_beside (slice_get kept number) []
 
 -- how many rows are kept
 abbrev pub rows_held : KeptText → ℕ
-rows_held kept = sum_by (λ (p : KeptParagraph Rows). length (rows_beside p)) kept
+rows_held kept = kept_items kept
+
+-- how many of them of the paragraphs before one number and from another on
+abbrev pub held_outside : KeptText → (from to : ℕ) → ℕ
+held_outside kept from to = rows_held (take from kept) + rows_held (drop to kept)
 
 -- of which paragraphs rows are kept
 abbrev pub flags : KeptText → List Bool

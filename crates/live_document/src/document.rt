@@ -404,12 +404,13 @@ impl Document {
     }
 
     /// Lays out what is not kept of a window: the rows from so many above the row of a place to so many below it, each at
-    /// most 1,000. `window` shows it then. No more rows are kept then than four such windows have, each of at least 64 rows, or
-    /// than `keep_rows` was asked for, or none but those of the window's paragraphs. After `Memory` nothing is shown, and no rows are kept.
+    /// most 1,000. `window` shows it then. What was kept stays, unless that is more rows than four such windows have, each of at
+    /// least 64 rows, and more than `keep_rows` was asked for: then the rows of the window's paragraphs alone. After `Memory`
+    /// nothing is shown, and no rows are kept.
     /// Cost: O(d / 32) of the d paragraphs between the place and where the last edit or `show` was, O(64) for each that has a
-    /// row in the window, and that of `rows` for each of them of which nothing is kept; memory for their rows. Where rows
-    /// are forgotten, O(n / 32) of all paragraphs. Where an edit was refused memory before, that of `text` and
-    /// `Buffer::of` too.
+    /// row in the window, and that of `rows` for each of them of which nothing is kept; memory for their rows. Once more rows
+    /// were made than may be kept, they are counted: O(n / 32) of all paragraphs, and O(64) for each block of at most 64 of
+    /// which something is kept. Where an edit was refused memory before, that of `text` and `Buffer::of` too.
     pub fn show(&mut self, place: usize, above: usize, below: usize) -> Result<(), Memory>
         requires place { place ≤ length (visible self.old.desk.set) }
         requires above { above ≤ 1_000 }

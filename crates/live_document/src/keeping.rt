@@ -40,8 +40,8 @@ pub fn forget_rows(buffer: &mut Buffer<Vec<Row>>)
     buffer.forget_but(0, 0);
 }
 
-/// Drops the rows of all paragraphs but those from one number up to another, which have so many, where more may be kept than the
-/// most. Returns how many may be kept then.
+/// Drops the rows of all paragraphs but those from one number up to another, which have so many, where more are kept than the
+/// most. At most `held` are. Returns how many are kept then at most.
 pub fn forget_others(
     buffer: &mut Buffer<Vec<Row>>,
     from: usize,
@@ -53,16 +53,23 @@ pub fn forget_others(
     requires order { from ≤ to }
     requires within { to ≤ length buffer.old }
     requires held { rows_held buffer.old ≤ held }
+    requires few { held ≤ 1_000_000_000 }
     requires rows { rows_held (slice_range buffer.old from to) ≤ rows }
     ensures paragraphs { paragraphs_in buffer.new ≡ paragraphs_in buffer.old }
     ensures laid { (tables : TableValues) (width : ℕ) (base : Base) → All (IsLaid tables width base) buffer.old → All (IsLaid tables width base) buffer.new }
     ensures inside { (k : ℕ) → from ≤ k → k < to → is_kept (flags buffer.new) k ≡ is_kept (flags buffer.old) k }
+    ensures stays { rows_held buffer.old ≤ most → buffer.new ≡ buffer.old }
     ensures held { rows_held buffer.new ≤ result }
     ensures few { result ≤ max most rows }
     ensures bounded { (rows_held buffer.new ≤ most) ⊎ ((k : ℕ) → is_kept (flags buffer.new) k ≡ true → (from ≤ k) × (k < to)) }
 {
     if held <= most {
         return held;
+    }
+    // What edits dropped was not counted.
+    let kept = buffer.kept_items();
+    if kept <= most {
+        return kept;
     }
     buffer.forget_but(from, to);
     rows

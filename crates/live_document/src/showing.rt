@@ -6,7 +6,7 @@ ghost use Rattle.cell_grid.specs.Windows.{window_of};
 ghost use Rattle.text_buffer.specs.Buffers.{paragraphs_in, text_in};
 ghost use Rattle.text_buffer.specs.Edits.{IsParagraphOf};
 ghost use Rattle.live_document.specs.Cost.{allowed, top_of, bottom_of, HasRow};
-ghost use Rattle.live_document.specs.Keeping.{flags, is_kept, rows_held, IsKeptAt};
+ghost use Rattle.live_document.specs.Keeping.{flags, is_kept, rows_held, held_outside, IsKeptAt};
 ghost use Rattle.live_document.specs.Showing.{window_in, IsAtHand, IsRowOf};
 
 use crate::keeping::{Reach, forget_others, kept_rows, lay_out, reach_down, reach_up};
@@ -88,8 +88,8 @@ fn own_row(
     })
 }
 
-/// Lays out what isn't kept of the window round the row of a place. Where more rows may be kept then than the most, and than four
-/// such windows have, those of other paragraphs are forgotten.
+/// Lays out what isn't kept of the window round the row of a place. Where more rows are kept then than the most, and than four
+/// such windows have, those of other paragraphs are forgotten, and else none.
 pub fn lay_window_out(
     alloc: Global,
     tables: &Tables,
@@ -120,6 +120,8 @@ pub fn lay_window_out(
     ensures bottom { IfOk result (λ outcome. HasRow tables.now width base (paragraphs_in buffer.old) (outcome.end - 1)
         (bottom_of place below (grid_rows tables.now width base (encode_utf8_all (text_in buffer.old))))) }
     ensures marked { IfOk result (λ outcome. (k : ℕ) → outcome.shown.first ≤ k → k < outcome.end → is_kept (flags buffer.new) k ≡ true) }
+    ensures stays { IfOk result (λ outcome. held_outside buffer.old outcome.shown.first outcome.end + rows_held (slice_range buffer.new outcome.shown.first outcome.end)
+        ≤ allowed most outcome.shown.count → (k : ℕ) → is_kept (flags buffer.old) k ≡ true → is_kept (flags buffer.new) k ≡ true) }
     ensures bounded { IfOk result (λ outcome. (rows_held buffer.new ≤ allowed most outcome.shown.count)
         ⊎ ((k : ℕ) → is_kept (flags buffer.new) k ≡ true → (outcome.shown.first ≤ k) × (k < outcome.end))) }
     ensures held { IfOk result (λ outcome. rows_held buffer.new ≤ outcome.held) }

@@ -13,5 +13,6 @@ pub mod Made
 pub mod Whole
 pub mod Forgets
 pub mod Founds
+pub mod KeptItems
 pub mod Runs
 pub mod Interface

@@ -9,6 +9,7 @@ mod fault;
 mod find;
 mod forget;
 mod found;
+mod items;
 mod parted;
 mod piece;
 mod place;

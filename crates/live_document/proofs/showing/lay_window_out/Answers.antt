@@ -10,11 +10,12 @@ use Rattle.cell_grid.specs.Windows.{window_of}
 use Rattle.text_buffer.specs.Buffers.{KeptParagraph, bytes_in, paragraphs_in, text_in, IsSplit}
 use Rattle.text_buffer.specs.Edits.{IsParagraphOf}
 use Rattle.live_document.specs.Cost.{allowed, top_of, bottom_of, HasRow}
-use Rattle.live_document.specs.Keeping.{Rows, flags, is_kept, rows_held, rows_of_texts, IsKeptAt, IsLaid}
+use Rattle.live_document.specs.Keeping.{Rows, flags, is_kept, rows_held, held_outside, rows_of_texts, IsKeptAt, IsLaid}
 use Rattle.live_document.specs.Showing.{window_in, IsRowOf}
 use Rattle.live_document.proofs.Marks.{marked-whole, laid-whole, rows-whole}
 use Rattle.live_document.proofs.Forgotten.{held-most}
 use Rattle.live_document.proofs.Placing.{slice-map}
+use Rattle.live_document.proofs.Staying.{kept-stays}
 use Rattle.live_document.proofs.Stretches.{count-texts, count-flags}
 use Rattle.live_document.proofs.Windows.{count-paras, bottom-has, top-has, window-cut}
 use Rattle.live_document.proofs.showing.lay_window_out.Goals as goal
@@ -45,6 +46,13 @@ forget_others-held-requires-clause-rows c =
     let ups = ue.rows ∙ ap (λ ts. length (rows_of_texts T w base (slice_range ts f c.in_ok-own.own.number))) oe.paragraphs in
     let downs = de.rows ∙ ap (λ ts. length (rows_of_texts T w base (slice_range ts (c.in_ok-own.own.number + 1) e))) e02 in
     omega (arith, most, same, old, whole, ups, downs, oe.row.count)
+
+pub forget_others-held-requires-clause-few : goal.forget_others-held-requires-clause-few
+forget_others-held-requires-clause-few c =
+    let oe = c.in_ok-own.ensures in
+    let ue = c.in_ok-up.ensures in
+    let de = c.in_ok-down.ensures in
+    omega (arith, c.requires.held_few, oe.few, oe.made, ue.few, ue.made, de.few, de.made)
 
 pub returns : goal.returns
 returns c =
@@ -123,6 +131,11 @@ returns c =
           (subst (λ ts. HasRow T w base ts up.number (top_of place above (grid_rows T w base (encode_utf8_all (concat ts))))) e04 top);
       bottom = subst (λ ts. HasRow T w base ts (down.number - 1) (bottom_of place below (grid_rows T w base (encode_utf8_all (concat ts))))) e04 bottom;
       marked = λ k from to. inside k (omega (arith, from, c.cut_out-shown.ensures.first)) to;
+      stays =
+          subst (λ (n : ℕ). held_outside b0 n down.number + rows_held (slice_range b4 n down.number) ≤ allowed c.args.most shown.count → (k : ℕ) → is_kept (flags b0) k ≡ true → is_kept (flags b4) k ≡ true)
+          (sym c.cut_out-shown.ensures.first)
+          (kept-stays T w base b0 b3 b4 up.number down.number (allowed c.args.most shown.count) (omega (arith, ue.order, de.order)) (omega (arith, n0, n3, l3, de.within, e01, e02))
+          e03 fe.paragraphs whole fe.inside (λ few. fe.stays (omega (arith, few, c.max.ensures, c.max-allowed.ensures))) c.requires.kept.laid de.kept.laid at.laid);
       bounded = subst (λ (n : ℕ). (rows_held b4 ≤ allowed c.args.most shown.count) ⊎ ((k : ℕ) → is_kept (flags b4) k ≡ true → (n ≤ k) × (k < down.number))) (sym c.cut_out-shown.ensures.first)
           (elim fe.bounded [ inl some ↦ inl (omega (arith, some, c.max.ensures, c.max-allowed.ensures)) | inr none ↦ inr none ]);
       held = fe.held;

@@ -5,13 +5,13 @@ use Rattle.paragraphs.specs.Paragraphs.{paragraph_points}
 use Rattle.rga_tree.specs.TextOf.{text}
 use Rattle.text_buffer.specs.Buffers.{paragraphs_in}
 use Rattle.unicode_tables.specs.Tables.{TableValues}
-use Rattle.live_document.specs.Cost.{allowed, top_of, bottom_of, unmarked, IsLaidOut}
+use Rattle.live_document.specs.Cost.{allowed, top_of, bottom_of, marks, rows_outside, unmarked, IsLaidOut}
 use Rattle.live_document.specs.Documents.{LiveDocument, counted}
 use Rattle.live_document.specs.Keeping.{is_kept, IsKeptAt}
 use Rattle.live_document.specs.Showing.{window_in}
 use Rattle.live_document.proofs.Followed.{live-bare}
-use Rattle.live_document.proofs.Forgotten.{kept-held, none-behind, on-err, shown-count}
-use Rattle.live_document.proofs.Cost.{marks-caught, marks-counted, row-alike, texts-counted, texts-live}
+use Rattle.live_document.proofs.Forgotten.{kept-held, none-behind, on-err, outside-held, shown-count, slice-held}
+use Rattle.live_document.proofs.Cost.{live-caught, marks-counted, row-alike, texts-counted, texts-live}
 use Rattle.live_document.proofs.document.Document.show.Goals as goal
 
 pub lay_window_out-requires-clause-kept : goal.lay_window_out-requires-clause-kept
@@ -32,6 +32,9 @@ returns-in-Ok-clause-laid c =
     let old = subst (λ (tables : TableValues). IsKeptAt tables i.width i.base i.buffer) (sym c.deref.ensures) c.self.invariant.kept_at in
     let split = (caught.kept i.width i.base old).split ∙ ap₂ (λ (t : TableValues) (ps : List ℕ). paragraph_points t ps) c.deref.ensures caught.text in
     let texts = texts-counted after ∙ e.paragraphs ∙ split in
+    let seen = live-caught i.behind i.tables.value i.desk.set i.buffer before caught.same caught.nothing split in
+    let outside = outside-held before o.shown.first o.end ∙ ap (λ ps. rows_outside ps o.shown.first o.end) seen in
+    let inside = slice-held after o.shown.first o.end in
     let count = ap (allowed i.most.rows) (shown-count after o.shown e.at_hand) in
     let new : LiveDocument = record { desk = i.desk; tables = i.tables.value; width = i.width; base = i.base; paragraphs = map counted after; most = i.most.rows; window = window_in after o.shown; laid = o.laid } in
     subst (λ (d : LiveDocument). IsLaidOut d new c.args.place c.args.above c.args.below) c.self.view_is
@@ -41,7 +44,9 @@ returns-in-Ok-clause-laid c =
       order = e.order;
       top = row-alike T i.tables.value i.width i.base (paragraphs_in before) _ _ (text i.desk.set) o.shown.first (top_of c.args.place c.args.above) e.top c.deref-2.ensures (sym (texts-counted after ∙ e.paragraphs)) caught.text;
       bottom = row-alike T i.tables.value i.width i.base (paragraphs_in before) _ _ (text i.desk.set) _ (bottom_of c.args.place c.args.below) e.bottom c.deref-2.ensures (sym (texts-counted after ∙ e.paragraphs)) caught.text;
-      laid = e.laid ∙ ap (λ ms. unmarked ms o.shown.first o.end) (marks-caught i.behind i.tables.value i.desk.set i.buffer before caught.same caught.nothing split);
+      laid = e.laid ∙ ap (λ ms. unmarked ms o.shown.first o.end) (sym (marks-counted before) ∙ ap marks seen);
+      stays = λ fits k there. ap (λ ms. is_kept ms k) (marks-counted after)
+          ∙ e.stays (omega (arith, fits, count, outside, inside)) k (sym (ap (λ ms. is_kept ms k) (marks-counted before)) ∙ ap (λ ps. is_kept (marks ps) k) seen ∙ there);
       kept = λ k from to. ap (λ ms. is_kept ms k) (marks-counted after) ∙ e.marked k from to;
       held = elim e.bounded [ inl few ↦ inl (omega (arith, few, kept-held after, count)) | inr none ↦ inr (λ k there. none k (sym (ap (λ ms. is_kept ms k) (marks-counted after)) ∙ there)) ];
       texts = texts;
