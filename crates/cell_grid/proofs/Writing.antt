@@ -89,22 +89,6 @@ even-text tables level bytes even u =
     ap (λ n. encode_utf8_all (map (λ c. if n == 1 then unwrap_or (mirror_of tables c) c else c) (chars bytes))) even
     ∙ ap encode_utf8_all (map-id (chars bytes)) ∙ encodes-chars bytes u
 
--- nor is what has no mirror
-as_it_is : (odd : Bool) (mirror : Option ℕ) (c : ℕ) → is_some mirror ≡ false → (if odd then unwrap_or mirror c else c) ≡ c
-as_it_is true None c h = refl
-as_it_is false None c h = refl
-as_it_is odd (Some m) c h = absurd (false≢true (sym h))
-
-unmirrored : (tables : TableValues) (level : ℕ) (points : List ℕ) → list_any (λ c. is_some (mirror_of tables c)) points ≡ false → map (λ c. mirrored_of tables c level) points ≡ points
-unmirrored tables level [] h = refl
-unmirrored tables level (c ∷ points) h =
-    let both = or_parts (is_some (mirror_of tables c)) (list_any (λ x. is_some (mirror_of tables x)) points) h in
-    ap (λ x. x ∷ map (λ p. mirrored_of tables p level) points) (as_it_is (level % 2 == 1) (mirror_of tables c) c both.0) ∙ ap (λ l. c ∷ l) (unmirrored tables level points both.1)
-
-pub unmirrored-text : (tables : TableValues) (level : ℕ) (bytes : List ℕ) → list_any (λ c. is_some (mirror_of tables c)) (code_points bytes) ≡ false → IsUtf8 bytes
-    → mirrored_text tables level (code_points bytes) ≡ bytes
-unmirrored-text tables level bytes none u = ap encode_utf8_all (unmirrored tables level (chars bytes) none) ∙ encodes-chars bytes u
-
 -- ---- lists of pieces
 
 -- what holds of a fault by what a callee says of it

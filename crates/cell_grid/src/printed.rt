@@ -1,11 +1,10 @@
 //! The print of a grid.
 
-ghost use Rattle.std.specs.Prelude.{◌≡◌, ◌<◌, ◌≤◌, ◌++◌, false, true, length, take, slice_range, is_some, is_err, IfOk, OnOk, OnErr};
-ghost use Rattle.std.specs.List.{All, flat_map, list_any};
+ghost use Rattle.std.specs.Prelude.{◌≡◌, ◌<◌, ◌≤◌, ◌++◌, false, true, length, take, slice_range, is_err, IfOk, OnOk, OnErr};
+ghost use Rattle.std.specs.List.{All, flat_map};
 ghost use Rattle.std.specs.Io.KnownBytes.{Appends};
 ghost use Rattle.std.specs.Str.{IsCharBoundary};
 ghost use Rattle.bg_types.specs.Sink.{AppendsBeginning};
-ghost use Rattle.unicode_tables.specs.Tables.{mirror_of};
 ghost use Rattle.paragraphs.specs.Text.{code_points};
 ghost use Rattle.cell_grid.specs.Held.{AppendsAllBut};
 ghost use Rattle.cell_grid.specs.Print.{is_segment_separator, begins_with_tab, mirrored_text, own_text, row_text, printed, printed_row};
@@ -149,26 +148,16 @@ fn run_at(tables: &Tables, text: &str, entries: &[Entry], start: usize) -> (usiz
     (entries.len(), end)
 }
 
-/// Whether an entry prints what stands in the text.
+/// Whether an entry is known to print what stands in the text: it is of an even level, has columns and begins with no tab.
 fn prints_its_slice(tables: &Tables, text: &str, entry: Entry) -> bool
     requires { IsSlice text.now entry.span }
     ensures { result ≡ true → own_text tables.now text.now entry ≡ slice_range text.now entry.span.first_byte entry.span.end_byte }
 {
-    let cluster = &text[entry.span.first_byte as usize..entry.span.end_byte as usize];
-    if entry.columns == 0 || begins_with_tab(tables, cluster) {
+    if entry.level % 2 != 0 || entry.columns == 0 {
         return false;
     }
-    if entry.level % 2 == 0 {
-        return true;
-    }
-    !has_mirror(tables, cluster)
-}
-
-/// Whether a character of a cluster has a mirror.
-fn has_mirror(tables: &Tables, cluster: &str) -> bool
-    ensures { result ≡ list_any (λ c. is_some (mirror_of tables.now c)) (code_points cluster.now) }
-{
-    cluster.chars().any(|c| tables.mirror(c).is_some())
+    let cluster = &text[entry.span.first_byte as usize..entry.span.end_byte as usize];
+    !begins_with_tab(tables, cluster)
 }
 
 /// Holds what the cells of an entry print, if it has any.
