@@ -3,8 +3,8 @@ use Rattle.std.proofs.Common.{◌≡◌, ◌≢◌, ℕ, ◌+◌, ◌*◌, ◌/�
 use Rattle.std.specs.Prelude.{◌&&◌}
 use Rattle.std.proofs.lemmas.Bool.{cases_Bool, cases_eq, cases_lt}
 use Rattle.std.proofs.lemmas.List.{get_or_default, get_or_past, get_or-set_same, get_or-set_other, take_at}
-use Rattle.std.proofs.lemmas.Nat.{mod_below}
-use Rattle.unicode_tables.specs.Blocks.{value_of}
+use Rattle.std.proofs.lemmas.Nat.{div-mul-add, mod-mul-add, mod_below}
+use Rattle.unicode_tables.specs.Blocks.{value_at, value_of}
 use Rattle.unicode_tables.proofs.Ranges.{part-in, part-out, blocks-in}
 
 pub value-paged : {V : Type 0} (paged : List Bool) (pages : List (List V)) (values : List V) (c : ℕ) (d : V) → get_or paged (c / 256) false ≡ true
@@ -14,6 +14,12 @@ value-paged paged pages values c d h = ap (λ b. cond b (get_or (get_or pages (c
 pub value-even : {V : Type 0} (paged : List Bool) (pages : List (List V)) (values : List V) (c : ℕ) (d : V) → get_or paged (c / 256) false ≡ false
     → value_of paged pages values c d ≡ get_or values (c / 256) d
 value-even paged pages values c d h = ap (λ b. cond b (get_or (get_or pages (c / 256) []) (c % 256) d) (get_or values (c / 256) d)) h
+
+-- the value at a place of a block is that at its code point
+pub value-in_block : {V : Type 0} (paged : List Bool) (pages : List (List V)) (values : List V) (block place : ℕ) (d : V) → place < 256
+    → value_at paged pages values block place d ≡ value_of paged pages values (block * 256 + place) d
+value-in_block paged pages values block place d h =
+    ap₂ (λ b p. value_at paged pages values b p d) (sym (div-mul-add block 256 place h)) (sym (mod-mul-add block 256 place h))
 
 -- the page of another block
 other-page : {V : Type 0} (paged : List Bool) (pages : List (List V)) (values : List V) (block : ℕ) (page : List V) (c : ℕ) (d : V) → c / 256 ≢ block

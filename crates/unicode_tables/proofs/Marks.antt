@@ -1,5 +1,6 @@
 -- The tables that words make, and what look-ups find in them.
-use Rattle.std.proofs.Common.{◌≡◌, ℕ, ◌+◌, ◌*◌, ◌<◌, ◌≤◌, Bool, true, false, List, Option, Some, None, get_or, refl, ap, subst, ◌∙◌, sym, arith}
+use Rattle.std.proofs.Common.{◌≡◌, ℕ, ◌+◌, ◌*◌, ◌<◌, ◌≤◌, Bool, true, false, List, Option, Some, None, get_or, refl, ap, subst, ◌∙◌, sym, inl, inr, arith}
+use Rattle.std.proofs.lemmas.Bool.{cases_lt}
 use Rattle.std.proofs.lemmas.Bool.Decides.{nat_tests}
 use Rattle.std.specs.Prelude.{is_some}
 use Rattle.std.proofs.Math.Bool.{beq}
@@ -16,8 +17,9 @@ use Rattle.unicode_tables.specs.declared.word.Properties.{Properties}
 use Rattle.unicode_tables.specs.declared.words.Words.{Words}
 use Rattle.unicode_tables.specs.Tables.{TableValues, tables_of_lists, bracket_of, mirror_of}
 use Rattle.unicode_tables.specs.Classes.{is_space}
-use Rattle.unicode_tables.specs.Alone.{is_plain, is_direction_mark, columns_alone}
+use Rattle.unicode_tables.specs.Alone.{is_plain, is_direction_mark, is_by_properties, columns_alone}
 use Rattle.unicode_tables.specs.Word.{is_bracket, word_of_lists, word_of, word_with}
+use Rattle.unicode_tables.specs.Evenness.{HasClassesOf, HasMarksOf, HasEvenMarks, IsWordIn}
 use Rattle.unicode_tables.specs.Words.{word_in, HasMarks, tables_of_words}
 use Rattle.unicode_tables.proofs.CodePoints.{each_below-at, each_below-same}
 
@@ -86,35 +88,34 @@ pub mirror-absent : (words : Words) (bracket : List Bracket) (mirror : List (Opt
 mirror-absent words bracket mirror c h marks off =
     sym (each_below-at 0x110000 (λ k. get_or mirror k None) c None h ∙ not_mirror (get_or mirror c None) (sym (marks.mirrors c h) ∙ off))
 
--- where five properties are the same, the words are
-words-same : (properties : Properties) (n m : ℕ)
-    → get_or properties.bidi.now n L ≡ get_or properties.bidi.now m L
-    → get_or properties.bracket.now n no_bracket ≡ get_or properties.bracket.now m no_bracket
-    → get_or properties.mirror.now n None ≡ get_or properties.mirror.now m None
-    → get_or properties.lb.now n Xx ≡ get_or properties.lb.now m Xx
-    → get_or properties.ea.now n N ≡ get_or properties.ea.now m N
-    → is_plain n ≡ is_plain m → is_direction_mark n ≡ is_direction_mark m
-    → word_with properties n ≡ word_with properties m
-words-same properties n m p q r s t u v = cc
+-- a block by properties stands behind the plain code points, and before or behind the marks of direction
+by_properties-behind : (block : ℕ) → is_by_properties block ≡ true → 7 ≤ block
+by_properties-behind block h = grind (arith, nat_tests)
 
-not-plain : (c : ℕ) → 33 * 256 ≤ c → is_plain c ≡ false
-not-plain c h = grind (arith, nat_tests)
+by_properties-apart : (block : ℕ) → is_by_properties block ≡ true → 32 ≤ block → 33 ≤ block
+by_properties-apart block h from = grind (arith, nat_tests)
 
-not-direction_mark : (c : ℕ) → 33 * 256 ≤ c → is_direction_mark c ≡ false
-not-direction_mark c h = grind (arith, nat_tests)
+plain-none : (c : ℕ) → 7 * 256 ≤ c → is_plain c ≡ false
+plain-none c h = grind (arith, nat_tests)
 
--- behind the blocks of plain code points and marks of direction the properties tell the word
-pub words_even : (properties : Properties) (block k : ℕ) → 33 ≤ block
-    → get_or properties.bidi.now (block * 256 + k) L ≡ get_or properties.bidi.now (block * 256) L
-    → get_or properties.bracket.now (block * 256 + k) no_bracket ≡ get_or properties.bracket.now (block * 256) no_bracket
-    → get_or properties.mirror.now (block * 256 + k) None ≡ get_or properties.mirror.now (block * 256) None
-    → get_or properties.lb.now (block * 256 + k) Xx ≡ get_or properties.lb.now (block * 256) Xx
-    → get_or properties.ea.now (block * 256 + k) N ≡ get_or properties.ea.now (block * 256) N
-    → word_with properties (block * 256 + k) ≡ word_with properties (block * 256)
-words_even properties block k far p q r s t =
-    words-same properties (block * 256 + k) (block * 256) p q r s t
-    (not-plain (block * 256 + k) (omega arith) ∙ sym (not-plain (block * 256) (omega arith)))
-    (not-direction_mark (block * 256 + k) (omega arith) ∙ sym (not-direction_mark (block * 256) (omega arith)))
+direction_mark-before : (c : ℕ) → 7 * 256 ≤ c → c < 32 * 256 → is_direction_mark c ≡ false
+direction_mark-before c h k = grind (arith, nat_tests)
+
+direction_mark-behind : (c : ℕ) → 33 * 256 ≤ c → is_direction_mark c ≡ false
+direction_mark-behind c h = grind (arith, nat_tests)
+
+-- so none of its code points is one of them
+module _ (block : ℕ) (far : is_by_properties block ≡ true) where
+  not-plain : (k : ℕ) → is_plain (block * 256 + k) ≡ false
+  not-plain k = let behind = by_properties-behind block far in plain-none (block * 256 + k) (omega arith)
+
+  not-direction_mark : (k : ℕ) → k < 256 → is_direction_mark (block * 256 + k) ≡ false
+  not-direction_mark k h =
+      let behind = by_properties-behind block far in
+      elim (cases_lt block 32) [
+        | inl lt ↦ direction_mark-before (block * 256 + k) (omega arith) (omega arith)
+        | inr ge ↦ let apart = by_properties-apart block far ge in direction_mark-behind (block * 256 + k) (omega arith)
+      ]
 
 -- two tests of which a comparison tells that they are the same
 pub same_bool : (a b : Bool) → beq a b ≡ true → a ≡ b
@@ -127,17 +128,47 @@ same_bool false false h = refl
 columns-unmarked : (b : Bidi) (l : Lb) (e : Ea) (n m : ℕ) → is_direction_mark n ≡ is_direction_mark m → columns_alone b l e n ≡ columns_alone b l e m
 columns-unmarked b l e n m same = cc
 
--- where the five properties tell the same, the word is one that is known
-pub word-beside : (properties : Properties) (known : Word) (n m : ℕ) → known ≡ word_with properties m → 33 * 256 ≤ m → 33 * 256 ≤ n
-    → get_or properties.bidi.now n L ≡ known.bidi → get_or properties.lb.now n Xx ≡ known.lb → get_or properties.ea.now n N ≡ known.ea
-    → is_bracket (get_or properties.bracket.now n no_bracket) ≡ known.is_bracket → is_some (get_or properties.mirror.now n None) ≡ known.has_mirror
-    → known ≡ word_with properties n
-word-beside properties known n m same far near p q r s t =
-    let bidi = sym (ap (λ (w : Word). w.bidi) same) ∙ sym p in
-    let lb = sym (ap (λ (w : Word). w.lb) same) ∙ sym q in
-    let ea = sym (ap (λ (w : Word). w.ea) same) ∙ sym r in
-    same
-    ∙ same_word bidi lb ea (sym (ap (λ (w : Word). w.is_bracket) same) ∙ sym s) (sym (ap (λ (w : Word). w.has_mirror) same) ∙ sym t)
-    (not-plain m far ∙ sym (not-plain n near))
-    (same_columns m bidi lb ea ∙ columns-unmarked _ _ _ m n (not-direction_mark m far ∙ sym (not-direction_mark n near)))
-    (ap is_space lb)
+-- where the properties tell the same of two code points of a block, they have one word
+words-same : (properties : Properties) (block k j : ℕ) → is_by_properties block ≡ true → k < 256 → j < 256
+    → get_or properties.bidi.now (block * 256 + k) L ≡ get_or properties.bidi.now (block * 256 + j) L
+    → get_or properties.lb.now (block * 256 + k) Xx ≡ get_or properties.lb.now (block * 256 + j) Xx
+    → get_or properties.ea.now (block * 256 + k) N ≡ get_or properties.ea.now (block * 256 + j) N
+    → is_bracket (get_or properties.bracket.now (block * 256 + k) no_bracket) ≡ is_bracket (get_or properties.bracket.now (block * 256 + j) no_bracket)
+    → is_some (get_or properties.mirror.now (block * 256 + k) None) ≡ is_some (get_or properties.mirror.now (block * 256 + j) None)
+    → word_with properties (block * 256 + k) ≡ word_with properties (block * 256 + j)
+words-same properties block k j far h i p q r s t =
+    same_word p q r s t
+    (not-plain block far k ∙ sym (not-plain block far j))
+    (same_columns (block * 256 + k) p q r
+    ∙ columns-unmarked _ _ _ (block * 256 + k) (block * 256 + j) (not-direction_mark block far k h ∙ sym (not-direction_mark block far j i)))
+    (ap is_space q)
+
+-- of a block in which each property has one value all code points have the word of the first
+pub words_even : (properties : Properties) (block k : ℕ) → is_by_properties block ≡ true → k < 256 → HasEvenMarks properties block
+    → get_or properties.bidi.now (block * 256 + k) L ≡ get_or properties.bidi.now (block * 256) L
+    → get_or properties.lb.now (block * 256 + k) Xx ≡ get_or properties.lb.now (block * 256) Xx
+    → get_or properties.ea.now (block * 256 + k) N ≡ get_or properties.ea.now (block * 256) N
+    → word_with properties (block * 256 + k) ≡ word_with properties (block * 256)
+words_even properties block k far h even p q r =
+    let first : block * 256 ≡ block * 256 + 0 = omega arith in
+    words-same properties block k 0 far h (omega arith)
+    (p ∙ ap (λ n. get_or properties.bidi.now n L) first) (q ∙ ap (λ n. get_or properties.lb.now n Xx) first) (r ∙ ap (λ n. get_or properties.ea.now n N) first)
+    (ap is_bracket (even.brackets k h ∙ sym (even.brackets 0 (omega arith)))) (ap is_some (even.mirrors k h ∙ sym (even.mirrors 0 (omega arith))))
+    ∙ ap (word_with properties) (sym first)
+
+module _ (properties : Properties) (word : Word) (block place : ℕ) (known : IsWordIn properties block word) (h : place < 256) where
+  -- the marks of a code point, where those of its block are even
+  pub marks-even : HasEvenMarks properties block → HasMarksOf properties word (block * 256 + place)
+  marks-even even = record {
+    bracket = ap is_bracket (even.brackets place h ∙ sym (even.brackets known.place known.within)) ∙ sym (ap (λ (w : Word). w.is_bracket) known.is);
+    mirror = ap is_some (even.mirrors place h ∙ sym (even.mirrors known.place known.within)) ∙ sym (ap (λ (w : Word). w.has_mirror) known.is);
+  }
+
+  -- where the properties tell the same as a word of the block, it is the code point's
+  pub word-beside : is_by_properties block ≡ true → HasClassesOf properties word (block * 256 + place) → HasMarksOf properties word (block * 256 + place)
+      → word_with properties (block * 256 + place) ≡ word
+  word-beside far classes marks =
+      words-same properties block place known.place far h known.within
+      (classes.bidi ∙ ap (λ (w : Word). w.bidi) known.is) (classes.lb ∙ ap (λ (w : Word). w.lb) known.is) (classes.ea ∙ ap (λ (w : Word). w.ea) known.is)
+      (marks.bracket ∙ ap (λ (w : Word). w.is_bracket) known.is) (marks.mirror ∙ ap (λ (w : Word). w.has_mirror) known.is)
+      ∙ sym known.is

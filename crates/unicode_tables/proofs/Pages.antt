@@ -1,7 +1,7 @@
 -- The pages of words, block by block.
 use Rattle.std.proofs.Common.{◌≡◌, ℕ, ◌+◌, ◌-◌, ◌*◌, ◌/◌, ◌%◌, ◌<◌, ◌≤◌, List, [], ◌∷◌, ◌++◌, length, get_or, refl, ap, ◌∙◌, sym, inl, inr, arith}
 use Rattle.std.proofs.lemmas.Bool.{cases_lt}
-use Rattle.std.proofs.lemmas.List.{get_or_append_left, get_or_push, length_push}
+use Rattle.std.proofs.lemmas.List.{get_or_append_left, get_or-append-add, get_or_push, length-append, length_push}
 use Rattle.std.proofs.lemmas.Nat.{div-add-mod', mod_below}
 use Rattle.unicode_tables.specs.declared.word.Word.{Word}
 use Rattle.unicode_tables.specs.declared.word.Properties.{Properties}
@@ -9,32 +9,17 @@ use Rattle.unicode_tables.specs.declared.words.Words.{Words}
 use Rattle.unicode_tables.specs.Word.{absent_word, word_with}
 use Rattle.unicode_tables.specs.Words.{word_in, IsWordTable}
 
--- the words of the first n code points of a block were put behind those that there were
-pub record IsPut (properties : Properties) (block : ℕ) (was pages : List Word) (n : ℕ) : Type 0 where
-  pub len : length pages ≡ length was + n
-  pub same : (k : ℕ) → k < length was → get_or pages k absent_word ≡ get_or was k absent_word
-  pub page : (k : ℕ) → k < n → get_or pages (length was + k) absent_word ≡ word_with properties (block * 256 + k)
-
-pub put-none : (properties : Properties) (block : ℕ) (was : List Word) → IsPut properties block was was 0
-put-none properties block was = record { len = omega arith; same = λ k h. refl; page = λ k h. absurd (omega arith) }
-
-pub put-more : (properties : Properties) (block : ℕ) (was pages after : List Word) (n : ℕ) (word : Word) → IsPut properties block was pages n
-    → after ≡ pages ++ word ∷ [] → word ≡ word_with properties (block * 256 + n) → IsPut properties block was after (n + 1)
-put-more properties block was pages after n word w is value =
-    let before : (k : ℕ) → k < length pages → get_or after k absent_word ≡ get_or pages k absent_word = λ k h.
-    ap (λ ws. get_or ws k absent_word) is ∙ get_or_append_left pages (word ∷ []) absent_word k h in
-    record {
-      len = ap length is ∙ length_push pages word ∙ omega (arith, w.len);
-      same = λ k h. before k (omega (arith, w.len)) ∙ w.same k h;
-      page = λ k h. elim (cases_lt k n) [
-        | inl lt ↦ before (length was + k) (omega (arith, w.len)) ∙ w.page k lt
-        | inr ge ↦
-            let at : k ≡ n = omega arith in
-            ap (λ ws. get_or ws (length was + k) absent_word) is
-            ∙ get_or_push pages word absent_word (length was + k) (omega (arith, w.len))
-            ∙ value ∙ ap (λ m. word_with properties (block * 256 + m)) (sym at)
-      ];
-    }
+-- the words of a run of code points are put behind those before them
+pub run-put : (properties : Properties) (block : ℕ) (page after : List Word) (from end : ℕ) (word : Word)
+    → ((k : ℕ) → k < from → get_or page k absent_word ≡ word_with properties (block * 256 + k))
+    → ((k : ℕ) → k < end → k < from → get_or after k absent_word ≡ get_or page k absent_word)
+    → ((k : ℕ) → from ≤ k → k < end → get_or after k absent_word ≡ word)
+    → ((k : ℕ) → from ≤ k → k < end → word_with properties (block * 256 + k) ≡ word)
+    → (k : ℕ) → k < end → get_or after k absent_word ≡ word_with properties (block * 256 + k)
+run-put properties block page after from end word so_far kept filled same k h = elim (cases_lt k from) [
+  | inl lt ↦ kept k h lt ∙ so_far k lt
+  | inr ge ↦ filled k ge h ∙ sym (same k ge h)
+]
 
 -- the first n blocks have their words
 pub record AreFirst (properties : Properties) (starts : List ℕ) (pages : List Word) (n : ℕ) : Type 0 where
@@ -88,12 +73,24 @@ first-shared properties starts after pages start n w is behind shared same =
     (λ k h. ap (λ s. get_or pages (s + k) absent_word) shared ∙ w.words (n - 1) k (omega arith) h ∙ sym (same k h))
 
 -- the next block has a page of its own
-pub first-put : (properties : Properties) (starts after : List ℕ) (pages grown : List Word) (start n : ℕ) → AreFirst properties starts pages n
-    → after ≡ starts ++ start ∷ [] → start ≡ length pages → IsPut properties n pages grown 256 → AreFirst properties after grown (n + 1)
-first-put properties starts after pages grown start n w is end put =
-    first-more properties starts after pages grown start n w is (omega (arith, put.len)) put.same
-    (omega (arith, put.len, end))
-    (λ k h. ap (λ s. get_or grown (s + k) absent_word) end ∙ put.page k h)
+pub first-put : (properties : Properties) (starts after : List ℕ) (pages page grown : List Word) (start n : ℕ) → AreFirst properties starts pages n
+    → after ≡ starts ++ start ∷ [] → start ≡ length pages → length page ≡ 256
+    → ((k : ℕ) → k < 256 → get_or page k absent_word ≡ word_with properties (n * 256 + k))
+    → grown ≡ pages ++ page → AreFirst properties after grown (n + 1)
+first-put properties starts after pages page grown start n w is end whole words put =
+    let longer : length grown ≡ length pages + 256 = ap length put ∙ length-append pages page ∙ ap (λ m. length pages + m) whole in
+    first-more properties starts after pages grown start n w is (omega arith)
+    (λ k h. ap (λ ws. get_or ws k absent_word) put ∙ get_or_append_left pages page absent_word k h)
+    (omega arith)
+    (λ k h. ap (λ ws. get_or ws (start + k) absent_word) put ∙ ap (λ s. get_or (pages ++ page) (s + k) absent_word) end ∙ get_or-append-add pages page k absent_word ∙ words k h)
+
+-- the word of the first code point of the last block
+pub word-last : (properties : Properties) (starts : List ℕ) (pages : List Word) (n : ℕ) → AreFirst properties starts pages n → 0 < n
+    → get_or pages (get_or starts (n - 1) 0) absent_word ≡ word_with properties ((n - 1) * 256)
+word-last properties starts pages n w some =
+    let start : get_or starts (n - 1) 0 ≡ get_or starts (n - 1) 0 + 0 = omega arith in
+    let first : (n - 1) * 256 + 0 ≡ (n - 1) * 256 = omega arith in
+    ap (λ k. get_or pages k absent_word) start ∙ w.words (n - 1) 0 (omega arith) (omega arith) ∙ ap (word_with properties) first
 
 pub first-table : (properties : Properties) (words : Words) (n : ℕ) → AreFirst properties words.starts.items words.pages.items n → n ≡ 4352 → IsWordTable words
 first-table properties words n w all = record { blocks = w.len ∙ all; pages = λ b h. w.within b (omega arith) }

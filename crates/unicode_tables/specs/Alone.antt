@@ -1,5 +1,5 @@
 -- A code point by itself, as a cluster.
-use Rattle.std.specs.Prelude.{ℕ, Bool, ◌==◌, ◌&&◌, ◌||◌, nat_le, if◌then◌else◌}
+use Rattle.std.specs.Prelude.{ℕ, Bool, ◌==◌, ◌&&◌, ◌||◌, not, nat_le, nat_lt, if◌then◌else◌}
 use Rattle.bg_types.specs.declared.class.Bidi.{Bidi}
 use Rattle.bg_types.specs.declared.class.Lb.{Lb}
 use Rattle.bg_types.specs.declared.class.Ea.{Ea}
@@ -17,6 +17,10 @@ is_plain c =
 -- the marks of direction, which are named by their code points: LRM, RLM and ALM
 abbrev pub is_direction_mark : ℕ → Bool
 is_direction_mark c = c == 0x200E || c == 0x200F || c == 0x61C
+
+-- no code point of this block of 256 is plain or a mark of direction: its properties tell all of its word
+abbrev pub is_by_properties : ℕ → Bool
+is_by_properties block = nat_lt 6 block && not (block == 32)
 
 -- a code point of these classes has no columns
 abbrev pub is_unseen : Bidi → Lb → ℕ → Bool

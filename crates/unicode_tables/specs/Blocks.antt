@@ -6,12 +6,16 @@ use Rattle.unicode_tables.specs.declared.blocks.Blocks.{Blocks}
 abbrev pub is_paged : {V : Type 0} → Blocks V → ℕ → Bool
 is_paged blocks b = slice_index_or blocks.paged.items b false
 
--- the value at c, of which blocks are paged, the pages and the blocks' values; what is no code point has the last one
+-- the value at a place of a block, of which blocks are paged, the pages and the blocks' values; what is no code point has the last one
+abbrev pub value_at : {V : Type 0} → List Bool → List (List V) → List V → (block place : ℕ) → V → V
+value_at paged pages values block place absent =
+    if slice_index_or paged block false
+    then slice_index_or (slice_index_or pages block []) place absent
+    else slice_index_or values block absent
+
+-- the value at c
 abbrev pub value_of : {V : Type 0} → List Bool → List (List V) → List V → ℕ → V → V
-value_of paged pages values c absent =
-    if slice_index_or paged (c / 256) false
-    then slice_index_or (slice_index_or pages (c / 256) []) (c % 256) absent
-    else slice_index_or values (c / 256) absent
+value_of paged pages values c absent = value_at paged pages values (c / 256) (c % 256) absent
 
 abbrev pub value_in : {V : Type 0} → Blocks V → ℕ → V → V
 value_in blocks c absent = value_of blocks.paged.items blocks.pages.items blocks.values.items c absent

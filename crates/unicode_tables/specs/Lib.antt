@@ -4,4 +4,5 @@ pub mod Classes
 pub mod Alone
 pub mod Blocks
 pub mod Word
+pub mod Evenness
 pub mod Words

@@ -1,7 +1,7 @@
 //! A value for each code point, in blocks of 256.
 
 ghost use Rattle.std.specs.Prelude.{◌≡◌, ℕ, ◌+◌, ◌*◌, ◌<◌, ◌≤◌, ◌&&◌, nat_le, nat_lt, true, if◌then◌else◌, vec_len, IfOk, OnOk, OnErr, slice_index_or};
-ghost use Rattle.unicode_tables.specs.Blocks.{value_in, is_paged, IsWhole};
+ghost use Rattle.unicode_tables.specs.Blocks.{value_at, value_in, is_paged, IsWhole};
 
 use crate::page::{BLOCK, Page, fill};
 use std::alloc::{AllocError, Global};
@@ -47,6 +47,20 @@ impl<V: Copy> Blocks<V> {
         })
     }
 
+    /// The value at a place of a block.
+    #[inline]
+    pub(crate) fn in_block(&self, block: usize, place: usize) -> V
+        requires whole { IsWhole self.now }
+        requires block { block < 4352 }
+        requires place { place < 256 }
+        ensures { (d : V) → result ≡ value_at self.now.paged.items self.now.pages.items self.now.values.items block place d }
+    {
+        if self.paged[block] {
+            return self.pages[block].at(place);
+        }
+        self.values[block]
+    }
+
     /// The value of a code point.
     #[inline]
     pub(crate) fn at(&self, c: usize) -> V
@@ -54,10 +68,7 @@ impl<V: Copy> Blocks<V> {
         requires code_point { c < 0x110000 }
         ensures { (d : V) → result ≡ value_in self.now c d }
     {
-        if self.paged[c / BLOCK] {
-            return self.pages[c / BLOCK].at(c % BLOCK);
-        }
-        self.values[c / BLOCK]
+        self.in_block(c / BLOCK, c % BLOCK)
     }
 
     /// Gives a block a page. Each code point keeps its value.

@@ -79,6 +79,16 @@ impl<V: Copy> Property<V> {
         self.blocks.at(c)
     }
 
+    /// The value at a place of a block.
+    #[inline]
+    pub(crate) fn in_block(&self, block: usize, place: usize) -> V
+        requires block { block < 4352 }
+        requires place { place < 256 }
+        ensures { (d : V) → result ≡ slice_index_or self.now (block * 256 + place) d }
+    {
+        self.blocks.in_block(block, place)
+    }
+
     /// Whether a block is known to have one value.
     pub(crate) fn is_even(&self, block: usize) -> bool
         requires { block < 4352 }

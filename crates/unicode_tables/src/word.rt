@@ -1,7 +1,9 @@
 //! What the tables say of a code point, in one word.
 
 ghost use Rattle.std.specs.Prelude.{◌≡◌, ℕ, ◌+◌, ◌-◌, ◌*◌, ◌<◌, ◌≤◌, true};
+ghost use Rattle.unicode_tables.specs.Alone.{is_by_properties};
 ghost use Rattle.unicode_tables.specs.Word.{is_bracket, word_with};
+ghost use Rattle.unicode_tables.specs.Evenness.{HasClassesOf, HasMarksOf, HasEvenMarks, IsWordIn};
 
 use crate::alone::{columns_alone, is_plain};
 use crate::bracket::Bracket;
@@ -31,8 +33,11 @@ pub struct Word {
     pub is_space: bool,
 }
 
-/// From this block on no code point is plain or a mark of direction: the properties tell its word.
-const FIRST_BLOCK_BY_CLASSES: usize = 33;
+/// Behind this block no code point is plain.
+const LAST_PLAIN_BLOCK: usize = 6;
+
+/// Behind the plain blocks the marks of direction stand in this one.
+const DIRECTION_MARKS_BLOCK: usize = 32;
 
 /// The five properties that words are made of.
 #[derive(Clone, Copy)]
@@ -51,6 +56,13 @@ fn is_bracket(bracket: Bracket) -> bool
         Bracket::None => false,
         Bracket::Open(_) | Bracket::Close(_) => true,
     }
+}
+
+/// Whether no code point of a block is plain or a mark of direction: the properties tell its word.
+fn is_by_properties(block: usize) -> bool
+    ensures { result ≡ is_by_properties block }
+{
+    block > LAST_PLAIN_BLOCK && block != DIRECTION_MARKS_BLOCK
 }
 
 /// Whether two words are known to be the same.
@@ -79,52 +91,97 @@ impl Properties<'_> {
         }
     }
 
-    /// The word of a code point, given that of another: it is the same if the five properties tell the same of both.
+    /// Whether a code point has the classes that a word tells.
     #[inline]
-    pub(crate) fn word_beside(&self, known: Word, other: usize, c: usize) -> Word
-        requires known { known ≡ word_with self.now other }
-        requires code_point { c < 0x110000 }
-        ensures { result ≡ word_with self.now c }
+    fn has_classes_of(&self, word: Word, block: usize, place: usize) -> bool
+        requires block { block < 4352 }
+        requires place { place < 256 }
+        ensures { result ≡ true → HasClassesOf self.now word (block * 256 + place) }
     {
-        let by_classes = FIRST_BLOCK_BY_CLASSES * BLOCK;
-        if other >= by_classes
-            && c >= by_classes
-            && self.bidi.at(c) == known.bidi
-            && self.lb.at(c) == known.lb
-            && self.ea.at(c) == known.ea
-            && is_bracket(self.bracket.at(c)) == known.is_bracket
-            && self.mirror.at(c).is_some() == known.has_mirror
-        {
-            return known;
+        self.bidi.in_block(block, place) == word.bidi
+            && self.lb.in_block(block, place) == word.lb
+            && self.ea.in_block(block, place) == word.ea
+    }
+
+    /// Whether a code point is a bracket and has a mirrored character as a word tells.
+    #[inline]
+    fn has_marks_of(&self, word: Word, block: usize, place: usize) -> bool
+        requires block { block < 4352 }
+        requires place { place < 256 }
+        ensures { result ≡ true → HasMarksOf self.now word (block * 256 + place) }
+    {
+        is_bracket(self.bracket.in_block(block, place)) == word.is_bracket
+            && self.mirror.in_block(block, place).is_some() == word.has_mirror
+    }
+
+    /// Whether all code points of a block are known to have one bracket and one mirrored character.
+    fn has_even_marks(&self, block: usize) -> bool
+        requires { block < 4352 }
+        ensures { result ≡ true → HasEvenMarks self.now block }
+    {
+        self.bracket.is_even(block) && self.mirror.is_even(block)
+    }
+
+    /// Whether a code point is known to have a word of its block, given whether the marks of all its code points are even.
+    #[inline]
+    fn has_word(&self, word: Word, block: usize, place: usize, even_marks: bool) -> bool
+        requires by_properties { is_by_properties block ≡ true }
+        requires block { block < 4352 }
+        requires place { place < 256 }
+        requires word { IsWordIn self.now block word }
+        requires marks { even_marks ≡ true → HasEvenMarks self.now block }
+        ensures { result ≡ true → word_with self.now (block * 256 + place) ≡ word }
+    {
+        self.has_classes_of(word, block, place)
+            && (even_marks || self.has_marks_of(word, block, place))
+    }
+
+    /// The place in a block up to which all code points from one on are known to have its word.
+    pub(crate) fn run_end(&self, word: Word, block: usize, from: usize) -> usize
+        requires block { block < 4352 }
+        requires from { from < 256 }
+        requires word { word ≡ word_with self.now (block * 256 + from) }
+        ensures behind { from < result }
+        ensures within { result ≤ 256 }
+        ensures same { (k : ℕ) → from ≤ k → k < result → word_with self.now (block * 256 + k) ≡ word }
+    {
+        if !is_by_properties(block) {
+            return from + 1;
         }
-        self.word(c)
+        let even_marks = self.has_even_marks(block);
+        for place in from + 1..BLOCK {
+            if !self.has_word(word, block, place, even_marks) {
+                return place;
+            }
+        }
+        BLOCK
     }
 
     /// Whether a block is known to have one word.
     #[tactic(auto, using(crate::proofs::Marks::words_even))]
-    fn are_even(&self, block: usize) -> bool
-        requires by_classes { 33 ≤ block }
-        requires within { block < 4352 }
+    pub(crate) fn are_even(&self, block: usize) -> bool
+        requires { block < 4352 }
         ensures { result ≡ true → (k : ℕ) → k < 256
             → word_with self.now (block * 256 + k) ≡ word_with self.now (block * 256) }
     {
-        self.bidi.is_even(block)
-            && self.bracket.is_even(block)
-            && self.mirror.is_even(block)
+        is_by_properties(block)
+            && self.has_even_marks(block)
+            && self.bidi.is_even(block)
             && self.lb.is_even(block)
             && self.ea.is_even(block)
     }
 
-    /// Whether a block is known to have one word, and the block before it the same.
-    pub(crate) fn repeat(&self, block: usize) -> bool
-        requires { block < 4352 }
-        ensures behind { result ≡ true → 0 < block }
-        ensures same { result ≡ true → (k : ℕ) → k < 256
+    /// Whether a block is known to have one word, and the block before it the same. `before` is the word of that block's
+    /// first code point.
+    pub(crate) fn repeat(&self, before: Word, block: usize) -> bool
+        requires behind { 0 < block }
+        requires within { block < 4352 }
+        requires before { before ≡ word_with self.now ((block - 1) * 256) }
+        ensures { result ≡ true → (k : ℕ) → k < 256
             → word_with self.now (block * 256 + k) ≡ word_with self.now ((block - 1) * 256 + k) }
     {
-        block > FIRST_BLOCK_BY_CLASSES
-            && self.are_even(block - 1)
+        self.are_even(block - 1)
             && self.are_even(block)
-            && are_same(self.word(block * BLOCK), self.word((block - 1) * BLOCK))
+            && are_same(self.word(block * BLOCK), before)
     }
 }

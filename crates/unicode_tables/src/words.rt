@@ -17,22 +17,24 @@ pub(crate) struct Words {
     pub(crate) pages: Vec<Word>,
 }
 
-/// Puts the words of a block behind all others.
-fn push_page(pages: &mut Vec<Word>, properties: &Properties, block: usize) -> Result<(), AllocError>
+/// Makes a page that of a block: it gets the block's words in place of those that it has.
+fn fill_page(page: &mut Vec<Word>, properties: &Properties, block: usize) -> Result<(), AllocError>
     requires { block < 4352 }
-    ensures len { OnOk result (vec_len pages.new ≡ vec_len pages.old + 256) }
-    ensures same { OnOk result ((k : ℕ) → k < vec_len pages.old
-        → slice_index_or pages.new.items k absent_word ≡ slice_index_or pages.old.items k absent_word) }
-    ensures page { OnOk result ((k : ℕ) → k < 256
-        → slice_index_or pages.new.items (vec_len pages.old + k) absent_word
-        ≡ word_with properties.now (block * 256 + k)) }
+    ensures len { OnOk result (vec_len page.new ≡ 256) }
+    ensures words { OnOk result ((k : ℕ) → k < 256
+        → slice_index_or page.new.items k absent_word ≡ word_with properties.now (block * 256 + k)) }
 {
-    let mut last = block * BLOCK;
-    let mut word = properties.word(last);
-    for k in 0..BLOCK {
-        word = properties.word_beside(word, last, block * BLOCK + k);
-        last = block * BLOCK + k;
-        pages.push(word)?;
+    page.clear();
+    if properties.are_even(block) {
+        page.resize(BLOCK, properties.word(block * BLOCK))?;
+        return Ok(());
+    }
+    let mut from = 0;
+    while from < BLOCK {
+        let word = properties.word(block * BLOCK + from);
+        let end = properties.run_end(word, block, from);
+        page.resize(end, word)?;
+        from = end;
     }
     Ok(())
 }
@@ -46,14 +48,16 @@ impl Words {
     {
         let mut starts = Vec::with_capacity(alloc, BLOCKS)?;
         let mut pages = Vec::new(alloc);
+        let mut page = Vec::with_capacity(alloc, BLOCK)?;
         for block in 0..BLOCKS {
-            if properties.repeat(block) {
+            if block > 0 && properties.repeat(pages[starts[block - 1]], block) {
                 let shared = starts[block - 1];
                 starts.push(shared)?;
                 continue;
             }
             starts.push(pages.len())?;
-            push_page(&mut pages, properties, block)?;
+            fill_page(&mut page, properties, block)?;
+            pages.extend_from_slice(&page)?;
         }
         Ok(Words { starts, pages })
     }
