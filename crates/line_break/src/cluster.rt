@@ -1,13 +1,15 @@
 //! A cluster as lines see it.
 
 ghost use Rattle.std.specs.Prelude.{◌≡◌};
+ghost use Rattle.std.specs.List.{list_all};
+ghost use Rattle.unicode_tables.specs.declared.word.Word.{Word};
 ghost use Rattle.paragraphs.specs.Text.{code_points};
 ghost use Rattle.line_break.specs.LineClusters.{is_space, hangs};
 
 use crate::class::is_one_of;
 use crate::status::Break;
 use bg_types::Lb;
-use unicode_tables::Tables;
+use unicode_tables::{Tables, Word};
 
 /// What lines ask of a cluster: its columns, 0 to 2, whether it has only spaces, and the status of
 /// the boundary after it.
@@ -24,6 +26,14 @@ pub fn is_space(tables: &Tables, cluster: &str) -> bool
     ensures { result ≡ is_space tables.now (code_points cluster.now) }
 {
     cluster.chars().all(|c| is_one_of(tables.lb(c), &[Lb::Sp]))
+}
+
+/// Whether all of these words are those of spaces.
+#[inline]
+pub(crate) fn are_spaces(words: &[Word]) -> bool
+    ensures { result ≡ list_all (λ (w : Word). w.is_space) words.now }
+{
+    words.iter().all(|word| word.is_space)
 }
 
 /// Whether a cluster hangs where it stands at a line's end.

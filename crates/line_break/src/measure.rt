@@ -1,12 +1,13 @@
 //! What is read of a cluster by itself.
 
-ghost use Rattle.std.specs.Prelude.{◌≡◌, ◌<◌, ◌^◌, List, [], ◌∷◌, length, map, encode_utf8, MatchOption};
+ghost use Rattle.std.specs.Prelude.{◌≡◌, ◌<◌, ◌^◌, List, [], ◌∷◌, length, map, slice_index, encode_utf8, MatchOption};
 ghost use Rattle.std.specs.List.{All, concat};
 ghost use Rattle.unicode_tables.specs.Word.{word_of};
+ghost use Rattle.unicode_tables.specs.declared.word.Word.{Word};
 ghost use Rattle.paragraphs.specs.Text.{code_points};
 
-use crate::cluster::is_space;
-use paragraphs::{Clusters, columns, columns_of_one};
+use crate::cluster::{are_spaces, is_space};
+use paragraphs::{Clusters, columns, columns_of_marked, columns_of_one};
 use unicode_tables::{Tables, Word};
 
 /// How many code points a cluster has, its columns, and whether it has only spaces.
@@ -38,6 +39,9 @@ impl Measure {
         if let Some(c) = clusters.next_alone(points, words) {
             return Some(Measure::of_one(tables, words[0], c));
         }
+        if let Some(size) = clusters.next_marked(points, words) {
+            return Some(Measure::of_marked(tables, &points[..size], &words[..size]));
+        }
         let cluster = clusters.next()?;
         Some(Measure::of_several(tables, cluster))
     }
@@ -53,6 +57,22 @@ impl Measure {
             size: 1,
             columns: columns_of_one(tables, word, c),
             is_space: word.is_space,
+        }
+    }
+
+    /// A cluster of these characters, which have these words and of which the first has columns by
+    /// itself.
+    #[inline]
+    fn of_marked(tables: &Tables, points: &[char], words: &[Word]) -> Measure
+        requires few { length points.now < 2 ^ 32 }
+        requires words { words.now ≡ map (word_of tables.now) points.now }
+        requires seen { 0 < slice_index (map (λ (w : Word). w.columns) words.now) 0 }
+        ensures { result ≡ measure_of tables.now points.now }
+    {
+        Measure {
+            size: points.len() as u32,
+            columns: columns_of_marked(tables, points, words),
+            is_space: are_spaces(words),
         }
     }
 

@@ -211,7 +211,7 @@ cut-afresh context x front (c ∷ cs) fresh =
     ap₂ (λ b ps. attach b c ps) (rule-afresh context c (x ∷ front) (cs ++ []) next) (cut-afresh context c (x ∷ front) cs next)
 
 -- after a boundary nothing before it counts
-cut-boundary : (before cs : List ℕ) → is_grapheme_break true before cs ≡ true → cut (is_grapheme_break true) before cs [] ≡ cut (is_grapheme_break true) [] cs []
+pub cut-boundary : (before cs : List ℕ) → is_grapheme_break true before cs ≡ true → cut (is_grapheme_break true) before cs [] ≡ cut (is_grapheme_break true) [] cs []
 unfolding cut
 cut-boundary before [] broken = refl
 cut-boundary [] (c ∷ cs) broken = refl

@@ -13,6 +13,8 @@ pub mod Local
 pub mod Plain
 pub mod Afresh
 pub mod Alone
+pub mod Joined
+pub mod Marked
 pub mod Gathered
 pub mod Interface
 pub mod OneColumns

@@ -3,5 +3,6 @@ pub mod Text
 pub mod Classes
 pub mod Paragraphs
 pub mod Clusters
+pub mod Marked
 pub mod Spans
 pub mod Columns

@@ -1,15 +1,19 @@
 //! The clusters of a text (UAX #29).
 
-ghost use Rattle.std.specs.Prelude.{◌≡◌, ◌<◌, true, map, List, [], ◌∷◌, length, take, drop, encode_utf8, IfSome, MatchOption};
+ghost use Rattle.std.specs.Prelude.{◌≡◌, ℕ, ◌<◌, ◌≤◌, true, map, List, [], ◌∷◌, length, slice_index, take, drop, encode_utf8, encode_utf8_all, IfSome, MatchOption};
 ghost use Rattle.std.specs.List.{concat};
 ghost use Rattle.unicode_segmentation.specs.Grapheme.{is_grapheme_break};
 ghost use Rattle.paragraphs.specs.Text.{code_points};
 ghost use Rattle.unicode_tables.specs.declared.word.Word.{Word};
 ghost use Rattle.paragraphs.specs.Clusters.{clusters, is_plain};
+ghost use Rattle.paragraphs.specs.Marked.{is_mark, AreMarked};
 
 use std::marker::Model;
 use unicode_segmentation::UnicodeSegmentation;
 use unicode_tables::Word;
+
+/// How many bytes each mark of `is_mark` has.
+const MARK_LEN: usize = 2;
 
 /// Iterates over clusters, each as a slice of the text. Takes no memory.
 #[derive(Debug, Drop)]
@@ -69,6 +73,27 @@ impl<'a> Clusters<'a> {
         self.rest = &text[c.len_utf8()..];
         Some(c)
     }
+
+    /// Takes the next cluster where it is seen at once that it is a character that has columns by
+    /// itself, and marks, and gives how many code points it has. `points` are the code points still
+    /// to come, and `words` are theirs.
+    /// Cost: O(n) of the cluster.
+    #[inline]
+    pub fn next_marked(&mut self, points: &[char], words: &[Word]) -> Option<usize>
+        requires points { points.now ≡ code_points (concat self.old) }
+        requires words { map (λ (w : Word). w.is_plain) words.now ≡ map is_plain points.now }
+        ensures taken { MatchOption result (self.new ≡ self.old) (λ n. self.old ≡ encode_utf8_all (take n points.now) ∷ self.new) }
+        ensures points { IfSome result (λ n. code_points (encode_utf8_all (take n points.now)) ≡ take n points.now) }
+        ensures size { IfSome result (λ n. (0 < n) × (n ≤ length points.now)) }
+        ensures seen { IfSome result (λ _. 0 < slice_index (map (λ (w : Word). w.columns) words.now) 0) }
+    {
+        let text = self.rest();
+        let c = *points.first()?;
+        let size = marked_size(points, words)?;
+        let end = c.len_utf8() + (size - 1) * MARK_LEN;
+        self.rest = &text[end..];
+        Some(size)
+    }
 }
 
 impl<'a> Iterator for Clusters<'a> {
@@ -102,4 +127,60 @@ fn stands_alone(points: &[char], words: &[Word]) -> bool
         Some(next) => words[0].is_plain && next.is_plain,
         None => true,
     }
+}
+
+/// How many of these code points are a plain one that has columns by itself, and the marks behind
+/// it, where a plain one follows them (GB9, GB999) or nothing (GB2).
+#[inline]
+fn marked_size(points: &[char], words: &[Word]) -> Option<usize>
+    requires some { 0 < length points.now }
+    requires words { map (λ (w : Word). w.is_plain) words.now ≡ map is_plain points.now }
+    ensures marked { IfSome result (λ n. AreMarked points.now n) }
+    ensures seen { IfSome result (λ _. 0 < slice_index (map (λ (w : Word). w.columns) words.now) 0) }
+{
+    if !words[0].is_plain || words[0].columns == 0 {
+        return None;
+    }
+    marks_end(points, words)
+}
+
+/// The place of the first plain code point behind the first of these, or their end, if there are
+/// only marks before it.
+#[inline]
+fn marks_end(points: &[char], words: &[Word]) -> Option<usize>
+    requires some { 0 < length points.now }
+    requires words { map (λ (w : Word). w.is_plain) words.now ≡ map is_plain points.now }
+    ensures some { IfSome result (λ n. 0 < n) }
+    ensures within { IfSome result (λ n. n ≤ length points.now) }
+    ensures marks { IfSome result (λ n. (k : ℕ) → 0 < k → k < n → is_mark (slice_index points.now k) ≡ true) }
+    ensures behind { IfSome result (λ n. n < length points.now → is_plain (slice_index points.now n) ≡ true) }
+{
+    for k in 1..points.len() {
+        if words[k].is_plain {
+            return Some(k);
+        }
+        if !is_mark(points[k] as usize) {
+            return None;
+        }
+    }
+    Some(points.len())
+}
+
+/// Whether a code point is one of the marks that most marked text has (Grapheme_Cluster_Break
+/// Extend). Each has two bytes.
+#[inline]
+fn is_mark(c: usize) -> bool
+    ensures { result ≡ is_mark c }
+{
+    matches!(
+        c,
+        0x591..=0x5BD
+            | 0x64B..=0x65F
+            | 0x300..=0x36F
+            | 0x5BF
+            | 0x5C1..=0x5C2
+            | 0x5C4..=0x5C5
+            | 0x5C7
+            | 0x670
+    )
 }

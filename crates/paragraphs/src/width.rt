@@ -1,9 +1,11 @@
 //! The columns of a cluster.
 
-ghost use Rattle.std.specs.Prelude.{◌≡◌, ◌<◌, length, [], ◌∷◌};
+ghost use Rattle.std.specs.Prelude.{◌≡◌, ◌<◌, length, map, slice_index, [], ◌∷◌};
 ghost use Rattle.std.specs.List.{list_all, list_any};
 ghost use Rattle.unicode_tables.specs.Word.{word_of};
+ghost use Rattle.unicode_tables.specs.declared.word.Word.{Word};
 ghost use Rattle.paragraphs.specs.Text.{code_points};
+ghost use Rattle.paragraphs.specs.Classes.{is_wide};
 ghost use Rattle.paragraphs.specs.Columns.{ends_line, begins_with_end, is_invisible, takes_two, takes_two_by_choice, columns_by_choice, columns_of};
 
 use unicode_tables::{
@@ -37,6 +39,30 @@ pub fn columns_of_one(tables: &Tables, word: Word, c: char) -> u8
     } else {
         word.columns
     }
+}
+
+/// The columns of a cluster of these code points, which have these words and of which the first has
+/// columns by itself.
+/// Cost: O(n) of the cluster.
+#[inline]
+pub fn columns_of_marked(tables: &Tables, points: &[char], words: &[Word]) -> u8
+    requires words { words.now ≡ map (word_of tables.now) points.now }
+    requires seen { 0 < slice_index (map (λ (w : Word). w.columns) words.now) 0 }
+    ensures { result ≡ columns_of tables.now points.now }
+{
+    if has_wide_word(words) {
+        2
+    } else {
+        columns_of_one(tables, words[0], points[0])
+    }
+}
+
+/// Whether one of these words is that of a wide character.
+#[inline]
+fn has_wide_word(words: &[Word]) -> bool
+    ensures { result ≡ list_any (λ (w : Word). is_wide w.ea) words.now }
+{
+    words.iter().any(|word| is_wide(word.ea))
 }
 
 /// The columns of a cluster of any number of code points.

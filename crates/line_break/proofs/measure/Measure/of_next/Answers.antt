@@ -1,6 +1,9 @@
 -- A cluster of one character, as its bytes.
-use Rattle.std.proofs.Common.{List, map, length, get_or, ap, sym, ◌∙◌, arith}
-use Rattle.std.specs.Prelude.{encode_utf8}
+use Rattle.std.proofs.Common.{List, map, length, take, get_or, ap, sym, ◌∙◌, arith}
+use Rattle.std.specs.List.{concat}
+use Rattle.std.specs.Prelude.{encode_utf8, encode_utf8_all}
+use Rattle.std.proofs.lemmas.List.{length-append, take-map}
+use Rattle.std.proofs.lemmas.Str.{length-le-encodes}
 use Rattle.std.proofs.lemmas.Simd.{map-map}
 use Rattle.unicode_tables.specs.Word.{word_of}
 use Rattle.unicode_tables.specs.declared.word.Word.{Word}
@@ -22,3 +25,17 @@ returns-in-Some c = record {
   taken = c.in-Some.ensures.taken;
   measured = c.of_one.ensures.measured ∙ ap (measure_of c.args.tables.now) (sym c.of_one.ensures.points);
 }
+
+pub next_marked-requires-clause-words : goal.next_marked-requires-clause-words
+next_marked-requires-clause-words c = ap (map (λ (w : Word). w.is_plain)) c.requires.words ∙ map-map (λ (w : Word). w.is_plain) (word_of c.args.tables.now) c.args.points.now
+
+pub of_marked-requires-clause-few : goal.of_marked-requires-clause-few
+of_marked-requires-clause-few c =
+    let own = take c.in-Some-next_marked.size c.args.points.now in
+    let left = c.next_marked.new.self in
+    let all = ap (λ cs. length (concat cs)) (sym c.in_default.ensures.taken ∙ c.in-Some-next_marked.ensures.taken) in
+    omega (arith, c.requires.few, all, length-append (encode_utf8_all own) (concat left), length-le-encodes own)
+
+pub of_marked-requires-clause-words : goal.of_marked-requires-clause-words
+of_marked-requires-clause-words c =
+    ap (take c.in-Some-next_marked.size) c.requires.words ∙ take-map (word_of c.args.tables.now) c.in-Some-next_marked.size c.args.points.now
