@@ -1,10 +1,11 @@
 -- Kept places, and chains of links.
-use Rattle.std.proofs.Common.{ℕ, zero, suc, ◌≡◌, ◌≤◌, ◌<◌, ◌+◌, refl, ap, sym, ◌∙◌, List, [], ◌∷◌, ◌++◌, length, get_or, drop, drop-cons, Option, Some, None, Bool, true, false, append_assoc, append-nil, arith}
+use Rattle.std.proofs.Common.{ℕ, zero, suc, ◌≡◌, ◌≤◌, ◌<◌, ◌+◌, ◌-◌, refl, ap, sym, subst, ◌∙◌, List, [], ◌∷◌, ◌++◌, length, get_or, drop, drop-cons, Option, Some, None, Bool, true, false, append_assoc, append-nil, add-zero, arith}
 use Rattle.std.specs.Prelude.{is_some}
+use Rattle.std.specs.List.{range_with_len}
 use Rattle.std.proofs.lemmas.Option.{slice_get-get_or}
 use Rattle.bidi_explicit.specs.declared.kept.Kept.{Kept}
 use Rattle.bidi_explicit.specs.Sequences.{kept_at, is_kept, kept_from, kept_after, kept_before, has_level_of, over_isolate, next_by, chain, last_or}
-use Rattle.bidi_explicit.specs.Links.{following, IsForward}
+use Rattle.bidi_explicit.specs.LevelRuns.{places_between}
 
 pub kept_at-is : (places : List (Option Kept)) (i : ℕ) (d : Option Kept) → i < length places → kept_at places i ≡ get_or places i d
 kept_at-is places i d inside = rw (slice_get-get_or places i d inside, kept_at) refl
@@ -40,11 +41,15 @@ kept_before-here places i h = rw h refl
 pub kept_before-on : (places : List (Option Kept)) (i : ℕ) → is_kept places i ≡ false → kept_before places (suc i) ≡ kept_before places i
 kept_before-on places i h = rw h refl
 
--- what is left of a chain after a place
-abbrev pub chain_behind : List (Option ℕ) → ℕ → List ℕ
-chain_behind nexts i = elim (following nexts i) [ Some j ↦ chain (following nexts) (length nexts) j | None ↦ [] ]
+-- each link leads on, to a place before n
+abbrev pub IsForward : (ℕ → Option ℕ) → ℕ → Type 0
+IsForward f n = (i j : ℕ) → f i ≡ Some j → (i < j) × (j < n)
 
-abbrev goes_on : (ℕ → Option ℕ) → ℕ → Option ℕ → List ℕ
+-- what is left of a chain after a place
+abbrev pub chain_behind : (ℕ → Option ℕ) → ℕ → ℕ → List ℕ
+chain_behind f n i = elim (f i) [ Some j ↦ chain f n j | None ↦ [] ]
+
+abbrev pub goes_on : (ℕ → Option ℕ) → ℕ → Option ℕ → List ℕ
 goes_on f n o = elim o [ Some j ↦ chain f n j | None ↦ [] ]
 
 same_rest : (f : ℕ → Option ℕ) (m n : ℕ) (o : Option ℕ) → ((j : ℕ) → o ≡ Some j → chain f m j ≡ chain f n j) → goes_on f m o ≡ goes_on f n o
@@ -52,69 +57,104 @@ same_rest f m n None h = refl
 same_rest f m n (Some j) h = h j refl
 
 -- beyond the chain's length, a greater bound changes nothing
-chain-enough : (nexts : List (Option ℕ)) → IsForward nexts → (f g i : ℕ) → i < length nexts → length nexts ≤ f + i → length nexts ≤ g + i →
-    chain (following nexts) f i ≡ chain (following nexts) g i
-chain-enough nexts forward zero g i inside enough more = absurd (omega arith)
-chain-enough nexts forward (suc f) zero i inside enough more = absurd (omega arith)
-chain-enough nexts forward (suc f) (suc g) i inside enough more =
-    ap (λ xs. i ∷ xs) (same_rest (following nexts) f g (following nexts i)
+chain-enough : (f : ℕ → Option ℕ) (n : ℕ) → IsForward f n → (a b i : ℕ) → i < n → n ≤ a + i → n ≤ b + i → chain f a i ≡ chain f b i
+chain-enough f n forward zero b i inside enough more = absurd (omega arith)
+chain-enough f n forward (suc a) zero i inside enough more = absurd (omega arith)
+chain-enough f n forward (suc a) (suc b) i inside enough more =
+    ap (λ xs. i ∷ xs) (same_rest f a b (f i)
     (λ j e.
     let lt : i < j = (forward i j e).0 in
-    let within : j < length nexts = (forward i j e).1 in
-    chain-enough nexts forward f g j within (omega arith) (omega arith)))
+    let within : j < n = (forward i j e).1 in
+    chain-enough f n forward a b j within (omega arith) (omega arith)))
 
-chain-from : (nexts : List (Option ℕ)) → IsForward nexts → (n i : ℕ) → n ≡ length nexts → i < length nexts →
-    chain (following nexts) n i ≡ i ∷ chain_behind nexts i
-chain-from nexts forward zero i e inside = absurd (omega arith)
-chain-from nexts forward (suc n) i e inside =
-    ap (λ xs. i ∷ xs) (same_rest (following nexts) n (length nexts) (following nexts i)
-    (λ j f.
-    let lt : i < j = (forward i j f).0 in
-    let within : j < length nexts = (forward i j f).1 in
-    chain-enough nexts forward n (length nexts) j within (omega arith) (omega arith)))
+chain-from : (f : ℕ → Option ℕ) (n : ℕ) → IsForward f n → (m i : ℕ) → m ≡ n → i < n → chain f m i ≡ i ∷ chain_behind f n i
+chain-from f n forward zero i e inside = absurd (omega arith)
+chain-from f n forward (suc m) i e inside =
+    ap (λ xs. i ∷ xs) (same_rest f m n (f i)
+    (λ j h.
+    let lt : i < j = (forward i j h).0 in
+    let within : j < n = (forward i j h).1 in
+    chain-enough f n forward m n j within (omega arith) (omega arith)))
 
-pub chain-step : (nexts : List (Option ℕ)) → IsForward nexts → (i : ℕ) → i < length nexts →
-    chain (following nexts) (length nexts) i ≡ i ∷ chain_behind nexts i
-chain-step nexts forward i inside = chain-from nexts forward (length nexts) i refl inside
+pub chain-step : (f : ℕ → Option ℕ) (n : ℕ) → IsForward f n → (i : ℕ) → i < n → chain f n i ≡ i ∷ chain_behind f n i
+chain-step f n forward i inside = chain-from f n forward n i refl inside
 
-chain_behind-is : (nexts : List (Option ℕ)) (i : ℕ) (o : Option ℕ) → following nexts i ≡ o → chain_behind nexts i ≡ goes_on (following nexts) (length nexts) o
-chain_behind-is nexts i o e = ap (goes_on (following nexts) (length nexts)) e
+chain_behind-is : (f : ℕ → Option ℕ) (n i : ℕ) (o : Option ℕ) → f i ≡ o → chain_behind f n i ≡ goes_on f n o
+chain_behind-is f n i o e = ap (goes_on f n) e
 
 -- the walk has come to `last`, with these places after the old ones
-pub record IsWalkedTo (nexts : List (Option ℕ)) (first last : ℕ) (old order : List ℕ) : Type 0 where
-  pub so_far : order ++ chain_behind nexts last ≡ old ++ chain (following nexts) (length nexts) first
-  pub end : last_or last (chain_behind nexts last) ≡ last_or first (chain (following nexts) (length nexts) first)
-  pub inside : last < length nexts
+pub record IsWalkedTo (f : ℕ → Option ℕ) (n first last : ℕ) (old order : List ℕ) : Type 0 where
+  pub so_far : order ++ chain_behind f n last ≡ old ++ chain f n first
+  pub end : last_or last (chain_behind f n last) ≡ last_or first (chain f n first)
+  pub inside : last < n
 
-pub IsWalkedTo-start : (nexts : List (Option ℕ)) → IsForward nexts → (first : ℕ) (old : List ℕ) → first < length nexts →
-    IsWalkedTo nexts first first old (old ++ first ∷ [])
-IsWalkedTo-start nexts forward first old inside =
-    let e = chain-step nexts forward first inside in
+pub IsWalkedTo-start : (f : ℕ → Option ℕ) (n : ℕ) → IsForward f n → (first : ℕ) (old : List ℕ) → first < n →
+    IsWalkedTo f n first first old (old ++ first ∷ [])
+IsWalkedTo-start f n forward first old inside =
+    let e = chain-step f n forward first inside in
     record {
-      so_far = append_assoc old (first ∷ []) (chain_behind nexts first) ∙ ap (λ xs. old ++ xs) (sym e);
+      so_far = append_assoc old (first ∷ []) (chain_behind f n first) ∙ ap (λ xs. old ++ xs) (sym e);
       end = ap (last_or first) (sym e);
       inside = inside;
     }
 
-pub IsWalkedTo-on : (nexts : List (Option ℕ)) → IsForward nexts → (first last : ℕ) (old order : List ℕ) (j : ℕ) →
-    IsWalkedTo nexts first last old order → following nexts last ≡ Some j → IsWalkedTo nexts first j old (order ++ j ∷ [])
-IsWalkedTo-on nexts forward first last old order j w e =
+pub IsWalkedTo-on : (f : ℕ → Option ℕ) (n : ℕ) → IsForward f n → (first last : ℕ) (old order : List ℕ) (j : ℕ) →
+    IsWalkedTo f n first last old order → f last ≡ Some j → IsWalkedTo f n first j old (order ++ j ∷ [])
+IsWalkedTo-on f n forward first last old order j w e =
     let within = (forward last j e).1 in
-    let here : chain_behind nexts last ≡ j ∷ chain_behind nexts j = chain_behind-is nexts last (Some j) e ∙ chain-step nexts forward j within in
+    let here : chain_behind f n last ≡ j ∷ chain_behind f n j = chain_behind-is f n last (Some j) e ∙ chain-step f n forward j within in
     record {
-      so_far = append_assoc order (j ∷ []) (chain_behind nexts j) ∙ ap (λ xs. order ++ xs) (sym here) ∙ w.so_far;
+      so_far = append_assoc order (j ∷ []) (chain_behind f n j) ∙ ap (λ xs. order ++ xs) (sym here) ∙ w.so_far;
       end = ap (last_or last) (sym here) ∙ w.end;
       inside = within;
     }
 
-pub IsWalkedTo-end : (nexts : List (Option ℕ)) (first last : ℕ) (old order : List ℕ) → IsWalkedTo nexts first last old order →
-    following nexts last ≡ None → (order ≡ old ++ chain (following nexts) (length nexts) first) × (last ≡ last_or first (chain (following nexts) (length nexts) first))
-IsWalkedTo-end nexts first last old order w e =
-    let none : chain_behind nexts last ≡ [] = chain_behind-is nexts last None e in
+pub IsWalkedTo-end : (f : ℕ → Option ℕ) (n first last : ℕ) (old order : List ℕ) → IsWalkedTo f n first last old order →
+    f last ≡ None → (order ≡ old ++ chain f n first) × (last ≡ last_or first (chain f n first))
+IsWalkedTo-end f n first last old order w e =
+    let none : chain_behind f n last ≡ [] = chain_behind-is f n last None e in
     (sym (append-nil order) ∙ ap (λ xs. order ++ xs) (sym none) ∙ w.so_far, ap (last_or last) (sym none) ∙ w.end)
 
-pub following-is : (nexts : List (Option ℕ)) (i : ℕ) (d : Option ℕ) → i < length nexts → following nexts i ≡ get_or nexts i d
-following-is nexts i d inside = rw (slice_get-get_or nexts i d inside, following) refl
+-- the numbers from a on, with one more
+pub range-more : (a n : ℕ) → range_with_len a (suc n) ≡ range_with_len a n ++ (a + n) ∷ []
+range-more a zero = ap (λ k. k ∷ []) (sym (add-zero a))
+range-more a (suc n) =
+    let e : (a + 1) + n ≡ a + suc n = omega arith in
+    ap (λ xs. a ∷ xs) (range-more (a + 1) n ∙ ap (λ k. range_with_len (a + 1) n ++ k ∷ []) e)
+
+pub between-none : (a : ℕ) → places_between a a ≡ []
+between-none a = let none : a - a ≡ 0 = omega arith in ap (range_with_len a) none
+
+pub between-more : (a b : ℕ) → a ≤ b → places_between a (b + 1) ≡ places_between a b ++ b ∷ []
+between-more a b le =
+    let count : (b + 1) - a ≡ suc (b - a) = omega arith in
+    let at : a + (b - a) ≡ b = omega arith in
+    ap (range_with_len a) count ∙ range-more a (b - a) ∙ ap (λ k. range_with_len a (b - a) ++ k ∷ []) at
+
+-- the walk goes along places that follow each other
+IsWalkedTo-along : (f : ℕ → Option ℕ) (n : ℕ) → IsForward f n → (first start : ℕ) (old order : List ℕ) (m : ℕ) →
+    IsWalkedTo f n first start old (order ++ start ∷ []) → ((i : ℕ) → start ≤ i → i < start + m → f i ≡ Some (suc i)) →
+    IsWalkedTo f n first (start + m) old (order ++ range_with_len start (suc m))
+IsWalkedTo-along f n forward first start old order zero w links =
+    subst (λ k. IsWalkedTo f n first k old (order ++ start ∷ [])) (sym (add-zero start)) w
+IsWalkedTo-along f n forward first start old order (suc m) w links =
+    let so_far = IsWalkedTo-along f n forward first start old order m w (λ i from to. links i from (omega arith)) in
+    let there : suc (start + m) ≡ start + suc m = omega arith in
+    subst (λ k. IsWalkedTo f n first k old (order ++ range_with_len start (suc (suc m)))) there
+    (subst (λ xs. IsWalkedTo f n first (suc (start + m)) old xs)
+    (append_assoc order (range_with_len start (suc m)) (suc (start + m) ∷ [])
+    ∙ ap (λ xs. order ++ xs) (ap (λ k. range_with_len start (suc m) ++ k ∷ []) there ∙ sym (range-more start (suc m))))
+    (IsWalkedTo-on f n forward first (start + m) old (order ++ range_with_len start (suc m)) (suc (start + m)) so_far (links (start + m) (omega arith) (omega arith))))
+
+pub IsWalkedTo-run : (f : ℕ → Option ℕ) (n : ℕ) → IsForward f n → (first start last : ℕ) (old order : List ℕ) → start ≤ last →
+    IsWalkedTo f n first start old (order ++ start ∷ []) → ((i : ℕ) → start ≤ i → i < last → f i ≡ Some (suc i)) →
+    IsWalkedTo f n first last old (order ++ places_between start (last + 1))
+IsWalkedTo-run f n forward first start last old order le w links =
+    let to : start + (last - start) ≡ last = omega arith in
+    let count : suc (last - start) ≡ (last + 1) - start = omega arith in
+    subst (λ k. IsWalkedTo f n first k old (order ++ places_between start (last + 1))) to
+    (subst (λ k. IsWalkedTo f n first (start + (last - start)) old (order ++ range_with_len start k)) count
+    (IsWalkedTo-along f n forward first start old order (last - start) w (λ i from before. links i from (omega arith))))
 
 -- what comes after a place in its sequence, case by case
 module _ (places : List (Option Kept)) (pdi : Option ℕ) (i : ℕ) where

@@ -6,6 +6,7 @@ pub mod Matching
 pub mod Passing
 pub mod Chains
 pub mod Linking
+pub mod Taken
 pub mod Gathering
 pub mod Facts
 pub mod Uniformity

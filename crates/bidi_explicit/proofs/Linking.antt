@@ -1,144 +1,79 @@
 -- The links of a paragraph's places.
-use Rattle.std.proofs.Common.{ℕ, zero, suc, ◌≡◌, ◌≤◌, ◌<◌, ◌+◌, ◌||◌, ◌⊎◌, inl, inr, refl, ap, ap₂, subst, sym, ◌∙◌, List, [], ◌∷◌, ◌++◌, map, length, get_or, set, Option, Some, None, Bool, true, false, if◌then◌else◌, add-zero, zero-add, arith}
-use Rattle.std.specs.Prelude.{is_some, not, ◌&&◌, IfSome, replicate}
-use Rattle.std.specs.List.{list_any, range_with_len}
-use Rattle.std.proofs.Math.Bool.{or-false, or-true}
-use Rattle.std.proofs.lemmas.Bool.{cases_lt}
-use Rattle.std.proofs.Math.Path.{fun_ext}
+use Rattle.std.proofs.Common.{ℕ, suc, ◌≡◌, ◌≤◌, ◌<◌, ◌+◌, ◌-◌, ◌==◌, inl, inr, refl, ap, subst, sym, ◌∙◌, List, [], ◌∷◌, ◌++◌, length, get_or, drop, Option, Some, None, Bool, true, false, if◌then◌else◌, zero-add, arith}
+use Rattle.std.specs.Prelude.{is_some, not, ◌&&◌, IfSome}
+use Rattle.std.proofs.lemmas.Bool.{cases_Bool, eqb-true}
 use Rattle.std.proofs.lemmas.Bool.Decides.{eqb_tells}
-use Rattle.std.proofs.lemmas.Grind.{get_or-set_at}
-use Rattle.std.proofs.lemmas.List.{ext_get_or, map-append, length-set, get_or-set_other, get_or-replicate, length-replicate}
-use Rattle.std.proofs.lemmas.List.FromFn.{length-map-range_with_len, get_or-map-range_with_len}
-use Rattle.std.proofs.lemmas.List.Folds.{list_any-append}
-use Rattle.std.proofs.lemmas.Option.{slice_get-get_or, slice_get_past}
+use Rattle.std.proofs.lemmas.List.{length-drop}
+use Rattle.std.proofs.lemmas.Option.{slice_get-get_or}
 use Rattle.bidi_explicit.specs.declared.controls.Control.{Control}
 use Rattle.bidi_explicit.specs.declared.kept.Kept.{Kept}
-use Rattle.bidi_explicit.specs.Sequences.{kept_at, is_kept, same_level, has_level_of, kept_after, kept_before, over_isolate, next_by, is_place, below, follows, begins}
-use Rattle.bidi_explicit.specs.Links.{pdi_at, linked, following, IsForward, AreKept, AreMatched}
-use Rattle.bidi_explicit.proofs.Chains.{kept_at-is}
-
-range-more : (a n : ℕ) → range_with_len a (suc n) ≡ range_with_len a n ++ (a + n) ∷ []
-range-more a zero = ap (λ k. k ∷ []) (sym (add-zero a))
-range-more a (suc n) =
-    let e : (a + 1) + n ≡ a + suc n = omega arith in
-    ap (λ xs. a ∷ xs) (range-more (a + 1) n ∙ ap (λ k. range_with_len (a + 1) n ++ k ∷ []) e)
+use Rattle.bidi_explicit.specs.Sequences.{kept_at, is_kept, same_level, has_level_of, kept_from, kept_after, kept_before, over_isolate, next_by, below, follows, begins}
+use Rattle.bidi_explicit.specs.Links.{pdi_at, linked, AreKept, AreMatched}
+use Rattle.bidi_explicit.specs.LevelRuns.{IsLevelRun}
+use Rattle.bidi_explicit.proofs.Chains.{kept_at-is, kept_from-here, next-out, next-after, range-more, IsForward}
 
 pub below-more : (n : ℕ) → below (suc n) ≡ below n ++ n ∷ []
 below-more n = range-more 0 n ∙ ap (λ k. below n ++ k ∷ []) (zero-add n)
-
-follows-more : (f : ℕ → Option ℕ) (i q : ℕ) → follows f (suc i) q ≡ (follows f i q || is_place q (f i))
-follows-more f i q =
-    ap (list_any (λ j. is_place q (f j))) (below-more i)
-    ∙ list_any-append (λ j. is_place q (f j)) (below i) (i ∷ [])
-    ∙ ap (λ b. follows f i q || b) (or-false (is_place q (f i)))
-
--- the marks after a place that leads here
-abbrev pub after_mark : Option ℕ → List Bool → List Bool
-after_mark None marks = marks
-after_mark (Some j) marks = set marks j true
-
-mark-step : (marks : List Bool) (o : Option ℕ) (q : ℕ) → IfSome o (λ j. j < length marks) →
-    get_or (after_mark o marks) q false ≡ (get_or marks q false || is_place q o)
-mark-step marks None q inside = sym (or-false (get_or marks q false))
-mark-step marks (Some j) q inside =
-    elim (eqb_tells q j) [
-      | inl h ↦ get_or-set_at marks j q true false h.1 inside ∙ sym (or-true (get_or marks q false)) ∙ ap (λ b. get_or marks q false || b) (sym h.0)
-      | inr h ↦ get_or-set_other marks j q true false h.1 ∙ sym (or-false (get_or marks q false)) ∙ ap (λ b. get_or marks q false || b) (sym h.0)
-    ]
-
-length-after_mark : (o : Option ℕ) (marks : List Bool) → length (after_mark o marks) ≡ length marks
-length-after_mark None marks = refl
-length-after_mark (Some j) marks = length-set marks j true
 
 leads : (o : Option ℕ) (i n : ℕ) → IfSome o (λ j. (i < j) × (j < n)) → (j : ℕ) → o ≡ Some j → (i < j) × (j < n)
 leads None i n h j e = absurd (let z : ⊥ = cc in z)
 leads (Some k) i n h j e = let same : k ≡ j = cc in subst (λ m. (i < m) × (m < n)) same h
 
-within : (o : Option ℕ) (i n m : ℕ) → m ≡ n → IfSome o (λ j. (i < j) × (j < n)) → IfSome o (λ j. j < m)
-within None i n m e h = tt
-within (Some k) i n m e h = let lt = h.1 in omega arith
+-- links lead forward
+abbrev IsAhead : ℕ → ℕ → ℕ → Type 0
+IsAhead i n j = (i < j) × (j < n)
 
--- the links of the places before i
-pub record IsLinkedTo (controls : List Control) (places : List (Option Kept)) (i : ℕ) (nexts : List (Option ℕ)) (marks : List Bool) : Type 0 where
-  pub nexts_are : nexts ≡ map (linked controls places) (below i)
-  pub long : length marks ≡ length places
-  pub marked : (q : ℕ) → q < length places → get_or marks q false ≡ follows (linked controls places) i q
-  pub forward : (k j : ℕ) → k < i → linked controls places k ≡ Some j → (k < j) × (j < length places)
+if_some : (P : ℕ → Type 0) (b : Bool) (x y : Option ℕ) → IfSome x P → IfSome y P → IfSome (if b then x else y) P
+if_some P true x y h k = h
+if_some P false x y h k = k
 
-pub IsLinkedTo-start : (controls : List Control) (places : List (Option Kept)) (marks : List Bool) → marks ≡ replicate (length places) false →
-    IsLinkedTo controls places 0 [] marks
-IsLinkedTo-start controls places marks e = record {
-  nexts_are = refl;
-  long = ap length e ∙ length-replicate (length places) false;
-  marked = (λ q inside. ap (λ ms. get_or ms q false) e ∙ get_or-replicate (length places) q false false inside);
-  forward = (λ k j before e. absurd (omega arith));
-}
+abbrev IsFrom : ℕ → ℕ → ℕ → Type 0
+IsFrom i n j = (i ≤ j) × (j < n)
 
-pub IsLinkedTo-on : (controls : List Control) (places : List (Option Kept)) (i : ℕ) (nexts : List (Option ℕ)) (marks : List Bool) →
-    IsLinkedTo controls places i nexts marks → (o : Option ℕ) → o ≡ linked controls places i → IfSome o (λ j. (i < j) × (j < length places)) →
-    IsLinkedTo controls places (suc i) (nexts ++ o ∷ []) (after_mark o marks)
-IsLinkedTo-on controls places i nexts marks l o is leading = record {
-  nexts_are = ap₂ (λ xs x. xs ++ x ∷ []) l.nexts_are is ∙ sym (map-append (linked controls places) (below i) (i ∷ [])) ∙ ap (map (linked controls places)) (sym (below-more i));
-  long = length-after_mark o marks ∙ l.long;
-  marked = (λ q inside.
-      mark-step marks o q (within o i (length places) (length marks) l.long leading)
-      ∙ ap₂ (λ a b. a || is_place q b) (l.marked q inside) is
-      ∙ sym (follows-more (linked controls places) i q));
-  forward = (λ k j before e. step k j before e);
-}
-  where
-    step : (k j : ℕ) → k < suc i → linked controls places k ≡ Some j → (k < j) × (j < length places)
-    step k j before e =
-        elim (eqb_tells k i) [
-          | inl h ↦
-              let at : linked controls places i ≡ Some j = ap (linked controls places) (sym h.1) ∙ e in
-              subst (λ m. (m < j) × (j < length places)) (sym h.1) (leads o i (length places) leading j (is ∙ at))
-          | inr h ↦ (let ne = h.1 in l.forward k j (omega arith) e)
-        ]
+from-next : (o : Option ℕ) (i n m : ℕ) → m ≡ n → IfSome o (IsFrom (suc i) m) → IfSome o (IsFrom i n)
+from-next (Some j) i n m e h = (let le = h.0 in omega arith, let lt = h.1 in omega arith)
+from-next None i n m e h = tt
 
-pub IsLinkedTo-follows : (controls : List Control) (places : List (Option Kept)) (nexts : List (Option ℕ)) (marks : List Bool) →
-    IsLinkedTo controls places (length places) nexts marks → marks ≡ map (follows (linked controls places) (length places)) (below (length places))
-IsLinkedTo-follows controls places nexts marks l =
-    ext_get_or false marks _ (l.long ∙ sym (length-map-range_with_len (follows (linked controls places) (length places)) 0 (length places)))
-    (λ q inside.
-    let here : q < length places = (let e = l.long in omega arith) in
-    l.marked q here ∙ sym (get_or-map-range_with_len (follows (linked controls places) (length places)) 0 (length places) q q false here (zero-add q)))
+kept_from-within : (i : ℕ) (places : List (Option Kept)) → IfSome (kept_from i places) (IsFrom i (i + length places))
+kept_from-within i [] = tt
+kept_from-within i (Some k ∷ places) = (omega arith, omega arith)
+kept_from-within i (None ∷ places) =
+    from-next (kept_from (suc i) places) i (i + suc (length places)) (suc i + length places) (omega arith) (kept_from-within (suc i) places)
 
--- past the end nothing is kept and nothing follows
-is_kept-past : (places : List (Option Kept)) (i : ℕ) → length places ≤ i → is_kept places i ≡ false
-is_kept-past places i past = rw (slice_get_past places i past, is_kept, kept_at) refl
+after-from : (o : Option ℕ) (i n m : ℕ) → m ≡ n - suc i → IfSome o (IsFrom (suc i) (suc i + m)) → IfSome o (IsAhead i n)
+after-from (Some j) i n m e h = (let le = h.0 in omega arith, let le = h.0 in let lt = h.1 in omega arith)
+after-from None i n m e h = tt
 
-linked-past : (controls : List Control) (places : List (Option Kept)) (i : ℕ) → length places ≤ i → linked controls places i ≡ None
-linked-past controls places i past = rw (is_kept-past places i past, linked, next_by) refl
+over_isolate-some : (P : ℕ → Type 0) (places : List (Option Kept)) (o : Option ℕ) → IfSome o P → IfSome (over_isolate places o) P
+over_isolate-some P places (Some j) h = if_some P (has_level_of places j (kept_before places j)) None (Some j) tt h
+over_isolate-some P places None h = tt
 
--- a list of all links tells each
-following-at : (controls : List Control) (places : List (Option Kept)) (i : ℕ) (b : (i < length places) ⊎ (length places ≤ i)) →
-    following (map (linked controls places) (below (length places))) i ≡ linked controls places i
-following-at controls places i (inl inside) =
-    let n = length-map-range_with_len (linked controls places) 0 (length places) in
-    (rw (slice_get-get_or (map (linked controls places) (below (length places))) i None (omega arith), following) refl)
-    ∙ get_or-map-range_with_len (linked controls places) 0 (length places) i i None inside (zero-add i)
-following-at controls places i (inr past) =
-    let n = length-map-range_with_len (linked controls places) 0 (length places) in
-    (rw (slice_get_past (map (linked controls places) (below (length places))) i (omega arith), following) refl)
-    ∙ sym (linked-past controls places i past)
+leading : (o : Option ℕ) (i n : ℕ) → ((j : ℕ) → o ≡ Some j → (i < j) × (j < n)) → IfSome o (λ j. (i < j) × (j < n))
+leading (Some j) i n h = h j refl
+leading None i n h = tt
 
-pub following-linked : (controls : List Control) (places : List (Option Kept)) → following (map (linked controls places) (below (length places))) ≡ linked controls places
-following-linked controls places = fun_ext (λ i. following-at controls places i (cases_lt i (length places)))
+pub linked-forward : (controls : List Control) (places : List (Option Kept)) → AreMatched controls → length controls ≡ length places →
+    IsForward (linked controls places) (length places)
+linked-forward controls places matched long i j e =
+    let n = length places in
+    let after : IfSome (kept_after places i) (IsAhead i (length places)) =
+    after-from (kept_after places i) i n (length (drop (suc i) places)) (length-drop (suc i) places) (kept_from-within (suc i) (drop (suc i) places)) in
+    let over : IfSome (over_isolate places (pdi_at controls i)) (IsAhead i (length places)) =
+    over_isolate-some (IsAhead i n) places (pdi_at controls i) (leading (pdi_at controls i) i n (λ k is. subst (λ m. (i < k) × (k < m)) long (matched i k is))) in
+    leads (linked controls places i) i n
+    (if_some (IsAhead i n) (is_kept places i) (if has_level_of places i (kept_after places i) then kept_after places i else over_isolate places (pdi_at controls i)) None
+    (if_some (IsAhead i n) (has_level_of places i (kept_after places i)) (kept_after places i) (over_isolate places (pdi_at controls i)) after over) tt) j e
 
-pub IsLinkedTo-forward : (controls : List Control) (places : List (Option Kept)) (nexts : List (Option ℕ)) (marks : List Bool) →
-    IsLinkedTo controls places (length places) nexts marks → IsForward nexts
-IsLinkedTo-forward controls places nexts marks l i j e =
-    let at : linked controls places i ≡ Some j =
-    sym (ap (λ f. f i) (following-linked controls places)) ∙ ap (λ xs. following xs i) (sym l.nexts_are) ∙ e in
-    let n : length nexts ≡ length places = ap length l.nexts_are ∙ length-map-range_with_len (linked controls places) 0 (length places) in
-    elim (cases_lt i (length places)) [
-      | inl inside ↦ subst (λ m. (i < j) × (j < m)) (sym n) (l.forward i j inside at)
-      | inr past ↦ absurd (none_some (sym (linked-past controls places i past) ∙ at))
+none_some : (j : ℕ) → None ≡ Some j → ⊥
+none_some j h = cc
+
+-- what is linked is kept
+pub linked-from_kept : (controls : List Control) (places : List (Option Kept)) (i j : ℕ) → linked controls places i ≡ Some j → is_kept places i ≡ true
+linked-from_kept controls places i j e =
+    elim (cases_Bool (is_kept places i)) [
+      | inl kept ↦ kept
+      | inr out ↦ absurd (none_some j (sym (next-out places (pdi_at controls i) i out) ∙ e))
     ]
-  where
-    none_some : None ≡ Some j → ⊥
-    none_some h = cc
 
 -- what links lead to is kept
 abbrev IsKeptThere : List (Option Kept) → Option ℕ → Type 0
@@ -153,6 +88,10 @@ same_level-kept : (a b : Option Kept) → same_level a b ≡ true → is_some b 
 same_level-kept (Some x) (Some y) h = refl
 same_level-kept (Some x) None h = cc
 same_level-kept None b h = cc
+
+same_level-first : (a b : Option Kept) → same_level a b ≡ true → is_some a ≡ true
+same_level-first (Some x) b h = refl
+same_level-first None b h = cc
 
 has_level_of-kept : (places : List (Option Kept)) (i : ℕ) (o : Option ℕ) → has_level_of places i o ≡ true → IsKeptThere places o
 has_level_of-kept places i (Some j) h = same_level-kept (kept_at places i) (kept_at places j) h
@@ -181,29 +120,11 @@ linked-kept controls places kept i j e =
 pub pdi_at-is : (controls : List Control) (i : ℕ) (d : Control) → i < length controls → pdi_at controls i ≡ (get_or controls i d).pdi
 pdi_at-is controls i d inside = rw (slice_get-get_or controls i d inside, pdi_at) refl
 
-leading : (o : Option ℕ) (i n : ℕ) → ((j : ℕ) → o ≡ Some j → (i < j) × (j < n)) → IfSome o (λ j. (i < j) × (j < n))
-leading (Some j) i n h = h j refl
-leading None i n h = tt
-
 pub matched-here : (controls : List Control) (places : List (Option Kept)) (i : ℕ) (d : Control) → AreMatched controls → length controls ≡ length places →
     i < length controls → IfSome ((get_or controls i d).pdi) (λ j. (i < j) × (j < length places))
 matched-here controls places i d matched long inside =
     leading ((get_or controls i d).pdi) i (length places)
     (λ j e. subst (λ n. (i < j) × (j < n)) long (matched i j (pdi_at-is controls i d inside ∙ e)))
-
-pub length-links : (controls : List Control) (places : List (Option Kept)) (nexts : List (Option ℕ)) →
-    nexts ≡ map (linked controls places) (below (length places)) → length nexts ≡ length places
-length-links controls places nexts e = ap length e ∙ length-map-range_with_len (linked controls places) 0 (length places)
-
-pub length-marks : (f : ℕ → Option ℕ) (n : ℕ) (marks : List Bool) → marks ≡ map (follows f n) (below n) → length marks ≡ n
-length-marks f n marks e = ap length e ∙ length-map-range_with_len (follows f n) 0 n
-
-pub begins-is : (f : ℕ → Option ℕ) (places : List (Option Kept)) (marks : List Bool) (i : ℕ) (d : Option Kept) (e : Bool) →
-    marks ≡ map (follows f (length places)) (below (length places)) → i < length places →
-    (is_some (get_or places i d) && not (get_or marks i e)) ≡ begins f places i
-begins-is f places marks i d e all inside =
-    ap₂ (λ a b. is_some a && not b) (sym (kept_at-is places i d inside))
-    (ap (λ ms. get_or ms i e) all ∙ get_or-map-range_with_len (follows f (length places)) 0 (length places) i i e inside (zero-add i))
 
 pub begins-kept : (f : ℕ → Option ℕ) (places : List (Option Kept)) (i : ℕ) → begins f places i ≡ true → is_kept places i ≡ true
 begins-kept f places i e = go (is_kept places i) (not (follows f (length places) i)) e
@@ -211,3 +132,30 @@ begins-kept f places i e = go (is_kept places i) (not (follows f (length places)
     go : (a b : Bool) → (a && b) ≡ true → a ≡ true
     go true b h = refl
     go false b h = cc
+
+-- a place is linked to the one right after it, if that has its level
+pub linked-beside : (controls : List Control) (places : List (Option Kept)) (i : ℕ) → suc i < length places →
+    same_level (kept_at places i) (kept_at places (suc i)) ≡ true → linked controls places i ≡ Some (suc i)
+linked-beside controls places i inside same =
+    let there : is_some (get_or places (suc i) None) ≡ true =
+    ap is_some (sym (kept_at-is places (suc i) None inside)) ∙ same_level-kept (kept_at places i) (kept_at places (suc i)) same in
+    next-after places (pdi_at controls i) i (same_level-first (kept_at places i) (kept_at places (suc i)) same) (suc i)
+    (kept_from-here places (suc i) None inside there) same
+
+same_level-both : (a b c : Option Kept) → same_level a b ≡ true → same_level a c ≡ true → same_level b c ≡ true
+same_level-both (Some x) (Some y) (Some z) h k =
+    let there : x.level ≡ y.level = eqb-true x.level y.level h in
+    ap (λ l. l == z.level) (sym there) ∙ k
+same_level-both (Some x) (Some y) None h k = cc
+same_level-both (Some x) None c h k = cc
+same_level-both None b c h k = cc
+
+-- inside a level run each place is linked to the next
+pub linked-run : (controls : List Control) (places : List (Option Kept)) (start end : ℕ) → end ≤ length places → IsLevelRun places start end →
+    (i : ℕ) → start ≤ i → suc i < end → linked controls places i ≡ Some (suc i)
+linked-run controls places start end within run i from to =
+    linked-beside controls places i (omega arith)
+    (elim (eqb_tells i start) [
+      | inl here ↦ (let at = here.1 in subst (λ k. same_level (kept_at places k) (kept_at places (suc i)) ≡ true) (sym at) (run (suc i) (omega arith) to))
+      | inr other ↦ (let ne = other.1 in same_level-both (kept_at places start) (kept_at places i) (kept_at places (suc i)) (run i (omega arith) (omega arith)) (run (suc i) (omega arith) to))
+    ])

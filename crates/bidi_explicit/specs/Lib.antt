@@ -9,6 +9,7 @@ pub mod Flat
 pub mod Strong
 pub mod Controls
 pub mod Links
+pub mod LevelRuns
 pub mod Ladder
 pub mod Frames
 pub mod Laws

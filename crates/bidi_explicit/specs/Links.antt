@@ -24,14 +24,6 @@ is_unclosed c = opens c.kind c.pdi
 abbrev pub is_unclosed_at : List Control → ℕ → Bool
 is_unclosed_at controls i = elim (slice_get controls i) [ Some c ↦ is_unclosed c | None ↦ false ]
 
--- the place after i, in a list of them
-abbrev pub following : List (Option ℕ) → ℕ → Option ℕ
-following nexts i = elim (slice_get nexts i) [ Some o ↦ o | None ↦ None ]
-
--- each link leads on, to a place of the list
-abbrev pub IsForward : List (Option ℕ) → Type 0
-IsForward nexts = (i j : ℕ) → following nexts i ≡ Some j → (i < j) × (j < length nexts)
-
 -- a PDI stands after its initiator, in the list
 abbrev pub AreMatched : List Control → Type 0
 AreMatched controls = (i j : ℕ) → pdi_at controls i ≡ Some j → (i < j) × (j < length controls)

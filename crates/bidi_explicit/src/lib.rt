@@ -7,6 +7,7 @@ mod kept;
 mod kind;
 pub mod laws;
 mod level;
+mod level_run;
 mod paragraph;
 mod places;
 mod sequences;

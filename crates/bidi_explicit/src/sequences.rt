@@ -1,15 +1,16 @@
 //! Isolating run sequences (UAX #9, BD13 and X10).
 
-ghost use Rattle.std.specs.Prelude.{◌≡◌, ◌<◌, ◌≤◌, ◌++◌, Some, IfOk, IfSome, OnOk, is_some, length, map, not, ◌&&◌};
-ghost use Rattle.std.specs.List.{All};
-ghost use Rattle.bidi_explicit.specs.Sequences.{below, chain, chains, direction_between, eos_of, follows, has_level_of, kept_after, kept_before, last_or, level_or, next_by, over_isolate, sos_of};
+ghost use Rattle.std.specs.Prelude.{◌≡◌, ◌<◌, ◌≤◌, ◌++◌, [], Some, IfOk, IfSome, OnOk, false, is_some, length, not, ◌&&◌, replicate};
+ghost use Rattle.bidi_explicit.specs.Sequences.{chain, chains, direction_between, eos_of, has_level_of, kept_after, kept_before, last_or, level_or, next_by, over_isolate, sos_of};
 ghost use Rattle.bidi_explicit.specs.Extents.{extent_of, extent_sequences, IsWithin};
-ghost use Rattle.bidi_explicit.specs.Links.{following, is_unclosed, is_unclosed_at, linked, AreKept, AreMatched, IsForward};
+ghost use Rattle.bidi_explicit.specs.Links.{is_unclosed, is_unclosed_at, linked, AreKept, AreMatched};
+ghost use Rattle.bidi_explicit.specs.LevelRuns.{AreTold};
 
 use crate::controls::Control;
 use crate::embedded::Extent;
 use crate::kept::Kept;
 use crate::kind::Kind;
+use crate::level_run::{append_run, same_level};
 use bg_types::{Bidi, Memory};
 use std::alloc::Global;
 
@@ -47,10 +48,7 @@ fn has_level_of(places: &[Option<Kept>], place: usize, other: usize) -> bool
     requires other { other < length places.now }
     ensures { result ≡ has_level_of places.now place (Some other) }
 {
-    match (places[place], places[other]) {
-        (Some(a), Some(b)) => a.level == b.level,
-        _ => false,
-    }
+    same_level(places[place], places[other])
 }
 
 /// The level of a kept place, or the paragraph's.
@@ -106,54 +104,27 @@ fn over_isolate(places: &[Option<Kept>], pdi: usize) -> Option<usize>
     Some(pdi)
 }
 
-/// What follows each place in its sequence, and which places follow one.
-#[derive(Drop)]
-struct Links {
-    nexts: Vec<Option<usize>>,
-    follows: Vec<bool>,
-}
-
-/// The links between a paragraph's places.
-fn linked_places(
-    alloc: Global,
-    controls: &[Control],
-    places: &[Option<Kept>],
-) -> Result<Links, Memory>
-    requires long { length controls.now ≡ length places.now }
-    requires matched { AreMatched controls.now }
-    ensures nexts { IfOk result (λ l. l.nexts.items ≡ map (linked controls.now places.now) (below (length places.now))) }
-    ensures follows { IfOk result (λ l. l.follows.items ≡ map (follows (linked controls.now places.now) (length places.now)) (below (length places.now))) }
-    ensures forward { IfOk result (λ l. IsForward l.nexts.items) }
-{
-    let mut nexts = Vec::with_capacity(alloc, places.len())?;
-    let mut follows = vec![in alloc; false; places.len()]?;
-    for (place, control) in controls.iter().enumerate() {
-        let next = next(places, control.pdi, place);
-        if let Some(place) = next {
-            follows[place] = true;
-        }
-        nexts.push_reserved(next);
-    }
-    Ok(Links { nexts, follows })
-}
-
-/// Appends the places of the chain that begins at `first`, and returns the last.
+/// Appends the places of the chain that begins at `first`, marks them, and returns the last.
 fn append_chain(
     order: &mut Vec<usize>,
-    nexts: &[Option<usize>],
+    taken: &mut [bool],
+    controls: &[Control],
+    places: &[Option<Kept>],
     first: usize,
 ) -> Result<usize, Memory>
-    requires first { first < length nexts.now }
-    requires forward { IsForward nexts.now }
-    ensures chain { OnOk result (order.new.items ≡ order.old.items ++ chain (following nexts.now) (length nexts.now) first) }
-    ensures last { IfOk result (λ last. last ≡ last_or first (chain (following nexts.now) (length nexts.now) first)) }
-    ensures inside { IfOk result (λ last. last < length nexts.now) }
+    requires first { first < length places.now }
+    requires controls { length controls.now ≡ length places.now }
+    requires matched { AreMatched controls.now }
+    requires long { length taken.old ≡ length places.now }
+    requires told { AreTold order.old.items taken.old }
+    ensures chain { OnOk result (order.new.items ≡ order.old.items ++ chain (linked controls.now places.now) (length places.now) first) }
+    ensures last { IfOk result (λ last. last ≡ last_or first (chain (linked controls.now places.now) (length places.now) first)) }
+    ensures inside { IfOk result (λ last. last < length places.now) }
+    ensures told { OnOk result (AreTold order.new.items taken.new) }
 {
-    let mut last = first;
-    order.push(first)?;
-    while let Some(place) = nexts[last] {
-        order.push(place)?;
-        last = place;
+    let mut last = append_run(order, taken, places, first)?;
+    while let Some(start) = next(places, controls[last].pdi, last) {
+        last = append_run(order, taken, places, start)?;
     }
     Ok(last)
 }
@@ -190,31 +161,33 @@ fn is_unclosed(control: Control) -> bool
     }
 }
 
-/// Whether a place begins a sequence, given whether it follows another place.
-fn begins(place: Option<Kept>, follows: bool) -> bool
-    ensures { result ≡ (is_some place && not follows) }
+/// Whether a place begins a sequence, given whether an earlier one has it.
+fn begins(place: Option<Kept>, is_taken: bool) -> bool
+    ensures { result ≡ (is_some place && not is_taken) }
 {
-    !follows && place.is_some()
+    !is_taken && place.is_some()
 }
 
-/// Appends the sequence that begins at `first`.
+/// Appends the sequence that begins at `first`, and marks its places.
 fn append_sequence(
     order: &mut Vec<usize>,
+    taken: &mut [bool],
     level: u8,
     controls: &[Control],
     places: &[Option<Kept>],
-    nexts: &[Option<usize>],
     first: usize,
 ) -> Result<Extent, Memory>
-    requires first { first < length nexts.now }
-    requires controls { length controls.now ≡ length nexts.now }
-    requires places { length places.now ≡ length nexts.now }
-    requires forward { IsForward nexts.now }
-    ensures order { OnOk result (order.new.items ≡ order.old.items ++ chain (following nexts.now) (length nexts.now) first) }
-    ensures extent { IfOk result (λ e. e ≡ extent_of level (is_unclosed_at controls.now) places.now (length order.old.items) first (chain (following nexts.now) (length nexts.now) first)) }
+    requires first { first < length places.now }
+    requires controls { length controls.now ≡ length places.now }
+    requires matched { AreMatched controls.now }
+    requires long { length taken.old ≡ length places.now }
+    requires told { AreTold order.old.items taken.old }
+    ensures order { OnOk result (order.new.items ≡ order.old.items ++ chain (linked controls.now places.now) (length places.now) first) }
+    ensures extent { IfOk result (λ e. e ≡ extent_of level (is_unclosed_at controls.now) places.now (length order.old.items) first (chain (linked controls.now places.now) (length places.now) first)) }
+    ensures told { OnOk result (AreTold order.new.items taken.new) }
 {
     let start = order.len();
-    let last = append_chain(order, nexts, first)?;
+    let last = append_chain(order, taken, controls, places, first)?;
     Ok(Extent {
         start,
         end: order.len(),
@@ -222,6 +195,33 @@ fn append_sequence(
         sos: sos(level, places, first),
         eos: eos(level, controls[last], places, last),
     })
+}
+
+/// Appends each sequence where it begins, and its extent.
+fn append_sequences(
+    order: &mut Vec<usize>,
+    extents: &mut Vec<Extent>,
+    taken: &mut [bool],
+    level: u8,
+    controls: &[Control],
+    places: &[Option<Kept>],
+) -> Result<(), Memory>
+    requires order { order.old.items ≡ [] }
+    requires extents { extents.old.items ≡ [] }
+    requires taken { taken.old ≡ replicate (length places.now) false }
+    requires long { length controls.now ≡ length places.now }
+    requires matched { AreMatched controls.now }
+    requires kept { AreKept controls.now places.now }
+    ensures sequences { OnOk result (extent_sequences order.new.items extents.new.items ≡ chains level (linked controls.now places.now) (is_unclosed_at controls.now) places.now) }
+    ensures within { OnOk result (IsWithin places.now order.new.items extents.new.items) }
+{
+    for (first, place) in places.iter().enumerate() {
+        if begins(*place, taken[first]) {
+            let extent = append_sequence(order, taken, level, controls, places, first)?;
+            extents.push(extent)?;
+        }
+    }
+    Ok(())
 }
 
 /// The isolating run sequences of a paragraph of this level: their places, one sequence after the other,
@@ -238,20 +238,16 @@ pub(crate) fn sequences(
     ensures sequences { IfOk result (λ s. extent_sequences s.0.items s.1.items ≡ chains level (linked controls.now places.now) (is_unclosed_at controls.now) places.now) }
     ensures within { IfOk result (λ s. IsWithin places.now s.0.items s.1.items) }
 {
-    let links = linked_places(alloc, controls, places)?;
     let mut order = Vec::with_capacity(alloc, places.len())?;
     let mut extents = Vec::new(alloc);
-    for (first, place) in places.iter().enumerate() {
-        if begins(*place, links.follows[first]) {
-            extents.push(append_sequence(
-                &mut order,
-                level,
-                controls,
-                places,
-                &links.nexts,
-                first,
-            )?)?;
-        }
-    }
+    let mut taken = vec![in alloc; false; places.len()]?;
+    append_sequences(
+        &mut order,
+        &mut extents,
+        &mut taken,
+        level,
+        controls,
+        places,
+    )?;
     Ok((order, extents))
 }
