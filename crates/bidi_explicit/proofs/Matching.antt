@@ -1,14 +1,18 @@
 -- One pass from the end matches initiators and PDIs and knows what each isolate holds.
 use Rattle.std.proofs.Common.{ℕ, zero, suc, ◌≡◌, ◌<◌, ◌+◌, ◌==◌, refl, ap, ap₂, sym, ◌∙◌, List, [], ◌∷◌, ◌++◌, length, get_or, set, drop, drop-cons, Option, Some, None, Bool, false, if◌then◌else◌, add-zero, add-one, arith}
-use Rattle.std.proofs.lemmas.List.{length-append, drop_all, drop-set, length-set}
+use Rattle.std.specs.Prelude.{replicate}
+use Rattle.std.proofs.lemmas.Bool.{false≢true}
+use Rattle.std.proofs.lemmas.List.{length-append, drop_all, drop-set, length-set, length-replicate, get_or-replicate, get_or-set_other}
 use Rattle.bg_types.specs.declared.class.Bidi.{Bidi}
-use Rattle.bg_types.specs.declared.class.Bidi.TheVariants.{L, R, Al, Lri, Rli, Fsi, Pdi}
+use Rattle.bg_types.specs.declared.class.Bidi.TheVariants.{L, R, Al, Rle, Lre, Rlo, Lro, Pdf, Lri, Rli, Fsi, Pdi}
+use Rattle.paragraphs.specs.Classes.{is_removed, is_isolate_control}
 use Rattle.bidi_explicit.specs.declared.controls.Control.{Control}
 use Rattle.bidi_explicit.specs.declared.kind.Kind.{Kind}
 use Rattle.bidi_explicit.specs.declared.controls.OpenPdi.{OpenPdi}
 use Rattle.bidi_explicit.specs.Nesting.{Nodes, end, char, isolate, unclosed, is_initiator, split_at_pdi, enclose, base, nest, flattened}
 use Rattle.bidi_explicit.specs.Flat.{content}
-use Rattle.bidi_explicit.specs.Controls.{control, controls_from, Behind, own_pdis, behind, without_nearest, moved, nearest, control_by}
+use Rattle.bidi_explicit.specs.Uniform.{is_control}
+use Rattle.bidi_explicit.specs.Controls.{control, controls_from, no_control, Behind, own_pdis, behind, without_nearest, passed, moved, nearest, control_by}
 
 -- a PDI of a list, and those after it, where n characters stand before it
 abbrev pdis_from : ℕ → Nodes → List OpenPdi
@@ -142,13 +146,21 @@ pub record IsMatchedFrom (cs : List Bidi) (i : ℕ) (b : Behind) (xs : List Cont
   pub known : b ≡ behind i (nest (drop i cs))
   pub done : drop i xs ≡ controls_from i (drop i cs)
   pub long : length xs ≡ length cs
+  -- those before it are still as they were made
+  pub clear : (k : ℕ) (d : Control) → k < i → get_or xs k d ≡ no_control
 
-pub IsMatchedFrom-start : (cs : List Bidi) (b : Behind) (xs : List Control) → b ≡ record { odd = false; pdis = [] } → length xs ≡ length cs →
+pub IsMatchedFrom-start : (cs : List Bidi) (b : Behind) (xs : List Control) → b ≡ record { odd = false; pdis = [] } → xs ≡ replicate (length cs) no_control →
     IsMatchedFrom cs (length cs) b xs
-IsMatchedFrom-start cs b xs none long =
+IsMatchedFrom-start cs b xs none made =
+    let long : length xs ≡ length cs = ap length made ∙ length-replicate (length cs) no_control in
     let nil : drop (length cs) cs ≡ [] = drop_all (length cs) cs (omega arith) in
     let nothing : drop (length cs) xs ≡ [] = drop_all (length cs) xs (omega arith) in
-    record { known = none ∙ ap (λ ds. behind (length cs) (nest ds)) (sym nil); done = nothing ∙ ap (controls_from (length cs)) (sym nil); long = long }
+    record {
+      known = none ∙ ap (λ ds. behind (length cs) (nest ds)) (sym nil);
+      done = nothing ∙ ap (controls_from (length cs)) (sym nil);
+      long = long;
+      clear = λ k d before. ap (λ ys. get_or ys k d) made ∙ get_or-replicate (length cs) k no_control d before;
+    }
 
 pub IsMatchedFrom-step : (cs : List Bidi) (i : ℕ) (b : Behind) (xs : List Control) → IsMatchedFrom cs (suc i) b xs → i < length cs →
     (d : Bidi) (x : Control) (a : Behind) → x ≡ control_by (get_or cs i d) b → a ≡ moved i (get_or cs i d) b →
@@ -164,4 +176,41 @@ IsMatchedFrom-step cs i b xs m inside d x a put after =
           (ap (λ n. drop n xs) (add-one i) ∙ m.done)
           ∙ ap (controls_from i) (sym here);
       long = length-set xs i x ∙ m.long;
+      clear = λ k e before. get_or-set_other xs i k x e (λ same. absurd (omega arith)) ∙ m.clear k e (omega arith);
+    }
+
+-- a class that is no control
+control-none : (i : ℕ) (c : Bidi) (rest : List Bidi) → is_control c ≡ false → control i c rest ≡ no_control
+unfolding is_removed is_isolate_control
+control-none i Rle rest h = absurd (false≢true (sym h))
+control-none i Lre rest h = absurd (false≢true (sym h))
+control-none i Rlo rest h = absurd (false≢true (sym h))
+control-none i Lro rest h = absurd (false≢true (sym h))
+control-none i Pdf rest h = absurd (false≢true (sym h))
+control-none i Lri rest h = absurd (false≢true (sym h))
+control-none i Rli rest h = absurd (false≢true (sym h))
+control-none i Fsi rest h = absurd (false≢true (sym h))
+control-none i Pdi rest h = absurd (false≢true (sym h))
+control-none i c rest h = refl
+
+moved-passed : (i : ℕ) (c : Bidi) (b : Behind) → is_control c ≡ false → passed c b ≡ moved i c b
+unfolding is_removed is_isolate_control
+moved-passed i Lri b h = absurd (false≢true (sym h))
+moved-passed i Rli b h = absurd (false≢true (sym h))
+moved-passed i Fsi b h = absurd (false≢true (sym h))
+moved-passed i Pdi b h = absurd (false≢true (sym h))
+moved-passed i c b h = refl
+
+pub IsMatchedFrom-over : (cs : List Bidi) (i : ℕ) (b : Behind) (xs : List Control) → IsMatchedFrom cs (suc i) b xs → i < length cs →
+    (d : Bidi) (a : Behind) → is_control (get_or cs i d) ≡ false → a ≡ passed (get_or cs i d) b → IsMatchedFrom cs i a xs
+IsMatchedFrom-over cs i b xs m inside d a none after =
+    let here : drop i cs ≡ get_or cs i d ∷ drop (suc i) cs = drop-cons cs i d inside in
+    record {
+      known = after ∙ moved-passed i (get_or cs i d) b none ∙ ap (moved i (get_or cs i d)) m.known ∙ sym (behind-step i (get_or cs i d) (drop (suc i) cs))
+          ∙ ap (λ ds. behind i (nest ds)) (sym here);
+      done = drop-cons xs i no_control (let l = m.long in omega arith)
+          ∙ ap₂ (λ y ys. y ∷ ys) (m.clear i no_control (omega arith) ∙ sym (control-none i (get_or cs i d) (drop (suc i) cs) none)) m.done
+          ∙ ap (controls_from i) (sym here);
+      long = m.long;
+      clear = λ k e before. m.clear k e (omega arith);
     }

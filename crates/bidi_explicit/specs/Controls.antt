@@ -4,6 +4,7 @@ use Rattle.bg_types.specs.declared.class.Bidi.{Bidi}
 use Rattle.bg_types.specs.declared.class.Bidi.TheVariants.{L, R, Al, Lri, Rli, Fsi, Pdi}
 use Rattle.bidi_explicit.specs.declared.controls.Control.{Control}
 use Rattle.bidi_explicit.specs.declared.controls.OpenPdi.{OpenPdi}
+use Rattle.bidi_explicit.specs.declared.kind.Kind.TheVariants.{Other}
 use Rattle.bidi_explicit.specs.Nesting.{Nodes, end, char, isolate, unclosed, is_initiator, base, nest, flattened, matched}
 use Rattle.bidi_explicit.specs.Levels.{kind}
 use Rattle.bidi_explicit.specs.Flat.{content}
@@ -16,6 +17,10 @@ control i c rest = record { kind = kind (base (content (nest rest)) == 1) c; pdi
 abbrev pub controls_from : ℕ → List Bidi → List Control
 controls_from i [] = []
 controls_from i (c ∷ cs) = control i c cs ∷ controls_from (suc i) cs
+
+-- that of a character that does nothing
+abbrev pub no_control : Control
+no_control = record { kind = Other; pdi = None }
 
 -- what is known of the characters after a place
 pub record Behind : Type 0 where
@@ -40,16 +45,20 @@ abbrev pub without_nearest : List OpenPdi → Behind
 without_nearest [] = record { odd = false; pdis = [] }
 without_nearest (p ∷ ps) = record { odd = p.odd; pdis = ps }
 
+-- what is known before a class that is no control
+abbrev pub passed : Bidi → Behind → Behind
+passed L b = record b { odd = false }
+passed R b = record b { odd = true }
+passed Al b = record b { odd = true }
+passed c b = b
+
 -- what is known before a class at place i
 abbrev pub moved : ℕ → Bidi → Behind → Behind
 moved i Lri b = without_nearest b.pdis
 moved i Rli b = without_nearest b.pdis
 moved i Fsi b = without_nearest b.pdis
 moved i Pdi b = record { odd = false; pdis = (record { place = i; odd = b.odd }) ∷ b.pdis }
-moved i L b = record b { odd = false }
-moved i R b = record b { odd = true }
-moved i Al b = record b { odd = true }
-moved i c b = b
+moved i c b = passed c b
 
 abbrev pub nearest : List OpenPdi → Option ℕ
 nearest [] = None

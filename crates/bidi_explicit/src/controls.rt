@@ -3,9 +3,10 @@
 ghost use Rattle.std.specs.Prelude.{◌≡◌, IfOk, OnOk, false, []};
 ghost use Rattle.bidi_explicit.specs.Levels.{kind};
 ghost use Rattle.bg_types.specs.declared.class.Bidi.TheVariants.{Pdi};
-ghost use Rattle.bidi_explicit.specs.Controls.{controls_from, moved, control_by, nearest, without_nearest};
+ghost use Rattle.bidi_explicit.specs.Controls.{controls_from, passed, moved, control_by, nearest, without_nearest};
 
 use crate::kind::Kind;
+use crate::uniform::is_control;
 use bg_types::{Bidi, Memory};
 use std::alloc::Global;
 use std::marker::Model;
@@ -60,6 +61,18 @@ impl Matcher {
         }
     }
 
+    /// Moves over a character that is no control.
+    #[inline]
+    fn pass_over(&mut self, class: Bidi)
+        ensures { self.new ≡ passed class self.old }
+    {
+        match class {
+            Bidi::L => self.odd = false,
+            Bidi::R | Bidi::Al => self.odd = true,
+            _ => {}
+        }
+    }
+
     /// Moves from the place after a character to its own place.
     fn pass(&mut self, place: usize, class: Bidi) -> Result<Control, Memory>
         ensures control { IfOk result (λ control. control ≡ control_by class self.old) }
@@ -70,9 +83,7 @@ impl Matcher {
         match class {
             Bidi::Lri | Bidi::Rli | Bidi::Fsi => pdi = self.take_nearest(),
             Bidi::Pdi => self.open(place)?,
-            Bidi::L => self.odd = false,
-            Bidi::R | Bidi::Al => self.odd = true,
-            _ => {}
+            _ => self.pass_over(class),
         }
         Ok(Control { kind, pdi })
     }
@@ -132,7 +143,12 @@ pub(crate) fn controls(alloc: Global, classes: &[Bidi]) -> Result<Vec<Control>, 
     let mut controls = vec![in alloc; Control::NONE; classes.len()]?;
     let mut matcher = Matcher::new(alloc);
     for place in (0..classes.len()).rev() {
-        controls[place] = matcher.pass(place, classes[place])?;
+        let class = classes[place];
+        if is_control(class) {
+            controls[place] = matcher.pass(place, class)?;
+        } else {
+            matcher.pass_over(class);
+        }
     }
     Ok(controls)
 }
