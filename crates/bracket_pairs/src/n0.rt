@@ -3,12 +3,12 @@
 ghost use Rattle.std.specs.Prelude.{◌≡◌, ◌+◌, ◌<◌, ◌≤◌, true, false, length, fold, slice_range, OnOk, OnErr, IsOk};
 ghost use Rattle.std.specs.List.{list_any};
 ghost use Rattle.bracket_pairs.specs.Pairs.{opens, pair_of, roles};
-ghost use Rattle.bracket_pairs.specs.Found.{pairs_told, AreBehind};
+ghost use Rattle.bracket_pairs.specs.Found.{pairs_told, AreInOrder};
 ghost use Rattle.bracket_pairs.specs.Runs.{IsRun, Has};
-ghost use Rattle.bracket_pairs.specs.N0.{has_strong, pair_direction, bracket_set, pair_set, pair_resolved, n0};
+ghost use Rattle.bracket_pairs.specs.N0.{has_strong, last_strong, pair_direction, bracket_set, pair_set, pair_resolved, n0};
 
 use crate::direction::Direction;
-use crate::search::{closings, has_opening};
+use crate::search::{Opened, has_opening, openings};
 use bg_types::{Bidi, Memory};
 use std::alloc::Global;
 use unicode_tables::Tables;
@@ -138,36 +138,51 @@ fn resolve_pair(
     }
 }
 
-/// Takes the pairs in the order of their opening brackets. `closings` has for each place that of its closing bracket.
+/// The direction of the last strong type among these, or else the one before them.
+fn last_strong(before: Option<Direction>, types: &[Bidi]) -> Option<Direction>
+    ensures { result ≡ last_strong before types.now }
+{
+    for place in (0..types.len()).rev() {
+        let direction = Direction::of(types[place]);
+        if direction.is_some() {
+            return direction;
+        }
+    }
+    before
+}
+
+/// Takes the pairs in the order of their opening brackets.
 ///
 /// Where a table makes brackets nonspacing marks, pairs may stand among the marks of an earlier pair. The run of the last
 /// opening bracket is remembered, so that those marks are not walked again for each such pair.
 fn resolve_pairs(
     embedding: Direction,
     sos: Option<Direction>,
-    closings: &[Option<usize>],
+    openings: &[Opened],
     before_w1: &[Bidi],
     types: &mut [Bidi],
 )
     requires same { length before_w1.now ≡ length types.old }
-    requires len { length closings.now ≡ length types.old }
-    requires behind { AreBehind closings.now (length types.old) }
-    ensures { types.new ≡ fold (pair_resolved embedding sos before_w1.now) types.old (pairs_told closings.now (length types.old)) }
+    requires order { AreInOrder 0 (length types.old) openings.now }
+    ensures { types.new ≡ fold (pair_resolved embedding sos before_w1.now) types.old (pairs_told openings.now) }
 {
     let mut before = sos;
+    let mut from = 0;
     // No bracket has set marks yet.
     let mut run = Run {
         start: types.len(),
         end: types.len(),
         class: Bidi::On,
     };
-    for opening in 0..types.len() {
-        if let Some(closing) = closings[opening] {
+    for opening in openings {
+        if let Some(closing) = opening.closing {
+            let place = opening.place;
+            before = last_strong(before, &types[from..place]);
+            from = place;
             resolve_pair(
-                embedding, before, opening, closing, before_w1, types, &mut run,
+                embedding, before, place, closing, before_w1, types, &mut run,
             );
         }
-        before = Direction::of(types[opening]).or(before);
     }
 }
 
@@ -177,7 +192,7 @@ fn resolve_pairs(
 /// and their types after W7, which are changed. `level` and `sos` are those of the sequence. Only brackets whose type
 /// is ON count. Where a 64th opening bracket would wait, only the pairs that are closed before it count.
 /// After `Memory` the types are as before. Memory is taken only where an opening bracket is.
-/// Cost: O(n), memory for each place.
+/// Cost: O(n), memory for each opening bracket.
 #[tactic(auto, unfolding(crate::specs::N0::n0))]
 pub fn resolve(
     alloc: Global,
@@ -199,11 +214,11 @@ pub fn resolve(
     if !has_opening(tables, chars, types) {
         return Ok(());
     }
-    let closings = closings(alloc, tables, chars, types)?;
+    let openings = openings(alloc, tables, chars, types)?;
     resolve_pairs(
         Direction::of_level(level),
         Direction::of(sos),
-        &closings,
+        &openings,
         before_w1,
         types,
     );

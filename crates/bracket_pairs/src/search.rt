@@ -1,9 +1,9 @@
 //! The search for pairs: BD16.
 
-ghost use Rattle.std.specs.Prelude.{◌≡◌, ℕ, ◌<◌, length, reverse, None, Some, slice_index_or, IfOk, MatchOption};
+ghost use Rattle.std.specs.Prelude.{◌≡◌, length, reverse, None, Some, IfOk, MatchOption};
 ghost use Rattle.std.specs.List.{list_any};
 ghost use Rattle.bracket_pairs.specs.Pairs.{opens, roles, pairs_in_order};
-ghost use Rattle.bracket_pairs.specs.Found.{closed_by, pairs_told, AreBehind};
+ghost use Rattle.bracket_pairs.specs.Found.{closed_by, pairs_told, AreInOrder};
 
 use crate::role::{Role, role_of};
 use arrayvec::ArrayVec;
@@ -14,11 +14,19 @@ use unicode_tables::Tables;
 /// How many opening brackets may wait.
 const MOST_OPEN: usize = 63;
 
-/// An opening bracket that waits for its partner.
+/// An opening bracket that waits for its partner: its place, and its number among the opening brackets.
 #[derive(Clone, Copy, Default)]
 pub(crate) struct Waiting {
     place: usize,
+    number: usize,
     partner: char,
+}
+
+/// The place of an opening bracket that the search has come to, and that of the closing one it is paired with.
+#[derive(Clone, Copy)]
+pub(crate) struct Opened {
+    pub(crate) place: usize,
+    pub(crate) closing: Option<usize>,
 }
 
 /// Whether one of the characters is an opening bracket.
@@ -35,34 +43,33 @@ pub(crate) fn has_opening(tables: &Tables, chars: &[char], types: &[Bidi]) -> bo
 }
 
 /// Takes the topmost entry that waits for a closing bracket off the stack, with all above it.
-fn close(stack: &mut ArrayVec<Waiting, MOST_OPEN>, c: char) -> Option<usize>
+fn close(stack: &mut ArrayVec<Waiting, MOST_OPEN>, c: char) -> Option<Waiting>
     ensures { MatchOption result
         ((closed_by c (reverse stack.old.items) ≡ None) × (stack.new.items ≡ stack.old.items))
-        (λ place. closed_by c (reverse stack.old.items) ≡ Some (place, reverse stack.new.items)) }
+        (λ waiting. closed_by c (reverse stack.old.items) ≡ Some (waiting, reverse stack.new.items)) }
 {
     for k in (0..stack.len()).rev() {
-        let Waiting { place, partner } = stack[k];
-        if partner == c {
+        let waiting = stack[k];
+        if waiting.partner == c {
             stack.truncate(k);
-            return Some(place);
+            return Some(waiting);
         }
     }
     None
 }
 
-/// For each character that opens a pair, the place of the closing bracket it is paired with.
-pub(crate) fn closings(
+/// The opening brackets that the search comes to, in their order.
+pub(crate) fn openings(
     alloc: Global,
     tables: &Tables,
     chars: &[char],
     types: &[Bidi],
-) -> Result<Vec<Option<usize>>, Memory>
+) -> Result<Vec<Opened>, Memory>
     requires { length types.now ≡ length chars.now }
-    ensures pairs { IfOk result (λ closings. pairs_told closings.items (length chars.now) ≡ pairs_in_order (roles tables.now chars.now types.now)) }
-    ensures behind { IfOk result (λ closings. AreBehind closings.items (length chars.now)) }
-    ensures len { IfOk result (λ closings. length closings.items ≡ length chars.now) }
+    ensures pairs { IfOk result (λ openings. pairs_told openings.items ≡ pairs_in_order (roles tables.now chars.now types.now)) }
+    ensures order { IfOk result (λ openings. AreInOrder 0 (length chars.now) openings.items) }
 {
-    let mut closings = vec![in alloc; None; chars.len()]?;
+    let mut openings = Vec::new(alloc);
     let mut stack = ArrayVec::<Waiting, MOST_OPEN>::new();
     for (place, c) in chars.iter().enumerate() {
         match role_of(tables, *c, types[place]) {
@@ -70,15 +77,28 @@ pub(crate) fn closings(
                 if stack.is_full() {
                     break;
                 }
-                stack.push(Waiting { place, partner });
+                let number = openings.len();
+                openings.push(Opened {
+                    place,
+                    closing: None,
+                })?;
+                stack.push(Waiting {
+                    place,
+                    number,
+                    partner,
+                });
             }
             Role::Closing(c) => {
-                if let Some(opening) = close(&mut stack, c) {
-                    closings[opening] = Some(place);
+                if let Some(waiting) = close(&mut stack, c) {
+                    let closing = Some(place);
+                    openings[waiting.number] = Opened {
+                        place: waiting.place,
+                        closing,
+                    };
                 }
             }
             Role::Neither => {}
         }
     }
-    Ok(closings)
+    Ok(openings)
 }
