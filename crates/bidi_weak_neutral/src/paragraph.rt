@@ -41,7 +41,8 @@ fn resolve_sequence(
     sequence: &Sequence,
     buffers: &mut Buffers,
 ) -> Result<(), Memory>
-    requires { All (λ i. i < length points.now) sequence.now.places }
+    requires points { All (λ i. i < length points.now) sequence.now.places }
+    requires kept { All (λ i. i < length places.now) sequence.now.places }
     ensures types { OnOk result (buffers.new.types.items ≡ types_after_n0 tables.now sequence.now (characters_of points.now sequence.now) (types_before places.now sequence.now)) }
     ensures one_each { OnOk result (length buffers.new.types.items ≡ length sequence.now.places) }
 {

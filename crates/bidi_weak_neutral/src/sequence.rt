@@ -25,12 +25,10 @@ fn class_of(kept: Option<Kept>) -> Bidi
 /// The type of what is kept at a place.
 #[inline]
 fn type_of(places: &[Option<Kept>], place: usize) -> Bidi
+    requires { place < length places.now }
     ensures { result ≡ type_of (kept_at places.now place) }
 {
-    match places.get(place) {
-        Some(kept) => class_of(*kept),
-        None => Bidi::On,
-    }
+    class_of(places[place])
 }
 
 /// Puts the characters of a sequence and their types before W1 into two lists of its length.
@@ -42,14 +40,16 @@ pub(crate) fn gather(
     types: &mut [Bidi],
 )
     requires inside { All (λ i. i < length of_paragraph.now) places.now }
+    requires kept { All (λ i. i < length kept.now) places.now }
     requires characters { length characters.old ≡ length places.now }
     requires types { length types.old ≡ length places.now }
     ensures characters { characters.new ≡ map (slice_index of_paragraph.now) places.now }
     ensures types { types.new ≡ map (λ i. type_of (kept_at kept.now i)) places.now }
 {
     for (k, place) in places.iter().enumerate() {
-        characters[k] = of_paragraph[*place];
-        types[k] = type_of(kept, *place);
+        let place = *place;
+        characters[k] = of_paragraph[place];
+        types[k] = type_of(kept, place);
     }
 }
 

@@ -1,6 +1,7 @@
 -- The goals of `put_back` that are answered by hand.
-use Rattle.std.proofs.Common.{ℕ, List, ◌+◌, ◌<◌, ◌≤◌, ◌∙◌, length, get_or, drop, ap, sym, subst, map}
+use Rattle.std.proofs.Common.{ℕ, List, Option, ◌+◌, ◌<◌, ◌≤◌, ◌∙◌, length, get_or, drop, ap, sym, subst, map}
 use Rattle.bg_types.specs.declared.class.Bidi.{Bidi}
+use Rattle.bidi_explicit.specs.declared.kept.Kept.{Kept}
 use Rattle.bidi_explicit.proofs.Interface.{is_kept-within}
 use Rattle.bidi_weak_neutral.specs.Neutral.{n1, n2, implicit_level}
 use Rattle.bidi_weak_neutral.specs.Levels.{levels_at, put_back, types_before, characters_of, types_after_n0}
@@ -12,9 +13,14 @@ put_levels-requires-clause-level c =
     subst (λ n. n ≤ 125) (sym c.level.ensures)
     (All-slice_get (λ s. s.level ≤ 125) c.args.embedded.now.sequences c.loop-number.number c.sequence-sequence.result c.sequence-sequence.ensures.value c.requires.depth)
 
-pub resolve_sequence-requires : goal.resolve_sequence-requires
-resolve_sequence-requires c = λ k d lt.
+pub resolve_sequence-requires-clause-points : goal.resolve_sequence-requires-clause-points
+resolve_sequence-requires-clause-points c = λ k d lt.
     subst (λ n. get_or c.sequence-sequence.result.places k d < n) (sym c.requires.points) (is_kept-within c.args.embedded.now.places (get_or c.sequence-sequence.result.places k d) (c.sequence-sequence.ensures.kept k d lt))
+
+pub resolve_sequence-requires-clause-kept : goal.resolve_sequence-requires-clause-kept
+resolve_sequence-requires-clause-kept c = λ k d lt.
+    subst (λ (ps : List (Option Kept)). get_or c.sequence-sequence.result.places k d < length ps) (sym c.places-places.ensures)
+    (is_kept-within c.args.embedded.now.places (get_or c.sequence-sequence.result.places k d) (c.sequence-sequence.ensures.kept k d lt))
 
 pub put_levels-requires-clause-types : goal.put_levels-requires-clause-types
 put_levels-requires-clause-types c = ap length c.deref.ensures.value ∙ c.in_ok-resolve_sequence.ensures.one_each ∙ ap length (sym c.places.ensures)
