@@ -169,6 +169,8 @@ fn begins(place: Option<Kept>, is_taken: bool) -> bool
 }
 
 /// Appends the sequence that begins at `first`, and marks its places.
+/// Never inlined: the loop over all places, few of which begin one, would count up all that this needs.
+#[inline(never)]
 fn append_sequence(
     order: &mut Vec<usize>,
     taken: &mut [bool],
