@@ -11,8 +11,10 @@ use Rattle.bidi_explicit.specs.declared.kind.Kind.{Kind}
 use Rattle.bidi_explicit.specs.declared.controls.OpenPdi.{OpenPdi}
 use Rattle.bidi_explicit.specs.Nesting.{Nodes, end, char, isolate, unclosed, is_initiator, split_at_pdi, enclose, base, nest, flattened}
 use Rattle.bidi_explicit.specs.Flat.{content}
+use Rattle.bidi_explicit.specs.Strong.{strong_level}
+use Rattle.std.proofs.lemmas.Option.{same_Some}
 use Rattle.bidi_explicit.specs.Uniform.{is_control}
-use Rattle.bidi_explicit.specs.Controls.{control, controls_from, no_control, Behind, own_pdis, behind, without_nearest, passed, moved, nearest, control_by}
+use Rattle.bidi_explicit.specs.Controls.{control, controls_from, no_control, Behind, own_pdis, behind, without_nearest, moved, nearest, control_by}
 
 -- a PDI of a list, and those after it, where n characters stand before it
 abbrev pdis_from : ℕ → Nodes → List OpenPdi
@@ -193,24 +195,50 @@ control-none i Fsi rest h = absurd (false≢true (sym h))
 control-none i Pdi rest h = absurd (false≢true (sym h))
 control-none i c rest h = refl
 
-moved-passed : (i : ℕ) (c : Bidi) (b : Behind) → is_control c ≡ false → passed c b ≡ moved i c b
+-- one that is strong, and one that is neither
+strong-no_control : (c : Bidi) (l : ℕ) → strong_level c ≡ Some l → is_control c ≡ false
 unfolding is_removed is_isolate_control
-moved-passed i Lri b h = absurd (false≢true (sym h))
-moved-passed i Rli b h = absurd (false≢true (sym h))
-moved-passed i Fsi b h = absurd (false≢true (sym h))
-moved-passed i Pdi b h = absurd (false≢true (sym h))
-moved-passed i c b h = refl
+strong-no_control L l h = refl
+strong-no_control R l h = refl
+strong-no_control Al l h = refl
+strong-no_control c l h = absurd (cc)
 
-pub IsMatchedFrom-over : (cs : List Bidi) (i : ℕ) (b : Behind) (xs : List Control) → IsMatchedFrom cs (suc i) b xs → i < length cs →
-    (d : Bidi) (a : Behind) → is_control (get_or cs i d) ≡ false → a ≡ passed (get_or cs i d) b → IsMatchedFrom cs i a xs
+moved-strong : (i : ℕ) (c : Bidi) (b : Behind) (l : ℕ) → strong_level c ≡ Some l → record b { odd = l == 1 } ≡ moved i c b
+moved-strong i L b l h = ap (λ k. record b { odd = k == 1 }) (sym (same_Some 0 l h))
+moved-strong i R b l h = ap (λ k. record b { odd = k == 1 }) (sym (same_Some 1 l h))
+moved-strong i Al b l h = ap (λ k. record b { odd = k == 1 }) (sym (same_Some 1 l h))
+moved-strong i c b l h = absurd (cc)
+
+moved-neither : (i : ℕ) (c : Bidi) (b : Behind) → strong_level c ≡ None → is_control c ≡ false → b ≡ moved i c b
+unfolding is_removed is_isolate_control
+moved-neither i L b h n = absurd (cc)
+moved-neither i R b h n = absurd (cc)
+moved-neither i Al b h n = absurd (cc)
+moved-neither i Lri b h n = absurd (false≢true (sym n))
+moved-neither i Rli b h n = absurd (false≢true (sym n))
+moved-neither i Fsi b h n = absurd (false≢true (sym n))
+moved-neither i Pdi b h n = absurd (false≢true (sym n))
+moved-neither i c b h n = refl
+
+IsMatchedFrom-over : (cs : List Bidi) (i : ℕ) (b : Behind) (xs : List Control) → IsMatchedFrom cs (suc i) b xs → i < length cs →
+    (d : Bidi) (a : Behind) → is_control (get_or cs i d) ≡ false → a ≡ moved i (get_or cs i d) b → IsMatchedFrom cs i a xs
 IsMatchedFrom-over cs i b xs m inside d a none after =
     let here : drop i cs ≡ get_or cs i d ∷ drop (suc i) cs = drop-cons cs i d inside in
     record {
-      known = after ∙ moved-passed i (get_or cs i d) b none ∙ ap (moved i (get_or cs i d)) m.known ∙ sym (behind-step i (get_or cs i d) (drop (suc i) cs))
-          ∙ ap (λ ds. behind i (nest ds)) (sym here);
+      known = after ∙ ap (moved i (get_or cs i d)) m.known ∙ sym (behind-step i (get_or cs i d) (drop (suc i) cs)) ∙ ap (λ ds. behind i (nest ds)) (sym here);
       done = drop-cons xs i no_control (let l = m.long in omega arith)
           ∙ ap₂ (λ y ys. y ∷ ys) (m.clear i no_control (omega arith) ∙ sym (control-none i (get_or cs i d) (drop (suc i) cs) none)) m.done
           ∙ ap (controls_from i) (sym here);
       long = m.long;
       clear = λ k e before. m.clear k e (omega arith);
     }
+
+pub IsMatchedFrom-strong : (cs : List Bidi) (i : ℕ) (b : Behind) (xs : List Control) → IsMatchedFrom cs (suc i) b xs → i < length cs →
+    (d : Bidi) (a : Behind) (l : ℕ) → strong_level (get_or cs i d) ≡ Some l → a ≡ record b { odd = l == 1 } → IsMatchedFrom cs i a xs
+IsMatchedFrom-strong cs i b xs m inside d a l strong after =
+    IsMatchedFrom-over cs i b xs m inside d a (strong-no_control (get_or cs i d) l strong) (after ∙ moved-strong i (get_or cs i d) b l strong)
+
+pub IsMatchedFrom-neither : (cs : List Bidi) (i : ℕ) (b : Behind) (xs : List Control) → IsMatchedFrom cs (suc i) b xs → i < length cs →
+    (d : Bidi) → strong_level (get_or cs i d) ≡ None → is_control (get_or cs i d) ≡ false → IsMatchedFrom cs i b xs
+IsMatchedFrom-neither cs i b xs m inside d weak none =
+    IsMatchedFrom-over cs i b xs m inside d b none (moved-neither i (get_or cs i d) b weak none)

@@ -45,20 +45,16 @@ abbrev pub without_nearest : List OpenPdi → Behind
 without_nearest [] = record { odd = false; pdis = [] }
 without_nearest (p ∷ ps) = record { odd = p.odd; pdis = ps }
 
--- what is known before a class that is no control
-abbrev pub passed : Bidi → Behind → Behind
-passed L b = record b { odd = false }
-passed R b = record b { odd = true }
-passed Al b = record b { odd = true }
-passed c b = b
-
 -- what is known before a class at place i
 abbrev pub moved : ℕ → Bidi → Behind → Behind
 moved i Lri b = without_nearest b.pdis
 moved i Rli b = without_nearest b.pdis
 moved i Fsi b = without_nearest b.pdis
 moved i Pdi b = record { odd = false; pdis = (record { place = i; odd = b.odd }) ∷ b.pdis }
-moved i c b = passed c b
+moved i L b = record b { odd = false }
+moved i R b = record b { odd = true }
+moved i Al b = record b { odd = true }
+moved i c b = b
 
 abbrev pub nearest : List OpenPdi → Option ℕ
 nearest [] = None

@@ -1,11 +1,12 @@
 //! What each character does to the levels, and which PDI matches it (BD9, X5c).
 
-ghost use Rattle.std.specs.Prelude.{◌≡◌, IfOk, OnOk, false, []};
+ghost use Rattle.std.specs.Prelude.{◌≡◌, ◌==◌, IfOk, OnOk, false, []};
 ghost use Rattle.bidi_explicit.specs.Levels.{kind};
 ghost use Rattle.bg_types.specs.declared.class.Bidi.TheVariants.{Pdi};
-ghost use Rattle.bidi_explicit.specs.Controls.{controls_from, passed, moved, control_by, nearest, without_nearest};
+ghost use Rattle.bidi_explicit.specs.Controls.{controls_from, moved, control_by, nearest, without_nearest};
 
 use crate::kind::Kind;
+use crate::level::strong_level;
 use crate::uniform::is_control;
 use bg_types::{Bidi, Memory};
 use std::alloc::Global;
@@ -61,16 +62,12 @@ impl Matcher {
         }
     }
 
-    /// Moves over a character that is no control.
+    /// Moves over a strong character that would set this level.
     #[inline]
-    fn pass_over(&mut self, class: Bidi)
-        ensures { self.new ≡ passed class self.old }
+    fn pass_strong(&mut self, level: u8)
+        ensures { self.new ≡ record self.old { odd = level == 1 } }
     {
-        match class {
-            Bidi::L => self.odd = false,
-            Bidi::R | Bidi::Al => self.odd = true,
-            _ => {}
-        }
+        self.odd = level == 1;
     }
 
     /// Moves from the place after a character to its own place.
@@ -83,7 +80,9 @@ impl Matcher {
         match class {
             Bidi::Lri | Bidi::Rli | Bidi::Fsi => pdi = self.take_nearest(),
             Bidi::Pdi => self.open(place)?,
-            _ => self.pass_over(class),
+            Bidi::L => self.odd = false,
+            Bidi::R | Bidi::Al => self.odd = true,
+            _ => {}
         }
         Ok(Control { kind, pdi })
     }
@@ -144,10 +143,10 @@ pub(crate) fn controls(alloc: Global, classes: &[Bidi]) -> Result<Vec<Control>, 
     let mut matcher = Matcher::new(alloc);
     for place in (0..classes.len()).rev() {
         let class = classes[place];
-        if is_control(class) {
+        if let Some(level) = strong_level(class) {
+            matcher.pass_strong(level);
+        } else if is_control(class) {
             controls[place] = matcher.pass(place, class)?;
-        } else {
-            matcher.pass_over(class);
         }
     }
     Ok(controls)

@@ -43,7 +43,7 @@ fn first_strong_level(tables: &Tables, text: &str) -> u8
 
 /// The level that a strong class sets.
 #[inline]
-fn strong_level(class: Bidi) -> Option<u8>
+pub(crate) fn strong_level(class: Bidi) -> Option<u8>
     ensures { result ≡ strong_level class }
 {
     match class {
