@@ -46,9 +46,8 @@ fn append_places(
     ensures order { OnOk result (order.new.items ≡ order.old.items ++ places_between start end) }
     ensures told { OnOk result (AreTold order.new.items taken.new) }
 {
-    order.reserve(end - start)?;
+    order.extend(start..end)?;
     for place in start..end {
-        order.push_reserved(place);
         taken[place] = true;
     }
     Ok(())
