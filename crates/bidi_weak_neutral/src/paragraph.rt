@@ -68,6 +68,7 @@ fn resolve_sequence(
 }
 
 /// Gives each removed place the level of the one before it, or else the paragraph level.
+#[inline(never)]
 fn fill_removed(levels: &mut [u8], places: &[Option<Kept>], paragraph_level: u8)
     requires { length levels.old ≡ length places.now }
     ensures { levels.new ≡ filled_levels paragraph_level (kept_levels places.now levels.old) }
