@@ -18,5 +18,5 @@ pub returns-clause-bounded : goal.returns-clause-bounded
 returns-clause-bounded c =
     inr (outside-but c.args.buffer.now c.forget_but.new.self c.args.from c.args.to c.requires.order c.requires.within c.forget_but.ensures.paragraphs c.forget_but.ensures.kept)
 
-pub kept_items-requires : goal.kept_items-requires
-kept_items-requires c = omega (arith, c.requires.held, c.requires.few)
+pub kept_items-kept-requires : goal.kept_items-kept-requires
+kept_items-kept-requires c = omega (arith, c.requires.held, c.requires.few)
