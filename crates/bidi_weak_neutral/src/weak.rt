@@ -121,13 +121,36 @@ fn run_end(types: &[Bidi], start: usize) -> usize
     end
 }
 
+/// What `run_end` gives from `start` on, where `end` is that place, or one before `start`.
+#[inline(always)]
+fn end_from(types: &[Bidi], start: usize, end: usize) -> usize
+    requires { start ≤ length types.now }
+    ensures from { start ≤ result }
+    ensures known { start ≤ end → result ≡ end }
+    ensures run { end < start → (k : ℕ) → start ≤ k → k < result → is_past_terminators (slice_index_or types.now k On) ≡ false }
+    ensures end { end < start → nearest is_past_terminators On (drop start types.now) ≡ slice_index_or types.now result On }
+{
+    if end < start {
+        run_end(types, start)
+    } else {
+        end
+    }
+}
+
+/// The type at a place after W3, where these are the types of a mark and the last strong type there.
+#[inline(always)]
+fn letter_at(before: &[Bidi], place: usize, base: Bidi, strong: Bidi) -> Bidi
+    ensures { result ≡ lettered strong (marked base (slice_index_or before.now place On)) }
+{
+    lettered(strong, marked(base, type_at(before, place, Bidi::On)))
+}
+
 /// The types of a sequence after W7: `before` are those before W1.
 pub(crate) fn resolve_weak(before: &[Bidi], types: &mut [Bidi], sos: Bidi)
     requires { length types.old ≡ length before.now }
     ensures { types.new ≡ weak_types sos before.now }
 {
-    let (mut base, mut strong) = (sos, sos);
-    let (mut last, mut beside) = (Bidi::On, Bidi::On);
+    let (mut base, mut strong, mut last, mut beside) = (sos, sos, Bidi::On, Bidi::On);
     let mut end = 0;
     // Whether only marks stand after the last strong type: a mark takes what that one has become.
     let mut on_letter = false;
@@ -158,12 +181,9 @@ pub(crate) fn resolve_weak(before: &[Bidi], types: &mut [Bidi], sos: Bidi)
         base = unmarked(base, class);
         let behind = strong_behind(strong, mark);
         let letter = lettered(strong, mark);
-        let next = lettered(behind, marked(base, type_at(before, place + 1, Bidi::On)));
-        let number = joined(last, letter, next);
-        if end <= place {
-            end = run_end(before, place + 1);
-        }
-        let after = lettered(behind, marked(base, type_at(before, end, Bidi::On)));
+        let number = joined(last, letter, letter_at(before, place + 1, base, behind));
+        end = end_from(before, place + 1, end);
+        let after = letter_at(before, end, base, behind);
         types[place] = settled(strong, terminated(beside, number, after));
         strong = behind;
         last = letter;

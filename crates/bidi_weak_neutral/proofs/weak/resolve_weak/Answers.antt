@@ -1,15 +1,14 @@
 -- The goals of `resolve_weak` that are answered by hand.
-use Rattle.std.proofs.Common.{arith, ◌+◌, ◌<◌, ◌≤◌, ◌≡◌, ◌∙◌, ap, sym, subst, length, get_or, drop, ◌∷◌, true, false, rules}
+use Rattle.std.proofs.Common.{arith, inl, inr, refl, ◌+◌, ◌<◌, ◌≡◌, ◌∙◌, ap, sym, subst, length, get_or, drop, ◌∷◌, true, false, rules}
 use Rattle.bg_types.specs.declared.class.Bidi.TheVariants.{L, Nsm, On}
-use Rattle.std.proofs.lemmas.Bool.{false≢true}
+use Rattle.std.proofs.lemmas.Bool.{cases_lt, false≢true}
 use denote.Enum.Bare.{same_true}
 use Rattle.bg_types.specs.contracts.class.Bidi.{the_type}
 use Rattle.bidi_weak_neutral.specs.Classes.{is_strong}
-use Rattle.bidi_weak_neutral.specs.Pass.{is_past_terminators, is_weak}
+use Rattle.bidi_weak_neutral.specs.Pass.{is_past_terminators, is_weak, marked}
 use Rattle.bidi_weak_neutral.proofs.Runs.{IsRun, IsRun-on}
 use Rattle.bidi_weak_neutral.proofs.WeakPass.{weak_types-is, weak_from, weak-step, weak-read, strong-step, mark-step, neutral-step}
 use Rattle.bidi_weak_neutral.proofs.weak.resolve_weak.Goals as goal
-use Rattle.bidi_weak_neutral.proofs.weak.resolve_weak.Goals.{then-end-place, else-end-place}
 
 pub loop-place-init : goal.loop-place-init
 loop-place-init c = record { so_far = sym (weak_types-is c.args.sos c.args.before.now); marks = λ xs on. absurd (false≢true on); run = λ lt. absurd (omega arith) }
@@ -77,31 +76,28 @@ loop-place-preserved c =
     let before = c.args.before.now in
     let lt : c.loop-place.place < length c.args.before.now = omega arith in
     let long : length c.loop-place.types ≡ length c.args.before.now = omega arith in
-    let run : (c.loop-place.place + 1 ≤ c.if-end-place.end) × IsRun is_past_terminators On c.args.before.now (c.loop-place.place + 1) c.if-end-place.end =
-    elim c.if-end-place.branch [
-      | then-end-place w ↦ (
-        omega arith,
-        subst (IsRun is_past_terminators On c.args.before.now (c.loop-place.place + 1)) (sym w.end-is)
-            (record { inside = λ k from to. w.run_end-end.ensures.run k from to; ahead = w.run_end-end.ensures.end }),
-      )
-      | else-end-place w ↦ (
-        omega arith,
-        subst (IsRun is_past_terminators On c.args.before.now (c.loop-place.place + 1)) (sym w.end-is)
-            (IsRun-on _ _ _ _ _ lt w.if-end-place.false (h.run w.if-end-place.false)),
-      )
+    let e = c.end_from-end.ensures in
+    let run : IsRun is_past_terminators On c.args.before.now (c.loop-place.place + 1) c.end_from-end.result =
+    elim (cases_lt c.loop-place.end (c.loop-place.place + 1)) [
+      | inl past ↦ record { inside = e.run past; ahead = e.end past }
+      | inr ahead ↦
+          subst (IsRun is_past_terminators On c.args.before.now (c.loop-place.place + 1)) (sym (e.known ahead))
+          (IsRun-on _ _ _ _ _ lt (omega arith) (h.run (omega arith)))
     ] in
+    let n0 = get_or before (i + 1) On in
+    let e0 = get_or before c.end_from-end.result On in
     record {
       so_far =
           weak-step c.loop-place.base c.loop-place.strong c.loop-place.last c.loop-place.beside c.unmarked-base.result c.strong_behind-behind.result
           c.lettered-letter.result c.unterminated-beside.result c.settled.result c.loop-place.types _ before i lt long
           (weak-read c.loop-place.base c.loop-place.strong c.loop-place.last c.loop-place.beside (get_or before i L) c.marked-mark.result c.unmarked-base.result
-          c.strong_behind-behind.result c.lettered-letter.result c.type_at.result c.marked.result c.lettered-next.result c.joined-number.result
-          c.type_at-in-loop-place.result c.marked-in-loop-place.result c.lettered-after.result c.terminated.result c.settled.result c.unterminated-beside.result
+          c.strong_behind-behind.result c.lettered-letter.result n0 (marked c.unmarked-base.result n0) c.letter_at.result c.joined-number.result
+          e0 (marked c.unmarked-base.result e0) c.letter_at-after.result c.terminated.result c.settled.result c.unterminated-beside.result
           before (i + 1) c.marked-mark.ensures c.unmarked-base.ensures c.strong_behind-behind.ensures c.lettered-letter.ensures
-          c.type_at.ensures c.marked.ensures c.lettered-next.ensures c.joined-number.ensures
-          (c.type_at-in-loop-place.ensures ∙ sym run.1.ahead) c.marked-in-loop-place.ensures c.lettered-after.ensures c.terminated.ensures
+          refl refl c.letter_at.ensures c.joined-number.ensures
+          (sym run.ahead) refl c.letter_at-after.ensures c.terminated.ensures
           c.settled.ensures c.unterminated-beside.ensures)
           h.so_far;
       marks = λ xs on. absurd (false≢true on);
-      run = λ more. run.1;
+      run = λ more. run;
     }
