@@ -11,6 +11,7 @@ pub mod Rows
 pub mod BlockLists
 pub mod Numbers
 pub mod Halves
+pub mod Giving
 pub mod Places
 pub mod Passed
 pub mod Apart

@@ -1,6 +1,6 @@
 //! Which stretch an identifier may be of, and in which block that is.
 
-ghost use Rattle.std.specs.Prelude.{◌≡◌, ◌+◌, ◌*◌, ◌^◌, ◌<◌, ◌≤◌, ◌∷◌, ℕ, Some, None, IfSome, IfNone, [], OnOk, if◌then◌else◌, length, take, drop, get_or, insert, slice_set, vec_len, vec_capacity};
+ghost use Rattle.std.specs.Prelude.{◌≡◌, ◌+◌, ◌*◌, ◌^◌, ◌<◌, ◌≤◌, ◌++◌, ◌∷◌, ℕ, Some, None, IfSome, IfNone, [], OnOk, if◌then◌else◌, length, take, drop, get_or, insert, slice_set, vec_len, vec_capacity};
 ghost use Rattle.std.specs.Bool.{OnTrue};
 ghost use Rattle.std.specs.List.Sorted.{IsNonDecreasingBy};
 ghost use Rattle.bg_types.specs.Identifier.{Identifier};
@@ -9,10 +9,10 @@ ghost use Rattle.rga_runs.specs.Blocks.{AreHalfFull};
 ghost use Rattle.rga_runs.specs.Keyed.{rank, look_in, reaches, begins};
 ghost use Rattle.rga_runs.specs.Leaves.{keys_of, all_keys, place_in};
 
-use crate::cut::{FULL, kept_of};
+use crate::cut::{FULL, HALF, kept_of};
 use crate::key::Key;
 use crate::leaf::{Leaf, SpareLeaf};
-use crate::leaves::{len_of, put_at, split_at, write_at};
+use crate::leaves::{give_at, len_of, put_at, split_at, write_at};
 use crate::rank::{not_above, rank_of, share};
 use bg_types::{Id, Memory};
 use std::alloc::Global;
@@ -149,7 +149,8 @@ fn likely_leaf(keys: &Keys, id: Id) -> usize {
     }
 }
 
-/// The place that is given by a leaf and a place there, with room for a key: a full leaf is split first.
+/// The place that is given by a leaf and a place there, with room for a key. A full leaf is split first. Where a site ends at the place,
+/// the keys behind go to the next leaf instead, so that those that the site puts in next don't move them.
 fn make_room(keys: &mut Keys, b: usize, at: usize) -> (usize, usize)
     requires leaf { b < vec_len keys.old.leaves }
     requires within { at ≤ length (get_or (keys_of keys.old.leaves.items) b []) }
@@ -165,6 +166,10 @@ fn make_room(keys: &mut Keys, b: usize, at: usize) -> (usize, usize)
     if len_of(&keys.leaves, b) < FULL {
         return (b, at);
     }
+    if ends_site(&keys.leaves, b, at) {
+        give_behind(keys, b, at);
+        return (b, at);
+    }
     let cut = kept_of(b, keys.leaves.len(), at);
     split(keys, b, cut);
     if at <= cut {
@@ -172,6 +177,80 @@ fn make_room(keys: &mut Keys, b: usize, at: usize) -> (usize, usize)
     } else {
         (b + 1, at - cut)
     }
+}
+
+/// Whether a site's keys end before a place of a leaf, with at least half a leaf in front and another leaf behind.
+fn ends_site(leaves: &[Leaf], b: usize, at: usize) -> bool
+    requires { b < length leaves.now }
+    ensures next { OnTrue result (b + 1 < length leaves.now) }
+    ensures least { OnTrue result (128 ≤ at) }
+    ensures within { OnTrue result (at < length (get_or (keys_of leaves.now) b [])) }
+{
+    if at < HALF || b + 1 >= leaves.len() {
+        return false;
+    }
+    begins_site(&leaves[b].keys, at)
+}
+
+/// Whether a key is of another site than the one before it.
+fn begins_site(keys: &[Key], at: usize) -> bool
+    ensures { OnTrue result (at < length keys.now) }
+{
+    if at == 0 || at >= keys.len() {
+        return false;
+    }
+    keys[at].first.site() != keys[at - 1].first.site()
+}
+
+/// Gives the keys of a full leaf behind a place to the next leaf, as many as it has room for. If that is full, it is split first.
+fn give_behind(keys: &mut Keys, b: usize, at: usize)
+    requires next { b + 1 < vec_len keys.old.leaves }
+    requires full { length (get_or (keys_of keys.old.leaves.items) b []) ≡ 256 }
+    requires least { 128 ≤ at }
+    requires most { at < 256 }
+    requires room { vec_len keys.old.spares ≡ 0 → length (all_keys keys.old.leaves.items) < 128 * vec_len keys.old.leaves }
+    ensures leaf { b < vec_len keys.new.leaves }
+    ensures within { at ≤ length (get_or (keys_of keys.new.leaves.items) b []) }
+    ensures free { length (get_or (keys_of keys.new.leaves.items) b []) < 256 }
+    ensures place { place_in (keys_of keys.new.leaves.items) b at ≡ place_in (keys_of keys.old.leaves.items) b at }
+    ensures keys { all_keys keys.new.leaves.items ≡ all_keys keys.old.leaves.items }
+    ensures room { vec_len keys.new.leaves + vec_len keys.new.spares ≡ vec_len keys.old.leaves + vec_len keys.old.spares }
+    ensures spares { vec_len keys.old.spares ≤ vec_len keys.new.spares + 1 }
+{
+    split_full(keys, b + 1);
+    let from = at.max(len_of(&keys.leaves, b + 1));
+    give(keys, b, from);
+}
+
+/// Splits a leaf into halves if it is full.
+fn split_full(keys: &mut Keys, b: usize)
+    requires leaf { b < vec_len keys.old.leaves }
+    requires room { vec_len keys.old.spares ≡ 0 → length (all_keys keys.old.leaves.items) < 128 * vec_len keys.old.leaves }
+    ensures leaf { b < vec_len keys.new.leaves }
+    ensures free { length (get_or (keys_of keys.new.leaves.items) b []) < 256 }
+    ensures before { take b (keys_of keys.new.leaves.items) ≡ take b (keys_of keys.old.leaves.items) }
+    ensures keys { all_keys keys.new.leaves.items ≡ all_keys keys.old.leaves.items }
+    ensures room { vec_len keys.new.leaves + vec_len keys.new.spares ≡ vec_len keys.old.leaves + vec_len keys.old.spares }
+    ensures spares { vec_len keys.old.spares ≤ vec_len keys.new.spares + 1 }
+{
+    if len_of(&keys.leaves, b) < FULL {
+        return;
+    }
+    split(keys, b, HALF);
+}
+
+/// Gives the keys of a leaf from one on to the next leaf, which has room for them.
+fn give(keys: &mut Keys, b: usize, at: usize)
+    requires next { b + 1 < vec_len keys.old.leaves }
+    requires least { 128 ≤ at }
+    requires within { at < length (get_or (keys_of keys.old.leaves.items) b []) }
+    requires room { length (get_or (keys_of keys.old.leaves.items) b []) + length (get_or (keys_of keys.old.leaves.items) (b + 1) []) ≤ at + 256 }
+    ensures leaves { let x = get_or (keys_of keys.old.leaves.items) b [] in let y = get_or (keys_of keys.old.leaves.items) (b + 1) [] in
+        keys_of keys.new.leaves.items ≡ slice_set (slice_set (keys_of keys.old.leaves.items) b (take at x)) (b + 1) (drop at x ++ y) }
+    ensures len { vec_len keys.new.leaves ≡ vec_len keys.old.leaves }
+    ensures spares { vec_len keys.new.spares ≡ vec_len keys.old.spares }
+{
+    give_at(&mut keys.leaves, b, at);
 }
 
 /// Splits a full leaf into two, of which the first keeps `cut` keys: half of them, or more in the last leaf.

@@ -1,6 +1,6 @@
 //! Leaves of keys.
 
-ghost use Rattle.std.specs.Prelude.{◌≡◌, ◌+◌, ◌<◌, ◌≤◌, ◌∷◌, [], length, take, drop, insert, slice_set, vec_len, vec_capacity};
+ghost use Rattle.std.specs.Prelude.{◌≡◌, ◌+◌, ◌<◌, ◌≤◌, ◌++◌, ◌∷◌, [], length, take, drop, insert, slice_set, vec_len, vec_capacity};
 ghost use Rattle.rga_runs.specs.Keyed.{rank, begins};
 
 use crate::cut::FULL;
@@ -81,6 +81,19 @@ impl Leaf {
         let first = upper[0].first;
         Leaf { keys: upper, first }
     }
+
+    /// Gives its keys from one on to the next leaf, which has room for them.
+    pub fn give(&mut self, at: usize, next: &mut Leaf)
+        requires some { 0 < at }
+        requires within { at < length self.old.keys.items }
+        requires room { length self.old.keys.items + length next.old.keys.items ≤ at + 256 }
+        ensures keys { self.new.keys.items ≡ take at self.old.keys.items }
+        ensures next { next.new.keys.items ≡ drop at self.old.keys.items ++ next.old.keys.items }
+    {
+        put_in_front(&mut next.keys, &self.keys[at..]);
+        next.first = next.keys[0].first;
+        self.keys.truncate(at);
+    }
 }
 
 /// Puts a key into a row that has memory for it. At the end nothing moves.
@@ -98,4 +111,15 @@ fn put_in(keys: &mut Vec<Key>, at: usize, key: Key)
         // The remainder is the place: by it compiled code sees no wrap behind it, and moves all in one piece.
         keys.insert(at % FULL, key).unwrap();
     }
+}
+
+/// Puts keys in front of a row that has memory for them.
+fn put_in_front(keys: &mut Vec<Key>, more: &[Key])
+    requires { vec_len keys.old + length more.now ≤ vec_capacity keys.old }
+    ensures items { keys.new.items ≡ more.now ++ keys.old.items }
+    ensures len { vec_len keys.new ≡ vec_len keys.old + length more.now }
+    ensures capacity { vec_capacity keys.old ≤ vec_capacity keys.new }
+{
+    keys.extend_from_slice(more).unwrap();
+    keys.rotate_right(more.len());
 }

@@ -1,6 +1,6 @@
 //! The leaves in the order of their keys.
 
-ghost use Rattle.std.specs.Prelude.{◌≡◌, ◌+◌, ◌<◌, ◌≤◌, [], length, take, drop, get_or, insert, slice_set, vec_len, vec_capacity};
+ghost use Rattle.std.specs.Prelude.{◌≡◌, ◌+◌, ◌<◌, ◌≤◌, ◌++◌, [], length, take, drop, get_or, insert, slice_set, vec_len, vec_capacity};
 ghost use Rattle.rga_runs.specs.Leaves.{keys_of};
 
 use crate::key::Key;
@@ -54,4 +54,17 @@ pub fn split_at(leaves: &mut Vec<Leaf>, b: usize, cut: usize, upper: Vec<Key>)
 {
     let upper = leaves[b].split(cut, upper);
     leaves.insert(b + 1, upper).unwrap();
+}
+
+/// Gives the keys of leaf b from one on to the next leaf, which has room for them.
+pub fn give_at(leaves: &mut [Leaf], b: usize, at: usize)
+    requires next { b + 1 < length leaves.old }
+    requires some { 0 < at }
+    requires within { at < length (get_or (keys_of leaves.old) b []) }
+    requires room { length (get_or (keys_of leaves.old) b []) + length (get_or (keys_of leaves.old) (b + 1) []) ≤ at + 256 }
+    ensures { let x = get_or (keys_of leaves.old) b [] in let y = get_or (keys_of leaves.old) (b + 1) [] in
+        keys_of leaves.new ≡ slice_set (slice_set (keys_of leaves.old) b (take at x)) (b + 1) (drop at x ++ y) }
+{
+    let (front, back) = leaves.split_at_mut(b + 1);
+    front[b].give(at, &mut back[0]);
 }

@@ -25,6 +25,32 @@ returns-then-len_of-lt-FULL c =
       spares = omega arith;
     }
 
+pub returns-then-ends_site : goal.returns-then-ends_site
+returns-then-ends_site c =
+    let e = c.give_behind.ensures in
+    record {
+      leaf = e.leaf;
+      within = e.within;
+      free = e.free;
+      place = e.place;
+      keys = e.keys;
+      room = e.room;
+      spares = e.spares;
+    }
+
+pub give_behind-requires-clause-next : goal.give_behind-requires-clause-next
+give_behind-requires-clause-next c = omega (arith, c.if-ends_site.ensures.next, ap length c.deref-2.ensures.value, c.args.keys.now.leaves.ok)
+
+pub give_behind-requires-clause-full : goal.give_behind-requires-clause-full
+give_behind-requires-clause-full c =
+    let here = c.len_of.ensures.len ∙ ap (λ d. length (get_or (keys_of d) c.args.b [])) c.deref.ensures.value in
+    omega (arith, here, c.len_of.ensures.most, c.if-len_of-lt-FULL.false)
+
+pub give_behind-requires-clause-most : goal.give_behind-requires-clause-most
+give_behind-requires-clause-most c =
+    let here = c.len_of.ensures.len ∙ ap (λ d. length (get_or (keys_of d) c.args.b [])) c.deref.ensures.value in
+    omega (arith, here, c.len_of.ensures.most, c.if-ends_site.ensures.within, ap (λ d. length (get_or (keys_of d) c.args.b [])) c.deref-2.ensures.value)
+
 pub returns-then-at-cut : goal.returns-then-at-cut
 returns-then-at-cut c =
     let here = c.len_of.ensures.len ∙ ap (λ d. length (get_or (keys_of d) c.args.b [])) c.deref.ensures.value in
