@@ -8,6 +8,10 @@ pub const FULL: usize = 256;
 /// How many each block and leaf but the last has at least.
 pub const HALF: usize = 128;
 
+/// More than any place of a row. A place is its own remainder by it: so compiled code sees no wrap behind the place, and moves what
+/// stands there in one piece.
+pub const BEYOND: usize = 9_223_372_036_854_775_808;
+
 /// How many stay in block q of so many, which is full, where one more goes in at a place: half of them. In the last one, where it
 /// grows at its end, all but one do, so that it stays full.
 pub fn kept_of(q: usize, count: usize, at: usize) -> usize

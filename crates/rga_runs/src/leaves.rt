@@ -3,6 +3,7 @@
 ghost use Rattle.std.specs.Prelude.{◌≡◌, ◌+◌, ◌<◌, ◌≤◌, ◌++◌, [], length, take, drop, get_or, insert, slice_set, vec_len, vec_capacity};
 ghost use Rattle.rga_runs.specs.Leaves.{keys_of};
 
+use crate::cut::BEYOND;
 use crate::key::Key;
 use crate::leaf::Leaf;
 
@@ -53,7 +54,7 @@ pub fn split_at(leaves: &mut Vec<Leaf>, b: usize, cut: usize, upper: Vec<Key>)
     ensures capacity { vec_capacity leaves.new ≡ vec_capacity leaves.old }
 {
     let upper = leaves[b].split(cut, upper);
-    leaves.insert(b + 1, upper).unwrap();
+    leaves.insert((b + 1) % BEYOND, upper).unwrap();
 }
 
 /// Gives the keys of leaf b from one on to the next leaf, which has room for them.

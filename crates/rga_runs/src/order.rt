@@ -7,6 +7,7 @@ ghost use Rattle.rga_runs.specs.Typed.{is_odd, bits_from};
 ghost use Rattle.rga_runs.specs.BlockRows.{items_of, numbers_of};
 
 use crate::block::Block;
+use crate::cut::BEYOND;
 use crate::stretch::Stretch;
 use bg_types::{Id, Place};
 
@@ -108,5 +109,5 @@ pub fn split_at(blocks: &mut Vec<Block>, q: usize, cut: usize, lower: Vec<Stretc
     ensures capacity { vec_capacity blocks.new ≡ vec_capacity blocks.old }
 {
     let upper = blocks[q].split(cut, lower, number);
-    blocks.insert(q + 1, upper).unwrap();
+    blocks.insert((q + 1) % BEYOND, upper).unwrap();
 }

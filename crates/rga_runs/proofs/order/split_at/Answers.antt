@@ -1,5 +1,5 @@
 -- The goals of `split_at` that are answered by hand.
-use Rattle.std.proofs.Common.{◌≡◌, ◌+◌, ◌∙◌, [], true, cond, take, drop, get_or, sym, ap, arith}
+use Rattle.std.proofs.Common.{◌≡◌, ◌+◌, ◌%◌, ◌∙◌, [], true, cond, take, drop, get_or, sym, ap, arith}
 use Rattle.std.specs.Prelude.{is_ok, insert, set}
 use Rattle.std.proofs.lemmas.List.{map-set}
 use Rattle.rga_runs.specs.declared.block.Block.{Block}
@@ -19,7 +19,8 @@ returns-clause-items c =
     let ok : is_ok c.insert.result ≡ true = ap is_ok c.unwrap.ensures in
     let first : items_of all ≡ set (items_of bs.items) q (take c.args.cut (get_or (items_of bs.items) q [])) =
     map-set (λ (b : Block). b.stretches.items) bs.items q low ∙ ap (set (items_of bs.items) q) (c.split-upper.ensures.items ∙ ap (take c.args.cut) (sym here)) in
-    ap items_of (c.insert.ensures.items ∙ ap (λ b. cond b (insert all (q + 1) high) all) ok)
+    let place : (q + 1) % 9223372036854775808 ≡ q + 1 = omega (arith, c.requires.block, bs.ok, bs.small) in
+    ap items_of (c.insert.ensures.items ∙ (λ i. cond (ok i) (insert all (place i) high) all))
     ∙ items-insert all (q + 1) high ∙ (λ i. insert (first i) (q + 1) ((c.split-upper.ensures.upper ∙ ap (drop c.args.cut) (sym here)) i))
 
 pub returns-clause-numbers : goal.returns-clause-numbers
@@ -32,5 +33,6 @@ returns-clause-numbers c =
     let all = set bs.items q low in
     let ok : is_ok c.insert.result ≡ true = ap is_ok c.unwrap.ensures in
     let number = c.split-upper.ensures.number ∙ ap (λ (b : Block). b.number) c.index_mut.ensures.value in
-    ap numbers_of (c.insert.ensures.items ∙ ap (λ b. cond b (insert all (q + 1) high) all) ok)
+    let place : (q + 1) % 9223372036854775808 ≡ q + 1 = omega (arith, c.requires.block, bs.ok, bs.small) in
+    ap numbers_of (c.insert.ensures.items ∙ (λ i. cond (ok i) (insert all (place i) high) all))
     ∙ numbers-insert all (q + 1) high ∙ (λ i. insert (numbers-set bs.items q old low (omega (arith, c.requires.block, bs.ok)) number i) (q + 1) (c.split-upper.ensures.upper_number i))
