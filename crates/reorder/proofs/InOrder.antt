@@ -1,6 +1,6 @@
 -- A line without an odd level is its own order.
-use Rattle.std.proofs.Common.{ℕ, suc, ◌≡◌, ◌-◌, refl, ap, ◌∙◌, List, [], ◌∷◌, length, Bool, true, false, min, arith}
-use Rattle.std.specs.Prelude.{◌||◌, if◌then◌else◌}
+use Rattle.std.proofs.Common.{ℕ, suc, ◌≡◌, ◌-◌, refl, ap, ◌∙◌, List, [], ◌∷◌, length, false, min, arith}
+use Rattle.std.specs.Prelude.{if◌then◌else◌}
 use Rattle.std.specs.List.{list_any, range_with_len, enumerate_from}
 use Rattle.reorder.specs.VisualList.{is_odd, greatest, lowest_odd, numbers, reversed_from, arranged, visual_list}
 use Rattle.reorder.proofs.Rearranged.{numbers-enumerate_from}

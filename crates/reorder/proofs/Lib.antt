@@ -1,6 +1,7 @@
 -- The modules of this crate's proofs.
 pub mod Arranged
 pub mod Between
+pub mod Blocks
 pub mod InOrder
 pub mod L1
 pub mod Least
@@ -8,6 +9,8 @@ pub mod Left
 pub mod LeftOrder
 pub mod Linked
 pub mod Parts
+pub mod Pieces
+pub mod PiecesOrder
 pub mod Places
 pub mod Rearranged
 pub mod Rounds

@@ -52,10 +52,10 @@ round-permutes p run (z ∷ xs) =
     (IsPermutation-append_right run (z ∷ xs) (z ∷ runs_reversed p xs)
     (IsPermutation-cons z xs (runs_reversed p xs) (round-permutes p [] xs))))
 
-is_high : (k : ℕ) (z : Cluster) → k ≤ z.1 → is_at_least k z ≡ true
+pub is_high : (k : ℕ) (z : Cluster) → k ≤ z.1 → is_at_least k z ≡ true
 is_high k z h = search rules
 
-is_low : (k : ℕ) (z : Cluster) → z.1 < k → is_at_least k z ≡ false
+pub is_low : (k : ℕ) (z : Cluster) → z.1 < k → is_at_least k z ≡ false
 is_low k z h = search rules
 
 -- where all pass, the round reverses the list

@@ -1,9 +1,8 @@
 -- The goals of `line_levels` that are answered by hand.
-use Rattle.std.proofs.Common.{sym, ◌∙◌, ap, map, length}
+use Rattle.std.proofs.Common.{sym, ◌∙◌, ap, length}
 use Rattle.std.specs.Str.{chars}
 use Rattle.std.proofs.lemmas.List.{length-map}
 use Rattle.unicode_tables.specs.Tables.{bidi_of}
-use Rattle.reorder.specs.LineLevels.{group_firsts, levels_after_l1}
 use Rattle.reorder.proofs.line.line_levels.Goals as goal
 
 pub line_levels_at-requires-clause-each_code_point : goal.line_levels_at-requires-clause-each_code_point
