@@ -9,7 +9,7 @@ use Rattle.rga_sequence.specs.BlockRows.{has}
 use Rattle.rga_runs.specs.Counters.{are_up_to}
 use Rattle.rga_runs.proofs.Keyed.{ltb_ge}
 
-fits : (n c : ℕ) → c ≤ n → not (nat_lt n c) ≡ true
+pub fits : (n c : ℕ) → c ≤ n → not (nat_lt n c) ≡ true
 fits n c le = ap not (ltb_ge n c le)
 
 fitting : (n c : ℕ) → not (nat_lt n c) ≡ true → c ≤ n

@@ -108,20 +108,34 @@ look_below ks q g m is = by_last (last_key (rank q) ks) refl is where
 pub home_shorter : (look : Look) (n : ℕ) (s new : Stretch) → new.first ≡ s.first → new.count ≤ s.count → IsHome look n s → IsHome look n new
 home_shorter look n s new first few home k less = ap (λ f. look (later f k)) first ∙ home k (omega (arith, less, few)) ∙ (λ i. told (sym first i) n)
 
--- it has one more, which has no key
-pub home_grown : (ks : List Key) (n : ℕ) (s new : Stretch) → new.first ≡ s.first → new.count ≡ s.count + 1 → s.first.counter + s.count < 4294967296
-    → ((f : Identifier) (m : ℕ) → look_in ks (later s.first s.count) ≡ told f m → f ≡ later s.first s.count → ⊥) → IsHome (look_in ks) n s → IsHome (look_in ks) n new
-home_grown ks n s new first count fits none home k less =
+-- it has m more, which have no keys
+pub home_grown : (ks : List Key) (n : ℕ) (s new : Stretch) (m : ℕ) → new.first ≡ s.first → new.count ≡ s.count + m → s.first.counter + s.count + m ≤ 4294967296
+    → ((k : ℕ) → k < m → (f : Identifier) (i : ℕ) → look_in ks (later s.first (s.count + k)) ≡ told f i → f ≡ later s.first (s.count + k) → ⊥) → IsHome (look_in ks) n s → IsHome (look_in ks) n new
+home_grown ks n s new m first count fits none home k less =
     ap (λ f. look_in ks (later f k)) first ∙ by_place (nat_lt k s.count) refl ∙ (λ i. told (sym first i) n) where
+      next_one : (j : ℕ) → j < m → look_in ks (later s.first (s.count + j - 1)) ≡ told s.first n → look_in ks (later s.first (s.count + j)) ≡ told s.first n
+      next_one j few before =
+          let some = s.some in
+          let prior : ℕ = s.count + j - 1 in
+          let next : later (later s.first prior) 1 ≡ later s.first (s.count + j) = later-more s.first prior 1 (s.count + j) (omega (arith, some)) in
+          ap (look_in ks) (sym next)
+          ∙ look_next ks (later s.first prior) s.first n (omega (arith, some, few, fits)) before (λ f i is same. none j few f i (ap (look_in ks) (sym next) ∙ is) (same ∙ next))
+
+      further : (j : ℕ) → j < m → look_in ks (later s.first (s.count + j)) ≡ told s.first n
+      further zero few =
+          let some = s.some in
+          let e : s.count + 0 - 1 ≡ s.count - 1 = omega arith in
+          next_one 0 few (ap (λ i. look_in ks (later s.first i)) e ∙ home (s.count - 1) (omega (arith, some)))
+      further (suc j) few =
+          let e : s.count + suc j - 1 ≡ s.count + j = omega arith in
+          next_one (suc j) few (ap (λ i. look_in ks (later s.first i)) e ∙ further j (omega (arith, few)))
+
       by_place : (b : Bool) → nat_lt k s.count ≡ b → look_in ks (later s.first k) ≡ told s.first n
       by_place true is = home k (ltb-true k s.count is)
       by_place false is =
-          let some = s.some in
-          let at : k ≡ s.count = let least = ltb-false k s.count is in omega (arith, least, less, count) in
-          let prior : ℕ = s.count - 1 in
-          let next : later (later s.first prior) 1 ≡ later s.first s.count = later-more s.first prior 1 s.count (omega (arith, some)) in
-          ap (λ j. look_in ks (later s.first j)) at ∙ ap (look_in ks) (sym next)
-          ∙ look_next ks (later s.first prior) s.first n (omega (arith, some, fits)) (home prior (omega (arith, some))) (λ f m is same. none f m (ap (look_in ks) (sym next) ∙ is) (same ∙ next))
+          let least = ltb-false k s.count is in
+          let at : k ≡ s.count + (k - s.count) = omega (arith, least) in
+          ap (λ j. look_in ks (later s.first j)) at ∙ further (k - s.count) (omega (arith, least, less, count))
 
 -- ---- rows of blocks
 

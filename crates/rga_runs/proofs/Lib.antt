@@ -22,3 +22,5 @@ pub mod Parted
 pub mod Whole
 pub mod Filled
 pub mod Counters
+pub mod TakenIn
+pub mod RunPut

@@ -13,11 +13,11 @@ use Rattle.std.proofs.lemmas.List.{take-append-drop, get_or-drop}
 use Rattle.std.proofs.lemmas.List.Folds.{list_all_more}
 use Rattle.bg_types.specs.Identifier.{Identifier, id_cmp}
 use Rattle.bg_types.proofs.Interface.{id_cmp-total, id_cmp-exact}
-use Rattle.rga_tree.proofs.Interface.{less_of, turned}
+use Rattle.rga_tree.proofs.Interface.{later-less, less_of, turned}
 use Rattle.rga_runs.specs.declared.stretch.Stretch.{Stretch}
 use Rattle.rga_runs.specs.Typed.{later}
 use Rattle.rga_runs.specs.Blocks.{none_below, passed}
-use Rattle.rga_runs.proofs.Typed.{later-none, later-more, later-less}
+use Rattle.rga_runs.proofs.Typed.{later-none, later-more}
 
 -- what isn't below the least of greater ones is greater
 pub above_least : (id m e : Identifier) → is_lt (id_cmp id m) ≡ true → not (is_lt (id_cmp e m)) ≡ true → is_lt (id_cmp id e) ≡ true

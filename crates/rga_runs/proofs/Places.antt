@@ -9,11 +9,13 @@ use Rattle.bg_types.specs.Identifier.{Identifier}
 use Rattle.bg_types.specs.declared.op.Place.TheVariants.{Root, After}
 use Rattle.rga_tree.specs.declared.element.Element.{Element}
 use Rattle.rga_tree.specs.Row.{place_of}
+use Rattle.rga_tree.proofs.Interface.{put_in}
 use Rattle.rga_sequence.specs.Blocks.{joined, offset}
 use Rattle.rga_sequence.proofs.Members.{until}
 use Rattle.rga_sequence.proofs.Passing.{is_greater, pre_all}
 use Rattle.rga_sequence.proofs.Spots.{set_joined, get_or_joined}
 use Rattle.rga_sequence.proofs.Joined.{joined-suc, drop_joined, insert_joined}
+use Rattle.rga_runs.proofs.Chunks.{take_row, drop_row}
 
 pub some_of : {X : Type 0} (o : Option X) (P : Type 0) → IfNone o P → (P → ⊥) → IsSome o
 some_of None P h never = absurd (never h)
@@ -73,6 +75,22 @@ insert_last xs p q n is there =
     let last : insert x (length x) n ≡ x ++ n ∷ [] = (λ i. take_all (length x) x (omega arith) i ++ n ∷ drop_all (length x) x (omega arith) i) in
     let end : offset xs q (length x) ≡ length (joined (take p xs)) = sym (joined-suc xs q) ∙ ap (λ k. length (joined (take k xs))) (sym is) in
     ap (λ y. joined (set xs q y)) (sym last) ∙ insert_joined xs q (length x) n there (omega arith) ∙ ap (λ k. insert (joined xs) k n) end
+
+-- a part that is another one now
+joined_set : (xs : List (List Element)) (q : ℕ) (y : List Element) → q < length xs → joined (set xs q y) ≡ joined (take q xs) ++ (y ++ joined (drop (suc q) xs))
+joined_set [] q y there = absurd (omega arith)
+joined_set (x ∷ xs) zero y there = refl
+joined_set (x ∷ xs) (suc q) y there = ap (λ r. x ++ r) (joined_set xs q y (omega arith)) ∙ sym (append_assoc x (joined (take q xs)) (y ++ joined (drop (suc q) xs)))
+
+-- more elements at the end of a part
+pub put_last : (xs : List (List Element)) (q at : ℕ) (ns : List Element) → q < length xs → at ≡ offset xs q (length (get_or xs q [])) → joined (set xs q (get_or xs q [] ++ ns)) ≡ put_in (joined xs) at ns
+put_last xs q at ns there is =
+    let x = get_or xs q [] in
+    let a = joined (take q xs) in
+    let b = joined (drop (suc q) xs) in
+    let front : take at (joined xs) ≡ a ++ x = ap (λ k. take k (joined xs)) is ∙ take_row xs q (length x) there (omega arith) ∙ ap (λ l. a ++ l) (take_all (length x) x (omega arith)) in
+    let back : drop at (joined xs) ≡ b = ap (λ k. drop k (joined xs)) is ∙ drop_row xs q (length x) there (omega arith) ∙ ap (λ l. l ++ b) (drop_all (length x) x (omega arith)) in
+    joined_set xs q (x ++ ns) there ∙ ap (λ r. a ++ r) (append_assoc x ns b) ∙ sym (append_assoc a x (ns ++ b)) ∙ (λ i. sym front i ++ (ns ++ sym back i))
 
 -- an element that is hidden already
 pub hidden_already : (row : List Element) (at : ℕ) (d : Element) → at < length row → (get_or row at d).hidden ≡ true → row ≡ set row at (record (get_or row at d) { hidden = true })

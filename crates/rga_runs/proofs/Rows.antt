@@ -49,12 +49,12 @@ stored_at n [] p d h there = absurd (omega arith)
 stored_at n (s ∷ ss) zero d h there = (and_parts (is_stored n s) (are_stored n ss) h).0
 stored_at n (s ∷ ss) (suc p) d h there = stored_at n ss p d (and_parts (is_stored n s) (are_stored n ss) h).1 (omega arith)
 
-pub stored_more : (n : ℕ) (ss : List Stretch) → are_stored n ss ≡ true → are_stored (n + 1) ss ≡ true
-stored_more n [] h = refl
-stored_more n (s ∷ ss) h =
+pub stored_more : (n m : ℕ) (ss : List Stretch) → n ≤ m → are_stored n ss ≡ true → are_stored m ss ≡ true
+stored_more n m [] le h = refl
+stored_more n m (s ∷ ss) le h =
     let p = and_parts (is_stored n s) (are_stored n ss) h in
     let less = stored_le n s p.0 in
-    and_from (is_stored (n + 1) s) (are_stored (n + 1) ss) (stored_is (n + 1) s (omega (arith, less))) (stored_more n ss p.1)
+    and_from (is_stored m s) (are_stored m ss) (stored_is m s (omega (arith, less, le))) (stored_more n m ss le p.1)
 
 -- ---- how many elements
 
@@ -287,25 +287,24 @@ parent_last : (id : Identifier) (p : Place) (k : ℕ) → 0 < k → parent_at id
 parent_last id p zero some = absurd (omega arith)
 parent_last id p (suc k) some = let e : k ≡ suc k - 1 = omega arith in ap (λ n. After (later id n)) e
 
--- a stretch that takes in the character behind its last one
-pub grown_part : (chars : List ℕ) (s new : Stretch) (n : Element) → IsGrown s new → bits_from s.count s.hidden ≡ 0
-    → length chars ≡ s.start + s.count → n.id ≡ later s.first s.count → n.parent ≡ After (later s.first (s.count - 1)) → n.hidden ≡ false
-    → elements_of (chars ++ n.ch ∷ []) new ≡ elements_of chars s ++ n ∷ []
-grown_part chars s new n is bits end id above shown =
+-- a stretch that takes in the characters behind its last one
+pub grown_part : (chars more : List ℕ) (s new : Stretch) (m : ℕ) → IsGrown s new m → bits_from s.count s.hidden ≡ 0 → length chars ≡ s.start + s.count → length more ≡ m
+    → elements_of (chars ++ more) new ≡ elements_of chars s ++ typed (later s.first s.count) (After (later s.first (s.count - 1))) 0 more
+grown_part chars more s new m is bits end many =
     let cs = drop s.start chars in
     let long : length cs ≡ s.count = omega (arith, length-drop s.start chars, end) in
     let all : take s.count cs ≡ cs = take_all s.count cs (omega (arith, long)) in
-    let longer : length (cs ++ n.ch ∷ []) ≤ s.count + 1 = omega (arith, length-append cs (n.ch ∷ []), long) in
-    let characters : take new.count (drop new.start (chars ++ n.ch ∷ [])) ≡ take s.count cs ++ n.ch ∷ [] =
-    (λ i. take (is.count i) (drop (is.start i) (chars ++ n.ch ∷ []))) ∙ ap (take (s.count + 1)) (drop-append-le s.start chars (n.ch ∷ []) (omega (arith, end)))
-    ∙ take_all (s.count + 1) (cs ++ n.ch ∷ []) longer ∙ ap (λ ds. ds ++ n.ch ∷ []) (sym all) in
+    let longer : length (cs ++ more) ≤ s.count + m = omega (arith, length-append cs more, long, many) in
+    let characters : take new.count (drop new.start (chars ++ more)) ≡ take s.count cs ++ more =
+    (λ i. take (is.count i) (drop (is.start i) (chars ++ more))) ∙ ap (take (s.count + m)) (drop-append-le s.start chars more (omega (arith, end)))
+    ∙ take_all (s.count + m) (cs ++ more) longer ∙ ap (λ ds. ds ++ more) (sym all) in
     let some = s.some in
-    let many : length (take s.count cs) ≡ s.count = ap length all ∙ long in
-    let last : parent_at s.first s.parent (length (take s.count cs)) ≡ n.parent = ap (parent_at s.first s.parent) many ∙ parent_last s.first s.parent s.count some ∙ sym above in
-    let mark : is_odd (bits_from (length (take s.count cs)) s.hidden) ≡ n.hidden = ap (λ m. is_odd (bits_from m s.hidden)) many ∙ ap is_odd bits ∙ sym shown in
+    let count : length (take s.count cs) ≡ s.count = ap length all ∙ long in
+    let last : parent_at s.first s.parent (length (take s.count cs)) ≡ After (later s.first (s.count - 1)) = ap (parent_at s.first s.parent) count ∙ parent_last s.first s.parent s.count some in
+    let marks : bits_from (length (take s.count cs)) s.hidden ≡ 0 = ap (λ k. bits_from k s.hidden) count ∙ bits in
     (λ i. typed (is.first i) (is.parent i) (is.hidden i) (characters i))
-    ∙ typed-append s.first s.parent s.hidden (take s.count cs) (n.ch ∷ [])
-    ∙ (λ i. typed s.first s.parent s.hidden (take s.count cs) ++ record { id = (ap (later s.first) many ∙ sym id) i; parent = last i; ch = n.ch; hidden = mark i } ∷ [])
+    ∙ typed-append s.first s.parent s.hidden (take s.count cs) more
+    ∙ (λ i. typed s.first s.parent s.hidden (take s.count cs) ++ typed (later s.first (count i)) (last i) (marks i) more)
 
 marked : (b : Bool) → is_odd (cond b 1 0) ≡ b
 marked true = refl

@@ -2,27 +2,20 @@
 use Rattle.std.proofs.Common.{◌≡◌, ℕ, zero, suc, ◌<◌, ◌+◌, ◌*◌, ◌/◌, ◌^◌, Bool, true, false, cond, not, ◌||◌, List, [], ◌∷◌, ◌++◌, length, take, drop, Some, refl, sym, ap, ◌∙◌, arith}
 use Rattle.std.specs.Prelude.{slice_get, set, get_or, filter}
 use Rattle.rga_tree.specs.Spot.{seen}
-use Rattle.std.specs.declared.cmp.Ordering.TheVariants.{Less}
-use Rattle.std.specs.Ordering.{nat_cmp, ordering_then, is_lt}
-use Rattle.std.specs.Cmp.{nat_cmp_is}
+use Rattle.std.specs.Ordering.{is_lt}
 use Rattle.std.specs.List.{prefix_len}
 use Rattle.bg_types.specs.Identifier.{Identifier, id_cmp, same_id}
 use Rattle.bg_types.specs.declared.op.Place.{Place}
 use Rattle.bg_types.specs.declared.op.Place.TheVariants.{After}
 use Rattle.bg_types.proofs.Interface.{id_cmp-total, same_id-is, same_id-itself}
 use Rattle.rga_tree.specs.declared.element.Element.{Element}
-use Rattle.rga_tree.proofs.Interface.{less_of}
+use Rattle.rga_tree.proofs.Interface.{later-apart, later-less, less_of, run_of}
+pub use Rattle.rga_tree.proofs.Interface.{later-more, later-none}
 use Rattle.rga_sequence.specs.BlockRows.{has}
 use Rattle.rga_sequence.proofs.Members.{until}
 use Rattle.rga_sequence.proofs.Passing.{is_greater}
 use Rattle.rga_runs.specs.Typed.{later, typed, parent_at, is_odd, bits_from, unset}
 use Rattle.rga_runs.proofs.Bits.{twice, odd_up, half_up, odd_more, half_more}
-
-pub later-more : (id : Identifier) (a b c : ℕ) → a + b ≡ c → later (later id a) b ≡ later id c
-later-more id a b c h = let e : id.counter + a + b ≡ id.counter + c = omega (arith, h) in ap (λ n. record id { counter = n }) e
-
-pub later-none : (id : Identifier) → later id 0 ≡ id
-later-none id = let e : id.counter + 0 ≡ id.counter = omega arith in ap (λ n. record id { counter = n }) e
 
 parent-more : (id : Identifier) (p : Place) (k : ℕ) → parent_at (later id 1) (After id) k ≡ parent_at id p (suc k)
 parent-more id p zero = λ i. After (sym (later-none id) i)
@@ -39,6 +32,11 @@ typed-get id p m (c ∷ cs) zero d w = λ i. Some (record { id = sym (later-none
 typed-get id p m (c ∷ cs) (suc k) d w =
     let more = later-more id 1 k (suc k) (omega arith) in
     typed-get (later id 1) (After id) (m / 2) cs k d (omega arith) ∙ (λ i. Some (record { id = more i; parent = parent-more id p k i; ch = get_or cs k d; hidden = is_odd (bits_from (suc k) m) }))
+
+-- of which none is hidden
+pub typed-run : (id : Identifier) (p : Place) (cs : List ℕ) → typed id p 0 cs ≡ run_of id p cs
+typed-run id p [] = refl
+typed-run id p (c ∷ cs) = ap (λ es. record { id = id; parent = p; ch = c; hidden = false } ∷ es) (typed-run (later id 1) (After id) cs)
 
 -- parted
 
@@ -65,12 +63,6 @@ typed-append id p m (c ∷ cs) ds =
 
 -- which identifiers they have
 
-later-apart : (id : Identifier) (k : ℕ) → same_id (later id (suc k)) id ≡ false
-later-apart id k = by_test (same_id (later id (suc k)) id) refl where
-  by_test : (b : Bool) → same_id (later id (suc k)) id ≡ b → same_id (later id (suc k)) id ≡ false
-  by_test true is = let same : id.counter + suc k ≡ id.counter = ap (λ (q : Identifier). q.counter) (same_id-is (later id (suc k)) id is) in absurd (omega (arith, same))
-  by_test false is = is
-
 pub typed-until : (id : Identifier) (p : Place) (m : ℕ) (cs : List ℕ) (k : ℕ) → k < length cs → until (later id k) (typed id p m cs) ≡ k
 typed-until id p m [] k w = absurd (omega arith)
 typed-until id p m (c ∷ cs) zero w = ap (λ q. until q (typed id p m (c ∷ cs))) (later-none id) ∙ ap (λ b. cond (not b) (1 + until id (typed (later id 1) (After id) (m / 2) cs)) 0) (same_id-itself id)
@@ -89,9 +81,6 @@ typed-outside q id p m (c ∷ cs) out =
       by_test false is rest = ap (λ b. b || has q (typed (later id 1) (After id) (m / 2) cs)) is ∙ rest
 
 -- they rise
-
-pub later-less : (id : Identifier) → id_cmp id (later id 1) ≡ Less
-later-less id = let up : id.counter < id.counter + 1 = omega arith in ap (λ o. ordering_then o (nat_cmp id.site id.site)) (sym (nat_cmp_is id.counter (id.counter + 1) Less up))
 
 pub typed-greater : (q id : Identifier) (p : Place) (m : ℕ) (cs : List ℕ) → is_lt (id_cmp q id) ≡ true → prefix_len (is_greater q) (typed id p m cs) ≡ length cs
 typed-greater q id p m [] lt = refl

@@ -15,14 +15,14 @@ pub record IsLone (new : Stretch) (id : Identifier) (parent : Place) (start : �
   pub parent_is : new.parent ≡ parent
   pub hidden_is : new.hidden ≡ (if hidden then 1 else 0)
 
--- it takes in one more character, which is visible
-pub record IsGrown (old new : Stretch) : Type 0 where
+-- it takes in m more characters, which are visible
+pub record IsGrown (old new : Stretch) (m : ℕ) : Type 0 where
   pub start : new.start ≡ old.start
-  pub count : new.count ≡ old.count + 1
+  pub count : new.count ≡ old.count + m
   pub first : new.first ≡ old.first
   pub parent : new.parent ≡ old.parent
   pub hidden : new.hidden ≡ old.hidden
-  pub visible : visible_of new ≡ visible_of old + 1
+  pub visible : visible_of new ≡ visible_of old + m
 
 -- its character k, which was visible, is hidden
 pub record IsHidden (old new : Stretch) (k : ℕ) : Type 0 where

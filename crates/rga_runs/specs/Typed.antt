@@ -4,10 +4,7 @@ use Rattle.bg_types.specs.Identifier.{Identifier}
 use Rattle.bg_types.specs.declared.op.Place.{Place}
 use Rattle.bg_types.specs.declared.op.Place.TheVariants.{After}
 use Rattle.rga_tree.specs.declared.element.Element.{Element}
-
--- the identifier that the site draws k counters later
-abbrev pub later : Identifier → ℕ → Identifier
-later id k = record id { counter = id.counter + k }
+pub use Rattle.rga_tree.specs.Run.{later}
 
 abbrev pub is_odd : ℕ → Bool
 is_odd bits = nat_eq (bits % 2) 1

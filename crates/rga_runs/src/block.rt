@@ -76,20 +76,20 @@ impl Block {
         put_in(&mut self.stretches, j, new);
     }
 
-    /// Lets a stretch take in one more character.
-    pub fn grow(&mut self, j: usize)
+    /// Lets a stretch take in more characters.
+    pub fn grow(&mut self, j: usize, more: usize)
         requires there { j < length self.old.stretches.items }
-        requires counter { (d : Kept) → let s = get_or self.old.stretches.items j d in s.first.counter + s.count < 2 ^ 32 }
-        requires place { (d : Kept) → let s = get_or self.old.stretches.items j d in s.start + s.count < 2 ^ 32 }
-        requires few { (d : Kept) → (get_or self.old.stretches.items j d).count < 24 }
+        requires counter { (d : Kept) → let s = get_or self.old.stretches.items j d in s.first.counter + s.count + more ≤ 2 ^ 32 }
+        requires place { (d : Kept) → let s = get_or self.old.stretches.items j d in s.start + s.count + more ≤ 2 ^ 32 }
+        requires few { (d : Kept) → (get_or self.old.stretches.items j d).count + more ≤ 24 }
         requires bits { (d : Kept) → let s = get_or self.old.stretches.items j d in bits_from s.count s.hidden ≡ 0 }
-        ensures items { (d : Kept) → (s : Kept) × IsGrown (get_or self.old.stretches.items j d) s
+        ensures items { (d : Kept) → (s : Kept) × IsGrown (get_or self.old.stretches.items j d) s more
             × (self.new.stretches.items ≡ slice_set self.old.stretches.items j s) }
         ensures number { self.new.number ≡ self.old.number }
     {
-        self.stretches[j].grow();
-        self.count += 1;
-        self.visible += 1;
+        self.stretches[j].grow(more);
+        self.count += more;
+        self.visible += more;
     }
 
     /// Hides character k of a stretch, which is visible.

@@ -1,21 +1,27 @@
 //! A row with a character more, and with one that is hidden.
 
-ghost use Rattle.std.specs.Prelude.{◌≡◌, ◌+◌, ◌^◌, ◌<◌, ◌≤◌, ◌++◌, ◌∷◌, ℕ, List, [], All, length, take, drop, get_or, insert, slice_set, slice_index_or, not, true, vec_len};
+ghost use Rattle.std.specs.Prelude.{◌≡◌, ◌+◌, ◌^◌, ◌<◌, ◌≤◌, ◌++◌, ◌∷◌, ℕ, List, [], All, length, take, drop, get_or, insert, slice_set, slice_index_or, not, true, vec_len, vec_capacity};
 ghost use Rattle.std.specs.Ordering.{is_lt};
+ghost use Rattle.std.specs.Str.{chars, IsUtf8};
+ghost use Rattle.std.specs.Str.Iter.{chars_rest};
 ghost use Rattle.std.specs.List.{prefix_len};
 ghost use Rattle.bg_types.specs.Identifier.{id_cmp, same_id};
 ghost use Rattle.bg_types.specs.declared.op.Place.TheVariants.{After};
 ghost use Rattle.rga_tree.specs.declared.element.Element.{Element};
-ghost use Rattle.rga_tree.specs.Row.{place_of};
+ghost use Rattle.rga_tree.specs.Row.{place_of, start_of};
 ghost use Rattle.rga_sequence.specs.Blocks.{joined};
 ghost use Rattle.rga_runs.specs.declared.stretch.Stretch.{Stretch as Kept};
+ghost use Rattle.rga_runs.specs.Typed.{later, typed};
 ghost use Rattle.rga_runs.specs.Stretches.{parts_in, elements_in, are_stored, visible_in, IsOutside, IsPlaced, AreApart};
 ghost use Rattle.rga_runs.specs.Blocks.{at_spot};
 ghost use Rattle.rga_runs.specs.BlockRows.{items_of};
 ghost use Rattle.rga_runs.specs.Indexed.{stretches_in, IsIndexed, HasRoom};
 
-use crate::row::{Row, grow, hide_character, part, passed_from, put_first, put_lone, spot};
+use crate::row::{
+    Row, grow, hide_character, part, passed_from, put_first, put_lone, room_behind, spot,
+};
 use bg_types::{Id, Place};
+use std::str::Chars;
 
 /// Places an element whose character is stored behind all others.
 pub fn put(row: &mut Row, id: Id, parent: Place, start: usize, hidden: bool)
@@ -141,10 +147,65 @@ fn put_at_spot(row: &mut Row, b: usize, j: usize, id: Id, parent: Place, start: 
     // Reading the identifier tells the proof that its counter fits.
     let _known = id.counter();
     if j > 0 && row.blocks[b].stretches[j - 1].goes_on(id, &parent, start, hidden) {
-        grow(row, b, j - 1);
+        grow(row, b, j - 1, 1);
     } else {
         put_lone(row, b, j, id, parent, start, hidden);
     }
+}
+
+/// Lets the stretch in which a character was put last take in those that are typed behind it, as many as it has room for, and
+/// answers how many those are. There is memory for all that are left.
+pub fn take_in(row: &mut Row, characters: &mut Vec<char>, last: Id, left: &mut Chars<'_>) -> usize
+    requires utf8 { IsUtf8 (chars_rest left.old) }
+    requires stored { are_stored (length characters.old.items) (stretches_in row.old) ≡ true }
+    requires new { (k : ℕ) → k < length (chars (chars_rest left.old)) → All (IsOutside (later last (k + 1))) (stretches_in row.old) }
+    requires counters { last.counter + length (chars (chars_rest left.old)) < 2 ^ 32 }
+    requires places { vec_len characters.old + length (chars (chars_rest left.old)) ≤ 2 ^ 32 }
+    requires memory { vec_len characters.old + length (chars (chars_rest left.old)) ≤ vec_capacity characters.old }
+    requires apart { AreApart (stretches_in row.old) }
+    requires indexed { IsIndexed row.old }
+    ensures within { result ≤ length (chars (chars_rest left.old)) }
+    ensures left { chars (chars_rest left.new) ≡ drop result (chars (chars_rest left.old)) }
+    ensures utf8 { IsUtf8 (chars_rest left.new) }
+    ensures characters { characters.new.items ≡ characters.old.items ++ take result (chars (chars_rest left.old)) }
+    ensures len { vec_len characters.new ≡ vec_len characters.old + result }
+    ensures capacity { vec_capacity characters.new ≡ vec_capacity characters.old }
+    ensures elements { let es = elements_in characters.old.items (stretches_in row.old) in let at = start_of (After last) es in
+        elements_in characters.new.items (stretches_in row.new)
+        ≡ take at es ++ (typed (later last 1) (After last) 0 (take result (chars (chars_rest left.old))) ++ drop at es) }
+    ensures stored { are_stored (length characters.new.items) (stretches_in row.new) ≡ true }
+    ensures indexed { IsIndexed row.new }
+    ensures room { (n : ℕ) → HasRoom row.old n → HasRoom row.new n }
+{
+    match room_behind(row, last, characters.len()) {
+        Some((b, j, most)) => {
+            let more = store(characters, left, most);
+            grow(row, b, j, more);
+            more
+        }
+        None => 0,
+    }
+}
+
+/// Stores characters behind the others, at most so many, and answers how many those are. There is memory for all that are left.
+fn store(characters: &mut Vec<char>, left: &mut Chars<'_>, most: usize) -> usize
+    requires utf8 { IsUtf8 (chars_rest left.old) }
+    requires memory { vec_len characters.old + length (chars (chars_rest left.old)) ≤ vec_capacity characters.old }
+    ensures most { result ≤ most }
+    ensures within { result ≤ length (chars (chars_rest left.old)) }
+    ensures left { chars (chars_rest left.new) ≡ drop result (chars (chars_rest left.old)) }
+    ensures utf8 { IsUtf8 (chars_rest left.new) }
+    ensures items { characters.new.items ≡ characters.old.items ++ take result (chars (chars_rest left.old)) }
+    ensures len { vec_len characters.new ≡ vec_len characters.old + result }
+    ensures capacity { vec_capacity characters.new ≡ vec_capacity characters.old }
+{
+    for stored in 0..most {
+        match left.next() {
+            Some(ch) => characters.push_reserved(ch),
+            None => return stored,
+        }
+    }
+    most
 }
 
 /// Hides an element, and returns how many fewer are visible.

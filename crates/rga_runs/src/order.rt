@@ -43,21 +43,21 @@ pub fn put_at(
     blocks[q].insert(at, id, parent, start, hidden);
 }
 
-/// Lets a stretch of block q take in one more character.
-pub fn grow_at(blocks: &mut Vec<Block>, q: usize, at: usize)
+/// Lets a stretch of block q take in more characters.
+pub fn grow_at(blocks: &mut Vec<Block>, q: usize, at: usize, more: usize)
     requires block { q < vec_len blocks.old }
     requires within { at < length (get_or (items_of blocks.old.items) q []) }
-    requires counter { (d : Kept) → let s = get_or (get_or (items_of blocks.old.items) q []) at d in s.first.counter + s.count < 2 ^ 32 }
-    requires place { (d : Kept) → let s = get_or (get_or (items_of blocks.old.items) q []) at d in s.start + s.count < 2 ^ 32 }
-    requires few { (d : Kept) → (get_or (get_or (items_of blocks.old.items) q []) at d).count < 24 }
+    requires counter { (d : Kept) → let s = get_or (get_or (items_of blocks.old.items) q []) at d in s.first.counter + s.count + more ≤ 2 ^ 32 }
+    requires place { (d : Kept) → let s = get_or (get_or (items_of blocks.old.items) q []) at d in s.start + s.count + more ≤ 2 ^ 32 }
+    requires few { (d : Kept) → (get_or (get_or (items_of blocks.old.items) q []) at d).count + more ≤ 24 }
     requires bits { (d : Kept) → let s = get_or (get_or (items_of blocks.old.items) q []) at d in bits_from s.count s.hidden ≡ 0 }
-    ensures items { (d : Kept) → let x = get_or (items_of blocks.old.items) q [] in (s : Kept) × IsGrown (get_or x at d) s
+    ensures items { (d : Kept) → let x = get_or (items_of blocks.old.items) q [] in (s : Kept) × IsGrown (get_or x at d) s more
         × (items_of blocks.new.items ≡ slice_set (items_of blocks.old.items) q (slice_set x at s)) }
     ensures numbers { numbers_of blocks.new.items ≡ numbers_of blocks.old.items }
     ensures len { vec_len blocks.new ≡ vec_len blocks.old }
     ensures capacity { vec_capacity blocks.new ≡ vec_capacity blocks.old }
 {
-    blocks[q].grow(at);
+    blocks[q].grow(at, more);
 }
 
 /// Hides character k of a stretch of block q, which is visible.

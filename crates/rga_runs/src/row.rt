@@ -63,6 +63,23 @@ fn spot_in(row: &Row, b: usize, j: usize, id: Id) -> Option<(usize, usize, usize
     Some((b, j, k))
 }
 
+/// The stretch in which a character was put last, its block and how many more it takes in behind that, where the character is
+/// stored last and is its last one.
+pub fn room_behind(row: &Row, last: Id, end: usize) -> Option<(usize, usize, usize)>
+    ensures block { IfSome result (λ s. s.0 < vec_len row.now.blocks) }
+    ensures within { IfSome result (λ s. s.1 < length (get_or (items_of row.now.blocks.items) s.0 [])) }
+    ensures last { IfSome result (λ s. (d : Kept) → let t = get_or (get_or (items_of row.now.blocks.items) s.0 []) s.1 d in last ≡ later t.first (t.count - 1)) }
+    ensures end { IfSome result (λ s. (d : Kept) → let t = get_or (get_or (items_of row.now.blocks.items) s.0 []) s.1 d in end ≡ t.start + t.count) }
+    ensures few { IfSome result (λ s. (d : Kept) → (get_or (get_or (items_of row.now.blocks.items) s.0 []) s.1 d).count + s.2 ≤ 24) }
+    ensures bits { IfSome result (λ s. (d : Kept) → let t = get_or (get_or (items_of row.now.blocks.items) s.0 []) s.1 d in bits_from t.count t.hidden ≡ 0) }
+{
+    let (b, j) = row.recent;
+    let block = row.blocks.get(b)?;
+    let stretch = block.stretches.get(j)?;
+    let most = stretch.room_behind(last, end)?;
+    Some((b, j, most))
+}
+
 /// The same by the keys: an identifier that isn't of the stretch to which its key leads stands nowhere.
 #[inline(never)]
 fn keyed_spot(row: &Row, id: Id) -> Option<(usize, usize, usize)>
@@ -223,22 +240,22 @@ pub fn part(row: &mut Row, b: usize, j: usize, k: usize) -> (usize, usize)
     (q, at)
 }
 
-/// Lets stretch j of block b take in the character behind its last one.
-pub fn grow(row: &mut Row, b: usize, j: usize)
+/// Lets stretch j of block b take in the characters behind its last one.
+pub fn grow(row: &mut Row, b: usize, j: usize, more: usize)
     requires block { b < vec_len row.old.blocks }
     requires within { j < length (get_or (items_of row.old.blocks.items) b []) }
-    requires new { (d : Kept) → let s = get_or (get_or (items_of row.old.blocks.items) b []) j d in All (IsOutside (later s.first s.count)) (stretches_in row.old) }
-    requires counter { (d : Kept) → let s = get_or (get_or (items_of row.old.blocks.items) b []) j d in s.first.counter + s.count < 2 ^ 32 }
-    requires place { (d : Kept) → let s = get_or (get_or (items_of row.old.blocks.items) b []) j d in s.start + s.count < 2 ^ 32 }
-    requires few { (d : Kept) → (get_or (get_or (items_of row.old.blocks.items) b []) j d).count < 24 }
+    requires new { (d : Kept) → let s = get_or (get_or (items_of row.old.blocks.items) b []) j d in (k : ℕ) → k < more → All (IsOutside (later s.first (s.count + k))) (stretches_in row.old) }
+    requires counter { (d : Kept) → let s = get_or (get_or (items_of row.old.blocks.items) b []) j d in s.first.counter + s.count + more ≤ 2 ^ 32 }
+    requires place { (d : Kept) → let s = get_or (get_or (items_of row.old.blocks.items) b []) j d in s.start + s.count + more ≤ 2 ^ 32 }
+    requires few { (d : Kept) → (get_or (get_or (items_of row.old.blocks.items) b []) j d).count + more ≤ 24 }
     requires bits { (d : Kept) → let s = get_or (get_or (items_of row.old.blocks.items) b []) j d in bits_from s.count s.hidden ≡ 0 }
     requires indexed { IsIndexed row.old }
-    ensures row { (d : Kept) → let p = at_spot (items_of row.old.blocks.items) b j in (s : Kept) × IsGrown (get_or (stretches_in row.old) p d) s
+    ensures row { (d : Kept) → let p = at_spot (items_of row.old.blocks.items) b j in (s : Kept) × IsGrown (get_or (stretches_in row.old) p d) s more
         × (stretches_in row.new ≡ slice_set (stretches_in row.old) p s) }
     ensures indexed { IsIndexed row.new }
     ensures room { (n : ℕ) → HasRoom row.old n → HasRoom row.new n }
 {
-    grow_at(&mut row.blocks, b, j);
+    grow_at(&mut row.blocks, b, j, more);
     row.recent = (b, j);
 }
 

@@ -1,9 +1,11 @@
 //! The sequence in stretches.
 
-ghost use Rattle.std.specs.Prelude.{◌≡◌, ◌+◌, ◌*◌, ◌^◌, ◌<◌, ◌≤◌, true, false, length, get_or, [], slice_get, Some, IsOk, OnOk, OnErr, vec_len, vec_capacity};
+ghost use Rattle.std.specs.Prelude.{◌≡◌, ◌+◌, ◌*◌, ◌^◌, ◌<◌, ◌≤◌, true, false, length, get_or, take, drop, ◌∷◌, [], slice_get, Some, IsOk, OnOk, OnErr, vec_len, vec_capacity};
 ghost use Rattle.std.proofs.Common.{◌∙◌};
 ghost use Rattle.std.specs.FinMap as map;
 ghost use Rattle.std.specs.Option.{option_map};
+ghost use Rattle.std.specs.Str.{chars, IsUtf8};
+ghost use Rattle.std.specs.Str.Iter.{chars_rest};
 ghost use Rattle.bg_types.specs.WellFormed.{MayFollow};
 ghost use Rattle.bg_types.specs.OperationSet.{no_operations, with_operation, AllWellFormed};
 ghost use Rattle.bg_types.specs.declared.op.OpView.{OpView};
@@ -12,6 +14,7 @@ ghost use Rattle.rga_tree.specs.declared.element.Element.{Element};
 ghost use Rattle.rga_tree.specs.TextOf.{visible, visible_ids, visible_before, text};
 ghost use Rattle.rga_tree.specs.Tree.{stands_in};
 ghost use Rattle.rga_tree.specs.Elements.{elements, element_of, with_element};
+ghost use Rattle.rga_tree.specs.Run.{insertions, with_operations, AreNew};
 ghost use Rattle.rga_tree.specs.Spot.{IsVisiblePlace};
 ghost use Rattle.rga_tree.specs.Row.{operations_of};
 ghost use Rattle.rga_tree.specs.KeepsWalk.{KeepsWalk, KeepsWalk-prop};
@@ -23,7 +26,7 @@ ghost use Rattle.rga_runs.specs.BlockRows.{items_of};
 ghost use Rattle.rga_runs.specs.Whole.{whole_parts};
 ghost use Rattle.rga_runs.specs.Indexed.{stretches_in, IsIndexed, IsIndexed-prop, HasRoom, HasRoom-prop};
 
-use crate::change::{hide, put};
+use crate::change::{hide, put, take_in};
 use crate::cut::FULL;
 use crate::keys;
 use crate::read::{count_before, nth_spot, visible_spot};
@@ -33,6 +36,7 @@ use crate::stretch::weight;
 use bg_types::{Id, Memory, Place};
 use rga_tree::{Element, Fresh, Sequence, Unpacked};
 use std::alloc::Global;
+use std::str::Chars;
 
 /// How many characters there are at most: more than any desk keeps. So a stretch has its place among them in 32 bits.
 const MOST: usize = 4_294_967_296;
@@ -84,6 +88,33 @@ impl Runs {
             room: 0,
             highest: 0,
         }
+    }
+
+    /// Places a character, and behind it those that are left, as many as its stretch has room for, and answers how many
+    /// those are.
+    fn place_stretch(&mut self, id: Id, parent: Place, ch: char, left: &mut Chars<'_>) -> usize
+        requires utf8 { IsUtf8 (chars_rest left.old) }
+        requires parent { stands_in (⟦<Runs as Sequence>⟧.content self.old) parent ≡ true }
+        requires before { MayFollow parent id }
+        requires new { AreNew (⟦<Runs as Sequence>⟧.content self.old) id (length (chars (chars_rest left.old)) + 1) }
+        requires counters { id.counter + length (chars (chars_rest left.old)) < 2 ^ 32 }
+        requires room { length (chars (chars_rest left.old)) + 1 ≤ ⟦<Runs as Sequence>⟧.free self.old }
+        ensures within { result ≤ length (chars (chars_rest left.old)) }
+        ensures left { chars (chars_rest left.new) ≡ drop result (chars (chars_rest left.old)) }
+        ensures utf8 { IsUtf8 (chars_rest left.new) }
+        ensures content { ⟦<Runs as Sequence>⟧.content self.new ≡ with_operations (⟦<Runs as Sequence>⟧.content self.old)
+            (insertions id parent (ch ∷ take result (chars (chars_rest left.old)))) }
+        ensures room { ⟦<Runs as Sequence>⟧.free self.new + (result + 1) ≡ ⟦<Runs as Sequence>⟧.free self.old }
+    {
+        // Reading the identifier tells the proof that it is well formed.
+        let known = id.counter();
+        put(&mut self.row, id, parent, self.characters.len(), false);
+        self.characters.push_reserved(ch);
+        let more = take_in(&mut self.row, &mut self.characters, id, left);
+        self.visible += 1 + more;
+        self.room -= 1 + more;
+        self.highest = self.highest.max(known + more as u32);
+        more
     }
 
     /// Visible element k.
@@ -146,6 +177,18 @@ impl Sequence for Runs {
         self.visible += weight(hidden);
         self.room -= 1;
         self.highest = self.highest.max(known);
+    }
+
+    fn place_run(&mut self, first: Id, parent: Place, characters: &str) {
+        let mut counter = first.counter() - 1;
+        let mut parent = parent;
+        let mut left = characters.chars();
+        while let Some(ch) = left.next() {
+            let id = Id::new(counter + 1, first.site()).unwrap();
+            counter += 1 + self.place_stretch(id, parent, ch, &mut left) as u32;
+            let last = Id::new(counter, first.site()).unwrap();
+            parent = Place::After(last);
+        }
     }
 
     fn hide(&mut self, id: Id) {

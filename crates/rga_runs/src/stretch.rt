@@ -217,6 +217,19 @@ impl Stretch {
         }
     }
 
+    /// How many more characters it takes in behind one that is stored last, where that is its last one.
+    pub fn room_behind(&self, last: Id, end: usize) -> Option<usize>
+        ensures last { IfSome result (λ n. last ≡ later self.now.first (self.now.count - 1)) }
+        ensures end { IfSome result (λ n. end ≡ self.now.start + self.now.count) }
+        ensures few { IfSome result (λ n. self.now.count + n ≤ 24) }
+        ensures bits { IfSome result (λ n. bits_from self.now.count self.now.hidden ≡ 0) }
+    {
+        if end != self.end() || self.marks_behind() || !self.ends_in(last) {
+            return None;
+        }
+        Some(LONG - self.len())
+    }
+
     /// Whether a bit is set that is of no character. One may be, where it was parted.
     fn marks_behind(&self) -> bool
         requires { self.now.count < 32 }
@@ -246,20 +259,20 @@ impl Stretch {
         self.first.counter() as usize + self.len()
     }
 
-    /// Takes in one more character, which is visible.
-    pub fn grow(&mut self)
-        requires counter { self.old.first.counter + self.old.count < 2 ^ 32 }
-        requires place { self.old.start + self.old.count < 2 ^ 32 }
-        requires few { self.old.count < 24 }
+    /// Takes in more characters, which are visible.
+    pub fn grow(&mut self, more: usize)
+        requires counter { self.old.first.counter + self.old.count + more ≤ 2 ^ 32 }
+        requires place { self.old.start + self.old.count + more ≤ 2 ^ 32 }
+        requires few { self.old.count + more ≤ 24 }
         requires bits { bits_from self.old.count self.old.hidden ≡ 0 }
         ensures start { self.new.start ≡ self.old.start }
-        ensures count { self.new.count ≡ self.old.count + 1 }
+        ensures count { self.new.count ≡ self.old.count + more }
         ensures first { self.new.first ≡ self.old.first }
         ensures parent { self.new.parent ≡ self.old.parent }
         ensures hidden { self.new.hidden ≡ self.old.hidden }
-        ensures visible { visible_of self.new ≡ visible_of self.old + 1 }
+        ensures visible { visible_of self.new ≡ visible_of self.old + more }
     {
-        self.count += 1;
+        self.count += more as u8;
     }
 
     /// Hides character k, which is visible.

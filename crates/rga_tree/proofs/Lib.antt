@@ -9,6 +9,7 @@ pub mod SetSteps
 pub mod RowPlaces
 pub mod RowSets
 pub mod Placing
+pub mod RunSteps
 pub mod Hiding
 pub mod Seen
 pub mod VisiblePlaces
@@ -25,6 +26,7 @@ pub mod OneOrder
 pub mod Below
 pub mod Runs
 pub mod Siblings
+pub mod RunRows
 pub mod TypedPlace
 pub mod LeafWalk
 pub mod Taken

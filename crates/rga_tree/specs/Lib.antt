@@ -13,3 +13,4 @@ pub mod Leaf
 pub mod Parts
 pub mod Order
 pub mod Stretch
+pub mod Run

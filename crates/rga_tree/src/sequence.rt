@@ -1,9 +1,10 @@
 //! Sequences: the elements of a tree in the order of its walk.
 
-ghost use Rattle.std.specs.Prelude.{◌≡◌, ◌<◌, ◌≤◌, ◌+◌, ◌++◌, ℕ, List, [], length, get_or, slice_get, true, false, Some, IsTrue, IsOk, OnOk, OnErr, IfOk, string_bytes, encode_utf8_all};
+ghost use Rattle.std.specs.Prelude.{◌≡◌, ◌<◌, ◌≤◌, ◌+◌, ◌^◌, ◌++◌, ℕ, List, [], length, get_or, slice_get, true, false, Some, IsTrue, IsOk, OnOk, OnErr, IfOk, string_bytes, encode_utf8_all};
 ghost use Rattle.std.specs.List.{flat_map};
 ghost use Rattle.std.specs.Option.{option_map};
 ghost use Rattle.std.specs.FinMap as map;
+ghost use Rattle.std.specs.Str.{chars};
 ghost use Rattle.bg_types.specs.OperationSet.{OperationSet, with_operation, no_operations, AllWellFormed};
 ghost use Rattle.bg_types.specs.WellFormed.{MayFollow};
 ghost use Rattle.bg_types.specs.declared.op.OpView.{OpView};
@@ -12,6 +13,7 @@ ghost use Rattle.rga_tree.specs.declared.element.Element.{Element};
 ghost use Rattle.rga_tree.specs.TextOf.{visible, visible_ids, visible_before, text};
 ghost use Rattle.rga_tree.specs.Tree.{stands_in, IsTree, OnlyErasesPlaced};
 ghost use Rattle.rga_tree.specs.Elements.{elements, element_of, with_element};
+ghost use Rattle.rga_tree.specs.Run.{insertions, with_operations, AreNew};
 ghost use Rattle.rga_tree.specs.Spot.{IsVisiblePlace};
 
 use crate::element::{Element, Unpacked};
@@ -64,6 +66,31 @@ pub trait Sequence {
             (record { id = id; parent = parent; ch = ch; hidden = hidden }) }
         ensures room { free self.new + 1 ≡ free self.old }
         ensures looked { looked self.new ≡ looked self.old };
+
+    /// Places a run: the first character below its parent, which is the root or already placed, with this identifier, and each
+    /// further one below the one before, with the next counter. All are visible. Takes no memory, and uses up a placing of
+    /// the room for each.
+    /// Cost: a `place` for each character; `Runs`: one for 24.
+    fn place_run(&mut self, first: Id, parent: Place, characters: &str)
+        requires parent { stands_in (content self.old) parent ≡ true }
+        requires before { MayFollow parent first }
+        requires new { AreNew (content self.old) first (length (chars characters.now)) }
+        requires counters { first.counter + length (chars characters.now) ≤ 2 ^ 32 }
+        requires room { length (chars characters.now) ≤ free self.old }
+        ensures content { content self.new ≡ with_operations (content self.old) (insertions first parent (chars characters.now)) }
+        ensures room { free self.new + length (chars characters.now) ≡ free self.old }
+        ensures looked { looked self.new ≡ looked self.old }
+    {
+        let mut counter = first.counter() - 1;
+        let mut parent = parent;
+        let mut left = characters.chars();
+        while let Some(ch) = left.next() {
+            counter += 1;
+            let id = Id::new(counter, first.site()).unwrap();
+            self.place(id, parent, ch, false);
+            parent = Place::After(id);
+        }
+    }
 
     /// Hides a placed element, which may be hidden already. It stays where it is.
     /// Cost: `Blocks`: O(512), O(1) where the element was put in last; `Plain`: O(n).

@@ -58,9 +58,9 @@ fn encode_shown(row: &[Element], bytes: &mut [u8]) -> usize
     end
 }
 
-/// Puts a character at a place, and answers where it ends.
+/// Puts the bytes of a character at a place, behind which there is room for 4, and answers where they end.
 #[inline(always)]
-fn put_char(ch: char, bytes: &mut [u8], at: usize) -> usize
+pub fn put_char(ch: char, bytes: &mut [u8], at: usize) -> usize
     requires { at + 4 ≤ length bytes.old }
     ensures end { result ≤ at + 4 }
     ensures bytes { take result bytes.new ≡ take at bytes.old ++ encode_utf8 ch }

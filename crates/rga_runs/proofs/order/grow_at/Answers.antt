@@ -16,7 +16,7 @@ returns-clause-items c = λ d.
     let old = c.index_mut.result.now in
     let here = items_at bs.items q old (omega (arith, c.requires.block, bs.ok)) c.index_mut.ensures.value in
     let e = c.grow.ensures.items d in
-    (e.0, subst (λ (x : List Stretch). IsGrown (get_or x c.args.at d) e.0) (sym here) e.1, map-set (λ (b : Block). b.stretches.items) bs.items q c.grow.new.self ∙ ap (set (items_of bs.items) q) (e.2 ∙ ap (λ (x : List Stretch). set x c.args.at e.0) (sym here)))
+    (e.0, subst (λ (x : List Stretch). IsGrown (get_or x c.args.at d) e.0 c.args.more) (sym here) e.1, map-set (λ (b : Block). b.stretches.items) bs.items q c.grow.new.self ∙ ap (set (items_of bs.items) q) (e.2 ∙ ap (λ (x : List Stretch). set x c.args.at e.0) (sym here)))
 
 pub returns-clause-numbers : goal.returns-clause-numbers
 returns-clause-numbers c =

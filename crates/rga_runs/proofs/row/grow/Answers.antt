@@ -1,5 +1,5 @@
 -- The goal of `grow` that is answered by hand.
-use Rattle.std.proofs.Common.{◌≡◌, ℕ, ◌<◌, ◌∙◌, [], sym, ap, subst, length, get_or, arith}
+use Rattle.std.proofs.Common.{◌≡◌, ℕ, ◌<◌, ◌+◌, ◌∙◌, [], sym, ap, subst, length, get_or, arith}
 use Rattle.std.specs.Prelude.{All, set, slice_get}
 use Rattle.std.proofs.lemmas.List.Elements.{All-set}
 use Rattle.bg_types.specs.Identifier.{Identifier}
@@ -41,11 +41,13 @@ returns c =
     let look = look_in (keys_in r.keys) in
     let item = λ (z : Stretch). get_or_row xs b j z there c.requires.within in
     let old = get_or x j d in
-    let end = later old.first old.count in
-    let none : (f : Identifier) (m : ℕ) → look end ≡ told f m → f ≡ end → ⊥ = λ f m found same. was.known end f m (c.requires.counter d) found (subst (λ z. All (IsOutside z) (row_of xs)) (sym same) (c.requires.new d)) in
-    let own : IsHome look (get_or ns b 0) s = home_grown (keys_in r.keys) (get_or ns b 0) old s is.first is.count (c.requires.counter d) none (was.homes b there j d c.requires.within) in
+    let more = c.args.more in
+    let fits = c.requires.counter d in
+    let none : (k : ℕ) → k < more → (f : Identifier) (m : ℕ) → look (later old.first (old.count + k)) ≡ told f m → f ≡ later old.first (old.count + k) → ⊥ =
+    λ k few f m found same. was.known (later old.first (old.count + k)) f m (omega (arith, fits, few)) found (subst (λ z. All (IsOutside z) (row_of xs)) (sym same) (c.requires.new d k few)) in
+    let own : IsHome look (get_or ns b 0) s = home_grown (keys_in r.keys) (get_or ns b 0) old s more is.first is.count fits none (was.homes b there j d c.requires.within) in
     record {
-      row = λ d2. (s, subst (λ (z : Stretch). IsGrown z s) (any_item x j d d2 c.requires.within ∙ sym (item d2)) is, row_is);
+      row = λ d2. (s, subst (λ (z : Stretch). IsGrown z s more) (any_item x j d d2 c.requires.within ∙ sym (item d2)) is, row_is);
       indexed = record {
         homes = subst (λ ys. AreHome look ys (numbers_of new)) (sym e.2) (subst (AreHome look (set xs b (set x j s))) (sym c.grow_at.ensures.numbers)
             (homes_set look xs ns b (set x j s) there was.homes (All-set (IsHome look (get_or ns b 0)) x j s own (was.homes b there))));

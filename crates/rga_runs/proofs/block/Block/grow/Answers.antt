@@ -9,10 +9,10 @@ use Rattle.rga_runs.proofs.block.Block.grow.Goals as goal
 use Rattle.rga_runs.specs.Stretches.{visible_of}
 
 pub overflow_add-self : goal.overflow_add-self
-overflow_add-self c = let is = c.args.self.now.counted in let few = c.args.self.now.few in omega (arith, is, few_counted c.args.self.now.stretches.items, few, c.args.self.now.stretches.ok)
+overflow_add-self c = let is = c.args.self.now.counted in let few = c.args.self.now.few in omega (arith, is, few_counted c.args.self.now.stretches.items, few, c.args.self.now.stretches.ok, c.requires.few c.index_mut.result.now)
 
 pub overflow_add-self-2 : goal.overflow_add-self-2
-overflow_add-self-2 c = let is = c.args.self.now.visible_are in let few = c.args.self.now.few in omega (arith, is, few_visible c.args.self.now.stretches.items, few, c.args.self.now.stretches.ok)
+overflow_add-self-2 c = let is = c.args.self.now.visible_are in let few = c.args.self.now.few in omega (arith, is, few_visible c.args.self.now.stretches.items, few, c.args.self.now.stretches.ok, c.requires.few c.index_mut.result.now)
 
 pub invariant_of-self-clause-counted : goal.invariant_of-self-clause-counted
 invariant_of-self-clause-counted c =
@@ -43,5 +43,5 @@ returns-clause-items c = λ d.
     let old = c.index_mut.result.now in
     let new = c.grow.new.self in
     let e = c.grow.ensures in
-    let is : IsGrown old new = record { start = e.start; count = e.count; first = e.first; parent = e.parent; hidden = e.hidden; visible = e.visible } in
-    (new, subst (λ (s : Stretch). IsGrown s new) (item_is ss c.args.j old d c.requires.there c.index_mut.ensures.value) is, refl)
+    let is : IsGrown old new c.args.more = record { start = e.start; count = e.count; first = e.first; parent = e.parent; hidden = e.hidden; visible = e.visible } in
+    (new, subst (λ (s : Stretch). IsGrown s new c.args.more) (item_is ss c.args.j old d c.requires.there c.index_mut.ensures.value) is, refl)
