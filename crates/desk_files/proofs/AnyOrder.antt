@@ -50,7 +50,7 @@ same_node m n = elim (same_place m.parent n.parent) [
   | inr apart ↦ inr (λ e. apart (ap (λ (x : Node). x.parent) e))
 ]
 
-abbrev Stands : OperationSet → OpView → Type 0
+abbrev pub Stands : OperationSet → OpView → Type 0
 Stands s op = ReusesIdentifier s op ⊎ (Holds s op ⊎ (MayJoin s op × ¬ (Holds s op)))
 
 insertion_stands : (s : OperationSet) (id : Identifier) (parent : Place) (ch : ℕ) (found : Option Node) → map.get s.ins id ≡ found → Stands s (Insert id parent ch)
@@ -63,7 +63,7 @@ insertion_stands s id parent ch (Some kept) e = elim (same_node kept (record { p
   | inr apart ↦ inl (kept, e, apart)
 ]
 
-stands : (s : OperationSet) (op : OpView) → Stands s op
+pub stands : (s : OperationSet) (op : OpView) → Stands s op
 stands s (Insert id parent ch) = insertion_stands s id parent ch (map.get s.ins id) refl
 stands s (Erase target) = elim (cases_Bool (set.contains s.del target)) [
   | inl held ↦ inr (inl held)

@@ -7,6 +7,7 @@ pub mod HandedOn
 pub mod Readings
 pub mod Taking
 pub mod AnyOrder
+pub mod InOrder
 pub mod Answered
 pub mod OneCause
 pub mod Decided

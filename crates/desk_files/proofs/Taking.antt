@@ -7,26 +7,16 @@ use Rattle.std.specs.FinSet as set
 use Rattle.bg_types.specs.Identifier.{id_cmp}
 use Rattle.bg_types.specs.OperationSet.{Node, OperationSet, Holds, MayJoin, with_operation, no_operations, size}
 use Rattle.bg_types.specs.declared.op.OpView.{OpView}
-use Rattle.bg_types.specs.declared.op.OpView.TheVariants.{Insert, Erase}
-use Rattle.desk_replica.specs.declared.answer.Taken.{Taken}
-use Rattle.desk_replica.specs.declared.answer.Taken.TheVariants.{Known, Placed, Hidden, Held}
 use Rattle.desk_replica.specs.declared.answer.TakeFault.{TakeFault}
 use Rattle.desk_replica.specs.declared.answer.TakeFault.TheVariants.{IdentifierReused, Full, Memory}
 use Rattle.desk_replica.specs.SetOf.{IsSetOf}
-use Rattle.desk_replica.specs.Reply.{IsTaken, IsRefusal, IsRefused}
+use Rattle.desk_replica.specs.Reply.{IsRefusal, IsRefused}
 use Rattle.desk_replica.specs.Refusal.{IsFirstRefusal}
 use Rattle.desk_files.specs.Taking.{HasTaken}
 use Rattle.desk_files.proofs.LowerLaws.{HoldsBoth}
-use Rattle.desk_files.proofs.Spelled.{take-push, split-at}
-use Rattle.bg_types.proofs.Interface.{Holds-may_join}
+use Rattle.desk_files.proofs.Spelled.{split-at}
 
 -- ---- what an answer says
-
-pub joins : (s : OperationSet) (op : OpView) (taken : Taken) → IsTaken s op taken → MayJoin s op
-joins s op Known h = Holds-may_join s op h
-joins s op (Placed n) h = h.0.joins
-joins s op Hidden h = h.0.joins
-joins s op Held h = h.0.joins
 
 pub nothing-limited : size no_operations ≤ 1_000_000
 nothing-limited = let ins = map.len-empty id_cmp Node in let del = set.len-empty id_cmp in omega (arith, ins, del)
@@ -55,13 +45,6 @@ IsSetOf-push holds ops op s h may x =
         | inr is ↦ joined.1 (inl (sym is))
       ],
     )
-
--- one more of the operations is taken
-pub IsSetOf-next : HoldsBoth → (before ops : List OpView) (i : ℕ) (op : OpView) (s t : OperationSet) → i < length ops → op ≡ get_or ops i op → IsSetOf (before ++ take i ops) s → MayJoin s op → t ≡ with_operation s op
-    → IsSetOf (before ++ take (i + 1) ops) t
-IsSetOf-next holds before ops i op s t lt is h may grown =
-    let list : (before ++ take i ops) ++ op ∷ [] ≡ before ++ take (i + 1) ops = append_assoc before (take i ops) (op ∷ []) ∙ ap (λ l. before ++ l) (sym (take-push ops i op lt is)) in
-    subst (λ l. IsSetOf l t) list (subst (IsSetOf ((before ++ take i ops) ++ op ∷ [])) (sym grown) (IsSetOf-push holds (before ++ take i ops) op s h may))
 
 -- an operation is refused after those before it were taken
 pub IsFirstRefusal-at : (before ops : List OpView) (i : ℕ) (op : OpView) (s : OperationSet) (fault : TakeFault) → i < length ops → op ≡ get_or ops i op → IsSetOf (before ++ take i ops) s → size s ≤ 1_000_000

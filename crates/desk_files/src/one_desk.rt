@@ -73,7 +73,7 @@ fn text_of(desk: &Desk) -> Result<String, RunFault>
 
 /// Lets a desk without operations take those of the files of all readers, one file after the other. A
 /// refusal is reported only once all files are read, since a faulty file is reported first.
-/// Cost: that of a `take` for each operation, memory likewise, and 20 bytes for each that waits since it came out of
+/// Cost: that of `Replica::take_all`, memory likewise, and 20 bytes for each operation that waits since it came out of
 /// order.
 pub fn take_files<R: Source>(
     alloc: Global,
@@ -246,10 +246,10 @@ fn take_all(desk: &mut Desk, ops: &[Op]) -> Result<(), TakeFault>
         → IfErr result (λ fault. (fault ≡ TakeFault.Memory) ⊎ IsFirstRefusal (before ++ ops.now) fault) }
 {
     sets::one_more_operation();
-    for op in ops {
-        desk.take(op)?;
+    match desk.take_all(ops) {
+        Ok(()) => Ok(()),
+        Err(stop) => Err(stop.fault),
     }
-    Ok(())
 }
 
 /// The fault of a run for a fault of a desk at the step of a line: lack of memory is the fault of no step.

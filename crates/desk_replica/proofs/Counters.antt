@@ -33,7 +33,7 @@ all_up m n (Insert id (After parent) ch) le h =
     All-cons (λ c. c < n) id.counter (parent.counter ∷ []) (omega arith) (All-cons (λ c. c < n) parent.counter [] (omega arith) (All-nil (λ c. c < n)))
 all_up m n (Erase target) le h = let a = named_first (Erase target) m h in All-cons (λ c. c < n) target.counter [] (omega arith) (All-nil (λ c. c < n))
 
-pub next-with : (s : OperationSet) (op : OpView) → MayJoin s op → IsWellFormed op → next (with_operation s op) ≡ max (next s) ((subject op).counter + 1)
+next-with : (s : OperationSet) (op : OpView) → MayJoin s op → IsWellFormed op → next (with_operation s op) ≡ max (next s) ((subject op).counter + 1)
 next-with s op may is =
     let n = max (next s) ((subject op).counter + 1) in
     let t = with_operation s op in

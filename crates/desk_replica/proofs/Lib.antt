@@ -41,4 +41,5 @@ pub mod WorldTyped
 pub mod Stretches
 pub mod Ranges
 pub mod Replacing
+pub mod InFront
 pub mod Listing

@@ -36,7 +36,7 @@ use Rattle.desk_replica.proofs.Stretches.{IsPlacedAll, text_stretch, typed_whole
 use Rattle.desk_replica.proofs.Typing.{parent_before}
 use Rattle.desk_replica.proofs.Whole.{contains-union, first_some}
 
-with_operations-append : (xs ys : List OpView) (s : OperationSet) → with_operations s (xs ++ ys) ≡ with_operations (with_operations s xs) ys
+pub with_operations-append : (xs ys : List OpView) (s : OperationSet) → with_operations s (xs ++ ys) ≡ with_operations (with_operations s xs) ys
 with_operations-append [] ys s = refl
 with_operations-append (x ∷ xs) ys s = with_operations-append xs ys _
 
@@ -124,7 +124,7 @@ module _ (s : OperationSet) (k n : ℕ) (well : AllWellFormed s) (within : k + n
 
 -- ---- in a desk
 
-next-part : (t h : OperationSet) → next t ≤ next (union t h)
+pub next-part : (t h : OperationSet) → next t ≤ next (union t h)
 next-part t h = next-least t (next (union t h)) (omega arith) (λ op kept. next-above (union t h) op (in_both op kept))
   where
     in_both : (op : OpView) → Holds t op → Holds (union t h) op

@@ -1,31 +1,32 @@
 -- Characters are typed, each behind the one before.
-use Rattle.std.proofs.Common.{◌≡◌, ◌≤◌, ◌<◌, ◌+◌, ◌^◌, ◌⊎◌, inl, inr, ℕ, zero, suc, false, true, cond, List, [], ◌∷◌, ◌++◌, length, take, drop, Some, refl, sym, ap, subst, ◌∙◌, append_assoc, is_some, arith}
-use Rattle.std.specs.Prelude.{All, slice_get, insert, encode_utf8, map as each}
+use Rattle.std.proofs.Common.{◌≡◌, ◌≤◌, ◌<◌, ◌+◌, ◌^◌, ◌⊎◌, inl, inr, ℕ, zero, suc, false, true, List, [], ◌∷◌, ◌++◌, length, take, drop, Some, refl, sym, ap, subst, ◌∙◌, append_assoc, is_some, arith}
+use Rattle.std.specs.Prelude.{All, slice_get, insert, encode_utf8_all, map as each}
 use Rattle.std.specs.Option.{option_map_or}
 use Rattle.std.specs.FinMap as map
 use Rattle.std.specs.List.{AllByRecursion}
 use Rattle.std.specs.Str.{chars, IsUtf8}
-use Rattle.std.proofs.lemmas.Str.{chars_past_char, chars-nil, IsUtf8-past_char}
-use Rattle.std.proofs.lemmas.List.{append-nil, take-append-drop}
+use Rattle.std.proofs.lemmas.Str.{encodes-chars}
+use Rattle.std.proofs.lemmas.List.{take-append-drop}
 use Rattle.std.proofs.lemmas.List.Elements.{All-nil, All-cons, All-head}
 use Rattle.bg_types.specs.Identifier.{Identifier}
 use Rattle.bg_types.specs.WellFormed.{IsWellFormed, MayFollow}
-use Rattle.bg_types.specs.OperationSet.{Node, OperationSet, Holds, MayJoin, AllWellFormed, named_counters, parent_counters, next, size, with_operation}
+use Rattle.bg_types.specs.OperationSet.{OperationSet, Holds, MayJoin, AllWellFormed, named_counters, parent_counters, next, size, with_operation}
 use Rattle.bg_types.specs.declared.op.Place.{Place}
 use Rattle.bg_types.specs.declared.op.Place.TheVariants.{Root, After}
 use Rattle.bg_types.specs.declared.op.OpView.{OpView}
 use Rattle.bg_types.specs.declared.op.OpView.TheVariants.{Insert}
-use Rattle.bg_types.proofs.Interface.{id_cmp-total, same_id-itself, next-above, next-least, Holds-with_operation, size-with_operation}
+use Rattle.bg_types.proofs.Interface.{next-above, next-least, Holds-with_operation, size-with_operation}
 use Rattle.rga_tree.specs.Tree.{stands_in}
 use Rattle.rga_tree.specs.TextOf.{text, visible, visible_ids}
-use Rattle.rga_tree.proofs.Interface.{Entry, AllWellFormed-with}
+use Rattle.rga_tree.specs.Run.{later, AreNew}
+use Rattle.rga_tree.proofs.Interface.{Entry, AllWellFormed-with, take-insert, drop-insert, stands_behind}
 use Rattle.pending_ops.specs.Waiting.{Waiting}
 use Rattle.desk_replica.specs.Placement.{IsSettled, whole}
 use Rattle.desk_replica.specs.Typing.{parent_at}
 use Rattle.desk_replica.specs.Stretch.{next_id, id_after, insertions, typed_text}
 use Rattle.desk_replica.specs.Merging.{with_operations}
 use Rattle.desk_replica.proofs.Admitting.{IsContent}
-use Rattle.desk_replica.proofs.Counters.{newest-is_new, next-with}
+use Rattle.desk_replica.proofs.Counters.{newest-is_new}
 use Rattle.desk_replica.proofs.FirstTurn.{nothing_kept}
 use Rattle.desk_replica.proofs.Leaf.{length-put}
 use Rattle.desk_replica.proofs.Lists.{length-each}
@@ -34,18 +35,6 @@ use Rattle.desk_replica.proofs.Typing.{content, parted, same_set}
 use Rattle.desk_replica.proofs.WorldTyped.{visible_typed}
 
 -- ---- a list with one more element at a place
-
-take-insert : {X : Type 0} (xs : List X) (k : ℕ) (x : X) → k ≤ length xs → take (suc k) (insert xs k x) ≡ take k xs ++ x ∷ []
-take-insert [] zero x h = refl
-take-insert [] (suc k) x h = absurd (omega arith)
-take-insert (y ∷ xs) zero x h = refl
-take-insert (y ∷ xs) (suc k) x h = ap (λ l. y ∷ l) (take-insert xs k x (omega arith))
-
-drop-insert : {X : Type 0} (xs : List X) (k : ℕ) (x : X) → k ≤ length xs → drop (suc k) (insert xs k x) ≡ drop k xs
-drop-insert [] zero x h = refl
-drop-insert [] (suc k) x h = absurd (omega arith)
-drop-insert (y ∷ xs) zero x h = refl
-drop-insert (y ∷ xs) (suc k) x h = drop-insert xs k x (omega arith)
 
 at-insert : {X : Type 0} (xs : List X) (k : ℕ) (x : X) → k ≤ length xs → slice_get (insert xs k x) k ≡ Some x
 at-insert [] zero x h = refl
@@ -146,80 +135,41 @@ module _ (site : ℕ) where
 -- ---- characters typed into a sequence, each behind the one before
 
 -- with an identifier above all that are named, nothing is kept at it
-pub newest_absent : (t : OperationSet) (id : Identifier) (parent : Place) (ch : ℕ) → next t ≤ id.counter → map.contains_key t.ins id ≡ false
+newest_absent : (t : OperationSet) (id : Identifier) (parent : Place) (ch : ℕ) → next t ≤ id.counter → map.contains_key t.ins id ≡ false
 newest_absent t id parent ch above =
     let new = newest-is_new t (Insert id parent ch) above in
     ap is_some (nothing_kept t id parent ch new.0 new.1)
 
--- and the next one is above all then
-next_above : (t : OperationSet) (id : Identifier) (parent : Place) (ch : ℕ) → next t ≤ id.counter → IsWellFormed (Insert id parent ch) → next (with_operation t (Insert id parent ch)) ≤ id.counter + 1
-next_above t id parent ch above formed = let grown = next-with t (Insert id parent ch) (newest-is_new t (Insert id parent ch) above).0 formed in omega (arith, grown, above)
+-- nor at those behind it
+pub newest_new : (t : OperationSet) (id : Identifier) (n : ℕ) → next t ≤ id.counter → AreNew t id n
+newest_new t id n above k less = newest_absent t (later id k) Root 0 (omega (arith, above))
 
-pub stands_behind : (t : OperationSet) (id : Identifier) (parent : Place) (ch : ℕ) → stands_in (with_operation t (Insert id parent ch)) (After id) ≡ true
-stands_behind t id parent ch =
-    let node : Node = record { parent = parent; ch = ch } in
-    ap is_some (map.get-insert id_cmp-total t.ins id node id) ∙ ap (λ b. is_some (cond b (Some node) (map.get t.ins id))) (same_id-itself id)
+-- a text with a byte has a character
+pub some_characters : (bytes : List ℕ) → IsUtf8 bytes → 0 < length bytes → 0 < length (chars bytes)
+some_characters bytes utf8 some = by (chars bytes) refl
+  where
+    by : (cs : List ℕ) → chars bytes ≡ cs → 0 < length cs
+    by [] none = let nothing : [] ≡ bytes = ap encode_utf8_all (sym none) ∙ encodes-chars bytes utf8 in absurd (omega (arith, some, ap length nothing))
+    by (c ∷ cs) is = omega arith
 
--- a sequence that had s and room for some placings has t, and room for those that are left. What was made and what is
--- told differ by the insertions so far; the rest is typed behind a parent, the next character with this identifier
-pub record IsUnderWay (s t : OperationSet) (first id : Identifier) (front parent : Place) (made told : List OpView) (all rest : List ℕ) (some left : ℕ) : Type 0 where
-  pub utf8 : IsUtf8 rest
-  pub listed_is : told ++ insertions id parent (chars rest) ≡ made ++ insertions first front (chars all)
-  pub set_is : with_operations t (insertions id parent (chars rest)) ≡ with_operations s (insertions first front (chars all))
-  pub formed : AllByRecursion IsWellFormed (insertions id parent (chars rest)) → AllByRecursion IsWellFormed (insertions first front (chars all))
-  pub above : next t ≤ id.counter
+-- what was listed and what is listed now differ by the insertions so far; the rest is listed behind a parent, the next character with
+-- this identifier
+pub record IsUnderWay (first id : Identifier) (front parent : Place) (made told : List OpView) (all rest : List ℕ) : Type 0 where
+  pub listed_is : told ++ insertions id parent rest ≡ made ++ insertions first front all
+  pub formed : AllByRecursion IsWellFormed (insertions id parent rest) → AllByRecursion IsWellFormed (insertions first front all)
   pub follows : MayFollow parent id
-  pub stands : stands_in t parent ≡ true
-  pub counters : id.counter + length (chars rest) ≤ 2 ^ 32
-  pub room : left + length (chars all) ≡ some + length (chars rest)
-  pub paid : length (chars rest) ≤ left
+  pub counters : id.counter + length rest ≤ 2 ^ 32
 
-module _ (s t u : OperationSet) (first id : Identifier) (front parent : Place) (made told more : List OpView) (all rest after : List ℕ) (some left fewer : ℕ) (ch : ℕ)
-    (now : IsUnderWay s t first id front parent made told all rest some left) (is : rest ≡ encode_utf8 ch ++ after) where
-  rest_is : chars rest ≡ ch ∷ chars after
-  rest_is = chars_past_char rest after ch now.utf8 is
-
-  pub one_less : length (chars rest) ≡ length (chars after) + 1
-  one_less = let l = ap length rest_is in omega (arith, l)
-
-  pub under_way : more ≡ told ++ Insert id parent ch ∷ [] → IsWellFormed (Insert id parent ch) → u ≡ with_operation t (Insert id parent ch) → fewer + 1 ≡ left
-      → IsUnderWay s u first (id_after id) front (After id) made more all after some fewer
-  under_way listed_is formed set_is room =
-      let later = insertions (id_after id) (After id) (chars after) in
-      let split : insertions id parent (chars rest) ≡ Insert id parent ch ∷ later = ap (insertions id parent) rest_is in
-      record {
-        utf8 = IsUtf8-past_char rest after ch now.utf8 is;
-        listed_is = ap (λ l. l ++ later) listed_is ∙ append_assoc told (Insert id parent ch ∷ []) later ∙ ap (λ l. told ++ l) (sym split) ∙ now.listed_is;
-        set_is = ap (λ x. with_operations x later) set_is ∙ ap (with_operations t) (sym split) ∙ now.set_is;
-        formed = λ h. now.formed (subst (AllByRecursion IsWellFormed) (sym split) (formed, h));
-        above = let low = next_above t id parent ch now.above formed in omega (arith, ap next set_is, low);
-        follows = (formed.0, omega arith);
-        stands = ap (λ (x : OperationSet). stands_in x (After id)) set_is ∙ stands_behind t id parent ch;
-        counters = omega (arith, one_less, now.counters);
-        room = omega (arith, one_less, now.room, room);
-        paid = omega (arith, one_less, now.paid, room);
-      }
-
-nothing_left : (rest : List ℕ) → length rest ≡ 0 → chars rest ≡ []
-nothing_left [] none = chars-nil
-nothing_left (x ∷ rest) none = absurd (omega (arith, none))
-
-module _ (s t : OperationSet) (first id : Identifier) (front parent : Place) (made told : List OpView) (all rest : List ℕ) (some left : ℕ)
-    (now : IsUnderWay s t first id front parent made told all rest some left) (none : length rest ≡ 0) where
-  nil : insertions id parent (chars rest) ≡ []
-  nil = ap (insertions id parent) (nothing_left rest none)
-
-  pub all_told : told ≡ made ++ insertions first front (chars all)
-  all_told = sym (append-nil told) ∙ ap (λ l. told ++ l) (sym nil) ∙ now.listed_is
-
-  pub all_set : t ≡ with_operations s (insertions first front (chars all))
-  all_set = ap (with_operations t) (sym nil) ∙ now.set_is
-
-  pub all_formed : AllByRecursion IsWellFormed (insertions first front (chars all))
-  all_formed = now.formed (subst (AllByRecursion IsWellFormed) (sym nil) tt)
-
-  pub all_room : left + length (chars all) ≡ some
-  all_room = omega (arith, ap length (nothing_left rest none), now.room)
+pub under_way : (first id : Identifier) (front parent : Place) (made told more : List OpView) (all rest : List ℕ) (ch : ℕ) → IsUnderWay first id front parent made told all (ch ∷ rest)
+    → more ≡ told ++ Insert id parent ch ∷ [] → IsWellFormed (Insert id parent ch) → IsUnderWay first (later id 1) front (After id) made more all rest
+under_way first id front parent made told more all rest ch now is formed =
+    let behind = insertions (later id 1) (After id) rest in
+    record {
+      listed_is = ap (λ l. l ++ behind) is ∙ append_assoc told (Insert id parent ch ∷ []) behind ∙ now.listed_is;
+      formed = λ h. now.formed (formed, h);
+      follows = (formed.0, omega arith);
+      counters = omega (arith, now.counters);
+    }
 
 -- ---- and what they make of a desk
 

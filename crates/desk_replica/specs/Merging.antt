@@ -1,24 +1,20 @@
 -- What a merge takes, and what one that ends early leaves.
-use Rattle.std.specs.Prelude.{◌≡◌, ◌≢◌, ◌⊎◌, ◌<◌, ◌≤◌, ◌+◌, ◌-◌, ℕ, Bool, true, false, Option, Some, List, [], ◌∷◌, Contains, Result, OnOk, IfOk, IfErr, IsOk}
+use Rattle.std.specs.Prelude.{◌≡◌, ◌≢◌, ◌⊎◌, ◌<◌, ◌≤◌, ◌+◌, ◌-◌, ℕ, Bool, true, false, Option, Some, List, Contains, Result, OnOk, IfOk, IfErr, IsOk}
 use Rattle.std.specs.FinMap as map
 use Rattle.std.specs.FinSet as set
 use Rattle.bg_types.specs.Identifier.{Identifier}
-use Rattle.bg_types.specs.OperationSet.{Node, OperationSet, Holds, Agree, ReusesIdentifier, with_operation, union, size}
+use Rattle.bg_types.specs.OperationSet.{Node, OperationSet, Holds, Agree, ReusesIdentifier, union, size}
 use Rattle.bg_types.specs.declared.op.OpView.{OpView}
 use Rattle.bg_types.specs.declared.op.OpView.TheVariants.{Insert, Erase}
 use Rattle.bg_types.specs.declared.change.Change.{Change}
 use Rattle.rga_tree.specs.declared.element.Element.{Element}
 use Rattle.rga_tree.specs.Parts.{IsPartOf}
+pub use Rattle.rga_tree.specs.Run.{with_operations}
 use Rattle.desk_replica.specs.Desk.{Desk, insertion_of}
 use Rattle.desk_replica.specs.Telling.{IsUntaken, waiting_count}
 use Rattle.desk_replica.specs.Listening.{HasRoom, told_count}
 use Rattle.desk_replica.specs.declared.answer.TakeFault.{TakeFault}
 use Rattle.desk_replica.specs.declared.answer.TakeFault.TheVariants.{IdentifierReused, Full, Memory}
-
--- S with each of the operations
-abbrev pub with_operations : OperationSet → List OpView → OperationSet
-with_operations s [] = s
-with_operations s (op ∷ ops) = with_operations (with_operation s op) ops
 
 abbrev pub is_deletion : OpView → Bool
 is_deletion (Insert id parent ch) = false

@@ -1,13 +1,13 @@
 -- What a desk makes where a number of characters are typed or erased at once.
-use Rattle.std.specs.Prelude.{◌≡◌, ◌+◌, ◌-◌, ◌<◌, ◌≤◌, ◌^◌, ◌++◌, ℕ, List, [], ◌∷◌, true, take, drop, map as each}
+use Rattle.std.specs.Prelude.{◌≡◌, ◌+◌, ◌-◌, ◌<◌, ◌≤◌, ◌^◌, ◌++◌, ℕ, List, true, take, drop, map as each}
 use Rattle.std.specs.FinMap as map
 use Rattle.bg_types.specs.Identifier.{Identifier}
 use Rattle.bg_types.specs.OperationSet.{OperationSet, next, size}
-use Rattle.bg_types.specs.declared.op.Place.{Place}
-use Rattle.bg_types.specs.declared.op.Place.TheVariants.{After}
 use Rattle.bg_types.specs.declared.op.OpView.{OpView}
 use Rattle.bg_types.specs.declared.op.OpView.TheVariants.{Insert, Erase}
 use Rattle.rga_tree.specs.TextOf.{visible_ids}
+use Rattle.rga_tree.specs.Run.{later}
+pub use Rattle.rga_tree.specs.Run.{insertions}
 use Rattle.desk_replica.specs.Merging.{with_operations}
 use Rattle.desk_replica.specs.Typing.{parent_at}
 use Rattle.desk_replica.specs.declared.answer.TypeFault.{TypeFault}
@@ -19,12 +19,7 @@ next_id s site = record { counter = next s; site = site }
 
 -- and the one that it gives after that
 abbrev pub id_after : Identifier → Identifier
-id_after id = record { counter = id.counter + 1; site = id.site }
-
--- the insertions of characters: the first one after a parent, each further one after the one before
-abbrev pub insertions : Identifier → Place → List ℕ → List OpView
-insertions id parent [] = []
-insertions id parent (ch ∷ chs) = Insert id parent ch ∷ insertions (id_after id) (After id) chs
+id_after id = later id 1
 
 -- what a desk of this site that keeps S makes where characters are typed from a place on
 abbrev pub typed_text : OperationSet → (site place : ℕ) → List ℕ → List OpView

@@ -1,8 +1,13 @@
 -- Operations that a desk takes in order.
-use Rattle.std.specs.Prelude.{◌≡◌, ◌<◌, ◌≤◌, ◌+◌, ℕ, List, [], ◌∷◌, length, take, slice_get, Some}
+use Rattle.std.specs.Prelude.{◌≡◌, ◌<◌, ◌≤◌, ◌+◌, ℕ, List, [], ◌∷◌, All, length, take, slice_get, true, Some}
+use Rattle.bg_types.specs.Identifier.{Identifier}
 use Rattle.bg_types.specs.OperationSet.{OperationSet, with_operation, size}
+use Rattle.bg_types.specs.WellFormed.{IsWellFormed}
+use Rattle.bg_types.specs.declared.op.Place.{Place}
 use Rattle.bg_types.specs.declared.op.OpView.{OpView}
 use Rattle.bg_types.specs.declared.change.Change.{Change}
+use Rattle.rga_tree.specs.Tree.{stands_in}
+use Rattle.rga_tree.specs.Run.{insertions}
 use Rattle.desk_replica.specs.Desk.{Desk}
 use Rattle.desk_replica.specs.Merging.{with_operations}
 use Rattle.desk_replica.specs.Reply.{IsRefused, IsRefusal}
@@ -29,6 +34,18 @@ pub record IsRefusedNext (desk : Desk) (ops : List OpView) (taken : ℕ) (fault 
   pub next : slice_get ops taken ≡ Some op
   pub refused : IsRefused desk.set op fault
   pub unpaid : fault ≡ Memory → desk.spare ≡ 0
+
+-- the first operations of a list, so many, are insertions that one site typed in a row, the first one under the counter behind the greatest,
+-- below what is placed in the tree
+pub record IsRunInFront (t : OperationSet) (greatest : ℕ) (ops : List OpView) (count : ℕ) : Type 0 where
+  pub first : Identifier
+  pub parent : Place
+  pub characters : List ℕ
+  pub many : length characters ≡ count
+  pub typed : take count ops ≡ insertions first parent characters
+  pub next : first.counter ≡ greatest + 1
+  pub stands : stands_in t parent ≡ true
+  pub well_formed : All IsWellFormed (take count ops)
 
 -- the list has grown by what is told of operations that a desk which keeps S takes one after the other
 abbrev pub AreTold : OperationSet → List OpView → (old new : List Change) → Type 0

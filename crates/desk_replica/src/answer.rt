@@ -45,6 +45,13 @@ impl TakeFault {
     }
 }
 
+/// Why operations in order were not all taken: how many of them stand, and why the next one was refused.
+#[derive(Clone, Copy, Debug, PartialEq, Eq, Hash)]
+pub struct Stopped {
+    pub taken: usize,
+    pub fault: TakeFault,
+}
+
 /// Why a desk made no operation. Each prints its bare name.
 #[derive(Clone, Copy, Debug, PartialEq, Eq, Hash, Error)]
 pub enum TypeFault {

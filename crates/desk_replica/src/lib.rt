@@ -8,11 +8,12 @@ mod listener;
 mod placing;
 mod reading;
 mod replica;
+mod run;
 mod stretching;
 mod taking;
 mod world;
 
-pub use answer::{TakeFault, Taken, TypeFault};
+pub use answer::{Stopped, TakeFault, Taken, TypeFault};
 pub use replica::{MOST_OPERATIONS, Replica};
 pub use taking::{merge_at, take_at};
 pub use world::{Reply, Step, World, WorldFault, run_world};

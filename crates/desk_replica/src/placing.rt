@@ -81,7 +81,7 @@ fn is_erased<S: Sequence>(seq: &S, held: &Held, target: Id) -> bool
 }
 
 /// Whether a parent is there: the root, or a placed element.
-fn stands<S: Sequence>(seq: &S, parent: &Place) -> bool
+pub fn stands<S: Sequence>(seq: &S, parent: &Place) -> bool
     ensures { result ≡ stands_in (S.content seq.now) parent.now }
 {
     match parent {

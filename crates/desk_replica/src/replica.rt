@@ -14,6 +14,7 @@ ghost use Rattle.desk_replica.specs.declared.answer.TypeFault.{TypeFault as Unty
 ghost use Rattle.desk_replica.specs.Typing.{typed, insertion, parent_at, IsTypedAt, IsTypeRefusal, IsTypeRefused, IsErasedAt};
 
 mod agreeing;
+mod in_order;
 mod listing;
 mod merging;
 mod stretch;
@@ -36,7 +37,6 @@ pub const MOST_OPERATIONS: u32 = 1_000_000;
 /// times; those that wait for one that is not there yet are kept too.
 ///
 /// Places count visible characters, from 0.
-#[derive(Drop)]
 pub struct Replica<S: Sequence> {
     alloc: Global,
     site: u16,
@@ -61,6 +61,21 @@ impl<S: Sequence> Model for Replica<S> {
     ghost view = { λ a. record { set = whole (S.content a.seq) a.held; site = a.site; waiting = waiting_in a.held; spare = a.spare } };
 
     ghost invariant = { λ a. IsDesk (S.content a.seq) (S.free a.seq) a.held a.site a.kept a.greatest a.spare };
+}
+
+// Written out: a crate above then proves the call, and nothing of the parts.
+impl<S: Sequence + Drop> Drop for Replica<S> {
+    fn drop(self) {
+        let Replica {
+            alloc: _,
+            site: _,
+            seq: _,
+            held: _,
+            kept: _,
+            greatest: _,
+            spare: _,
+        } = self;
+    }
 }
 
 impl<S: Sequence> Replica<S> {

@@ -1,11 +1,11 @@
 //! What a stretch that is erased or typed changes in a sequence.
 
-ghost use Rattle.std.specs.Prelude.{◌≡◌, ◌≤◌, ◌<◌, ◌+◌, ◌-◌, ◌^◌, ◌++◌, ◌∷◌, [], take, drop, length, All, OnOk, OnErr, IsOk, true, map as each, vec_len, vec_capacity};
+ghost use Rattle.std.specs.Prelude.{◌≡◌, ◌≤◌, ◌<◌, ◌+◌, ◌-◌, ◌^◌, ◌++◌, take, drop, length, All, OnOk, OnErr, IsOk, true, map as each, vec_len, vec_capacity};
 ghost use Rattle.std.specs.FinMap as map;
 ghost use Rattle.std.specs.Str.{chars};
-ghost use Rattle.bg_types.specs.OperationSet.{next, with_operation};
+ghost use Rattle.bg_types.specs.OperationSet.{next};
 ghost use Rattle.bg_types.specs.WellFormed.{IsWellFormed, MayFollow};
-ghost use Rattle.bg_types.specs.declared.op.OpView.TheVariants.{Insert, Erase};
+ghost use Rattle.bg_types.specs.declared.op.OpView.TheVariants.{Erase};
 ghost use Rattle.rga_tree.specs.TextOf.{visible};
 ghost use Rattle.rga_tree.specs.Tree.{stands_in};
 ghost use Rattle.rga_tree.specs.Row.{shown_ids};
@@ -142,31 +142,29 @@ pub fn type_behind<S: Sequence>(
     ensures content { S.content seq.new ≡ with_operations (S.content seq.old) (insertions (record { counter = counter + 1; site = site }) parent (chars characters.now)) }
     ensures room { S.free seq.new + length (chars characters.now) ≡ S.free seq.old }
 {
-    let mut counter = counter;
-    let mut parent = parent;
+    if characters.is_empty() {
+        return;
+    }
+    let first = Id::new(counter + 1, site).unwrap();
+    list_run(first, &parent, characters, made);
+    seq.place_run(first, parent, characters);
+}
+
+/// Lists the insertions of a run behind a parent, for which there is room.
+fn list_run(first: Id, front: &Place, characters: &str, made: &mut Vec<Op>)
+    requires follows { MayFollow front.now first }
+    requires counters { first.counter + length (chars characters.now) ≤ 2 ^ 32 }
+    requires listed { vec_len made.old + length (chars characters.now) ≤ vec_capacity made.old }
+    ensures made { made.new.items ≡ made.old.items ++ insertions first front.now (chars characters.now) }
+    ensures well_formed { All IsWellFormed (insertions first front.now (chars characters.now)) }
+{
+    let mut counter = first.counter() - 1;
+    let mut parent = *front;
     let mut left = characters.chars();
     while let Some(ch) = left.next() {
         counter += 1;
-        let id = Id::new(counter, site).unwrap();
-        type_one(seq, id, &parent, ch, made);
+        let id = Id::new(counter, first.site()).unwrap();
+        made.push_reserved(Op::insert(id, parent, ch).unwrap());
         parent = Place::After(id);
     }
-}
-
-/// Places a character that is typed behind a parent, and lists its insertion. There is room for both.
-fn type_one<S: Sequence>(seq: &mut S, id: Id, parent: &Place, ch: char, made: &mut Vec<Op>)
-    requires new { next (S.content seq.old) ≤ id.counter }
-    requires follows { MayFollow parent.now id }
-    requires stands { stands_in (S.content seq.old) parent.now ≡ true }
-    requires room { 1 ≤ S.free seq.old }
-    requires listed { vec_len made.old < vec_capacity made.old }
-    ensures made { made.new.items ≡ made.old.items ++ Insert id parent.now ch ∷ [] }
-    ensures len { vec_len made.new ≡ vec_len made.old + 1 }
-    ensures capacity { vec_capacity made.new ≡ vec_capacity made.old }
-    ensures well_formed { IsWellFormed (Insert id parent.now ch) }
-    ensures content { S.content seq.new ≡ with_operation (S.content seq.old) (Insert id parent.now ch) }
-    ensures room { S.free seq.new + 1 ≡ S.free seq.old }
-{
-    seq.place(id, *parent, ch, false);
-    made.push_reserved(Op::insert(id, *parent, ch).unwrap());
 }

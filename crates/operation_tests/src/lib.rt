@@ -12,6 +12,8 @@ mod every_sequence;
 #[cfg(test)]
 mod feed_tests;
 #[cfg(test)]
+mod in_order_tests;
+#[cfg(test)]
 mod key_tests;
 #[cfg(test)]
 mod op_codec_tests;

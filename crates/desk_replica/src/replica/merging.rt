@@ -75,14 +75,14 @@ impl<S: Sequence> Replica<S> {
             return Err(TakeFault::IdentifierReused);
         }
         let before = self.kept;
-        self.take_all(other, listener)?;
+        self.take_from(other, listener)?;
         Ok(self.kept - before)
     }
 
     /// Takes all operations of another desk. A deletion comes before the insertion that it is of: so no element is shown that
     /// the other desk has erased, and what a listener is told is put stays. The elements are read part after part, since
     /// `nth` of each may cost more than reading it.
-    fn take_all<L: Listener>(
+    fn take_from<L: Listener>(
         &mut self,
         other: &Replica<S>,
         listener: &mut L,

@@ -19,8 +19,8 @@ impl<S: Sequence> Replica<S> {
     /// Types characters at a place, each behind the one before, as that many `type_char` do, and appends the
     /// operations that this makes to `made`. A fault changes nothing, `made` included. While as many are spare as
     /// there are characters, and `made` has room for them, the fault is not `Memory`.
-    /// Cost: `id_at` once, then a `Sequence::place` for each character; memory for them and for their operations, none
-    /// where both are there.
+    /// Cost: `id_at` once, then a `Sequence::place_run`; memory for the characters and for their operations, none where
+    /// both are there.
     pub fn type_text(
         &mut self,
         place: usize,
