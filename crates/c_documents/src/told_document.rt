@@ -11,12 +11,22 @@ use live_document::Document;
 use std::alloc::Global;
 
 /// A document that C holds, and how its last edit, take or merge changed the text.
-#[derive(Drop)]
 pub struct ToldDocument {
     pub document: Document,
     pub told: Vec<Change>,
     /// There was no memory to tell all of it.
     pub lost: bool,
+}
+
+// Written out: a crate above then proves the call, and nothing of the parts.
+impl Drop for ToldDocument {
+    fn drop(self) {
+        let ToldDocument {
+            document: _,
+            told: _,
+            lost: _,
+        } = self;
+    }
 }
 
 impl ToldDocument {

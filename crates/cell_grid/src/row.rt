@@ -21,7 +21,7 @@ use std::marker::Model;
 
 /// A row of a grid: a line with its entries from left to right. It keeps no cells: they follow from
 /// the width, the column where the entries begin and the entries.
-#[derive(Debug, Drop)]
+#[derive(Debug)]
 pub struct Row {
     width: u16,
     start: u16,
@@ -46,6 +46,20 @@ impl Model for Row {
     } };
 
     ghost invariant = { λ r. StandWithin r.width r.start r.entries.items };
+}
+
+// Written out: a crate above then proves the call, and nothing of the parts.
+impl Drop for Row {
+    fn drop(self) {
+        let Row {
+            width: _,
+            start: _,
+            first_place: _,
+            last_place: _,
+            para_level: _,
+            entries: _,
+        } = self;
+    }
 }
 
 impl Row {

@@ -44,7 +44,6 @@ pub type Desk = Replica<Blocks>;
 /// paragraphs could not be changed with it, the next `show` makes them anew.
 ///
 /// Places count visible characters, from 0.
-#[derive(Drop)]
 pub struct Document {
     alloc: Global,
     desk: Desk,
@@ -84,6 +83,25 @@ impl Model for Document {
     } };
 
     ghost invariant = { λ d. IsLive d.desk d.tables.value d.width d.base d.behind d.buffer d.shown d.held };
+}
+
+// Written out: a crate above then proves the call, and nothing of the parts.
+impl Drop for Document {
+    fn drop(self) {
+        let Document {
+            alloc: _,
+            desk: _,
+            tables: _,
+            width: _,
+            base: _,
+            buffer: _,
+            behind: _,
+            shown: _,
+            laid: _,
+            held: _,
+            most: _,
+        } = self;
+    }
 }
 
 impl Document {

@@ -27,7 +27,6 @@ use std::marker::Model;
 ///
 /// Once an identifier is placed, `release_of` makes the insertions right after it ready, and
 /// `next_ready` hands them out one by one. Until then a ready one counts as held.
-#[derive(Drop)]
 pub struct Held {
     slots: Table<Slot>,
     /// For each parent of a held insertion, the first in the chain of those that name it.
@@ -58,6 +57,20 @@ impl Model for Held {
     ghost invariant = { λ a. AreLinked a.slots.entries a.firsts.entries a.released.keys
         × ((a.queue.items ≡ [])
         × HasRoom a.slots a.firsts a.released a.erased (vec_capacity a.queue) a.room) };
+}
+
+// Written out: a crate above then proves the call, and nothing of the parts.
+impl Drop for Held {
+    fn drop(self) {
+        let Held {
+            slots: _,
+            firsts: _,
+            released: _,
+            erased: _,
+            queue: _,
+            room: _,
+        } = self;
+    }
 }
 
 /// Makes room for n more operations in each table that holding, releasing and counting them needs.

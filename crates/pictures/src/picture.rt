@@ -24,7 +24,6 @@ use unicode_tables::Tables;
 ///
 /// Its calls make the grid of the rows that it keeps, which takes no memory, and keep the rows again;
 /// so those that need a grid ask for a `&mut`, and change nothing.
-#[derive(Drop)]
 pub struct Picture {
     alloc: Global,
     tables: SharedTables,
@@ -41,6 +40,18 @@ impl Model for Picture {
     ghost view = { λ p. record { tables = p.tables; text = string_bytes p.text; rows = p.rows.items } };
 
     ghost invariant = { λ p. IsDrawn (record { tables = p.tables; text = string_bytes p.text; rows = p.rows.items }) };
+}
+
+// Written out: a crate above then proves the call, and nothing of the parts.
+impl Drop for Picture {
+    fn drop(self) {
+        let Picture {
+            alloc: _,
+            tables: _,
+            text: _,
+            rows: _,
+        } = self;
+    }
 }
 
 impl Picture {

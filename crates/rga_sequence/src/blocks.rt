@@ -24,7 +24,6 @@ use rga_tree::{Element, Fresh, Sequence, Unpacked};
 use std::alloc::Global;
 
 /// A sequence in blocks.
-#[derive(Drop)]
 pub struct Blocks {
     row: Row,
     alloc: Global,
@@ -37,6 +36,20 @@ pub struct Blocks {
     ghost enough: { HasRoom row room } by { HasRoom-prop row room },
     ghost placed_are: { placed ≡ length (elements_in row) },
     ghost visible_are: { visible ≡ seen (elements_in row) },
+}
+
+// Written out: a crate above then proves the call, and nothing of the parts.
+impl Drop for Blocks {
+    fn drop(self) {
+        let Blocks {
+            row: _,
+            alloc: _,
+            placed: _,
+            visible: _,
+            room: _,
+            looks: _,
+        } = self;
+    }
 }
 
 impl Blocks {

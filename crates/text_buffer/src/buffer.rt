@@ -35,7 +35,6 @@ use unicode_tables::Tables;
 /// A text of at most 4,000,000 bytes, kept in its paragraphs (P1), and beside each what its owner keeps of it. An edit makes
 /// those anew that it touches, and finds them by blocks of some hundred. Places count code points. All its calls ask for the
 /// tables that it was made with.
-#[derive(Drop)]
 pub struct Buffer<K> {
     alloc: Global,
     blocks: Vec<Block<K>>,
@@ -58,6 +57,20 @@ impl<K> Model for Buffer<K> {
     ghost view = { λ b. seen_in b.blocks.items };
 
     ghost invariant = { λ b. IsCounted b.blocks.items b.bytes b.places b.paragraphs b.near };
+}
+
+// Written out: a crate above then proves the call, and nothing of the parts.
+impl<K: Drop> Drop for Buffer<K> {
+    fn drop(self) {
+        let Buffer {
+            alloc: _,
+            blocks: _,
+            bytes: _,
+            places: _,
+            paragraphs: _,
+            near: _,
+        } = self;
+    }
 }
 
 impl<K: Drop> Buffer<K> {

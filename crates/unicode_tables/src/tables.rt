@@ -13,7 +13,6 @@ use std::marker::Model;
 
 /// What the five data files say of each code point, and how wide ambiguous characters are. A look-up reads one word, and
 /// the few code points that it marks have their bracket or their mirrored character beside it.
-#[derive(Drop)]
 pub struct Tables {
     words: Words,
     bracket: Property<Bracket>,
@@ -31,6 +30,18 @@ impl Model for Tables {
     ghost view = { λ t. with_width (tables_of_words t.words t.bracket t.mirror) t.wide_ambiguous };
 
     ghost invariant = { λ t. IsWordTable t.words × HasMarks t.words t.bracket t.mirror };
+}
+
+// Written out: a crate above then proves the call, and nothing of the parts.
+impl Drop for Tables {
+    fn drop(self) {
+        let Tables {
+            words: _,
+            bracket: _,
+            mirror: _,
+            wide_ambiguous: _,
+        } = self;
+    }
 }
 
 impl Tables {

@@ -20,7 +20,6 @@ use unicode_tables::Tables;
 /// The rows of the paragraphs that were used last, counted from each paragraph's start, by the
 /// paragraph's text, the width and the base. It borrows no tables and no text: its owner hands them
 /// in, and the rows stay right as long as the tables are always the same.
-#[derive(Drop)]
 pub struct KeptRows {
     hash_key: u128,
     kept: LruCache<Key, Vec<Row>>,
@@ -37,6 +36,16 @@ impl Model for KeptRows {
     ghost view = { λ k. record { room = k.kept.cap; hash_key = k.hash_key; entries = map entry_said k.kept.entries } };
 
     ghost invariant = { λ k. IsKept k.hash_key k.kept };
+}
+
+// Written out: a crate above then proves the call, and nothing of the parts.
+impl Drop for KeptRows {
+    fn drop(self) {
+        let KeptRows {
+            hash_key: _,
+            kept: _,
+        } = self;
+    }
 }
 
 impl KeptRows {
