@@ -14,25 +14,13 @@ use std::alloc::Global;
 
 /// Whether X9 removes a character of this class, or it is an isolate control.
 ///
-/// One list of them is one test of a class; two tests, each on a list of its own, would take half as long again.
+/// All but BN stand at the end of the list of classes: two comparisons look at sixteen classes at once, where a list of them would not.
 #[inline]
 #[tactic(auto, unfolding(paragraphs::specs::Classes::is_removed, paragraphs::specs::Classes::is_isolate_control))]
 pub(crate) fn is_control(class: Bidi) -> bool
     ensures { result ≡ is_control class }
 {
-    matches!(
-        class,
-        Bidi::Bn
-            | Bidi::Lre
-            | Bidi::Lro
-            | Bidi::Rle
-            | Bidi::Rlo
-            | Bidi::Pdf
-            | Bidi::Lri
-            | Bidi::Rli
-            | Bidi::Fsi
-            | Bidi::Pdi
-    )
+    matches!(class, Bidi::Bn) || class as u8 >= Bidi::Lre as u8
 }
 
 /// Whether X9 removes a character of one of these classes, or one is an isolate control.
@@ -40,7 +28,12 @@ pub(crate) fn is_control(class: Bidi) -> bool
 pub fn has_controls(classes: &[Bidi]) -> bool
     ensures { result ≡ list_any is_control classes.now }
 {
-    classes.iter().any(|class| is_control(*class))
+    // A loop that ends at none of them looks at sixteen at once.
+    let mut found = false;
+    for class in classes {
+        found |= is_control(*class);
+    }
+    found
 }
 
 /// Places of these classes, kept at a level.

@@ -47,24 +47,18 @@ pub(crate) fn is_neutral(class: Bidi) -> bool
 
 /// Whether a class neither goes right to left nor changes a level: L, European numbers and what goes
 /// with them, marks, and neutrals that are not isolate controls.
+///
+/// By the others, those of explicit formatting at the end of the list of classes: comparisons look at sixteen classes at once, where a
+/// list of them would not.
 #[inline]
 #[tactic(auto, unfolding(crate::specs::Classes::is_plain))]
 pub(crate) fn is_plain(class: Bidi) -> bool
     ensures { result ≡ is_plain class }
 {
-    matches!(
-        class,
-        Bidi::L
-            | Bidi::En
-            | Bidi::Es
-            | Bidi::Et
-            | Bidi::Cs
-            | Bidi::Nsm
-            | Bidi::B
-            | Bidi::S
-            | Bidi::Ws
-            | Bidi::On
-    )
+    !(matches!(class, Bidi::R | Bidi::Al)
+        | matches!(class, Bidi::An)
+        | matches!(class, Bidi::Bn)
+        | (class as u8 >= Bidi::Lre as u8))
 }
 
 /// A type as a direction: numbers count as R.

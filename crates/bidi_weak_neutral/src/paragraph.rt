@@ -210,7 +210,12 @@ fn levels_by_controls(
 fn are_plain(classes: &[Bidi]) -> bool
     ensures { result ≡ list_all is_plain classes.now }
 {
-    classes.iter().all(|class| is_plain(*class))
+    // A loop that ends at none of them looks at sixteen at once.
+    let mut plain = true;
+    for class in classes {
+        plain &= is_plain(*class);
+    }
+    plain
 }
 
 /// What `levels` answers for a paragraph of this level, 0 or 1, of these code points, which have these classes.
