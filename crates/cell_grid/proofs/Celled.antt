@@ -1,11 +1,8 @@
 -- The cells of a row by its entries.
-use Rattle.std.proofs.Common.{◌≡◌, ℕ, true, false, zero, suc, ◌+◌, ◌-◌, ◌<◌, ◌≤◌, List, [], ◌∷◌, ◌++◌, map, length, drop, get_or, replicate, slice_get, Some, None, refl, sym, ap, subst, ◌∙◌, arith, inl, inr, length-append}
+use Rattle.std.proofs.Common.{◌≡◌, ℕ, zero, suc, ◌+◌, ◌-◌, ◌<◌, ◌≤◌, List, [], ◌∷◌, ◌++◌, map, length, drop, replicate, slice_get, Some, None, refl, sym, ap, subst, ◌∙◌, arith, inl, inr, length-append}
 use Rattle.std.proofs.lemmas.List.{length-replicate, length-map}
 use Rattle.std.proofs.lemmas.Bool.Decides.{leb_tells}
-use Rattle.std.proofs.lemmas.Bool.{le-leb, leb-true}
-use Rattle.std.proofs.lemmas.Option.{slice_get-get_or, get_or_from_slice_get, slice_get_within}
-use Rattle.std.specs.List.Sorted.{IsNonDecreasingBy, IsPartitionPoint}
-use Rattle.std.specs.Prelude.{nat_le}
+use Rattle.std.proofs.lemmas.Option.{get_or_from_slice_get, slice_get_within}
 use Rattle.cell_grid.specs.declared.entry.Entry.{Entry}
 use Rattle.cell_grid.specs.declared.cell.Cell.{Cell}
 use Rattle.cell_grid.specs.declared.cell.Cell.TheVariants.{Blank, Head, Tail}
@@ -24,96 +21,10 @@ get-some (x ∷ xs) (suc k) lt = get-some xs k (omega arith)
 
 -- ---- entries by their columns
 
-from-at : (from to : ℕ) (es : List Entry) → ColumnsFollow from es to → (n : ℕ) (e : Entry) → slice_get es n ≡ Some e → from ≤ e.column
+pub from-at : (from to : ℕ) (es : List Entry) → ColumnsFollow from es to → (n : ℕ) (e : Entry) → slice_get es n ≡ Some e → from ≤ e.column
 from-at from to [] f n e is = cc
 from-at from to (x ∷ es) f zero e is = let same : x ≡ e = cc in let at = ap (λ (y : Entry). y.column) same in let first = f.0 in omega arith
 from-at from to (x ∷ es) f (suc n) e is = let later = from-at (x.column + x.columns) to es f.1 n e is in let first = f.0 in omega arith
-
--- a later entry begins where an earlier one ends, or after it
-pub later-at : (from to : ℕ) (es : List Entry) → ColumnsFollow from es to → (m n : ℕ) (d e : Entry) → slice_get es m ≡ Some d → slice_get es n ≡ Some e → m < n → d.column + d.columns ≤ e.column
-later-at from to [] f m n d e a b lt = cc
-later-at from to (x ∷ es) f m zero d e a b lt = absurd (omega arith)
-later-at from to (x ∷ es) f zero (suc n) d e a b lt =
-    let same : x ≡ d = cc in
-    let at = ap (λ (y : Entry). y.column) same in
-    let wide = ap (λ (y : Entry). y.columns) same in
-    let later = from-at (x.column + x.columns) to es f.1 n e b in
-    omega arith
-later-at from to (x ∷ es) f (suc m) (suc n) d e a b lt = later-at (x.column + x.columns) to es f.1 m n d e a b (omega arith)
-
-pub column-rises : (from to : ℕ) (es : List Entry) → ColumnsFollow from es to → IsNonDecreasingBy (λ (e : Entry). e.column) es
-column-rises from to [] f i j d le within = absurd (omega arith)
-column-rises from to (x ∷ es) f zero j d le within = let least = from-at from to (x ∷ es) f j (get_or (x ∷ es) j d) (slice_get-get_or (x ∷ es) j d within) in let first = f.0 in omega arith
-column-rises from to (x ∷ es) f (suc i) zero d le within = absurd (omega arith)
-column-rises from to (x ∷ es) f (suc i) (suc j) d le within = column-rises (x.column + x.columns) to es f.1 i j d (omega arith) (omega arith)
-
--- the last entry ends where all end
-pub last-ends : (from to : ℕ) (es : List Entry) → ColumnsFollow from es to → (e : Entry) → slice_get es (length es - 1) ≡ Some e → e.column + e.columns ≡ to
-last-ends from to [] f e is = cc
-last-ends from to (x ∷ []) f e is =
-    let same : x ≡ e = cc in
-    let at = ap (λ (y : Entry). y.column) same in
-    let wide = ap (λ (y : Entry). y.columns) same in
-    let end = f.1 in
-    omega arith
-last-ends from to (x ∷ y ∷ es) f e is =
-    let k : length (x ∷ y ∷ es) - 1 ≡ suc (length (y ∷ es) - 1) = omega arith in
-    last-ends (x.column + x.columns) to (y ∷ es) f.1 e (sym (ap (slice_get (x ∷ y ∷ es)) k) ∙ is)
-
--- where there is no last entry there are no columns
-pub none-total : (es : List Entry) → None ≡ slice_get es (length es - 1) → total es ≡ 0
-none-total [] is = refl
-none-total (x ∷ es) is = let last = get-some (x ∷ es) (length (x ∷ es) - 1) (omega arith) in let own = last.1 in cc
-
--- this many entries begin at this column or before, and the others after it
-abbrev pub BeginBy : List Entry → (column count : ℕ) → Type 0
-BeginBy entries column count = IsPartitionPoint (λ (e : Entry). nat_le e.column column ≡ true) (λ (e : Entry). nat_le e.column column ≡ false) entries count
-
-module _ (entries : List Entry) (column count : ℕ) (by : BeginBy entries column count) where
-  begin-before : (n : ℕ) (e : Entry) → slice_get entries n ≡ Some e → e.column ≤ column → n < count
-  begin-before n e is le = elim (leb_tells (suc n) count) [
-    | inl before ↦ before.1
-    | inr past ↦
-        let over = past.1 in
-        let no = by.1 n e (omega arith) (slice_get_within entries n e is) in
-        let same = get_or_from_slice_get entries n e e is in
-        let yes = le-leb e.column column le in
-        absurd (false-is (sym no ∙ ap (λ (x : Entry). nat_le x.column column) same ∙ yes))
-  ]
-    where
-      false-is : false ≡ true → ⊥
-      false-is e = cc
-
-  -- where none begins at the column or before, none is seen there
-  pub none-begins : count ≡ 0 → IsSeenAt entries column Blank
-  none-begins z = λ n e is low high. let lt = begin-before n e is low in absurd (omega arith)
-
-  module _ (last : Entry) (is_last : slice_get entries (count - 1) ≡ Some last) (some : 0 < count) where
-    -- the last one counted begins at the column or before
-    pub last-begins : last.column ≤ column
-    last-begins =
-        let yes = by.0 (count - 1) last (omega arith) (omega arith) in
-        let same = get_or_from_slice_get entries (count - 1) last last is_last in
-        leb-true last.column column (sym (ap (λ (x : Entry). nat_le x.column column) same) ∙ yes)
-
-    -- where it ends before the column, none is seen there
-    pub none-reaches : (from to : ℕ) → ColumnsFollow from entries to → last.column + last.columns ≤ column → IsSeenAt entries column Blank
-    none-reaches from to f short = λ n e is low high.
-        let lt = begin-before n e is low in
-        elim (leb_tells (suc n) (count - 1)) [
-          | inl earlier ↦
-              let le = earlier.1 in
-              let apart = later-at from to entries f n (count - 1) e last is is_last (omega arith) in
-              absurd (omega arith)
-          | inr same ↦
-              let ge = same.1 in
-              let at : n ≡ count - 1 = omega arith in
-              let there = sym is ∙ ap (slice_get entries) at ∙ is_last in
-              let one : e ≡ last = cc in
-              let place = ap (λ (x : Entry). x.column) one in
-              let wide = ap (λ (x : Entry). x.columns) one in
-              absurd (omega arith)
-        ]
 
 -- ---- cells
 

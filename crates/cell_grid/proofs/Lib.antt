@@ -1,7 +1,8 @@
 -- The modules of this crate's proofs.
 pub mod Steps
 pub mod Hung
-pub mod Entries
+pub mod SideBySide
+pub mod Numbered
 pub mod Writing
 pub mod HeldEnd
 pub mod Extents
@@ -10,7 +11,14 @@ pub mod Sides
 pub mod Lookups
 pub mod Covering
 pub mod Celled
+pub mod RunEntries
+pub mod Joining
+pub mod Reaching
 pub mod Printing
+pub mod RunPrinting
+pub mod Passing
+pub mod Seeing
+pub mod Coming
 pub mod Sizes
 pub mod Fitting
 pub mod Parts

@@ -3,9 +3,11 @@ pub mod LawsBelow
 pub mod Spans
 pub mod Hanging
 pub mod Cells
+pub mod Coming
 pub mod Rows
 pub mod Separators
 pub mod Shifting
+pub mod Runs
 pub mod Outline
 pub mod Grids
 pub mod Print

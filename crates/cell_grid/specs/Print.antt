@@ -8,10 +8,12 @@ use Rattle.bg_types.specs.declared.class.Bidi.TheVariants.{S}
 use Rattle.unicode_tables.specs.Tables.{TableValues, bidi_of}
 use Rattle.paragraphs.specs.Text.{code_points}
 use Rattle.reorder.specs.Mirrored.{mirrored_of}
+use Rattle.cell_grid.specs.declared.cluster_run.ClusterRun.{ClusterRun}
 use Rattle.cell_grid.specs.declared.entry.Entry.{Entry}
 use Rattle.cell_grid.specs.declared.cell.Cell.{Cell}
 use Rattle.cell_grid.specs.declared.cell.Cell.TheVariants.{Blank, Head, Tail}
 use Rattle.cell_grid.specs.Rows.{DrawnRow}
+use Rattle.cell_grid.specs.Runs.{run_entries}
 use Rattle.cell_grid.specs.Grids.{DrawnGrid, grid_of}
 
 -- Bidi class S
@@ -19,10 +21,14 @@ unfoldable pub is_segment_separator : Bidi → Bool
 is_segment_separator S = true
 is_segment_separator _ = false
 
--- the first of these code points separates segments, as a tab does
+-- a code point separates segments, as a tab does
+abbrev pub separates_segments : TableValues → ℕ → Bool
+separates_segments tables c = is_segment_separator (bidi_of tables c)
+
+-- the first of these code points does
 abbrev pub begins_with_tab : TableValues → List ℕ → Bool
 begins_with_tab tables [] = false
-begins_with_tab tables (c ∷ rest) = is_segment_separator (bidi_of tables c)
+begins_with_tab tables (c ∷ rest) = separates_segments tables c
 
 -- UAX #9, L4: a cluster of these code points as it is shown at a level
 abbrev pub mirrored_text : TableValues → (level : ℕ) → List ℕ → List ℕ
@@ -50,7 +56,11 @@ text_over (suc n) shown = shown
 abbrev pub own_text : TableValues → (text : List ℕ) → Entry → List ℕ
 own_text tables text e = text_over e.columns (entry_text tables text (Some e))
 
--- how many bytes that is of each entry of a row, from the left
+-- what the cells of a run's entries print, in whichever column it begins
+abbrev pub run_text : TableValues → (text : List ℕ) → ClusterRun → List ℕ
+run_text tables text r = flat_map (own_text tables text) (run_entries 0 r)
+
+-- how many bytes the cells of each entry of a row print, from the left
 abbrev pub own_sizes : TableValues → (text : List ℕ) → DrawnRow → List ℕ
 own_sizes tables text r = map (λ (e : Entry). length (own_text tables text e)) r.entries
 

@@ -1,10 +1,17 @@
 -- What may be shifted, so that no number passes the greatest length of a text.
-use Rattle.std.specs.Prelude.{ℕ, ◌+◌, ◌≤◌}
+use Rattle.std.specs.Prelude.{ℕ, ◌+◌, ◌^◌, ◌<◌, ◌≤◌}
 use Rattle.std.specs.List.{All}
 use Rattle.paragraphs.specs.Paragraphs.{Paragraph}
 use Rattle.paragraphs.specs.declared.span.Span.{Span}
 use Rattle.cell_grid.specs.declared.entry.Entry.{Entry}
 use Rattle.cell_grid.specs.Rows.{DrawnRow}
+
+-- moved this far, a span still has numbers of 32 bits
+pub record StaysInReach (bytes places : ℕ) (s : Span) : Type 0 where
+  pub first_byte : s.first_byte + bytes < 2 ^ 32
+  pub end_byte : s.end_byte + bytes < 2 ^ 32
+  pub first_place : s.first_place + places < 2 ^ 32
+  pub end_place : s.end_place + places < 2 ^ 32
 
 pub record MayShift (bytes places : ℕ) (s : Span) : Type 0 where
   pub first_byte : s.first_byte + bytes ≤ 4_000_000

@@ -1,11 +1,11 @@
 //! The columns of a line's clusters.
 
 ghost use Rattle.std.specs.Prelude.{◌≡◌, ◌+◌, ◌^◌, ◌<◌, ◌≤◌, length, sum, IfOk};
-ghost use Rattle.cell_grid.specs.Cells.{ColumnsFollow, total};
 ghost use Rattle.cell_grid.specs.Hanging.{hung};
 ghost use Rattle.cell_grid.specs.Rows.{start_column};
+ghost use Rattle.cell_grid.specs.Runs.{runs_columns};
 
-use crate::entry::Entry;
+use crate::cluster_run::ClusterRun;
 use bg_types::Memory;
 use std::alloc::Global;
 
@@ -58,14 +58,14 @@ pub(crate) fn start_column(width: u16, para_level: u8, columns: &[u8]) -> u16
     }
 }
 
-/// The column where entries side by side from column `start` on end.
-pub(crate) fn end_column(entries: &[Entry], start: u16) -> u16
-    requires follow { ColumnsFollow start entries.now (start + total entries.now) }
-    requires fits { start + total entries.now < 2 ^ 16 }
-    ensures { result ≡ start + total entries.now }
+/// The column where runs side by side from column `start` on end.
+pub(crate) fn end_column(runs: &[ClusterRun], start: u16) -> u16
+    requires { start + runs_columns runs.now < 2 ^ 16 }
+    ensures { result ≡ start + runs_columns runs.now }
 {
-    match entries.last() {
-        Some(entry) => entry.column + u16::from(entry.columns),
-        None => start,
+    let mut end = start;
+    for run in runs {
+        end += run.all_columns() as u16;
     }
+    end
 }

@@ -1,11 +1,10 @@
 //! How many bytes each entry of a row prints.
 
-ghost use Rattle.std.specs.Prelude.{◌≡◌, ◌++◌, ◌<◌, ◌≤◌, drop, length, map, OnOk};
+ghost use Rattle.std.specs.Prelude.{◌≡◌, ◌++◌, ◌<◌, ◌≤◌, drop, length, OnOk};
 ghost use Rattle.std.specs.List.{All};
-ghost use Rattle.cell_grid.specs.Print.{own_sizes, own_text, printed_sizes};
+ghost use Rattle.cell_grid.specs.Print.{own_sizes, printed_sizes};
 ghost use Rattle.cell_grid.specs.Printable.{IsSlice};
 
-use crate::entry::Entry;
 use crate::grid::Grid;
 use crate::laws_below::laws_below;
 use crate::print_size::cells_size;
@@ -27,7 +26,12 @@ pub fn row_entry_sizes(
     requires room { length row.now.entries ≤ length sizes.old }
     ensures { OnOk result (sizes.new ≡ own_sizes tables.now text.now row.now ++ drop (length row.now.entries) sizes.old) }
 {
-    write_sizes(tables, text, row.entries(), sizes)
+    let mut number = 0usize;
+    for entry in row.entries() {
+        sizes[number] = cells_size(tables, text, entry)?;
+        number += 1;
+    }
+    Ok(())
 }
 
 /// Tells how many bytes the cells of each entry of the row with this number, counted from 0, have in what `print_row_at` writes,
@@ -40,21 +44,4 @@ pub fn row_entry_sizes_at(grid: &Grid, number: usize, sizes: &mut [usize]) -> Re
 {
     laws_below();
     row_entry_sizes(grid.tables(), grid.text(), &grid.rows()[number], sizes)
-}
-
-/// Writes how many bytes the cells of each of these entries print to the front of a list.
-fn write_sizes(
-    tables: &Tables,
-    text: &str,
-    entries: &[Entry],
-    sizes: &mut [usize],
-) -> Result<(), Memory>
-    requires entries { All (λ e. IsSlice text.now e.span) entries.now }
-    requires room { length entries.now ≤ length sizes.old }
-    ensures { OnOk result (sizes.new ≡ map (λ e. length (own_text tables.now text.now e)) entries.now ++ drop (length entries.now) sizes.old) }
-{
-    for number in 0..entries.len() {
-        sizes[number] = cells_size(tables, text, entries[number])?;
-    }
-    Ok(())
 }

@@ -80,7 +80,7 @@ impl<'a> Grid<'a> {
 /// Draws a text on a grid of a width in columns: a row for each line of each paragraph.
 ///
 /// Memory is taken in proportion to the text.
-/// Cost: O(n), 20 bytes of memory a cluster.
+/// Cost: O(n), at most 20 bytes of memory a cluster.
 pub fn draw<'a>(
     alloc: Global,
     tables: &'a Tables,

@@ -2,7 +2,9 @@
 #![tactic(auto)]
 
 mod cell;
+mod cluster_run;
 mod column;
+mod entries;
 mod entry;
 mod entry_sizes;
 mod grid;
@@ -13,10 +15,12 @@ mod paragraph;
 mod print_size;
 mod printed;
 mod row;
+mod runs;
 mod separator;
 mod span;
 
 pub use cell::{Cell, Cells};
+pub use entries::Entries;
 pub use entry::Entry;
 pub use entry_sizes::{row_entry_sizes, row_entry_sizes_at};
 pub use grid::{Grid, draw};

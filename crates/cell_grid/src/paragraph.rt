@@ -129,7 +129,7 @@ fn classes_of(alloc: Global, words: &[Word]) -> Result<Vec<Bidi>, Memory>
 
 /// The rows of a paragraph of at most 4,000,000 bytes at a width in columns, from the top, with bytes and
 /// places counted from the paragraph's start.
-/// Cost: O(n), 20 bytes of memory a cluster.
+/// Cost: O(n), at most 20 bytes of memory a cluster.
 pub fn rows(
     alloc: Global,
     tables: &Tables,

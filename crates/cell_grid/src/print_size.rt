@@ -3,13 +3,14 @@
 ghost use Rattle.std.specs.Prelude.{◌≡◌, ◌+◌, ◌<◌, length, IfOk, Some};
 ghost use Rattle.std.specs.List.{All, flat_map};
 ghost use Rattle.paragraphs.specs.Text.{code_points};
-ghost use Rattle.cell_grid.specs.Print.{mirrored_text, entry_text, own_text, printed_row, row_text};
-ghost use Rattle.cell_grid.specs.Printable.{IsSlice};
+ghost use Rattle.cell_grid.specs.Print.{mirrored_text, entry_text, own_text, run_text, printed_row, row_text};
+ghost use Rattle.cell_grid.specs.Printable.{IsSlice, IsPrintable};
 
+use crate::cluster_run::ClusterRun;
 use crate::entry::Entry;
 use crate::grid::Grid;
 use crate::laws_below::laws_below;
-use crate::printed::begins_with_tab;
+use crate::printed::{begins_with_tab, prints_its_slice};
 use crate::row::Row;
 use bg_types::Memory;
 use reorder::mirrored;
@@ -24,7 +25,7 @@ pub fn row_print_size(tables: &Tables, text: &str, row: &Row) -> Result<usize, M
 {
     let (left, right) = row.blanks();
     let blanks = usize::from(left) + usize::from(right);
-    let size = entries_size(tables, text, row.entries())?;
+    let size = runs_size(tables, text, row.runs())?;
     // The LF is one more.
     added(size, blanks + 1)
 }
@@ -40,14 +41,40 @@ pub fn row_print_size_at(grid: &Grid, number: usize) -> Result<usize, Memory>
     row_print_size(grid.tables(), grid.text(), &grid.rows()[number])
 }
 
-/// How many bytes the cells of entries print.
-fn entries_size(tables: &Tables, text: &str, entries: &[Entry]) -> Result<usize, Memory>
-    requires { All (λ e. IsSlice text.now e.span) entries.now }
-    ensures { IfOk result (λ size. size ≡ length (flat_map (own_text tables.now text.now) entries.now)) }
+/// How many bytes the cells of runs print.
+fn runs_size(tables: &Tables, text: &str, runs: &[ClusterRun]) -> Result<usize, Memory>
+    requires { All (IsPrintable text.now) runs.now }
+    ensures { IfOk result (λ size. size ≡ length (flat_map (run_text tables.now text.now) runs.now)) }
 {
     let mut size = 0usize;
-    for entry in entries {
-        let own = cells_size(tables, text, *entry)?;
+    for run in runs {
+        let own = run_size(tables, text, run)?;
+        size = added(size, own)?;
+    }
+    Ok(size)
+}
+
+/// How many bytes the cells of a run's entries print.
+fn run_size(tables: &Tables, text: &str, run: &ClusterRun) -> Result<usize, Memory>
+    requires { IsPrintable text.now run.now }
+    ensures { IfOk result (λ size. size ≡ length (run_text tables.now text.now run.now)) }
+{
+    if prints_its_slice(tables, text, run) {
+        let last = run.cluster(run.further);
+        return Ok(last.end_byte as usize - run.span.first_byte as usize);
+    }
+    clusters_size(tables, text, run)
+}
+
+/// The same, entry by entry.
+fn clusters_size(tables: &Tables, text: &str, run: &ClusterRun) -> Result<usize, Memory>
+    requires { IsPrintable text.now run.now }
+    ensures { IfOk result (λ size. size ≡ length (run_text tables.now text.now run.now)) }
+{
+    let mut size = 0usize;
+    for number in 0..run.count() {
+        let entry = run.entry(0, number as u16);
+        let own = cells_size(tables, text, entry)?;
         size = added(size, own)?;
     }
     Ok(size)

@@ -1,15 +1,17 @@
 //! The print of a grid.
 
 ghost use Rattle.std.specs.Prelude.{◌≡◌, ◌<◌, ◌≤◌, ◌++◌, false, true, length, take, slice_range, is_err, IfOk, OnOk, OnErr};
-ghost use Rattle.std.specs.List.{All, flat_map};
+ghost use Rattle.std.specs.List.{All, flat_map, list_any};
 ghost use Rattle.std.specs.Io.KnownBytes.{Appends};
 ghost use Rattle.std.specs.Str.{IsCharBoundary};
 ghost use Rattle.bg_types.specs.Sink.{AppendsBeginning};
 ghost use Rattle.paragraphs.specs.Text.{code_points};
 ghost use Rattle.cell_grid.specs.Held.{AppendsAllBut};
-ghost use Rattle.cell_grid.specs.Print.{is_segment_separator, begins_with_tab, mirrored_text, own_text, row_text, printed, printed_row};
-ghost use Rattle.cell_grid.specs.Printable.{IsSlice};
+ghost use Rattle.cell_grid.specs.Print.{is_segment_separator, separates_segments, begins_with_tab, mirrored_text, own_text, run_text, row_text, printed, printed_row};
+ghost use Rattle.cell_grid.specs.Printable.{IsSlice, IsPrintable};
+ghost use Rattle.cell_grid.specs.Runs.{span_after};
 
+use crate::cluster_run::ClusterRun;
 use crate::entry::Entry;
 use crate::grid::Grid;
 use crate::held::{Held, hold_char, hold_spaces, hold_text, let_go};
@@ -68,32 +70,33 @@ pub fn print_row<W: Sink>(
     ensures err { OnErr result (AppendsBeginning (W.written sink.old) (W.written sink.new) (row_text tables.now text.now row.now)) }
     ensures failed { W.has_failed sink.new ≡ is_err result }
 {
+    let runs = row.runs();
     let (left, right) = row.blanks();
     let mut held = ArrayString::new();
     hold_spaces(left, &mut held, sink)?;
-    hold_entries(tables, text, row.entries(), &mut held, sink)?;
+    hold_runs(tables, text, runs, &mut held, sink)?;
     hold_spaces(right, &mut held, sink)?;
     hold_char('\n', &mut held, sink)?;
     let_go(&mut held, sink)
 }
 
-/// Holds what the cells of entries that stand side by side print. Never inlined: as a part of its caller its loops would have
+/// Holds what the cells of runs that stand side by side print. Never inlined: as a part of its caller its loops would have
 /// fewer registers.
 #[inline(never)]
-fn hold_entries<W: Sink>(
+fn hold_runs<W: Sink>(
     tables: &Tables,
     text: &str,
-    entries: &[Entry],
+    runs: &[ClusterRun],
     held: &mut Held,
     sink: &mut W,
 ) -> Result<(), Device>
     requires working { W.has_failed sink.old ≡ false }
-    requires entries { All (λ e. IsSlice text.now e.span) entries.now }
-    ensures ok { OnOk result (AppendsAllBut (W.written sink.old) (W.written sink.new) (held.old.bytes ++ flat_map (own_text tables.now text.now) entries.now) held.new.bytes) }
-    ensures err { OnErr result (AppendsBeginning (W.written sink.old) (W.written sink.new) (held.old.bytes ++ flat_map (own_text tables.now text.now) entries.now)) }
+    requires runs { All (IsPrintable text.now) runs.now }
+    ensures ok { OnOk result (AppendsAllBut (W.written sink.old) (W.written sink.new) (held.old.bytes ++ flat_map (run_text tables.now text.now) runs.now) held.new.bytes) }
+    ensures err { OnErr result (AppendsBeginning (W.written sink.old) (W.written sink.new) (held.old.bytes ++ flat_map (run_text tables.now text.now) runs.now)) }
     ensures failed { W.has_failed sink.new ≡ is_err result }
 {
-    let mut rest = entries;
+    let mut rest = runs;
     while !rest.is_empty() {
         let count = hold_first(tables, text, rest, held, sink)?;
         rest = rest.split_at(count).1;
@@ -101,63 +104,92 @@ fn hold_entries<W: Sink>(
     Ok(())
 }
 
-/// Holds what the first entries print, and answers how many these are: a run, or one entry.
+/// Holds what the first runs print, and answers how many these are: those of a slice of the text, or one.
 fn hold_first<W: Sink>(
     tables: &Tables,
     text: &str,
-    entries: &[Entry],
+    runs: &[ClusterRun],
     held: &mut Held,
     sink: &mut W,
 ) -> Result<usize, Device>
     requires working { W.has_failed sink.old ≡ false }
-    requires some { 0 < length entries.now }
-    requires entries { All (λ e. IsSlice text.now e.span) entries.now }
-    ensures some { IfOk result (λ count. (0 < count) × (count ≤ length entries.now)) }
-    ensures ok { IfOk result (λ count. AppendsAllBut (W.written sink.old) (W.written sink.new) (held.old.bytes ++ flat_map (own_text tables.now text.now) (take count entries.now)) held.new.bytes) }
-    ensures err { OnErr result (AppendsBeginning (W.written sink.old) (W.written sink.new) (held.old.bytes ++ flat_map (own_text tables.now text.now) entries.now)) }
+    requires some { 0 < length runs.now }
+    requires runs { All (IsPrintable text.now) runs.now }
+    ensures some { IfOk result (λ count. (0 < count) × (count ≤ length runs.now)) }
+    ensures ok { IfOk result (λ count. AppendsAllBut (W.written sink.old) (W.written sink.new) (held.old.bytes ++ flat_map (run_text tables.now text.now) (take count runs.now)) held.new.bytes) }
+    ensures err { OnErr result (AppendsBeginning (W.written sink.old) (W.written sink.new) (held.old.bytes ++ flat_map (run_text tables.now text.now) runs.now)) }
     ensures failed { W.has_failed sink.new ≡ is_err result }
 {
-    let start = entries[0].span.first_byte as usize;
-    let (count, end) = run_at(tables, text, entries, start);
+    let start = runs[0].span.first_byte as usize;
+    let (count, end) = slice_at(tables, text, runs, start);
     if count > 0 {
         hold_text(&text[start..end], held, sink)?;
         return Ok(count);
     }
-    hold_cells(tables, text, entries[0], held, sink)?;
+    hold_clusters(tables, text, &runs[0], held, sink)?;
     Ok(1)
 }
 
-/// How many of the first entries stand together in the text from this byte on, and print what stands there; and where they
-/// end.
-fn run_at(tables: &Tables, text: &str, entries: &[Entry], start: usize) -> (usize, usize)
+/// How many of the first runs stand together in the text from this byte on, and print what stands there; and where they end.
+fn slice_at(tables: &Tables, text: &str, runs: &[ClusterRun], start: usize) -> (usize, usize)
     requires start { IsCharBoundary text.now start }
-    requires entries { All (λ e. IsSlice text.now e.span) entries.now }
-    ensures count { result.0 ≤ length entries.now }
+    requires runs { All (IsPrintable text.now) runs.now }
+    ensures count { result.0 ≤ length runs.now }
     ensures order { start ≤ result.1 }
     ensures end { IsCharBoundary text.now result.1 }
-    ensures text { flat_map (own_text tables.now text.now) (take result.0 entries.now) ≡ slice_range text.now start result.1 }
+    ensures text { flat_map (run_text tables.now text.now) (take result.0 runs.now) ≡ slice_range text.now start result.1 }
 {
     let mut end = start;
-    for number in 0..entries.len() {
-        let entry = entries[number];
-        if entry.span.first_byte as usize != end || !prints_its_slice(tables, text, entry) {
+    for number in 0..runs.len() {
+        let run = runs[number];
+        if run.span.first_byte as usize != end || !prints_its_slice(tables, text, &run) {
             return (number, end);
         }
-        end = entry.span.end_byte as usize;
+        let last = run.cluster(run.further);
+        end = last.end_byte as usize;
     }
-    (entries.len(), end)
+    (runs.len(), end)
 }
 
-/// Whether an entry is known to print what stands in the text: it is of an even level, has columns and begins with no tab.
-fn prints_its_slice(tables: &Tables, text: &str, entry: Entry) -> bool
-    requires { IsSlice text.now entry.span }
-    ensures { result ≡ true → own_text tables.now text.now entry ≡ slice_range text.now entry.span.first_byte entry.span.end_byte }
+/// Whether a run is known to print what stands in the text: it is of an even level, has columns and no tab in it.
+pub(crate) fn prints_its_slice(tables: &Tables, text: &str, run: &ClusterRun) -> bool
+    requires { IsPrintable text.now run.now }
+    ensures { result ≡ true → run_text tables.now text.now run.now ≡ slice_range text.now run.now.span.first_byte (span_after run.now.further run.now.span).end_byte }
 {
-    if entry.level % 2 != 0 || entry.columns == 0 {
+    if run.level % 2 != 0 || run.columns == 0 {
         return false;
     }
-    let cluster = &text[entry.span.first_byte as usize..entry.span.end_byte as usize];
-    !begins_with_tab(tables, cluster)
+    let last = run.cluster(run.further);
+    let clusters = &text[run.span.first_byte as usize..last.end_byte as usize];
+    !has_segment_separator(tables, clusters)
+}
+
+/// Whether a code point of a text separates segments, as a tab does.
+fn has_segment_separator(tables: &Tables, text: &str) -> bool
+    ensures { result ≡ list_any (separates_segments tables.now) (code_points text.now) }
+{
+    text.chars().any(|c| is_segment_separator(tables.bidi(c)))
+}
+
+/// Holds what the cells of a run's entries print, one after the other.
+fn hold_clusters<W: Sink>(
+    tables: &Tables,
+    text: &str,
+    run: &ClusterRun,
+    held: &mut Held,
+    sink: &mut W,
+) -> Result<(), Device>
+    requires working { W.has_failed sink.old ≡ false }
+    requires run { IsPrintable text.now run.now }
+    ensures ok { OnOk result (AppendsAllBut (W.written sink.old) (W.written sink.new) (held.old.bytes ++ run_text tables.now text.now run.now) held.new.bytes) }
+    ensures err { OnErr result (AppendsBeginning (W.written sink.old) (W.written sink.new) (held.old.bytes ++ run_text tables.now text.now run.now)) }
+    ensures failed { W.has_failed sink.new ≡ is_err result }
+{
+    for number in 0..run.count() {
+        let entry = run.entry(0, number as u16);
+        hold_cells(tables, text, entry, held, sink)?;
+    }
+    Ok(())
 }
 
 /// Holds what the cells of an entry print, if it has any.

@@ -1,26 +1,30 @@
 //! A row of a grid.
 
-ghost use Rattle.std.specs.Prelude.{◌≡◌, ◌++◌, ◌<◌, ◌≤◌, length, map, replicate, slice_get, sum, IfOk, Some};
+ghost use Rattle.std.specs.Prelude.{◌≡◌, ℕ, ◌^◌, ◌++◌, ◌<◌, ◌≤◌, length, replicate, slice_get, sum, IfOk, Some};
 ghost use Rattle.std.specs.List.{All};
 ghost use Rattle.cell_grid.specs.declared.cell.Cell.TheVariants.{Blank};
 ghost use Rattle.cell_grid.specs.Cells.{entries_cells};
 ghost use Rattle.cell_grid.specs.Hanging.{hung};
-ghost use Rattle.cell_grid.specs.Rows.{row_with, shifted, shifted_entry};
+ghost use Rattle.cell_grid.specs.Rows.{row_with, shifted};
+ghost use Rattle.cell_grid.specs.Runs.{runs_columns, runs_entries, IsInReach};
 ghost use Rattle.cell_grid.specs.Separators.{separator_row};
-ghost use Rattle.cell_grid.specs.Shifting.{MayShift, MayShiftRow};
+ghost use Rattle.cell_grid.specs.Shifting.{MayShiftRow};
 
 use crate::cell::{Cell, Cells, cell_in};
+use crate::cluster_run::ClusterRun;
 use crate::column::{end_column, hung, start_column, sum_of};
-use crate::entry::{Entry, entries_from};
-use crate::span::{extent, shifted};
+use crate::entries::Entries;
+use crate::entry::Entry;
+use crate::runs::{entry_in, runs_from, shift_runs};
+use crate::span::extent;
 use bg_types::Memory;
 use paragraphs::Span;
 use reorder::visual;
 use std::alloc::Global;
 use std::marker::Model;
 
-/// A row of a grid: a line with its entries from left to right. It keeps no cells: they follow from
-/// the width, the column where the entries begin and the entries.
+/// A row of a grid: a line with its entries from left to right. It keeps them as runs of like clusters, and no cells: they
+/// follow from the width, the column where the entries begin and the entries.
 #[derive(Debug)]
 pub struct Row {
     width: u16,
@@ -28,12 +32,15 @@ pub struct Row {
     first_place: u32,
     last_place: u32,
     para_level: u8,
-    entries: Vec<Entry>,
+    /// How many entries the runs have.
+    count: u32,
+    runs: Vec<ClusterRun>,
 }
 
 impl Model for Row {
-    ghost use Rattle.cell_grid.specs.Cells.{cells_of, StandWithin};
+    ghost use Rattle.cell_grid.specs.Cells.{cells_of};
     ghost use Rattle.cell_grid.specs.Rows.{DrawnRow};
+    ghost use Rattle.cell_grid.specs.Runs.{runs_entries, AreKept};
 
     ghost Value = { DrawnRow };
 
@@ -41,11 +48,11 @@ impl Model for Row {
       first_place = r.first_place;
       last_place = r.last_place;
       para_level = r.para_level;
-      entries = r.entries.items;
-      cells = cells_of r.width r.start r.entries.items;
+      entries = runs_entries r.start r.runs.items;
+      cells = cells_of r.width r.start (runs_entries r.start r.runs.items);
     } };
 
-    ghost invariant = { λ r. StandWithin r.width r.start r.entries.items };
+    ghost invariant = { λ r. AreKept r.width r.start r.count r.runs.items };
 }
 
 // Written out: a crate above then proves the call, and nothing of the parts.
@@ -57,7 +64,8 @@ impl Drop for Row {
             first_place: _,
             last_place: _,
             para_level: _,
-            entries: _,
+            count: _,
+            runs: _,
         } = self;
     }
 }
@@ -82,7 +90,7 @@ impl Row {
     {
         let start = start_column(width, para_level, columns);
         let order = visual(alloc, levels)?;
-        let entries = entries_from(alloc, spans, levels, columns, start, &order)?;
+        let runs = runs_from(alloc, spans, levels, columns, start, &order)?;
         let whole = extent(spans);
         Ok(Row {
             width,
@@ -90,7 +98,8 @@ impl Row {
             first_place: whole.first_place,
             last_place: whole.end_place,
             para_level,
-            entries,
+            count: spans.len() as u32,
+            runs,
         })
     }
 
@@ -140,18 +149,20 @@ impl Row {
             level: para_level,
             columns: 0,
         };
+        let run = ClusterRun::of(entry);
         Ok(Row {
             width,
             start,
             first_place: 0,
             last_place: 1,
             para_level,
-            entries: Vec::from_slice(alloc, &[entry])?,
+            count: 1,
+            runs: Vec::from_slice(alloc, &[run])?,
         })
     }
 
     /// A copy that stands this many bytes and places later. No number of it may pass 4,000,000.
-    /// Cost: O(n) of its entries, memory for them.
+    /// Cost: O(n) of its runs of like clusters, memory for them.
     pub fn shifted(&self, alloc: Global, bytes: u32, places: u32) -> Result<Row, Memory>
         requires { MayShiftRow bytes places self.now }
         ensures { IfOk result (λ row. row ≡ shifted bytes places self.now) }
@@ -162,7 +173,8 @@ impl Row {
             first_place: self.first_place,
             last_place: self.last_place,
             para_level: self.para_level,
-            entries: Vec::from_slice(alloc, &self.entries)?,
+            count: self.count,
+            runs: Vec::from_slice(alloc, &self.runs)?,
         };
         row.shift(bytes, places);
         Ok(row)
@@ -175,7 +187,7 @@ impl Row {
     {
         self.first_place += places;
         self.last_place += places;
-        shift_entries(&mut self.entries, bytes, places);
+        shift_runs(&mut self.runs, bytes, places);
     }
 
     /// The place of its first code point. An empty row has its own place.
@@ -202,12 +214,40 @@ impl Row {
         self.para_level
     }
 
-    /// Its entries from left to right, one for each cluster of the line.
+    /// How many entries it has, one for each cluster of the line.
     #[inline]
-    pub fn entries(&self) -> &[Entry]
-        ensures { result.now ≡ self.now.entries }
+    pub fn entry_count(&self) -> usize
+        ensures count { result ≡ length self.now.entries }
+        ensures most { result ≤ 4_000_000 }
     {
-        &self.entries
+        self.count as usize
+    }
+
+    /// Its entries from left to right, one for each cluster of the line.
+    /// Cost: O(1), and so is a step.
+    #[inline]
+    pub fn entries(&self) -> Entries<'_>
+        ensures { result ≡ self.now.entries }
+    {
+        Entries::of(&self.runs, self.start)
+    }
+
+    /// The entry with this number, counted from 0 at the left; none behind the last.
+    /// Cost: O(n) of its runs of like clusters.
+    pub fn entry(&self, number: usize) -> Option<Entry>
+        ensures { result ≡ slice_get self.now.entries number }
+    {
+        entry_in(&self.runs, self.start, number)
+    }
+
+    /// Its runs from left to right.
+    #[inline]
+    pub(crate) fn runs(&self) -> &[ClusterRun]
+        ensures entries { (start : ℕ) × (runs_entries start result.now ≡ self.now.entries) }
+        ensures columns { runs_columns result.now < 2 ^ 16 }
+        ensures reach { All IsInReach result.now }
+    {
+        &self.runs
     }
 
     /// How many columns it has, each with a cell.
@@ -219,8 +259,7 @@ impl Row {
     }
 
     /// Its cells from left to right, one for each column.
-    /// Cost: O(1); O(log n) a cell.
-    #[inline]
+    /// Cost: O(n) of its runs of like clusters, and of all cells O(n) of its columns and entries.
     pub fn cells(&self) -> Cells<'_>
         ensures { result ≡ self.now.cells }
     {
@@ -228,7 +267,7 @@ impl Row {
     }
 
     /// The cell in a column, counted from 0 at the left edge; none after the right edge.
-    /// Cost: O(log n) of its entries.
+    /// Cost: O(n) of its runs of like clusters.
     pub fn cell(&self, column: usize) -> Option<Cell>
         ensures { result ≡ slice_get self.now.cells column }
     {
@@ -245,7 +284,7 @@ impl Row {
         requires { column < length self.now.cells }
         ensures { slice_get self.now.cells column ≡ Some result }
     {
-        cell_in(&self.entries, column)
+        cell_in(&self.runs, self.start, column)
     }
 
     /// How many blanks stand left of the entries' cells, and how many right of them.
@@ -254,17 +293,7 @@ impl Row {
             ≡ replicate result.0 Blank ++ (entries_cells 0 self.now.entries ++ replicate result.1 Blank) }
     {
         let width = self.width;
-        let end = end_column(&self.entries, self.start);
+        let end = end_column(&self.runs, self.start);
         (self.start, width - end)
-    }
-}
-
-fn shift_entries(entries: &mut [Entry], bytes: u32, places: u32)
-    requires { All (λ e. MayShift bytes places e.span) entries.old }
-    ensures { entries.new ≡ map (shifted_entry bytes places) entries.old }
-{
-    for entry in entries.iter_mut() {
-        let span = entry.span;
-        entry.span = shifted(span, bytes, places);
     }
 }

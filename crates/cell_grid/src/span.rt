@@ -1,8 +1,9 @@
-//! The extent of clusters that follow one another, and spans moved later in the text.
+//! The extent of clusters that follow one another, spans moved later in the text, and spans of one size in a row.
 
-ghost use Rattle.std.specs.Prelude.{◌≡◌};
+ghost use Rattle.std.specs.Prelude.{◌≡◌, ◌+◌, ◌-◌, ◌*◌, ◌^◌, ◌<◌, ◌==◌};
+ghost use Rattle.cell_grid.specs.Runs.{byte_count, point_count, span_after, stands_after};
+ghost use Rattle.cell_grid.specs.Shifting.{StaysInReach};
 ghost use Rattle.cell_grid.specs.Spans.{extent, shifted_span};
-ghost use Rattle.cell_grid.specs.Shifting.{MayShift};
 
 use paragraphs::Span;
 
@@ -29,7 +30,7 @@ pub(crate) fn extent(spans: &[Span]) -> Span
 /// The span this many bytes and places later.
 #[inline]
 pub(crate) fn shifted(span: Span, bytes: u32, places: u32) -> Span
-    requires { MayShift bytes places span }
+    requires { StaysInReach bytes places span }
     ensures { result ≡ shifted_span bytes places span }
 {
     Span {
@@ -38,4 +39,47 @@ pub(crate) fn shifted(span: Span, bytes: u32, places: u32) -> Span
         first_place: span.first_place + places,
         end_place: span.end_place + places,
     }
+}
+
+/// The span behind so many spans like this one, of which it is the first.
+#[inline]
+pub(crate) fn span_after(count: u16, span: Span) -> Span
+    requires { StaysInReach (count * byte_count span) (count * point_count span) span }
+    ensures { result ≡ span_after count span }
+{
+    let size = span.end_byte.saturating_sub(span.first_byte);
+    let points = span.end_place.saturating_sub(span.first_place);
+    let bytes = u32::from(count) * size;
+    let places = u32::from(count) * points;
+    shifted(span, bytes, places)
+}
+
+/// Whether the second span stands behind so many spans like the first one.
+pub(crate) fn stands_after(count: u16, first: Span, span: Span) -> bool
+    ensures { result ≡ stands_after count first span }
+{
+    let bytes = steps(count, first.first_byte, first.end_byte);
+    let places = steps(count, first.first_place, first.end_place);
+    is_later(bytes, first.first_byte, span.first_byte)
+        && is_later(bytes, first.end_byte, span.end_byte)
+        && is_later(places, first.first_place, span.first_place)
+        && is_later(places, first.end_place, span.end_place)
+}
+
+/// So many times how far one number is behind another.
+#[inline]
+fn steps(count: u16, from: u32, to: u32) -> u64
+    ensures steps { result ≡ count * (to - from) }
+    ensures most { result < 2 ^ 48 }
+{
+    u64::from(count) * u64::from(to.saturating_sub(from))
+}
+
+/// Whether a number is so much greater than another.
+#[inline]
+fn is_later(by: u64, from: u32, to: u32) -> bool
+    requires { by < 2 ^ 48 }
+    ensures { result ≡ (to == (from + by)) }
+{
+    u64::from(to) == u64::from(from) + by
 }

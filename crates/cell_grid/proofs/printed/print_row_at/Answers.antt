@@ -1,5 +1,5 @@
 -- The row with a number, as the grid's print has it.
-use Rattle.std.proofs.Common.{◌≡◌, ◌<◌, ℕ, List, [], length, get_or, slice_get, Option, Some, OnOk, OnErr, refl, sym, ap, subst}
+use Rattle.std.proofs.Common.{ℕ, List, [], Option, OnOk, OnErr, sym, ap, subst}
 use Rattle.std.specs.Option.{option_map_or}
 use Rattle.std.specs.Io.KnownBytes.{Appends}
 use Rattle.std.specs.List.{All}

@@ -1,19 +1,21 @@
--- A cluster of an even level that has columns and is no tab is shown by its bytes.
-use Rattle.std.proofs.Common.{◌≡◌, Bool, true, false, not, refl, sym, ap, subst, ◌∙◌, arith}
-use Rattle.std.specs.Str.{IsUtf8}
+-- Clusters of an even level that have columns and no tab among them are shown by their bytes.
+use Rattle.std.proofs.Common.{sym, ap, ◌∙◌, arith, slice_range}
+use Rattle.std.proofs.lemmas.Bool.{not-true}
+use Rattle.std.specs.List.{list_any}
 use Rattle.paragraphs.specs.Text.{code_points}
-use Rattle.cell_grid.specs.Print.{begins_with_tab}
-use Rattle.cell_grid.proofs.Printing.{own-slice}
-use Rattle.cell_grid.proofs.Writing.{even-text}
+use Rattle.paragraphs.specs.declared.span.Span.{Span}
+use Rattle.cell_grid.specs.Print.{separates_segments}
+use Rattle.cell_grid.proofs.RunPrinting.{slice-text}
 use Rattle.cell_grid.proofs.printed.prints_its_slice.Goals as goal
 
-off : (b : Bool) → not b ≡ true → b ≡ false
-off true h = sym h
-off false h = refl
+pub cluster-last-requires : goal.cluster-last-requires
+cluster-last-requires c = record { within = omega arith; reach = c.requires.reach }
 
 pub returns : goal.returns
 returns c h =
-    let slice = c.range-cluster.ensures.value in
-    let tab = ap (λ t. begins_with_tab c.args.tables.now (code_points t)) (sym slice) ∙ sym c.begins_with_tab.ensures ∙ off c.begins_with_tab.result h in
-    own-slice c.args.tables.now c.args.text.now c.args.entry (omega (arith, c.if-entry-eq0.false)) tab
-    (even-text c.args.tables.now c.args.entry.level _ (omega (arith, c.if-entry-ne0.false)) (subst IsUtf8 slice c.range-cluster.utf8))
+    let text = c.args.text.now in
+    let r = c.args.run.now in
+    let last = ap (λ (s : Span). s.end_byte) c.cluster-last.ensures in
+    let slice = c.range-clusters.ensures.value ∙ ap (slice_range text r.span.first_byte) last in
+    let none = ap (λ t. list_any (separates_segments c.args.tables.now) (code_points t)) (sym slice) ∙ sym c.has_segment_separator.ensures ∙ not-true c.has_segment_separator.result h in
+    slice-text c.args.tables.now text r c.requires c.utf8.text (omega (arith, c.if-run-ne0.false)) (omega (arith, c.if-run-eq0.false)) none

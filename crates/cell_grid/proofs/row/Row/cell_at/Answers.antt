@@ -1,27 +1,34 @@
 -- What is seen in a column is its cell.
-use Rattle.std.proofs.Common.{◌<◌, ◌+◌, List, length, slice_get, sym, ap, subst, ◌∙◌, arith}
-use Rattle.cell_grid.specs.declared.entry.Entry.{Entry}
-use Rattle.cell_grid.specs.Cells.{ColumnsFollow, total, IsSeenAt}
+use Rattle.std.proofs.Common.{◌<◌, List, length, slice_get, sym, ap, subst, ◌∙◌, arith}
+use Rattle.cell_grid.specs.declared.cluster_run.ClusterRun.{ClusterRun}
+use Rattle.cell_grid.specs.Cells.{IsSeenAt}
 use Rattle.cell_grid.specs.Rows.{DrawnRow}
+use Rattle.cell_grid.specs.Runs.{runs_columns, runs_entries}
 use Rattle.cell_grid.proofs.Celled.{length-cells, seen-is}
+use Rattle.cell_grid.proofs.RunEntries.{total-runs}
 use Rattle.cell_grid.proofs.row.Row.cell_at.Goals as goal
 
-pub cell_in-requires-clause-follow : goal.cell_in-requires-clause-follow
-cell_in-requires-clause-follow c =
+pub cell_in-requires : goal.cell_in-requires
+cell_in-requires c =
     let inside = c.self.inside in
-    let end = inside.start + total inside.entries.items in
-    (inside.start, end, subst (λ (es : List Entry). ColumnsFollow inside.start es end) (sym c.deref.ensures.value) c.self.invariant.follow)
-
-pub cell_in-requires-clause-count : goal.cell_in-requires-clause-count
-cell_in-requires-clause-count c = let n = ap length c.deref.ensures.value in let few = c.self.invariant.count in omega arith
+    let runs = c.deref.ensures.value in
+    let all = ap runs_columns runs in
+    let many = ap (λ (l : List ClusterRun). length (runs_entries inside.start l)) runs in
+    let wide = total-runs inside.start inside.runs.items in
+    let fits = c.self.invariant.stand.fits in
+    let few = c.self.invariant.stand.count in
+    let widest = c.self.invariant.wide in
+    record { fits = omega arith; few = omega arith }
 
 pub returns : goal.returns
 returns c =
     let inside = c.self.inside in
-    let len = length-cells inside.entries.items inside.start inside.width c.self.invariant.follow c.self.invariant.fits in
+    let es = runs_entries inside.start inside.runs.items in
+    let stand = c.self.invariant.stand in
+    let len = length-cells es inside.start inside.width stand.follow stand.fits in
     let same = ap (λ (r : DrawnRow). length r.cells) c.self.view_is in
     let all = c.requires in
     let lt : c.args.column < inside.width = omega arith in
-    let at = subst (λ (es : List Entry). IsSeenAt es c.args.column c.cell_in.result) c.deref.ensures.value c.cell_in.ensures in
+    let at = subst (λ (l : List ClusterRun). IsSeenAt (runs_entries inside.start l) c.args.column c.cell_in.result) c.deref.ensures.value c.cell_in.ensures in
     sym (ap (λ (r : DrawnRow). slice_get r.cells c.args.column) c.self.view_is)
-    ∙ sym (seen-is inside.entries.items inside.start inside.width c.self.invariant.follow c.self.invariant.fits c.args.column c.cell_in.result lt at)
+    ∙ sym (seen-is es inside.start inside.width stand.follow stand.fits c.args.column c.cell_in.result lt at)

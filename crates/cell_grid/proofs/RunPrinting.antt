@@ -1,0 +1,169 @@
+-- What a run prints.
+use Rattle.std.proofs.Common.{◌≡◌, ℕ, zero, suc, ◌+◌, ◌-◌, ◌*◌, ◌^◌, ◌<◌, ◌≤◌, ◌%◌, Bool, false, cond, ◌||◌, List, [], ◌∷◌, ◌++◌, map, length, take, drop, get_or, slice_range, flat_map, refl, sym, ap, subst, ◌∙◌, arith, append-nil, mul-le-mul_right}
+use Rattle.std.proofs.lemmas.Bool.{or_parts, ne_eqb}
+use Rattle.std.proofs.lemmas.List.Concat.{flat_map-append, flat_map-cons}
+use Rattle.std.proofs.lemmas.List.Folds.{list_any-append}
+use Rattle.std.proofs.lemmas.List.FromFn.{length-map-range_with_len, get_or-map-range_with_len, map-range_with_len_more}
+use Rattle.std.proofs.lemmas.List.Sums.{get_or-le-sum_by}
+use Rattle.std.proofs.lemmas.Str.{IsUtf8-between, chars-append}
+use Rattle.std.specs.List.{All, list_any, range_with_len}
+use Rattle.std.specs.Str.{IsUtf8, IsCharBoundary}
+use Rattle.unicode_tables.specs.Tables.{TableValues}
+use Rattle.paragraphs.specs.Text.{code_points}
+use Rattle.reorder.specs.VisualList.{is_odd}
+use Rattle.cell_grid.specs.declared.cluster_run.ClusterRun.{ClusterRun}
+use Rattle.cell_grid.specs.declared.entry.Entry.{Entry}
+use Rattle.cell_grid.specs.Print.{separates_segments, begins_with_tab, own_text, run_text}
+use Rattle.cell_grid.specs.Printable.{IsSlice, IsPrintable}
+use Rattle.cell_grid.specs.Runs.{byte_count, span_after, cluster_count, cluster_from_left, run_entry, run_entries, run_columns, runs_columns, runs_entries, IsInReach}
+use Rattle.cell_grid.proofs.Joining.{none-after}
+use Rattle.cell_grid.proofs.Printing.{own-slice}
+use Rattle.cell_grid.proofs.Reaching.{all-clusters, from_left-within}
+use Rattle.cell_grid.proofs.Steps.{slice-parts}
+use Rattle.cell_grid.proofs.Writing.{even-text}
+
+-- ---- runs, and their entries
+
+-- runs whose entries are slices of a text can be printed
+pub printable-runs : (text : List ℕ) (start : ℕ) (runs : List ClusterRun) (es : List Entry) → runs_entries start runs ≡ es → All (λ (e : Entry). IsSlice text e.span) es
+    → All IsInReach runs → runs_columns runs < 2 ^ 16 → All (IsPrintable text) runs
+printable-runs text start runs es is slices reach wide = λ i d lt.
+    let here = get_or-le-sum_by run_columns runs i d lt in
+    record {
+      reach = reach i d lt;
+      columns = omega arith;
+      slices = all-clusters (IsSlice text) start runs (subst (All (λ (e : Entry). IsSlice text e.span)) (sym is) slices) i d lt;
+    }
+
+module _ (tables : TableValues) (text : List ℕ) where
+  -- in whichever column it begins
+  range-text : (column : ℕ) (r : ClusterRun) (from n : ℕ) → flat_map (own_text tables text) (map (run_entry column r) (range_with_len from n)) ≡ flat_map (own_text tables text) (map (run_entry 0 r) (range_with_len from n))
+  range-text column r from zero = refl
+  range-text column r from (suc n) =
+      let f = own_text tables text in
+      flat_map-cons f (run_entry column r from) (map (run_entry column r) (range_with_len (from + 1) n))
+      ∙ ap (λ t. f (run_entry 0 r from) ++ t) (range-text column r (from + 1) n)
+      ∙ sym (flat_map-cons f (run_entry 0 r from) (map (run_entry 0 r) (range_with_len (from + 1) n)))
+
+  -- runs print what their entries do
+  pub runs-text : (column : ℕ) (runs : List ClusterRun) → flat_map (own_text tables text) (runs_entries column runs) ≡ flat_map (run_text tables text) runs
+  runs-text column [] = refl
+  runs-text column (r ∷ later) =
+      let f = own_text tables text in
+      flat_map-append f (run_entries column r) (runs_entries (column + run_columns r) later)
+      ∙ ap (λ t. t ++ flat_map f (runs_entries (column + run_columns r) later)) (range-text column r 0 (cluster_count r))
+      ∙ ap (λ t. run_text tables text r ++ t) (runs-text (column + run_columns r) later)
+      ∙ sym (flat_map-cons (run_text tables text) r later)
+
+-- ---- an entry of a run by its number
+
+module _ (text : List ℕ) (r : ClusterRun) where
+  pub entry-within : (number : ℕ) → number < cluster_count r → number < length (run_entries 0 r)
+  entry-within number lt = let len = length-map-range_with_len (run_entry 0 r) 0 (cluster_count r) in omega arith
+
+  pub entry-read : (number : ℕ) (e d : Entry) → number < cluster_count r → e ≡ run_entry 0 r number → e ≡ get_or (run_entries 0 r) number d
+  entry-read number e d lt is = is ∙ sym (get_or-map-range_with_len (run_entry 0 r) 0 (cluster_count r) number number d lt (omega arith))
+
+  pub entry-slice : IsPrintable text r → (number : ℕ) (e : Entry) → number ≤ r.further → e ≡ run_entry 0 r number → IsSlice text e.span
+  entry-slice h number e le is =
+      subst (λ (x : Entry). IsSlice text x.span) (sym is) (h.slices (cluster_from_left r number) (from_left-within r number le))
+
+-- ---- where a run stands in its text
+
+end-next : (k first end size : ℕ) → end ≡ first + size → end + k * size ≡ first + (k + 1) * size
+end-next k first end size e = omega arith
+
+none-upto : (x m : ℕ) → x + 0 * m - x ≡ 0
+none-upto x m = omega arith
+
+one-upto : (x k m : ℕ) → x + k * m ≤ x + (k + 1) * m
+one-upto x k m = omega arith
+
+some-upto : (x k m : ℕ) → x ≤ x + k * m
+some-upto x k m = omega arith
+
+module _ (text : List ℕ) (r : ClusterRun) (h : IsPrintable text r) where
+  pub first-slice : IsSlice text r.span
+  first-slice = subst (IsSlice text) (none-after r.span) (h.slices 0 (omega arith))
+
+  pub last-slice : IsSlice text (span_after r.further r.span)
+  last-slice = h.slices r.further (omega arith)
+
+  -- a cluster ends where the next one begins
+  pub ends-next : (k : ℕ) → r.span.end_byte + k * byte_count r.span ≡ r.span.first_byte + (k + 1) * byte_count r.span
+  ends-next k =
+      let order = first-slice.order in
+      let size : r.span.end_byte ≡ r.span.first_byte + byte_count r.span = omega arith in
+      end-next k r.span.first_byte r.span.end_byte (byte_count r.span) size
+
+  pub run-order : r.span.first_byte ≤ (span_after r.further r.span).end_byte
+  run-order = let order = first-slice.order in omega arith
+
+-- ---- a run that prints its slice of the text
+
+begins-none : (tables : TableValues) (points : List ℕ) → list_any (separates_segments tables) points ≡ false → begins_with_tab tables points ≡ false
+begins-none tables [] none = refl
+begins-none tables (c ∷ rest) none = (or_parts (separates_segments tables c) (list_any (separates_segments tables) rest) none).0
+
+module _ (text : List ℕ) (u : IsUtf8 text) (p : ℕ → Bool) where
+  -- what no code point of a stretch has, none of a part of it has
+  part-none : (from i j to : ℕ) → from ≤ i → i ≤ j → j ≤ to → IsCharBoundary text from → IsCharBoundary text i → IsCharBoundary text j → IsCharBoundary text to
+      → list_any p (code_points (slice_range text from to)) ≡ false → list_any p (code_points (slice_range text i j)) ≡ false
+  part-none from i j to a b c bf bi bj bt none =
+      let front = slice_range text from i in
+      let part = slice_range text i j in
+      let back = slice_range text j to in
+      let whole = slice-parts text from i to a (omega arith) ∙ ap (λ t. front ++ t) (slice-parts text i j to b c) in
+      let points = ap code_points whole ∙ chars-append front (part ++ back) (IsUtf8-between text from i u a bf bi) ∙ ap (λ t. code_points front ++ t) (chars-append part back (IsUtf8-between text i j u b bi bj)) in
+      let tests = sym none ∙ ap (list_any p) points ∙ list_any-append p (code_points front) (code_points part ++ code_points back)
+      ∙ ap (λ t. list_any p (code_points front) || t) (list_any-append p (code_points part) (code_points back)) in
+      let later = or_parts (list_any p (code_points front)) (list_any p (code_points part) || list_any p (code_points back)) (sym tests) in
+      (or_parts (list_any p (code_points part)) (list_any p (code_points back)) later.1).0
+
+module _ (tables : TableValues) (text : List ℕ) (r : ClusterRun) (h : IsPrintable text r) (u : IsUtf8 text) (even : r.level % 2 ≡ 0) (some : 0 < r.columns)
+    (none : list_any (separates_segments tables) (code_points (slice_range text r.span.first_byte (span_after r.further r.span).end_byte)) ≡ false) where
+  not-odd : is_odd r.level ≡ false
+  not-odd = ne_eqb (r.level % 2) 1 (λ one. let two = even in absurd (omega arith))
+
+  -- each of its entries prints the slice of its cluster
+  cluster-text : (k : ℕ) → k ≤ r.further → own_text tables text (run_entry 0 r k) ≡ slice_range text (r.span.first_byte + k * byte_count r.span) (r.span.first_byte + (k + 1) * byte_count r.span)
+  cluster-text k le =
+      let size = byte_count r.span in
+      let from = r.span.first_byte + k * size in
+      let to = r.span.end_byte + k * size in
+      let here = h.slices k le in
+      let first = first-slice text r h in
+      let last = last-slice text r h in
+      let low = some-upto r.span.first_byte k size in
+      let high : to ≤ r.span.end_byte + r.further * size = (let more = mul-le-mul_right size le in omega arith) in
+      let bytes = slice_range text from to in
+      let utf8 = IsUtf8-between text from to u here.order here.start here.end in
+      let tab =
+      begins-none tables (code_points bytes)
+      (part-none text u (separates_segments tables) r.span.first_byte from to (r.span.end_byte + r.further * size) low here.order high first.start here.start here.end last.end none) in
+      let e : Entry = record { span = span_after k r.span; column = 0 + k * r.columns; level = r.level; columns = r.columns } in
+      ap (λ c. own_text tables text (record { span = span_after c r.span; column = 0 + k * r.columns; level = r.level; columns = r.columns })) (ap (λ b. cond b (r.further - k) k) not-odd)
+      ∙ own-slice tables text e some tab (even-text tables r.level bytes even utf8)
+      ∙ ap (slice_range text from) (ends-next text r h k)
+
+  text-upto : (n : ℕ) → n ≤ cluster_count r → flat_map (own_text tables text) (map (run_entry 0 r) (range_with_len 0 n)) ≡ slice_range text r.span.first_byte (r.span.first_byte + n * byte_count r.span)
+  text-upto zero le =
+      let e : r.span.first_byte + 0 * byte_count r.span - r.span.first_byte ≡ 0 = none-upto r.span.first_byte (byte_count r.span) in
+      ap (λ k. take k (drop r.span.first_byte text)) (sym e)
+  text-upto (suc n) le =
+      let f = own_text tables text in
+      let size = byte_count r.span in
+      let from = r.span.first_byte in
+      let e : suc n ≡ n + 1 = omega arith in
+      let low = some-upto from n size in
+      let high = one-upto from n size in
+      ap (λ k. flat_map f (map (run_entry 0 r) (range_with_len 0 k))) e
+      ∙ ap (flat_map f) (map-range_with_len_more (run_entry 0 r) 0 n n (omega arith))
+      ∙ flat_map-append f (map (run_entry 0 r) (range_with_len 0 n)) (run_entry 0 r n ∷ [])
+      ∙ ap (λ t. t ++ flat_map f (run_entry 0 r n ∷ [])) (text-upto n (omega arith))
+      ∙ ap (λ t. slice_range text from (from + n * size) ++ t) (flat_map-cons f (run_entry 0 r n) [] ∙ append-nil (f (run_entry 0 r n)) ∙ cluster-text n (omega arith))
+      ∙ sym (slice-parts text from (from + n * size) (from + (n + 1) * size) low high)
+      ∙ ap (λ k. slice_range text from (from + k * size)) (sym e)
+
+  pub slice-text : run_text tables text r ≡ slice_range text r.span.first_byte (span_after r.further r.span).end_byte
+  slice-text = text-upto (cluster_count r) (omega arith) ∙ ap (slice_range text r.span.first_byte) (sym (ends-next text r h r.further))

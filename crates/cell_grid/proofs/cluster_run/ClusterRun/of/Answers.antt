@@ -1,0 +1,14 @@
+-- One cluster.
+use Rattle.std.proofs.Common.{arith}
+use Rattle.cell_grid.proofs.Joining.{alone-entries, alone-columns, alone-reach}
+use Rattle.cell_grid.proofs.cluster_run.ClusterRun.of.Goals as goal
+
+pub returns-clause-entries : goal.returns-clause-entries
+returns-clause-entries c = alone-entries c.args.entry
+
+pub returns-clause-columns : goal.returns-clause-columns
+returns-clause-columns c = alone-columns c.args.entry
+
+pub returns-clause-reach : goal.returns-clause-reach
+returns-clause-reach c =
+    alone-reach c.args.entry (record { first_byte = omega arith; end_byte = omega arith; first_place = omega arith; end_place = omega arith })

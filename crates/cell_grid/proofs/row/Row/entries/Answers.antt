@@ -1,0 +1,19 @@
+-- Those of its runs.
+use Rattle.std.proofs.Common.{ap, subst, sym, ◌∙◌, arith}
+use Rattle.std.specs.List.{All}
+use Rattle.cell_grid.specs.Rows.{DrawnRow}
+use Rattle.cell_grid.specs.Runs.{runs_columns, runs_entries, IsInReach}
+use Rattle.cell_grid.proofs.RunEntries.{total-runs}
+use Rattle.cell_grid.proofs.row.Row.entries.Goals as goal
+
+pub of-requires : goal.of-requires
+of-requires c =
+    let inside = c.self.inside in
+    let all = ap runs_columns c.deref.ensures.value in
+    let wide = total-runs inside.start inside.runs.items in
+    let fits = c.self.invariant.stand.fits in
+    let widest = c.self.invariant.wide in
+    record { reach = subst (All IsInReach) (sym c.deref.ensures.value) c.self.invariant.reach; fits = omega arith }
+
+pub returns : goal.returns
+returns c = c.of.ensures ∙ ap (runs_entries c.self.inside.start) c.deref.ensures.value ∙ ap (λ (r : DrawnRow). r.entries) c.self.view_is

@@ -1,0 +1,131 @@
+//! Clusters of a row that are alike and follow each other.
+
+ghost use Rattle.std.specs.Prelude.{◌≡◌, ◌+◌, ◌^◌, ◌<◌, ◌≤◌, [], ◌∷◌, IfSome};
+ghost use Rattle.cell_grid.specs.Runs.{span_after, cluster_count, cluster_from_left, run_entry, run_entries, run_columns, IsInReach, IsLonger};
+
+use crate::entry::Entry;
+use crate::span::{span_after, stands_after};
+use paragraphs::Span;
+use std::mem::size_of;
+
+/// Clusters that follow each other in the text and stand side by side in a row, alike in their level and in how many bytes,
+/// code points and columns they have. At an even level they stand from left to right in the order of the text, at an odd
+/// one in the opposite order.
+#[derive(Clone, Copy, Debug)]
+pub(crate) struct ClusterRun {
+    /// Where the first of them in the text stands.
+    pub(crate) span: Span,
+    /// How many more there are.
+    pub(crate) further: u16,
+    pub(crate) level: u8,
+    /// How many columns each has.
+    pub(crate) columns: u8,
+}
+
+// No row keeps more than it would with an `Entry` for each cluster.
+const _: () = prove!(size_of::<ClusterRun>() <= 20);
+
+impl ClusterRun {
+    /// One cluster.
+    #[inline]
+    pub(crate) fn of(entry: Entry) -> ClusterRun
+        ensures entries { run_entries entry.column result ≡ entry ∷ [] }
+        ensures columns { run_columns result ≡ entry.columns }
+        ensures reach { IsInReach result }
+    {
+        ClusterRun {
+            span: entry.span,
+            further: 0,
+            level: entry.level,
+            columns: entry.columns,
+        }
+    }
+
+    /// The run with an entry more at its right, where that is its next cluster and like the others.
+    pub(crate) fn joined(&self, entry: &Entry) -> Option<ClusterRun>
+        requires { IsInReach self.now }
+        ensures { IfSome result (IsLonger entry.now self.now) }
+    {
+        if entry.level != self.level || entry.columns != self.columns || self.further == u16::MAX {
+            return None;
+        }
+        let further = self.further + 1;
+        if self.level % 2 == 1 {
+            // What stands further right stands earlier in the text.
+            if !stands_after(1, entry.span, self.span) {
+                return None;
+            }
+            let span = entry.span;
+            return Some(ClusterRun {
+                span,
+                further,
+                ..*self
+            });
+        }
+        if !stands_after(further, self.span, entry.span) {
+            return None;
+        }
+        Some(ClusterRun { further, ..*self })
+    }
+
+    /// How many clusters it has.
+    #[inline]
+    pub(crate) fn count(&self) -> u32
+        ensures { result ≡ cluster_count self.now }
+    {
+        u32::from(self.further) + 1
+    }
+
+    /// The columns of all of them.
+    #[inline]
+    pub(crate) fn all_columns(&self) -> u32
+        ensures { result ≡ run_columns self.now }
+    {
+        let count = u32::from(self.further) + 1;
+        count * u32::from(self.columns)
+    }
+
+    /// Where the cluster behind so many of them in the text stands.
+    #[inline]
+    pub(crate) fn cluster(&self, number: u16) -> Span
+        requires within { number ≤ self.now.further }
+        requires reach { IsInReach self.now }
+        ensures { result ≡ span_after number self.now.span }
+    {
+        span_after(number, self.span)
+    }
+
+    /// Which cluster, in the order of the text, stands behind so many from the left.
+    #[inline]
+    pub(crate) fn cluster_from_left(&self, number: u16) -> u16
+        requires { number ≤ self.now.further }
+        ensures which { result ≡ cluster_from_left self.now number }
+        ensures within { result ≤ self.now.further }
+    {
+        if self.level % 2 == 1 {
+            self.further - number
+        } else {
+            number
+        }
+    }
+
+    /// The entry with this number, from the left, where the run begins at a column.
+    #[inline]
+    pub(crate) fn entry(&self, column: u16, number: u16) -> Entry
+        requires within { number ≤ self.now.further }
+        requires reach { IsInReach self.now }
+        requires fits { column + run_columns self.now < 2 ^ 16 }
+        ensures { result ≡ run_entry column self.now number }
+    {
+        let cluster = self.cluster_from_left(number);
+        let span = self.cluster(cluster);
+        let before = number * u16::from(self.columns);
+        let column = column + before;
+        Entry {
+            span,
+            column,
+            level: self.level,
+            columns: self.columns,
+        }
+    }
+}
