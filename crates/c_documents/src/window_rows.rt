@@ -63,7 +63,9 @@ fn write_entries(row: &WindowRow, out: &mut [EntryNumbers])
     requires { length row.now.entries ≤ length out.old }
     ensures { out.new ≡ map entry_numbers row.now.entries ++ drop (length row.now.entries) out.old }
 {
-    for number in 0..row.entry_count() {
-        out[number] = entry_numbers(&row.entry(number));
+    let mut number = 0usize;
+    for entry in row.entries() {
+        out[number] = entry_numbers(&entry);
+        number += 1;
     }
 }

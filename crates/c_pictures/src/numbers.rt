@@ -47,7 +47,7 @@ pub fn row_numbers(row: &Row) -> RowNumbers
     RowNumbers {
         first_place: row.first_place(),
         last_place: row.last_place(),
-        entries: row.entries().len(),
+        entries: row.entry_count(),
         column: gap_column(row, 0),
         level: u32::from(row.para_level()),
     }

@@ -12,7 +12,7 @@ use bg_types::Base;
 use c_answers::{
     BAD_BASE, BAD_ENTRY, BAD_ROW, BAD_WIDTH, MEMORY, NOT_UTF8, OK, SHORT_BUFFER, TEXT_TOO_LONG,
 };
-use cell_grid::Entry;
+use cell_grid::Row;
 use pictures::{Picture, SharedTables};
 use std::alloc::Global;
 
@@ -107,9 +107,9 @@ pub fn tell_entry(picture: &Picture, row: usize, number: usize, out: &mut EntryN
     let Some(row) = picture.rows().get(row) else {
         return BAD_ROW;
     };
-    match row.entries().get(number) {
+    match row.entry(number) {
         Some(entry) => {
-            *out = entry_numbers(entry);
+            *out = entry_numbers(&entry);
             OK
         }
         None => BAD_ENTRY,
@@ -129,21 +129,22 @@ pub fn tell_entries(
     let Some(row) = picture.rows().get(row) else {
         return BAD_ROW;
     };
-    let entries = row.entries();
-    *count = entries.len();
-    if out.len() < entries.len() {
+    *count = row.entry_count();
+    if out.len() < row.entry_count() {
         return SHORT_BUFFER;
     }
-    write_entries(entries, out);
+    write_entries(row, out);
     OK
 }
 
-/// Writes the numbers of entries to the front of a list, which has room for them.
-fn write_entries(entries: &[Entry], out: &mut [EntryNumbers])
-    requires { length entries.now ≤ length out.old }
-    ensures { out.new ≡ map entry_numbers entries.now ++ drop (length entries.now) out.old }
+/// Writes the numbers of a row's entries to the front of a list, which has room for them.
+fn write_entries(row: &Row, out: &mut [EntryNumbers])
+    requires { length row.now.entries ≤ length out.old }
+    ensures { out.new ≡ map entry_numbers row.now.entries ++ drop (length row.now.entries) out.old }
 {
-    for number in 0..entries.len() {
-        out[number] = entry_numbers(&entries[number]);
+    let mut number = 0usize;
+    for entry in row.entries() {
+        out[number] = entry_numbers(&entry);
+        number += 1;
     }
 }

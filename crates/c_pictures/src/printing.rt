@@ -79,7 +79,7 @@ pub fn tell_entry_sizes(
     let Some(row) = picture.rows().get(number) else {
         return BAD_ROW;
     };
-    let entries = row.entries().len();
+    let entries = row.entry_count();
     if sizes.len() < entries {
         *count = entries;
         return SHORT_BUFFER;

@@ -16,7 +16,7 @@ fn entry_under(row: &Row, column: usize) -> Option<Entry>
 {
     match row.cell(column)? {
         Cell::Blank => None,
-        Cell::Head(number) | Cell::Tail(number) => row.entries().get(number as usize).copied(),
+        Cell::Head(number) | Cell::Tail(number) => row.entry(number as usize),
     }
 }
 

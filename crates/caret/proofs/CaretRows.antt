@@ -1,5 +1,5 @@
 -- The row of a caret, as it is read, and the moves between rows by the rows that they read.
-use Rattle.std.proofs.Common.{◌≡◌, ℕ, ◌+◌, ◌-◌, ◌<◌, ◌≤◌, Bool, cond, List, length, get_or, Some, inl, inr, refl, ap, sym, subst, ◌∙◌, arith}
+use Rattle.std.proofs.Common.{◌≡◌, ℕ, zero, suc, ◌+◌, ◌-◌, ◌<◌, ◌≤◌, Bool, cond, List, [], ◌∷◌, length, get_or, None, Some, inl, inr, refl, ap, sym, subst, ◌∙◌, arith}
 use Rattle.std.specs.Prelude.{slice_get}
 use Rattle.std.specs.Option.{option_map_or, IsSomeAnd}
 use Rattle.std.proofs.lemmas.Option.{slice_get_read, slice_get_past, slice_get_cases}
@@ -14,6 +14,17 @@ use Rattle.caret.proofs.Steps.{element_before-is}
 -- an element of a list, as it was read
 pub element_read : {A : Type 0} (xs read : List A) (i : ℕ) (x : A) → read ≡ xs → i < length xs → x ≡ get_or read i x → slice_get xs i ≡ Some x
 element_read xs read i x same within is = slice_get_read xs (length xs) i x refl within (is ∙ ap (λ l. get_or l i x) same)
+
+-- where there is no element there are no more
+pub none_there : {A : Type 0} (xs : List A) (k : ℕ) → None ≡ slice_get xs k → length xs ≤ k
+none_there [] k none = omega arith
+none_there (x ∷ xs) zero none = cc
+none_there (x ∷ xs) (suc k) none = let later = none_there xs k none in omega arith
+
+-- and no gap within them has none before it but the first
+pub none_before : {A : Type 0} (xs : List A) (n : ℕ) → n ≤ length xs → None ≡ element_before xs n → n ≤ 0
+none_before xs zero within none = omega arith
+none_before xs (suc n) within none = let past = none_there xs n none in absurd (omega arith)
 
 -- a caret of these rows stands in one of them
 pub row_within : (rows : List DrawnRow) (caret : Caret) → IsCaretOf rows caret → caret.row < length rows

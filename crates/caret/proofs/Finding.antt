@@ -1,6 +1,7 @@
 -- The entry that is found is one of the row's, and passes.
-use Rattle.std.proofs.Common.{◌≡◌, ℕ, zero, suc, ◌+◌, Bool, true, false, cond, List, [], ◌∷◌, Some, refl, ap, ◌∙◌, arith}
-use Rattle.std.specs.Prelude.{find, slice_get}
+use Rattle.std.proofs.Common.{◌≡◌, ℕ, zero, suc, ◌+◌, ◌<◌, Bool, true, false, cond, List, [], ◌∷◌, length, Option, Some, refl, sym, ap, subst, ◌∙◌, arith}
+use Rattle.std.proofs.lemmas.Option.{IfSome_then}
+use Rattle.std.specs.Prelude.{find, slice_get, IfSome}
 use Rattle.std.specs.List.{enumerate_from}
 use Rattle.cell_grid.specs.declared.entry.Entry.{Entry}
 use Rattle.bg_types.proofs.Interface.{two_cases}
@@ -44,3 +45,18 @@ module _ (passes : Entry → Bool) where
   -- and so where one passes
   pub found : (n : ℕ) (entries : List Entry) (e : Entry) → slice_get entries n ≡ Some e → passes e ≡ true → Found 0 entries
   found n entries e at here = found_from 0 n entries e at here
+
+  -- what is found has a number below theirs
+  found-within : (k : ℕ) (entries : List Entry) → IfSome (find (λ (numbered : ℕ × Entry). passes numbered.1) (enumerate_from k entries)) (λ numbered. numbered.0 < k + length entries)
+  found-within k [] = tt
+  found-within k (x ∷ entries) =
+      let P : ℕ × Entry → Type 0 = λ numbered. numbered.0 < k + length (x ∷ entries) in
+      let rest = find (λ (numbered : ℕ × Entry). passes numbered.1) (enumerate_from (k + 1) entries) in
+      let later = IfSome_then rest {Q = P} (found-within (k + 1) entries) (λ numbered below. omega (arith, below)) in
+      elim (passes x) as (λ b. IfSome (cond b (Some (k, x)) rest) P) [ true ↦ omega arith | false ↦ later ]
+
+  pub number-within : (entries : List Entry) (r : Option (ℕ × Entry)) → r ≡ find (λ (numbered : ℕ × Entry). passes numbered.1) (enumerate_from 0 entries)
+      → IfSome r (λ numbered. numbered.0 < length entries)
+  number-within entries r is =
+      IfSome_then r {Q = λ numbered. numbered.0 < length entries}
+      (subst (λ o. IfSome o (λ (numbered : ℕ × Entry). numbered.0 < 0 + length entries)) (sym is) (found-within 0 entries)) (λ numbered below. omega (arith, below))

@@ -4,6 +4,7 @@ pub mod CaretAt
 pub mod Steps
 pub mod CaretRows
 pub mod Finding
+pub mod Gone
 pub mod PlaceLaw
 pub mod Neighbours
 pub mod Positions

@@ -1,15 +1,16 @@
 //! Moves of a caret among rows: those of a grid, or a part of them.
 
-ghost use Rattle.std.specs.Prelude.{◌≡◌, ◌<◌, ◌≤◌, true, length};
+ghost use Rattle.std.specs.Prelude.{◌≡◌, ◌<◌, ◌≤◌, true, length, IfSome};
 ghost use Rattle.cell_grid.specs.Windows.{FirstPlacesRise};
 ghost use Rattle.caret.specs.Gaps.{IsCaretOf};
+ghost use Rattle.caret.specs.Lists.{element_before};
 ghost use Rattle.caret.specs.Moves.{logical_start, logical_end, onwards, backwards, right_of, left_of, up_of, down_of};
 ghost use Rattle.caret.specs.Places.{begins_by, caret_among};
 
 use crate::caret::Caret;
 use crate::gaps::{caret_by, gap_column, is_odd, left_side, right_side};
 use crate::place::{at_cluster, at_end, row_at};
-use cell_grid::Row;
+use cell_grid::{Entry, Row};
 
 /// A row's logical start: its left edge in a paragraph of even level, its right edge in one of odd level.
 fn logical_start(row: &Row, number: usize) -> Caret
@@ -19,7 +20,7 @@ fn logical_start(row: &Row, number: usize) -> Caret
     Caret {
         row: number,
         gap: if is_odd(row.para_level()) {
-            row.entries().len()
+            row.entry_count()
         } else {
             0
         },
@@ -37,7 +38,7 @@ fn logical_end(row: &Row, number: usize) -> Caret
         gap: if is_odd(row.para_level()) {
             0
         } else {
-            row.entries().len()
+            row.entry_count()
         },
         place: row.last_place(),
     }
@@ -72,11 +73,13 @@ pub fn right_among(rows: &[Row], caret: Caret) -> Caret
     ensures within { IsCaretOf rows.now result }
 {
     let row = &rows[caret.row];
-    match row.entries().get(caret.gap) {
+    // A row has no more entries than a number can tell.
+    let _count = row.entry_count();
+    match row.entry(caret.gap) {
         Some(entry) => Caret {
             row: caret.row,
             gap: caret.gap + 1,
-            place: right_side(entry),
+            place: right_side(&entry),
         },
         None if is_odd(row.para_level()) => backwards(rows, caret),
         None => onwards(rows, caret),
@@ -90,18 +93,26 @@ pub fn left_among(rows: &[Row], caret: Caret) -> Caret
     ensures within { IsCaretOf rows.now result }
 {
     let row = &rows[caret.row];
-    if caret.gap > 0 {
-        return Caret {
+    match entry_before(row, caret.gap) {
+        Some(before) => Caret {
             row: caret.row,
             gap: caret.gap - 1,
-            place: left_side(&row.entries()[caret.gap - 1]),
-        };
+            place: left_side(&before),
+        },
+        None if is_odd(row.para_level()) => onwards(rows, caret),
+        None => backwards(rows, caret),
     }
-    if is_odd(row.para_level()) {
-        onwards(rows, caret)
-    } else {
-        backwards(rows, caret)
+}
+
+/// The entry left of a gap of a row, if there is one.
+fn entry_before(row: &Row, gap: usize) -> Option<Entry>
+    ensures entry { result ≡ element_before row.now.entries gap }
+    ensures some { IfSome result (λ _. 0 < gap) }
+{
+    if gap == 0 {
+        return None;
     }
+    row.entry(gap - 1)
 }
 
 /// `up` among these rows.

@@ -50,8 +50,9 @@ fn end_column(entry: &Entry) -> usize
 fn row_end(row: &Row) -> usize
     ensures { result ≡ row_end row.now }
 {
-    match row.entries().last() {
-        Some(entry) => end_column(entry),
+    let last = row.entry_count().saturating_sub(1);
+    match row.entry(last) {
+        Some(entry) => end_column(&entry),
         None if is_odd(row.para_level()) => usize::from(row.width()),
         None => 0,
     }
@@ -61,7 +62,7 @@ fn row_end(row: &Row) -> usize
 pub fn gap_column(row: &Row, gap: usize) -> usize
     ensures { result ≡ gap_column row.now gap }
 {
-    match row.entries().get(gap) {
+    match row.entry(gap) {
         Some(entry) => usize::from(entry.column),
         None => row_end(row),
     }
@@ -72,15 +73,18 @@ fn last_gap_by(row: &Row, column: usize) -> usize
     ensures gap { result ≡ last_gap_by row.now column }
     ensures within { result ≤ length row.now.entries }
 {
-    let entries = row.entries();
+    // A row has no more entries than a number can tell.
+    let _count = row.entry_count();
     let mut last = 0;
-    for (gap, entry) in entries.iter().enumerate() {
+    let mut gap = 0usize;
+    for entry in row.entries() {
         if usize::from(entry.column) <= column {
             last = gap;
         }
+        gap += 1;
     }
     if row_end(row) <= column {
-        last = entries.len();
+        last = gap;
     }
     last
 }
@@ -89,11 +93,15 @@ fn last_gap_by(row: &Row, column: usize) -> usize
 fn gap_place(row: &Row, gap: usize) -> usize
     ensures { result ≡ gap_place row.now gap }
 {
-    let entries = row.entries();
     if gap == 0 {
-        entries.first().map_or(row.first_place(), left_side)
-    } else {
-        entries.get(gap - 1).map_or(row.first_place(), right_side)
+        return match row.entry(0) {
+            Some(entry) => left_side(&entry),
+            None => row.first_place(),
+        };
+    }
+    match row.entry(gap - 1) {
+        Some(entry) => right_side(&entry),
+        None => row.first_place(),
     }
 }
 

@@ -18,26 +18,26 @@ fn holds(entry: &Entry, place: usize) -> bool
     entry.span.first_place as usize <= place && place < entry.span.end_place as usize
 }
 
-/// The entry whose cluster holds a place, with its number.
-fn entry_at(entries: &[Entry], place: usize) -> Option<(usize, Entry)>
-    ensures entry { result ≡ entry_where (holds place) entries.now }
-    ensures within { IfSome result (λ found. found.0 < length entries.now) }
+/// The entry of a row whose cluster holds a place, with its number.
+fn entry_at(row: &Row, place: usize) -> Option<(usize, Entry)>
+    ensures entry { result ≡ entry_where (holds place) row.now.entries }
+    ensures within { IfSome result (λ found. found.0 < length row.now.entries) }
 {
-    entries
-        .iter()
-        .copied()
+    // A row has no more entries than a number can tell.
+    let _count = row.entry_count();
+    row.entries()
         .enumerate()
         .find(|(_, entry)| holds(entry, place))
 }
 
-/// The entry whose cluster ends at a place, with its number.
-fn entry_up_to(entries: &[Entry], place: usize) -> Option<(usize, Entry)>
-    ensures entry { result ≡ entry_where (ends_at place) entries.now }
-    ensures within { IfSome result (λ found. found.0 < length entries.now) }
+/// The entry of a row whose cluster ends at a place, with its number.
+fn entry_up_to(row: &Row, place: usize) -> Option<(usize, Entry)>
+    ensures entry { result ≡ entry_where (ends_at place) row.now.entries }
+    ensures within { IfSome result (λ found. found.0 < length row.now.entries) }
 {
-    entries
-        .iter()
-        .copied()
+    // A row has no more entries than a number can tell.
+    let _count = row.entry_count();
+    row.entries()
         .enumerate()
         .find(|(_, entry)| entry.span.end_place as usize == place)
 }
@@ -72,8 +72,9 @@ pub(crate) fn at_cluster(row: &Row, number: usize, place: usize) -> Caret
     ensures row { result.row ≡ number }
     ensures within { result.gap ≤ length row.now.entries }
 {
-    let entries = row.entries();
-    match entry_at(entries, place) {
+    // A row has no more entries than a number can tell.
+    let _count = row.entry_count();
+    match entry_at(row, place) {
         Some((gap, entry)) => Caret {
             row: number,
             gap: if is_odd(entry.level) { gap + 1 } else { gap },
@@ -90,8 +91,9 @@ pub(crate) fn at_end(row: &Row, number: usize) -> Caret
     ensures row { result.row ≡ number }
     ensures within { result.gap ≤ length row.now.entries }
 {
-    let entries = row.entries();
-    match entry_up_to(entries, row.last_place()) {
+    // A row has no more entries than a number can tell.
+    let _count = row.entry_count();
+    match entry_up_to(row, row.last_place()) {
         Some((gap, entry)) => Caret {
             row: number,
             gap: if is_odd(entry.level) { gap } else { gap + 1 },

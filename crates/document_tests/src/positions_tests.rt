@@ -26,7 +26,7 @@ fn moved(document: &mut Document, here: Position, step: Move) -> Result<Position
 /// Goes over the gaps of a row to the right and out of it, or tells none where it meets another one.
 fn crossed(document: &mut Document, here: Position, row: &Row) -> Result<Option<Position>, Memory> {
     let mut here = here;
-    for gap in 0..=row.entries().len() {
+    for gap in 0..=row.entry_count() {
         if here.row != row.first_place() || here.gap != gap {
             return Ok(None);
         }

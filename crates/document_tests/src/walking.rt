@@ -166,9 +166,9 @@ fn is_same(seen: &WindowRow, row: &Row) -> bool {
         && seen.last_place() == row.last_place()
         && seen.para_level() == row.para_level()
         && seen.width() == row.width()
-        && seen.entry_count() == row.entries().len();
-    for (n, entry) in row.entries().iter().enumerate() {
-        right = n < seen.entry_count() && seen.entry(n) == *entry && right;
+        && seen.entry_count() == row.entry_count();
+    for (n, entry) in row.entries().enumerate() {
+        right = n < seen.entry_count() && seen.entry(n) == entry && right;
     }
     right
 }

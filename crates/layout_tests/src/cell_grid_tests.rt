@@ -238,7 +238,7 @@ fn is_row(row: &Row, want: &[usize]) -> bool {
     ];
     let mut right = are_next(&mut wanted, &head);
     for entry in row.entries() {
-        right = is_entry(&mut wanted, entry) && right;
+        right = is_entry(&mut wanted, &entry) && right;
     }
     right && wanted.next().is_none()
 }

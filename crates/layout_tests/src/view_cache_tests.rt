@@ -16,7 +16,15 @@ fn is_same_row(row: &GridRow, same: &GridRow) -> bool {
         && row.first_place() == same.first_place()
         && row.last_place() == same.last_place()
         && row.para_level() == same.para_level()
-        && row.entries() == same.entries()
+        && has_same_entries(row, same)
+}
+
+fn has_same_entries(row: &GridRow, same: &GridRow) -> bool {
+    let mut right = row.entry_count() == same.entry_count();
+    for (entry, other) in row.entries().zip(same.entries()) {
+        right = entry == other && right;
+    }
+    right
 }
 
 /// Whether two grids have the same text and rows.

@@ -16,4 +16,4 @@ mod window;
 pub use caret::Position;
 pub use carrying::carry;
 pub use document::{Desk, Document, TakenAll};
-pub use window::{Window, WindowRow, WindowRows};
+pub use window::{Window, WindowEntries, WindowRow, WindowRows};

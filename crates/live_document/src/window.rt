@@ -1,6 +1,8 @@
 //! A window over the rows that a document keeps.
 
 ghost use Rattle.std.specs.Prelude.{◌≡◌, ◌+◌, ◌<◌, ℕ, Some, take, drop, length, slice_get, IfOk};
+ghost use Rattle.cell_grid.specs.Rows.{shifted_entry};
+ghost use Rattle.cell_grid.specs.Shifting.{MayShift};
 ghost use Rattle.live_document.specs.Keeping.{rows_at};
 ghost use Rattle.live_document.specs.Showing.{rows_from, window_in, IsReadable};
 ghost use Rattle.live_document.specs.Reading.{IsReading};
@@ -10,7 +12,7 @@ use crate::laws_below::laws_below;
 use crate::reading::{go_to_row, rows_under};
 use crate::shown::Shown;
 use bg_types::Memory;
-use cell_grid::{Cells, Entry, Row, Span};
+use cell_grid::{Cells, Entries, Entry, Row, Span};
 use std::alloc::Global;
 use std::marker::Model;
 use text_buffer::{Buffer, Cursor};
@@ -304,7 +306,7 @@ impl<'a> WindowRow<'a> {
     }
 
     /// Its cells from left to right, one for each column.
-    #[inline]
+    /// Cost: that of `Row::cells`.
     pub fn cells(&self) -> Cells<'a>
         ensures { result ≡ self.now.cells }
     {
@@ -316,23 +318,86 @@ impl<'a> WindowRow<'a> {
     pub fn entry_count(&self) -> usize
         ensures { result ≡ length self.now.entries }
     {
-        self.row.entries().len()
+        self.row.entry_count()
+    }
+
+    /// Its entries from left to right, where they stand in the text.
+    /// Cost: O(1), and so is a step.
+    #[inline]
+    pub fn entries(&self) -> WindowEntries<'a>
+        ensures { result ≡ self.now.entries }
+    {
+        WindowEntries {
+            entries: self.row.entries(),
+            bytes: self.bytes,
+            places: self.places,
+        }
     }
 
     /// The entry with this number, counted from the left, from 0.
+    /// Cost: that of `Row::entry`.
     pub fn entry(&self, number: usize) -> Entry
         requires { number < length self.now.entries }
         ensures { slice_get self.now.entries number ≡ Some result }
     {
-        let entry = self.row.entries()[number];
-        Entry {
-            span: Span {
-                first_byte: entry.span.first_byte + self.bytes,
-                end_byte: entry.span.end_byte + self.bytes,
-                first_place: entry.span.first_place + self.places,
-                end_place: entry.span.end_place + self.places,
-            },
-            ..entry
-        }
+        let entry = self.row.entry(number).unwrap();
+        shifted(entry, self.bytes, self.places)
+    }
+}
+
+/// An entry this many bytes and places later.
+#[inline]
+fn shifted(entry: Entry, bytes: u32, places: u32) -> Entry
+    requires { MayShift bytes places entry.span }
+    ensures { result ≡ shifted_entry bytes places entry }
+{
+    let span = entry.span;
+    Entry {
+        span: Span {
+            first_byte: span.first_byte + bytes,
+            end_byte: span.end_byte + bytes,
+            first_place: span.first_place + places,
+            end_place: span.end_place + places,
+        },
+        ..entry
+    }
+}
+
+/// Iterates over the entries of a row of a window, from left to right, by steps of O(1). Takes no memory.
+#[derive(Drop)]
+pub struct WindowEntries<'a> {
+    entries: Entries<'a>,
+    bytes: u32,
+    places: u32,
+}
+
+impl<'a> Model for WindowEntries<'a> {
+    ghost use Rattle.std.specs.Prelude.{List, map};
+    ghost use Rattle.std.specs.List.{All};
+    ghost use Rattle.cell_grid.specs.declared.entry.Entry.{Entry};
+    ghost use Rattle.cell_grid.specs.Rows.{shifted_entry};
+    ghost use Rattle.cell_grid.specs.Shifting.{MayShift};
+
+    // The entries still to come.
+    ghost Value = { List Entry };
+
+    ghost view = { λ s. map (shifted_entry s.bytes s.places) s.entries };
+
+    ghost invariant = { λ s. All (λ e. MayShift s.bytes s.places e.span) s.entries };
+}
+
+impl<'a> Iterator for WindowEntries<'a> {
+    ghost use Rattle.std.specs.Iterator.{YieldsFirst, item_count};
+
+    type Item = Entry;
+
+    ghost next_gives = { YieldsFirst (λ left. left) };
+
+    ghost remaining = { item_count (λ left. left) };
+
+    #[inline]
+    fn next(&mut self) -> Option<Entry> {
+        let entry = self.entries.next()?;
+        Some(shifted(entry, self.bytes, self.places))
     }
 }

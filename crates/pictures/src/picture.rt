@@ -123,7 +123,7 @@ impl Picture {
         ensures no { OnFalse result (¬ (IsCaretOf self.now.rows caret)) }
     {
         match self.rows.get(caret.row) {
-            Some(row) => caret.gap <= row.entries().len(),
+            Some(row) => caret.gap <= row.entry_count(),
             None => false,
         }
     }

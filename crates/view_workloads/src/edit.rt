@@ -8,7 +8,7 @@ use crate::imported::{Order, import};
 use anyhow::{Result, bail};
 use bg_types::Base;
 use caret::{Caret, at_place, down, left, right, up};
-use cell_grid::{Cell, Grid, Row};
+use cell_grid::{Grid, Row};
 use desk_workloads::{Chance, Desk, Digest, MIXED, desk_of};
 use std::alloc::Global;
 use ucd_files::vectors::SMALL;
@@ -111,12 +111,10 @@ fn tell_window(grid: &Grid, row: usize, digest: &mut Digest) {
 }
 
 fn tell_row(row: &Row, digest: &mut Digest) {
-    for cell in row.cells() {
-        if let Cell::Head(number) = cell {
-            if let Some(entry) = row.entries().get(number as usize) {
-                digest.add_number(entry.span.first_place as usize);
-                digest.add_number(usize::from(entry.level));
-            }
+    for entry in row.entries() {
+        if entry.columns > 0 {
+            digest.add_number(entry.span.first_place as usize);
+            digest.add_number(usize::from(entry.level));
         }
     }
 }

@@ -55,7 +55,7 @@ impl Shown for Deep {
     fn is_shown(&self, grid: &Grid) -> bool {
         let mut right = grid.rows().len() == 1;
         for row in grid.rows() {
-            right = row.entries().len() == self.0 && is_deep(row, self.1) && right;
+            right = row.entry_count() == self.0 && is_deep(row, self.1) && right;
         }
         right && takes(grid, (usize::MAX, usize::MAX), b"a   \n", true)
     }

@@ -190,5 +190,5 @@ fn stands_among(rows: &[Row], position: Position) -> bool
     ensures no { OnFalse result (¬ (IsPositionOf rows.now position)) }
 {
     let row = &rows[row_at(rows, position.row)];
-    row.first_place() == position.row && position.gap <= row.entries().len()
+    row.first_place() == position.row && position.gap <= row.entry_count()
 }

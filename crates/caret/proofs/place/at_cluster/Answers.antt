@@ -1,5 +1,5 @@
 -- The goals of `at_cluster` that are answered by hand.
-use Rattle.std.proofs.Common.{◌≡◌, ◌+◌, cond, ap, sym, ◌∙◌}
+use Rattle.std.proofs.Common.{◌≡◌, ◌+◌, cond, refl, ap, sym, ◌∙◌}
 use Rattle.reorder.specs.VisualList.{is_odd}
 use Rattle.caret.proofs.CaretAt.{at_cluster-found}
 use Rattle.caret.proofs.place.at_cluster.Goals as goal
@@ -13,4 +13,4 @@ returns-after-is_odd-clause-caret c =
       | then-is_odd w ↦ w.result-is ∙ ap (λ b. cond b (gap + 1) gap) (sym w.if-is_odd.true ∙ c.is_odd.ensures)
       | else-is_odd w ↦ w.result-is ∙ ap (λ b. cond b (gap + 1) gap) (sym w.if-is_odd.false ∙ c.is_odd.ensures)
     ] in
-    rw chosen (sym (at_cluster-found c.args.place c.args.number c.args.row.now c.entries-entries.result.now gap c.in-Some.entry c.entries-entries.ensures c.in-Some.ensures.entry))
+    rw chosen (sym (at_cluster-found c.args.place c.args.number c.args.row.now c.args.row.now.entries gap c.in-Some.entry refl c.in-Some.ensures.entry))
