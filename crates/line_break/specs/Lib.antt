@@ -8,6 +8,7 @@ pub mod Statuses
 pub mod LineClusters
 pub mod Measures
 pub mod Lines
+pub mod Runs
 pub mod Open
 pub mod Ranges
 pub mod Marked
