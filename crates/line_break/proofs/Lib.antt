@@ -13,5 +13,7 @@ pub mod Joining
 pub mod Measuring
 pub mod Spaces
 pub mod Outlining
+pub mod Joined
+pub mod Gathering
 pub mod Following
 pub mod Fitting

@@ -1,5 +1,5 @@
 -- Runs of clusters of one shape.
-use Rattle.std.specs.Prelude.{ℕ, ◌+◌, ◌*◌, ◌<◌, List, map, replicate}
+use Rattle.std.specs.Prelude.{◌≡◌, ℕ, Bool, ◌+◌, ◌-◌, ◌*◌, ◌<◌, ◌≤◌, ◌==◌, ◌&&◌, List, ◌++◌, map, replicate}
 use Rattle.std.specs.List.{All, flat_map, range_with_len}
 use Rattle.paragraphs.specs.declared.span.Span.{Span}
 use Rattle.line_break.specs.declared.run.ShapeRun.{ShapeRun}
@@ -28,3 +28,36 @@ columns_of run = replicate run.count run.columns
 -- no run is empty
 abbrev pub AllHaveSome : List ShapeRun → Type 0
 AllHaveSome runs = All (λ (run : ShapeRun). 0 < run.count) runs
+
+-- a cluster alone
+abbrev pub alone : Span → ℕ → ShapeRun
+alone span columns = record {
+  first_byte = span.first_byte;
+  first_place = span.first_place;
+  count = 1;
+  bytes = span.end_byte - span.first_byte;
+  points = span.end_place - span.first_place;
+  columns = columns;
+}
+
+-- the clusters of two runs have one shape
+abbrev pub have_one_shape : ShapeRun → ShapeRun → Bool
+have_one_shape run next = run.bytes == next.bytes && run.points == next.points && run.columns == next.columns
+
+-- one more cluster
+abbrev pub longer : ShapeRun → ShapeRun
+longer run = record run { count = run.count + 1 }
+
+-- a run that ends before this byte and this place
+pub record EndsAt (run : ShapeRun) (byte place : ℕ) : Type 0 where
+  pub some : 0 < run.count
+  pub few : run.count ≤ place
+  pub bytes : run.first_byte + run.count * run.bytes ≡ byte
+  pub places : run.first_place + run.count * run.points ≡ place
+
+-- what the runs before have and, behind it, what the next one has, is what the runs after have
+pub record AreJoined (before : List ShapeRun) (next : ShapeRun) (after : List ShapeRun) : Type 0 where
+  pub spans : flat_map spans_of after ≡ flat_map spans_of before ++ spans_of next
+  pub sizes : flat_map sizes_of after ≡ flat_map sizes_of before ++ sizes_of next
+  pub columns : flat_map columns_of after ≡ flat_map columns_of before ++ columns_of next
+  pub some : AllHaveSome before → AllHaveSome after

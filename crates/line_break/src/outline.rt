@@ -1,24 +1,29 @@
 //! The clusters of a paragraph.
 
-ghost use Rattle.std.specs.Prelude.{◌≡◌, ◌≤◌, [], length, map, vec_capacity, vec_len, IfOk};
-ghost use Rattle.std.specs.List.{All};
+ghost use Rattle.std.specs.Prelude.{◌≡◌, ◌+◌, ◌++◌, ◌∷◌, ◌^◌, ◌<◌, ◌≤◌, [], length, map, vec_capacity, vec_len, IfOk, IfSome, OnOk};
+ghost use Rattle.std.specs.List.{All, flat_map};
+ghost use Rattle.std.specs.Option.{option_to_list};
 ghost use Rattle.unicode_tables.specs.Word.{word_of};
 ghost use Rattle.paragraphs.specs.Text.{code_points};
 ghost use Rattle.paragraphs.specs.Clusters.{cluster_sizes};
 ghost use Rattle.paragraphs.specs.Spans.{spans};
 ghost use Rattle.line_break.specs.LineClusters.{line_clusters};
+ghost use Rattle.line_break.specs.Runs.{AllHaveSome, AreJoined, EndsAt, columns_of, sizes_of, spans_of};
 
 use crate::cluster::Cluster;
 use crate::measure::Measure;
+use crate::run::ShapeRun;
 use crate::status::statuses_of;
 use bg_types::Memory;
 use paragraphs::{Para, Span, laws};
 use std::alloc::Global;
 use unicode_tables::{Tables, Word};
 
-/// The clusters of a paragraph, in order: four lists with an element for each.
+/// The clusters of a paragraph, in order: as runs, and as four lists with an element for each.
 #[derive(Debug, Drop)]
 pub struct Outline {
+    /// Those of one shape, as far as they follow each other.
+    pub runs: Vec<ShapeRun>,
     /// Where each stands, counted from the paragraph's start.
     pub spans: Vec<Span>,
     /// How many code points each has.
@@ -32,18 +37,57 @@ pub struct Outline {
 impl Outline {
     /// That of no clusters yet, with room for so many.
     fn with_room(alloc: Global, clusters: usize) -> Result<Outline, Memory>
+        ensures runs { IfOk result (λ o. o.runs.items ≡ []) }
         ensures spans { IfOk result (λ o. (o.spans.items ≡ []) × (vec_len o.spans ≡ 0) × (clusters ≤ vec_capacity o.spans)) }
         ensures sizes { IfOk result (λ o. (o.sizes.items ≡ []) × (vec_len o.sizes ≡ 0) × (clusters ≤ vec_capacity o.sizes)) }
         ensures columns { IfOk result (λ o. (o.columns.items ≡ []) × (vec_len o.columns ≡ 0) × (clusters ≤ vec_capacity o.columns)) }
         ensures clusters { IfOk result (λ o. (o.clusters.items ≡ []) × (vec_len o.clusters ≡ 0) × (clusters ≤ vec_capacity o.clusters)) }
     {
         Ok(Outline {
+            runs: Vec::new(alloc),
             spans: Vec::with_capacity(alloc, clusters)?,
             sizes: Vec::with_capacity(alloc, clusters)?,
             columns: Vec::with_capacity(alloc, clusters)?,
             clusters: Vec::with_capacity(alloc, clusters)?,
         })
     }
+}
+
+/// Appends the last run, if there is one.
+#[inline]
+fn close(runs: &mut Vec<ShapeRun>, last: Option<ShapeRun>) -> Result<(), Memory>
+    ensures { OnOk result (runs.new.items ≡ runs.old.items ++ option_to_list last) }
+{
+    let Some(run) = last else {
+        return Ok(());
+    };
+    runs.push(run)?;
+    Ok(())
+}
+
+/// Puts a cluster behind runs of which the last one may go on, and gives the one that may then: the
+/// same with the cluster, or the cluster alone.
+#[inline]
+fn joined(
+    runs: &mut Vec<ShapeRun>,
+    last: Option<ShapeRun>,
+    next: ShapeRun,
+) -> Result<ShapeRun, Memory>
+    requires last { IfSome last (λ run. EndsAt run next.first_byte next.first_place) }
+    requires one { next.count ≡ 1 }
+    requires some { 0 < next.points }
+    requires few { next.first_place + 1 < 2 ^ 32 }
+    ensures runs { IfOk result (λ run. AreJoined (runs.old.items ++ option_to_list last) next (runs.new.items ++ run ∷ [])) }
+    ensures end { IfOk result (λ run. EndsAt run (next.first_byte + next.bytes) (next.first_place + next.points)) }
+{
+    let Some(earlier) = last else {
+        return Ok(next);
+    };
+    if earlier.goes_on(next) {
+        return Ok(earlier.longer());
+    }
+    runs.push(earlier)?;
+    Ok(next)
 }
 
 /// The clusters of a paragraph of at most 4,000,000 bytes, which has these code points with
@@ -59,6 +103,10 @@ pub fn outline_of(
     requires size { length para.now.text ≤ 4_000_000 }
     requires points { points.now ≡ code_points para.now.text }
     requires words { words.now ≡ map (word_of tables.now) points.now }
+    ensures runs_stand { IfOk result (λ o. flat_map spans_of o.runs.items ≡ spans para.now.text) }
+    ensures runs_sizes { IfOk result (λ o. flat_map sizes_of o.runs.items ≡ cluster_sizes para.now.text) }
+    ensures runs_columns { IfOk result (λ o. flat_map columns_of o.runs.items ≡ map (λ c. c.columns) (line_clusters tables.now para.now.text)) }
+    ensures some { IfOk result (λ o. AllHaveSome o.runs.items) }
     ensures spans { IfOk result (λ o. o.spans.items ≡ spans para.now.text) }
     ensures sizes { IfOk result (λ o. o.sizes.items ≡ cluster_sizes para.now.text) }
     ensures clusters { IfOk result (λ o. o.clusters.items ≡ line_clusters tables.now para.now.text) }
@@ -74,6 +122,7 @@ pub fn outline_of(
     let mut clusters = para.clusters();
     let mut byte = 0;
     let mut place = 0;
+    let mut last = None;
     while let Some(measure) = Measure::of_next(
         tables,
         &mut clusters,
@@ -94,8 +143,11 @@ pub fn outline_of(
             is_space: measure.is_space,
             after: statuses[span.end_place as usize - 1],
         });
+        let next = ShapeRun::of_one(span, measure.columns);
+        last = Some(joined(&mut outline.runs, last, next)?);
         byte = span.end_byte;
         place = span.end_place;
     }
+    close(&mut outline.runs, last)?;
     Ok(outline)
 }

@@ -1,5 +1,10 @@
 //! Runs of clusters of one shape.
 
+ghost use Rattle.std.specs.Prelude.{◌≡◌, ◌+◌, ◌^◌, ◌<◌, ◌≤◌};
+ghost use Rattle.line_break.specs.Runs.{alone, have_one_shape, longer};
+
+use paragraphs::Span;
+
 /// Clusters of a paragraph that follow each other, at least one, and have one shape: as many bytes, code points and columns
 /// each.
 #[derive(Clone, Copy, Debug, PartialEq, Eq, Hash)]
@@ -15,4 +20,43 @@ pub struct ShapeRun {
     pub points: u32,
     /// How many columns each has, 0 to 2.
     pub columns: u8,
+}
+
+impl ShapeRun {
+    /// A cluster alone, which stands there.
+    #[inline]
+    pub(crate) fn of_one(span: Span, columns: u8) -> ShapeRun
+        requires bytes { span.first_byte ≤ span.end_byte }
+        requires places { span.first_place ≤ span.end_place }
+        ensures { result ≡ alone span columns }
+    {
+        ShapeRun {
+            first_byte: span.first_byte,
+            first_place: span.first_place,
+            count: 1,
+            bytes: span.end_byte - span.first_byte,
+            points: span.end_place - span.first_place,
+            columns,
+        }
+    }
+
+    /// Whether the run goes on in one that follows it: their clusters have one shape.
+    #[inline]
+    pub(crate) fn goes_on(self, next: ShapeRun) -> bool
+        ensures { result ≡ have_one_shape self next }
+    {
+        self.bytes == next.bytes && self.points == next.points && self.columns == next.columns
+    }
+
+    /// The run with one more cluster.
+    #[inline]
+    pub(crate) fn longer(self) -> ShapeRun
+        requires { self.count + 1 < 2 ^ 32 }
+        ensures { result ≡ longer self }
+    {
+        ShapeRun {
+            count: self.count + 1,
+            ..self
+        }
+    }
 }

@@ -1,12 +1,18 @@
 -- Each cluster stands where the one before it ends, and takes the status after its last code point.
-use Rattle.std.proofs.Common.{◌≤◌, [], ◌∷◌, ◌++◌, map, length, drop, refl, sym, ap, subst, ◌∙◌, arith}
+use Rattle.std.proofs.Common.{◌≤◌, List, [], ◌∷◌, ◌++◌, map, length, drop, refl, sym, ap, subst, ◌∙◌, arith}
 use Rattle.std.proofs.lemmas.List.{map-append}
 use Rattle.std.proofs.lemmas.List.Elements.{All-same}
+use Rattle.std.specs.List.{flat_map}
+use Rattle.std.specs.Prelude.{IfSome}
 use Rattle.std.specs.Str.{IsUtf8}
 use Rattle.paragraphs.specs.Text.{code_points}
 use Rattle.line_break.specs.declared.cluster.Cluster.{Cluster}
 use Rattle.line_break.specs.declared.measure.Measure.{Measure}
+use Rattle.line_break.specs.declared.run.ShapeRun.{ShapeRun}
+use Rattle.line_break.specs.Runs.{EndsAt, columns_of, sizes_of, spans_of}
 use Rattle.line_break.specs.Statuses.{breaks}
+use Rattle.line_break.proofs.Gathering.{AreGathered-start, AreGathered-on}
+use Rattle.line_break.proofs.Joined.{HasSome, EndsAt-span}
 use Rattle.line_break.proofs.Marking.{breaks-of, slice-from, words-from}
 use Rattle.line_break.proofs.Measuring.{length-breaks, IsMeasuredTo-start, line_clusters-end, IsMeasuredTo-on, measured-is, two-line_clusters}
 use Rattle.line_break.proofs.Measuring.{cluster-some as points-some, cluster-fits as points-within}
@@ -25,6 +31,10 @@ loop-measure-init c =
       measured =
           IsMeasuredTo-start c.args.tables.now text _ _ given.clusters given.utf8
           (c.cluster_places.ensures.some text u) (c.cluster_places.ensures.sum text u) c.in_ok-outline.ensures.clusters.0;
+      gathered =
+          AreGathered-start _ _ _ _ (ap (λ (runs : List ShapeRun). runs ++ []) c.in_ok-outline.ensures.runs)
+          c.in_ok-outline.ensures.spans.0 c.in_ok-outline.ensures.sizes.0 c.in_ok-outline.ensures.columns.0;
+      ends = tt;
       spans = let room = c.in_ok-outline.ensures.spans in record { filled = omega arith; room = omega arith };
       sizes = let room = c.in_ok-outline.ensures.sizes in record { filled = omega arith; room = omega arith };
       own = c.in_ok-outline.ensures.columns.0 ∙ ap (map (λ (x : Cluster). x.columns)) (sym c.in_ok-outline.ensures.clusters.0);
@@ -54,6 +64,12 @@ overflow_sub-span c =
     let cluster = c.in-Some.ensures.cluster in
     let some = cluster-some _ _ _ _ _ _ m cluster _ c.in-Some.ensures.taken in
     let end = cluster-end _ _ _ _ _ _ m cluster _ c.in-Some.ensures.taken _ c.bytes_left.result (ap length c.text-length.ensures) c.bytes_left.ensures in
+    omega arith
+
+pub overflow_sub-span-in-Some : goal.overflow_sub-span-in-Some
+overflow_sub-span-in-Some c =
+    let some = points-some c.args.tables.now c.args.para.now.text _ _ c.loop-measure.place c.loop-measure.invariant.measured c.in-Some.ensures.cluster _ c.in-Some.ensures.taken in
+    let size = ap (λ (x : Measure). x.size) c.in-Some.ensures.measured in
     omega arith
 
 pub overflow_add-span : goal.overflow_add-span
@@ -130,6 +146,29 @@ index-requires c =
 pub loop-measure-smaller : goal.loop-measure-smaller
 loop-measure-smaller c = omega (arith, ap length c.in-Some.ensures.taken)
 
+pub joined-requires-clause-last : goal.joined-requires-clause-last
+joined-requires-clause-last c =
+    subst (λ (n : ShapeRun). IfSome c.loop-measure.last (λ (run : ShapeRun). EndsAt run n.first_byte n.first_place)) (sym c.of_one-next.ensures)
+    c.loop-measure.invariant.ends
+
+pub joined-requires-clause-one : goal.joined-requires-clause-one
+joined-requires-clause-one c = ap (λ (n : ShapeRun). n.count) c.of_one-next.ensures
+
+pub joined-requires-clause-some : goal.joined-requires-clause-some
+joined-requires-clause-some c =
+    let some = points-some c.args.tables.now c.args.para.now.text _ _ c.loop-measure.place c.loop-measure.invariant.measured c.in-Some.ensures.cluster _ c.in-Some.ensures.taken in
+    let size = ap (λ (x : Measure). x.size) c.in-Some.ensures.measured in
+    let points = ap (λ (n : ShapeRun). n.points) c.of_one-next.ensures in
+    omega arith
+
+pub joined-requires-clause-few : goal.joined-requires-clause-few
+joined-requires-clause-few c =
+    let first = ap (λ (n : ShapeRun). n.first_place) c.of_one-next.ensures in
+    let so_far = c.loop-measure.invariant.outlined.places in
+    let bytes = c.loop-measure.invariant.outlined.bytes in
+    let all = c.requires.size in
+    omega arith
+
 pub loop-measure-preserved : goal.loop-measure-preserved
 loop-measure-preserved c =
     let t = c.args.tables.now in
@@ -145,6 +184,7 @@ loop-measure-preserved c =
     let columns = ap (λ (x : Measure). x.columns) c.in-Some.ensures.measured in
     let is_space = ap (λ (x : Measure). x.is_space) c.in-Some.ensures.measured in
     let end = cluster-end _ _ _ _ _ _ o cluster _ at _ c.bytes_left.result (ap length c.text-length.ensures) c.bytes_left.ensures in
+    let next = c.of_one-next.ensures in
     record {
       outlined = IsOutlinedTo-at _ _ _ _ _ _ o cluster _ at _ here.size _ _ _ size end refl c.push_reserved.ensures.items c.push_reserved-in-Some.ensures.items;
       measured =
@@ -152,6 +192,10 @@ loop-measure-preserved c =
           (measured-is t (code_points cluster) c.in_ok-statuses.statuses.items (breaks t p) c.loop-measure.place here.size
           here.columns here.is_space c.index.result.now (breaks-of t p c.args.points.now c.args.words.now _ c.requires.points c.requires.words c.in_ok-statuses.ensures) size some fits columns is_space c.index.ensures)
           c.push_reserved-in-Some-3.ensures.items;
+      gathered =
+          AreGathered-on _ _ _ c.in_ok-joined.ensures.runs _ _ next (omega arith) (omega arith) _ _ _ _ _ _ here.size c.loop-measure.invariant.gathered
+          (omega arith) c.push_reserved.ensures.items c.push_reserved-in-Some.ensures.items c.push_reserved-in-Some-2.ensures.items;
+      ends = EndsAt-span _ _ _ _ next (omega arith) (omega arith) c.in_ok-joined.ensures.end;
       spans = HasRoom-on _ _ _ _ here.size _ _ c.loop-measure.invariant.spans (omega arith) c.push_reserved.ensures.len c.push_reserved.ensures.capacity;
       sizes = HasRoom-on _ _ _ _ here.size _ _ c.loop-measure.invariant.sizes (omega arith) c.push_reserved-in-Some.ensures.len c.push_reserved-in-Some.ensures.capacity;
       own =
@@ -168,6 +212,25 @@ returns-clause-spans c = spans-end _ _ _ _ _ _ c.loop-measure.invariant.outlined
 
 pub returns-clause-sizes : goal.returns-clause-sizes
 returns-clause-sizes c = sizes-end _ _ _ _ _ _ c.loop-measure.invariant.outlined c.in_default.ensures
+
+pub returns-clause-runs_stand : goal.returns-clause-runs_stand
+returns-clause-runs_stand c =
+    ap (flat_map spans_of) c.in_ok-close.ensures ∙ c.loop-measure.invariant.gathered.all_spans
+    ∙ spans-end _ _ _ _ _ _ c.loop-measure.invariant.outlined c.in_default.ensures
+
+pub returns-clause-runs_sizes : goal.returns-clause-runs_sizes
+returns-clause-runs_sizes c =
+    ap (flat_map sizes_of) c.in_ok-close.ensures ∙ c.loop-measure.invariant.gathered.all_sizes
+    ∙ sizes-end _ _ _ _ _ _ c.loop-measure.invariant.outlined c.in_default.ensures
+
+pub returns-clause-runs_columns : goal.returns-clause-runs_columns
+returns-clause-runs_columns c =
+    ap (flat_map columns_of) c.in_ok-close.ensures ∙ c.loop-measure.invariant.gathered.all_columns ∙ c.loop-measure.invariant.own
+    ∙ ap (map (λ (x : Cluster). x.columns))
+    (line_clusters-end c.args.tables.now c.args.para.now.text _ _ c.loop-measure.place c.loop-measure.invariant.measured c.in_default.ensures)
+
+pub returns-clause-some : goal.returns-clause-some
+returns-clause-some c = All-same HasSome _ _ c.in_ok-close.ensures c.loop-measure.invariant.gathered.some
 
 pub returns-clause-clusters : goal.returns-clause-clusters
 returns-clause-clusters c =
