@@ -22,11 +22,6 @@ abbrev pub begins_reset : List Bidi → Bool
 begins_reset [] = true
 begins_reset (c ∷ cs) = is_separator c || (is_run_class c && begins_reset cs)
 
--- the same for a part of a line, given whether L1 resets what follows it
-abbrev pub resets_before : Bool → List Bidi → Bool
-resets_before follower [] = follower
-resets_before follower (c ∷ cs) = is_separator c || (is_run_class c && resets_before follower cs)
-
 -- L1: the level of each code point of a line, by their classes and their levels before
 abbrev pub levels_after_l1 : ℕ → List Bidi → List ℕ → List ℕ
 levels_after_l1 para [] levels = []

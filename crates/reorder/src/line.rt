@@ -1,8 +1,8 @@
-//! The levels of a line's clusters: L1.
+//! The levels of a line's code points and clusters: L1.
 
 ghost use Rattle.std.specs.Prelude.{◌≡◌, ◌<◌, length, sum, All, IfOk, ◌&&◌, ◌||◌};
 ghost use Rattle.std.specs.Str.{chars};
-ghost use Rattle.reorder.specs.LineLevels.{is_separator, is_run_class, resets_before, levels_after_l1, group_firsts, line_levels_of};
+ghost use Rattle.reorder.specs.LineLevels.{is_separator, is_run_class, levels_after_l1, group_firsts, line_levels_of};
 
 use bg_types::{Bidi, Memory};
 use std::alloc::Global;
@@ -30,23 +30,45 @@ fn is_reset(class: Bidi, follower_is_reset: bool) -> bool
     }
 }
 
-/// Whether L1 resets the first of these code points, given whether it resets the one after them.
-fn begins_reset(classes: &[Bidi], follower_is_reset: bool) -> bool
-    ensures { result ≡ resets_before follower_is_reset classes.now }
+/// The level of each code point of a line after L1, by their classes and their levels before.
+/// Cost: O(n), a byte of memory a code point.
+pub fn levels_after_l1(
+    alloc: Global,
+    classes: &[Bidi],
+    levels: &[u8],
+    para_level: u8,
+) -> Result<Vec<u8>, Memory>
+    requires { length levels.now ≡ length classes.now }
+    ensures { IfOk result (λ after. after.items ≡ levels_after_l1 para_level classes.now levels.now) }
 {
-    for class in classes {
-        if !is_reset(*class, true) {
-            return false;
-        }
-        if is_reset(*class, false) {
-            return true;
+    let mut after = Vec::from_slice(alloc, levels)?;
+    let mut resets = true;
+    for place in (0..classes.len()).rev() {
+        resets = is_reset(classes[place], resets);
+        if resets {
+            after[place] = para_level;
         }
     }
-    follower_is_reset
+    Ok(after)
+}
+
+/// The first level of each group, of these sizes.
+fn group_firsts(alloc: Global, levels: &[u8], sizes: &[u32]) -> Result<Vec<u8>, Memory>
+    requires positive { All (λ size. 0 < size) sizes.now }
+    requires whole { sum sizes.now ≡ length levels.now }
+    ensures { IfOk result (λ firsts. firsts.items ≡ group_firsts sizes.now levels.now) }
+{
+    let mut firsts = Vec::with_capacity(alloc, sizes.len())?;
+    let mut start = 0usize;
+    for size in sizes {
+        firsts.push(levels[start])?;
+        start += *size as usize;
+    }
+    Ok(firsts)
 }
 
 /// What `line_levels` answers for a line whose code points have these classes.
-/// Cost: O(n), a byte of memory a cluster.
+/// Cost: O(n), a byte of memory a code point and a cluster.
 pub fn line_levels_at(
     alloc: Global,
     classes: &[Bidi],
@@ -59,18 +81,8 @@ pub fn line_levels_at(
     requires whole { sum sizes.now ≡ length classes.now }
     ensures { IfOk result (λ of_clusters. of_clusters.items ≡ group_firsts sizes.now (levels_after_l1 para_level classes.now levels.now)) }
 {
-    let mut of_clusters = vec![in alloc; para_level; sizes.len()]?;
-    let mut start = classes.len();
-    let mut resets = true;
-    for cluster in (0..sizes.len()).rev() {
-        let end = start;
-        start -= sizes[cluster] as usize;
-        resets = begins_reset(&classes[start..end], resets);
-        if !resets {
-            of_clusters[cluster] = levels[start];
-        }
-    }
-    Ok(of_clusters)
+    let after = levels_after_l1(alloc, classes, levels, para_level)?;
+    group_firsts(alloc, &after, sizes)
 }
 
 /// A level for each cluster of a line (UAX #9, L1): that of its first code point.

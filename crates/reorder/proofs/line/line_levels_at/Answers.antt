@@ -1,37 +1,17 @@
--- Each cluster in its turn, from the last.
-use Rattle.std.proofs.Common.{◌≡◌, ◌∙◌, refl, ap, sym, length, sum, replicate, rules, arith}
-use Rattle.std.proofs.lemmas.List.{take_all, drop_all, append-nil}
-use Rattle.reorder.proofs.L1.{made-on-kept, made-on-set}
+-- The firsts of the levels after L1.
+use Rattle.std.proofs.Common.{List, ℕ, length, sym, ap, ◌∙◌}
+use Rattle.std.proofs.lemmas.Result.{IfOk-weaker}
+use Rattle.reorder.specs.LineLevels.{group_firsts}
+use Rattle.reorder.proofs.L1.{length-after_l1}
 use Rattle.reorder.proofs.line.line_levels_at.Goals as goal
 
-pub loop-cluster-init : goal.loop-cluster-init
-loop-cluster-init c =
-    let sizes = c.args.sizes.now in
-    let cs = c.args.classes.now in
-    let filled : c.in_ok-of_clusters.of_clusters.items ≡ replicate (length c.args.sizes.now) c.args.para_level = search rules in
-    record {
-      start = sym (ap sum (take_all (length sizes) sizes (omega arith)) ∙ c.requires.whole);
-      len = omega (arith, c.in_ok-of_clusters.ensures.len);
-      resets = rw (drop_all (length cs) cs (omega arith)) refl;
-      made = rw (filled, drop_all (length sizes) sizes (omega arith)) (sym (append-nil (replicate (length sizes) c.args.para_level)));
-    }
+pub group_firsts-requires-clause-whole : goal.group_firsts-requires-clause-whole
+group_firsts-requires-clause-whole c =
+    c.requires.whole
+    ∙ sym (ap length (c.deref.ensures.value ∙ c.in_ok-after.ensures) ∙ length-after_l1 c.args.para_level c.args.classes.now c.args.levels.now c.requires.each_code_point)
 
-pub loop-cluster-preserved-then-not-resets : goal.loop-cluster-preserved-then-not-resets
-loop-cluster-preserved-then-not-resets c =
-    let h = c.loop-cluster.invariant in
-    let next =
-    made-on-set c.args.para_level c.args.classes.now c.args.levels.now c.args.sizes.now c.requires.each_code_point c.requires.positive c.requires.whole
-    c.loop-cluster.cluster c.loop-cluster.start c.loop-cluster.resets c.loop-cluster.of_clusters.items c.loop-cluster-test.true c.loop-cluster.auto.cluster
-    (record { start = h.start; resets = h.resets; levels_made = h.made })
-    c.begins_reset-resets.result c.begins_reset-resets.ensures c.if-not-resets.true in
-    record { start = next.start; len = h.len; resets = next.resets; made = next.levels_made }
-
-pub loop-cluster-preserved : goal.loop-cluster-preserved
-loop-cluster-preserved c =
-    let h = c.loop-cluster.invariant in
-    let next =
-    made-on-kept c.args.para_level c.args.classes.now c.args.levels.now c.args.sizes.now c.requires.each_code_point c.requires.positive c.requires.whole
-    c.loop-cluster.cluster c.loop-cluster.start c.loop-cluster.resets c.loop-cluster.of_clusters.items c.loop-cluster-test.true c.loop-cluster.auto.cluster
-    (record { start = h.start; resets = h.resets; levels_made = h.made })
-    c.begins_reset-resets.result c.begins_reset-resets.ensures c.if-not-resets.false in
-    record { start = next.start; len = h.len; resets = next.resets; made = next.levels_made }
+pub returns : goal.returns
+returns c =
+    IfOk-weaker c.group_firsts.result _ _
+    (λ found e. e ∙ ap (group_firsts c.args.sizes.now) (c.deref.ensures.value ∙ c.in_ok-after.ensures))
+    c.group_firsts.ensures
