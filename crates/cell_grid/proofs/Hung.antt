@@ -26,22 +26,3 @@ hung-none (n ∷ later) = elim (leb_tells n 0) [
 
 pub hung-full : (room n : ℕ) (later : List ℕ) → room < n → hung room (n ∷ later) ≡ 0 ∷ hung 0 later
 hung-full room n later lt = hung-cut room n later lt ∙ ap (λ l. 0 ∷ l) (sym (hung-none later))
-
--- where all have room
-pub hung-all : (room : ℕ) (columns : List ℕ) → sum columns ≤ room → hung room columns ≡ columns
-hung-all room [] le = refl
-hung-all room (n ∷ later) le =
-    let whole = sum_by-cons (λ (k : ℕ). k) n later in
-    hung-fits room n later (omega arith) ∙ ap (λ l. n ∷ l) (hung-all (room - n) later (omega arith))
-
--- one more cluster
-module _ (columns whole done : List ℕ) (room i n : ℕ) (lt : i < length columns) (is : n ≡ get_or columns i 0) (so_far : done ++ hung room (drop i columns) ≡ whole) where
-  pub hung-on : n ≤ room → (done ++ n ∷ []) ++ hung (room - n) (drop (i + 1) columns) ≡ whole
-  hung-on le =
-      append_assoc done (n ∷ []) (hung (room - n) (drop (i + 1) columns))
-      ∙ ap (λ l. done ++ l) (sym (ap (hung room) (drop-next columns i n 0 lt is) ∙ hung-fits room n (drop (i + 1) columns) le)) ∙ so_far
-
-  pub hung-over : room < n → (done ++ 0 ∷ []) ++ hung 0 (drop (i + 1) columns) ≡ whole
-  hung-over more =
-      append_assoc done (0 ∷ []) (hung 0 (drop (i + 1) columns))
-      ∙ ap (λ l. done ++ l) (sym (ap (hung room) (drop-next columns i n 0 lt is) ∙ hung-full room n (drop (i + 1) columns) more)) ∙ so_far

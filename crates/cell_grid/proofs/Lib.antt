@@ -1,7 +1,6 @@
 -- The modules of this crate's proofs.
 pub mod Steps
 pub mod Hung
-pub mod SideBySide
 pub mod Numbered
 pub mod Writing
 pub mod HeldEnd
@@ -12,7 +11,11 @@ pub mod Lookups
 pub mod Covering
 pub mod Celled
 pub mod RunEntries
-pub mod Joining
+pub mod Alone
+pub mod Cutting
+pub mod PieceEntries
+pub mod PieceCuts
+pub mod PieceRows
 pub mod Reaching
 pub mod Printing
 pub mod RunPrinting
@@ -26,6 +29,7 @@ pub mod LineBounds
 pub mod LinesOf
 pub mod Counting
 pub mod Slicing
+pub mod LinePieces
 pub mod Drawn
 pub mod Separating
 pub mod Edges

@@ -13,7 +13,7 @@ use Rattle.cell_grid.specs.Runs.{byte_count, point_count, span_after, cluster_co
 use Rattle.cell_grid.specs.Shifting.{StaysInReach, MayShift}
 use Rattle.cell_grid.specs.Spans.{shifted_span}
 use Rattle.cell_grid.proofs.Numbered.{at-number, All-front, All-back}
-use Rattle.cell_grid.proofs.Joining.{entry_by, none-after}
+use Rattle.cell_grid.proofs.Alone.{entry_by, none-after}
 use Rattle.cell_grid.proofs.Standing.{span_of}
 
 -- ---- a cluster within the run

@@ -16,7 +16,7 @@ use Rattle.cell_grid.specs.declared.entry.Entry.{Entry}
 use Rattle.cell_grid.specs.Print.{separates_segments, begins_with_tab, own_text, run_text}
 use Rattle.cell_grid.specs.Printable.{IsSlice, IsPrintable}
 use Rattle.cell_grid.specs.Runs.{byte_count, span_after, cluster_count, cluster_from_left, run_entry, run_entries, run_columns, runs_columns, runs_entries, IsInReach}
-use Rattle.cell_grid.proofs.Joining.{none-after}
+use Rattle.cell_grid.proofs.Alone.{none-after}
 use Rattle.cell_grid.proofs.Printing.{own-slice}
 use Rattle.cell_grid.proofs.Reaching.{all-clusters, from_left-within}
 use Rattle.cell_grid.proofs.Steps.{slice-parts}

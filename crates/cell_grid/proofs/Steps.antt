@@ -1,7 +1,7 @@
 -- One element of a list, and one more.
 use Rattle.std.proofs.Common.{◌≡◌, ℕ, zero, suc, ◌+◌, ◌-◌, ◌<◌, ◌≤◌, List, [], ◌∷◌, ◌++◌, map, length, take, drop, slice_range, get_or, set, flat_map, slice_get, Some, refl, sym, ap, subst, ◌∙◌, arith, append-nil, drop-cons}
 use Rattle.std.proofs.Math.Seq.{take-add}
-use Rattle.std.proofs.lemmas.List.{take_more, drop-drop}
+use Rattle.std.proofs.lemmas.List.{take_more, drop-drop, length-drop}
 use Rattle.std.proofs.lemmas.List.Concat.{flat_map-append, flat_map-cons}
 use Rattle.std.proofs.lemmas.Option.{get_or_from_slice_get, slice_get_within}
 use Rattle.std.specs.List.{All}
@@ -30,6 +30,10 @@ take-whole [] zero le = refl
 take-whole [] (suc i) le = refl
 take-whole (x ∷ xs) zero le = absurd (omega arith)
 take-whole (x ∷ xs) (suc i) le = ap (λ l. x ∷ l) (take-whole xs i (omega arith))
+
+-- a stretch up to the end
+pub slice-end : {X : Type 0} (xs : List X) (i : ℕ) → slice_range xs i (length xs) ≡ drop i xs
+slice-end xs i = let n = length-drop i xs in take-whole (drop i xs) (length xs - i) (omega arith)
 
 -- a stretch in two parts
 pub slice-parts : {X : Type 0} (xs : List X) (i j k : ℕ) → i ≤ j → j ≤ k → slice_range xs i k ≡ slice_range xs i j ++ slice_range xs j k

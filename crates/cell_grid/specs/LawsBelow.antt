@@ -9,6 +9,7 @@ use Rattle.line_break.specs.declared.line.Line.{Line}
 use Rattle.line_break.specs.LineClusters.{line_clusters}
 use Rattle.line_break.specs.Lines.{fits, lines}
 use Rattle.line_break.specs.Ranges.{Follow}
+use Rattle.reorder.specs.Pieces.{PiecesMoveAsOne}
 use Rattle.reorder.specs.VisualList.{visual_list}
 
 pub record LawsBelow : Type 0 where
@@ -30,3 +31,4 @@ pub record LawsBelow : Type 0 where
       → All (λ (line : Line). fits width (slice_range (line_clusters tables text) line.start line.end) ≡ true) (lines tables text width)
   -- the visual order, as `reorder` does
   pub rearrangement : (levels : List ℕ) → IsPermutation (range_with_len 0 (length levels)) (visual_list levels)
+  pub pieces_move_as_one : PiecesMoveAsOne

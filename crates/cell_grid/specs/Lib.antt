@@ -8,7 +8,10 @@ pub mod Rows
 pub mod Separators
 pub mod Shifting
 pub mod Runs
+pub mod Pieces
 pub mod Outline
+pub mod Parts
+pub mod Cuts
 pub mod Grids
 pub mod Print
 pub mod Held

@@ -1,5 +1,5 @@
 -- Runs of clusters: what a row keeps its entries as.
-use Rattle.std.specs.Prelude.{◌≡◌, ℕ, ◌+◌, ◌-◌, ◌*◌, ◌^◌, ◌<◌, ◌≤◌, Bool, ◌==◌, ◌&&◌, List, [], ◌∷◌, ◌++◌, map, length, sum_by, if◌then◌else◌}
+use Rattle.std.specs.Prelude.{◌≡◌, ℕ, ◌+◌, ◌-◌, ◌*◌, ◌^◌, ◌<◌, ◌≤◌, List, [], ◌∷◌, ◌++◌, map, length, sum_by, if◌then◌else◌}
 use Rattle.std.specs.List.{All, range_with_len}
 use Rattle.reorder.specs.VisualList.{is_odd}
 use Rattle.paragraphs.specs.declared.span.Span.{Span}
@@ -19,12 +19,6 @@ point_count s = s.end_place - s.first_place
 -- the span behind so many spans like this one, of which it is the first
 abbrev pub span_after : (count : ℕ) → Span → Span
 span_after count s = shifted_span (count * byte_count s) (count * point_count s) s
-
--- the second span is that one
-abbrev pub stands_after : (count : ℕ) → Span → Span → Bool
-stands_after count s t =
-    (t.first_byte == (s.first_byte + count * byte_count s)) && (t.end_byte == (s.end_byte + count * byte_count s))
-    && (t.first_place == (s.first_place + count * point_count s)) && (t.end_place == (s.end_place + count * point_count s))
 
 abbrev pub cluster_count : ClusterRun → ℕ
 cluster_count r = r.further + 1
@@ -69,18 +63,6 @@ shifted_run bytes places r = record r { span = shifted_span bytes places r.span 
 pub record MayShiftRun (bytes places : ℕ) (r : ClusterRun) : Type 0 where
   pub first : MayShift bytes places r.span
   pub last : MayShift bytes places (span_after r.further r.span)
-
--- a run with this entry more at its right
-pub record IsLonger (e : Entry) (r longer : ClusterRun) : Type 0 where
-  pub entries : (column : ℕ) → column + run_columns r ≡ e.column → run_entries column longer ≡ run_entries column r ++ e ∷ []
-  pub columns : run_columns longer ≡ run_columns r + e.columns
-  pub reach : IsInReach longer
-
--- runs with this entry more at their right
-pub record AreLonger (e : Entry) (runs longer : List ClusterRun) : Type 0 where
-  pub entries : (column : ℕ) → column + runs_columns runs ≡ e.column → runs_entries column longer ≡ runs_entries column runs ++ e ∷ []
-  pub columns : runs_columns longer ≡ runs_columns runs + e.columns
-  pub reach : All IsInReach longer
 
 -- the runs of a row: their entries stand within the width from column `start` on, and are so many
 pub record AreKept (width start count : ℕ) (runs : List ClusterRun) : Type 0 where

@@ -1,10 +1,10 @@
 //! Clusters of a row that are alike and follow each other.
 
-ghost use Rattle.std.specs.Prelude.{◌≡◌, ◌+◌, ◌^◌, ◌<◌, ◌≤◌, [], ◌∷◌, IfSome};
-ghost use Rattle.cell_grid.specs.Runs.{span_after, cluster_count, cluster_from_left, run_entry, run_entries, run_columns, IsInReach, IsLonger};
+ghost use Rattle.std.specs.Prelude.{◌≡◌, ◌+◌, ◌^◌, ◌<◌, ◌≤◌, [], ◌∷◌};
+ghost use Rattle.cell_grid.specs.Runs.{span_after, cluster_count, cluster_from_left, run_entry, run_entries, run_columns, IsInReach};
 
 use crate::entry::Entry;
-use crate::span::{span_after, stands_after};
+use crate::span::span_after;
 use paragraphs::Span;
 use std::mem::size_of;
 
@@ -39,33 +39,6 @@ impl ClusterRun {
             level: entry.level,
             columns: entry.columns,
         }
-    }
-
-    /// The run with an entry more at its right, where that is its next cluster and like the others.
-    pub(crate) fn joined(&self, entry: &Entry) -> Option<ClusterRun>
-        requires { IsInReach self.now }
-        ensures { IfSome result (IsLonger entry.now self.now) }
-    {
-        if entry.level != self.level || entry.columns != self.columns || self.further == u16::MAX {
-            return None;
-        }
-        let further = self.further + 1;
-        if self.level % 2 == 1 {
-            // What stands further right stands earlier in the text.
-            if !stands_after(1, entry.span, self.span) {
-                return None;
-            }
-            let span = entry.span;
-            return Some(ClusterRun {
-                span,
-                further,
-                ..*self
-            });
-        }
-        if !stands_after(further, self.span, entry.span) {
-            return None;
-        }
-        Some(ClusterRun { further, ..*self })
     }
 
     /// How many clusters it has.

@@ -12,6 +12,8 @@ mod held;
 pub mod laws;
 mod laws_below;
 mod paragraph;
+mod part;
+mod piece;
 mod print_size;
 mod printed;
 mod row;

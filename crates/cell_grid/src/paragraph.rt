@@ -5,25 +5,28 @@ ghost use Rattle.std.specs.List.{All};
 ghost use Rattle.std.specs.Str.{IsUtf8};
 ghost use Rattle.unicode_tables.specs.declared.word.Word.{Word};
 ghost use Rattle.paragraphs.specs.Text.{code_points};
-ghost use Rattle.paragraphs.specs.Clusters.{clusters, cluster_sizes};
-ghost use Rattle.paragraphs.specs.Spans.{spans};
+ghost use Rattle.paragraphs.specs.Clusters.{clusters};
 ghost use Rattle.bidi_explicit.specs.Embedding.{classes_of};
 ghost use Rattle.line_break.specs.LineClusters.{line_clusters};
 ghost use Rattle.line_break.specs.Lines.{lines};
-ghost use Rattle.cell_grid.specs.Rows.{levels_in_line, row_of, rows_of};
+ghost use Rattle.line_break.specs.Runs.{AllHaveSome};
+ghost use Rattle.reorder.specs.LineLevels.{levels_after_l1};
+ghost use Rattle.cell_grid.specs.Outline.{IsLine};
+ghost use Rattle.cell_grid.specs.Parts.{IsWithin, left_of, AreFrom};
+ghost use Rattle.cell_grid.specs.Rows.{row_of, rows_of};
 ghost use Rattle.cell_grid.specs.Shifting.{MayShiftRow};
-ghost use Rattle.cell_grid.specs.Outline.{own_columns, StandIn, IsLine};
 
 use crate::laws_below::laws_below;
+use crate::part::{Cursor, extent};
+use crate::piece::pieces_of;
 use crate::row::Row;
 use crate::separator::{is_separator_alone, separator_rows};
-use crate::span::extent;
 use bg_types::{Base, Bidi, Memory};
 use bidi_explicit::paragraph_level;
 use bidi_weak_neutral::levels_at;
 use line_break::{Line, Outline, lines_of, outline_of};
 use paragraphs::{Para, Span, code_points_of};
-use reorder::line_levels_at;
+use reorder::levels_after_l1;
 use std::alloc::Global;
 use unicode_tables::{Tables, Word};
 
@@ -40,58 +43,51 @@ struct Material<'a> {
     clusters: Outline,
 }
 
-/// The levels of a line's clusters, which have these spans in the paragraph's text (L1).
-fn levels_in_line(
-    alloc: Global,
-    material: &Material,
-    spans: &[Span],
-    sizes: &[u32],
-) -> Result<Vec<u8>, Memory>
+/// The levels of a line's code points, which has this extent in the paragraph's text (L1).
+fn levels_in_line(alloc: Global, material: &Material, whole: Span) -> Result<Vec<u8>, Memory>
     requires classes { material.now.classes.items ≡ classes_of material.now.tables.now material.now.text.now }
     requires levels { length material.now.levels.items ≡ length (code_points material.now.text.now) }
-    requires stand { StandIn material.now.text.now spans.now sizes.now }
-    ensures { IfOk result (λ levels. levels.items
-        ≡ levels_in_line material.now.tables.now material.now.text.now material.now.levels.items material.now.para_level spans.now sizes.now) }
+    requires order { whole.first_place ≤ whole.end_place }
+    requires within { whole.end_place ≤ length (code_points material.now.text.now) }
+    ensures { IfOk result (λ levels. levels.items ≡ levels_after_l1 material.now.para_level
+        (slice_range (classes_of material.now.tables.now material.now.text.now) whole.first_place whole.end_place)
+        (slice_range material.now.levels.items whole.first_place whole.end_place)) }
 {
-    let whole = extent(spans);
-    line_levels_at(
+    levels_after_l1(
         alloc,
         &material.classes[whole.first_place as usize..whole.end_place as usize],
         &material.levels[whole.first_place as usize..whole.end_place as usize],
-        sizes,
         material.para_level,
     )
 }
 
-/// The part of a list with an element for each cluster that belongs to a line.
-#[inline]
-fn part<T>(all: &[T], line: Line) -> &[T]
-    requires order { line.start ≤ line.end }
-    requires within { line.end ≤ length all.now }
-    ensures { result.now ≡ slice_range all.now line.start line.end }
-{
-    &all[line.start..line.end]
-}
-
-/// The row of a line, counted from the paragraph's start.
-fn row_of(alloc: Global, material: &Material, width: u16, line: Line) -> Result<Row, Memory>
+/// The row of the next line, counted from the paragraph's start. Its clusters are passed.
+fn row_of(
+    alloc: Global,
+    material: &Material,
+    width: u16,
+    cursor: &mut Cursor,
+    line: Line,
+) -> Result<Row, Memory>
     requires width { width ≤ 500 }
     requires size { length (clusters material.now.text.now) ≤ 4_000_000 }
     requires classes { material.now.classes.items ≡ classes_of material.now.tables.now material.now.text.now }
     requires levels { length material.now.levels.items ≡ length (code_points material.now.text.now) }
-    requires spans { material.now.clusters.spans.items ≡ spans material.now.text.now }
-    requires sizes { material.now.clusters.sizes.items ≡ cluster_sizes material.now.text.now }
-    requires columns { material.now.clusters.columns.items ≡ own_columns material.now.tables.now material.now.text.now }
+    requires runs { AllHaveSome material.now.clusters.runs.items }
+    requires within { All IsWithin (left_of material.now.clusters.runs.items cursor.old) }
+    requires at_start { AreFrom material.now.tables.now material.now.text.now line.start (left_of material.now.clusters.runs.items cursor.old) }
     requires line { IsLine material.now.tables.now width material.now.text.now line }
-    ensures { IfOk result (λ row. row
+    ensures row { IfOk result (λ row. row
         ≡ row_of material.now.tables.now width material.now.para_level material.now.text.now material.now.levels.items line) }
+    ensures at_end { IfOk result (λ row. AreFrom material.now.tables.now material.now.text.now line.end (left_of material.now.clusters.runs.items cursor.new)) }
+    ensures within { IfOk result (λ row. All IsWithin (left_of material.now.clusters.runs.items cursor.new)) }
 {
-    laws_below();
-    let spans = part(&material.clusters.spans, line);
-    let sizes = part(&material.clusters.sizes, line);
-    let columns = part(&material.clusters.columns, line);
-    let levels = levels_in_line(alloc, material, spans, sizes)?;
-    Row::of_line(alloc, width, material.para_level, spans, &levels, columns)
+    let count = (line.end - line.start) as u32;
+    let parts = cursor.parts(alloc, &material.clusters.runs, count)?;
+    let whole = extent(&parts);
+    let levels = levels_in_line(alloc, material, whole)?;
+    let pieces = pieces_of(alloc, &parts, &levels, width)?;
+    Row::of_pieces(alloc, width, material.para_level, whole, count, &pieces)
 }
 
 /// The rows of a paragraph's lines, from the top, counted from the paragraph's start.
@@ -102,11 +98,10 @@ fn rows_in(alloc: Global, material: &Material, width: u16) -> Result<Vec<Row>, M
     requires size { length material.now.text.now ≤ 4_000_000 }
     requires classes { material.now.classes.items ≡ classes_of material.now.tables.now material.now.text.now }
     requires levels { length material.now.levels.items ≡ length (code_points material.now.text.now) }
-    requires spans { material.now.clusters.spans.items ≡ spans material.now.text.now }
-    requires sizes { material.now.clusters.sizes.items ≡ cluster_sizes material.now.text.now }
+    requires some { AllHaveSome material.now.clusters.runs.items }
+    requires runs { AreFrom material.now.tables.now material.now.text.now 0 material.now.clusters.runs.items }
     requires clusters { material.now.clusters.clusters.items ≡ line_clusters material.now.tables.now material.now.text.now }
     requires most { All (λ c. c.columns ≤ 2) material.now.clusters.clusters.items }
-    requires columns { material.now.clusters.columns.items ≡ own_columns material.now.tables.now material.now.text.now }
     ensures { IfOk result (λ rows. rows.items
         ≡ map (row_of material.now.tables.now width material.now.para_level material.now.text.now material.now.levels.items)
         (lines material.now.tables.now material.now.text.now width)) }
@@ -114,8 +109,9 @@ fn rows_in(alloc: Global, material: &Material, width: u16) -> Result<Vec<Row>, M
     laws_below();
     let lines = lines_of(alloc, &material.clusters.clusters, width)?;
     let mut rows = Vec::with_capacity(alloc, lines.len())?;
+    let mut cursor = Cursor::start();
     for line in &lines {
-        rows.push(row_of(alloc, material, width, *line)?)?;
+        rows.push(row_of(alloc, material, width, &mut cursor, *line)?)?;
     }
     Ok(rows)
 }

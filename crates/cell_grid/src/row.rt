@@ -1,25 +1,25 @@
 //! A row of a grid.
 
-ghost use Rattle.std.specs.Prelude.{◌≡◌, ℕ, ◌^◌, ◌++◌, ◌<◌, ◌≤◌, length, replicate, slice_get, sum, IfOk, Some};
+ghost use Rattle.std.specs.Prelude.{◌≡◌, ℕ, ◌^◌, ◌++◌, ◌<◌, ◌≤◌, length, replicate, slice_get, IfOk, Some};
 ghost use Rattle.std.specs.List.{All};
 ghost use Rattle.cell_grid.specs.declared.cell.Cell.TheVariants.{Blank};
 ghost use Rattle.cell_grid.specs.Cells.{entries_cells};
-ghost use Rattle.cell_grid.specs.Hanging.{hung};
+ghost use Rattle.cell_grid.specs.Pieces.{spans_of, levels_of, columns_of};
 ghost use Rattle.cell_grid.specs.Rows.{row_with, shifted};
 ghost use Rattle.cell_grid.specs.Runs.{runs_columns, runs_entries, IsInReach};
 ghost use Rattle.cell_grid.specs.Separators.{separator_row};
 ghost use Rattle.cell_grid.specs.Shifting.{MayShiftRow};
+ghost use Rattle.cell_grid.specs.Spans.{extent};
 
 use crate::cell::{Cell, Cells, cell_in};
 use crate::cluster_run::ClusterRun;
-use crate::column::{end_column, hung, start_column, sum_of};
+use crate::column::{end_column, start_column};
 use crate::entries::Entries;
 use crate::entry::Entry;
-use crate::runs::{entry_in, runs_from, shift_runs};
-use crate::span::extent;
+use crate::laws_below::laws_below;
+use crate::runs::{arranged, entry_in, shift_runs};
 use bg_types::Memory;
 use paragraphs::Span;
-use reorder::visual;
 use std::alloc::Global;
 use std::marker::Model;
 
@@ -71,59 +71,36 @@ impl Drop for Row {
 }
 
 impl Row {
-    /// The row of a line whose clusters have these spans, in logical order, with their levels and their
-    /// columns.
-    fn with(
+    /// The row of a line of so many clusters that stands here in the text and has these pieces, in logical order.
+    pub(crate) fn of_pieces(
         alloc: Global,
         width: u16,
         para_level: u8,
-        spans: &[Span],
-        levels: &[u8],
-        columns: &[u8],
+        whole: Span,
+        count: u32,
+        pieces: &[ClusterRun],
     ) -> Result<Row, Memory>
-        requires levels { length levels.now ≡ length spans.now }
-        requires columns { length columns.now ≡ length spans.now }
-        requires room { sum columns.now ≤ width }
+        requires whole { whole ≡ extent (spans_of pieces.now) }
+        requires count { count ≡ length (spans_of pieces.now) }
+        requires most { count ≤ 4_000_000 }
+        requires reach { All IsInReach pieces.now }
+        requires room { runs_columns pieces.now ≤ width }
         requires width { width ≤ 500 }
-        requires count { length spans.now ≤ 4_000_000 }
-        ensures { IfOk result (λ row. row ≡ row_with width para_level spans.now levels.now columns.now) }
+        ensures { IfOk result (λ row. row
+            ≡ row_with width para_level (spans_of pieces.now) (levels_of pieces.now) (columns_of pieces.now)) }
     {
-        let start = start_column(width, para_level, columns);
-        let order = visual(alloc, levels)?;
-        let runs = runs_from(alloc, spans, levels, columns, start, &order)?;
-        let whole = extent(spans);
+        laws_below();
+        let start = start_column(width, para_level, end_column(pieces, 0));
+        let runs = arranged(alloc, pieces)?;
         Ok(Row {
             width,
             start,
             first_place: whole.first_place,
             last_place: whole.end_place,
             para_level,
-            count: spans.len() as u32,
+            count,
             runs,
         })
-    }
-
-    /// The row of a line whose clusters have these columns of their own: the spaces at its end hang where they
-    /// don't fit.
-    pub(crate) fn of_line(
-        alloc: Global,
-        width: u16,
-        para_level: u8,
-        spans: &[Span],
-        levels: &[u8],
-        own: &[u8],
-    ) -> Result<Row, Memory>
-        requires levels { length levels.now ≡ length spans.now }
-        requires columns { length own.now ≡ length spans.now }
-        requires width { width ≤ 500 }
-        requires count { length spans.now ≤ 4_000_000 }
-        ensures { IfOk result (λ row. row ≡ row_with width para_level spans.now levels.now (hung width own.now)) }
-    {
-        if sum_of(own) <= usize::from(width) {
-            return Row::with(alloc, width, para_level, spans, levels, own);
-        }
-        let columns = hung(alloc, width, own)?;
-        Row::with(alloc, width, para_level, spans, levels, &columns)
     }
 
     /// The row of a separator alone, of this many bytes, counted from its paragraph's start.
@@ -136,7 +113,7 @@ impl Row {
         requires { width ≤ 500 }
         ensures { IfOk result (λ row. row ≡ separator_row width para_level bytes) }
     {
-        let start = start_column(width, para_level, &[0]);
+        let start = start_column(width, para_level, 0);
         let span = Span {
             first_byte: 0,
             end_byte: bytes,

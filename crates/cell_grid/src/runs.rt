@@ -1,64 +1,37 @@
 //! The runs of a row.
 
-ghost use Rattle.std.specs.Prelude.{◌≡◌, ◌+◌, ◌^◌, ◌<◌, ◌≤◌, length, map, slice_get, slice_index, sum_by, IfOk, OnOk};
+ghost use Rattle.std.specs.Prelude.{◌≡◌, ◌+◌, ◌^◌, ◌<◌, ◌≤◌, length, map, slice_get, IfOk};
 ghost use Rattle.std.specs.List.{All};
-ghost use Rattle.cell_grid.specs.Rows.{entries_from};
-ghost use Rattle.cell_grid.specs.Runs.{runs_columns, runs_entries, shifted_run, IsInReach, AreLonger, MayShiftRun};
+ghost use Rattle.cell_grid.specs.declared.cluster_run.ClusterRun.{ClusterRun};
+ghost use Rattle.cell_grid.specs.Pieces.{arranged};
+ghost use Rattle.cell_grid.specs.Runs.{runs_columns, runs_entries, shifted_run, IsInReach, MayShiftRun};
 
 use crate::cluster_run::ClusterRun;
 use crate::entry::Entry;
 use crate::span::shifted;
 use bg_types::Memory;
-use paragraphs::Span;
+use reorder::visual;
 use std::alloc::Global;
 
-/// The runs of a line's clusters in this order, side by side from column `start` on.
-pub(crate) fn runs_from(
-    alloc: Global,
-    spans: &[Span],
-    levels: &[u8],
-    columns: &[u8],
-    start: u16,
-    order: &[u32],
-) -> Result<Vec<ClusterRun>, Memory>
-    requires levels { length levels.now ≡ length spans.now }
-    requires columns { length columns.now ≡ length spans.now }
-    requires order { All (λ k. k < length spans.now) order.now }
-    requires room { start + sum_by (slice_index columns.now) order.now ≤ 500 }
-    ensures entries { IfOk result (λ runs. runs_entries start runs.items ≡ entries_from spans.now levels.now columns.now start order.now) }
-    ensures reach { IfOk result (λ runs. All IsInReach runs.items) }
+/// The level of each of these pieces.
+fn levels_of(alloc: Global, pieces: &[ClusterRun]) -> Result<Vec<u8>, Memory>
+    ensures { IfOk result (λ levels. levels.items ≡ map (λ (r : ClusterRun). r.level) pieces.now) }
 {
-    let mut runs = Vec::new(alloc);
-    let mut column = start;
-    for number in order {
-        let k = *number as usize;
-        let entry = Entry {
-            span: spans[k],
-            column,
-            level: levels[k],
-            columns: columns[k],
-        };
-        push_entry(&mut runs, &entry)?;
-        column += u16::from(columns[k]);
-    }
-    runs.shrink_to_fit();
-    Ok(runs)
+    Ok(pieces.iter().map(|piece| piece.level).collect(alloc)?)
 }
 
-/// Appends an entry right of these runs: to the last of them, where it is its next cluster, else as a run of its own.
-fn push_entry(runs: &mut Vec<ClusterRun>, entry: &Entry) -> Result<(), Memory>
-    requires { All IsInReach runs.old.items }
-    ensures { OnOk result (AreLonger entry.now runs.old.items runs.new.items) }
+/// The runs of a line that has these pieces, from left to right (UAX #9, L2).
+pub(crate) fn arranged(alloc: Global, pieces: &[ClusterRun]) -> Result<Vec<ClusterRun>, Memory>
+    requires { length pieces.now ≤ 4_000_000 }
+    ensures { IfOk result (λ runs. runs.items ≡ arranged pieces.now) }
 {
-    let count = runs.len();
-    if count > 0 {
-        if let Some(longer) = runs[count - 1].joined(entry) {
-            runs[count - 1] = longer;
-            return Ok(());
-        }
+    let levels = levels_of(alloc, pieces)?;
+    let order = visual(alloc, &levels)?;
+    let mut runs = Vec::with_capacity(alloc, order.len())?;
+    for number in &order {
+        runs.push(pieces[*number as usize])?;
     }
-    runs.push(ClusterRun::of(*entry))?;
-    Ok(())
+    Ok(runs)
 }
 
 /// The entry with this number, from the left, of runs that begin at this column.

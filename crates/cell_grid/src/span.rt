@@ -1,7 +1,7 @@
 //! The extent of clusters that follow one another, spans moved later in the text, and spans of one size in a row.
 
-ghost use Rattle.std.specs.Prelude.{◌≡◌, ◌+◌, ◌-◌, ◌*◌, ◌^◌, ◌<◌, ◌==◌};
-ghost use Rattle.cell_grid.specs.Runs.{byte_count, point_count, span_after, stands_after};
+ghost use Rattle.std.specs.Prelude.{◌≡◌, ◌*◌};
+ghost use Rattle.cell_grid.specs.Runs.{byte_count, point_count, span_after};
 ghost use Rattle.cell_grid.specs.Shifting.{StaysInReach};
 ghost use Rattle.cell_grid.specs.Spans.{extent, shifted_span};
 
@@ -52,34 +52,4 @@ pub(crate) fn span_after(count: u16, span: Span) -> Span
     let bytes = u32::from(count) * size;
     let places = u32::from(count) * points;
     shifted(span, bytes, places)
-}
-
-/// Whether the second span stands behind so many spans like the first one.
-pub(crate) fn stands_after(count: u16, first: Span, span: Span) -> bool
-    ensures { result ≡ stands_after count first span }
-{
-    let bytes = steps(count, first.first_byte, first.end_byte);
-    let places = steps(count, first.first_place, first.end_place);
-    is_later(bytes, first.first_byte, span.first_byte)
-        && is_later(bytes, first.end_byte, span.end_byte)
-        && is_later(places, first.first_place, span.first_place)
-        && is_later(places, first.end_place, span.end_place)
-}
-
-/// So many times how far one number is behind another.
-#[inline]
-fn steps(count: u16, from: u32, to: u32) -> u64
-    ensures steps { result ≡ count * (to - from) }
-    ensures most { result < 2 ^ 48 }
-{
-    u64::from(count) * u64::from(to.saturating_sub(from))
-}
-
-/// Whether a number is so much greater than another.
-#[inline]
-fn is_later(by: u64, from: u32, to: u32) -> bool
-    requires { by < 2 ^ 48 }
-    ensures { result ≡ (to == (from + by)) }
-{
-    u64::from(to) == u64::from(from) + by
 }

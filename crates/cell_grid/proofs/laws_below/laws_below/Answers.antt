@@ -16,4 +16,5 @@ returns c = record {
   lines_follow = c.lines_follow.ensures;
   lines_fit = c.lines_fit.ensures;
   rearrangement = c.rearrangement.ensures;
+  pieces_move_as_one = c.pieces_move_as_one.ensures;
 }

@@ -1,102 +1,73 @@
 -- The row of a line that fits.
-use Rattle.std.proofs.Common.{ℕ, List, length, slice_range, sym, ap, subst, ◌∙◌, arith}
-use Rattle.std.proofs.lemmas.List.{length-map}
+use Rattle.std.proofs.Common.{◌≡◌, ℕ, ◌≤◌, List, length, sum, sym, ap, subst, ◌∙◌, arith}
 use Rattle.std.proofs.lemmas.Result.{IfOk-weaker}
-use Rattle.paragraphs.specs.Clusters.{cluster_sizes}
-use Rattle.line_break.specs.declared.cluster.Cluster.{Cluster}
-use Rattle.line_break.specs.LineClusters.{line_clusters}
-use Rattle.paragraphs.specs.declared.span.Span.{Span}
-use Rattle.cell_grid.specs.Spans.{spans}
+use Rattle.line_break.specs.declared.run.ShapeRun.{ShapeRun}
+use Rattle.reorder.specs.LineLevels.{group_firsts}
+use Rattle.cell_grid.specs.declared.cluster_run.ClusterRun.{ClusterRun}
 use Rattle.cell_grid.specs.Hanging.{hung}
-use Rattle.cell_grid.specs.Rows.{row_with, levels_in_line}
-use Rattle.cell_grid.specs.Outline.{own_columns, StandIn}
-use Rattle.cell_grid.proofs.Parts.{length-slice}
-use Rattle.cell_grid.proofs.LinesOf.{hung-columns, length-levels}
-use Rattle.cell_grid.proofs.Counting.{length-spans_of, length-sizes_of}
+use Rattle.cell_grid.specs.Parts.{all_spans, all_sizes, all_columns, left_of, AreFrom}
+use Rattle.cell_grid.specs.Pieces.{spans_of, levels_of, columns_of}
+use Rattle.cell_grid.specs.Rows.{row_with}
+use Rattle.cell_grid.specs.Runs.{runs_columns}
+use Rattle.cell_grid.specs.Spans.{extent}
+use Rattle.cell_grid.proofs.LinePieces.{line-parts, line-later, line-ahead, after-long, row-pieces}
+use Rattle.cell_grid.proofs.PieceCuts.{sum-columns}
+use Rattle.cell_grid.proofs.Sides.{sum-hung}
 use Rattle.cell_grid.proofs.paragraph.row_of.Goals as goal
 
-pub part-spans-requires-clause-within : goal.part-spans-requires-clause-within
-part-spans-requires-clause-within c =
-    let n = ap length (c.deref.ensures.value ∙ c.requires.spans) ∙ length-spans_of c.args.material.now.text.now in
-    let within = c.requires.line.within in
+pub parts-requires-clause-clusters : goal.parts-requires-clause-clusters
+parts-requires-clause-clusters c =
+    let m = c.args.material.now in
+    let left = left_of c.deref.result.now c.args.cursor.now in
+    let here = subst (λ (l : List ShapeRun). AreFrom m.tables.now m.text.now c.args.line.start (left_of l c.args.cursor.now)) (sym c.deref.ensures.value) c.requires.at_start in
+    line-ahead m.tables.now m.text.now c.args.line left c.requires.line.within here
+
+pub pieces_of-requires-clause-levels : goal.pieces_of-requires-clause-levels
+pieces_of-requires-clause-levels c =
+    let m = c.args.material.now in
+    let parts = c.in_ok-parts.parts.items in
+    let here = subst (λ (l : List ShapeRun). AreFrom m.tables.now m.text.now c.args.line.start (left_of l c.args.cursor.now)) (sym c.deref.ensures.value) c.requires.at_start in
+    let line = line-parts m.tables.now m.text.now c.args.line (left_of c.deref.result.now c.args.cursor.now) parts (left_of c.deref.result.now c.parts.new.self) c.requires.line.order here
+    c.in_ok-parts.ensures.parted c.in_ok-parts.ensures.count in
+    let at = c.extent-whole.ensures ∙ ap (λ (l : List ShapeRun). extent (all_spans l)) c.deref-2.ensures.value in
+    ap (λ (l : List ShapeRun). sum (all_sizes l)) c.deref-3.ensures.value
+    ∙ after-long m.tables.now c.args.width m.para_level m.text.now m.levels.items c.args.line c.requires.line parts line c.extent-whole.result at c.in_ok-levels.levels.items c.requires.levels c.in_ok-levels.ensures
+    ∙ sym (ap length c.deref-4.ensures.value)
+
+pub of_pieces-requires-clause-room : goal.of_pieces-requires-clause-room
+of_pieces-requires-clause-room c =
+    let pieces = c.in_ok-pieces.pieces.items in
+    let all = sum-columns c.in_ok-pieces.pieces.items in
+    let own = ap sum c.in_ok-pieces.ensures.columns in
+    let fits = sum-hung c.args.width (all_columns c.deref-3.result.now) in
+    let lent = ap runs_columns c.deref-5.ensures.value in
     omega arith
 
-pub part-sizes-requires-clause-within : goal.part-sizes-requires-clause-within
-part-sizes-requires-clause-within c =
-    let n = ap length (c.deref-2.ensures.value ∙ c.requires.sizes) ∙ length-sizes_of c.args.material.now.text.now in
-    let within = c.requires.line.within in
-    omega arith
+pub returns-clause-row : goal.returns-clause-row
+returns-clause-row c =
+    let m = c.args.material.now in
+    let parts = c.in_ok-parts.parts.items in
+    let here = subst (λ (l : List ShapeRun). AreFrom m.tables.now m.text.now c.args.line.start (left_of l c.args.cursor.now)) (sym c.deref.ensures.value) c.requires.at_start in
+    let line = line-parts m.tables.now m.text.now c.args.line (left_of c.deref.result.now c.args.cursor.now) parts (left_of c.deref.result.now c.parts.new.self) c.requires.line.order here
+    c.in_ok-parts.ensures.parted c.in_ok-parts.ensures.count in
+    let at = c.extent-whole.ensures ∙ ap (λ (l : List ShapeRun). extent (all_spans l)) c.deref-2.ensures.value in
+    let same_spans = c.in_ok-pieces.ensures.spans ∙ ap all_spans c.deref-3.ensures.value in
+    let same_levels = c.in_ok-pieces.ensures.levels ∙ ap (λ (l : List ShapeRun). group_firsts (all_sizes l) c.deref-4.result.now) c.deref-3.ensures.value
+    ∙ ap (group_firsts (all_sizes c.in_ok-parts.parts.items)) c.deref-4.ensures.value in
+    let same_columns = c.in_ok-pieces.ensures.columns ∙ ap (λ (l : List ShapeRun). hung c.args.width (all_columns l)) c.deref-3.ensures.value in
+    IfOk-weaker c.of_pieces.result _ _
+    (λ row e. e ∙ ap (λ (l : List ClusterRun). row_with c.args.width m.para_level (spans_of l) (levels_of l) (columns_of l)) c.deref-5.ensures.value
+    ∙ row-pieces m.tables.now c.args.width m.para_level m.text.now m.levels.items c.args.line c.requires.line parts line c.extent-whole.result at c.in_ok-levels.levels.items c.requires.levels
+    c.in_ok-levels.ensures c.in_ok-pieces.pieces.items same_spans same_levels same_columns)
+    c.of_pieces.ensures
 
-pub part-columns-requires-clause-within : goal.part-columns-requires-clause-within
-part-columns-requires-clause-within c =
-    let n = ap length (c.deref-3.ensures.value ∙ c.requires.columns) ∙ length-map (line_clusters c.args.material.now.tables.now c.args.material.now.text.now) (λ (x : Cluster). x.columns)
-    ∙ c.laws_below.ensures.each_measured c.args.material.now.tables.now c.args.material.now.text.now in
-    let within = c.requires.line.within in
-    omega arith
-
-pub levels_in_line-requires-clause-stand : goal.levels_in_line-requires-clause-stand
-levels_in_line-requires-clause-stand c =
-    let line = c.args.line in
-    let text = c.args.material.now.text.now in
-    let sp = c.part-spans.ensures ∙ ap (λ (l : List Span). slice_range l line.start line.end) (c.deref.ensures.value ∙ c.requires.spans) in
-    let sz = c.part-sizes.ensures ∙ ap (λ (l : List ℕ). slice_range l line.start line.end) (c.deref-2.ensures.value ∙ c.requires.sizes) in
-    subst (λ l. StandIn text l c.part-sizes.result.now) (sym sp) (subst (λ l. StandIn text (slice_range (spans text) line.start line.end) l) (sym sz) c.requires.line.stand)
-
-pub of_line-requires-clause-levels : goal.of_line-requires-clause-levels
-of_line-requires-clause-levels c =
-    let line = c.args.line in
-    let text = c.args.material.now.text.now in
-    let order = c.requires.line.order in
-    let within = c.requires.line.within in
-    let ns = length-spans_of text in
-    let nz = length-sizes_of text in
-    let sp = ap length (c.part-spans.ensures ∙ ap (λ (l : List Span). slice_range l line.start line.end) (c.deref.ensures.value ∙ c.requires.spans)) ∙ length-slice (spans text) line.start line.end order (omega arith) in
-    let sz = ap length (c.part-sizes.ensures ∙ ap (λ (l : List ℕ). slice_range l line.start line.end) (c.deref-2.ensures.value ∙ c.requires.sizes)) ∙ length-slice (cluster_sizes text) line.start line.end order (omega arith) in
-    let lv = ap length (c.deref-4.ensures.value ∙ c.in_ok-levels.ensures)
-    ∙ length-levels c.args.material.now.tables.now text c.args.material.now.levels.items c.args.material.now.para_level c.part-spans.result.now c.part-sizes.result.now in
-    omega arith
-
-pub of_line-requires-clause-columns : goal.of_line-requires-clause-columns
-of_line-requires-clause-columns c =
-    let line = c.args.line in
-    let text = c.args.material.now.text.now in
-    let tables = c.args.material.now.tables.now in
-    let order = c.requires.line.order in
-    let within = c.requires.line.within in
-    let ns = length-spans_of text in
-    let no = length-map (line_clusters tables text) (λ (x : Cluster). x.columns) ∙ c.laws_below.ensures.each_measured tables text in
-    let sp = ap length (c.part-spans.ensures ∙ ap (λ (l : List Span). slice_range l line.start line.end) (c.deref.ensures.value ∙ c.requires.spans)) ∙ length-slice (spans text) line.start line.end order (omega arith) in
-    let cl = ap length (c.part-columns.ensures ∙ ap (λ (l : List ℕ). slice_range l line.start line.end) (c.deref-3.ensures.value ∙ c.requires.columns)) ∙ length-slice (own_columns tables text) line.start line.end order (omega arith) in
-    omega arith
-
-pub of_line-requires-clause-count : goal.of_line-requires-clause-count
-of_line-requires-clause-count c =
-    let line = c.args.line in
-    let text = c.args.material.now.text.now in
-    let order = c.requires.line.order in
-    let within = c.requires.line.within in
-    let ns = length-spans_of text in
-    let sp = ap length (c.part-spans.ensures ∙ ap (λ (l : List Span). slice_range l line.start line.end) (c.deref.ensures.value ∙ c.requires.spans)) ∙ length-slice (spans text) line.start line.end order (omega arith) in
-    let all = c.requires.size in
-    omega arith
-
-pub returns : goal.returns
-returns c =
-    let line = c.args.line in
-    let text = c.args.material.now.text.now in
-    let tables = c.args.material.now.tables.now in
-    let width = c.args.width in
-    let para = c.args.material.now.para_level in
-    let levels = c.args.material.now.levels.items in
-    let sp = c.part-spans.ensures ∙ ap (λ (l : List Span). slice_range l line.start line.end) (c.deref.ensures.value ∙ c.requires.spans) in
-    let sz = c.part-sizes.ensures ∙ ap (λ (l : List ℕ). slice_range l line.start line.end) (c.deref-2.ensures.value ∙ c.requires.sizes) in
-    let lv = c.deref-4.ensures.value ∙ c.in_ok-levels.ensures
-    ∙ ap (λ (l : List Span). levels_in_line tables text levels para l c.part-sizes.result.now) sp
-    ∙ ap (λ (l : List ℕ). levels_in_line tables text levels para (slice_range (spans text) line.start line.end) l) sz in
-    let hg = ap (hung width) (c.part-columns.ensures ∙ ap (λ (l : List ℕ). slice_range l line.start line.end) (c.deref-3.ensures.value ∙ c.requires.columns))
-    ∙ hung-columns tables width text line c.requires.line in
-    IfOk-weaker c.of_line.result _ _
-    (λ row e. e ∙ ap (λ (l : List Span). row_with width para l c.deref-4.result.now (hung width c.part-columns.result.now)) sp
-    ∙ ap (λ (l : List ℕ). row_with width para (slice_range (spans text) line.start line.end) l (hung width c.part-columns.result.now)) lv
-    ∙ ap (λ (l : List ℕ). row_with width para (slice_range (spans text) line.start line.end) (levels_in_line tables text levels para (slice_range (spans text) line.start line.end) (slice_range (cluster_sizes text) line.start line.end)) l) hg)
-    c.of_line.ensures
+pub returns-clause-at_end : goal.returns-clause-at_end
+returns-clause-at_end c =
+    let m = c.args.material.now in
+    let parts = c.in_ok-parts.parts.items in
+    let here = subst (λ (l : List ShapeRun). AreFrom m.tables.now m.text.now c.args.line.start (left_of l c.args.cursor.now)) (sym c.deref.ensures.value) c.requires.at_start in
+    let later = line-later m.tables.now m.text.now c.args.line (left_of c.deref.result.now c.args.cursor.now) parts (left_of c.deref.result.now c.parts.new.self) c.requires.line.order here
+    c.in_ok-parts.ensures.parted c.in_ok-parts.ensures.count in
+    IfOk-weaker c.of_pieces.result _ _
+    (λ row e. subst (λ (l : List ShapeRun). AreFrom m.tables.now m.text.now c.args.line.end (left_of l c.parts.new.self)) c.deref.ensures.value later)
+    c.of_pieces.ensures

@@ -10,13 +10,14 @@ use Rattle.unicode_tables.specs.Tables.{TableValues, bidi_of}
 use Rattle.unicode_tables.specs.Word.{word_of}
 use Rattle.unicode_tables.specs.declared.word.Word.{Word}
 use Rattle.paragraphs.specs.Text.{code_points}
+use Rattle.paragraphs.specs.Clusters.{cluster_sizes}
 use Rattle.bidi_explicit.specs.Embedding.{paragraph_level, classes_of, embedding_at}
 use Rattle.bidi_weak_neutral.specs.Levels.{levels_of, resolved_levels}
-use Rattle.line_break.specs.declared.cluster.Cluster.{Cluster}
 use Rattle.line_break.specs.LineClusters.{line_clusters}
 use Rattle.line_break.specs.Lines.{lines}
 use Rattle.cell_grid.specs.Rows.{DrawnRow, row_of, rows_of}
 use Rattle.cell_grid.specs.Outline.{own_columns}
+use Rattle.cell_grid.specs.Spans.{spans}
 use Rattle.cell_grid.specs.Separators.{IsSeparatorAlone, separator_row}
 use Rattle.cell_grid.specs.Shifting.{MayShiftRow}
 use Rattle.cell_grid.proofs.Drawn.{rows-shift}
@@ -88,10 +89,14 @@ rows_in-requires-clause-levels c = c.in_ok-levels.ensures.one_each ∙ ap length
 pub rows_in-requires-clause-clusters : goal.rows_in-requires-clause-clusters
 rows_in-requires-clause-clusters c = c.in_ok-clusters.ensures.clusters ∙ ap (line_clusters c.args.tables.now) (sym c.text-text.ensures)
 
-pub rows_in-requires-clause-columns : goal.rows_in-requires-clause-columns
-rows_in-requires-clause-columns c =
-    c.in_ok-clusters.ensures.columns ∙ ap (map (λ (x : Cluster). x.columns)) c.in_ok-clusters.ensures.clusters
-    ∙ ap (own_columns c.args.tables.now) (sym c.text-text.ensures)
+pub rows_in-requires-clause-runs : goal.rows_in-requires-clause-runs
+rows_in-requires-clause-runs c =
+    let text = sym c.text-text.ensures in
+    record {
+      spans = c.in_ok-clusters.ensures.runs_stand ∙ ap spans text;
+      sizes = c.in_ok-clusters.ensures.runs_sizes ∙ ap cluster_sizes text;
+      columns = c.in_ok-clusters.ensures.runs_columns ∙ ap (own_columns c.args.tables.now) text;
+    }
 
 pub returns-clause-rows : goal.returns-clause-rows
 returns-clause-rows c =

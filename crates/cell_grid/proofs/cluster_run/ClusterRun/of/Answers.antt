@@ -1,6 +1,6 @@
 -- One cluster.
 use Rattle.std.proofs.Common.{arith}
-use Rattle.cell_grid.proofs.Joining.{alone-entries, alone-columns, alone-reach}
+use Rattle.cell_grid.proofs.Alone.{alone-entries, alone-columns, alone-reach}
 use Rattle.cell_grid.proofs.cluster_run.ClusterRun.of.Goals as goal
 
 pub returns-clause-entries : goal.returns-clause-entries

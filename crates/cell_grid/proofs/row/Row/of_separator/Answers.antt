@@ -34,7 +34,7 @@ invariant_of-result c =
     let e : Entry = record { span = span_of 0 c.args.bytes 0 1; level = c.args.para_level; column = start; columns = 0 } in
     let own = one-run start c.in_ok-from_slice.field-0.items c.of-run.result e c.in_ok-from_slice.ensures.items (append-nil _ ∙ c.of-run.ensures.entries) in
     let fits = start-fits c.args.width c.args.para_level (0 ∷ []) (omega arith) in
-    let at = c.start_column-start.ensures in
+    let at = c.start_column-start.ensures (0 ∷ []) (omega arith) in
     kept-one c.args.width start c.in_ok-from_slice.field-0.items c.of-run.result e c.in_ok-from_slice.ensures.items c.of-run.ensures.reach own (omega arith) (omega arith) (omega arith) c.requires
 
 pub returns : goal.returns
@@ -46,5 +46,5 @@ returns c =
     let entry : ℕ → Entry = λ column. record { span = span; level = level; column = column; columns = 0 } in
     let here = c.start_column-start.result in
     ap (row_by width here 0 1 level) (one-run here c.in_ok-from_slice.field-0.items c.of-run.result (entry here) c.in_ok-from_slice.ensures.items (append-nil _ ∙ c.of-run.ensures.entries))
-    ∙ ap (λ n. row_by width n 0 1 level (entry n ∷ [])) c.start_column-start.ensures
+    ∙ ap (λ n. row_by width n 0 1 level (entry n ∷ [])) (c.start_column-start.ensures (0 ∷ []) (omega arith))
     ∙ sym (ap (λ order. row_by width start 0 1 level (entries_from (span ∷ []) (level ∷ []) (0 ∷ []) start order)) (visual-one level))

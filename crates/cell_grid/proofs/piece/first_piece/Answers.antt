@@ -1,0 +1,13 @@
+-- As many clusters as are alike, cut where columns hang.
+use Rattle.std.proofs.Common.{◌≡◌, ◌+◌, ◌-◌, get_or, arith}
+use Rattle.cell_grid.proofs.PieceCuts.{first-piece}
+use Rattle.cell_grid.proofs.piece.first_piece.Goals as goal
+
+pub returns : goal.returns
+returns c =
+    let fit = c.first_fitting-fit.result in
+    let few = c.alike-alike.ensures.most in
+    let most = c.min-most.ensures in
+    let some = c.first_fitting-fit.ensures.some in
+    first-piece c.args.part c.args.levels.now c.args.room c.requires.within (get_or c.args.levels.now 0 0) (fit.count - 1) c.alike-alike.result fit (omega arith)
+    c.first_fitting-fit.ensures (omega arith) c.alike-alike.ensures.level
