@@ -9,6 +9,7 @@ ghost use Rattle.paragraphs.specs.Clusters.{clusters};
 ghost use Rattle.bidi_explicit.specs.Embedding.{classes_of};
 ghost use Rattle.line_break.specs.LineClusters.{line_clusters};
 ghost use Rattle.line_break.specs.Lines.{lines};
+ghost use Rattle.line_break.specs.Opportunities.{opportunities_of};
 ghost use Rattle.line_break.specs.Runs.{AllHaveSome};
 ghost use Rattle.reorder.specs.LineLevels.{levels_after_l1};
 ghost use Rattle.cell_grid.specs.Outline.{IsLine};
@@ -101,13 +102,19 @@ fn rows_in(alloc: Global, material: &Material, width: u16) -> Result<Vec<Row>, M
     requires some { AllHaveSome material.now.clusters.runs.items }
     requires runs { AreFrom material.now.tables.now material.now.text.now 0 material.now.clusters.runs.items }
     requires clusters { material.now.clusters.clusters.items ≡ line_clusters material.now.tables.now material.now.text.now }
+    requires opportunities { material.now.clusters.opportunities.items ≡ opportunities_of (line_clusters material.now.tables.now material.now.text.now) }
     requires most { All (λ c. c.columns ≤ 2) material.now.clusters.clusters.items }
     ensures { IfOk result (λ rows. rows.items
         ≡ map (row_of material.now.tables.now width material.now.para_level material.now.text.now material.now.levels.items)
         (lines material.now.tables.now material.now.text.now width)) }
 {
     laws_below();
-    let lines = lines_of(alloc, &material.clusters.clusters, width)?;
+    let lines = lines_of(
+        alloc,
+        &material.clusters.clusters,
+        &material.clusters.opportunities,
+        width,
+    )?;
     let mut rows = Vec::with_capacity(alloc, lines.len())?;
     let mut cursor = Cursor::start();
     for line in &lines {

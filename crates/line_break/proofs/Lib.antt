@@ -8,6 +8,8 @@ pub mod Tails
 pub mod Greatest
 pub mod LineEnds
 pub mod LinesLeft
+pub mod Boundaries
+pub mod Listing
 pub mod Breaking
 pub mod Joining
 pub mod Measuring
@@ -15,5 +17,7 @@ pub mod Spaces
 pub mod Outlining
 pub mod Joined
 pub mod Gathering
+pub mod Offering
+pub mod LastStatus
 pub mod Following
 pub mod Fitting

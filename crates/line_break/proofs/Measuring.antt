@@ -1,7 +1,7 @@
 -- The clusters of a paragraph, measured up to one of them.
 use Rattle.std.proofs.Common.{◌≡◌, ℕ, zero, suc, ◌+◌, ◌-◌, ◌<◌, ◌≤◌, Bool, true, false, cond, List, [], ◌∷◌, ◌++◌, map, length, drop, get_or, sum, refl, sym, ap, subst, ◌∙◌, arith}
-use Rattle.std.proofs.lemmas.List.{append-nil, append_assoc, length-append, length-map, drop-drop, get_or-drop}
-use Rattle.std.proofs.lemmas.List.Elements.{All-nil, All-cons, All-head, All-tail}
+use Rattle.std.proofs.lemmas.List.{append-nil, append_assoc, length-append, length-map, drop-drop, get_or-drop, take_at}
+use Rattle.std.proofs.lemmas.List.Elements.{All-nil, All-cons, All-head, All-tail, All-take}
 use Rattle.std.proofs.lemmas.List.Sums.{sum_by-cons}
 use Rattle.std.specs.List.{All, concat, list_all, list_any}
 use Rattle.std.specs.Str.{IsUtf8}
@@ -154,3 +154,12 @@ two-measured_all tables (c ∷ cs) statuses =
 pub two-line_clusters : (tables : TableValues) (text : List ℕ) → All (λ (c : Cluster). c.columns ≤ 2) (line_clusters tables text)
 unfolding line_clusters
 two-line_clusters tables text = two-measured_all tables (cluster_code_points text) (breaks tables text)
+
+-- nor has one that is measured
+pub two-done : (tables : TableValues) (text : List ℕ) (left : List (List ℕ)) (done : List Cluster) (place : ℕ) → IsMeasuredTo tables text left done place
+    → All (λ (c : Cluster). c.columns ≤ 2) done
+two-done tables text left done place m =
+    let rest = measured_all tables (map code_points left) (drop place (breaks tables text)) in
+    subst (All (λ (c : Cluster). c.columns ≤ 2)) (take_at done rest (length done) refl)
+    (All-take (λ (c : Cluster). c.columns ≤ 2) (length done) (done ++ rest)
+    (subst (All (λ (c : Cluster). c.columns ≤ 2)) (sym m.so_far) (two-line_clusters tables text)))

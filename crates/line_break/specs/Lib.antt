@@ -9,6 +9,7 @@ pub mod LineClusters
 pub mod Measures
 pub mod Lines
 pub mod Runs
+pub mod Opportunities
 pub mod Open
 pub mod Ranges
 pub mod Marked

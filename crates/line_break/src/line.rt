@@ -4,9 +4,11 @@ ghost use Rattle.std.specs.Prelude.{◌≡◌, ◌^◌, ◌<◌, ◌≤◌, IfOk
 ghost use Rattle.std.specs.List.{All, flat_map};
 ghost use Rattle.paragraphs.specs.Clusters.{clusters};
 ghost use Rattle.line_break.specs.Lines.{lines, lines_of};
+ghost use Rattle.line_break.specs.Opportunities.{opportunities_of};
 
 use crate::cluster::Cluster;
 use crate::open::Open;
+use crate::opportunity::Opportunity;
 use crate::outline::outline_of;
 use bg_types::Memory;
 use paragraphs::{Para, code_points_of};
@@ -36,14 +38,20 @@ pub fn lines(alloc: Global, tables: &Tables, para: &Para, width: u16) -> Result<
     let points = code_points_of(alloc, para.text())?;
     let words = tables.words_of_each(alloc, &points)?;
     let outline = outline_of(alloc, tables, para, &points, &words)?;
-    lines_of(alloc, &outline.clusters, width)
+    lines_of(alloc, &outline.clusters, &outline.opportunities, width)
 }
 
 /// The lines of a paragraph of these clusters, as `lines` gives them.
 /// Cost: O(n) of the clusters, memory for the lines.
-pub fn lines_of(alloc: Global, clusters: &[Cluster], width: u16) -> Result<Vec<Line>, Memory>
+pub fn lines_of(
+    alloc: Global,
+    clusters: &[Cluster],
+    opportunities: &[Opportunity],
+    width: u16,
+) -> Result<Vec<Line>, Memory>
     requires columns { All (λ c. c.columns ≤ 2) clusters.now }
-    requires length { length clusters.now < 2 ^ 63 }
+    requires length { length clusters.now < 2 ^ 31 }
+    requires opportunities { opportunities.now ≡ opportunities_of clusters.now }
     requires width { 2 ≤ width }
     ensures { IfOk result (λ v. v.items ≡ lines_of width clusters.now) }
 {
@@ -53,7 +61,7 @@ pub fn lines_of(alloc: Global, clusters: &[Cluster], width: u16) -> Result<Vec<L
         return Ok(lines);
     }
     let mut open = Open::first();
-    while let Some(line) = open.next_line(clusters, width as usize) {
+    while let Some(line) = open.next_line(clusters, opportunities, width as u32) {
         lines.push(line)?;
     }
     Ok(lines)

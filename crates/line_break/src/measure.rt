@@ -6,7 +6,8 @@ ghost use Rattle.unicode_tables.specs.Word.{word_of};
 ghost use Rattle.unicode_tables.specs.declared.word.Word.{Word};
 ghost use Rattle.paragraphs.specs.Text.{code_points};
 
-use crate::cluster::{are_spaces, is_space};
+use crate::cluster::{Cluster, are_spaces, is_space};
+use crate::status::Break;
 use paragraphs::{Clusters, columns, columns_of_marked, columns_of_one};
 use unicode_tables::{Tables, Word};
 
@@ -44,6 +45,18 @@ impl Measure {
         }
         let cluster = clusters.next()?;
         Some(Measure::of_several(tables, cluster))
+    }
+
+    /// The cluster as lines see it, with this status after it.
+    #[inline]
+    pub(crate) fn cluster(self, after: Break) -> Cluster
+        ensures { result ≡ record { columns = self.columns; is_space = self.is_space; after = after } }
+    {
+        Cluster {
+            columns: self.columns,
+            is_space: self.is_space,
+            after,
+        }
     }
 
     /// A cluster of one character, of which this is the word.

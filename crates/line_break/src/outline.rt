@@ -8,10 +8,12 @@ ghost use Rattle.paragraphs.specs.Text.{code_points};
 ghost use Rattle.paragraphs.specs.Clusters.{cluster_sizes};
 ghost use Rattle.paragraphs.specs.Spans.{spans};
 ghost use Rattle.line_break.specs.LineClusters.{line_clusters};
+ghost use Rattle.line_break.specs.Opportunities.{opportunities_of};
 ghost use Rattle.line_break.specs.Runs.{AllHaveSome, AreJoined, EndsAt, columns_of, sizes_of, spans_of};
 
 use crate::cluster::Cluster;
 use crate::measure::Measure;
+use crate::opportunity::{Boundary, Opportunity, offer};
 use crate::run::ShapeRun;
 use crate::status::statuses_of;
 use bg_types::Memory;
@@ -19,7 +21,8 @@ use paragraphs::{Para, Span, laws};
 use std::alloc::Global;
 use unicode_tables::{Tables, Word};
 
-/// The clusters of a paragraph, in order: as runs, and as four lists with an element for each.
+/// The clusters of a paragraph, in order: as runs, as four lists with an element for each, and the
+/// boundaries between them at which a line may end.
 #[derive(Debug, Drop)]
 pub struct Outline {
     /// Those of one shape, as far as they follow each other.
@@ -32,6 +35,8 @@ pub struct Outline {
     pub columns: Vec<u8>,
     /// What lines ask of each.
     pub clusters: Vec<Cluster>,
+    /// Where a line may end.
+    pub opportunities: Vec<Opportunity>,
 }
 
 impl Outline {
@@ -42,6 +47,7 @@ impl Outline {
         ensures sizes { IfOk result (λ o. (o.sizes.items ≡ []) × (vec_len o.sizes ≡ 0) × (clusters ≤ vec_capacity o.sizes)) }
         ensures columns { IfOk result (λ o. (o.columns.items ≡ []) × (vec_len o.columns ≡ 0) × (clusters ≤ vec_capacity o.columns)) }
         ensures clusters { IfOk result (λ o. (o.clusters.items ≡ []) × (vec_len o.clusters ≡ 0) × (clusters ≤ vec_capacity o.clusters)) }
+        ensures opportunities { IfOk result (λ o. o.opportunities.items ≡ []) }
     {
         Ok(Outline {
             runs: Vec::new(alloc),
@@ -49,6 +55,7 @@ impl Outline {
             sizes: Vec::with_capacity(alloc, clusters)?,
             columns: Vec::with_capacity(alloc, clusters)?,
             clusters: Vec::with_capacity(alloc, clusters)?,
+            opportunities: Vec::new(alloc),
         })
     }
 }
@@ -111,6 +118,8 @@ pub fn outline_of(
     ensures sizes { IfOk result (λ o. o.sizes.items ≡ cluster_sizes para.now.text) }
     ensures clusters { IfOk result (λ o. o.clusters.items ≡ line_clusters tables.now para.now.text) }
     ensures columns { IfOk result (λ o. o.columns.items ≡ map (λ c. c.columns) o.clusters.items) }
+    ensures opportunities { IfOk result (λ o. o.opportunities.items ≡ opportunities_of (line_clusters tables.now para.now.text)) }
+    ensures few { IfOk result (λ o. length o.clusters.items ≤ length para.now.text) }
     ensures most { IfOk result (λ o. All (λ c. c.columns ≤ 2) o.clusters.items) }
 {
     laws::clusters_join();
@@ -123,6 +132,7 @@ pub fn outline_of(
     let mut byte = 0;
     let mut place = 0;
     let mut last = None;
+    let mut end = Boundary::before_all();
     while let Some(measure) = Measure::of_next(
         tables,
         &mut clusters,
@@ -138,13 +148,12 @@ pub fn outline_of(
         outline.spans.push_reserved(span);
         outline.sizes.push_reserved(measure.size);
         outline.columns.push_reserved(measure.columns);
-        outline.clusters.push_reserved(Cluster {
-            columns: measure.columns,
-            is_space: measure.is_space,
-            after: statuses[span.end_place as usize - 1],
-        });
+        let cluster = measure.cluster(statuses[span.end_place as usize - 1]);
+        outline.clusters.push_reserved(cluster);
         let next = ShapeRun::of_one(span, measure.columns);
         last = Some(joined(&mut outline.runs, last, next)?);
+        end = end.behind(cluster);
+        offer(&mut outline.opportunities, end, cluster.after)?;
         byte = span.end_byte;
         place = span.end_place;
     }

@@ -15,6 +15,7 @@ use Rattle.bidi_explicit.specs.Embedding.{paragraph_level, classes_of, embedding
 use Rattle.bidi_weak_neutral.specs.Levels.{levels_of, resolved_levels}
 use Rattle.line_break.specs.LineClusters.{line_clusters}
 use Rattle.line_break.specs.Lines.{lines}
+use Rattle.line_break.specs.Opportunities.{opportunities_of}
 use Rattle.cell_grid.specs.Rows.{DrawnRow, row_of, rows_of}
 use Rattle.cell_grid.specs.Outline.{own_columns}
 use Rattle.cell_grid.specs.Spans.{spans}
@@ -97,6 +98,10 @@ rows_in-requires-clause-runs c =
       sizes = c.in_ok-clusters.ensures.runs_sizes ∙ ap cluster_sizes text;
       columns = c.in_ok-clusters.ensures.runs_columns ∙ ap (own_columns c.args.tables.now) text;
     }
+
+pub rows_in-requires-clause-opportunities : goal.rows_in-requires-clause-opportunities
+rows_in-requires-clause-opportunities c =
+    c.in_ok-clusters.ensures.opportunities ∙ ap (λ (t : List ℕ). opportunities_of (line_clusters c.args.tables.now t)) (sym c.text-text.ensures)
 
 pub returns-clause-rows : goal.returns-clause-rows
 returns-clause-rows c =

@@ -7,6 +7,7 @@ use Rattle.line_break.specs.declared.cluster.Cluster.{Cluster}
 use Rattle.line_break.specs.declared.line.Line.{Line}
 use Rattle.line_break.specs.LineClusters.{line_clusters}
 use Rattle.line_break.specs.Lines.{lines, lines_of}
+use Rattle.line_break.specs.Opportunities.{opportunities_of}
 use Rattle.cell_grid.specs.Rows.{DrawnRow, row_of}
 use Rattle.cell_grid.specs.Outline.{IsLine}
 use Rattle.cell_grid.specs.Parts.{left_of}
@@ -31,6 +32,10 @@ lines_of-requires-clause-length c =
     let n = ap length (c.deref.ensures.value ∙ c.requires.clusters) ∙ c.laws_below.ensures.each_measured c.args.material.now.tables.now text in
     let all = c.requires.size in
     omega arith
+
+pub lines_of-requires-clause-opportunities : goal.lines_of-requires-clause-opportunities
+lines_of-requires-clause-opportunities c =
+    c.deref-2.ensures.value ∙ c.requires.opportunities ∙ ap opportunities_of (sym (c.deref.ensures.value ∙ c.requires.clusters))
 
 pub loop-line-init : goal.loop-line-init
 loop-line-init c =

@@ -1,7 +1,8 @@
 -- At first all lines are left.
-use Rattle.std.proofs.Common.{length, [], ◌++◌, ◌∷◌, sym, ap, ◌∙◌}
+use Rattle.std.proofs.Common.{List, length, [], ◌++◌, ◌∷◌, sym, ap, subst, ◌∙◌}
 use Rattle.std.proofs.lemmas.Bool.{eqb-true}
-use Rattle.line_break.specs.Open.{lines_left}
+use Rattle.line_break.specs.declared.opportunity.Opportunity.{Opportunity}
+use Rattle.line_break.specs.Open.{IsOpen, lines_left}
 use Rattle.line_break.proofs.LinesLeft.{line_of, lines_of-nil, lines_of-left, some_from_test}
 use Rattle.line_break.proofs.line.lines_of.Goals as goal
 
@@ -12,7 +13,9 @@ returns-then-is_empty c =
 
 pub loop-line-init : goal.loop-line-init
 loop-line-init c = record {
-  state = c.first-open.ensures.state c.args.clusters.now c.args.width;
+  state =
+      subst (λ (opportunities : List Opportunity). IsOpen c.args.clusters.now opportunities c.args.width c.first-open.result) (sym c.requires.opportunities)
+      (c.first-open.ensures.state c.args.clusters.now c.args.width);
   so_far =
       ap (λ ls. ls ++ lines_left c.args.clusters.now c.args.width c.first-open.result.start.clusters) c.new-lines.ensures.items
       ∙ ap (lines_left c.args.clusters.now c.args.width) c.first-open.ensures.start

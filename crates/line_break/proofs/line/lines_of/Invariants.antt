@@ -6,7 +6,7 @@ use Rattle.line_break.proofs.line.lines_of.Given as goal
 
 abbrev pub invariant-loop-line : goal.invariant-loop-line
 invariant-loop-line l = record {
-  state : IsOpen l.clusters l.width l.«open»;
+  state : IsOpen l.clusters l.opportunities l.width l.«open»;
   so_far : l.lines.items ++ lines_left l.clusters l.width l.«open».start.clusters ≡ lines_of l.width l.clusters;
 }
 

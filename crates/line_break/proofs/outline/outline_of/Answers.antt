@@ -1,6 +1,6 @@
 -- Each cluster stands where the one before it ends, and takes the status after its last code point.
-use Rattle.std.proofs.Common.{◌≤◌, List, [], ◌∷◌, ◌++◌, map, length, drop, refl, sym, ap, subst, ◌∙◌, arith}
-use Rattle.std.proofs.lemmas.List.{map-append}
+use Rattle.std.proofs.Common.{ℕ, ◌≤◌, List, [], ◌∷◌, ◌++◌, map, length, drop, refl, sym, ap, subst, ◌∙◌, arith}
+use Rattle.std.proofs.lemmas.List.{length_push, map-append}
 use Rattle.std.proofs.lemmas.List.Elements.{All-same}
 use Rattle.std.specs.List.{flat_map}
 use Rattle.std.specs.Prelude.{IfSome}
@@ -8,13 +8,18 @@ use Rattle.std.specs.Str.{IsUtf8}
 use Rattle.paragraphs.specs.Text.{code_points}
 use Rattle.line_break.specs.declared.cluster.Cluster.{Cluster}
 use Rattle.line_break.specs.declared.measure.Measure.{Measure}
+use Rattle.line_break.specs.declared.opportunity.Boundary.{Boundary}
 use Rattle.line_break.specs.declared.run.ShapeRun.{ShapeRun}
 use Rattle.line_break.specs.Runs.{EndsAt, columns_of, sizes_of, spans_of}
+use Rattle.line_break.specs.LineClusters.{line_clusters}
 use Rattle.line_break.specs.Statuses.{breaks}
+use Rattle.line_break.proofs.Boundaries.{columns-two}
 use Rattle.line_break.proofs.Gathering.{AreGathered-start, AreGathered-on}
 use Rattle.line_break.proofs.Joined.{HasSome, EndsAt-span}
+use Rattle.line_break.proofs.LastStatus.{must-end}
 use Rattle.line_break.proofs.Marking.{breaks-of, slice-from, words-from}
-use Rattle.line_break.proofs.Measuring.{length-breaks, IsMeasuredTo-start, line_clusters-end, IsMeasuredTo-on, measured-is, two-line_clusters}
+use Rattle.line_break.proofs.Measuring.{length-breaks, IsMeasuredTo-start, line_clusters-end, IsMeasuredTo-on, measured-is, two-done, two-line_clusters}
+use Rattle.line_break.proofs.Offering.{breaks_in, end-start, breaks-start, end-on, breaks-on, breaks-all}
 use Rattle.line_break.proofs.Measuring.{cluster-some as points-some, cluster-fits as points-within}
 use Rattle.line_break.proofs.Outlining.{IsUtf8-concat, IsOutlinedTo-start, cluster-some, cluster-fits, cluster-points, cluster-end, IsOutlinedTo-at, HasRoom-on, spans-end, sizes-end}
 use Rattle.line_break.proofs.outline.outline_of.Goals as goal
@@ -41,6 +46,9 @@ loop-measure-init c =
       columns = let room = c.in_ok-outline.ensures.columns in record { filled = omega arith; room = omega arith };
       clusters = let room = c.in_ok-outline.ensures.clusters in record { filled = omega arith; room = omega arith };
       within = omega arith;
+      count = let none = ap length c.in_ok-outline.ensures.clusters.0 in omega arith;
+      end = c.before_all-end.ensures ∙ end-start _ c.in_ok-outline.ensures.clusters.0;
+      offered = breaks-start _ _ c.in_ok-outline.ensures.clusters.0 c.in_ok-outline.ensures.opportunities;
     }
 
 pub of_next-requires-clause-some : goal.of_next-requires-clause-some
@@ -169,6 +177,18 @@ joined-requires-clause-few c =
     let all = c.requires.size in
     omega arith
 
+pub behind-end-requires-clause-columns : goal.behind-end-requires-clause-columns
+behind-end-requires-clause-columns c =
+    let done = c.loop-measure.outline.clusters.items in
+    let at = ap (λ (b : Boundary). b.columns) c.loop-measure.invariant.end in
+    let two = columns-two done (length done) (two-done c.args.tables.now c.args.para.now.text _ _ c.loop-measure.place c.loop-measure.invariant.measured) in
+    let here = ap (λ (x : Cluster). x.columns) c.cluster-cluster.ensures in
+    let few = c.loop-measure.invariant.count in
+    let so_far = c.loop-measure.invariant.outlined.places in
+    let bytes = c.loop-measure.invariant.outlined.bytes in
+    let all = c.requires.size in
+    omega arith
+
 pub loop-measure-preserved : goal.loop-measure-preserved
 loop-measure-preserved c =
     let t = c.args.tables.now in
@@ -189,7 +209,8 @@ loop-measure-preserved c =
       outlined = IsOutlinedTo-at _ _ _ _ _ _ o cluster _ at _ here.size _ _ _ size end refl c.push_reserved.ensures.items c.push_reserved-in-Some.ensures.items;
       measured =
           IsMeasuredTo-on t p _ _ c.loop-measure.place m cluster _ at _ here.size _ size
-          (measured-is t (code_points cluster) c.in_ok-statuses.statuses.items (breaks t p) c.loop-measure.place here.size
+          (c.cluster-cluster.ensures
+          ∙ measured-is t (code_points cluster) c.in_ok-statuses.statuses.items (breaks t p) c.loop-measure.place here.size
           here.columns here.is_space c.index.result.now (breaks-of t p c.args.points.now c.args.words.now _ c.requires.points c.requires.words c.in_ok-statuses.ensures) size some fits columns is_space c.index.ensures)
           c.push_reserved-in-Some-3.ensures.items;
       gathered =
@@ -201,10 +222,20 @@ loop-measure-preserved c =
       own =
           c.push_reserved-in-Some-2.ensures.items
           ∙ ap (λ l. l ++ here.columns ∷ []) c.loop-measure.invariant.own
+          ∙ ap (λ (n : ℕ). map (λ (x : Cluster). x.columns) c.loop-measure.outline.clusters.items ++ n ∷ []) (sym (ap (λ (x : Cluster). x.columns) c.cluster-cluster.ensures))
           ∙ sym (ap (map (λ (x : Cluster). x.columns)) c.push_reserved-in-Some-3.ensures.items ∙ map-append _ c.loop-measure.outline.clusters.items _);
       columns = HasRoom-on _ _ _ _ here.size _ _ c.loop-measure.invariant.columns (omega arith) c.push_reserved-in-Some-2.ensures.len c.push_reserved-in-Some-2.ensures.capacity;
       clusters = HasRoom-on _ _ _ _ here.size _ _ c.loop-measure.invariant.clusters (omega arith) c.push_reserved-in-Some-3.ensures.len c.push_reserved-in-Some-3.ensures.capacity;
       within = let all = ap length c.requires.points in let same = length-breaks t p in omega arith;
+      count =
+          let before = c.loop-measure.invariant.count in
+          let put = ap length c.push_reserved-in-Some-3.ensures.items in
+          let one = length_push c.loop-measure.outline.clusters.items c.cluster-cluster.result in
+          omega arith;
+      end = end-on _ c.cluster-cluster.result _ _ _ c.push_reserved-in-Some-3.ensures.items c.loop-measure.invariant.end c.behind-end.ensures;
+      offered =
+          breaks-on _ c.cluster-cluster.result _ _ _ _ _ c.push_reserved-in-Some-3.ensures.items c.loop-measure.invariant.end c.behind-end.ensures
+          c.loop-measure.invariant.offered c.in_ok-offer.ensures;
     }
 
 pub returns-clause-spans : goal.returns-clause-spans
@@ -235,6 +266,23 @@ returns-clause-some c = All-same HasSome _ _ c.in_ok-close.ensures c.loop-measur
 pub returns-clause-clusters : goal.returns-clause-clusters
 returns-clause-clusters c =
     line_clusters-end c.args.tables.now c.args.para.now.text _ _ c.loop-measure.place c.loop-measure.invariant.measured c.in_default.ensures
+
+pub returns-clause-few : goal.returns-clause-few
+returns-clause-few c =
+    let count = c.loop-measure.invariant.count in
+    let so_far = c.loop-measure.invariant.outlined.places in
+    let bytes = c.loop-measure.invariant.outlined.bytes in
+    omega arith
+
+pub returns-clause-opportunities : goal.returns-clause-opportunities
+returns-clause-opportunities c =
+    let t = c.args.tables.now in
+    let p = c.args.para.now.text in
+    let given = c.clusters-clusters.ensures in
+    let u = subst IsUtf8 given.joined (IsUtf8-concat c.clusters-clusters.result given.utf8) in
+    c.loop-measure.invariant.offered
+    ∙ ap breaks_in (line_clusters-end t p _ _ c.loop-measure.place c.loop-measure.invariant.measured c.in_default.ensures)
+    ∙ breaks-all (line_clusters t p) (must-end t p (c.cluster_places.ensures.some p u) (c.cluster_places.ensures.sum p u))
 
 pub returns-clause-most : goal.returns-clause-most
 returns-clause-most c =

@@ -6,6 +6,7 @@ use Rattle.line_break.specs.declared.run.ShapeRun.{ShapeRun}
 use Rattle.line_break.specs.Runs.{EndsAt}
 use Rattle.line_break.proofs.Gathering.{AreGathered}
 use Rattle.line_break.proofs.Measuring.{IsMeasuredTo}
+use Rattle.line_break.proofs.Offering.{breaks_in, end_of}
 use Rattle.line_break.proofs.Outlining.{IsOutlinedTo, HasRoom}
 use Rattle.line_break.proofs.outline.outline_of.Given as goal
 
@@ -21,6 +22,9 @@ invariant-loop-measure l = record {
   columns : HasRoom (length l.points) l.place (vec_len l.outline.columns) (vec_capacity l.outline.columns);
   clusters : HasRoom (length l.points) l.place (vec_len l.outline.clusters) (vec_capacity l.outline.clusters);
   within : l.place ≤ length l.points;
+  count : length l.outline.clusters.items ≤ l.place;
+  end : l.end ≡ end_of l.outline.clusters.items;
+  offered : l.outline.opportunities.items ≡ breaks_in l.outline.clusters.items;
 }
 
 abbrev pub decreases-loop-measure : goal.decreases-loop-measure
