@@ -1,10 +1,10 @@
 -- Runs and the lists of a paragraph's clusters, one cluster further.
-use Rattle.std.proofs.Common.{◌≡◌, ℕ, ◌-◌, ◌≤◌, List, [], ◌∷◌, ◌++◌, refl, sym, ap, subst, ◌∙◌}
+use Rattle.std.proofs.Common.{◌≡◌, ℕ, ◌-◌, ◌≤◌, true, List, [], ◌∷◌, ◌++◌, refl, sym, ap, subst, ◌∙◌}
 use Rattle.std.proofs.lemmas.List.Elements.{All-nil, All-same}
 use Rattle.std.specs.List.{flat_map}
 use Rattle.paragraphs.specs.declared.span.Span.{Span}
 use Rattle.line_break.specs.declared.run.ShapeRun.{ShapeRun}
-use Rattle.line_break.specs.Runs.{spans_of, sizes_of, columns_of, alone, AllHaveSome, AreJoined}
+use Rattle.line_break.specs.Runs.{spans_of, sizes_of, columns_of, alone, AllHaveSome, AreJoined, are_longest}
 use Rattle.line_break.proofs.Joined.{HasSome, spans-one, sizes-one, columns-one, alone-span}
 
 -- the runs have what the lists have
@@ -13,6 +13,7 @@ pub record AreGathered (runs : List ShapeRun) (spans : List Span) (sizes columns
   pub all_sizes : flat_map sizes_of runs ≡ sizes
   pub all_columns : flat_map columns_of runs ≡ columns
   pub some : AllHaveSome runs
+  pub longest : are_longest runs ≡ true
 
 pub AreGathered-start : (runs : List ShapeRun) (spans : List Span) (sizes columns : List ℕ) → runs ≡ [] → spans ≡ [] → sizes ≡ [] → columns ≡ []
     → AreGathered runs spans sizes columns
@@ -21,6 +22,7 @@ AreGathered-start runs spans sizes columns no_runs no_spans no_sizes no_columns 
   all_sizes = ap (flat_map sizes_of) no_runs ∙ sym no_sizes;
   all_columns = ap (flat_map columns_of) no_runs ∙ sym no_columns;
   some = All-same HasSome runs [] no_runs (All-nil HasSome);
+  longest = ap are_longest no_runs;
 }
 
 module _ (before after : List ShapeRun) (next : ShapeRun) (j : AreJoined before next after) (span : Span) (column : ℕ) (is : next ≡ alone span column)
@@ -46,4 +48,5 @@ module _ (before after : List ShapeRun) (next : ShapeRun) (j : AreJoined before 
         ∙ ap (λ (l : List ℕ). flat_map columns_of before ++ l) (columns-one (alone span column) refl)
         ∙ ap (λ (l : List ℕ). l ++ column ∷ []) g.all_columns ∙ sym put_column;
     some = j.some g.some;
+    longest = j.longest g.longest;
   }

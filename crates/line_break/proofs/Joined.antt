@@ -1,5 +1,5 @@
 -- One more cluster behind runs.
-use Rattle.std.proofs.Common.{◌≡◌, ℕ, suc, ◌+◌, ◌-◌, ◌*◌, ◌<◌, ◌≤◌, true, ◌==◌, ◌&&◌, eqb-true, List, [], ◌∷◌, ◌++◌, map, length, replicate, refl, sym, ap, subst, ◌∙◌, arith}
+use Rattle.std.proofs.Common.{◌≡◌, ℕ, suc, ◌+◌, ◌-◌, ◌*◌, ◌<◌, ◌≤◌, Bool, true, false, not, ◌==◌, ◌&&◌, eqb-true, List, [], ◌∷◌, ◌++◌, map, length, replicate, refl, sym, ap, ap₂, subst, ◌∙◌, arith}
 use Rattle.std.proofs.Math.Nat.{suc-mul}
 use Rattle.std.proofs.lemmas.Bool.{and_parts}
 use Rattle.std.proofs.lemmas.List.{append-nil, append_assoc, replicate_more, take_at}
@@ -9,7 +9,7 @@ use Rattle.std.proofs.lemmas.List.FromFn.{map-range_with_len_more}
 use Rattle.std.specs.List.{All, flat_map, range_with_len}
 use Rattle.paragraphs.specs.declared.span.Span.{Span}
 use Rattle.line_break.specs.declared.run.ShapeRun.{ShapeRun}
-use Rattle.line_break.specs.Runs.{span_in, spans_of, sizes_of, columns_of, alone, have_one_shape, longer, EndsAt, AreJoined}
+use Rattle.line_break.specs.Runs.{span_in, spans_of, sizes_of, columns_of, alone, have_one_shape, ends_before, are_longest, longer, EndsAt, AreJoined}
 
 -- a run with clusters
 abbrev pub HasSome : ShapeRun → Type 0
@@ -27,14 +27,38 @@ joined-last f front x y more e =
 joined-alone : {A : Type 0} (f : ShapeRun → List A) (before : List ShapeRun) (y : ShapeRun) → flat_map f (before ++ y ∷ []) ≡ flat_map f before ++ f y
 joined-alone f before y = flat_map-append f before (y ∷ []) ∙ ap (λ l. flat_map f before ++ l) (append-nil (f y))
 
+-- runs that are as long as they can be
+
+ends-push : (run : ShapeRun) (runs : List ShapeRun) (x : ShapeRun) (more : List ShapeRun) → ends_before run ((runs ++ x ∷ []) ++ more) ≡ ends_before run (runs ++ x ∷ [])
+ends-push run [] x more = refl
+ends-push run (next ∷ runs) x more = refl
+
+-- another behind them
+pub longest-push : (runs : List ShapeRun) (x y : ShapeRun) → are_longest (runs ++ x ∷ []) ≡ true → have_one_shape x y ≡ false → are_longest ((runs ++ x ∷ []) ++ y ∷ []) ≡ true
+longest-push [] x y all off = ap (λ b. not b && true) off
+longest-push (run ∷ runs) x y all off =
+    let parts = and_parts (ends_before run (runs ++ x ∷ [])) (are_longest (runs ++ x ∷ [])) all in
+    ap₂ ◌&&◌ (ends-push run runs x (y ∷ []) ∙ parts.0) (longest-push runs x y parts.1 off)
+
+-- the last of them longer
+longest-longer : (runs : List ShapeRun) (x : ShapeRun) → are_longest (runs ++ longer x ∷ []) ≡ are_longest (runs ++ x ∷ [])
+longest-longer [] x = refl
+longest-longer (run ∷ []) x = refl
+longest-longer (run ∷ next ∷ runs) x = ap (λ b. ends_before run (next ∷ []) && b) (longest-longer (next ∷ runs) x)
+
 -- a run of its own
-pub AreJoined-alone : (before : List ShapeRun) (next : ShapeRun) → next.count ≡ 1 → AreJoined before next (before ++ next ∷ [])
-AreJoined-alone before next one = record {
+pub AreJoined-alone : (before : List ShapeRun) (next : ShapeRun) → next.count ≡ 1 → (are_longest before ≡ true → are_longest (before ++ next ∷ []) ≡ true)
+    → AreJoined before next (before ++ next ∷ [])
+AreJoined-alone before next one longest = record {
   spans = joined-alone spans_of before next;
   sizes = joined-alone sizes_of before next;
   columns = joined-alone columns_of before next;
   some = λ all. All-push HasSome before next all (omega arith);
+  longest = longest;
 }
+
+pub longest-first : (runs : List ShapeRun) (next : ShapeRun) → runs ≡ [] → are_longest (runs ++ next ∷ []) ≡ true
+longest-first runs next none = ap (λ (l : List ShapeRun). are_longest (l ++ next ∷ [])) none
 
 -- a cluster alone
 
@@ -117,6 +141,7 @@ module _ (run next : ShapeRun) (one : next.count ≡ 1) (end : EndsAt run next.f
     some = λ all.
         All-push HasSome front (longer run)
         (subst (All HasSome) (take_at front (run ∷ []) (length front) refl) (All-take HasSome (length front) (front ++ run ∷ []) all)) (omega arith);
+    longest = λ all. longest-longer front run ∙ all;
   }
 
   pub EndsAt-longer : 0 < next.points → EndsAt (longer run) (next.first_byte + next.bytes) (next.first_place + next.points)

@@ -1,5 +1,5 @@
 -- Runs of clusters of one shape.
-use Rattle.std.specs.Prelude.{◌≡◌, ℕ, Bool, ◌+◌, ◌-◌, ◌*◌, ◌<◌, ◌≤◌, ◌==◌, ◌&&◌, List, ◌++◌, map, replicate}
+use Rattle.std.specs.Prelude.{◌≡◌, ℕ, Bool, true, not, ◌+◌, ◌-◌, ◌*◌, ◌<◌, ◌≤◌, ◌==◌, ◌&&◌, List, [], ◌∷◌, ◌++◌, map, replicate}
 use Rattle.std.specs.List.{All, flat_map, range_with_len}
 use Rattle.paragraphs.specs.declared.span.Span.{Span}
 use Rattle.line_break.specs.declared.run.ShapeRun.{ShapeRun}
@@ -44,6 +44,16 @@ alone span columns = record {
 abbrev pub have_one_shape : ShapeRun → ShapeRun → Bool
 have_one_shape run next = run.bytes == next.bytes && run.points == next.points && run.columns == next.columns
 
+-- a run can't go on in those after it
+abbrev pub ends_before : ShapeRun → List ShapeRun → Bool
+ends_before run [] = true
+ends_before run (next ∷ runs) = not (have_one_shape run next)
+
+-- none can: each is as long as it can be
+abbrev pub are_longest : List ShapeRun → Bool
+are_longest [] = true
+are_longest (run ∷ runs) = ends_before run runs && are_longest runs
+
 -- one more cluster
 abbrev pub longer : ShapeRun → ShapeRun
 longer run = record run { count = run.count + 1 }
@@ -61,3 +71,4 @@ pub record AreJoined (before : List ShapeRun) (next : ShapeRun) (after : List Sh
   pub sizes : flat_map sizes_of after ≡ flat_map sizes_of before ++ sizes_of next
   pub columns : flat_map columns_of after ≡ flat_map columns_of before ++ columns_of next
   pub some : AllHaveSome before → AllHaveSome after
+  pub longest : are_longest before ≡ true → are_longest after ≡ true

@@ -1,6 +1,6 @@
 //! The clusters of a paragraph.
 
-ghost use Rattle.std.specs.Prelude.{◌≡◌, ◌+◌, ◌++◌, ◌∷◌, ◌^◌, ◌<◌, ◌≤◌, [], length, map, vec_capacity, vec_len, IfOk, IfSome, OnOk};
+ghost use Rattle.std.specs.Prelude.{◌≡◌, ◌+◌, ◌++◌, ◌∷◌, ◌^◌, ◌<◌, ◌≤◌, [], length, map, vec_capacity, vec_len, true, IfOk, MatchOption, OnOk};
 ghost use Rattle.std.specs.List.{All, flat_map};
 ghost use Rattle.std.specs.Option.{option_to_list};
 ghost use Rattle.unicode_tables.specs.Word.{word_of};
@@ -9,7 +9,7 @@ ghost use Rattle.paragraphs.specs.Clusters.{cluster_sizes};
 ghost use Rattle.paragraphs.specs.Spans.{spans};
 ghost use Rattle.line_break.specs.LineClusters.{line_clusters};
 ghost use Rattle.line_break.specs.Opportunities.{opportunities_of};
-ghost use Rattle.line_break.specs.Runs.{AllHaveSome, AreJoined, EndsAt, columns_of, sizes_of, spans_of};
+ghost use Rattle.line_break.specs.Runs.{AllHaveSome, AreJoined, EndsAt, are_longest, columns_of, sizes_of, spans_of};
 
 use crate::cluster::Cluster;
 use crate::measure::Measure;
@@ -80,7 +80,7 @@ fn joined(
     last: Option<ShapeRun>,
     next: ShapeRun,
 ) -> Result<ShapeRun, Memory>
-    requires last { IfSome last (λ run. EndsAt run next.first_byte next.first_place) }
+    requires last { MatchOption last (runs.old.items ≡ []) (λ run. EndsAt run next.first_byte next.first_place) }
     requires one { next.count ≡ 1 }
     requires some { 0 < next.points }
     requires few { next.first_place + 1 < 2 ^ 32 }
@@ -114,6 +114,7 @@ pub fn outline_of(
     ensures runs_sizes { IfOk result (λ o. flat_map sizes_of o.runs.items ≡ cluster_sizes para.now.text) }
     ensures runs_columns { IfOk result (λ o. flat_map columns_of o.runs.items ≡ map (λ c. c.columns) (line_clusters tables.now para.now.text)) }
     ensures some { IfOk result (λ o. AllHaveSome o.runs.items) }
+    ensures longest { IfOk result (λ o. are_longest o.runs.items ≡ true) }
     ensures spans { IfOk result (λ o. o.spans.items ≡ spans para.now.text) }
     ensures sizes { IfOk result (λ o. o.sizes.items ≡ cluster_sizes para.now.text) }
     ensures clusters { IfOk result (λ o. o.clusters.items ≡ line_clusters tables.now para.now.text) }

@@ -1,16 +1,16 @@
 -- Each cluster stands where the one before it ends, and takes the status after its last code point.
-use Rattle.std.proofs.Common.{ℕ, ◌≤◌, List, [], ◌∷◌, ◌++◌, map, length, drop, refl, sym, ap, subst, ◌∙◌, arith}
+use Rattle.std.proofs.Common.{◌≡◌, ℕ, ◌≤◌, List, [], ◌∷◌, ◌++◌, map, length, drop, refl, sym, ap, subst, ◌∙◌, arith}
 use Rattle.std.proofs.lemmas.List.{length_push, map-append}
 use Rattle.std.proofs.lemmas.List.Elements.{All-same}
 use Rattle.std.specs.List.{flat_map}
-use Rattle.std.specs.Prelude.{IfSome}
+use Rattle.std.specs.Prelude.{MatchOption}
 use Rattle.std.specs.Str.{IsUtf8}
 use Rattle.paragraphs.specs.Text.{code_points}
 use Rattle.line_break.specs.declared.cluster.Cluster.{Cluster}
 use Rattle.line_break.specs.declared.measure.Measure.{Measure}
 use Rattle.line_break.specs.declared.opportunity.Boundary.{Boundary}
 use Rattle.line_break.specs.declared.run.ShapeRun.{ShapeRun}
-use Rattle.line_break.specs.Runs.{EndsAt, columns_of, sizes_of, spans_of}
+use Rattle.line_break.specs.Runs.{EndsAt, are_longest, columns_of, sizes_of, spans_of}
 use Rattle.line_break.specs.LineClusters.{line_clusters}
 use Rattle.line_break.specs.Statuses.{breaks}
 use Rattle.line_break.proofs.Boundaries.{columns-two}
@@ -39,7 +39,7 @@ loop-measure-init c =
       gathered =
           AreGathered-start _ _ _ _ (ap (λ (runs : List ShapeRun). runs ++ []) c.in_ok-outline.ensures.runs)
           c.in_ok-outline.ensures.spans.0 c.in_ok-outline.ensures.sizes.0 c.in_ok-outline.ensures.columns.0;
-      ends = tt;
+      ends = c.in_ok-outline.ensures.runs;
       spans = let room = c.in_ok-outline.ensures.spans in record { filled = omega arith; room = omega arith };
       sizes = let room = c.in_ok-outline.ensures.sizes in record { filled = omega arith; room = omega arith };
       own = c.in_ok-outline.ensures.columns.0 ∙ ap (map (λ (x : Cluster). x.columns)) (sym c.in_ok-outline.ensures.clusters.0);
@@ -156,7 +156,7 @@ loop-measure-smaller c = omega (arith, ap length c.in-Some.ensures.taken)
 
 pub joined-requires-clause-last : goal.joined-requires-clause-last
 joined-requires-clause-last c =
-    subst (λ (n : ShapeRun). IfSome c.loop-measure.last (λ (run : ShapeRun). EndsAt run n.first_byte n.first_place)) (sym c.of_one-next.ensures)
+    subst (λ (n : ShapeRun). MatchOption c.loop-measure.last (c.loop-measure.outline.runs.items ≡ []) (λ (run : ShapeRun). EndsAt run n.first_byte n.first_place)) (sym c.of_one-next.ensures)
     c.loop-measure.invariant.ends
 
 pub joined-requires-clause-one : goal.joined-requires-clause-one
@@ -262,6 +262,9 @@ returns-clause-runs_columns c =
 
 pub returns-clause-some : goal.returns-clause-some
 returns-clause-some c = All-same HasSome _ _ c.in_ok-close.ensures c.loop-measure.invariant.gathered.some
+
+pub returns-clause-longest : goal.returns-clause-longest
+returns-clause-longest c = ap are_longest c.in_ok-close.ensures ∙ c.loop-measure.invariant.gathered.longest
 
 pub returns-clause-clusters : goal.returns-clause-clusters
 returns-clause-clusters c =

@@ -1,6 +1,6 @@
 -- The clusters so far are outlined and measured, and there is room for those that are left.
-use Rattle.std.proofs.Common.{◌≡◌, ◌≤◌, ◌++◌, map, length, vec_len, vec_capacity, option_to_list}
-use Rattle.std.specs.Prelude.{IfSome}
+use Rattle.std.proofs.Common.{◌≡◌, ◌≤◌, [], ◌++◌, map, length, vec_len, vec_capacity, option_to_list}
+use Rattle.std.specs.Prelude.{MatchOption}
 use Rattle.line_break.specs.declared.cluster.Cluster.{Cluster}
 use Rattle.line_break.specs.declared.run.ShapeRun.{ShapeRun}
 use Rattle.line_break.specs.Runs.{EndsAt}
@@ -15,7 +15,7 @@ invariant-loop-measure l = record {
   outlined : IsOutlinedTo l.para.text l.clusters l.outline.spans.items l.outline.sizes.items l.byte l.place;
   measured : IsMeasuredTo l.tables l.para.text l.clusters l.outline.clusters.items l.place;
   gathered : AreGathered (l.outline.runs.items ++ option_to_list l.last) l.outline.spans.items l.outline.sizes.items l.outline.columns.items;
-  ends : IfSome l.last (λ (run : ShapeRun). EndsAt run l.byte l.place);
+  ends : MatchOption l.last (l.outline.runs.items ≡ []) (λ (run : ShapeRun). EndsAt run l.byte l.place);
   spans : HasRoom (length l.points) l.place (vec_len l.outline.spans) (vec_capacity l.outline.spans);
   sizes : HasRoom (length l.points) l.place (vec_len l.outline.sizes) (vec_capacity l.outline.sizes);
   own : l.outline.columns.items ≡ map (λ (c : Cluster). c.columns) l.outline.clusters.items;
