@@ -21,18 +21,11 @@ use paragraphs::{Para, Span, laws};
 use std::alloc::Global;
 use unicode_tables::{Tables, Word};
 
-/// The clusters of a paragraph, in order: as runs, as four lists with an element for each, and the
-/// boundaries between them at which a line may end.
+/// The clusters of a paragraph, in order, and the boundaries between them at which a line may end.
 #[derive(Debug, Drop)]
 pub struct Outline {
     /// Those of one shape, as far as they follow each other.
     pub runs: Vec<ShapeRun>,
-    /// Where each stands, counted from the paragraph's start.
-    pub spans: Vec<Span>,
-    /// How many code points each has.
-    pub sizes: Vec<u32>,
-    /// How many columns each has.
-    pub columns: Vec<u8>,
     /// What lines ask of each.
     pub clusters: Vec<Cluster>,
     /// Where a line may end.
@@ -40,20 +33,14 @@ pub struct Outline {
 }
 
 impl Outline {
-    /// That of no clusters yet, with room for so many.
+    /// That of no clusters yet, with room for what lines ask of so many.
     fn with_room(alloc: Global, clusters: usize) -> Result<Outline, Memory>
         ensures runs { IfOk result (λ o. o.runs.items ≡ []) }
-        ensures spans { IfOk result (λ o. (o.spans.items ≡ []) × (vec_len o.spans ≡ 0) × (clusters ≤ vec_capacity o.spans)) }
-        ensures sizes { IfOk result (λ o. (o.sizes.items ≡ []) × (vec_len o.sizes ≡ 0) × (clusters ≤ vec_capacity o.sizes)) }
-        ensures columns { IfOk result (λ o. (o.columns.items ≡ []) × (vec_len o.columns ≡ 0) × (clusters ≤ vec_capacity o.columns)) }
         ensures clusters { IfOk result (λ o. (o.clusters.items ≡ []) × (vec_len o.clusters ≡ 0) × (clusters ≤ vec_capacity o.clusters)) }
         ensures opportunities { IfOk result (λ o. o.opportunities.items ≡ []) }
     {
         Ok(Outline {
             runs: Vec::new(alloc),
-            spans: Vec::with_capacity(alloc, clusters)?,
-            sizes: Vec::with_capacity(alloc, clusters)?,
-            columns: Vec::with_capacity(alloc, clusters)?,
             clusters: Vec::with_capacity(alloc, clusters)?,
             opportunities: Vec::new(alloc),
         })
@@ -110,18 +97,15 @@ pub fn outline_of(
     requires size { length para.now.text ≤ 4_000_000 }
     requires points { points.now ≡ code_points para.now.text }
     requires words { words.now ≡ map (word_of tables.now) points.now }
-    ensures runs_stand { IfOk result (λ o. flat_map spans_of o.runs.items ≡ spans para.now.text) }
-    ensures runs_sizes { IfOk result (λ o. flat_map sizes_of o.runs.items ≡ cluster_sizes para.now.text) }
-    ensures runs_columns { IfOk result (λ o. flat_map columns_of o.runs.items ≡ map (λ c. c.columns) (line_clusters tables.now para.now.text)) }
+    ensures spans { IfOk result (λ o. flat_map spans_of o.runs.items ≡ spans para.now.text) }
+    ensures sizes { IfOk result (λ o. flat_map sizes_of o.runs.items ≡ cluster_sizes para.now.text) }
+    ensures columns { IfOk result (λ o. flat_map columns_of o.runs.items ≡ map (λ c. c.columns) (line_clusters tables.now para.now.text)) }
     ensures some { IfOk result (λ o. AllHaveSome o.runs.items) }
     ensures longest { IfOk result (λ o. are_longest o.runs.items ≡ true) }
-    ensures spans { IfOk result (λ o. o.spans.items ≡ spans para.now.text) }
-    ensures sizes { IfOk result (λ o. o.sizes.items ≡ cluster_sizes para.now.text) }
     ensures clusters { IfOk result (λ o. o.clusters.items ≡ line_clusters tables.now para.now.text) }
-    ensures columns { IfOk result (λ o. o.columns.items ≡ map (λ c. c.columns) o.clusters.items) }
-    ensures opportunities { IfOk result (λ o. o.opportunities.items ≡ opportunities_of (line_clusters tables.now para.now.text)) }
     ensures few { IfOk result (λ o. length o.clusters.items ≤ length para.now.text) }
     ensures most { IfOk result (λ o. All (λ c. c.columns ≤ 2) o.clusters.items) }
+    ensures opportunities { IfOk result (λ o. o.opportunities.items ≡ opportunities_of (line_clusters tables.now para.now.text)) }
 {
     laws::clusters_join();
     laws::cluster_places();
@@ -146,9 +130,6 @@ pub fn outline_of(
             first_place: place,
             end_place: place + measure.size,
         };
-        outline.spans.push_reserved(span);
-        outline.sizes.push_reserved(measure.size);
-        outline.columns.push_reserved(measure.columns);
         let cluster = measure.cluster(statuses[span.end_place as usize - 1]);
         outline.clusters.push_reserved(cluster);
         let next = ShapeRun::of_one(span, measure.columns);

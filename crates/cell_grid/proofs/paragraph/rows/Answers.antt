@@ -94,9 +94,9 @@ pub rows_in-requires-clause-runs : goal.rows_in-requires-clause-runs
 rows_in-requires-clause-runs c =
     let text = sym c.text-text.ensures in
     record {
-      spans = c.in_ok-clusters.ensures.runs_stand ∙ ap spans text;
-      sizes = c.in_ok-clusters.ensures.runs_sizes ∙ ap cluster_sizes text;
-      columns = c.in_ok-clusters.ensures.runs_columns ∙ ap (own_columns c.args.tables.now) text;
+      spans = c.in_ok-clusters.ensures.spans ∙ ap spans text;
+      sizes = c.in_ok-clusters.ensures.sizes ∙ ap cluster_sizes text;
+      columns = c.in_ok-clusters.ensures.columns ∙ ap (own_columns c.args.tables.now) text;
     }
 
 pub rows_in-requires-clause-opportunities : goal.rows_in-requires-clause-opportunities

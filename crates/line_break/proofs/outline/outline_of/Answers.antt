@@ -1,6 +1,6 @@
 -- Each cluster stands where the one before it ends, and takes the status after its last code point.
 use Rattle.std.proofs.Common.{◌≡◌, ℕ, ◌≤◌, List, [], ◌∷◌, ◌++◌, map, length, drop, refl, sym, ap, subst, ◌∙◌, arith}
-use Rattle.std.proofs.lemmas.List.{length_push, map-append}
+use Rattle.std.proofs.lemmas.List.{length_push}
 use Rattle.std.proofs.lemmas.List.Elements.{All-same}
 use Rattle.std.specs.List.{flat_map}
 use Rattle.std.specs.Prelude.{MatchOption}
@@ -14,7 +14,7 @@ use Rattle.line_break.specs.Runs.{EndsAt, are_longest, columns_of, sizes_of, spa
 use Rattle.line_break.specs.LineClusters.{line_clusters}
 use Rattle.line_break.specs.Statuses.{breaks}
 use Rattle.line_break.proofs.Boundaries.{columns-two}
-use Rattle.line_break.proofs.Gathering.{AreGathered-start, AreGathered-on}
+use Rattle.line_break.proofs.Gathering.{AreGathered-start, spans-on, sizes-on, AreGathered-on}
 use Rattle.line_break.proofs.Joined.{HasSome, EndsAt-span}
 use Rattle.line_break.proofs.LastStatus.{must-end}
 use Rattle.line_break.proofs.Marking.{breaks-of, slice-from, words-from}
@@ -32,18 +32,13 @@ loop-measure-init c =
     record {
       outlined =
           IsOutlinedTo-start text _ _ _ given.clusters given.utf8 given.some given.joined
-          c.in_ok-outline.ensures.spans.0 c.in_ok-outline.ensures.sizes.0;
+          (ap (λ (runs : List ShapeRun). flat_map spans_of (runs ++ [])) c.in_ok-outline.ensures.runs)
+          (ap (λ (runs : List ShapeRun). flat_map sizes_of (runs ++ [])) c.in_ok-outline.ensures.runs);
       measured =
           IsMeasuredTo-start c.args.tables.now text _ _ given.clusters given.utf8
           (c.cluster_places.ensures.some text u) (c.cluster_places.ensures.sum text u) c.in_ok-outline.ensures.clusters.0;
-      gathered =
-          AreGathered-start _ _ _ _ (ap (λ (runs : List ShapeRun). runs ++ []) c.in_ok-outline.ensures.runs)
-          c.in_ok-outline.ensures.spans.0 c.in_ok-outline.ensures.sizes.0 c.in_ok-outline.ensures.columns.0;
+      gathered = AreGathered-start _ _ (ap (λ (runs : List ShapeRun). runs ++ []) c.in_ok-outline.ensures.runs) c.in_ok-outline.ensures.clusters.0;
       ends = c.in_ok-outline.ensures.runs;
-      spans = let room = c.in_ok-outline.ensures.spans in record { filled = omega arith; room = omega arith };
-      sizes = let room = c.in_ok-outline.ensures.sizes in record { filled = omega arith; room = omega arith };
-      own = c.in_ok-outline.ensures.columns.0 ∙ ap (map (λ (x : Cluster). x.columns)) (sym c.in_ok-outline.ensures.clusters.0);
-      columns = let room = c.in_ok-outline.ensures.columns in record { filled = omega arith; room = omega arith };
       clusters = let room = c.in_ok-outline.ensures.clusters in record { filled = omega arith; room = omega arith };
       within = omega arith;
       count = let none = ap length c.in_ok-outline.ensures.clusters.0 in omega arith;
@@ -93,42 +88,6 @@ overflow_add-span c =
 
 pub push_reserved-requires : goal.push_reserved-requires
 push_reserved-requires c =
-    let t = c.args.tables.now in
-    let p = c.args.para.now.text in
-    let fits = points-within t p _ _ c.loop-measure.place c.loop-measure.invariant.measured c.in-Some.ensures.cluster _ c.in-Some.ensures.taken in
-    let some = points-some t p _ _ c.loop-measure.place c.loop-measure.invariant.measured c.in-Some.ensures.cluster _ c.in-Some.ensures.taken in
-    let filled = c.loop-measure.invariant.spans.filled in
-    let room = c.loop-measure.invariant.spans.room in
-    let all = ap length c.requires.points in
-    let same = length-breaks t p in
-    omega arith
-
-pub push_reserved-requires-in-Some : goal.push_reserved-requires-in-Some
-push_reserved-requires-in-Some c =
-    let t = c.args.tables.now in
-    let p = c.args.para.now.text in
-    let fits = points-within t p _ _ c.loop-measure.place c.loop-measure.invariant.measured c.in-Some.ensures.cluster _ c.in-Some.ensures.taken in
-    let some = points-some t p _ _ c.loop-measure.place c.loop-measure.invariant.measured c.in-Some.ensures.cluster _ c.in-Some.ensures.taken in
-    let filled = c.loop-measure.invariant.sizes.filled in
-    let room = c.loop-measure.invariant.sizes.room in
-    let all = ap length c.requires.points in
-    let same = length-breaks t p in
-    omega arith
-
-pub push_reserved-requires-in-Some-2 : goal.push_reserved-requires-in-Some-2
-push_reserved-requires-in-Some-2 c =
-    let t = c.args.tables.now in
-    let p = c.args.para.now.text in
-    let fits = points-within t p _ _ c.loop-measure.place c.loop-measure.invariant.measured c.in-Some.ensures.cluster _ c.in-Some.ensures.taken in
-    let some = points-some t p _ _ c.loop-measure.place c.loop-measure.invariant.measured c.in-Some.ensures.cluster _ c.in-Some.ensures.taken in
-    let filled = c.loop-measure.invariant.columns.filled in
-    let room = c.loop-measure.invariant.columns.room in
-    let all = ap length c.requires.points in
-    let same = length-breaks t p in
-    omega arith
-
-pub push_reserved-requires-in-Some-3 : goal.push_reserved-requires-in-Some-3
-push_reserved-requires-in-Some-3 c =
     let t = c.args.tables.now in
     let p = c.args.para.now.text in
     let fits = points-within t p _ _ c.loop-measure.place c.loop-measure.invariant.measured c.in-Some.ensures.cluster _ c.in-Some.ensures.taken in
@@ -206,57 +165,41 @@ loop-measure-preserved c =
     let end = cluster-end _ _ _ _ _ _ o cluster _ at _ c.bytes_left.result (ap length c.text-length.ensures) c.bytes_left.ensures in
     let next = c.of_one-next.ensures in
     record {
-      outlined = IsOutlinedTo-at _ _ _ _ _ _ o cluster _ at _ here.size _ _ _ size end refl c.push_reserved.ensures.items c.push_reserved-in-Some.ensures.items;
+      outlined =
+          IsOutlinedTo-at _ _ _ _ _ _ o cluster _ at _ here.size _ _ _ size end refl
+          (spans-on _ _ _ c.in_ok-joined.ensures.runs _ _ next (omega arith) (omega arith)) (sizes-on _ _ _ c.in_ok-joined.ensures.runs _ _ next here.size (omega arith));
       measured =
           IsMeasuredTo-on t p _ _ c.loop-measure.place m cluster _ at _ here.size _ size
           (c.cluster-cluster.ensures
           ∙ measured-is t (code_points cluster) c.in_ok-statuses.statuses.items (breaks t p) c.loop-measure.place here.size
           here.columns here.is_space c.index.result.now (breaks-of t p c.args.points.now c.args.words.now _ c.requires.points c.requires.words c.in_ok-statuses.ensures) size some fits columns is_space c.index.ensures)
-          c.push_reserved-in-Some-3.ensures.items;
+          c.push_reserved.ensures.items;
       gathered =
-          AreGathered-on _ _ _ c.in_ok-joined.ensures.runs _ _ next (omega arith) (omega arith) _ _ _ _ _ _ here.size c.loop-measure.invariant.gathered
-          (omega arith) c.push_reserved.ensures.items c.push_reserved-in-Some.ensures.items c.push_reserved-in-Some-2.ensures.items;
+          AreGathered-on _ _ _ c.in_ok-joined.ensures.runs _ _ next c.cluster-cluster.result _ _ c.loop-measure.invariant.gathered
+          (sym (ap (λ (x : Cluster). x.columns) c.cluster-cluster.ensures)) c.push_reserved.ensures.items;
       ends = EndsAt-span _ _ _ _ next (omega arith) (omega arith) c.in_ok-joined.ensures.end;
-      spans = HasRoom-on _ _ _ _ here.size _ _ c.loop-measure.invariant.spans (omega arith) c.push_reserved.ensures.len c.push_reserved.ensures.capacity;
-      sizes = HasRoom-on _ _ _ _ here.size _ _ c.loop-measure.invariant.sizes (omega arith) c.push_reserved-in-Some.ensures.len c.push_reserved-in-Some.ensures.capacity;
-      own =
-          c.push_reserved-in-Some-2.ensures.items
-          ∙ ap (λ l. l ++ here.columns ∷ []) c.loop-measure.invariant.own
-          ∙ ap (λ (n : ℕ). map (λ (x : Cluster). x.columns) c.loop-measure.outline.clusters.items ++ n ∷ []) (sym (ap (λ (x : Cluster). x.columns) c.cluster-cluster.ensures))
-          ∙ sym (ap (map (λ (x : Cluster). x.columns)) c.push_reserved-in-Some-3.ensures.items ∙ map-append _ c.loop-measure.outline.clusters.items _);
-      columns = HasRoom-on _ _ _ _ here.size _ _ c.loop-measure.invariant.columns (omega arith) c.push_reserved-in-Some-2.ensures.len c.push_reserved-in-Some-2.ensures.capacity;
-      clusters = HasRoom-on _ _ _ _ here.size _ _ c.loop-measure.invariant.clusters (omega arith) c.push_reserved-in-Some-3.ensures.len c.push_reserved-in-Some-3.ensures.capacity;
+      clusters = HasRoom-on _ _ _ _ here.size _ _ c.loop-measure.invariant.clusters (omega arith) c.push_reserved.ensures.len c.push_reserved.ensures.capacity;
       within = let all = ap length c.requires.points in let same = length-breaks t p in omega arith;
       count =
           let before = c.loop-measure.invariant.count in
-          let put = ap length c.push_reserved-in-Some-3.ensures.items in
+          let put = ap length c.push_reserved.ensures.items in
           let one = length_push c.loop-measure.outline.clusters.items c.cluster-cluster.result in
           omega arith;
-      end = end-on _ c.cluster-cluster.result _ _ _ c.push_reserved-in-Some-3.ensures.items c.loop-measure.invariant.end c.behind-end.ensures;
+      end = end-on _ c.cluster-cluster.result _ _ _ c.push_reserved.ensures.items c.loop-measure.invariant.end c.behind-end.ensures;
       offered =
-          breaks-on _ c.cluster-cluster.result _ _ _ _ _ c.push_reserved-in-Some-3.ensures.items c.loop-measure.invariant.end c.behind-end.ensures
+          breaks-on _ c.cluster-cluster.result _ _ _ _ _ c.push_reserved.ensures.items c.loop-measure.invariant.end c.behind-end.ensures
           c.loop-measure.invariant.offered c.in_ok-offer.ensures;
     }
 
 pub returns-clause-spans : goal.returns-clause-spans
-returns-clause-spans c = spans-end _ _ _ _ _ _ c.loop-measure.invariant.outlined c.in_default.ensures
+returns-clause-spans c = ap (flat_map spans_of) c.in_ok-close.ensures ∙ spans-end _ _ _ _ _ _ c.loop-measure.invariant.outlined c.in_default.ensures
 
 pub returns-clause-sizes : goal.returns-clause-sizes
-returns-clause-sizes c = sizes-end _ _ _ _ _ _ c.loop-measure.invariant.outlined c.in_default.ensures
+returns-clause-sizes c = ap (flat_map sizes_of) c.in_ok-close.ensures ∙ sizes-end _ _ _ _ _ _ c.loop-measure.invariant.outlined c.in_default.ensures
 
-pub returns-clause-runs_stand : goal.returns-clause-runs_stand
-returns-clause-runs_stand c =
-    ap (flat_map spans_of) c.in_ok-close.ensures ∙ c.loop-measure.invariant.gathered.all_spans
-    ∙ spans-end _ _ _ _ _ _ c.loop-measure.invariant.outlined c.in_default.ensures
-
-pub returns-clause-runs_sizes : goal.returns-clause-runs_sizes
-returns-clause-runs_sizes c =
-    ap (flat_map sizes_of) c.in_ok-close.ensures ∙ c.loop-measure.invariant.gathered.all_sizes
-    ∙ sizes-end _ _ _ _ _ _ c.loop-measure.invariant.outlined c.in_default.ensures
-
-pub returns-clause-runs_columns : goal.returns-clause-runs_columns
-returns-clause-runs_columns c =
-    ap (flat_map columns_of) c.in_ok-close.ensures ∙ c.loop-measure.invariant.gathered.all_columns ∙ c.loop-measure.invariant.own
+pub returns-clause-columns : goal.returns-clause-columns
+returns-clause-columns c =
+    ap (flat_map columns_of) c.in_ok-close.ensures ∙ c.loop-measure.invariant.gathered.columns
     ∙ ap (map (λ (x : Cluster). x.columns))
     (line_clusters-end c.args.tables.now c.args.para.now.text _ _ c.loop-measure.place c.loop-measure.invariant.measured c.in_default.ensures)
 
