@@ -1,5 +1,5 @@
 -- The open line, one opportunity further, and where it ends.
-use Rattle.std.proofs.Common.{◌≡◌, ◌≢◌, ℕ, zero, suc, ◌+◌, ◌-◌, ◌*◌, ◌^◌, ◌<◌, ◌≤◌, true, false, List, [], ◌∷◌, length, take, drop, get_or, inl, inr, refl, sym, ap, subst, ◌∙◌, arith}
+use Rattle.std.proofs.Common.{◌≡◌, ◌≢◌, ℕ, zero, suc, ◌+◌, ◌-◌, ◌<◌, ◌≤◌, true, false, List, [], ◌∷◌, length, take, drop, get_or, inl, inr, refl, sym, ap, subst, ◌∙◌, arith}
 use Rattle.std.proofs.lemmas.Bool.Decides.{leb_tells, eqb_tells}
 use Rattle.std.proofs.lemmas.List.{drop_more}
 use Rattle.std.proofs.Math.ListN.{drop_of_length-le}
@@ -43,12 +43,12 @@ module _ (cl : List Cluster) (m : ℕ) where
       let last : from + suc n ≡ from + n + 1 = omega arith in
       elim (leb_tells (solid (take (from + n) cl)) m) [
         | inl small ↦ record {
-            at = from + n;
-            low = omega arith;
-            high = omega arith;
-            fits = small.1;
-            over = subst (λ (k : ℕ). m < solid (take k cl)) last over;
-          }
+          at = from + n;
+          low = omega arith;
+          high = omega arith;
+          fits = small.1;
+          over = subst (λ (k : ℕ). m < solid (take k cl)) last over;
+        }
         | inr big ↦
             let e = edge n from fits big.1 in
             record {

@@ -1,6 +1,5 @@
 -- The opportunities of a paragraph's clusters, one cluster further.
-use Rattle.std.proofs.Common.{◌≡◌, ℕ, zero, suc, ◌+◌, ◌-◌, ◌<◌, ◌≤◌, Bool, true, false, cond, ◌||◌, ◌==◌, List, [], ◌∷◌, ◌++◌, map, length, take, get_or, refl, sym, ap, subst, ◌∙◌, inl, inr, arith}
-use Rattle.std.proofs.Math.Bool.{or-true}
+use Rattle.std.proofs.Common.{◌≡◌, ℕ, zero, suc, ◌+◌, ◌-◌, ◌<◌, ◌≤◌, Bool, true, false, cond, ◌||◌, ◌==◌, List, [], ◌∷◌, ◌++◌, map, length, take, get_or, refl, sym, ap, ◌∙◌, inl, inr, arith}
 use Rattle.std.proofs.lemmas.Bool.Decides.{eqb_tells}
 use Rattle.std.proofs.lemmas.List.{map-append, map_push, length-map, length_push, get_or_push, get_or_append_left, take_all}
 use Rattle.std.proofs.lemmas.List.Elements.{filter-append}
@@ -39,13 +38,13 @@ module _ {X : Type 0} (p q : ℕ → Bool) (f g : ℕ → X) where
       let later = agree n (a + 1) (λ k low high. same k (omega arith) (omega arith)) in
       two_cases (q a)
       (λ yes.
-          ap (λ (b : Bool). map f (cond b (a ∷ filter p (range_with_len (a + 1) n)) (filter p (range_with_len (a + 1) n)))) (here.0 ∙ yes)
-          ∙ ap (λ (x : X). x ∷ map f (filter p (range_with_len (a + 1) n))) here.1 ∙ ap (λ (l : List X). g a ∷ l) later
-          ∙ sym (ap (λ (b : Bool). map g (cond b (a ∷ filter q (range_with_len (a + 1) n)) (filter q (range_with_len (a + 1) n)))) yes))
+      ap (λ (b : Bool). map f (cond b (a ∷ filter p (range_with_len (a + 1) n)) (filter p (range_with_len (a + 1) n)))) (here.0 ∙ yes)
+      ∙ ap (λ (x : X). x ∷ map f (filter p (range_with_len (a + 1) n))) here.1 ∙ ap (λ (l : List X). g a ∷ l) later
+      ∙ sym (ap (λ (b : Bool). map g (cond b (a ∷ filter q (range_with_len (a + 1) n)) (filter q (range_with_len (a + 1) n)))) yes))
       (λ past.
-          ap (λ (b : Bool). map f (cond b (a ∷ filter p (range_with_len (a + 1) n)) (filter p (range_with_len (a + 1) n)))) (here.0 ∙ past)
-          ∙ later
-          ∙ sym (ap (λ (b : Bool). map g (cond b (a ∷ filter q (range_with_len (a + 1) n)) (filter q (range_with_len (a + 1) n)))) past))
+      ap (λ (b : Bool). map f (cond b (a ∷ filter p (range_with_len (a + 1) n)) (filter p (range_with_len (a + 1) n)))) (here.0 ∙ past)
+      ∙ later
+      ∙ sym (ap (λ (b : Bool). map g (cond b (a ∷ filter q (range_with_len (a + 1) n)) (filter q (range_with_len (a + 1) n)))) past))
 
 same_boundary : {a b c d e f : ℕ} → a ≡ d → b ≡ e → c ≡ f
     → ◌≡◌ {A = Boundary} (record { clusters = a; columns = b; solid = c }) (record { clusters = d; columns = e; solid = f })
@@ -108,12 +107,12 @@ module _ (done : List Cluster) (c : Cluster) where
       ap (λ (b : Break). map (opportunity_at (done ++ c ∷ [])) (cond (is_break b) (k ∷ []) [])) (status-last k e)
       ∙ two_cases (is_break c.after)
       (λ yes.
-          ap (λ (b : Bool). map (opportunity_at (done ++ c ∷ [])) (cond b (k ∷ []) [])) yes
-          ∙ ap (λ (o : Opportunity). o ∷ []) (same_opportunity (end-next k e) (ap is_must (status-last k e)))
-          ∙ sym (ap (λ (b : Bool). cond b (opportunity (behind (end_of done) c) (is_must c.after) ∷ []) []) yes))
+      ap (λ (b : Bool). map (opportunity_at (done ++ c ∷ [])) (cond b (k ∷ []) [])) yes
+      ∙ ap (λ (o : Opportunity). o ∷ []) (same_opportunity (end-next k e) (ap is_must (status-last k e)))
+      ∙ sym (ap (λ (b : Bool). cond b (opportunity (behind (end_of done) c) (is_must c.after) ∷ []) []) yes))
       (λ no.
-          ap (λ (b : Bool). map (opportunity_at (done ++ c ∷ [])) (cond b (k ∷ []) [])) no
-          ∙ sym (ap (λ (b : Bool). cond b (opportunity (behind (end_of done) c) (is_must c.after) ∷ []) []) no))
+      ap (λ (b : Bool). map (opportunity_at (done ++ c ∷ [])) (cond b (k ∷ []) [])) no
+      ∙ sym (ap (λ (b : Bool). cond b (opportunity (behind (end_of done) c) (is_must c.after) ∷ []) []) no))
 
   breaks-next : breaks_in (done ++ c ∷ []) ≡ breaks_in done ++ offered (behind (end_of done) c) c.after
   breaks-next =
@@ -128,9 +127,12 @@ module _ (done : List Cluster) (c : Cluster) where
       ∙ map-append at (filter test (range_with_len 1 (length done))) (filter test ((1 + length done) ∷ []))
       ∙ ap (λ (l : List Opportunity). l ++ map at (filter test ((1 + length done) ∷ [])))
       (agree test (λ (k : ℕ). is_break (status_at done k)) at (opportunity_at done) (length done) 1
-      (λ k low high. (ap is_break (status-front k low (omega arith)),
-      same_opportunity (boundary-front k (omega arith)) (ap is_must (status-front k low (omega arith))))))
+      (λ k low high. (
+        ap is_break (status-front k low (omega arith)),
+        same_opportunity (boundary-front k (omega arith)) (ap is_must (status-front k low (omega arith))),
+      )))
       ∙ ap (λ (l : List Opportunity). breaks_in done ++ l) (offered-last (1 + length done) last)
+
   pub breaks-on : (cl : List Cluster) (b next : Boundary) (before after : List Opportunity) → cl ≡ done ++ c ∷ [] → b ≡ end_of done → next ≡ behind b c
       → before ≡ breaks_in done → after ≡ before ++ offered next c.after → after ≡ breaks_in cl
   breaks-on cl b next before after put is on so_far e =
@@ -147,9 +149,12 @@ pub breaks-all : (cl : List Cluster) → status_at cl (length cl) ≡ Must → b
 unfolding opportunities_of is_opportunity
 breaks-all cl must =
     agree (λ (k : ℕ). is_break (status_at cl k)) (is_opportunity cl) (opportunity_at cl) (opportunity_at cl) (length cl) 1
-    (λ k low high. (elim (eqb_tells k (length cl)) [
-      | inl same ↦
-          let yes : is_break (status_at cl k) ≡ true = ap (λ (n : ℕ). is_break (status_at cl n)) same.1 ∙ ap is_break must in
-          yes ∙ sym (ap (λ b. b || k == length cl) yes)
-      | inr other ↦ or-no (is_break (status_at cl k)) (k == length cl) other.0
-    ], refl))
+    (λ k low high. (
+      elim (eqb_tells k (length cl)) [
+        | inl same ↦
+            let yes : is_break (status_at cl k) ≡ true = ap (λ (n : ℕ). is_break (status_at cl n)) same.1 ∙ ap is_break must in
+            yes ∙ sym (ap (λ b. b || k == length cl) yes)
+        | inr other ↦ or-no (is_break (status_at cl k)) (k == length cl) other.0
+      ],
+      refl,
+    ))

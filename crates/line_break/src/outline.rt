@@ -33,16 +33,17 @@ pub struct Outline {
 }
 
 impl Outline {
-    /// That of no clusters yet, with room for what lines ask of so many.
+    /// That of no clusters yet, with room for what lines ask of so many. For the rest there is room for what most texts
+    /// have: three clusters a run, and four between opportunities.
     fn with_room(alloc: Global, clusters: usize) -> Result<Outline, Memory>
         ensures runs { IfOk result (λ o. o.runs.items ≡ []) }
         ensures clusters { IfOk result (λ o. (o.clusters.items ≡ []) × (vec_len o.clusters ≡ 0) × (clusters ≤ vec_capacity o.clusters)) }
         ensures opportunities { IfOk result (λ o. o.opportunities.items ≡ []) }
     {
         Ok(Outline {
-            runs: Vec::new(alloc),
+            runs: Vec::with_capacity(alloc, clusters / 3)?,
             clusters: Vec::with_capacity(alloc, clusters)?,
-            opportunities: Vec::new(alloc),
+            opportunities: Vec::with_capacity(alloc, clusters / 4)?,
         })
     }
 }

@@ -1,5 +1,5 @@
 -- The line ends before the first cluster that doesn't fit.
-use Rattle.std.proofs.Common.{◌-◌, ◌<◌, ◌≤◌, ℕ, sym, ap, subst, ◌∙◌, arith}
+use Rattle.std.proofs.Common.{◌-◌, ◌<◌, sym, ap, subst, ◌∙◌, arith}
 use Rattle.std.proofs.lemmas.Bool.{leb-true, leb-false}
 use Rattle.line_break.specs.declared.opportunity.Boundary.{Boundary}
 use Rattle.line_break.specs.Open.{IsBoundary}

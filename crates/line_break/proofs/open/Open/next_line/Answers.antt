@@ -1,10 +1,9 @@
 -- The line ends where it doesn't fit up to the next opportunity, at a mandatory break or at the paragraph's end.
-use Rattle.std.proofs.Common.{◌≡◌, ◌∷◌, ◌-◌, ◌<◌, ◌≤◌, ℕ, sym, ap, subst, ◌∙◌}
+use Rattle.std.proofs.Common.{sym, ap, subst, ◌∙◌}
 use Rattle.std.proofs.lemmas.Bool.{leb-true, leb-false}
 use Rattle.line_break.specs.declared.open.Open.{Open}
 use Rattle.line_break.specs.declared.opportunity.Boundary.{Boundary}
 use Rattle.line_break.specs.Open.{IsOpen, lines_left}
-use Rattle.line_break.proofs.LinesLeft.{line_of}
 use Rattle.line_break.proofs.Breaking.{at-end, line-end, open-reached, open-next, line-must, open-must, ends-before, line-cut}
 use Rattle.line_break.proofs.open.Open.next_line.Goals as goal
 
@@ -18,7 +17,7 @@ returns-then-not-fits-clause-lines c =
     let o = c.loop-self.self in
     let over = leb-false _ w (sym c.fits.ensures ∙ c.if-not-fits.true) in
     let ends = ends-before cl c.args.opportunities.now w o c.loop-self.invariant.state _ c.loop-self-test.true over c.requires.columns c.requires.width c.end_before-end.result
-        c.end_before-end.ensures.last c.end_before-end.ensures.full in
+    c.end_before-end.ensures.last c.end_before-end.ensures.full in
     line-cut cl w c.args.self.now.start o.start c.end_before-end.result c.cut.new.self.start c.cut.result c.loop-self.invariant.start ends.0
     c.cut.ensures.line (ap (λ (t : Open). t.start) c.cut.ensures.state)
 
@@ -29,7 +28,7 @@ returns-then-not-fits-clause-state c =
     let o = c.loop-self.self in
     let over = leb-false _ w (sym c.fits.ensures ∙ c.if-not-fits.true) in
     let ends = ends-before cl c.args.opportunities.now w o c.loop-self.invariant.state _ c.loop-self-test.true over c.requires.columns c.requires.width c.end_before-end.result
-        c.end_before-end.ensures.last c.end_before-end.ensures.full in
+    c.end_before-end.ensures.last c.end_before-end.ensures.full in
     subst (IsOpen cl c.args.opportunities.now w) (sym c.cut.ensures.state) ends.1
 
 pub loop-self-preserved : goal.loop-self-preserved
