@@ -1,7 +1,8 @@
 -- One more cluster behind runs.
-use Rattle.std.proofs.Common.{◌≡◌, ℕ, suc, ◌+◌, ◌*◌, ◌<◌, ◌≤◌, true, false, not, ◌==◌, ◌&&◌, eqb-true, List, [], ◌∷◌, ◌++◌, map, length, replicate, refl, sym, ap, ap₂, subst, ◌∙◌, arith}
+use Rattle.std.proofs.Common.{◌≡◌, ℕ, suc, ◌+◌, ◌*◌, ◌<◌, ◌≤◌, true, false, not, cond, ◌==◌, ◌&&◌, eqb-true, inl, inr, List, [], ◌∷◌, ◌++◌, map, length, replicate, refl, sym, ap, ap₂, subst, ◌∙◌, arith}
 use Rattle.std.proofs.Math.Nat.{suc-mul}
-use Rattle.std.proofs.lemmas.Bool.{and_parts}
+use Rattle.std.proofs.lemmas.Bool.{and_parts, eq-eqb}
+use Rattle.std.proofs.lemmas.Bool.Decides.{eqb_tells}
 use Rattle.std.proofs.lemmas.List.{append-nil, append_assoc, replicate_more, take_at}
 use Rattle.std.proofs.lemmas.List.Concat.{flat_map-append}
 use Rattle.std.proofs.lemmas.List.Elements.{All-take, All-push}
@@ -9,7 +10,7 @@ use Rattle.std.proofs.lemmas.List.FromFn.{map-range_with_len_more}
 use Rattle.std.specs.List.{All, flat_map, range_with_len}
 use Rattle.paragraphs.specs.declared.span.Span.{Span}
 use Rattle.line_break.specs.declared.run.ShapeRun.{ShapeRun}
-use Rattle.line_break.specs.Runs.{span_in, spans_of, sizes_of, columns_of, alone, have_one_shape, ends_before, are_longest, longer, EndsAt, AreJoined}
+use Rattle.line_break.specs.Runs.{span_in, spans_of, sizes_of, columns_of, alone, if_some, have_one_shape, ends_before, are_longest, longer, EndsAt, AreJoined}
 
 -- a run with clusters
 abbrev pub HasSome : ShapeRun → Type 0
@@ -34,7 +35,7 @@ ends-push run [] x more = refl
 ends-push run (next ∷ runs) x more = refl
 
 -- another behind them
-pub longest-push : (runs : List ShapeRun) (x y : ShapeRun) → are_longest (runs ++ x ∷ []) ≡ true → have_one_shape x y ≡ false → are_longest ((runs ++ x ∷ []) ++ y ∷ []) ≡ true
+longest-push : (runs : List ShapeRun) (x y : ShapeRun) → are_longest (runs ++ x ∷ []) ≡ true → have_one_shape x y ≡ false → are_longest ((runs ++ x ∷ []) ++ y ∷ []) ≡ true
 longest-push [] x y all off = ap (λ b. not b && true) off
 longest-push (run ∷ runs) x y all off =
     let parts = and_parts (ends_before run (runs ++ x ∷ [])) (are_longest (runs ++ x ∷ [])) all in
@@ -47,7 +48,7 @@ longest-longer (run ∷ []) x = refl
 longest-longer (run ∷ next ∷ runs) x = ap (λ b. ends_before run (next ∷ []) && b) (longest-longer (next ∷ runs) x)
 
 -- a run of its own
-pub AreJoined-alone : (before : List ShapeRun) (next : ShapeRun) → next.count ≡ 1 → (are_longest before ≡ true → are_longest (before ++ next ∷ []) ≡ true)
+AreJoined-alone : (before : List ShapeRun) (next : ShapeRun) → next.count ≡ 1 → (are_longest before ≡ true → are_longest (before ++ next ∷ []) ≡ true)
     → AreJoined before next (before ++ next ∷ [])
 AreJoined-alone before next one longest = record {
   spans = joined-alone spans_of before next;
@@ -57,7 +58,7 @@ AreJoined-alone before next one longest = record {
   longest = longest;
 }
 
-pub longest-first : (runs : List ShapeRun) (next : ShapeRun) → runs ≡ [] → are_longest (runs ++ next ∷ []) ≡ true
+longest-first : (runs : List ShapeRun) (next : ShapeRun) → runs ≡ [] → are_longest (runs ++ next ∷ []) ≡ true
 longest-first runs next none = ap (λ (l : List ShapeRun). are_longest (l ++ next ∷ [])) none
 
 -- a cluster alone
@@ -88,6 +89,50 @@ sizes-one run one = ap (λ (n : ℕ). replicate n run.points) one
 
 pub columns-one : (run : ShapeRun) → run.count ≡ 1 → columns_of run ≡ run.columns ∷ []
 columns-one run one = ap (λ (n : ℕ). replicate n run.columns) one
+
+-- a run that may be empty
+
+pub some-kept : (run : ShapeRun) → 0 < run.count → if_some run ≡ run ∷ []
+some-kept run some = elim (eqb_tells run.count 0) [
+  | inl none ↦ absurd (let same = none.1 in omega arith)
+  | inr more ↦ ap (λ b. cond b [] (run ∷ [])) more.0
+]
+
+none-kept : (run : ShapeRun) → run.count ≡ 0 → if_some run ≡ []
+none-kept run none = ap (λ b. cond b [] (run ∷ [])) (eq-eqb run.count 0 none)
+
+spans-none : (run : ShapeRun) → run.count ≡ 0 → spans_of run ≡ []
+spans-none run none = ap (λ (n : ℕ). map (span_in run) (range_with_len 0 n)) none
+
+sizes-none : (run : ShapeRun) → run.count ≡ 0 → sizes_of run ≡ []
+sizes-none run none = ap (λ (n : ℕ). replicate n run.points) none
+
+columns-none : (run : ShapeRun) → run.count ≡ 0 → columns_of run ≡ []
+columns-none run none = ap (λ (n : ℕ). replicate n run.columns) none
+
+flat-kept : {A : Type 0} (f : ShapeRun → List A) (front : List ShapeRun) (run : ShapeRun) → (run.count ≡ 0 → f run ≡ [])
+    → flat_map f (front ++ if_some run) ≡ flat_map f (front ++ run ∷ [])
+flat-kept f front run none =
+    elim (eqb_tells run.count 0) [
+      | inl same ↦
+          ap (λ (l : List ShapeRun). flat_map f (front ++ l)) (none-kept run same.1) ∙ ap (flat_map f) (append-nil front)
+          ∙ sym (append-nil (flat_map f front)) ∙ ap (λ l. flat_map f front ++ l) (sym (none same.1)) ∙ sym (joined-alone f front run)
+      | inr more ↦ ap (λ (l : List ShapeRun). flat_map f (front ++ l)) (some-kept run (let ne = more.1 in omega arith))
+    ]
+
+-- a run of its own behind them
+pub AreJoined-push : (front : List ShapeRun) (run next : ShapeRun) → (run.count ≡ 0 → front ≡ []) → next.count ≡ 1 → have_one_shape run next ≡ false
+    → AreJoined (front ++ if_some run) next ((front ++ if_some run) ++ if_some next)
+AreJoined-push front run next first one off =
+    subst (λ (l : List ShapeRun). AreJoined (front ++ if_some run) next ((front ++ if_some run) ++ l)) (sym (some-kept next (omega arith)))
+    (AreJoined-alone (front ++ if_some run) next one
+    (λ all. elim (eqb_tells run.count 0) [
+      | inl none ↦ longest-first (front ++ if_some run) next (ap (λ (l : List ShapeRun). l ++ if_some run) (first none.1) ∙ none-kept run none.1)
+      | inr more ↦
+          let kept = ap (λ (l : List ShapeRun). front ++ l) (some-kept run (let ne = more.1 in omega arith)) in
+          ap (λ (l : List ShapeRun). are_longest (l ++ next ∷ [])) kept
+          ∙ longest-push front run next (sym (ap are_longest kept) ∙ all) off
+    ]))
 
 -- the run gets longer
 
@@ -133,16 +178,36 @@ module _ (run next : ShapeRun) (one : next.count ≡ 1) (end : EndsAt run next.f
       ∙ ap (λ (n : ℕ). columns_of run ++ n ∷ []) on.columns
       ∙ ap (λ (l : List ℕ). columns_of run ++ l) (sym (columns-one next one))
 
-  pub AreJoined-longer : (front : List ShapeRun) → AreJoined (front ++ run ∷ []) next (front ++ longer run ∷ [])
-  AreJoined-longer front = record {
-    spans = joined-last spans_of front run (longer run) (spans_of next) spans-longer;
-    sizes = joined-last sizes_of front run (longer run) (sizes_of next) sizes-longer;
-    columns = joined-last columns_of front run (longer run) (columns_of next) columns-longer;
-    some = λ all.
-        All-push HasSome front (longer run)
-        (subst (All HasSome) (take_at front (run ∷ []) (length front) refl) (All-take HasSome (length front) (front ++ run ∷ []) all)) (omega arith);
-    longest = λ all. longest-longer front run ∙ all;
-  }
+  module _ (front : List ShapeRun) (first : run.count ≡ 0 → front ≡ []) where
+    kept-longer : front ++ if_some (longer run) ≡ front ++ longer run ∷ []
+    kept-longer = ap (λ (l : List ShapeRun). front ++ l) (some-kept (longer run) (omega arith))
+
+    flat-longer : {A : Type 0} (f : ShapeRun → List A) → (run.count ≡ 0 → f run ≡ []) → f (longer run) ≡ f run ++ f next
+        → flat_map f (front ++ if_some (longer run)) ≡ flat_map f (front ++ if_some run) ++ f next
+    flat-longer f none e =
+        ap (flat_map f) kept-longer ∙ joined-last f front run (longer run) (f next) e
+        ∙ ap (λ l. l ++ f next) (sym (flat-kept f front run none))
+
+    longest-kept : are_longest (front ++ if_some run) ≡ true → are_longest (front ++ longer run ∷ []) ≡ true
+    longest-kept all =
+        elim (eqb_tells run.count 0) [
+          | inl none ↦ longest-first front (longer run) (first none.1)
+          | inr more ↦
+              longest-longer front run
+              ∙ sym (ap (λ (l : List ShapeRun). are_longest (front ++ l)) (some-kept run (let ne = more.1 in omega arith))) ∙ all
+        ]
+
+    pub AreJoined-longer : AreJoined (front ++ if_some run) next (front ++ if_some (longer run))
+    AreJoined-longer = record {
+      spans = flat-longer spans_of (spans-none run) spans-longer;
+      sizes = flat-longer sizes_of (sizes-none run) sizes-longer;
+      columns = flat-longer columns_of (columns-none run) columns-longer;
+      some = λ all.
+          subst (All HasSome) (sym kept-longer)
+          (All-push HasSome front (longer run)
+          (subst (All HasSome) (take_at front (if_some run) (length front) refl) (All-take HasSome (length front) (front ++ if_some run) all)) (omega arith));
+      longest = λ all. ap are_longest kept-longer ∙ longest-kept all;
+    }
 
   pub EndsAt-longer : 0 < next.points → EndsAt (longer run) (next.first_byte + next.bytes) (next.first_place + next.points)
   EndsAt-longer some =
@@ -157,7 +222,6 @@ module _ (run next : ShapeRun) (one : next.count ≡ 1) (end : EndsAt run next.f
       let all_bytes = ap (λ (n : ℕ). n * run.bytes) next_count in
       let all_points = ap (λ (n : ℕ). n * run.points) next_count in
       record {
-        some = omega arith;
         few = omega arith;
         bytes = omega arith;
         places = omega arith;
@@ -168,7 +232,6 @@ EndsAt-alone next one some =
     let bytes = ap (λ (n : ℕ). n * next.bytes) one in
     let points = ap (λ (n : ℕ). n * next.points) one in
     record {
-      some = omega arith;
       few = omega arith;
       bytes = omega arith;
       places = omega arith;

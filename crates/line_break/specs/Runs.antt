@@ -1,5 +1,5 @@
 -- Runs of clusters of one shape.
-use Rattle.std.specs.Prelude.{◌≡◌, ℕ, Bool, true, not, ◌+◌, ◌-◌, ◌*◌, ◌<◌, ◌≤◌, ◌==◌, ◌&&◌, List, [], ◌∷◌, ◌++◌, map, replicate}
+use Rattle.std.specs.Prelude.{◌≡◌, ℕ, Bool, true, not, ◌+◌, ◌-◌, ◌*◌, ◌<◌, ◌≤◌, ◌==◌, ◌&&◌, List, [], ◌∷◌, ◌++◌, map, replicate, if◌then◌else◌}
 use Rattle.std.specs.List.{All, flat_map, range_with_len}
 use Rattle.paragraphs.specs.declared.span.Span.{Span}
 use Rattle.line_break.specs.declared.run.ShapeRun.{ShapeRun}
@@ -28,6 +28,14 @@ columns_of run = replicate run.count run.columns
 -- no run is empty
 abbrev pub AllHaveSome : List ShapeRun → Type 0
 AllHaveSome runs = All (λ (run : ShapeRun). 0 < run.count) runs
+
+-- a run of no cluster
+abbrev pub no_run : ShapeRun
+no_run = record { first_byte = 0; first_place = 0; count = 0; bytes = 0; points = 0; columns = 0 }
+
+-- the run, where it has clusters
+abbrev pub if_some : ShapeRun → List ShapeRun
+if_some run = if run.count == 0 then [] else run ∷ []
 
 -- a cluster alone
 abbrev pub alone : Span → ℕ → ShapeRun
@@ -60,7 +68,6 @@ longer run = record run { count = run.count + 1 }
 
 -- a run that ends before this byte and this place
 pub record EndsAt (run : ShapeRun) (byte place : ℕ) : Type 0 where
-  pub some : 0 < run.count
   pub few : run.count ≤ place
   pub bytes : run.first_byte + run.count * run.bytes ≡ byte
   pub places : run.first_place + run.count * run.points ≡ place

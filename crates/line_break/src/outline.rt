@@ -1,15 +1,14 @@
 //! The clusters of a paragraph.
 
-ghost use Rattle.std.specs.Prelude.{◌≡◌, ◌+◌, ◌++◌, ◌∷◌, ◌^◌, ◌<◌, ◌≤◌, [], length, map, vec_capacity, vec_len, true, IfOk, MatchOption, OnOk};
+ghost use Rattle.std.specs.Prelude.{◌≡◌, ◌+◌, ◌++◌, ◌^◌, ◌<◌, ◌≤◌, [], length, map, vec_capacity, vec_len, true, IfOk, OnOk};
 ghost use Rattle.std.specs.List.{All, flat_map};
-ghost use Rattle.std.specs.Option.{option_to_list};
 ghost use Rattle.unicode_tables.specs.Word.{word_of};
 ghost use Rattle.paragraphs.specs.Text.{code_points};
 ghost use Rattle.paragraphs.specs.Clusters.{cluster_sizes};
 ghost use Rattle.paragraphs.specs.Spans.{spans};
 ghost use Rattle.line_break.specs.LineClusters.{line_clusters};
 ghost use Rattle.line_break.specs.Opportunities.{opportunities_of};
-ghost use Rattle.line_break.specs.Runs.{AllHaveSome, AreJoined, EndsAt, are_longest, columns_of, sizes_of, spans_of};
+ghost use Rattle.line_break.specs.Runs.{AllHaveSome, AreJoined, EndsAt, are_longest, columns_of, if_some, sizes_of, spans_of};
 
 use crate::cluster::Cluster;
 use crate::measure::Measure;
@@ -48,41 +47,38 @@ impl Outline {
     }
 }
 
-/// Appends the last run, if there is one.
+/// Appends a run, where it has clusters.
 #[inline]
-fn close(runs: &mut Vec<ShapeRun>, last: Option<ShapeRun>) -> Result<(), Memory>
-    ensures { OnOk result (runs.new.items ≡ runs.old.items ++ option_to_list last) }
+fn close(runs: &mut Vec<ShapeRun>, run: ShapeRun) -> Result<(), Memory>
+    ensures { OnOk result (runs.new.items ≡ runs.old.items ++ if_some run) }
 {
-    let Some(run) = last else {
+    if run.count == 0 {
         return Ok(());
-    };
+    }
     runs.push(run)?;
     Ok(())
 }
 
-/// Puts a cluster behind runs of which the last one may go on, and gives the one that may then: the
-/// same with the cluster, or the cluster alone.
+/// Puts a cluster behind runs of which the last one may go on: that one does, or the cluster is a run
+/// of its own. Before the first cluster the last one is empty.
 #[inline]
-fn joined(
-    runs: &mut Vec<ShapeRun>,
-    last: Option<ShapeRun>,
-    next: ShapeRun,
-) -> Result<ShapeRun, Memory>
-    requires last { MatchOption last (runs.old.items ≡ []) (λ run. EndsAt run next.first_byte next.first_place) }
+fn join(runs: &mut Vec<ShapeRun>, last: &mut ShapeRun, next: ShapeRun) -> Result<(), Memory>
+    requires last { EndsAt last.old next.first_byte next.first_place }
+    requires first { last.old.count ≡ 0 → runs.old.items ≡ [] }
     requires one { next.count ≡ 1 }
     requires some { 0 < next.points }
     requires few { next.first_place + 1 < 2 ^ 32 }
-    ensures runs { IfOk result (λ run. AreJoined (runs.old.items ++ option_to_list last) next (runs.new.items ++ run ∷ [])) }
-    ensures end { IfOk result (λ run. EndsAt run (next.first_byte + next.bytes) (next.first_place + next.points)) }
+    ensures runs { OnOk result (AreJoined (runs.old.items ++ if_some last.old) next (runs.new.items ++ if_some last.new)) }
+    ensures some { OnOk result (0 < last.new.count) }
+    ensures end { OnOk result (EndsAt last.new (next.first_byte + next.bytes) (next.first_place + next.points)) }
 {
-    let Some(earlier) = last else {
-        return Ok(next);
-    };
-    if earlier.goes_on(next) {
-        return Ok(earlier.longer());
+    if last.goes_on(next) {
+        *last = last.longer();
+        return Ok(());
     }
-    runs.push(earlier)?;
-    Ok(next)
+    close(runs, *last)?;
+    *last = next;
+    Ok(())
 }
 
 /// The clusters of a paragraph of at most 4,000,000 bytes, which has these code points with
@@ -117,7 +113,7 @@ pub fn outline_of(
     let mut clusters = para.clusters();
     let mut byte = 0;
     let mut place = 0;
-    let mut last = None;
+    let mut last = ShapeRun::empty();
     let mut end = Boundary::before_all();
     while let Some(measure) = Measure::of_next(
         tables,
@@ -134,7 +130,7 @@ pub fn outline_of(
         let cluster = measure.cluster(statuses[span.end_place as usize - 1]);
         outline.clusters.push_reserved(cluster);
         let next = ShapeRun::of_one(span, measure.columns);
-        last = Some(joined(&mut outline.runs, last, next)?);
+        join(&mut outline.runs, &mut last, next)?;
         end = end.behind(cluster);
         offer(&mut outline.opportunities, end, cluster.after)?;
         byte = span.end_byte;

@@ -1,7 +1,7 @@
 //! Runs of clusters of one shape.
 
 ghost use Rattle.std.specs.Prelude.{◌≡◌, ◌+◌, ◌^◌, ◌<◌, ◌≤◌};
-ghost use Rattle.line_break.specs.Runs.{alone, have_one_shape, longer};
+ghost use Rattle.line_break.specs.Runs.{alone, no_run, have_one_shape, longer};
 
 use paragraphs::Span;
 
@@ -23,6 +23,21 @@ pub struct ShapeRun {
 }
 
 impl ShapeRun {
+    /// A run of no cluster, from which a paragraph's first one goes on.
+    #[inline]
+    pub(crate) fn empty() -> ShapeRun
+        ensures { result ≡ no_run }
+    {
+        ShapeRun {
+            first_byte: 0,
+            first_place: 0,
+            count: 0,
+            bytes: 0,
+            points: 0,
+            columns: 0,
+        }
+    }
+
     /// A cluster alone, which stands there.
     #[inline]
     pub(crate) fn of_one(span: Span, columns: u8) -> ShapeRun

@@ -3,14 +3,13 @@ use Rattle.std.proofs.Common.{◌≡◌, ◌≤◌, List, [], ◌++◌, map, len
 use Rattle.std.proofs.lemmas.List.{length_push}
 use Rattle.std.proofs.lemmas.List.Elements.{All-same}
 use Rattle.std.specs.List.{flat_map}
-use Rattle.std.specs.Prelude.{MatchOption}
 use Rattle.std.specs.Str.{IsUtf8}
 use Rattle.paragraphs.specs.Text.{code_points}
 use Rattle.line_break.specs.declared.cluster.Cluster.{Cluster}
 use Rattle.line_break.specs.declared.measure.Measure.{Measure}
 use Rattle.line_break.specs.declared.opportunity.Boundary.{Boundary}
 use Rattle.line_break.specs.declared.run.ShapeRun.{ShapeRun}
-use Rattle.line_break.specs.Runs.{EndsAt, are_longest, columns_of, sizes_of, spans_of}
+use Rattle.line_break.specs.Runs.{EndsAt, are_longest, if_some, no_run, columns_of, sizes_of, spans_of}
 use Rattle.line_break.specs.LineClusters.{line_clusters}
 use Rattle.line_break.specs.Statuses.{breaks}
 use Rattle.line_break.proofs.Boundaries.{columns-two}
@@ -24,6 +23,10 @@ use Rattle.line_break.proofs.Measuring.{cluster-some as points-some, cluster-fit
 use Rattle.line_break.proofs.Outlining.{IsUtf8-concat, IsOutlinedTo-start, cluster-some, cluster-fits, cluster-points, cluster-end, IsOutlinedTo-at, HasRoom-on, spans-end, sizes-end}
 use Rattle.line_break.proofs.outline.outline_of.Goals as goal
 
+-- no run yet
+none-before : (runs : List ShapeRun) (last : ShapeRun) → runs ≡ [] → last ≡ no_run → runs ++ if_some last ≡ []
+none-before runs last none empty = ap (λ (l : List ShapeRun). l ++ if_some last) none ∙ ap if_some empty
+
 pub loop-measure-init : goal.loop-measure-init
 loop-measure-init c =
     let text = c.args.para.now.text in
@@ -32,13 +35,14 @@ loop-measure-init c =
     record {
       outlined =
           IsOutlinedTo-start text _ _ _ given.clusters given.utf8 given.some given.joined
-          (ap (λ (runs : List ShapeRun). flat_map spans_of (runs ++ [])) c.in_ok-outline.ensures.runs)
-          (ap (λ (runs : List ShapeRun). flat_map sizes_of (runs ++ [])) c.in_ok-outline.ensures.runs);
+          (ap (flat_map spans_of) (none-before _ _ c.in_ok-outline.ensures.runs c.empty-last.ensures))
+          (ap (flat_map sizes_of) (none-before _ _ c.in_ok-outline.ensures.runs c.empty-last.ensures));
       measured =
           IsMeasuredTo-start c.args.tables.now text _ _ given.clusters given.utf8
           (c.cluster_places.ensures.some text u) (c.cluster_places.ensures.sum text u) c.in_ok-outline.ensures.clusters.0;
-      gathered = AreGathered-start _ _ (ap (λ (runs : List ShapeRun). runs ++ []) c.in_ok-outline.ensures.runs) c.in_ok-outline.ensures.clusters.0;
-      ends = c.in_ok-outline.ensures.runs;
+      gathered = AreGathered-start _ _ (none-before _ _ c.in_ok-outline.ensures.runs c.empty-last.ensures) c.in_ok-outline.ensures.clusters.0;
+      ends = subst (λ (run : ShapeRun). EndsAt run 0 0) (sym c.empty-last.ensures) (record { few = omega arith; bytes = omega arith; places = omega arith });
+      first = λ none. c.in_ok-outline.ensures.runs;
       clusters = let room = c.in_ok-outline.ensures.clusters in record { filled = omega arith; room = omega arith };
       within = omega arith;
       count = let none = ap length c.in_ok-outline.ensures.clusters.0 in omega arith;
@@ -113,23 +117,22 @@ index-requires c =
 pub loop-measure-smaller : goal.loop-measure-smaller
 loop-measure-smaller c = omega (arith, ap length c.in-Some.ensures.taken)
 
-pub joined-requires-clause-last : goal.joined-requires-clause-last
-joined-requires-clause-last c =
-    subst (λ (n : ShapeRun). MatchOption c.loop-measure.last (c.loop-measure.outline.runs.items ≡ []) (λ (run : ShapeRun). EndsAt run n.first_byte n.first_place)) (sym c.of_one-next.ensures)
-    c.loop-measure.invariant.ends
+pub join-requires-clause-last : goal.join-requires-clause-last
+join-requires-clause-last c =
+    subst (λ (n : ShapeRun). EndsAt c.loop-measure.last n.first_byte n.first_place) (sym c.of_one-next.ensures) c.loop-measure.invariant.ends
 
-pub joined-requires-clause-one : goal.joined-requires-clause-one
-joined-requires-clause-one c = ap (λ (n : ShapeRun). n.count) c.of_one-next.ensures
+pub join-requires-clause-one : goal.join-requires-clause-one
+join-requires-clause-one c = ap (λ (n : ShapeRun). n.count) c.of_one-next.ensures
 
-pub joined-requires-clause-some : goal.joined-requires-clause-some
-joined-requires-clause-some c =
+pub join-requires-clause-some : goal.join-requires-clause-some
+join-requires-clause-some c =
     let some = points-some c.args.tables.now c.args.para.now.text _ _ c.loop-measure.place c.loop-measure.invariant.measured c.in-Some.ensures.cluster _ c.in-Some.ensures.taken in
     let size = ap (λ (x : Measure). x.size) c.in-Some.ensures.measured in
     let points = ap (λ (n : ShapeRun). n.points) c.of_one-next.ensures in
     omega arith
 
-pub joined-requires-clause-few : goal.joined-requires-clause-few
-joined-requires-clause-few c =
+pub join-requires-clause-few : goal.join-requires-clause-few
+join-requires-clause-few c =
     let first = ap (λ (n : ShapeRun). n.first_place) c.of_one-next.ensures in
     let so_far = c.loop-measure.invariant.outlined.places in
     let bytes = c.loop-measure.invariant.outlined.bytes in
@@ -167,7 +170,7 @@ loop-measure-preserved c =
     record {
       outlined =
           IsOutlinedTo-at _ _ _ _ _ _ o cluster _ at _ here.size _ _ _ size end refl
-          (spans-on _ _ _ c.in_ok-joined.ensures.runs _ _ next (omega arith) (omega arith)) (sizes-on _ _ _ c.in_ok-joined.ensures.runs _ _ next here.size (omega arith));
+          (spans-on _ _ _ c.in_ok-join.ensures.runs _ _ next (omega arith) (omega arith)) (sizes-on _ _ _ c.in_ok-join.ensures.runs _ _ next here.size (omega arith));
       measured =
           IsMeasuredTo-on t p _ _ c.loop-measure.place m cluster _ at _ here.size _ size
           (c.cluster-cluster.ensures
@@ -175,9 +178,10 @@ loop-measure-preserved c =
           here.columns here.is_space c.index.result.now (breaks-of t p c.args.points.now c.args.words.now _ c.requires.points c.requires.words c.in_ok-statuses.ensures) size some fits columns is_space c.index.ensures)
           c.push_reserved.ensures.items;
       gathered =
-          AreGathered-on _ _ _ c.in_ok-joined.ensures.runs _ _ next c.cluster-cluster.result _ _ c.loop-measure.invariant.gathered
+          AreGathered-on _ _ _ c.in_ok-join.ensures.runs _ _ next c.cluster-cluster.result _ _ c.loop-measure.invariant.gathered
           (sym (ap (λ (x : Cluster). x.columns) c.cluster-cluster.ensures)) c.push_reserved.ensures.items;
-      ends = EndsAt-span _ _ _ _ next (omega arith) (omega arith) c.in_ok-joined.ensures.end;
+      first = λ none. absurd (let some = c.in_ok-join.ensures.some in omega arith);
+      ends = EndsAt-span _ _ _ _ next (omega arith) (omega arith) c.in_ok-join.ensures.end;
       clusters = HasRoom-on _ _ _ _ here.size _ _ c.loop-measure.invariant.clusters (omega arith) c.push_reserved.ensures.len c.push_reserved.ensures.capacity;
       within = let all = ap length c.requires.points in let same = length-breaks t p in omega arith;
       count =

@@ -1,9 +1,7 @@
 -- The clusters so far are outlined and measured, and there is room for those that are left.
-use Rattle.std.proofs.Common.{◌≡◌, ◌≤◌, [], ◌++◌, length, vec_len, vec_capacity, option_to_list}
+use Rattle.std.proofs.Common.{◌≡◌, ◌≤◌, [], ◌++◌, length, vec_len, vec_capacity}
 use Rattle.std.specs.List.{flat_map}
-use Rattle.std.specs.Prelude.{MatchOption}
-use Rattle.line_break.specs.declared.run.ShapeRun.{ShapeRun}
-use Rattle.line_break.specs.Runs.{EndsAt, sizes_of, spans_of}
+use Rattle.line_break.specs.Runs.{EndsAt, if_some, sizes_of, spans_of}
 use Rattle.line_break.proofs.Gathering.{AreGathered}
 use Rattle.line_break.proofs.Measuring.{IsMeasuredTo}
 use Rattle.line_break.proofs.Offering.{breaks_in, end_of}
@@ -12,10 +10,11 @@ use Rattle.line_break.proofs.outline.outline_of.Given as goal
 
 abbrev pub invariant-loop-measure : goal.invariant-loop-measure
 invariant-loop-measure l = record {
-  outlined : IsOutlinedTo l.para.text l.clusters (flat_map spans_of (l.outline.runs.items ++ option_to_list l.last)) (flat_map sizes_of (l.outline.runs.items ++ option_to_list l.last)) l.byte l.place;
+  outlined : IsOutlinedTo l.para.text l.clusters (flat_map spans_of (l.outline.runs.items ++ if_some l.last)) (flat_map sizes_of (l.outline.runs.items ++ if_some l.last)) l.byte l.place;
   measured : IsMeasuredTo l.tables l.para.text l.clusters l.outline.clusters.items l.place;
-  gathered : AreGathered (l.outline.runs.items ++ option_to_list l.last) l.outline.clusters.items;
-  ends : MatchOption l.last (l.outline.runs.items ≡ []) (λ (run : ShapeRun). EndsAt run l.byte l.place);
+  gathered : AreGathered (l.outline.runs.items ++ if_some l.last) l.outline.clusters.items;
+  ends : EndsAt l.last l.byte l.place;
+  first : l.last.count ≡ 0 → l.outline.runs.items ≡ [];
   clusters : HasRoom (length l.points) l.place (vec_len l.outline.clusters) (vec_capacity l.outline.clusters);
   within : l.place ≤ length l.points;
   count : length l.outline.clusters.items ≤ l.place;
