@@ -3,7 +3,7 @@ use Rattle.std.specs.Prelude.{Bool, true, false, List, if◌then◌else◌}
 use Rattle.std.specs.List.{list_any}
 use Rattle.bg_types.specs.declared.class.Bidi.{Bidi}
 use Rattle.bg_types.specs.declared.class.Lb.{Lb}
-use Rattle.bg_types.specs.declared.class.Lb.TheVariants.{Ai, Al, Cj, Cm, Ns, Sa, Sg, Xx}
+use Rattle.bg_types.specs.declared.class.Lb.TheVariants.{Ai, Al, Cj, Cm, Cp, Ns, Op, Sa, Sg, Xx}
 use Rattle.bg_types.specs.declared.class.Ea.{Ea}
 use Rattle.bg_types.specs.declared.class.Ea.TheVariants.{F, H, W}
 use Rattle.bg_types.specs.contracts.class.Lb.{the_type}
@@ -22,6 +22,13 @@ resolved bidi Xx = Al
 resolved bidi Cj = Ns
 resolved bidi Sa = if is_nonspacing bidi then Cm else Al
 resolved bidi class = class
+
+-- LB1 asks for the Bidi class of SA, and LB30 for the width of CP and OP
+unfoldable pub asks_more : Lb → Bool
+asks_more Cp = true
+asks_more Op = true
+asks_more Sa = true
+asks_more _ = false
 
 -- East Asian F, W or H, the widths that LB30 leaves out
 unfoldable pub is_east_asian : Ea → Bool

@@ -1,8 +1,8 @@
 //! The break rules as an automaton: from boundary to boundary by the pair table.
 
-ghost use Rattle.std.specs.Prelude.{◌≡◌, ◌<◌, List, [], ◌∷◌, ◌++◌, if◌then◌else◌};
+ghost use Rattle.std.specs.Prelude.{◌≡◌, ◌<◌, true, List, [], ◌∷◌, ◌++◌, if◌then◌else◌};
 ghost use Rattle.line_break.specs.declared.status.Break.TheVariants.{May};
-ghost use Rattle.line_break.specs.Classes.{is_east_asian};
+ghost use Rattle.line_break.specs.Classes.{asks_more, is_east_asian};
 ghost use Rattle.line_break.specs.Items.{Item, point_of_word};
 ghost use Rattle.line_break.specs.Context.{before, after};
 ghost use Rattle.line_break.specs.Rules.{first_rule, rules};
@@ -61,21 +61,34 @@ impl State {
 
 /// The column of a character of this word. But for SA, LB1 is in the table.
 #[inline]
+#[tactic(auto, unfolding(crate::specs::Classes::asks_more))]
 pub(crate) fn column_of(word: Word) -> usize
+    ensures { IsColumn (point_of_word word) result }
+{
+    match word.lb {
+        Lb::Cp | Lb::Op | Lb::Sa => column_by_more(word),
+        _ => word.lb as usize,
+    }
+}
+
+/// The column of a character whose class alone doesn't tell it. It is apart from the loop over statuses, which then tests
+/// a bit in place of a jump.
+#[inline(never)]
+fn column_by_more(word: Word) -> usize
+    requires { asks_more word.lb ≡ true }
     ensures { IsColumn (point_of_word word) result }
 {
     match word.lb {
         Lb::Cp => column_by_width(word.ea, Lb::Cp as usize, WIDE_CP),
         Lb::Op => column_by_width(word.ea, Lb::Op as usize, WIDE_OP),
         // Own: SA becomes AL, not ID or a class from a dictionary.
-        Lb::Sa => {
+        _ => {
             if word.bidi.is_nonspacing() {
                 Lb::Cm as usize
             } else {
                 Lb::Al as usize
             }
         }
-        _ => word.lb as usize,
     }
 }
 
