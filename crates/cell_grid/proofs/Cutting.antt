@@ -4,7 +4,7 @@ use Rattle.std.proofs.lemmas.Bool.Decides.{leb_tells}
 use Rattle.std.proofs.lemmas.Option.{get_or_from_slice_get}
 use Rattle.std.proofs.lemmas.List.{map-append, replicate-append-replicate}
 use Rattle.std.proofs.lemmas.List.Concat.{flat_map-append, flat_map-cons}
-use Rattle.std.proofs.lemmas.List.Elements.{All-head, All-tail, All-cons}
+use Rattle.std.proofs.lemmas.List.Elements.{All-head, All-tail}
 use Rattle.std.proofs.lemmas.List.FromFn.{length-map-range_with_len}
 use Rattle.std.proofs.lemmas.Simd.{map-map}
 use Rattle.std.specs.List.{All, range_with_len}
@@ -133,11 +133,6 @@ module _ (runs : List ShapeRun) (first : ShapeRun) (next : ℕ) (none : first.co
         let empty = ap length (parted-none first [] none).spans in
         absurd (omega arith)
   ]
-
-  pub parted-next : (run d : ShapeRun) → next < length runs → run ≡ get_or runs next d → AreParted (first ∷ drop next runs) [] (run ∷ drop (next + 1) runs)
-  parted-next run d lt is =
-      parted-then (first ∷ drop next runs) [] (drop next runs) [] (run ∷ drop (next + 1) runs) (parted-none first (drop next runs) none)
-      (parted-same (drop next runs) (run ∷ drop (next + 1) runs) (drop-next runs next run d lt is))
 
   pub within-next : (run d : ShapeRun) → next < length runs → run ≡ get_or runs next d → All IsWithin (first ∷ drop next runs) → All IsWithin (run ∷ drop (next + 1) runs)
   within-next run d lt is h = subst (All IsWithin) (drop-next runs next run d lt is) (All-tail IsWithin first (drop next runs) h)

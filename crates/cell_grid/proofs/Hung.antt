@@ -1,10 +1,8 @@
 -- Columns that hang, one after the other.
-use Rattle.std.proofs.Common.{◌≡◌, ℕ, suc, ◌+◌, ◌-◌, ◌<◌, ◌≤◌, cond, List, [], ◌∷◌, ◌++◌, length, drop, get_or, replicate, sum, refl, sym, ap, ◌∙◌, arith, append_assoc, inl, inr}
-use Rattle.std.proofs.lemmas.List.Sums.{sum_by-cons}
+use Rattle.std.proofs.Common.{◌≡◌, ℕ, suc, ◌-◌, ◌<◌, ◌≤◌, cond, List, [], ◌∷◌, length, replicate, refl, sym, ap, ◌∙◌, arith, inl, inr}
 use Rattle.std.proofs.lemmas.Bool.{le-leb, lt-leb}
 use Rattle.std.proofs.lemmas.Bool.Decides.{leb_tells}
 use Rattle.cell_grid.specs.Hanging.{hung}
-use Rattle.cell_grid.proofs.Steps.{drop-next}
 
 pub hung-fits : (room n : ℕ) (later : List ℕ) → n ≤ room → hung room (n ∷ later) ≡ n ∷ hung (room - n) later
 hung-fits room n later le = ap (λ b. cond b (n ∷ hung (room - n) later) (replicate (suc (length later)) 0)) (le-leb n room le)

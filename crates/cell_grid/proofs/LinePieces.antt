@@ -1,5 +1,5 @@
 -- The lines of a paragraph, one after the other: what their parts have, and the rows of their pieces.
-use Rattle.std.proofs.Common.{◌≡◌, ℕ, zero, suc, ◌+◌, ◌-◌, ◌*◌, ◌<◌, ◌≤◌, List, [], ◌∷◌, ◌++◌, map, length, take, drop, chars, slice_range, sum, refl, sym, ap, subst, ◌∙◌, arith, append-nil, length-append, inl, inr}
+use Rattle.std.proofs.Common.{◌≡◌, ℕ, suc, ◌+◌, ◌-◌, ◌*◌, ◌<◌, ◌≤◌, List, [], ◌∷◌, ◌++◌, map, length, take, drop, slice_range, sum, refl, sym, ap, subst, ◌∙◌, arith, length-append, inl, inr}
 use Rattle.std.proofs.lemmas.Bool.Decides.{leb_tells}
 use Rattle.std.proofs.lemmas.List.{take_at, drop_at, drop-drop, length-drop, length-map, length-replicate}
 use Rattle.std.proofs.lemmas.List.Concat.{flat_map-cons}
@@ -21,9 +21,9 @@ use Rattle.line_break.specs.Runs.{span_in, spans_of, sizes_of, AllHaveSome}
 use Rattle.line_break.specs.Runs.{columns_of as shape_columns}
 use Rattle.reorder.specs.LineLevels.{levels_after_l1, group_firsts}
 use Rattle.cell_grid.specs.declared.cluster_run.ClusterRun.{ClusterRun}
-use Rattle.cell_grid.specs.Hanging.{hung, line_columns}
+use Rattle.cell_grid.specs.Hanging.{hung}
 use Rattle.cell_grid.specs.LawsBelow.{LawsBelow}
-use Rattle.cell_grid.specs.Outline.{own_columns, IsLine, StandIn}
+use Rattle.cell_grid.specs.Outline.{own_columns, IsLine}
 use Rattle.cell_grid.specs.Parts.{front, behind, all_spans, all_sizes, all_columns, IsWithin, AreParted, AreFrom}
 use Rattle.cell_grid.specs.Pieces.{levels_of, columns_of}
 use Rattle.cell_grid.specs.Pieces.{spans_of as piece_spans}

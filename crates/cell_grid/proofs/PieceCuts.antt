@@ -1,7 +1,7 @@
 -- Parts cut into pieces: by the levels of their clusters, and where columns hang.
-use Rattle.std.proofs.Common.{◌≡◌, ℕ, zero, suc, ◌+◌, ◌-◌, ◌*◌, ◌/◌, ◌^◌, ◌<◌, ◌≤◌, min, List, [], ◌∷◌, ◌++◌, map, length, drop, get_or, replicate, sum, flat_map, refl, sym, ap, subst, ◌∙◌, arith, append_assoc, append-nil}
+use Rattle.std.proofs.Common.{◌≡◌, ℕ, zero, suc, ◌+◌, ◌-◌, ◌*◌, ◌/◌, ◌<◌, ◌≤◌, min, List, [], ◌∷◌, ◌++◌, map, length, drop, get_or, replicate, sum, flat_map, refl, sym, ap, subst, ◌∙◌, arith, append_assoc, append-nil}
 use Rattle.std.proofs.Math.Nat.{div-mul-le_self}
-use Rattle.std.proofs.lemmas.Nat.{le-div, mul-le}
+use Rattle.std.proofs.lemmas.Nat.{le-div}
 use Rattle.std.proofs.lemmas.List.{drop-drop, get_or-drop, length-drop, replicate-append-replicate}
 use Rattle.std.proofs.lemmas.List.Concat.{flat_map-append, flat_map-cons}
 use Rattle.std.proofs.lemmas.List.Elements.{All-push, All-same}
@@ -9,7 +9,6 @@ use Rattle.std.proofs.lemmas.List.Folds.{sum_by-replicate}
 use Rattle.std.proofs.lemmas.List.Sums.{sum_by-cons, sum_by-append}
 use Rattle.std.specs.List.{All, range_with_len}
 use Rattle.reorder.specs.LineLevels.{group_firsts}
-use Rattle.paragraphs.specs.declared.span.Span.{Span}
 use Rattle.line_break.specs.declared.run.ShapeRun.{ShapeRun}
 use Rattle.line_break.specs.Runs.{span_in, sizes_of}
 use Rattle.line_break.specs.Runs.{spans_of as shape_spans, columns_of as shape_columns}
@@ -17,15 +16,15 @@ use Rattle.cell_grid.specs.declared.cluster_run.ClusterRun.{ClusterRun}
 use Rattle.cell_grid.specs.declared.piece.Fitting.{Fitting}
 use Rattle.cell_grid.specs.Cuts.{AreFitting, IsFirstPiece, AreCut}
 use Rattle.cell_grid.specs.Hanging.{hung}
-use Rattle.cell_grid.specs.Parts.{front, behind, all_spans, all_sizes, all_columns, IsWithin}
+use Rattle.cell_grid.specs.Parts.{behind, all_spans, all_sizes, all_columns, IsWithin}
 use Rattle.cell_grid.specs.Pieces.{run_spans, run_levels, run_widths, spans_of, levels_of, columns_of}
-use Rattle.cell_grid.specs.Runs.{byte_count, point_count, span_after, cluster_count, run_columns, runs_columns, IsInReach}
-use Rattle.cell_grid.proofs.Cutting.{spans-cut, sizes-cut, columns-cut, behind-within}
+use Rattle.cell_grid.specs.Runs.{span_after, cluster_count, run_columns, runs_columns, IsInReach}
+use Rattle.cell_grid.proofs.Cutting.{spans-cut, sizes-cut, behind-within}
 use Rattle.cell_grid.proofs.Hung.{hung-full}
 use Rattle.cell_grid.proofs.Numbered.{map-range-same}
 use Rattle.cell_grid.proofs.Sides.{hung-append}
 use Rattle.cell_grid.proofs.Standing.{span_of}
-use Rattle.cell_grid.proofs.Steps.{drop-next, drop-none}
+use Rattle.cell_grid.proofs.Steps.{drop-next}
 
 -- ---- columns
 
@@ -309,15 +308,6 @@ module _ (parts : List ShapeRun) (levels : List ℕ) (width : ℕ) (pieces : Lis
             ∙ ap (λ l. columns_of pieces ++ hung room l) (sym (from-next shape_columns)) ∙ h.columns;
         reach = cut.reach h.reach;
       }
-
-pub joint-end : (parts : List ShapeRun) (levels : List ℕ) (width : ℕ) (pieces : List ClusterRun) (i place room : ℕ) → length parts ≤ i → AreJoint parts levels width pieces i place room
-    → (spans_of pieces ≡ all_spans parts) × (levels_of pieces ≡ group_firsts (all_sizes parts) levels) × (columns_of pieces ≡ hung width (all_columns parts))
-joint-end parts levels width pieces i place room le h =
-    let none = drop-none parts i le in (
-      sym (append-nil (spans_of pieces)) ∙ ap (λ l. spans_of pieces ++ all_spans l) (sym none) ∙ h.spans,
-      sym (append-nil (levels_of pieces)) ∙ ap (λ l. levels_of pieces ++ group_firsts (all_sizes l) (drop place levels)) (sym none) ∙ h.levels_alike,
-      sym (append-nil (columns_of pieces)) ∙ ap (λ l. columns_of pieces ++ hung room (all_columns l)) (sym none) ∙ h.columns,
-    )
 
 -- ---- the columns of pieces
 

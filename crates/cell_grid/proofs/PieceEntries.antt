@@ -1,7 +1,7 @@
 -- The entries of a line are those of its pieces from left to right.
-use Rattle.std.proofs.Common.{◌≡◌, ℕ, zero, suc, ◌+◌, ◌-◌, ◌*◌, ◌<◌, ◌≤◌, true, false, cond, List, [], ◌∷◌, ◌++◌, map, length, take, get_or, reverse, replicate, flat_map, sum_by, IsPermutation, refl, sym, ap, subst, ◌∙◌, arith, append_assoc, append-nil, length-append}
+use Rattle.std.proofs.Common.{◌≡◌, ℕ, zero, suc, ◌+◌, ◌-◌, ◌*◌, ◌<◌, ◌≤◌, true, false, cond, List, [], ◌∷◌, ◌++◌, map, length, take, get_or, reverse, replicate, flat_map, sum_by, IsPermutation, refl, sym, ap, subst, ◌∙◌, arith, append-nil, length-append}
 use Rattle.std.proofs.lemmas.List.{ext_get_or, get_or_default, get_or-replicate, get_or-reverse, length-replicate, length-map, length-reverse}
-use Rattle.std.proofs.lemmas.List.Concat.{flat_map-append, flat_map-cons, get_or-flat_map}
+use Rattle.std.proofs.lemmas.List.Concat.{flat_map-cons, get_or-flat_map}
 use Rattle.std.proofs.lemmas.List.Elements.{All-head, All-tail, All-map}
 use Rattle.std.proofs.lemmas.List.Folds.{flat_map-map}
 use Rattle.std.proofs.lemmas.List.FromFn.{length-range_with_len, get_or-range_with_len, length-map-range_with_len, get_or-map-range_with_len}
@@ -153,7 +153,7 @@ module _ (ps : List ClusterRun) (k : ℕ) (lt : k < length ps) where
       ap (λ (p : LevelPiece). cond (is_odd p.level) (reverse (range_with_len (count_of (take k (level_pieces ps))) p.count)) (range_with_len (count_of (take k (level_pieces ps))) p.count)) same
       ∙ ap (λ b. cond (is_odd r.level) (reverse (range_with_len b (cluster_count r))) (range_with_len b (cluster_count r))) (before-is k ps)
       ∙ elim (is_odd r.level) as (λ o. cond o (reverse (range_with_len (counts (take k ps)) (cluster_count r))) (range_with_len (counts (take k ps)) (cluster_count r))
-          ≡ map (λ i. counts (take k ps) + cond o (r.further - i) i) (range_with_len 0 (cluster_count r))) [
+      ≡ map (λ i. counts (take k ps) + cond o (r.further - i) i) (range_with_len 0 (cluster_count r))) [
         | true ↦ falling (counts (take k ps)) r.further
         | false ↦ (let e : counts (take k ps) ≡ counts (take k ps) + 0 = omega arith in ap (λ b. range_with_len b (cluster_count r)) e ∙ rising (counts (take k ps)) 0 (cluster_count r))
       ]

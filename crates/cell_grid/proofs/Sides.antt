@@ -2,7 +2,7 @@
 use Rattle.std.proofs.Common.{◌≡◌, ℕ, zero, suc, ◌+◌, ◌-◌, ◌<◌, ◌≤◌, true, false, cond, List, [], ◌∷◌, ◌++◌, map, length, get_or, sum, sum_by, IsPermutation, All, refl, sym, ap, subst, ◌∙◌, arith, length-append, inl, inr}
 use Rattle.std.proofs.lemmas.List.{ext_get_or, length-replicate}
 use Rattle.std.proofs.lemmas.List.FromFn.{length-map-range_with_len, get_or-map-range_with_len, get_or-range_with_len, length-range_with_len}
-use Rattle.std.proofs.lemmas.List.Sorted.{All-permutation, sum_by-IsPermutation, length_permutation}
+use Rattle.std.proofs.lemmas.List.Sorted.{All-permutation, sum_by-IsPermutation}
 use Rattle.std.proofs.lemmas.List.Sums.{sum-map, sum_by-cons}
 use Rattle.std.specs.List.{range_with_len}
 use Rattle.reorder.specs.VisualList.{is_odd}
@@ -34,9 +34,6 @@ numbers-below n i d lt =
 module _ (n : ℕ) (order : List ℕ) (p : IsPermutation (range_with_len 0 n) order) where
   pub order-below : All (λ k. k < n) order
   order-below = All-permutation (λ k. k < n) (range_with_len 0 n) order p (numbers-below n)
-
-  pub length-order : length order ≡ n
-  length-order = length_permutation (range_with_len 0 n) order p ∙ length-range_with_len 0 n
 
   -- in another order the columns are as many
   pub sum-order : (columns : List ℕ) → length columns ≡ n → sum_by (λ k. get_or columns k 0) order ≡ sum columns

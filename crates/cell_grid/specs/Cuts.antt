@@ -1,5 +1,5 @@
 -- How a part is cut into pieces: by the levels of its clusters, and where columns hang.
-use Rattle.std.specs.Prelude.{◌≡◌, ℕ, ◌+◌, ◌*◌, ◌<◌, ◌≤◌, List, ◌++◌, drop, replicate, ◌-◌}
+use Rattle.std.specs.Prelude.{◌≡◌, ℕ, ◌*◌, ◌<◌, ◌≤◌, List, ◌++◌, drop, replicate, ◌-◌}
 use Rattle.std.specs.List.{All}
 use Rattle.reorder.specs.LineLevels.{group_firsts}
 use Rattle.line_break.specs.declared.run.ShapeRun.{ShapeRun}

@@ -1,6 +1,6 @@
 //! The rows of a paragraph.
 
-ghost use Rattle.std.specs.Prelude.{◌≡◌, ℕ, ◌+◌, ◌≤◌, length, map, slice_range, IfOk};
+ghost use Rattle.std.specs.Prelude.{◌≡◌, ℕ, ◌+◌, ◌≤◌, length, map, slice_range, IfOk, OnOk};
 ghost use Rattle.std.specs.List.{All};
 ghost use Rattle.std.specs.Str.{IsUtf8};
 ghost use Rattle.unicode_tables.specs.declared.word.Word.{Word};
@@ -17,15 +17,16 @@ ghost use Rattle.cell_grid.specs.Parts.{IsWithin, left_of, AreFrom};
 ghost use Rattle.cell_grid.specs.Rows.{row_of, rows_of};
 ghost use Rattle.cell_grid.specs.Shifting.{MayShiftRow};
 
+use crate::cluster_run::ClusterRun;
 use crate::laws_below::laws_below;
 use crate::part::{Cursor, extent};
-use crate::piece::pieces_of;
+use crate::piece::cut_all;
 use crate::row::Row;
 use crate::separator::{is_separator_alone, separator_rows};
 use bg_types::{Base, Bidi, Memory};
 use bidi_explicit::paragraph_level;
 use bidi_weak_neutral::levels_at;
-use line_break::{Line, Outline, lines_of, outline_of};
+use line_break::{Line, Outline, ShapeRun, lines_of, outline_of};
 use paragraphs::{Para, Span, code_points_of};
 use reorder::levels_after_l1;
 use std::alloc::Global;
@@ -44,22 +45,43 @@ struct Material<'a> {
     clusters: Outline,
 }
 
-/// The levels of a line's code points, which has this extent in the paragraph's text (L1).
-fn levels_in_line(alloc: Global, material: &Material, whole: Span) -> Result<Vec<u8>, Memory>
+/// What a line's row is made of, in lists that are used for one line after the other.
+#[derive(Drop)]
+struct Lists {
+    parts: Vec<ShapeRun>,
+    /// The level of each code point.
+    levels: Vec<u8>,
+    pieces: Vec<ClusterRun>,
+}
+
+impl Lists {
+    /// Empty ones, with room for most lines of this width.
+    fn for_width(alloc: Global, width: u16) -> Result<Lists, Memory> {
+        let room = usize::from(width);
+        Ok(Lists {
+            parts: Vec::with_capacity(alloc, room)?,
+            levels: Vec::with_capacity(alloc, room)?,
+            pieces: Vec::with_capacity(alloc, room)?,
+        })
+    }
+}
+
+/// Puts the levels of a line's code points, which has this extent in the paragraph's text, into a list, in place of what it
+/// has (L1).
+fn levels_in_line(levels: &mut Vec<u8>, material: &Material, whole: Span) -> Result<(), Memory>
     requires classes { material.now.classes.items ≡ classes_of material.now.tables.now material.now.text.now }
     requires levels { length material.now.levels.items ≡ length (code_points material.now.text.now) }
     requires order { whole.first_place ≤ whole.end_place }
     requires within { whole.end_place ≤ length (code_points material.now.text.now) }
-    ensures { IfOk result (λ levels. levels.items ≡ levels_after_l1 material.now.para_level
+    ensures { OnOk result (levels.new.items ≡ levels_after_l1 material.now.para_level
         (slice_range (classes_of material.now.tables.now material.now.text.now) whole.first_place whole.end_place)
         (slice_range material.now.levels.items whole.first_place whole.end_place)) }
 {
-    levels_after_l1(
-        alloc,
-        &material.classes[whole.first_place as usize..whole.end_place as usize],
-        &material.levels[whole.first_place as usize..whole.end_place as usize],
-        material.para_level,
-    )
+    let first = whole.first_place as usize;
+    let end = whole.end_place as usize;
+    let classes = &material.classes[first..end];
+    let before = &material.levels[first..end];
+    levels_after_l1(levels, classes, before, material.para_level)
 }
 
 /// The row of the next line, counted from the paragraph's start. Its clusters are passed.
@@ -68,6 +90,7 @@ fn row_of(
     material: &Material,
     width: u16,
     cursor: &mut Cursor,
+    lists: &mut Lists,
     line: Line,
 ) -> Result<Row, Memory>
     requires width { width ≤ 500 }
@@ -84,11 +107,18 @@ fn row_of(
     ensures within { IfOk result (λ row. All IsWithin (left_of material.now.clusters.runs.items cursor.new)) }
 {
     let count = (line.end - line.start) as u32;
-    let parts = cursor.parts(alloc, &material.clusters.runs, count)?;
-    let whole = extent(&parts);
-    let levels = levels_in_line(alloc, material, whole)?;
-    let pieces = pieces_of(alloc, &parts, &levels, width)?;
-    Row::of_pieces(alloc, width, material.para_level, whole, count, &pieces)
+    cursor.parts(&mut lists.parts, &material.clusters.runs, count)?;
+    let whole = extent(&lists.parts);
+    levels_in_line(&mut lists.levels, material, whole)?;
+    cut_all(&mut lists.pieces, &lists.parts, &lists.levels, width)?;
+    Row::of_pieces(
+        alloc,
+        width,
+        material.para_level,
+        whole,
+        count,
+        &lists.pieces,
+    )
 }
 
 /// The rows of a paragraph's lines, from the top, counted from the paragraph's start.
@@ -117,8 +147,9 @@ fn rows_in(alloc: Global, material: &Material, width: u16) -> Result<Vec<Row>, M
     )?;
     let mut rows = Vec::with_capacity(alloc, lines.len())?;
     let mut cursor = Cursor::start();
+    let mut lists = Lists::for_width(alloc, width)?;
     for line in &lines {
-        rows.push(row_of(alloc, material, width, &mut cursor, *line)?)?;
+        rows.push(row_of(alloc, material, width, &mut cursor, &mut lists, *line)?)?;
     }
     Ok(rows)
 }

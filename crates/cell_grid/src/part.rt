@@ -1,6 +1,6 @@
 //! The parts of a paragraph's runs that its lines have.
 
-ghost use Rattle.std.specs.Prelude.{◌≡◌, ◌<◌, ◌≤◌, [], ◌∷◌, length, IfOk};
+ghost use Rattle.std.specs.Prelude.{◌≡◌, ◌<◌, ◌≤◌, [], ◌∷◌, length, OnOk};
 ghost use Rattle.std.specs.List.{All};
 ghost use Rattle.line_break.specs.Runs.{AllHaveSome};
 ghost use Rattle.cell_grid.specs.Parts.{behind, all_spans, IsWithin, left_of, AreParted};
@@ -9,7 +9,6 @@ ghost use Rattle.cell_grid.specs.Spans.{extent};
 use bg_types::Memory;
 use line_break::ShapeRun;
 use paragraphs::Span;
-use std::alloc::Global;
 
 /// How far a paragraph's runs are read.
 #[derive(Clone, Copy, Debug)]
@@ -86,30 +85,32 @@ impl Cursor {
         ShapeRun { count, ..run }
     }
 
-    /// The parts that the next so many clusters have, in order. They are passed.
+    /// Puts the parts that the next so many clusters have, in order, into a list, in place of what it has. They are passed.
+    /// Never inlined: as a part of its caller its loop would have fewer registers.
+    #[inline(never)]
     pub(crate) fn parts(
         &mut self,
-        alloc: Global,
+        parts: &mut Vec<ShapeRun>,
         runs: &[ShapeRun],
         clusters: u32,
-    ) -> Result<Vec<ShapeRun>, Memory>
+    ) -> Result<(), Memory>
         requires clusters { clusters ≤ length (all_spans (left_of runs.now self.old)) }
         requires runs { AllHaveSome runs.now }
         requires within { All IsWithin (left_of runs.now self.old) }
-        ensures parted { IfOk result (λ parts. AreParted (left_of runs.now self.old) parts.items (left_of runs.now self.new)) }
-        ensures count { IfOk result (λ parts. length (all_spans parts.items) ≡ clusters) }
-        ensures some { IfOk result (λ parts. AllHaveSome parts.items) }
-        ensures parts { IfOk result (λ parts. All IsWithin parts.items) }
+        ensures parted { OnOk result (AreParted (left_of runs.now self.old) parts.new.items (left_of runs.now self.new)) }
+        ensures count { OnOk result (length (all_spans parts.new.items) ≡ clusters) }
+        ensures some { OnOk result (AllHaveSome parts.new.items) }
+        ensures parts { OnOk result (All IsWithin parts.new.items) }
         ensures within { All IsWithin (left_of runs.now self.new) }
     {
-        let mut parts = Vec::new(alloc);
+        parts.clear();
         let mut left = clusters;
         while left > 0 {
             let part = self.next_part(runs, left);
             left -= part.count;
             parts.push(part)?;
         }
-        Ok(parts)
+        Ok(())
     }
 }
 

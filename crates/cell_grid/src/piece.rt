@@ -1,6 +1,6 @@
 //! The pieces of a line: runs of clusters that are alike in shape, level and columns.
 
-ghost use Rattle.std.specs.Prelude.{◌≡◌, ℕ, ◌*◌, ◌^◌, ◌<◌, ◌≤◌, length, sum, slice_index, IfOk};
+ghost use Rattle.std.specs.Prelude.{◌≡◌, ℕ, ◌*◌, ◌^◌, ◌<◌, ◌≤◌, length, sum, slice_index, IfOk, OnOk};
 ghost use Rattle.std.specs.List.{All};
 ghost use Rattle.reorder.specs.LineLevels.{group_firsts};
 ghost use Rattle.cell_grid.specs.Cuts.{AreFitting, IsFirstPiece, AreCut};
@@ -14,7 +14,6 @@ use crate::part::behind;
 use bg_types::Memory;
 use line_break::ShapeRun;
 use paragraphs::Span;
-use std::alloc::Global;
 
 /// How many clusters a piece has at most.
 const CLUSTERS: u32 = 65_536;
@@ -127,27 +126,29 @@ fn cut(
     Ok(left)
 }
 
-/// The pieces of a line that has these parts, in order, by the levels of its code points. Each cluster takes its columns
-/// while there is room; the first that does not fit and all later ones take 0.
-pub(crate) fn pieces_of(
-    alloc: Global,
+/// Puts the pieces of a line that has these parts, in order, by the levels of its code points, into a list, in place of what
+/// it has. Each cluster takes its columns while there is room; the first that does not fit and all later ones take 0.
+/// Never inlined: as a part of its caller its loops would have fewer registers.
+#[inline(never)]
+pub(crate) fn cut_all(
+    pieces: &mut Vec<ClusterRun>,
     parts: &[ShapeRun],
     levels: &[u8],
     width: u16,
-) -> Result<Vec<ClusterRun>, Memory>
+) -> Result<(), Memory>
     requires within { All IsWithin parts.now }
     requires levels { sum (all_sizes parts.now) ≡ length levels.now }
-    ensures spans { IfOk result (λ pieces. spans_of pieces.items ≡ all_spans parts.now) }
-    ensures levels { IfOk result (λ pieces. levels_of pieces.items ≡ group_firsts (all_sizes parts.now) levels.now) }
-    ensures columns { IfOk result (λ pieces. columns_of pieces.items ≡ hung width (all_columns parts.now)) }
-    ensures reach { IfOk result (λ pieces. All IsInReach pieces.items) }
+    ensures spans { OnOk result (spans_of pieces.new.items ≡ all_spans parts.now) }
+    ensures levels { OnOk result (levels_of pieces.new.items ≡ group_firsts (all_sizes parts.now) levels.now) }
+    ensures columns { OnOk result (columns_of pieces.new.items ≡ hung width (all_columns parts.now)) }
+    ensures reach { OnOk result (All IsInReach pieces.new.items) }
 {
-    let mut pieces = Vec::with_capacity(alloc, parts.len())?;
+    pieces.clear();
     let mut room = width;
     let mut place = 0usize;
     for part in parts {
-        room = cut(&mut pieces, *part, &levels[place..], room)?;
+        room = cut(pieces, *part, &levels[place..], room)?;
         place += (part.count * part.points) as usize;
     }
-    Ok(pieces)
+    Ok(())
 }

@@ -1,31 +1,11 @@
-//! The extent of clusters that follow one another, spans moved later in the text, and spans of one size in a row.
+//! Spans moved later in the text, and spans of one size in a row.
 
 ghost use Rattle.std.specs.Prelude.{◌≡◌, ◌*◌};
 ghost use Rattle.cell_grid.specs.Runs.{byte_count, point_count, span_after};
 ghost use Rattle.cell_grid.specs.Shifting.{StaysInReach};
-ghost use Rattle.cell_grid.specs.Spans.{extent, shifted_span};
+ghost use Rattle.cell_grid.specs.Spans.{shifted_span};
 
 use paragraphs::Span;
-
-/// The extent of clusters of a paragraph that follow one another. If there are none, the
-/// paragraph's start.
-pub(crate) fn extent(spans: &[Span]) -> Span
-    ensures { result ≡ extent spans.now }
-{
-    match (spans.first(), spans.last()) {
-        (Some(first), Some(last)) => Span {
-            end_byte: last.end_byte,
-            end_place: last.end_place,
-            ..*first
-        },
-        _ => Span {
-            first_byte: 0,
-            end_byte: 0,
-            first_place: 0,
-            end_place: 0,
-        },
-    }
-}
 
 /// The span this many bytes and places later.
 #[inline]

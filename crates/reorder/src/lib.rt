@@ -7,6 +7,6 @@ mod links;
 mod mirror;
 mod order;
 
-pub use line::{levels_after_l1, line_levels, line_levels_at};
+pub use line::{levels_after_l1, line_levels};
 pub use mirror::mirrored;
 pub use order::visual;

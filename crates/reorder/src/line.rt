@@ -1,6 +1,6 @@
 //! The levels of a line's code points and clusters: L1.
 
-ghost use Rattle.std.specs.Prelude.{◌≡◌, ◌<◌, length, sum, All, IfOk, ◌&&◌, ◌||◌};
+ghost use Rattle.std.specs.Prelude.{◌≡◌, ◌<◌, length, sum, All, IfOk, OnOk, ◌&&◌, ◌||◌};
 ghost use Rattle.std.specs.Str.{chars};
 ghost use Rattle.reorder.specs.LineLevels.{is_separator, is_run_class, levels_after_l1, group_firsts, line_levels_of};
 
@@ -30,18 +30,21 @@ fn is_reset(class: Bidi, follower_is_reset: bool) -> bool
     }
 }
 
-/// The level of each code point of a line after L1, by their classes and their levels before.
+/// Puts into a list, in place of what it has, the level of each code point of a line after L1, by their classes and their
+/// levels before. Never inlined: as a part of its caller its loop would have fewer registers.
 /// Cost: O(n), a byte of memory a code point.
+#[inline(never)]
 pub fn levels_after_l1(
-    alloc: Global,
+    after: &mut Vec<u8>,
     classes: &[Bidi],
     levels: &[u8],
     para_level: u8,
-) -> Result<Vec<u8>, Memory>
+) -> Result<(), Memory>
     requires { length levels.now ≡ length classes.now }
-    ensures { IfOk result (λ after. after.items ≡ levels_after_l1 para_level classes.now levels.now) }
+    ensures { OnOk result (after.new.items ≡ levels_after_l1 para_level classes.now levels.now) }
 {
-    let mut after = Vec::from_slice(alloc, levels)?;
+    after.clear();
+    after.extend_from_slice(levels)?;
     let mut resets = true;
     for place in (0..classes.len()).rev() {
         resets = is_reset(classes[place], resets);
@@ -49,7 +52,7 @@ pub fn levels_after_l1(
             after[place] = para_level;
         }
     }
-    Ok(after)
+    Ok(())
 }
 
 /// The first level of each group, of these sizes.
@@ -65,24 +68,6 @@ fn group_firsts(alloc: Global, levels: &[u8], sizes: &[u32]) -> Result<Vec<u8>, 
         start += *size as usize;
     }
     Ok(firsts)
-}
-
-/// What `line_levels` answers for a line whose code points have these classes.
-/// Cost: O(n), a byte of memory a code point and a cluster.
-pub fn line_levels_at(
-    alloc: Global,
-    classes: &[Bidi],
-    levels: &[u8],
-    sizes: &[u32],
-    para_level: u8,
-) -> Result<Vec<u8>, Memory>
-    requires each_code_point { length levels.now ≡ length classes.now }
-    requires positive { All (λ size. 0 < size) sizes.now }
-    requires whole { sum sizes.now ≡ length classes.now }
-    ensures { IfOk result (λ of_clusters. of_clusters.items ≡ group_firsts sizes.now (levels_after_l1 para_level classes.now levels.now)) }
-{
-    let after = levels_after_l1(alloc, classes, levels, para_level)?;
-    group_firsts(alloc, &after, sizes)
 }
 
 /// A level for each cluster of a line (UAX #9, L1): that of its first code point.
@@ -103,5 +88,7 @@ pub fn line_levels(
     ensures { IfOk result (λ of_clusters. of_clusters.items ≡ line_levels_of tables.now line.now levels.now sizes.now para_level) }
 {
     let classes = tables.bidi_of_text(alloc, line)?;
-    line_levels_at(alloc, &classes, levels, sizes, para_level)
+    let mut after = Vec::new(alloc);
+    levels_after_l1(&mut after, &classes, levels, para_level)?;
+    group_firsts(alloc, &after, sizes)
 }

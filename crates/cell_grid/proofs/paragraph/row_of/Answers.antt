@@ -1,5 +1,5 @@
 -- The row of a line that fits.
-use Rattle.std.proofs.Common.{◌≡◌, ℕ, ◌≤◌, List, length, sum, sym, ap, subst, ◌∙◌, arith}
+use Rattle.std.proofs.Common.{List, length, sum, sym, ap, subst, ◌∙◌, arith}
 use Rattle.std.proofs.lemmas.Result.{IfOk-weaker}
 use Rattle.line_break.specs.declared.run.ShapeRun.{ShapeRun}
 use Rattle.reorder.specs.LineLevels.{group_firsts}
@@ -22,23 +22,23 @@ parts-requires-clause-clusters c =
     let here = subst (λ (l : List ShapeRun). AreFrom m.tables.now m.text.now c.args.line.start (left_of l c.args.cursor.now)) (sym c.deref.ensures.value) c.requires.at_start in
     line-ahead m.tables.now m.text.now c.args.line left c.requires.line.within here
 
-pub pieces_of-requires-clause-levels : goal.pieces_of-requires-clause-levels
-pieces_of-requires-clause-levels c =
+pub cut_all-requires-clause-levels : goal.cut_all-requires-clause-levels
+cut_all-requires-clause-levels c =
     let m = c.args.material.now in
-    let parts = c.in_ok-parts.parts.items in
+    let parts = c.parts.new.parts.items in
     let here = subst (λ (l : List ShapeRun). AreFrom m.tables.now m.text.now c.args.line.start (left_of l c.args.cursor.now)) (sym c.deref.ensures.value) c.requires.at_start in
     let line = line-parts m.tables.now m.text.now c.args.line (left_of c.deref.result.now c.args.cursor.now) parts (left_of c.deref.result.now c.parts.new.self) c.requires.line.order here
     c.in_ok-parts.ensures.parted c.in_ok-parts.ensures.count in
     let at = c.extent-whole.ensures ∙ ap (λ (l : List ShapeRun). extent (all_spans l)) c.deref-2.ensures.value in
     ap (λ (l : List ShapeRun). sum (all_sizes l)) c.deref-3.ensures.value
-    ∙ after-long m.tables.now c.args.width m.para_level m.text.now m.levels.items c.args.line c.requires.line parts line c.extent-whole.result at c.in_ok-levels.levels.items c.requires.levels c.in_ok-levels.ensures
+    ∙ after-long m.tables.now c.args.width m.para_level m.text.now m.levels.items c.args.line c.requires.line parts line c.extent-whole.result at c.levels_in_line.new.levels.items c.requires.levels c.in_ok-levels_in_line.ensures
     ∙ sym (ap length c.deref-4.ensures.value)
 
 pub of_pieces-requires-clause-room : goal.of_pieces-requires-clause-room
 of_pieces-requires-clause-room c =
-    let pieces = c.in_ok-pieces.pieces.items in
-    let all = sum-columns c.in_ok-pieces.pieces.items in
-    let own = ap sum c.in_ok-pieces.ensures.columns in
+    let pieces = c.cut_all.new.pieces.items in
+    let all = sum-columns c.cut_all.new.pieces.items in
+    let own = ap sum c.in_ok-cut_all.ensures.columns in
     let fits = sum-hung c.args.width (all_columns c.deref-3.result.now) in
     let lent = ap runs_columns c.deref-5.ensures.value in
     omega arith
@@ -46,25 +46,25 @@ of_pieces-requires-clause-room c =
 pub returns-clause-row : goal.returns-clause-row
 returns-clause-row c =
     let m = c.args.material.now in
-    let parts = c.in_ok-parts.parts.items in
+    let parts = c.parts.new.parts.items in
     let here = subst (λ (l : List ShapeRun). AreFrom m.tables.now m.text.now c.args.line.start (left_of l c.args.cursor.now)) (sym c.deref.ensures.value) c.requires.at_start in
     let line = line-parts m.tables.now m.text.now c.args.line (left_of c.deref.result.now c.args.cursor.now) parts (left_of c.deref.result.now c.parts.new.self) c.requires.line.order here
     c.in_ok-parts.ensures.parted c.in_ok-parts.ensures.count in
     let at = c.extent-whole.ensures ∙ ap (λ (l : List ShapeRun). extent (all_spans l)) c.deref-2.ensures.value in
-    let same_spans = c.in_ok-pieces.ensures.spans ∙ ap all_spans c.deref-3.ensures.value in
-    let same_levels = c.in_ok-pieces.ensures.levels ∙ ap (λ (l : List ShapeRun). group_firsts (all_sizes l) c.deref-4.result.now) c.deref-3.ensures.value
-    ∙ ap (group_firsts (all_sizes c.in_ok-parts.parts.items)) c.deref-4.ensures.value in
-    let same_columns = c.in_ok-pieces.ensures.columns ∙ ap (λ (l : List ShapeRun). hung c.args.width (all_columns l)) c.deref-3.ensures.value in
+    let same_spans = c.in_ok-cut_all.ensures.spans ∙ ap all_spans c.deref-3.ensures.value in
+    let same_levels = c.in_ok-cut_all.ensures.levels ∙ ap (λ (l : List ShapeRun). group_firsts (all_sizes l) c.deref-4.result.now) c.deref-3.ensures.value
+    ∙ ap (group_firsts (all_sizes c.parts.new.parts.items)) c.deref-4.ensures.value in
+    let same_columns = c.in_ok-cut_all.ensures.columns ∙ ap (λ (l : List ShapeRun). hung c.args.width (all_columns l)) c.deref-3.ensures.value in
     IfOk-weaker c.of_pieces.result _ _
     (λ row e. e ∙ ap (λ (l : List ClusterRun). row_with c.args.width m.para_level (spans_of l) (levels_of l) (columns_of l)) c.deref-5.ensures.value
-    ∙ row-pieces m.tables.now c.args.width m.para_level m.text.now m.levels.items c.args.line c.requires.line parts line c.extent-whole.result at c.in_ok-levels.levels.items c.requires.levels
-    c.in_ok-levels.ensures c.in_ok-pieces.pieces.items same_spans same_levels same_columns)
+    ∙ row-pieces m.tables.now c.args.width m.para_level m.text.now m.levels.items c.args.line c.requires.line parts line c.extent-whole.result at c.levels_in_line.new.levels.items c.requires.levels
+    c.in_ok-levels_in_line.ensures c.cut_all.new.pieces.items same_spans same_levels same_columns)
     c.of_pieces.ensures
 
 pub returns-clause-at_end : goal.returns-clause-at_end
 returns-clause-at_end c =
     let m = c.args.material.now in
-    let parts = c.in_ok-parts.parts.items in
+    let parts = c.parts.new.parts.items in
     let here = subst (λ (l : List ShapeRun). AreFrom m.tables.now m.text.now c.args.line.start (left_of l c.args.cursor.now)) (sym c.deref.ensures.value) c.requires.at_start in
     let later = line-later m.tables.now m.text.now c.args.line (left_of c.deref.result.now c.args.cursor.now) parts (left_of c.deref.result.now c.parts.new.self) c.requires.line.order here
     c.in_ok-parts.ensures.parted c.in_ok-parts.ensures.count in

@@ -1,5 +1,5 @@
 -- One piece more.
-use Rattle.std.proofs.Common.{◌≡◌, ◌*◌, ◌≤◌, length, refl, sym, ap, subst, ◌∙◌, arith}
+use Rattle.std.proofs.Common.{◌*◌, refl, arith}
 use Rattle.std.proofs.lemmas.Nat.{mul-le}
 use Rattle.cell_grid.proofs.PieceCuts.{cutting-next, cutting-end}
 use Rattle.cell_grid.proofs.Steps.{slice-end}

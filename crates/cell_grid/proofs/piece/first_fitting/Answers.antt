@@ -1,5 +1,5 @@
 -- All that fit, or none.
-use Rattle.std.proofs.Common.{◌≡◌, ◌*◌, ◌/◌, ◌<◌, min, refl, ap, ◌∙◌, arith}
+use Rattle.std.proofs.Common.{◌*◌, ◌/◌, ◌<◌, min, refl, ap, ◌∙◌, arith}
 use Rattle.cell_grid.proofs.PieceCuts.{fitting-own, fitting-some, fitting-none}
 use Rattle.cell_grid.proofs.piece.first_fitting.Goals as goal
 

@@ -1,11 +1,10 @@
 -- Each piece in its turn.
-use Rattle.std.proofs.Common.{◌≡◌, ℕ, ◌<◌, ◌++◌, ◌∷◌, [], List, length, map, take, get_or, refl, sym, ap, subst, ◌∙◌, arith}
+use Rattle.std.proofs.Common.{◌<◌, ◌++◌, ◌∷◌, [], length, map, take, get_or, refl, sym, ap, subst, ◌∙◌, arith}
 use Rattle.std.proofs.lemmas.List.{map-append, length-map}
 use Rattle.std.proofs.lemmas.List.Elements.{All-same}
-use Rattle.std.specs.List.{All}
 use Rattle.reorder.specs.VisualList.{visual_list}
 use Rattle.cell_grid.specs.declared.cluster_run.ClusterRun.{ClusterRun}
-use Rattle.cell_grid.specs.Pieces.{no_piece, piece_at}
+use Rattle.cell_grid.specs.Pieces.{piece_at}
 use Rattle.cell_grid.proofs.Sides.{order-below}
 use Rattle.cell_grid.proofs.Steps.{take-next, take-whole}
 use Rattle.cell_grid.proofs.runs.arranged.Goals as goal

@@ -1,5 +1,5 @@
 -- Each group in its turn.
-use Rattle.std.proofs.Common.{◌≡◌, ◌++◌, refl, drop, ap, sym, ◌∙◌, arith, append-nil}
+use Rattle.std.proofs.Common.{◌++◌, refl, drop, ap, sym, ◌∙◌, arith, append-nil}
 use Rattle.std.proofs.lemmas.List.{drop_all}
 use Rattle.reorder.specs.LineLevels.{group_firsts}
 use Rattle.reorder.proofs.L1.{firsts-on, start-within}

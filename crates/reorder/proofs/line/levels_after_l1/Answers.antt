@@ -1,5 +1,5 @@
 -- Each code point in its turn, from the last.
-use Rattle.std.proofs.Common.{◌≡◌, ◌+◌, ◌-◌, ◌++◌, ◌∙◌, refl, ap, sym, subst, length, take, drop, arith}
+use Rattle.std.proofs.Common.{◌≡◌, ◌+◌, ◌-◌, ◌++◌, ◌∙◌, ap, sym, subst, length, take, drop, arith}
 use Rattle.std.proofs.lemmas.List.{take_all, drop_all, append-nil}
 use Rattle.bg_types.specs.declared.class.Bidi.TheVariants.{L}
 use Rattle.reorder.specs.LineLevels.{begins_reset, levels_after_l1}
@@ -11,10 +11,10 @@ loop-place-init c =
     let n = length c.args.classes.now in
     let cs = drop_all n c.args.classes.now (omega arith) in
     record {
-      len = c.in_ok-after.ensures.len ∙ c.requires;
+      len = (let all = c.in_ok-extend_from_slice.ensures.len in let none = c.clear.ensures.len in let same = c.requires in omega arith);
       done = record {
         resets = sym (ap begins_reset cs);
-        is = c.in_ok-after.ensures.items ∙ sym (append-nil c.args.levels.now)
+        is = c.in_ok-extend_from_slice.ensures.items ∙ ap (λ l. l ++ c.args.levels.now) c.clear.ensures.items ∙ sym (append-nil c.args.levels.now)
             ∙ ap (λ l. c.args.levels.now ++ levels_after_l1 c.args.para_level l (drop n c.args.levels.now)) (sym cs)
             ∙ ap (λ l. l ++ reset_from c.args.para_level c.args.classes.now c.args.levels.now n) (sym (take_all n c.args.levels.now (omega arith)));
       };

@@ -1,7 +1,7 @@
 -- The next run is there, and goes on where the one before it ended.
 use Rattle.std.proofs.Common.{get_or, refl}
 use Rattle.line_break.specs.declared.run.ShapeRun.{ShapeRun}
-use Rattle.cell_grid.proofs.Cutting.{next-there, parted-next, parted-same, within-next}
+use Rattle.cell_grid.proofs.Cutting.{next-there, within-next}
 use Rattle.cell_grid.proofs.part.Cursor.begin.Goals as goal
 
 abbrev none : ShapeRun

@@ -1,8 +1,8 @@
 -- The first clusters of what is left.
-use Rattle.std.proofs.Common.{◌≤◌, ◌∷◌, [], List, sym, subst, drop, arith}
+use Rattle.std.proofs.Common.{◌∷◌, [], sym, subst, drop, arith}
 use Rattle.std.proofs.lemmas.List.Elements.{All-head, All-tail, All-cons}
 use Rattle.line_break.specs.declared.run.ShapeRun.{ShapeRun}
-use Rattle.cell_grid.specs.Parts.{front, behind, IsWithin, left_of, AreParted}
+use Rattle.cell_grid.specs.Parts.{front, IsWithin, left_of, AreParted}
 use Rattle.cell_grid.proofs.Cutting.{front-within, behind-within, parted-cut, parted-then}
 use Rattle.cell_grid.proofs.part.Cursor.next_part.Goals as goal
 

@@ -1,5 +1,5 @@
 -- One part more.
-use Rattle.std.proofs.Common.{◌≡◌, ◌+◌, ◌-◌, ◌<◌, ◌≤◌, ◌∷◌, [], ◌++◌, List, length, refl, sym, ap, subst, ◌∙◌, arith}
+use Rattle.std.proofs.Common.{◌<◌, ◌∷◌, [], ◌++◌, List, length, refl, sym, ap, subst, ◌∙◌, arith}
 use Rattle.std.proofs.lemmas.List.Elements.{All-nil, All-push, All-same}
 use Rattle.line_break.specs.declared.run.ShapeRun.{ShapeRun}
 use Rattle.cell_grid.specs.Parts.{all_spans, IsWithin, left_of, AreParted}
@@ -9,14 +9,14 @@ use Rattle.cell_grid.proofs.part.Cursor.parts.Goals as goal
 pub loop-left-init : goal.loop-left-init
 loop-left-init c =
     let start = left_of c.args.runs.now c.args.self.now in
-    let none = c.new-parts.ensures.items in
-    let no_part = ap (λ (l : List ShapeRun). length (all_spans l)) c.new-parts.ensures.items in
+    let none = c.clear.ensures.items in
+    let no_part = ap (λ (l : List ShapeRun). length (all_spans l)) c.clear.ensures.items in
     record {
       parted = subst (λ (l : List ShapeRun). AreParted start l start) (sym none) (parted-same start start refl);
       count = omega arith;
       ahead = c.requires.clusters;
-      some = All-same (λ (r : ShapeRun). 0 < r.count) c.new-parts.result.items [] none (All-nil (λ (r : ShapeRun). 0 < r.count));
-      parts = All-same IsWithin c.new-parts.result.items [] none (All-nil IsWithin);
+      some = All-same (λ (r : ShapeRun). 0 < r.count) c.clear.new.self.items [] none (All-nil (λ (r : ShapeRun). 0 < r.count));
+      parts = All-same IsWithin c.clear.new.self.items [] none (All-nil IsWithin);
       within = c.requires.within;
     }
 

@@ -1,6 +1,6 @@
 -- The runs are the pieces from left to right.
-use Rattle.std.proofs.Common.{◌≡◌, ◌+◌, ◌≤◌, sym, ◌∙◌, arith}
-use Rattle.cell_grid.specs.Pieces.{spans_of, columns_of}
+use Rattle.std.proofs.Common.{arith}
+use Rattle.cell_grid.specs.Pieces.{columns_of}
 use Rattle.cell_grid.proofs.PieceCuts.{sum-columns}
 use Rattle.cell_grid.proofs.PieceEntries.{length-spans, few-pieces}
 use Rattle.cell_grid.proofs.PieceRows.{kept-arranged, row-arranged}

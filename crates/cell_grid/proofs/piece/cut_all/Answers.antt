@@ -4,7 +4,7 @@ use Rattle.line_break.specs.declared.run.ShapeRun.{ShapeRun}
 use Rattle.cell_grid.specs.Cuts.{AreCut}
 use Rattle.cell_grid.proofs.PieceCuts.{joint-on}
 use Rattle.cell_grid.proofs.Steps.{slice-end}
-use Rattle.cell_grid.proofs.piece.pieces_of.Goals as goal
+use Rattle.cell_grid.proofs.piece.cut_all.Goals as goal
 
 abbrev none : ShapeRun
 none = record { first_byte = 0; first_place = 0; count = 0; bytes = 0; points = 0; columns = 0 }
