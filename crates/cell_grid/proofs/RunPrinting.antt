@@ -1,19 +1,21 @@
 -- What a run prints.
-use Rattle.std.proofs.Common.{◌≡◌, ℕ, zero, suc, ◌+◌, ◌-◌, ◌*◌, ◌^◌, ◌<◌, ◌≤◌, ◌%◌, Bool, false, cond, ◌||◌, List, [], ◌∷◌, ◌++◌, map, length, take, drop, get_or, slice_range, flat_map, refl, sym, ap, subst, ◌∙◌, arith, append-nil, mul-le-mul_right}
+use Rattle.std.proofs.Common.{◌≡◌, ℕ, zero, suc, ◌+◌, ◌-◌, ◌*◌, ◌^◌, ◌<◌, ◌≤◌, ◌%◌, Bool, true, false, cond, ◌||◌, true≢false, Option, Some, None, List, [], ◌∷◌, ◌++◌, map, length, take, drop, get_or, slice_range, flat_map, refl, sym, ap, subst, ◌∙◌, arith, append-nil, mul-le-mul_right}
 use Rattle.std.proofs.lemmas.Bool.{or_parts, ne_eqb}
 use Rattle.std.proofs.lemmas.List.Concat.{flat_map-append, flat_map-cons}
 use Rattle.std.proofs.lemmas.List.Folds.{list_any-append}
 use Rattle.std.proofs.lemmas.List.FromFn.{length-map-range_with_len, get_or-map-range_with_len, map-range_with_len_more}
 use Rattle.std.proofs.lemmas.List.Sums.{get_or-le-sum_by}
-use Rattle.std.proofs.lemmas.Str.{IsUtf8-between, chars-append}
+use Rattle.std.proofs.lemmas.Str.{IsUtf8-between, chars-append, encodes-chars}
 use Rattle.std.specs.List.{All, list_any, range_with_len}
+use Rattle.std.specs.Prelude.{encode_utf8_all, is_some, unwrap_or}
 use Rattle.std.specs.Str.{IsUtf8, IsCharBoundary}
-use Rattle.unicode_tables.specs.Tables.{TableValues}
+use Rattle.unicode_tables.specs.Tables.{TableValues, mirror_of}
 use Rattle.paragraphs.specs.Text.{code_points}
+use Rattle.reorder.specs.Mirrored.{mirrored_of}
 use Rattle.reorder.specs.VisualList.{is_odd}
 use Rattle.cell_grid.specs.declared.cluster_run.ClusterRun.{ClusterRun}
 use Rattle.cell_grid.specs.declared.entry.Entry.{Entry}
-use Rattle.cell_grid.specs.Print.{separates_segments, begins_with_tab, own_text, run_text}
+use Rattle.cell_grid.specs.Print.{separates_segments, is_replaced, begins_with_tab, mirrored_text, slice_of, own_text, run_slices, run_text}
 use Rattle.cell_grid.specs.Printable.{IsSlice, IsPrintable}
 use Rattle.cell_grid.specs.Runs.{byte_count, span_after, cluster_count, cluster_from_left, run_entry, run_entries, run_columns, runs_columns, runs_entries, IsInReach}
 use Rattle.cell_grid.proofs.Alone.{none-after}
@@ -99,11 +101,74 @@ module _ (text : List ℕ) (r : ClusterRun) (h : IsPrintable text r) where
   pub run-order : r.span.first_byte ≤ (span_after r.further r.span).end_byte
   run-order = let order = first-slice.order in omega arith
 
--- ---- a run that prints its slice of the text
+-- ---- the clusters of a run of an even level
+
+module _ (text : List ℕ) (r : ClusterRun) (h : IsPrintable text r) (even : r.level % 2 ≡ 0) where
+  not-odd : is_odd r.level ≡ false
+  not-odd = ne_eqb (r.level % 2) 1 (λ one. let two = even in absurd (omega arith))
+
+  -- each stands where it does in the text
+  cluster-slice : (k : ℕ) → slice_of text (run_entry 0 r k).span ≡ slice_range text (r.span.first_byte + k * byte_count r.span) (r.span.first_byte + (k + 1) * byte_count r.span)
+  cluster-slice k =
+      ap (λ b. slice_of text (span_after (cond b (r.further - k) k) r.span)) not-odd
+      ∙ ap (slice_range text (r.span.first_byte + k * byte_count r.span)) (ends-next text r h k)
+
+  slices-upto : (n : ℕ)
+      → flat_map (λ (e : Entry). slice_of text e.span) (map (run_entry 0 r) (range_with_len 0 n)) ≡ slice_range text r.span.first_byte (r.span.first_byte + n * byte_count r.span)
+  slices-upto zero =
+      let e : r.span.first_byte + 0 * byte_count r.span - r.span.first_byte ≡ 0 = none-upto r.span.first_byte (byte_count r.span) in
+      ap (λ k. take k (drop r.span.first_byte text)) (sym e)
+  slices-upto (suc n) =
+      let f : Entry → List ℕ = λ e. slice_of text e.span in
+      let size = byte_count r.span in
+      let from = r.span.first_byte in
+      let e : suc n ≡ n + 1 = omega arith in
+      let low = some-upto from n size in
+      let high = one-upto from n size in
+      ap (λ k. flat_map f (map (run_entry 0 r) (range_with_len 0 k))) e
+      ∙ ap (flat_map f) (map-range_with_len_more (run_entry 0 r) 0 n n (omega arith))
+      ∙ flat_map-append f (map (run_entry 0 r) (range_with_len 0 n)) (run_entry 0 r n ∷ [])
+      ∙ ap (λ t. t ++ flat_map f (run_entry 0 r n ∷ [])) (slices-upto n)
+      ∙ ap (λ t. slice_range text from (from + n * size) ++ t) (flat_map-cons f (run_entry 0 r n) [] ∙ append-nil (f (run_entry 0 r n)) ∙ cluster-slice n)
+      ∙ sym (slice-parts text from (from + n * size) (from + (n + 1) * size) low high)
+      ∙ ap (λ k. slice_range text from (from + k * size)) (sym e)
+
+  pub slices-text : run_slices text r ≡ slice_range text r.span.first_byte (span_after r.further r.span).end_byte
+  slices-text = slices-upto (cluster_count r) ∙ ap (slice_range text r.span.first_byte) (sym (ends-next text r h r.further))
+
+-- ---- a run whose clusters print what stands in the text
 
 begins-none : (tables : TableValues) (points : List ℕ) → list_any (separates_segments tables) points ≡ false → begins_with_tab tables points ≡ false
 begins-none tables [] none = refl
 begins-none tables (c ∷ rest) none = (or_parts (separates_segments tables c) (list_any (separates_segments tables) rest) none).0
+
+-- a code point without a mirror is its own
+unwrap-none : (o : Option ℕ) (c : ℕ) → is_some o ≡ false → unwrap_or o c ≡ c
+unwrap-none None c none = refl
+unwrap-none (Some m) c none = absurd (true≢false none)
+
+either-own : (b : Bool) (x c : ℕ) → x ≡ c → cond b x c ≡ c
+either-own true x c e = e
+either-own false x c e = refl
+
+-- among code points that are not replaced there is no tab
+kept-tab : (tables : TableValues) (points : List ℕ) → list_any (is_replaced tables) points ≡ false → begins_with_tab tables points ≡ false
+kept-tab tables [] none = refl
+kept-tab tables (c ∷ rest) none =
+    (or_parts (separates_segments tables c) (is_some (mirror_of tables c)) (or_parts (is_replaced tables c) (list_any (is_replaced tables) rest) none).0).0
+
+-- and each is shown at any level
+kept-points : (tables : TableValues) (level : ℕ) (points : List ℕ) → list_any (is_replaced tables) points ≡ false → map (λ c. mirrored_of tables c level) points ≡ points
+kept-points tables level [] none = refl
+kept-points tables level (c ∷ rest) none =
+    let parts = or_parts (is_replaced tables c) (list_any (is_replaced tables) rest) none in
+    let alone = (or_parts (separates_segments tables c) (is_some (mirror_of tables c)) parts.0).1 in
+    ap (λ x. x ∷ map (λ c. mirrored_of tables c level) rest)
+    (either-own (is_odd level) (unwrap_or (mirror_of tables c) c) c (unwrap-none (mirror_of tables c) c alone))
+    ∙ ap (λ l. c ∷ l) (kept-points tables level rest parts.1)
+
+kept-text : (tables : TableValues) (level : ℕ) (bytes : List ℕ) → IsUtf8 bytes → list_any (is_replaced tables) (code_points bytes) ≡ false → mirrored_text tables level (code_points bytes) ≡ bytes
+kept-text tables level bytes u none = ap encode_utf8_all (kept-points tables level (code_points bytes) none) ∙ encodes-chars bytes u
 
 module _ (text : List ℕ) (u : IsUtf8 text) (p : ℕ → Bool) where
   -- what no code point of a stretch has, none of a part of it has
@@ -120,50 +185,60 @@ module _ (text : List ℕ) (u : IsUtf8 text) (p : ℕ → Bool) where
       let later = or_parts (list_any p (code_points front)) (list_any p (code_points part) || list_any p (code_points back)) (sym tests) in
       (or_parts (list_any p (code_points part)) (list_any p (code_points back)) later.1).0
 
-module _ (tables : TableValues) (text : List ℕ) (r : ClusterRun) (h : IsPrintable text r) (u : IsUtf8 text) (even : r.level % 2 ≡ 0) (some : 0 < r.columns)
-    (none : list_any (separates_segments tables) (code_points (slice_range text r.span.first_byte (span_after r.further r.span).end_byte)) ≡ false) where
-  not-odd : is_odd r.level ≡ false
-  not-odd = ne_eqb (r.level % 2) 1 (λ one. let two = even in absurd (omega arith))
+module _ (tables : TableValues) (text : List ℕ) (r : ClusterRun) (h : IsPrintable text r) (u : IsUtf8 text) (some : 0 < r.columns) where
+  module _ (p : ℕ → Bool) (none : list_any p (code_points (slice_range text r.span.first_byte (span_after r.further r.span).end_byte)) ≡ false) where
+    -- what no code point of the run has, none of a cluster has
+    cluster-none : (number : ℕ) → number ≤ r.further → list_any p (code_points (slice_of text (span_after number r.span))) ≡ false
+    cluster-none number le =
+        let size = byte_count r.span in
+        let from = r.span.first_byte + number * size in
+        let to = r.span.end_byte + number * size in
+        let here = h.slices number le in
+        let first = first-slice text r h in
+        let last = last-slice text r h in
+        let low = some-upto r.span.first_byte number size in
+        let high : to ≤ r.span.end_byte + r.further * size = (let more = mul-le-mul_right size le in omega arith) in
+        part-none text u p r.span.first_byte from to (r.span.end_byte + r.further * size) low here.order high first.start here.start here.end last.end none
 
-  -- each of its entries prints the slice of its cluster
-  cluster-text : (k : ℕ) → k ≤ r.further → own_text tables text (run_entry 0 r k) ≡ slice_range text (r.span.first_byte + k * byte_count r.span) (r.span.first_byte + (k + 1) * byte_count r.span)
-  cluster-text k le =
-      let size = byte_count r.span in
-      let from = r.span.first_byte + k * size in
-      let to = r.span.end_byte + k * size in
-      let here = h.slices k le in
-      let first = first-slice text r h in
-      let last = last-slice text r h in
-      let low = some-upto r.span.first_byte k size in
-      let high : to ≤ r.span.end_byte + r.further * size = (let more = mul-le-mul_right size le in omega arith) in
-      let bytes = slice_range text from to in
-      let utf8 = IsUtf8-between text from to u here.order here.start here.end in
-      let tab =
-      begins-none tables (code_points bytes)
-      (part-none text u (separates_segments tables) r.span.first_byte from to (r.span.end_byte + r.further * size) low here.order high first.start here.start here.end last.end none) in
-      let e : Entry = record { span = span_after k r.span; column = 0 + k * r.columns; level = r.level; columns = r.columns } in
-      ap (λ c. own_text tables text (record { span = span_after c r.span; column = 0 + k * r.columns; level = r.level; columns = r.columns })) (ap (λ b. cond b (r.further - k) k) not-odd)
-      ∙ own-slice tables text e some tab (even-text tables r.level bytes even utf8)
-      ∙ ap (slice_range text from) (ends-next text r h k)
+  cluster-utf8 : (number : ℕ) → number ≤ r.further → IsUtf8 (slice_of text (span_after number r.span))
+  cluster-utf8 number le =
+      let here = h.slices number le in
+      IsUtf8-between text (span_after number r.span).first_byte (span_after number r.span).end_byte u here.order here.start here.end
 
-  text-upto : (n : ℕ) → n ≤ cluster_count r → flat_map (own_text tables text) (map (run_entry 0 r) (range_with_len 0 n)) ≡ slice_range text r.span.first_byte (r.span.first_byte + n * byte_count r.span)
-  text-upto zero le =
-      let e : r.span.first_byte + 0 * byte_count r.span - r.span.first_byte ≡ 0 = none-upto r.span.first_byte (byte_count r.span) in
-      ap (λ k. take k (drop r.span.first_byte text)) (sym e)
-  text-upto (suc n) le =
+  each-same : ((k : ℕ) → k ≤ r.further → own_text tables text (run_entry 0 r k) ≡ slice_of text (run_entry 0 r k).span) → (from n : ℕ) → from + n ≤ cluster_count r
+      → flat_map (own_text tables text) (map (run_entry 0 r) (range_with_len from n)) ≡ flat_map (λ (e : Entry). slice_of text e.span) (map (run_entry 0 r) (range_with_len from n))
+  each-same same from zero le = refl
+  each-same same from (suc n) le =
       let f = own_text tables text in
-      let size = byte_count r.span in
-      let from = r.span.first_byte in
-      let e : suc n ≡ n + 1 = omega arith in
-      let low = some-upto from n size in
-      let high = one-upto from n size in
-      ap (λ k. flat_map f (map (run_entry 0 r) (range_with_len 0 k))) e
-      ∙ ap (flat_map f) (map-range_with_len_more (run_entry 0 r) 0 n n (omega arith))
-      ∙ flat_map-append f (map (run_entry 0 r) (range_with_len 0 n)) (run_entry 0 r n ∷ [])
-      ∙ ap (λ t. t ++ flat_map f (run_entry 0 r n ∷ [])) (text-upto n (omega arith))
-      ∙ ap (λ t. slice_range text from (from + n * size) ++ t) (flat_map-cons f (run_entry 0 r n) [] ∙ append-nil (f (run_entry 0 r n)) ∙ cluster-text n (omega arith))
-      ∙ sym (slice-parts text from (from + n * size) (from + (n + 1) * size) low high)
-      ∙ ap (λ k. slice_range text from (from + k * size)) (sym e)
+      let g : Entry → List ℕ = λ e. slice_of text e.span in
+      let later = map (run_entry 0 r) (range_with_len (from + 1) n) in
+      flat_map-cons f (run_entry 0 r from) later
+      ∙ ap (λ t. t ++ flat_map f later) (same from (omega arith))
+      ∙ ap (λ t. g (run_entry 0 r from) ++ t) (each-same same (from + 1) n (omega arith))
+      ∙ sym (flat_map-cons g (run_entry 0 r from) later)
 
-  pub slice-text : run_text tables text r ≡ slice_range text r.span.first_byte (span_after r.further r.span).end_byte
-  slice-text = text-upto (cluster_count r) (omega arith) ∙ ap (slice_range text r.span.first_byte) (sym (ends-next text r h r.further))
+  -- no tab is in it, and nothing is mirrored at its level
+  pub even-clusters : r.level % 2 ≡ 0 → list_any (separates_segments tables) (code_points (slice_range text r.span.first_byte (span_after r.further r.span).end_byte)) ≡ false
+      → run_text tables text r ≡ run_slices text r
+  even-clusters even none =
+      each-same
+      (λ k le.
+      let number = cluster_from_left r k in
+      let within = from_left-within r k le in
+      let bytes = slice_of text (span_after number r.span) in
+      own-slice tables text (run_entry 0 r k) some (begins-none tables (code_points bytes) (cluster-none (separates_segments tables) none number within))
+      (even-text tables r.level bytes even (cluster-utf8 number within)))
+      0 (cluster_count r) (omega arith)
+
+  -- nothing in it is ever replaced
+  pub kept-clusters : list_any (is_replaced tables) (code_points (slice_range text r.span.first_byte (span_after r.further r.span).end_byte)) ≡ false
+      → run_text tables text r ≡ run_slices text r
+  kept-clusters none =
+      each-same
+      (λ k le.
+      let number = cluster_from_left r k in
+      let within = from_left-within r k le in
+      let bytes = slice_of text (span_after number r.span) in
+      let kept = cluster-none (is_replaced tables) none number within in
+      own-slice tables text (run_entry 0 r k) some (kept-tab tables (code_points bytes) kept) (kept-text tables r.level bytes (cluster-utf8 number within) kept))
+      0 (cluster_count r) (omega arith)

@@ -1,11 +1,12 @@
 -- Print of a grid: the cells' texts, each row ended by one LF.
-use Rattle.std.specs.Prelude.{ℕ, zero, suc, Bool, true, false, List, [], ◌∷◌, ◌++◌, map, length, replicate, slice_get, slice_range, Option, Some, None, encode_utf8_all, if◌then◌else◌}
+use Rattle.std.specs.Prelude.{ℕ, ◌||◌, zero, suc, Bool, true, false, List, [], ◌∷◌, ◌++◌, map, length, replicate, slice_get, slice_range, Option, Some, None, is_some, encode_utf8_all, if◌then◌else◌}
 use Rattle.std.specs.List.{flat_map}
 use Rattle.std.specs.Option.{option_map_or}
 use Rattle.bg_types.specs.declared.class.Base.{Base}
 use Rattle.bg_types.specs.declared.class.Bidi.{Bidi}
 use Rattle.bg_types.specs.declared.class.Bidi.TheVariants.{S}
-use Rattle.unicode_tables.specs.Tables.{TableValues, bidi_of}
+use Rattle.unicode_tables.specs.Tables.{TableValues, bidi_of, mirror_of}
+use Rattle.paragraphs.specs.declared.span.Span.{Span}
 use Rattle.paragraphs.specs.Text.{code_points}
 use Rattle.reorder.specs.Mirrored.{mirrored_of}
 use Rattle.cell_grid.specs.declared.cluster_run.ClusterRun.{ClusterRun}
@@ -25,7 +26,11 @@ is_segment_separator _ = false
 abbrev pub separates_segments : TableValues → ℕ → Bool
 separates_segments tables c = is_segment_separator (bidi_of tables c)
 
--- the first of these code points does
+-- a code point may be shown by others: it separates segments, or has a mirror (UAX #9, L4)
+abbrev pub is_replaced : TableValues → ℕ → Bool
+is_replaced tables c = separates_segments tables c || is_some (mirror_of tables c)
+
+-- the first of these code points separates segments
 abbrev pub begins_with_tab : TableValues → List ℕ → Bool
 begins_with_tab tables [] = false
 begins_with_tab tables (c ∷ rest) = separates_segments tables c
@@ -38,6 +43,10 @@ mirrored_text tables level cluster = encode_utf8_all (map (λ c. mirrored_of tab
 abbrev pub cluster_text : TableValues → (level columns : ℕ) → List ℕ → List ℕ
 cluster_text tables level columns cluster =
     if begins_with_tab tables cluster then replicate columns 32 else mirrored_text tables level cluster
+
+-- what stands at a span
+abbrev pub slice_of : List ℕ → Span → List ℕ
+slice_of text s = slice_range text s.first_byte s.end_byte
 
 -- the code points of an entry's cluster
 abbrev pub cluster_of : List ℕ → Entry → List ℕ
@@ -59,6 +68,10 @@ own_text tables text e = text_over e.columns (entry_text tables text (Some e))
 -- what the cells of a run's entries print, in whichever column it begins
 abbrev pub run_text : TableValues → (text : List ℕ) → ClusterRun → List ℕ
 run_text tables text r = flat_map (own_text tables text) (run_entries 0 r)
+
+-- the clusters of a run as they stand in the text, from the left
+abbrev pub run_slices : (text : List ℕ) → ClusterRun → List ℕ
+run_slices text r = flat_map (λ (e : Entry). slice_of text e.span) (run_entries 0 r)
 
 -- how many bytes the cells of each entry of a row print, from the left
 abbrev pub own_sizes : TableValues → (text : List ℕ) → DrawnRow → List ℕ

@@ -26,6 +26,26 @@ pub(crate) fn hold_text<W: Sink>(text: &str, held: &mut Held, sink: &mut W) -> R
     put_all(sink, text.as_bytes())
 }
 
+/// Prints a text of a few bytes behind what is held.
+pub(crate) fn hold_few<W: Sink>(text: &str, held: &mut Held, sink: &mut W) -> Result<(), Device>
+    requires working { W.has_failed sink.old ≡ false }
+    ensures ok { OnOk result (AppendsAllBut (W.written sink.old) (W.written sink.new) (held.old.bytes ++ text.now) held.new.bytes) }
+    ensures err { OnErr result (AppendsBeginning (W.written sink.old) (W.written sink.new) (held.old.bytes ++ text.now)) }
+    ensures failed { W.has_failed sink.new ≡ is_err result }
+{
+    if text.len() > held.remaining_capacity() {
+        return hold_text(text, held, sink);
+    }
+    // To copy so many bytes as are known beforehand takes no call.
+    match text.len() {
+        1 => held.push_str(&text[..1]),
+        2 => held.push_str(&text[..2]),
+        4 => held.push_str(&text[..4]),
+        _ => held.push_str(text),
+    }
+    Ok(())
+}
+
 /// Prints a character behind what is held.
 pub(crate) fn hold_char<W: Sink>(c: char, held: &mut Held, sink: &mut W) -> Result<(), Device>
     requires working { W.has_failed sink.old ≡ false }

@@ -10,7 +10,7 @@ use crate::cluster_run::ClusterRun;
 use crate::entry::Entry;
 use crate::grid::Grid;
 use crate::laws_below::laws_below;
-use crate::printed::{begins_with_tab, prints_its_slice};
+use crate::printed::{begins_with_tab, prints_its_clusters};
 use crate::row::Row;
 use bg_types::Memory;
 use reorder::mirrored;
@@ -59,7 +59,7 @@ fn run_size(tables: &Tables, text: &str, run: &ClusterRun) -> Result<usize, Memo
     requires { IsPrintable text.now run.now }
     ensures { IfOk result (λ size. size ≡ length (run_text tables.now text.now run.now)) }
 {
-    if prints_its_slice(tables, text, run) {
+    if prints_its_clusters(tables, text, run) {
         let last = run.cluster(run.further);
         return Ok(last.end_byte as usize - run.span.first_byte as usize);
     }

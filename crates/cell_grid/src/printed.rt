@@ -7,14 +7,14 @@ ghost use Rattle.std.specs.Str.{IsCharBoundary};
 ghost use Rattle.bg_types.specs.Sink.{AppendsBeginning};
 ghost use Rattle.paragraphs.specs.Text.{code_points};
 ghost use Rattle.cell_grid.specs.Held.{AppendsAllBut};
-ghost use Rattle.cell_grid.specs.Print.{is_segment_separator, separates_segments, begins_with_tab, mirrored_text, own_text, run_text, row_text, printed, printed_row};
+ghost use Rattle.cell_grid.specs.Print.{is_segment_separator, separates_segments, is_replaced, begins_with_tab, mirrored_text, own_text, run_slices, run_text, row_text, printed, printed_row};
 ghost use Rattle.cell_grid.specs.Printable.{IsSlice, IsPrintable};
 ghost use Rattle.cell_grid.specs.Runs.{span_after};
 
 use crate::cluster_run::ClusterRun;
 use crate::entry::Entry;
 use crate::grid::Grid;
-use crate::held::{Held, hold_char, hold_spaces, hold_text, let_go};
+use crate::held::{Held, hold_char, hold_few, hold_spaces, hold_text, let_go};
 use crate::laws_below::laws_below;
 use crate::row::Row;
 use arrayvec::ArrayString;
@@ -126,7 +126,7 @@ fn hold_first<W: Sink>(
         hold_text(&text[start..end], held, sink)?;
         return Ok(count);
     }
-    hold_clusters(tables, text, &runs[0], held, sink)?;
+    hold_run(tables, text, &runs[0], held, sink)?;
     Ok(1)
 }
 
@@ -151,17 +151,30 @@ fn slice_at(tables: &Tables, text: &str, runs: &[ClusterRun], start: usize) -> (
     (runs.len(), end)
 }
 
-/// Whether a run is known to print what stands in the text: it is of an even level, has columns and no tab in it.
-pub(crate) fn prints_its_slice(tables: &Tables, text: &str, run: &ClusterRun) -> bool
+/// Whether a run is known to print what stands in the text: its clusters do, and stand in the order of the text.
+fn prints_its_slice(tables: &Tables, text: &str, run: &ClusterRun) -> bool
     requires { IsPrintable text.now run.now }
     ensures { result ≡ true → run_text tables.now text.now run.now ≡ slice_range text.now run.now.span.first_byte (span_after run.now.further run.now.span).end_byte }
 {
-    if run.level % 2 != 0 || run.columns == 0 {
+    run.level % 2 == 0 && prints_its_clusters(tables, text, run)
+}
+
+/// Whether each cluster of a run is known to print what stands in the text: they have columns, no tab is among them, and at
+/// an odd level nothing that is mirrored.
+pub(crate) fn prints_its_clusters(tables: &Tables, text: &str, run: &ClusterRun) -> bool
+    requires { IsPrintable text.now run.now }
+    ensures { result ≡ true → run_text tables.now text.now run.now ≡ run_slices text.now run.now }
+{
+    if run.columns == 0 {
         return false;
     }
     let last = run.cluster(run.further);
     let clusters = &text[run.span.first_byte as usize..last.end_byte as usize];
-    !has_segment_separator(tables, clusters)
+    if run.level % 2 == 0 {
+        !has_segment_separator(tables, clusters)
+    } else {
+        !has_replaced(tables, clusters)
+    }
 }
 
 /// Whether a code point of a text separates segments, as a tab does.
@@ -171,7 +184,67 @@ fn has_segment_separator(tables: &Tables, text: &str) -> bool
     text.chars().any(|c| is_segment_separator(tables.bidi(c)))
 }
 
-/// Holds what the cells of a run's entries print, one after the other.
+/// Whether a code point of a text is replaced at an odd level, as a tab or a bracket is.
+fn has_replaced(tables: &Tables, text: &str) -> bool
+    ensures { result ≡ list_any (is_replaced tables.now) (code_points text.now) }
+{
+    text.chars().any(|c| is_replaced(tables, c))
+}
+
+/// Whether a character is replaced at an odd level.
+#[inline]
+fn is_replaced(tables: &Tables, c: char) -> bool
+    ensures { result ≡ is_replaced tables.now c }
+{
+    let word = tables.word(c);
+    is_segment_separator(word.bidi) || word.has_mirror
+}
+
+/// Holds what the cells of a run print.
+fn hold_run<W: Sink>(
+    tables: &Tables,
+    text: &str,
+    run: &ClusterRun,
+    held: &mut Held,
+    sink: &mut W,
+) -> Result<(), Device>
+    requires working { W.has_failed sink.old ≡ false }
+    requires run { IsPrintable text.now run.now }
+    ensures ok { OnOk result (AppendsAllBut (W.written sink.old) (W.written sink.new) (held.old.bytes ++ run_text tables.now text.now run.now) held.new.bytes) }
+    ensures err { OnErr result (AppendsBeginning (W.written sink.old) (W.written sink.new) (held.old.bytes ++ run_text tables.now text.now run.now)) }
+    ensures failed { W.has_failed sink.new ≡ is_err result }
+{
+    if prints_its_clusters(tables, text, run) {
+        hold_slices(text, *run, held, sink)
+    } else {
+        hold_clusters(tables, text, run, held, sink)
+    }
+}
+
+/// Holds the clusters of a run as they stand in the text, one after the other from the left.
+fn hold_slices<W: Sink>(
+    text: &str,
+    run: ClusterRun,
+    held: &mut Held,
+    sink: &mut W,
+) -> Result<(), Device>
+    requires working { W.has_failed sink.old ≡ false }
+    requires run { IsPrintable text.now run }
+    ensures ok { OnOk result (AppendsAllBut (W.written sink.old) (W.written sink.new) (held.old.bytes ++ run_slices text.now run) held.new.bytes) }
+    ensures err { OnErr result (AppendsBeginning (W.written sink.old) (W.written sink.new) (held.old.bytes ++ run_slices text.now run)) }
+    ensures failed { W.has_failed sink.new ≡ is_err result }
+{
+    for number in 0..run.count() {
+        let cluster = run.cluster(run.cluster_from_left(number as u16));
+        let bytes = &text[cluster.first_byte as usize..cluster.end_byte as usize];
+        hold_few(bytes, held, sink)?;
+    }
+    Ok(())
+}
+
+/// Holds what the cells of a run's entries print, one after the other. Never inlined: few runs need it, and its loops would
+/// take registers from those that most need.
+#[inline(never)]
 fn hold_clusters<W: Sink>(
     tables: &Tables,
     text: &str,

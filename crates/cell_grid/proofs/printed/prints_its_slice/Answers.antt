@@ -1,21 +1,7 @@
--- Clusters of an even level that have columns and no tab among them are shown by their bytes.
-use Rattle.std.proofs.Common.{sym, ap, ◌∙◌, arith, slice_range}
-use Rattle.std.proofs.lemmas.Bool.{not-true}
-use Rattle.std.specs.List.{list_any}
-use Rattle.paragraphs.specs.Text.{code_points}
-use Rattle.paragraphs.specs.declared.span.Span.{Span}
-use Rattle.cell_grid.specs.Print.{separates_segments}
-use Rattle.cell_grid.proofs.RunPrinting.{slice-text}
+-- Its clusters, in the order of the text.
+use Rattle.std.proofs.Common.{◌∙◌, arith}
+use Rattle.cell_grid.proofs.RunPrinting.{slices-text}
 use Rattle.cell_grid.proofs.printed.prints_its_slice.Goals as goal
 
-pub cluster-last-requires : goal.cluster-last-requires
-cluster-last-requires c = record { within = omega arith; reach = c.requires.reach }
-
-pub returns : goal.returns
-returns c h =
-    let text = c.args.text.now in
-    let r = c.args.run.now in
-    let last = ap (λ (s : Span). s.end_byte) c.cluster-last.ensures in
-    let slice = c.range-clusters.ensures.value ∙ ap (slice_range text r.span.first_byte) last in
-    let none = ap (λ t. list_any (separates_segments c.args.tables.now) (code_points t)) (sym slice) ∙ sym c.has_segment_separator.ensures ∙ not-true c.has_segment_separator.result h in
-    slice-text c.args.tables.now text r c.requires c.utf8.text (omega (arith, c.if-run-ne0.false)) (omega (arith, c.if-run-eq0.false)) none
+pub returns-then-run-eq0 : goal.returns-then-run-eq0
+returns-then-run-eq0 c h = c.prints_its_clusters.ensures h ∙ slices-text c.args.text.now c.args.run.now c.requires (omega arith)

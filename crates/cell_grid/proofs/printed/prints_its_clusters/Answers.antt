@@ -1,0 +1,30 @@
+-- Clusters that have columns, and no code point that is replaced at their level, are shown by their bytes.
+use Rattle.std.proofs.Common.{sym, ap, ◌∙◌, arith, slice_range}
+use Rattle.std.proofs.lemmas.Bool.{not-true}
+use Rattle.std.specs.List.{list_any}
+use Rattle.paragraphs.specs.Text.{code_points}
+use Rattle.paragraphs.specs.declared.span.Span.{Span}
+use Rattle.cell_grid.specs.Print.{separates_segments, is_replaced}
+use Rattle.cell_grid.proofs.RunPrinting.{even-clusters, kept-clusters}
+use Rattle.cell_grid.proofs.printed.prints_its_clusters.Goals as goal
+
+pub cluster-last-requires : goal.cluster-last-requires
+cluster-last-requires c = record { within = omega arith; reach = c.requires.reach }
+
+pub returns-then-run-eq0-2 : goal.returns-then-run-eq0-2
+returns-then-run-eq0-2 c h =
+    let text = c.args.text.now in
+    let r = c.args.run.now in
+    let last = ap (λ (s : Span). s.end_byte) c.cluster-last.ensures in
+    let slice = c.range-clusters.ensures.value ∙ ap (slice_range text r.span.first_byte) last in
+    let none = ap (λ t. list_any (separates_segments c.args.tables.now) (code_points t)) (sym slice) ∙ sym c.has_segment_separator.ensures ∙ not-true c.has_segment_separator.result h in
+    even-clusters c.args.tables.now text r c.requires c.utf8.text (omega (arith, c.if-run-eq0.false)) (omega (arith, c.if-run-eq0-2.true)) none
+
+pub returns-else-run-eq0-2 : goal.returns-else-run-eq0-2
+returns-else-run-eq0-2 c h =
+    let text = c.args.text.now in
+    let r = c.args.run.now in
+    let last = ap (λ (s : Span). s.end_byte) c.cluster-last.ensures in
+    let slice = c.range-clusters.ensures.value ∙ ap (slice_range text r.span.first_byte) last in
+    let none = ap (λ t. list_any (is_replaced c.args.tables.now) (code_points t)) (sym slice) ∙ sym c.has_replaced.ensures ∙ not-true c.has_replaced.result h in
+    kept-clusters c.args.tables.now text r c.requires c.utf8.text (omega (arith, c.if-run-eq0.false)) none
