@@ -67,6 +67,7 @@ fn backwards(rows: &[Row], caret: Caret) -> Caret
 }
 
 /// `right` among these rows, as on a grid of them.
+/// Cost: that of `Row::entry`.
 pub fn right_among(rows: &[Row], caret: Caret) -> Caret
     requires { IsCaretOf rows.now caret }
     ensures caret { result ≡ right_of rows.now caret }
@@ -87,6 +88,7 @@ pub fn right_among(rows: &[Row], caret: Caret) -> Caret
 }
 
 /// `left` among these rows.
+/// Cost: that of `Row::entry`.
 pub fn left_among(rows: &[Row], caret: Caret) -> Caret
     requires { IsCaretOf rows.now caret }
     ensures caret { result ≡ left_of rows.now caret }

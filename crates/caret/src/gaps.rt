@@ -59,6 +59,7 @@ fn row_end(row: &Row) -> usize
 }
 
 /// The column of a gap: that of the entry right of it, or the row's end for the last gap.
+/// Cost: that of `Row::entry`.
 pub fn gap_column(row: &Row, gap: usize) -> usize
     ensures { result ≡ gap_column row.now gap }
 {

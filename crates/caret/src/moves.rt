@@ -22,6 +22,7 @@ pub enum Move {
 /// Inside a row it crosses the entry right of it. From a row's right edge it goes to the next row's
 /// logical start in a paragraph of even level, and to the logical end of the row before in one of
 /// odd level; if there is no such row, nothing changes.
+/// Cost: that of `Row::entry`.
 pub fn right(grid: &Grid, caret: Caret) -> Caret
     requires { IsCaretOf grid.now.rows caret }
     ensures caret { result ≡ right_of grid.now.rows caret }
@@ -35,6 +36,7 @@ pub fn right(grid: &Grid, caret: Caret) -> Caret
 /// Inside a row it crosses the entry left of it. From a row's left edge it goes to the logical end of
 /// the row before in a paragraph of even level, and to the next row's logical start in one of odd
 /// level; if there is no such row, nothing changes.
+/// Cost: that of `Row::entry`.
 pub fn left(grid: &Grid, caret: Caret) -> Caret
     requires { IsCaretOf grid.now.rows caret }
     ensures caret { result ≡ left_of grid.now.rows caret }

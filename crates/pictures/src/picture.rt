@@ -239,6 +239,7 @@ impl Picture {
     }
 
     /// The caret one step to the right, as `caret::right` answers.
+    /// Cost: that of `right`.
     pub fn right(&mut self, caret: Caret) -> Caret
         requires { IsCaretOf self.old.rows caret }
         ensures caret { result ≡ right_of self.old.rows caret }
@@ -253,6 +254,7 @@ impl Picture {
     }
 
     /// The caret one step to the left, as `caret::left` answers.
+    /// Cost: that of `left`.
     pub fn left(&mut self, caret: Caret) -> Caret
         requires { IsCaretOf self.old.rows caret }
         ensures caret { result ≡ left_of self.old.rows caret }
