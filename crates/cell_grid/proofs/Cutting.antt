@@ -1,21 +1,21 @@
 -- Runs of clusters of one shape, cut behind some of their clusters.
-use Rattle.std.proofs.Common.{◌≡◌, ℕ, zero, suc, ◌+◌, ◌-◌, ◌*◌, ◌<◌, ◌≤◌, List, [], ◌∷◌, ◌++◌, map, length, take, drop, get_or, slice_get, Some, replicate, flat_map, refl, sym, ap, subst, ◌∙◌, arith, append_assoc, append-nil, length-append, inl, inr}
+use Rattle.std.proofs.Common.{◌≡◌, ℕ, zero, suc, ◌+◌, ◌-◌, ◌*◌, ◌<◌, ◌≤◌, List, [], ◌∷◌, ◌++◌, map, length, take, drop, get_or, slice_get, replicate, flat_map, refl, sym, ap, subst, ◌∙◌, arith, append_assoc, append-nil, length-append, inl, inr}
+use Rattle.std.proofs.Math.Seq.{take-add, take-append-add, drop-append-add}
 use Rattle.std.proofs.lemmas.Bool.Decides.{leb_tells}
-use Rattle.std.proofs.lemmas.Option.{get_or_from_slice_get}
-use Rattle.std.proofs.lemmas.List.{map-append, replicate-append-replicate}
-use Rattle.std.proofs.lemmas.List.Concat.{flat_map-append, flat_map-cons}
-use Rattle.std.proofs.lemmas.List.Elements.{All-head, All-tail}
+use Rattle.std.proofs.lemmas.List.{map-append, replicate-append-replicate, length-replicate, length-drop, drop-drop, drop_at}
+use Rattle.std.proofs.lemmas.List.Concat.{flat_map-cons}
+use Rattle.std.proofs.lemmas.List.Elements.{All-tail}
 use Rattle.std.proofs.lemmas.List.FromFn.{length-map-range_with_len}
 use Rattle.std.proofs.lemmas.Simd.{map-map}
 use Rattle.std.specs.List.{All, range_with_len}
 use Rattle.paragraphs.specs.declared.span.Span.{Span}
 use Rattle.line_break.specs.declared.run.ShapeRun.{ShapeRun}
-use Rattle.line_break.specs.Runs.{span_in, spans_of, sizes_of, columns_of, AllHaveSome}
-use Rattle.cell_grid.specs.Parts.{front, behind, all_spans, all_sizes, all_columns, IsWithin, AreParted}
+use Rattle.line_break.specs.Runs.{span_in, spans_of, sizes_of, columns_of}
+use Rattle.cell_grid.specs.Parts.{front, behind, all_spans, IsWithin, ArePassed}
 use Rattle.cell_grid.specs.Spans.{up_to, extent}
 use Rattle.cell_grid.proofs.Extents.{extent-ends}
 use Rattle.cell_grid.proofs.Lookups.{get-right}
-use Rattle.cell_grid.proofs.Numbered.{map-range-same, split-last}
+use Rattle.cell_grid.proofs.Numbered.{map-range-same}
 use Rattle.cell_grid.proofs.Standing.{span_of}
 use Rattle.cell_grid.proofs.Steps.{drop-next, drop-none}
 
@@ -82,75 +82,86 @@ module _ (n : ℕ) (run : ShapeRun) (le : n ≤ run.count) where
 
 -- ---- lists of runs
 
-parted-one : {X : Type 0} (f : ShapeRun → List X) (run fr be : ShapeRun) (later : List ShapeRun) → f run ≡ f fr ++ f be
-    → flat_map f (run ∷ later) ≡ flat_map f (fr ∷ []) ++ flat_map f (be ∷ later)
-parted-one f run fr be later e =
-    flat_map-cons f run later ∙ ap (λ l. l ++ flat_map f later) e ∙ append_assoc (f fr) (f be) (flat_map f later)
-    ∙ ap (λ l. f fr ++ l) (sym (flat_map-cons f be later))
-    ∙ ap (λ l. l ++ flat_map f (be ∷ later)) (sym (append-nil (f fr)) ∙ sym (flat_map-cons f fr []))
-
 -- some of the first run's clusters are passed
-pub parted-cut : (n : ℕ) (run : ShapeRun) (later : List ShapeRun) → n ≤ run.count → AreParted (run ∷ later) (front n run ∷ []) (behind n run ∷ later)
-parted-cut n run later le = record {
-  spans = parted-one spans_of run (front n run) (behind n run) later (spans-cut n run le);
-  sizes = parted-one sizes_of run (front n run) (behind n run) later (sizes-cut n run le);
-  columns = parted-one columns_of run (front n run) (behind n run) later (columns-cut n run le);
-}
+module _ {X : Type 0} (f : ShapeRun → List X) (n left : ℕ) (run : ShapeRun) (later : List ShapeRun) (le : n ≤ left) (cut : f run ≡ f (front n run) ++ f (behind n run))
+    (long : length (f (front n run)) ≡ n) where
+  front-first : flat_map f (run ∷ later) ≡ f (front n run) ++ flat_map f (behind n run ∷ later)
+  front-first =
+      flat_map-cons f run later ∙ ap (λ l. l ++ flat_map f later) cut ∙ append_assoc (f (front n run)) (f (behind n run)) (flat_map f later)
+      ∙ ap (λ l. f (front n run) ++ l) (sym (flat_map-cons f (behind n run) later))
 
-then-flat : {X : Type 0} (f : ShapeRun → List X) (a xs b ys c : List ShapeRun) → flat_map f a ≡ flat_map f xs ++ flat_map f b → flat_map f b ≡ flat_map f ys ++ flat_map f c
-    → flat_map f a ≡ flat_map f (xs ++ ys) ++ flat_map f c
-then-flat f a xs b ys c g h =
-    g ∙ ap (λ l. flat_map f xs ++ l) h ∙ sym (append_assoc (flat_map f xs) (flat_map f ys) (flat_map f c))
-    ∙ ap (λ l. l ++ flat_map f c) (sym (flat_map-append f xs ys))
+  left-is : left ≡ length (f (front n run)) + (left - n)
+  left-is = omega arith
 
-pub parted-then : (a xs b ys c : List ShapeRun) → AreParted a xs b → AreParted b ys c → AreParted a (xs ++ ys) c
-parted-then a xs b ys c g h = record {
-  spans = then-flat spans_of a xs b ys c g.spans h.spans;
-  sizes = then-flat sizes_of a xs b ys c g.sizes h.sizes;
-  columns = then-flat columns_of a xs b ys c g.columns h.columns;
-}
+  pub taken : f (front n run) ++ take (left - n) (flat_map f (behind n run ∷ later)) ≡ take left (flat_map f (run ∷ later))
+  taken =
+      sym (ap (take left) front-first ∙ ap (λ k. take k (f (front n run) ++ flat_map f (behind n run ∷ later))) left-is
+      ∙ take-append-add (f (front n run)) (flat_map f (behind n run ∷ later)) (left - n))
 
-pub parted-same : (a b : List ShapeRun) → a ≡ b → AreParted a [] b
-parted-same a b e = record { spans = ap all_spans e; sizes = ap all_sizes e; columns = ap all_columns e }
+  pub dropped : drop (left - n) (flat_map f (behind n run ∷ later)) ≡ drop left (flat_map f (run ∷ later))
+  dropped =
+      sym (ap (drop left) front-first ∙ ap (λ k. drop k (f (front n run) ++ flat_map f (behind n run ∷ later))) left-is
+      ∙ drop-append-add (f (front n run)) (flat_map f (behind n run ∷ later)) (left - n))
+
+  pub one-less : length (flat_map f (run ∷ later)) ≡ n + length (flat_map f (behind n run ∷ later))
+  one-less =
+      ap length front-first ∙ length-append (f (front n run)) (flat_map f (behind n run ∷ later)) ∙ ap (λ k. k + length (flat_map f (behind n run ∷ later))) long
 
 -- a run of no clusters tells nothing
-pub parted-none : (run : ShapeRun) (later : List ShapeRun) → run.count ≡ 0 → AreParted (run ∷ later) [] later
-parted-none run later none = record {
-  spans = flat_map-cons spans_of run later ∙ ap (λ k. map (span_in run) (range_with_len 0 k) ++ all_spans later) none;
-  sizes = flat_map-cons sizes_of run later ∙ ap (λ k. replicate k run.points ++ all_sizes later) none;
-  columns = flat_map-cons columns_of run later ∙ ap (λ k. replicate k run.columns ++ all_columns later) none;
+none-of : {X : Type 0} (f : ShapeRun → List X) (run : ShapeRun) (later : List ShapeRun) → f run ≡ [] → flat_map f (run ∷ later) ≡ flat_map f later
+none-of f run later none = flat_map-cons f run later ∙ ap (λ l. l ++ flat_map f later) none
+
+pub passed-none : (run : ShapeRun) (later : List ShapeRun) → run.count ≡ 0 → ArePassed 0 (run ∷ later) later
+passed-none run later none = record {
+  spans = sym (none-of spans_of run later (ap (λ k. map (span_in run) (range_with_len 0 k)) none));
+  sizes = sym (none-of sizes_of run later (ap (λ k. replicate k run.points) none));
+  columns = sym (none-of columns_of run later (ap (λ k. replicate k run.columns) none));
 }
 
+pub passed-same : (runs : List ShapeRun) → ArePassed 0 runs runs
+passed-same runs = record { spans = refl; sizes = refl; columns = refl }
+
+-- how many clusters a run has
+pub length-spans_of : (run : ShapeRun) → length (spans_of run) ≡ run.count
+length-spans_of run = length-map-range_with_len (span_in run) 0 run.count
+
 -- the next run is begun
-module _ (runs : List ShapeRun) (first : ShapeRun) (next : ℕ) (none : first.count ≡ 0) where
-  pub next-there : 0 < length (all_spans (first ∷ drop next runs)) → next < length runs
-  next-there some = elim (leb_tells (suc next) (length runs)) [
+module _ (runs : List ShapeRun) (first : ShapeRun) (next : ℕ) where
+  pub next-there : first.count < length (all_spans (first ∷ drop next runs)) → next < length runs
+  next-there more = elim (leb_tells (suc next) (length runs)) [
     | inl lt ↦ (let within = lt.1 in omega arith)
     | inr ge ↦
         let out = ge.1 in
         let le : length runs ≤ next = omega arith in
         let gone = ap (λ l. length (all_spans (first ∷ l))) (drop-none runs next le) in
-        let empty = ap length (parted-none first [] none).spans in
+        let own = ap length (flat_map-cons spans_of first [] ∙ append-nil (spans_of first)) ∙ length-spans_of first in
         absurd (omega arith)
   ]
 
-  pub within-next : (run d : ShapeRun) → next < length runs → run ≡ get_or runs next d → All IsWithin (first ∷ drop next runs) → All IsWithin (run ∷ drop (next + 1) runs)
-  within-next run d lt is h = subst (All IsWithin) (drop-next runs next run d lt is) (All-tail IsWithin first (drop next runs) h)
+  module _ (run d : ShapeRun) (lt : next < length runs) (is : run ≡ get_or runs next d) where
+    passed-one : {X : Type 0} (f : ShapeRun → List X) → length (f first) ≡ first.count → flat_map f (run ∷ drop (next + 1) runs) ≡ drop first.count (flat_map f (first ∷ drop next runs))
+    passed-one f n =
+        ap (flat_map f) (sym (drop-next runs next run d lt is))
+        ∙ sym (ap (drop first.count) (flat_map-cons f first (drop next runs)) ∙ drop_at (f first) (flat_map f (drop next runs)) first.count n)
 
--- ---- how many clusters
+    pub passed-run : ArePassed first.count (first ∷ drop next runs) (run ∷ drop (next + 1) runs)
+    passed-run = record {
+      spans = passed-one spans_of (length-spans_of first);
+      sizes = passed-one sizes_of (length-replicate first.count first.points);
+      columns = passed-one columns_of (length-replicate first.count first.columns);
+    }
 
-pub length-spans_of : (run : ShapeRun) → length (spans_of run) ≡ run.count
-length-spans_of run = length-map-range_with_len (span_in run) 0 run.count
+    pub within-next : All IsWithin (first ∷ drop next runs) → All IsWithin (run ∷ drop (next + 1) runs)
+    within-next h = subst (All IsWithin) (drop-next runs next run d lt is) (All-tail IsWithin first (drop next runs) h)
 
-pub length-all-push : (parts : List ShapeRun) (part : ShapeRun) → length (all_spans (parts ++ part ∷ [])) ≡ length (all_spans parts) + part.count
-length-all-push parts part =
-    ap length (flat_map-append spans_of parts (part ∷ []) ∙ ap (λ l. all_spans parts ++ l) (flat_map-cons spans_of part [] ∙ append-nil (spans_of part)))
-    ∙ length-append (all_spans parts) (spans_of part) ∙ ap (λ n. length (all_spans parts) + n) (length-spans_of part)
+-- some are passed, and then others
+pub passed-then : {X : Type 0} (all before after : List X) (count left n : ℕ) → left ≤ count → n ≤ left → before ≡ drop (count - left) all → after ≡ drop n before → after ≡ drop (count - (left - n)) all
+passed-then all before after count left n few le a b =
+    let e : count - left + n ≡ count - (left - n) = omega arith in
+    b ∙ ap (drop n) a ∙ drop-drop n (count - left) all ∙ ap (λ k. drop k all) e
 
-pub length-parted : (a b : List ShapeRun) (part : ShapeRun) → AreParted a (part ∷ []) b → length (all_spans a) ≡ part.count + length (all_spans b)
-length-parted a b part h =
-    ap length (h.spans ∙ ap (λ l. l ++ all_spans b) (flat_map-cons spans_of part [] ∙ append-nil (spans_of part)))
-    ∙ length-append (spans_of part) (all_spans b) ∙ ap (λ n. n + length (all_spans b)) (length-spans_of part)
+pub length-passed : {X : Type 0} (before after : List X) (n : ℕ) → after ≡ drop n before → length after ≡ length before - n
+length-passed before after n e = ap length e ∙ length-drop n before
 
 -- ---- their extent
 
@@ -161,10 +172,7 @@ extent-both S front mid s e a b =
     extent-ends S s e (sym (ap (λ l. slice_get l 0) a))
     (sym (ap (λ k. slice_get S k) last ∙ ap (λ l. slice_get l (length front + 0)) b ∙ get-right front (e ∷ []) (length front) 0 refl))
 
--- the first cluster of a run, and its last
-first-span : (run : ShapeRun) → 0 < run.count → spans_of run ≡ span_in run 0 ∷ spans_of (behind 1 run)
-first-span run some = spans-cut 1 run (omega arith)
-
+-- the last cluster of a run
 pub last-span : (run : ShapeRun) → 0 < run.count → spans_of run ≡ spans_of (front (run.count - 1) run) ++ span_in (behind (run.count - 1) run) 0 ∷ []
 last-span run some =
     let one : run.count - (run.count - 1) ≡ 1 = omega arith in
@@ -186,22 +194,28 @@ ends-span first last some =
     (first.first_place + 0 * first.points) (last.first_place + (last.count - 1) * last.points + 0 * last.points + last.points)
     (omega arith) (omega arith) (omega arith) (omega arith)
 
-pub extent-parts : (parts : List ShapeRun) (first last : ShapeRun) → AllHaveSome parts → Some first ≡ slice_get parts 0 → Some last ≡ slice_get parts (length parts - 1)
-    → span_of first.first_byte (last.first_byte + last.count * last.bytes) first.first_place (last.first_place + last.count * last.points) ≡ extent (all_spans parts)
-extent-parts [] first last some a b = cc
-extent-parts (x ∷ later) first last some a b =
-    let same : first ≡ x = cc in
-    let n : length later + 1 ≡ length (x ∷ later) = omega arith in
-    let k : length (x ∷ later) - 1 ≡ length later = omega arith in
-    let at = b ∙ ap (slice_get (x ∷ later)) k in
-    let read = sym (get_or_from_slice_get (x ∷ later) (length later) last x (sym at)) in
-    let has = subst (λ (r : ShapeRun). 0 < r.count) (sym read) (some (length later) x (omega arith)) in
-    let begun = subst (λ (r : ShapeRun). 0 < r.count) (sym same) (All-head (λ (r : ShapeRun). 0 < r.count) x later some) in
-    ends-span first last has
-    ∙ extent-both (all_spans (x ∷ later)) (all_spans (take (length later) (x ∷ later)) ++ spans_of (front (last.count - 1) last)) (spans_of (behind 1 first) ++ all_spans later)
-    (span_in first 0) (span_in (behind (last.count - 1) last) 0)
-    (ap (λ (r : ShapeRun). all_spans (r ∷ later)) (sym same) ∙ flat_map-cons spans_of first later ∙ ap (λ l. l ++ all_spans later) (first-span first begun))
-    (ap all_spans (split-last (x ∷ later) (length later) n last x read)
-    ∙ flat_map-append spans_of (take (length later) (x ∷ later)) (last ∷ [])
-    ∙ ap (λ l. all_spans (take (length later) (x ∷ later)) ++ l) (flat_map-cons spans_of last [] ∙ append-nil (spans_of last) ∙ last-span last has)
-    ∙ sym (append_assoc (all_spans (take (length later) (x ∷ later))) (spans_of (front (last.count - 1) last)) (span_in (behind (last.count - 1) last) 0 ∷ [])))
+-- so many clusters from the first of a run on, up to one of the same run or a later one
+module _ (S : List Span) (first last : ShapeRun) (others later : List ShapeRun) (count left : ℕ) (some : 0 < left) (few : left ≤ count) (within : left ≤ last.count) (begun : 0 < first.count)
+    (from : all_spans (first ∷ others) ≡ S) (to : all_spans (last ∷ later) ≡ drop (count - left) S) where
+  from-first : take count S ≡ span_in first 0 ∷ take (count - 1) (all_spans (behind 1 first ∷ others))
+  from-first =
+      ap (take count) (sym from)
+      ∙ sym (taken spans_of 1 count first others (omega arith) (spans-cut 1 first (omega arith)) (length-spans_of (front 1 first)))
+
+  up-to-last : take count S ≡ (take (count - left) S ++ spans_of (front (left - 1) (front left last))) ++ span_in (behind (left - 1) (front left last)) 0 ∷ []
+  up-to-last =
+      let whole : count ≡ count - left + left = omega arith in
+      let none : left - left ≡ 0 = omega arith in
+      ap (λ n. take n S) whole ∙ take-add (count - left) left S
+      ∙ ap (λ l. take (count - left) S ++ l)
+      (ap (take left) (sym to)
+      ∙ sym (taken spans_of left left last later (omega arith) (spans-cut left last within) (length-spans_of (front left last)))
+      ∙ ap (λ n. spans_of (front left last) ++ take n (all_spans (behind left last ∷ later))) none
+      ∙ append-nil (spans_of (front left last)) ∙ last-span (front left last) some)
+      ∙ sym (append_assoc (take (count - left) S) (spans_of (front (left - 1) (front left last))) (span_in (behind (left - 1) (front left last)) 0 ∷ []))
+
+  pub extent-taken : span_of first.first_byte (last.first_byte + left * last.bytes) first.first_place (last.first_place + left * last.points) ≡ extent (take count S)
+  extent-taken =
+      ends-span first (front left last) some
+      ∙ extent-both (take count S) (take (count - left) S ++ spans_of (front (left - 1) (front left last))) (take (count - 1) (all_spans (behind 1 first ∷ others)))
+      (span_in first 0) (span_in (behind (left - 1) (front left last)) 0) from-first up-to-last

@@ -1,7 +1,7 @@
--- The lines of a paragraph, one after the other: what their parts have, and the rows of their pieces.
-use Rattle.std.proofs.Common.{◌≡◌, ℕ, suc, ◌+◌, ◌-◌, ◌*◌, ◌<◌, ◌≤◌, List, [], ◌∷◌, ◌++◌, map, length, take, drop, slice_range, sum, refl, sym, ap, subst, ◌∙◌, arith, length-append, inl, inr}
+-- The lines of a paragraph, one after the other: what they have of the runs, and the rows of their pieces.
+use Rattle.std.proofs.Common.{◌≡◌, ℕ, suc, ◌+◌, ◌-◌, ◌*◌, ◌<◌, ◌≤◌, List, [], ◌∷◌, map, length, take, drop, slice_range, sum, refl, sym, ap, subst, ◌∙◌, arith, inl, inr}
 use Rattle.std.proofs.lemmas.Bool.Decides.{leb_tells}
-use Rattle.std.proofs.lemmas.List.{take_at, drop_at, drop-drop, length-drop, length-map, length-replicate}
+use Rattle.std.proofs.lemmas.List.{drop-drop, length-drop, length-map}
 use Rattle.std.proofs.lemmas.List.Concat.{flat_map-cons}
 use Rattle.std.proofs.lemmas.List.Elements.{All-nil, All-cons, All-head, All-tail}
 use Rattle.std.specs.List.{All}
@@ -17,20 +17,19 @@ use Rattle.line_break.specs.declared.line.Line.{Line}
 use Rattle.line_break.specs.declared.run.ShapeRun.{ShapeRun}
 use Rattle.line_break.specs.Lines.{lines}
 use Rattle.line_break.specs.Ranges.{Follow}
-use Rattle.line_break.specs.Runs.{span_in, spans_of, sizes_of, AllHaveSome}
-use Rattle.line_break.specs.Runs.{columns_of as shape_columns}
+use Rattle.line_break.specs.Runs.{span_in, spans_of, AllHaveSome}
 use Rattle.reorder.specs.LineLevels.{levels_after_l1, group_firsts}
 use Rattle.cell_grid.specs.declared.cluster_run.ClusterRun.{ClusterRun}
 use Rattle.cell_grid.specs.Hanging.{hung}
 use Rattle.cell_grid.specs.LawsBelow.{LawsBelow}
 use Rattle.cell_grid.specs.Outline.{own_columns, IsLine}
-use Rattle.cell_grid.specs.Parts.{front, behind, all_spans, all_sizes, all_columns, IsWithin, AreParted, AreFrom}
+use Rattle.cell_grid.specs.Parts.{front, behind, all_spans, all_sizes, all_columns, IsWithin, ArePassed, AreFrom}
 use Rattle.cell_grid.specs.Pieces.{levels_of, columns_of}
 use Rattle.cell_grid.specs.Pieces.{spans_of as piece_spans}
 use Rattle.cell_grid.specs.Rows.{row_with, row_of, levels_in_line}
 use Rattle.cell_grid.specs.Spans.{spans, extent}
 use Rattle.cell_grid.proofs.Counting.{length-spans_of}
-use Rattle.cell_grid.proofs.Cutting.{parted-none, last-span, length-spans_of as length-run}
+use Rattle.cell_grid.proofs.Cutting.{passed-none, last-span}
 use Rattle.cell_grid.proofs.LinesOf.{hung-columns}
 use Rattle.cell_grid.proofs.Numbered.{All-front, All-back}
 use Rattle.cell_grid.proofs.Parts.{slice-map, length-slice}
@@ -102,11 +101,11 @@ text-runs below tables text u size runs some h =
 module _ (runs : List ShapeRun) (first : ShapeRun) (next : ℕ) (none : first.count ≡ 0) (start : next ≡ 0) where
   pub from-start : (tables : TableValues) (text : List ℕ) → AreFrom tables text 0 runs → AreFrom tables text 0 (first ∷ drop next runs)
   from-start tables text h =
-      let all = parted-none first (drop next runs) none in
+      let all = passed-none first (drop next runs) none in
       record {
-        spans = all.spans ∙ ap (λ n. all_spans (drop n runs)) start ∙ h.spans;
-        sizes = all.sizes ∙ ap (λ n. all_sizes (drop n runs)) start ∙ h.sizes;
-        columns = all.columns ∙ ap (λ n. all_columns (drop n runs)) start ∙ h.columns;
+        spans = sym all.spans ∙ ap (λ n. all_spans (drop n runs)) start ∙ h.spans;
+        sizes = sym all.sizes ∙ ap (λ n. all_sizes (drop n runs)) start ∙ h.sizes;
+        columns = sym all.columns ∙ ap (λ n. all_columns (drop n runs)) start ∙ h.columns;
       }
 
   pub within-start : IsWithin first → All IsWithin runs → All IsWithin (first ∷ drop next runs)
@@ -114,55 +113,31 @@ module _ (runs : List ShapeRun) (first : ShapeRun) (next : ℕ) (none : first.co
 
 -- ---- what a line has of them
 
-length-sizes : (runs : List ShapeRun) → length (all_sizes runs) ≡ length (all_spans runs)
-length-sizes [] = refl
-length-sizes (run ∷ later) =
-    let a = ap length (flat_map-cons sizes_of run later) ∙ length-append (sizes_of run) (all_sizes later) in
-    let b = ap length (flat_map-cons spans_of run later) ∙ length-append (spans_of run) (all_spans later) in
-    let c = length-replicate run.count run.points in
-    let d = length-run run in
-    let e = length-sizes later in
-    omega arith
+-- so many of the first clusters of some runs are those of a line
+pub record AreLine (tables : TableValues) (text : List ℕ) (line : Line) (count : ℕ) (runs : List ShapeRun) : Type 0 where
+  pub spans : take count (all_spans runs) ≡ slice_range (spans text) line.start line.end
+  pub sizes : take count (all_sizes runs) ≡ slice_range (cluster_sizes text) line.start line.end
+  pub columns : take count (all_columns runs) ≡ slice_range (own_columns tables text) line.start line.end
 
-length-columns : (runs : List ShapeRun) → length (all_columns runs) ≡ length (all_spans runs)
-length-columns [] = refl
-length-columns (run ∷ later) =
-    let a = ap length (flat_map-cons shape_columns run later) ∙ length-append (shape_columns run) (all_columns later) in
-    let b = ap length (flat_map-cons spans_of run later) ∙ length-append (spans_of run) (all_spans later) in
-    let c = length-replicate run.count run.columns in
-    let d = length-run run in
-    let e = length-columns later in
-    omega arith
-
--- a list from one element on, in two
-part-is : {X : Type 0} (xs front later : List X) (i j : ℕ) → i ≤ j → drop i xs ≡ front ++ later → length front ≡ j - i → front ≡ slice_range xs i j
-part-is xs front later i j le e n = sym (ap (take (j - i)) e ∙ take_at front later (j - i) n)
-
-rest-is : {X : Type 0} (xs front later : List X) (i j : ℕ) → i ≤ j → drop i xs ≡ front ++ later → length front ≡ j - i → later ≡ drop j xs
-rest-is xs front later i j le e n =
-    let k : i + (j - i) ≡ j = omega arith in
-    sym (drop_at front later (j - i) n) ∙ ap (drop (j - i)) (sym e) ∙ drop-drop (j - i) i xs ∙ ap (λ m. drop m xs) k
-
--- parts have the clusters of a line
-pub record AreLine (tables : TableValues) (text : List ℕ) (line : Line) (parts : List ShapeRun) : Type 0 where
-  pub spans : all_spans parts ≡ slice_range (spans text) line.start line.end
-  pub sizes : all_sizes parts ≡ slice_range (cluster_sizes text) line.start line.end
-  pub columns : all_columns parts ≡ slice_range (own_columns tables text) line.start line.end
-
-module _ (tables : TableValues) (text : List ℕ) (line : Line) (runs parts later : List ShapeRun) (le : line.start ≤ line.end)
-    (h : AreFrom tables text line.start runs) (p : AreParted runs parts later) (n : length (all_spans parts) ≡ line.end - line.start) where
-  pub line-parts : AreLine tables text line parts
-  line-parts = record {
-    spans = part-is (spans text) (all_spans parts) (all_spans later) line.start line.end le (sym h.spans ∙ p.spans) n;
-    sizes = part-is (cluster_sizes text) (all_sizes parts) (all_sizes later) line.start line.end le (sym h.sizes ∙ p.sizes) (length-sizes parts ∙ n);
-    columns = part-is (own_columns tables text) (all_columns parts) (all_columns later) line.start line.end le (sym h.columns ∙ p.columns) (length-columns parts ∙ n);
+module _ (tables : TableValues) (text : List ℕ) (line : Line) (count : ℕ) (runs : List ShapeRun) (le : line.start ≤ line.end) (n : count ≡ line.end - line.start)
+    (h : AreFrom tables text line.start runs) where
+  pub line-next : AreLine tables text line count runs
+  line-next = record {
+    spans = ap (λ k. take k (all_spans runs)) n ∙ ap (take (line.end - line.start)) h.spans;
+    sizes = ap (λ k. take k (all_sizes runs)) n ∙ ap (take (line.end - line.start)) h.sizes;
+    columns = ap (λ k. take k (all_columns runs)) n ∙ ap (take (line.end - line.start)) h.columns;
   }
 
-  pub line-later : AreFrom tables text line.end later
-  line-later = record {
-    spans = rest-is (spans text) (all_spans parts) (all_spans later) line.start line.end le (sym h.spans ∙ p.spans) n;
-    sizes = rest-is (cluster_sizes text) (all_sizes parts) (all_sizes later) line.start line.end le (sym h.sizes ∙ p.sizes) (length-sizes parts ∙ n);
-    columns = rest-is (own_columns tables text) (all_columns parts) (all_columns later) line.start line.end le (sym h.columns ∙ p.columns) (length-columns parts ∙ n);
+  rest-is : {X : Type 0} (all xs later : List X) → xs ≡ drop line.start all → later ≡ drop count xs → later ≡ drop line.end all
+  rest-is all xs later a b =
+      let e : line.start + count ≡ line.end = omega arith in
+      b ∙ ap (drop count) a ∙ drop-drop count line.start all ∙ ap (λ k. drop k all) e
+
+  pub line-later : (later : List ShapeRun) → ArePassed count runs later → AreFrom tables text line.end later
+  line-later later p = record {
+    spans = rest-is (spans text) (all_spans runs) (all_spans later) h.spans p.spans;
+    sizes = rest-is (cluster_sizes text) (all_sizes runs) (all_sizes later) h.sizes p.sizes;
+    columns = rest-is (own_columns tables text) (all_columns runs) (all_columns later) h.columns p.columns;
   }
 
 -- as many clusters are left as the line has
@@ -180,8 +155,8 @@ length-after para [] levels n = refl
 length-after para (c ∷ cs) [] n = absurd (omega arith)
 length-after para (c ∷ cs) (l ∷ ls) n = ap suc (length-after para cs ls (omega arith))
 
-module _ (tables : TableValues) (width para : ℕ) (text levels : List ℕ) (line : Line) (h : IsLine tables width text line) (parts : List ShapeRun) (p : AreLine tables text line parts)
-    (whole : Span) (at : whole ≡ extent (all_spans parts)) where
+module _ (tables : TableValues) (width para : ℕ) (text levels : List ℕ) (line : Line) (h : IsLine tables width text line) (count : ℕ) (runs : List ShapeRun) (p : AreLine tables text line count runs)
+    (whole : Span) (at : whole ≡ extent (take count (all_spans runs))) where
   whole-is : whole ≡ extent (slice_range (spans text) line.start line.end)
   whole-is = at ∙ ap extent p.spans
 
@@ -193,7 +168,7 @@ module _ (tables : TableValues) (width para : ℕ) (text levels : List ℕ) (lin
 
   module _ (after : List ℕ) (long : length levels ≡ length (code_points text))
       (l1 : after ≡ levels_after_l1 para (slice_range (classes_of tables text) whole.first_place whole.end_place) (slice_range levels whole.first_place whole.end_place)) where
-    pub after-long : sum (all_sizes parts) ≡ length after
+    pub after-long : sum (take count (all_sizes runs)) ≡ length after
     after-long =
         let order = whole-order in
         let within = whole-within in
@@ -206,19 +181,19 @@ module _ (tables : TableValues) (width para : ℕ) (text levels : List ℕ) (lin
         let n = ap length l1 ∙ length-after para (slice_range (classes_of tables text) whole.first_place whole.end_place) (slice_range levels whole.first_place whole.end_place) (b ∙ sym a) in
         omega arith
 
-    after-is : group_firsts (all_sizes parts) after
+    after-is : group_firsts (take count (all_sizes runs)) after
         ≡ levels_in_line tables text levels para (slice_range (spans text) line.start line.end) (slice_range (cluster_sizes text) line.start line.end)
     after-is =
         let sp = slice_range (spans text) line.start line.end in
-        ap (group_firsts (all_sizes parts)) l1
-        ∙ ap (λ (s : Span). group_firsts (all_sizes parts) (levels_after_l1 para (slice_range (classes_of tables text) s.first_place s.end_place) (slice_range levels s.first_place s.end_place))) whole-is
-        ∙ ap (λ l. group_firsts (all_sizes parts) (levels_after_l1 para l (slice_range levels (extent (slice_range (spans text) line.start line.end)).first_place (extent (slice_range (spans text) line.start line.end)).end_place)))
+        ap (group_firsts (take count (all_sizes runs))) l1
+        ∙ ap (λ (s : Span). group_firsts (take count (all_sizes runs)) (levels_after_l1 para (slice_range (classes_of tables text) s.first_place s.end_place) (slice_range levels s.first_place s.end_place))) whole-is
+        ∙ ap (λ l. group_firsts (take count (all_sizes runs)) (levels_after_l1 para l (slice_range levels (extent (slice_range (spans text) line.start line.end)).first_place (extent (slice_range (spans text) line.start line.end)).end_place)))
         (slice-map (code_points text) (bidi_of tables) (extent (slice_range (spans text) line.start line.end)).first_place (extent (slice_range (spans text) line.start line.end)).end_place
         ∙ ap (map (bidi_of tables)) (sym h.stand.points))
         ∙ ap (λ l. levels_in_line tables text levels para (slice_range (spans text) line.start line.end) l) p.sizes
 
-    module _ (pieces : List ClusterRun) (same_spans : piece_spans pieces ≡ all_spans parts) (same_levels : levels_of pieces ≡ group_firsts (all_sizes parts) after)
-        (same_columns : columns_of pieces ≡ hung width (all_columns parts)) where
+    module _ (pieces : List ClusterRun) (same_spans : piece_spans pieces ≡ take count (all_spans runs)) (same_levels : levels_of pieces ≡ group_firsts (take count (all_sizes runs)) after)
+        (same_columns : columns_of pieces ≡ hung width (take count (all_columns runs))) where
       pub row-pieces : row_with width para (piece_spans pieces) (levels_of pieces) (columns_of pieces) ≡ row_of tables width para text levels line
       row-pieces =
           let sp = slice_range (spans text) line.start line.end in

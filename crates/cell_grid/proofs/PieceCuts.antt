@@ -1,30 +1,30 @@
--- Parts cut into pieces: by the levels of their clusters, and where columns hang.
-use Rattle.std.proofs.Common.{◌≡◌, ℕ, zero, suc, ◌+◌, ◌-◌, ◌*◌, ◌/◌, ◌<◌, ◌≤◌, min, List, [], ◌∷◌, ◌++◌, map, length, drop, get_or, replicate, sum, flat_map, refl, sym, ap, subst, ◌∙◌, arith, append_assoc, append-nil}
+-- Runs cut into pieces: by the levels of their clusters, and where columns hang.
+use Rattle.std.proofs.Common.{◌≡◌, ℕ, zero, suc, ◌+◌, ◌-◌, ◌*◌, ◌/◌, ◌<◌, ◌≤◌, List, [], ◌∷◌, ◌++◌, length, take, drop, get_or, replicate, sum, flat_map, refl, sym, ap, subst, ◌∙◌, arith, append_assoc, append-nil, inl, inr}
 use Rattle.std.proofs.Math.Nat.{div-mul-le_self}
+use Rattle.std.proofs.lemmas.Bool.Decides.{leb_tells}
 use Rattle.std.proofs.lemmas.Nat.{le-div}
-use Rattle.std.proofs.lemmas.List.{drop-drop, get_or-drop, length-drop, replicate-append-replicate}
+use Rattle.std.proofs.lemmas.List.{drop-drop, get_or-drop, length-drop, length-replicate}
 use Rattle.std.proofs.lemmas.List.Concat.{flat_map-append, flat_map-cons}
-use Rattle.std.proofs.lemmas.List.Elements.{All-push, All-same}
+use Rattle.std.proofs.lemmas.List.Elements.{All-nil, All-cons, All-head, All-tail, All-push, All-same}
 use Rattle.std.proofs.lemmas.List.Folds.{sum_by-replicate}
 use Rattle.std.proofs.lemmas.List.Sums.{sum_by-cons, sum_by-append}
-use Rattle.std.specs.List.{All, range_with_len}
+use Rattle.std.specs.List.{All}
 use Rattle.reorder.specs.LineLevels.{group_firsts}
 use Rattle.line_break.specs.declared.run.ShapeRun.{ShapeRun}
 use Rattle.line_break.specs.Runs.{span_in, sizes_of}
 use Rattle.line_break.specs.Runs.{spans_of as shape_spans, columns_of as shape_columns}
 use Rattle.cell_grid.specs.declared.cluster_run.ClusterRun.{ClusterRun}
 use Rattle.cell_grid.specs.declared.piece.Fitting.{Fitting}
-use Rattle.cell_grid.specs.Cuts.{AreFitting, IsFirstPiece, AreCut}
+use Rattle.cell_grid.specs.Cuts.{AreFitting, IsFirstPiece}
 use Rattle.cell_grid.specs.Hanging.{hung}
-use Rattle.cell_grid.specs.Parts.{behind, all_spans, all_sizes, all_columns, IsWithin}
+use Rattle.cell_grid.specs.Parts.{front, behind, all_spans, all_sizes, all_columns, IsWithin, ArePassed}
 use Rattle.cell_grid.specs.Pieces.{run_spans, run_levels, run_widths, spans_of, levels_of, columns_of}
 use Rattle.cell_grid.specs.Runs.{span_after, cluster_count, run_columns, runs_columns, IsInReach}
-use Rattle.cell_grid.proofs.Cutting.{spans-cut, sizes-cut, behind-within}
+use Rattle.cell_grid.proofs.Cutting.{spans-cut, sizes-cut, columns-cut, behind-within, length-spans_of, taken, dropped, one-less}
 use Rattle.cell_grid.proofs.Hung.{hung-full}
 use Rattle.cell_grid.proofs.Numbered.{map-range-same}
 use Rattle.cell_grid.proofs.Sides.{hung-append}
 use Rattle.cell_grid.proofs.Standing.{span_of}
-use Rattle.cell_grid.proofs.Steps.{drop-next}
 
 -- ---- columns
 
@@ -47,31 +47,19 @@ hung-out room zero columns later out some = absurd (omega arith)
 hung-out room (suc n) columns later out some =
     hung-full room columns (replicate n columns ++ later) out ∙ ap (λ l. 0 ∷ l) (hung-zero n columns later (omega arith))
 
-alike-parts : (n count columns : ℕ) (later : List ℕ) → n ≤ count → replicate count columns ++ later ≡ replicate n columns ++ (replicate (count - n) columns ++ later)
-alike-parts n count columns later le =
-    let e : count ≡ n + (count - n) = omega arith in
-    ap (λ k. replicate k columns ++ later) e
-    ∙ ap (λ l. l ++ later) (sym (replicate-append-replicate n (count - n) columns))
-    ∙ append_assoc (replicate n columns) (replicate (count - n) columns) later
-
 pub fitting-own : (count columns room n left : ℕ) → 0 < n → n ≤ count → n * columns ≤ room → left ≡ room - n * columns
     → AreFitting count columns room (record { count = n; columns = columns; room = left })
 fitting-own count columns room n left some most fits is = record {
   some = some;
   most = most;
-  hung = λ later.
-      ap (hung room) (alike-parts n count columns later most)
-      ∙ hung-fit room n columns (replicate (count - n) columns ++ later) fits
-      ∙ ap (λ k. replicate n columns ++ hung k (replicate (count - n) columns ++ later)) (sym is);
+  hung = λ later. hung-fit room n columns later fits ∙ ap (λ k. replicate n columns ++ hung k later) (sym is);
 }
 
 pub fitting-none : (count columns room : ℕ) → 0 < count → room < columns → AreFitting count columns room (record { count = count; columns = 0; room = 0 })
 fitting-none count columns room some out = record {
   some = some;
   most = omega arith;
-  hung = λ later.
-      let e : 0 ≡ count - count = omega arith in
-      hung-out room count columns later out some ∙ ap (λ n. replicate count 0 ++ hung 0 (replicate n columns ++ later)) e;
+  hung = λ later. hung-out room count columns later out some;
 }
 
 -- as many as fit
@@ -82,12 +70,28 @@ room-for n columns room le =
     let both = ap (λ k. k * columns) c in
     omega arith
 
-pub fitting-some : (count columns room n left wide : ℕ) → 0 < count → 0 < columns → columns ≤ room → n ≡ min count (room / columns) → wide ≡ columns → left ≡ room - n * wide
+some-wide : (count columns room : ℕ) → room < count * columns → 0 < columns
+some-wide count zero room over = let none : count * 0 ≡ 0 = omega arith in absurd (omega arith)
+some-wide count (suc columns) room over = omega arith
+
+few-for : (n count columns room : ℕ) → n * columns ≤ room → room < count * columns → n ≤ count
+few-for n count columns room within over = elim (leb_tells n count) [
+  | inl le ↦ le.1
+  | inr gt ↦
+      let more = gt.1 in
+      let e : n ≡ count + (n - count) = omega arith in
+      let both = ap (λ k. k * columns) e in
+      absurd (omega arith)
+]
+
+-- where not all fit
+pub fitting-some : (count columns room n left : ℕ) → room < count * columns → columns ≤ room → n ≡ room / columns → left ≡ room - n * columns
     → AreFitting count columns room (record { count = n; columns = columns; room = left })
-fitting-some count columns room n left wide some c fits is w l =
-    let one : 1 ≤ room / columns = le-div 1 room columns c (omega arith) in
-    let le : n ≤ room / columns = omega arith in
-    fitting-own count columns room n left (omega arith) (omega arith) (room-for n columns room le) (l ∙ ap (λ k. room - n * k) w)
+fitting-some count columns room n left over fits is l =
+    let some : 0 < columns = some-wide count columns room over in
+    let one : 1 ≤ room / columns = le-div 1 room columns some (omega arith) in
+    let within = room-for n columns room (omega arith) in
+    fitting-own count columns room n left (omega arith) (few-for n count columns room within over) within l
 
 -- ---- levels
 
@@ -138,176 +142,188 @@ piece_of part further level columns = record {
   columns = columns;
 }
 
-reach-one : (first size further n count whole : ℕ) → further + 1 ≡ n → n ≤ count → first + count * size ≤ 4_000_000 → first + size + further * size ≤ 4_000_000
-reach-one first size further n count whole e le within =
-    let c : count ≡ further + 1 + (count - n) = omega arith in
+reach-one : (first size further count : ℕ) → further + 1 ≤ count → first + count * size ≤ 4_000_000 → first + size + further * size ≤ 4_000_000
+reach-one first size further count le within =
+    let c : count ≡ further + 1 + (count - (further + 1)) = omega arith in
     let all = ap (λ k. k * size) c in
     omega arith
 
-module _ (part : ShapeRun) (levels : List ℕ) (room : ℕ) (within : IsWithin part) (level further : ℕ) (alike : ℕ) (f : Fitting)
-    (few : alike ≤ part.count) (fit : AreFitting alike part.columns room f) (so : further + 1 ≡ f.count)
-    (same : (k : ℕ) → k < alike → get_or levels (k * part.points) 0 ≡ level) where
-  abbrev n : ℕ
-  n = further + 1
+module _ (run : ShapeRun) (levels : List ℕ) (room : ℕ) (within : IsWithin run) (level further most alike : ℕ) (f : Fitting)
+    (few : alike ≤ most) (most_within : most ≤ run.count) (fit : AreFitting alike run.columns room f) (so : further + 1 ≡ f.count)
+    (same : (k : ℕ) → k < alike → get_or levels (k * run.points) 0 ≡ level) where
+  n-most : further + 1 ≤ most
+  n-most = let m = fit.most in omega arith
 
-  n-within : further + 1 ≤ part.count
-  n-within = let m = fit.most in omega arith
-
-  piece-spans : shape_spans part ≡ run_spans (piece_of part further level f.columns) ++ shape_spans (behind (further + 1) part)
-  piece-spans =
-      spans-cut (further + 1) part n-within
-      ∙ ap (λ l. l ++ shape_spans (behind (further + 1) part))
-      (map-range-same (span_in part) (λ k. span_after k (span_of part.first_byte (part.first_byte + part.bytes) part.first_place (part.first_place + part.points))) 0 (further + 1) (λ k low high. span-alike part k))
-
-  piece-levels : group_firsts (sizes_of part) levels ≡ replicate (further + 1) level ++ group_firsts (sizes_of (behind (further + 1) part)) (drop ((further + 1) * part.points) levels)
-  piece-levels =
+  piece-levels : (later : List ℕ) → group_firsts (replicate (further + 1) run.points ++ later) levels ≡ replicate (further + 1) level ++ group_firsts later (drop ((further + 1) * run.points) levels)
+  piece-levels later =
       let m = fit.most in
-      ap (λ l. group_firsts l levels) (sizes-cut (further + 1) part n-within)
-      ∙ firsts-append (replicate (further + 1) part.points) (sizes_of (behind (further + 1) part)) levels
-      ∙ ap (λ l. l ++ group_firsts (sizes_of (behind (further + 1) part)) (drop (sum (replicate (further + 1) part.points)) levels))
-      (firsts-alike (further + 1) part.points level levels (λ k lt. same k (omega arith)))
-      ∙ ap (λ k. replicate (further + 1) level ++ group_firsts (sizes_of (behind (further + 1) part)) (drop k levels)) (sum-alike (further + 1) part.points)
+      firsts-append (replicate (further + 1) run.points) later levels
+      ∙ ap (λ l. l ++ group_firsts later (drop (sum (replicate (further + 1) run.points)) levels))
+      (firsts-alike (further + 1) run.points level levels (λ k lt. same k (omega arith)))
+      ∙ ap (λ k. replicate (further + 1) level ++ group_firsts later (drop k levels)) (sum-alike (further + 1) run.points)
 
-  piece-columns : (later : List ℕ) → hung room (shape_columns part ++ later) ≡ replicate (further + 1) f.columns ++ hung f.room (shape_columns (behind (further + 1) part) ++ later)
+  piece-columns : (later : List ℕ) → hung room (replicate (further + 1) run.columns ++ later) ≡ replicate (further + 1) f.columns ++ hung f.room later
   piece-columns later =
-      let m = fit.most in
-      let rest : alike - f.count + (part.count - alike) ≡ part.count - (further + 1) = omega arith in
-      ap (hung room) (alike-parts alike part.count part.columns later few)
-      ∙ fit.hung (replicate (part.count - alike) part.columns ++ later)
-      ∙ ap (λ l. replicate f.count f.columns ++ hung f.room l)
-      (sym (append_assoc (replicate (alike - f.count) part.columns) (replicate (part.count - alike) part.columns) later)
-      ∙ ap (λ l. l ++ later) (replicate-append-replicate (alike - f.count) (part.count - alike) part.columns)
-      ∙ ap (λ k. replicate k part.columns ++ later) rest)
-      ∙ ap (λ k. replicate k f.columns ++ hung f.room (shape_columns (behind (further + 1) part) ++ later)) (sym so)
+      ap (λ n. hung room (replicate n run.columns ++ later)) so ∙ fit.hung later ∙ ap (λ n. replicate n f.columns ++ hung f.room later) (sym so)
 
-  piece-reach : IsInReach (piece_of part further level f.columns)
+  piece-reach : IsInReach (piece_of run further level f.columns)
   piece-reach =
-      let le = n-within in
-      let b : part.first_byte + part.bytes - part.first_byte ≡ part.bytes = omega arith in
-      let p : part.first_place + part.points - part.first_place ≡ part.points = omega arith in
+      let m = n-most in
+      let b : run.first_byte + run.bytes - run.first_byte ≡ run.bytes = omega arith in
+      let p : run.first_place + run.points - run.first_place ≡ run.points = omega arith in
       let eb = ap (λ k. further * k) b in
       let ep = ap (λ k. further * k) p in
-      let wb = reach-one part.first_byte part.bytes further (further + 1) part.count 0 refl le within.bytes in
-      let wp = reach-one part.first_place part.points further (further + 1) part.count 0 refl le within.places in
+      let wb = reach-one run.first_byte run.bytes further run.count (omega arith) within.bytes in
+      let wp = reach-one run.first_place run.points further run.count (omega arith) within.places in
       record { first_byte = omega arith; end_byte = omega arith; first_place = omega arith; end_place = omega arith }
 
-  pub first-piece : IsFirstPiece part levels room (piece_of part further level f.columns) f.room
+  pub first-piece : IsFirstPiece run most levels room (piece_of run further level f.columns) f.room
   first-piece = record {
-    within = n-within;
-    spans = piece-spans;
+    within = n-most;
+    spans =
+        sym (map-range-same (span_in run) (λ k. span_after k (span_of run.first_byte (run.first_byte + run.bytes) run.first_place (run.first_place + run.points))) 0 (further + 1)
+        (λ k low high. span-alike run k));
     levels_alike = piece-levels;
     columns = piece-columns;
     reach = piece-reach;
   }
 
--- ---- one part
+-- ---- one piece after the other
 
--- pieces so far, and what is left of a part, are those before and the part
-pub record AreCutting (part : ShapeRun) (levels : List ℕ) (room : ℕ) (old pieces : List ClusterRun) (rest : ShapeRun) (ahead : List ℕ) (left : ℕ) : Type 0 where
-  pub within : IsWithin rest
-  pub long : rest.count * rest.points ≤ length ahead
-  pub spans : spans_of pieces ++ shape_spans rest ≡ spans_of old ++ shape_spans part
-  pub levels_alike : levels_of pieces ++ group_firsts (sizes_of rest) ahead ≡ levels_of old ++ group_firsts (sizes_of part) levels
-  pub columns : (later : List ℕ) → columns_of pieces ++ hung left (shape_columns rest ++ later) ≡ columns_of old ++ hung room (shape_columns part ++ later)
-  pub reach : All IsInReach old → All IsInReach pieces
+-- pieces so far, and the clusters that are left of a line, are the line's: so many are left, before which these runs, these levels and so much room stand
+pub record AreCutTo (line : List ShapeRun) (count : ℕ) (levels : List ℕ) (width : ℕ) (pieces : List ClusterRun) (left : ℕ) (runs : List ShapeRun) (ahead : List ℕ) (room : ℕ) : Type 0 where
+  pub within : All IsWithin runs
+  pub enough : left ≤ length (all_spans runs)
+  pub long : sum (take left (all_sizes runs)) ≡ length ahead
+  pub spans : spans_of pieces ++ take left (all_spans runs) ≡ take count (all_spans line)
+  pub levels_alike : levels_of pieces ++ group_firsts (take left (all_sizes runs)) ahead ≡ group_firsts (take count (all_sizes line)) levels
+  pub columns : columns_of pieces ++ hung room (take left (all_columns runs)) ≡ hung width (take count (all_columns line))
+  pub later_spans : drop left (all_spans runs) ≡ drop count (all_spans line)
+  pub later_sizes : drop left (all_sizes runs) ≡ drop count (all_sizes line)
+  pub later_columns : drop left (all_columns runs) ≡ drop count (all_columns line)
+  pub reach : All IsInReach pieces
+
+pub cut-start : (line : List ShapeRun) (count : ℕ) (levels : List ℕ) (width : ℕ) (pieces : List ClusterRun) → pieces ≡ [] → All IsWithin line → count ≤ length (all_spans line)
+    → sum (take count (all_sizes line)) ≡ length levels → AreCutTo line count levels width pieces count line levels width
+cut-start line count levels width pieces none within enough long = record {
+  within = within;
+  enough = enough;
+  long = long;
+  spans = ap (λ l. spans_of l ++ take count (all_spans line)) none;
+  levels_alike = ap (λ l. levels_of l ++ group_firsts (take count (all_sizes line)) levels) none;
+  columns = ap (λ l. columns_of l ++ hung width (take count (all_columns line))) none;
+  later_spans = refl;
+  later_sizes = refl;
+  later_columns = refl;
+  reach = All-same IsInReach pieces [] none (All-nil IsInReach);
+}
 
 flat-push : {X Y : Type 0} (f : X → List Y) (xs : List X) (x : X) (later : List Y) → flat_map f (xs ++ x ∷ []) ++ later ≡ flat_map f xs ++ (f x ++ later)
 flat-push f xs x later =
     ap (λ l. l ++ later) (flat_map-append f xs (x ∷ []) ∙ ap (λ l. flat_map f xs ++ l) (flat_map-cons f x [] ∙ append-nil (f x)))
     ∙ append_assoc (flat_map f xs) (f x) later
 
-module _ (part : ShapeRun) (levels : List ℕ) (room : ℕ) (old pieces : List ClusterRun) (rest : ShapeRun) (ahead : List ℕ) (left : ℕ)
-    (h : AreCutting part levels room old pieces rest ahead left) where
-  -- one piece more
-  pub cutting-on : (piece : ClusterRun) (more : List ClusterRun) (next : ℕ) → IsFirstPiece rest ahead left piece next → more ≡ pieces ++ piece ∷ []
-      → IsWithin (behind (cluster_count piece) rest) → (rest.count - cluster_count piece) * rest.points ≤ length (drop (cluster_count piece * rest.points) ahead)
-      → AreCutting part levels room old more (behind (cluster_count piece) rest) (drop (cluster_count piece * rest.points) ahead) next
-  cutting-on piece more next first put within long = record {
-    within = within;
-    long = long;
-    spans = ap (λ l. spans_of l ++ shape_spans (behind (cluster_count piece) rest)) put
-        ∙ flat-push run_spans pieces piece (shape_spans (behind (cluster_count piece) rest))
-        ∙ ap (λ l. spans_of pieces ++ l) (sym first.spans) ∙ h.spans;
-    levels_alike = ap (λ l. levels_of l ++ group_firsts (sizes_of (behind (cluster_count piece) rest)) (drop (cluster_count piece * rest.points) ahead)) put
-        ∙ flat-push run_levels pieces piece (group_firsts (sizes_of (behind (cluster_count piece) rest)) (drop (cluster_count piece * rest.points) ahead))
-        ∙ ap (λ l. levels_of pieces ++ l) (sym first.levels_alike) ∙ h.levels_alike;
-    columns = λ later.
-        ap (λ l. columns_of l ++ hung next (shape_columns (behind (cluster_count piece) rest) ++ later)) put
-        ∙ flat-push run_widths pieces piece (hung next (shape_columns (behind (cluster_count piece) rest) ++ later))
-        ∙ ap (λ l. columns_of pieces ++ l) (sym (first.columns later)) ∙ h.columns later;
-    reach = λ all. All-same-push more pieces piece put (h.reach all) first.reach;
-  }
-    where
-      All-same-push : (more pieces : List ClusterRun) (piece : ClusterRun) → more ≡ pieces ++ piece ∷ [] → All IsInReach pieces → IsInReach piece → All IsInReach more
-      All-same-push more pieces piece put all one = All-same IsInReach more (pieces ++ piece ∷ []) put (All-push IsInReach pieces piece all one)
-
-  pub cutting-next : (piece : ClusterRun) (more : List ClusterRun) (next count : ℕ) (after : ShapeRun) (further : List ℕ) → IsFirstPiece rest ahead left piece next → more ≡ pieces ++ piece ∷ []
-      → count ≡ cluster_count piece → after ≡ behind count rest → further ≡ drop (count * rest.points) ahead → AreCutting part levels room old more after further next
-  cutting-next piece more next count after further first put n rest_is ahead_is =
-      let m = first.within in
-      let long = h.long in
-      let c : rest.count ≡ cluster_count piece + (rest.count - cluster_count piece) = omega arith in
-      let both = ap (λ k. k * rest.points) c in
-      let dropped = length-drop (cluster_count piece * rest.points) ahead in
-      subst (λ (r : ShapeRun). AreCutting part levels room old more r further next) (sym (rest_is ∙ ap (λ k. behind k rest) n))
-      (subst (λ (l : List ℕ). AreCutting part levels room old more (behind (cluster_count piece) rest) l next) (sym (ahead_is ∙ ap (λ k. drop (k * rest.points) ahead) n))
-      (cutting-on piece more next first put (behind-within (cluster_count piece) rest m h.within) (omega arith)))
+module _ (line : List ShapeRun) (count : ℕ) (levels : List ℕ) (width : ℕ) (pieces : List ClusterRun) (left : ℕ) (ahead : List ℕ) (room : ℕ) where
+  -- the next run is begun
+  pub cut-begun : (before runs : List ShapeRun) → ArePassed 0 before runs → All IsWithin runs → AreCutTo line count levels width pieces left before ahead room
+      → AreCutTo line count levels width pieces left runs ahead room
+  cut-begun before runs p within h =
+      let n : length (all_spans runs) ≡ length (all_spans before) = ap length p.spans in
+      let had = h.enough in
+      record {
+        within = within;
+        enough = omega arith;
+        long = ap (λ l. sum (take left l)) p.sizes ∙ h.long;
+        spans = ap (λ l. spans_of pieces ++ take left l) p.spans ∙ h.spans;
+        levels_alike = ap (λ l. levels_of pieces ++ group_firsts (take left l) ahead) p.sizes ∙ h.levels_alike;
+        columns = ap (λ l. columns_of pieces ++ hung room (take left l)) p.columns ∙ h.columns;
+        later_spans = ap (drop left) p.spans ∙ h.later_spans;
+        later_sizes = ap (drop left) p.sizes ∙ h.later_sizes;
+        later_columns = ap (drop left) p.columns ∙ h.later_columns;
+        reach = h.reach;
+      }
 
   -- nothing is left
-  pub cutting-end : rest.count ≡ 0 → AreCut part levels room old pieces left
-  cutting-end none = record {
-    spans = sym (append-nil (spans_of pieces)) ∙ ap (λ k. spans_of pieces ++ map (span_in rest) (range_with_len 0 k)) (sym none) ∙ h.spans;
-    levels_alike = sym (append-nil (levels_of pieces)) ∙ ap (λ k. levels_of pieces ++ group_firsts (replicate k rest.points) ahead) (sym none) ∙ h.levels_alike;
-    columns = λ later. ap (λ k. columns_of pieces ++ hung left (replicate k rest.columns ++ later)) (sym none) ∙ h.columns later;
-    reach = h.reach;
+  pub cut-passed : (runs : List ShapeRun) → left ≡ 0 → AreCutTo line count levels width pieces left runs ahead room → ArePassed count line runs
+  cut-passed runs none h = record {
+    spans = ap (λ n. drop n (all_spans runs)) (sym none) ∙ h.later_spans;
+    sizes = ap (λ n. drop n (all_sizes runs)) (sym none) ∙ h.later_sizes;
+    columns = ap (λ n. drop n (all_columns runs)) (sym none) ∙ h.later_columns;
   }
 
--- ---- all parts
+  pub cut-spans : (runs : List ShapeRun) → left ≡ 0 → AreCutTo line count levels width pieces left runs ahead room → spans_of pieces ≡ take count (all_spans line)
+  cut-spans runs none h = sym (append-nil (spans_of pieces)) ∙ ap (λ n. spans_of pieces ++ take n (all_spans runs)) (sym none) ∙ h.spans
 
--- pieces so far, and what is left of the parts, are the line
-pub record AreJoint (parts : List ShapeRun) (levels : List ℕ) (width : ℕ) (pieces : List ClusterRun) (i place room : ℕ) : Type 0 where
-  pub ahead : place + sum (all_sizes (drop i parts)) ≡ length levels
-  pub spans : spans_of pieces ++ all_spans (drop i parts) ≡ all_spans parts
-  pub levels_alike : levels_of pieces ++ group_firsts (all_sizes (drop i parts)) (drop place levels) ≡ group_firsts (all_sizes parts) levels
-  pub columns : columns_of pieces ++ hung room (all_columns (drop i parts)) ≡ hung width (all_columns parts)
-  pub reach : All IsInReach pieces
+  pub cut-levels : (runs : List ShapeRun) → left ≡ 0 → AreCutTo line count levels width pieces left runs ahead room → levels_of pieces ≡ group_firsts (take count (all_sizes line)) levels
+  cut-levels runs none h = sym (append-nil (levels_of pieces)) ∙ ap (λ n. levels_of pieces ++ group_firsts (take n (all_sizes runs)) ahead) (sym none) ∙ h.levels_alike
 
-module _ (parts : List ShapeRun) (levels : List ℕ) (width : ℕ) (pieces : List ClusterRun) (i place room : ℕ) (part d : ShapeRun) (lt : i < length parts) (is : part ≡ get_or parts i d)
-    (h : AreJoint parts levels width pieces i place room) where
-  from-next : {X : Type 0} (f : ShapeRun → List X) → flat_map f (drop i parts) ≡ f part ++ flat_map f (drop (i + 1) parts)
-  from-next f = ap (flat_map f) (drop-next parts i part d lt is) ∙ flat_map-cons f part (drop (i + 1) parts)
+  pub cut-columns : (runs : List ShapeRun) → left ≡ 0 → AreCutTo line count levels width pieces left runs ahead room → columns_of pieces ≡ hung width (take count (all_columns line))
+  cut-columns runs none h = sym (append-nil (columns_of pieces)) ∙ ap (λ n. columns_of pieces ++ hung room (take n (all_columns runs))) (sym none) ∙ h.columns
 
-  sum-next : sum (all_sizes (drop i parts)) ≡ part.count * part.points + sum (all_sizes (drop (i + 1) parts))
-  sum-next =
-      ap sum (from-next sizes_of)
-      ∙ sum_by-append (λ (k : ℕ). k) (sizes_of part) (all_sizes (drop (i + 1) parts))
-      ∙ ap (λ n. n + sum (all_sizes (drop (i + 1) parts))) (sum-alike part.count part.points)
+  module _ (run : ShapeRun) (later : List ShapeRun) (h : AreCutTo line count levels width pieces left (run ∷ later) ahead room) where
+    -- the levels go on as far as some of the run's clusters, and then as far as the line
+    pub level-each : (n : ℕ) → n ≤ run.count → n ≤ left → n * run.points + sum (take (left - n) (all_sizes (behind n run ∷ later))) ≡ length ahead
+    level-each n le few =
+        ap (λ k. k + sum (take (left - n) (all_sizes (behind n run ∷ later)))) (sym (sum-alike n run.points))
+        ∙ sym (sum_by-append (λ (k : ℕ). k) (replicate n run.points) (take (left - n) (all_sizes (behind n run ∷ later))))
+        ∙ ap sum (taken sizes_of n left run later few (sizes-cut n run le) (length-replicate n run.points)) ∙ h.long
 
-  pub joint-long : part.count * part.points ≤ length (drop place levels)
-  joint-long = let n = length-drop place levels in let s = sum-next in let a = h.ahead in omega arith
+    -- one piece more
+    module _ (piece : ClusterRun) (most next : ℕ) (more : List ClusterRun) (first : IsFirstPiece run most ahead room piece next) (most_run : most ≤ run.count) (most_left : most ≤ left)
+        (put : more ≡ pieces ++ piece ∷ []) where
+      n-run : cluster_count piece ≤ run.count
+      n-run = let m = first.within in omega arith
 
-  pub joint-on : (more : List ClusterRun) (next : ℕ) → AreCut part (drop place levels) room pieces more next → AreJoint parts levels width more (i + 1) (place + part.count * part.points) next
-  joint-on more next cut =
-      let s = sum-next in
-      let a = h.ahead in
-      let L = drop place levels in
-      record {
-        ahead = omega arith;
-        spans = ap (λ l. l ++ all_spans (drop (i + 1) parts)) cut.spans
-            ∙ append_assoc (spans_of pieces) (shape_spans part) (all_spans (drop (i + 1) parts))
-            ∙ ap (λ l. spans_of pieces ++ l) (sym (from-next shape_spans)) ∙ h.spans;
-        levels_alike = ap (λ l. l ++ group_firsts (all_sizes (drop (i + 1) parts)) (drop (place + part.count * part.points) levels)) cut.levels_alike
-            ∙ append_assoc (levels_of pieces) (group_firsts (sizes_of part) (drop place levels)) (group_firsts (all_sizes (drop (i + 1) parts)) (drop (place + part.count * part.points) levels))
-            ∙ ap (λ l. levels_of pieces ++ l)
-            (ap (λ l. group_firsts (sizes_of part) (drop place levels) ++ group_firsts (all_sizes (drop (i + 1) parts)) l)
-            (sym (ap (λ n. drop n (drop place levels)) (sum-alike part.count part.points) ∙ drop-drop (part.count * part.points) place levels))
-            ∙ sym (firsts-append (sizes_of part) (all_sizes (drop (i + 1) parts)) (drop place levels))
-            ∙ ap (λ l. group_firsts l (drop place levels)) (sym (from-next sizes_of)))
-            ∙ h.levels_alike;
-        columns = cut.columns (all_columns (drop (i + 1) parts))
-            ∙ ap (λ l. columns_of pieces ++ hung room l) (sym (from-next shape_columns)) ∙ h.columns;
-        reach = cut.reach h.reach;
-      }
+      n-left : cluster_count piece ≤ left
+      n-left = let m = first.within in omega arith
+
+      part-spans : run_spans piece ++ take (left - cluster_count piece) (all_spans (behind (cluster_count piece) run ∷ later)) ≡ take left (all_spans (run ∷ later))
+      part-spans =
+          ap (λ l. l ++ take (left - cluster_count piece) (all_spans (behind (cluster_count piece) run ∷ later))) first.spans
+          ∙ taken shape_spans (cluster_count piece) left run later n-left (spans-cut (cluster_count piece) run n-run) (length-spans_of (front (cluster_count piece) run))
+
+      part-levels : run_levels piece ++ group_firsts (take (left - cluster_count piece) (all_sizes (behind (cluster_count piece) run ∷ later))) (drop (cluster_count piece * run.points) ahead) ≡ group_firsts (take left (all_sizes (run ∷ later))) ahead
+      part-levels =
+          sym (first.levels_alike (take (left - cluster_count piece) (all_sizes (behind (cluster_count piece) run ∷ later))))
+          ∙ ap (λ l. group_firsts l ahead) (taken sizes_of (cluster_count piece) left run later n-left (sizes-cut (cluster_count piece) run n-run) (length-replicate (cluster_count piece) run.points))
+
+      part-columns : run_widths piece ++ hung next (take (left - cluster_count piece) (all_columns (behind (cluster_count piece) run ∷ later))) ≡ hung room (take left (all_columns (run ∷ later)))
+      part-columns =
+          sym (first.columns (take (left - cluster_count piece) (all_columns (behind (cluster_count piece) run ∷ later))))
+          ∙ ap (hung room) (taken shape_columns (cluster_count piece) left run later n-left (columns-cut (cluster_count piece) run n-run) (length-replicate (cluster_count piece) run.columns))
+
+      cut-on : AreCutTo line count levels width more (left - cluster_count piece) (behind (cluster_count piece) run ∷ later) (drop (cluster_count piece * run.points) ahead) next
+      cut-on =
+          let had = h.enough in
+          let fewer = one-less shape_spans (cluster_count piece) left run later n-left (spans-cut (cluster_count piece) run n-run) (length-spans_of (front (cluster_count piece) run)) in
+          let each = level-each (cluster_count piece) n-run n-left in
+          let gone = length-drop (cluster_count piece * run.points) ahead in
+          record {
+            within = All-cons IsWithin (behind (cluster_count piece) run) later (behind-within (cluster_count piece) run n-run (All-head IsWithin run later h.within)) (All-tail IsWithin run later h.within);
+            enough = omega arith;
+            long = omega arith;
+            spans = ap (λ l. spans_of l ++ take (left - cluster_count piece) (all_spans (behind (cluster_count piece) run ∷ later))) put
+                ∙ flat-push run_spans pieces piece (take (left - cluster_count piece) (all_spans (behind (cluster_count piece) run ∷ later)))
+                ∙ ap (λ l. spans_of pieces ++ l) part-spans ∙ h.spans;
+            levels_alike = ap (λ l. levels_of l ++ group_firsts (take (left - cluster_count piece) (all_sizes (behind (cluster_count piece) run ∷ later))) (drop (cluster_count piece * run.points) ahead)) put
+                ∙ flat-push run_levels pieces piece (group_firsts (take (left - cluster_count piece) (all_sizes (behind (cluster_count piece) run ∷ later))) (drop (cluster_count piece * run.points) ahead))
+                ∙ ap (λ l. levels_of pieces ++ l) part-levels ∙ h.levels_alike;
+            columns = ap (λ l. columns_of l ++ hung next (take (left - cluster_count piece) (all_columns (behind (cluster_count piece) run ∷ later)))) put
+                ∙ flat-push run_widths pieces piece (hung next (take (left - cluster_count piece) (all_columns (behind (cluster_count piece) run ∷ later))))
+                ∙ ap (λ l. columns_of pieces ++ l) part-columns ∙ h.columns;
+            later_spans = dropped shape_spans (cluster_count piece) left run later n-left (spans-cut (cluster_count piece) run n-run) (length-spans_of (front (cluster_count piece) run)) ∙ h.later_spans;
+            later_sizes = dropped sizes_of (cluster_count piece) left run later n-left (sizes-cut (cluster_count piece) run n-run) (length-replicate (cluster_count piece) run.points) ∙ h.later_sizes;
+            later_columns = dropped shape_columns (cluster_count piece) left run later n-left (columns-cut (cluster_count piece) run n-run) (length-replicate (cluster_count piece) run.columns) ∙ h.later_columns;
+            reach = All-same IsInReach more (pieces ++ piece ∷ []) put (All-push IsInReach pieces piece h.reach first.reach);
+          }
+
+      pub cut-next : (number fewer : ℕ) (after : ShapeRun) (further : List ℕ) → number ≡ cluster_count piece → fewer ≡ left - number → after ≡ behind number run → further ≡ drop (number * run.points) ahead
+          → AreCutTo line count levels width more fewer (after ∷ later) further next
+      cut-next number fewer after further is left_is run_is ahead_is =
+          subst (λ (k : ℕ). AreCutTo line count levels width more k (after ∷ later) further next) (sym (left_is ∙ ap (λ k. left - k) is))
+          (subst (λ (r : ShapeRun). AreCutTo line count levels width more (left - cluster_count piece) (r ∷ later) further next) (sym (run_is ∙ ap (λ k. behind k run) is))
+          (subst (λ (l : List ℕ). AreCutTo line count levels width more (left - cluster_count piece) (behind (cluster_count piece) run ∷ later) l next)
+          (sym (ahead_is ∙ ap (λ k. drop (k * run.points) ahead) is)) cut-on))
 
 -- ---- the columns of pieces
 

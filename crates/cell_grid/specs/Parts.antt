@@ -1,5 +1,5 @@
--- Parts of runs of clusters of one shape: what lines have of a paragraph's runs, one line after the other.
-use Rattle.std.specs.Prelude.{◌≡◌, ℕ, ◌+◌, ◌-◌, ◌*◌, ◌<◌, ◌≤◌, List, ◌∷◌, ◌++◌, drop}
+-- Runs of clusters of one shape, read from the front: what lines have of a paragraph's runs, one line after the other.
+use Rattle.std.specs.Prelude.{◌≡◌, ℕ, ◌+◌, ◌-◌, ◌*◌, ◌<◌, ◌≤◌, List, ◌∷◌, drop}
 use Rattle.std.specs.List.{flat_map}
 use Rattle.unicode_tables.specs.Tables.{TableValues}
 use Rattle.paragraphs.specs.Clusters.{cluster_sizes}
@@ -41,11 +41,11 @@ pub record IsWithin (run : ShapeRun) : Type 0 where
 abbrev pub left_of : List ShapeRun → Cursor → List ShapeRun
 left_of runs cursor = cursor.first ∷ drop cursor.next runs
 
--- the clusters of some runs are those of others, and then those of others again
-pub record AreParted (runs parts later : List ShapeRun) : Type 0 where
-  pub spans : all_spans runs ≡ all_spans parts ++ all_spans later
-  pub sizes : all_sizes runs ≡ all_sizes parts ++ all_sizes later
-  pub columns : all_columns runs ≡ all_columns parts ++ all_columns later
+-- so many of the clusters of some runs are passed, and these are left
+pub record ArePassed (count : ℕ) (runs later : List ShapeRun) : Type 0 where
+  pub spans : all_spans later ≡ drop count (all_spans runs)
+  pub sizes : all_sizes later ≡ drop count (all_sizes runs)
+  pub columns : all_columns later ≡ drop count (all_columns runs)
 
 -- runs have the clusters of a text from this one on
 pub record AreFrom (tables : TableValues) (text : List ℕ) (start : ℕ) (runs : List ShapeRun) : Type 0 where

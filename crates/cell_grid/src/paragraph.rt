@@ -19,14 +19,14 @@ ghost use Rattle.cell_grid.specs.Shifting.{MayShiftRow};
 
 use crate::cluster_run::ClusterRun;
 use crate::laws_below::laws_below;
-use crate::part::{Cursor, extent};
-use crate::piece::cut_all;
+use crate::part::Cursor;
+use crate::piece::cut;
 use crate::row::Row;
 use crate::separator::{is_separator_alone, separator_rows};
 use bg_types::{Base, Bidi, Memory};
 use bidi_explicit::paragraph_level;
 use bidi_weak_neutral::levels_at;
-use line_break::{Line, Outline, ShapeRun, lines_of, outline_of};
+use line_break::{Line, Outline, lines_of, outline_of};
 use paragraphs::{Para, Span, code_points_of};
 use reorder::levels_after_l1;
 use std::alloc::Global;
@@ -48,7 +48,6 @@ struct Material<'a> {
 /// What a line's row is made of, in lists that are used for one line after the other.
 #[derive(Drop)]
 struct Lists {
-    parts: Vec<ShapeRun>,
     /// The level of each code point.
     levels: Vec<u8>,
     pieces: Vec<ClusterRun>,
@@ -59,7 +58,6 @@ impl Lists {
     fn for_width(alloc: Global, width: u16) -> Result<Lists, Memory> {
         let room = usize::from(width);
         Ok(Lists {
-            parts: Vec::with_capacity(alloc, room)?,
             levels: Vec::with_capacity(alloc, room)?,
             pieces: Vec::with_capacity(alloc, room)?,
         })
@@ -107,10 +105,16 @@ fn row_of(
     ensures within { IfOk result (λ row. All IsWithin (left_of material.now.clusters.runs.items cursor.new)) }
 {
     let count = (line.end - line.start) as u32;
-    cursor.parts(&mut lists.parts, &material.clusters.runs, count)?;
-    let whole = extent(&lists.parts);
+    let whole = cursor.extent(&material.clusters.runs, count);
     levels_in_line(&mut lists.levels, material, whole)?;
-    cut_all(&mut lists.pieces, &lists.parts, &lists.levels, width)?;
+    cut(
+        &mut lists.pieces,
+        cursor,
+        &material.clusters.runs,
+        count,
+        &lists.levels,
+        width,
+    )?;
     Row::of_pieces(
         alloc,
         width,

@@ -1,12 +1,11 @@
-//! The parts of a paragraph's runs that its lines have.
+//! A paragraph's runs, read one line after the other.
 
-ghost use Rattle.std.specs.Prelude.{◌≡◌, ◌<◌, ◌≤◌, [], ◌∷◌, length, OnOk};
+ghost use Rattle.std.specs.Prelude.{◌≡◌, ◌<◌, ◌≤◌, length, take};
 ghost use Rattle.std.specs.List.{All};
 ghost use Rattle.line_break.specs.Runs.{AllHaveSome};
-ghost use Rattle.cell_grid.specs.Parts.{behind, all_spans, IsWithin, left_of, AreParted};
+ghost use Rattle.cell_grid.specs.Parts.{behind, all_spans, IsWithin, left_of, ArePassed};
 ghost use Rattle.cell_grid.specs.Spans.{extent};
 
-use bg_types::Memory;
 use line_break::ShapeRun;
 use paragraphs::Span;
 
@@ -52,86 +51,64 @@ impl Cursor {
         Cursor { first, next: 0 }
     }
 
+    /// Passes what is left of the run that is read, where clusters are left behind it.
+    #[inline]
+    fn go_on(&mut self, runs: &[ShapeRun])
+        requires more { self.old.first.count < length (all_spans (left_of runs.now self.old)) }
+        requires runs { AllHaveSome runs.now }
+        ensures first { 0 < self.new.first.count }
+        ensures passed { ArePassed self.old.first.count (left_of runs.now self.old) (left_of runs.now self.new) }
+        ensures within { All IsWithin (left_of runs.now self.old) → All IsWithin (left_of runs.now self.new) }
+    {
+        self.first = runs[self.next];
+        self.next += 1;
+    }
+
     /// Goes on to the next run where nothing is left of the one that is read.
-    fn begin(&mut self, runs: &[ShapeRun])
+    #[inline]
+    pub(crate) fn begin(&mut self, runs: &[ShapeRun])
         requires left { 0 < length (all_spans (left_of runs.now self.old)) }
         requires runs { AllHaveSome runs.now }
         ensures first { 0 < self.new.first.count }
-        ensures same { AreParted (left_of runs.now self.old) [] (left_of runs.now self.new) }
+        ensures same { ArePassed 0 (left_of runs.now self.old) (left_of runs.now self.new) }
         ensures within { All IsWithin (left_of runs.now self.old) → All IsWithin (left_of runs.now self.new) }
     {
         if self.first.count == 0 {
-            self.first = runs[self.next];
-            self.next += 1;
+            self.go_on(runs);
         }
     }
 
-    /// The next clusters of one shape, at most so many. They are passed.
-    fn next_part(&mut self, runs: &[ShapeRun], most: u32) -> ShapeRun
-        requires most { 0 < most }
-        requires left { 0 < length (all_spans (left_of runs.now self.old)) }
+    /// Where the next so many clusters stand, from the first to the last. If there are none, the paragraph's start.
+    pub(crate) fn extent(self, runs: &[ShapeRun], clusters: u32) -> Span
+        requires clusters { clusters ≤ length (all_spans (left_of runs.now self)) }
         requires runs { AllHaveSome runs.now }
-        requires within { All IsWithin (left_of runs.now self.old) }
-        ensures some { 0 < result.count }
-        ensures most { result.count ≤ most }
-        ensures part { IsWithin result }
-        ensures parted { AreParted (left_of runs.now self.old) (result ∷ []) (left_of runs.now self.new) }
-        ensures within { All IsWithin (left_of runs.now self.new) }
+        requires within { All IsWithin (left_of runs.now self) }
+        ensures { result ≡ extent (take clusters (all_spans (left_of runs.now self))) }
     {
-        self.begin(runs);
-        let run = self.first;
-        let count = run.count.min(most);
-        self.first = behind(count, run);
-        ShapeRun { count, ..run }
-    }
-
-    /// Puts the parts that the next so many clusters have, in order, into a list, in place of what it has. They are passed.
-    /// Never inlined: as a part of its caller its loop would have fewer registers.
-    #[inline(never)]
-    pub(crate) fn parts(
-        &mut self,
-        parts: &mut Vec<ShapeRun>,
-        runs: &[ShapeRun],
-        clusters: u32,
-    ) -> Result<(), Memory>
-        requires clusters { clusters ≤ length (all_spans (left_of runs.now self.old)) }
-        requires runs { AllHaveSome runs.now }
-        requires within { All IsWithin (left_of runs.now self.old) }
-        ensures parted { OnOk result (AreParted (left_of runs.now self.old) parts.new.items (left_of runs.now self.new)) }
-        ensures count { OnOk result (length (all_spans parts.new.items) ≡ clusters) }
-        ensures some { OnOk result (AllHaveSome parts.new.items) }
-        ensures parts { OnOk result (All IsWithin parts.new.items) }
-        ensures within { All IsWithin (left_of runs.now self.new) }
-    {
-        parts.clear();
+        if clusters == 0 {
+            return Span {
+                first_byte: 0,
+                end_byte: 0,
+                first_place: 0,
+                end_place: 0,
+            };
+        }
+        let mut reader = self;
+        reader.begin(runs);
+        let first = reader.first;
         let mut left = clusters;
-        while left > 0 {
-            let part = self.next_part(runs, left);
-            left -= part.count;
-            parts.push(part)?;
+        while left > reader.first.count {
+            left -= reader.first.count;
+            reader.go_on(runs);
         }
-        Ok(())
-    }
-}
-
-/// The extent of parts that follow one another. If there are none, the paragraph's start.
-pub(crate) fn extent(parts: &[ShapeRun]) -> Span
-    requires some { AllHaveSome parts.now }
-    requires within { All IsWithin parts.now }
-    ensures { result ≡ extent (all_spans parts.now) }
-{
-    match (parts.first(), parts.last()) {
-        (Some(first), Some(last)) => Span {
+        let last = reader.first;
+        let end_byte = last.first_byte + left * last.bytes;
+        let end_place = last.first_place + left * last.points;
+        Span {
             first_byte: first.first_byte,
-            end_byte: last.first_byte + last.count * last.bytes,
+            end_byte,
             first_place: first.first_place,
-            end_place: last.first_place + last.count * last.points,
-        },
-        _ => Span {
-            first_byte: 0,
-            end_byte: 0,
-            first_place: 0,
-            end_place: 0,
-        },
+            end_place,
+        }
     }
 }

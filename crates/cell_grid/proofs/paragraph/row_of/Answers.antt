@@ -1,73 +1,121 @@
 -- The row of a line that fits.
-use Rattle.std.proofs.Common.{List, length, sum, sym, ap, subst, ◌∙◌, arith}
+use Rattle.std.proofs.Common.{◌-◌, List, length, take, sum, refl, sym, ap, subst, ◌∙◌, arith}
+use Rattle.std.proofs.lemmas.List.{length-take-le}
 use Rattle.std.proofs.lemmas.Result.{IfOk-weaker}
+use Rattle.std.specs.List.{All}
 use Rattle.line_break.specs.declared.run.ShapeRun.{ShapeRun}
 use Rattle.reorder.specs.LineLevels.{group_firsts}
 use Rattle.cell_grid.specs.declared.cluster_run.ClusterRun.{ClusterRun}
 use Rattle.cell_grid.specs.Hanging.{hung}
-use Rattle.cell_grid.specs.Parts.{all_spans, all_sizes, all_columns, left_of, AreFrom}
+use Rattle.cell_grid.specs.Parts.{all_spans, all_sizes, all_columns, IsWithin, left_of, AreFrom, ArePassed}
 use Rattle.cell_grid.specs.Pieces.{spans_of, levels_of, columns_of}
 use Rattle.cell_grid.specs.Rows.{row_with}
 use Rattle.cell_grid.specs.Runs.{runs_columns}
 use Rattle.cell_grid.specs.Spans.{extent}
-use Rattle.cell_grid.proofs.LinePieces.{line-parts, line-later, line-ahead, after-long, row-pieces}
+use Rattle.cell_grid.proofs.LinePieces.{line-next, line-later, line-ahead, after-long, whole-order, whole-within, row-pieces}
 use Rattle.cell_grid.proofs.PieceCuts.{sum-columns}
 use Rattle.cell_grid.proofs.Sides.{sum-hung}
 use Rattle.cell_grid.proofs.paragraph.row_of.Goals as goal
 
-pub parts-requires-clause-clusters : goal.parts-requires-clause-clusters
-parts-requires-clause-clusters c =
+pub extent-whole-requires-clause-clusters : goal.extent-whole-requires-clause-clusters
+extent-whole-requires-clause-clusters c =
     let m = c.args.material.now in
-    let left = left_of c.deref.result.now c.args.cursor.now in
-    let here = subst (λ (l : List ShapeRun). AreFrom m.tables.now m.text.now c.args.line.start (left_of l c.args.cursor.now)) (sym c.deref.ensures.value) c.requires.at_start in
-    line-ahead m.tables.now m.text.now c.args.line left c.requires.line.within here
+    line-ahead m.tables.now m.text.now c.args.line (left_of c.deref.result.now c.args.cursor.now) c.requires.line.within
+    (subst (λ (l : List ShapeRun). AreFrom m.tables.now m.text.now c.args.line.start (left_of l c.args.cursor.now)) (sym c.deref.ensures.value) c.requires.at_start)
 
-pub cut_all-requires-clause-levels : goal.cut_all-requires-clause-levels
-cut_all-requires-clause-levels c =
+pub levels_in_line-requires-clause-order : goal.levels_in_line-requires-clause-order
+levels_in_line-requires-clause-order c =
     let m = c.args.material.now in
-    let parts = c.parts.new.parts.items in
-    let here = subst (λ (l : List ShapeRun). AreFrom m.tables.now m.text.now c.args.line.start (left_of l c.args.cursor.now)) (sym c.deref.ensures.value) c.requires.at_start in
-    let line = line-parts m.tables.now m.text.now c.args.line (left_of c.deref.result.now c.args.cursor.now) parts (left_of c.deref.result.now c.parts.new.self) c.requires.line.order here
-    c.in_ok-parts.ensures.parted c.in_ok-parts.ensures.count in
-    let at = c.extent-whole.ensures ∙ ap (λ (l : List ShapeRun). extent (all_spans l)) c.deref-2.ensures.value in
-    ap (λ (l : List ShapeRun). sum (all_sizes l)) c.deref-3.ensures.value
-    ∙ after-long m.tables.now c.args.width m.para_level m.text.now m.levels.items c.args.line c.requires.line parts line c.extent-whole.result at c.levels_in_line.new.levels.items c.requires.levels c.in_ok-levels_in_line.ensures
-    ∙ sym (ap length c.deref-4.ensures.value)
+    let runs = left_of m.clusters.runs.items c.args.cursor.now in
+    let count = c.args.line.end - c.args.line.start in
+    let line = line-next m.tables.now m.text.now c.args.line (c.args.line.end - c.args.line.start) runs c.requires.line.order refl c.requires.at_start in
+    let at = c.extent-whole.ensures ∙ ap (λ (l : List ShapeRun). extent (take (c.args.line.end - c.args.line.start) (all_spans (left_of l c.args.cursor.now)))) c.deref.ensures.value in
+    whole-order m.tables.now c.args.width m.para_level m.text.now m.levels.items c.args.line c.requires.line count runs line c.extent-whole.result at
+
+pub levels_in_line-requires-clause-within : goal.levels_in_line-requires-clause-within
+levels_in_line-requires-clause-within c =
+    let m = c.args.material.now in
+    let runs = left_of m.clusters.runs.items c.args.cursor.now in
+    let count = c.args.line.end - c.args.line.start in
+    let line = line-next m.tables.now m.text.now c.args.line (c.args.line.end - c.args.line.start) runs c.requires.line.order refl c.requires.at_start in
+    let at = c.extent-whole.ensures ∙ ap (λ (l : List ShapeRun). extent (take (c.args.line.end - c.args.line.start) (all_spans (left_of l c.args.cursor.now)))) c.deref.ensures.value in
+    whole-within m.tables.now c.args.width m.para_level m.text.now m.levels.items c.args.line c.requires.line count runs line c.extent-whole.result at
+
+pub cut-requires-clause-clusters : goal.cut-requires-clause-clusters
+cut-requires-clause-clusters c =
+    let m = c.args.material.now in
+    line-ahead m.tables.now m.text.now c.args.line (left_of c.deref-2.result.now c.args.cursor.now) c.requires.line.within
+    (subst (λ (l : List ShapeRun). AreFrom m.tables.now m.text.now c.args.line.start (left_of l c.args.cursor.now)) (sym c.deref-2.ensures.value) c.requires.at_start)
+
+pub cut-requires-clause-levels : goal.cut-requires-clause-levels
+cut-requires-clause-levels c =
+    let m = c.args.material.now in
+    let runs = left_of m.clusters.runs.items c.args.cursor.now in
+    let count = c.args.line.end - c.args.line.start in
+    let line = line-next m.tables.now m.text.now c.args.line (c.args.line.end - c.args.line.start) runs c.requires.line.order refl c.requires.at_start in
+    let at = c.extent-whole.ensures ∙ ap (λ (l : List ShapeRun). extent (take (c.args.line.end - c.args.line.start) (all_spans (left_of l c.args.cursor.now)))) c.deref.ensures.value in
+    ap (λ (l : List ShapeRun). sum (take count (all_sizes (left_of l c.args.cursor.now)))) c.deref-2.ensures.value
+    ∙ after-long m.tables.now c.args.width m.para_level m.text.now m.levels.items c.args.line c.requires.line count runs line c.extent-whole.result at c.levels_in_line.new.levels.items c.requires.levels c.in_ok-levels_in_line.ensures
+    ∙ sym (ap length c.deref-3.ensures.value)
 
 pub of_pieces-requires-clause-room : goal.of_pieces-requires-clause-room
 of_pieces-requires-clause-room c =
-    let pieces = c.cut_all.new.pieces.items in
-    let all = sum-columns c.cut_all.new.pieces.items in
-    let own = ap sum c.in_ok-cut_all.ensures.columns in
-    let fits = sum-hung c.args.width (all_columns c.deref-3.result.now) in
-    let lent = ap runs_columns c.deref-5.ensures.value in
+    let all = sum-columns c.cut.new.pieces.items in
+    let own = ap sum c.in_ok-cut.ensures.columns in
+    let fits = sum-hung c.args.width (take (c.args.line.end - c.args.line.start) (all_columns (left_of c.deref-2.result.now c.args.cursor.now))) in
+    let lent = ap runs_columns c.deref-4.ensures.value in
+    omega arith
+
+pub of_pieces-requires-clause-whole : goal.of_pieces-requires-clause-whole
+of_pieces-requires-clause-whole c =
+    let m = c.args.material.now in
+    let runs = left_of m.clusters.runs.items c.args.cursor.now in
+    let count = c.args.line.end - c.args.line.start in
+    let line = line-next m.tables.now m.text.now c.args.line (c.args.line.end - c.args.line.start) runs c.requires.line.order refl c.requires.at_start in
+    let at = c.extent-whole.ensures ∙ ap (λ (l : List ShapeRun). extent (take (c.args.line.end - c.args.line.start) (all_spans (left_of l c.args.cursor.now)))) c.deref.ensures.value in
+    at ∙ sym (ap (λ (l : List ClusterRun). extent (spans_of l)) c.deref-4.ensures.value
+    ∙ ap extent (c.in_ok-cut.ensures.spans ∙ ap (λ (l : List ShapeRun). take count (all_spans (left_of l c.args.cursor.now))) c.deref-2.ensures.value))
+
+pub of_pieces-requires-clause-count : goal.of_pieces-requires-clause-count
+of_pieces-requires-clause-count c =
+    let m = c.args.material.now in
+    let ahead = line-ahead m.tables.now m.text.now c.args.line (left_of c.deref-2.result.now c.args.cursor.now) c.requires.line.within
+    (subst (λ (l : List ShapeRun). AreFrom m.tables.now m.text.now c.args.line.start (left_of l c.args.cursor.now)) (sym c.deref-2.ensures.value) c.requires.at_start) in
+    let whole = length-take-le (c.args.line.end - c.args.line.start) (all_spans (left_of c.deref-2.result.now c.args.cursor.now)) ahead in
+    let own = ap length (ap spans_of c.deref-4.ensures.value ∙ c.in_ok-cut.ensures.spans) in
     omega arith
 
 pub returns-clause-row : goal.returns-clause-row
 returns-clause-row c =
     let m = c.args.material.now in
-    let parts = c.parts.new.parts.items in
-    let here = subst (λ (l : List ShapeRun). AreFrom m.tables.now m.text.now c.args.line.start (left_of l c.args.cursor.now)) (sym c.deref.ensures.value) c.requires.at_start in
-    let line = line-parts m.tables.now m.text.now c.args.line (left_of c.deref.result.now c.args.cursor.now) parts (left_of c.deref.result.now c.parts.new.self) c.requires.line.order here
-    c.in_ok-parts.ensures.parted c.in_ok-parts.ensures.count in
-    let at = c.extent-whole.ensures ∙ ap (λ (l : List ShapeRun). extent (all_spans l)) c.deref-2.ensures.value in
-    let same_spans = c.in_ok-cut_all.ensures.spans ∙ ap all_spans c.deref-3.ensures.value in
-    let same_levels = c.in_ok-cut_all.ensures.levels ∙ ap (λ (l : List ShapeRun). group_firsts (all_sizes l) c.deref-4.result.now) c.deref-3.ensures.value
-    ∙ ap (group_firsts (all_sizes c.parts.new.parts.items)) c.deref-4.ensures.value in
-    let same_columns = c.in_ok-cut_all.ensures.columns ∙ ap (λ (l : List ShapeRun). hung c.args.width (all_columns l)) c.deref-3.ensures.value in
+    let runs = left_of m.clusters.runs.items c.args.cursor.now in
+    let count = c.args.line.end - c.args.line.start in
+    let line = line-next m.tables.now m.text.now c.args.line (c.args.line.end - c.args.line.start) runs c.requires.line.order refl c.requires.at_start in
+    let at = c.extent-whole.ensures ∙ ap (λ (l : List ShapeRun). extent (take (c.args.line.end - c.args.line.start) (all_spans (left_of l c.args.cursor.now)))) c.deref.ensures.value in
+    let same_spans = c.in_ok-cut.ensures.spans ∙ ap (λ (l : List ShapeRun). take count (all_spans (left_of l c.args.cursor.now))) c.deref-2.ensures.value in
+    let same_levels = c.in_ok-cut.ensures.levels
+    ∙ ap (λ (l : List ShapeRun). group_firsts (take count (all_sizes (left_of l c.args.cursor.now))) c.deref-3.result.now) c.deref-2.ensures.value
+    ∙ ap (group_firsts (take count (all_sizes runs))) c.deref-3.ensures.value in
+    let same_columns = c.in_ok-cut.ensures.columns ∙ ap (λ (l : List ShapeRun). hung c.args.width (take count (all_columns (left_of l c.args.cursor.now)))) c.deref-2.ensures.value in
     IfOk-weaker c.of_pieces.result _ _
-    (λ row e. e ∙ ap (λ (l : List ClusterRun). row_with c.args.width m.para_level (spans_of l) (levels_of l) (columns_of l)) c.deref-5.ensures.value
-    ∙ row-pieces m.tables.now c.args.width m.para_level m.text.now m.levels.items c.args.line c.requires.line parts line c.extent-whole.result at c.levels_in_line.new.levels.items c.requires.levels
-    c.in_ok-levels_in_line.ensures c.cut_all.new.pieces.items same_spans same_levels same_columns)
+    (λ row e. e ∙ ap (λ (l : List ClusterRun). row_with c.args.width m.para_level (spans_of l) (levels_of l) (columns_of l)) c.deref-4.ensures.value
+    ∙ row-pieces m.tables.now c.args.width m.para_level m.text.now m.levels.items c.args.line c.requires.line count runs line c.extent-whole.result at c.levels_in_line.new.levels.items c.requires.levels
+    c.in_ok-levels_in_line.ensures c.cut.new.pieces.items same_spans same_levels same_columns)
     c.of_pieces.ensures
 
 pub returns-clause-at_end : goal.returns-clause-at_end
 returns-clause-at_end c =
     let m = c.args.material.now in
-    let parts = c.parts.new.parts.items in
-    let here = subst (λ (l : List ShapeRun). AreFrom m.tables.now m.text.now c.args.line.start (left_of l c.args.cursor.now)) (sym c.deref.ensures.value) c.requires.at_start in
-    let later = line-later m.tables.now m.text.now c.args.line (left_of c.deref.result.now c.args.cursor.now) parts (left_of c.deref.result.now c.parts.new.self) c.requires.line.order here
-    c.in_ok-parts.ensures.parted c.in_ok-parts.ensures.count in
+    let runs = left_of m.clusters.runs.items c.args.cursor.now in
+    let next = left_of m.clusters.runs.items c.cut.new.cursor in
+    let count = c.args.line.end - c.args.line.start in
+    let passed = subst (λ (l : List ShapeRun). ArePassed count (left_of l c.args.cursor.now) (left_of l c.cut.new.cursor)) c.deref-2.ensures.value c.in_ok-cut.ensures.passed in
     IfOk-weaker c.of_pieces.result _ _
-    (λ row e. subst (λ (l : List ShapeRun). AreFrom m.tables.now m.text.now c.args.line.end (left_of l c.parts.new.self)) c.deref.ensures.value later)
+    (λ row e. line-later m.tables.now m.text.now c.args.line count runs c.requires.line.order refl c.requires.at_start next passed)
+    c.of_pieces.ensures
+
+pub returns-clause-within : goal.returns-clause-within
+returns-clause-within c =
+    IfOk-weaker c.of_pieces.result _ _
+    (λ row e. subst (λ (l : List ShapeRun). All IsWithin (left_of l c.cut.new.cursor)) c.deref-2.ensures.value c.in_ok-cut.ensures.within)
     c.of_pieces.ensures

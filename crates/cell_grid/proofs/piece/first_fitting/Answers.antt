@@ -1,23 +1,34 @@
 -- All that fit, or none.
-use Rattle.std.proofs.Common.{◌*◌, ◌/◌, ◌<◌, min, refl, ap, ◌∙◌, arith}
+use Rattle.std.proofs.Common.{◌-◌, ◌*◌, ◌/◌, sym, ap, ◌∙◌, arith}
+use Rattle.std.proofs.lemmas.Nat.{mul-le}
 use Rattle.cell_grid.proofs.PieceCuts.{fitting-own, fitting-some, fitting-none}
 use Rattle.cell_grid.proofs.piece.first_fitting.Goals as goal
 
-pub returns-then-from-room : goal.returns-then-from-room
-returns-then-from-room c =
-    let wide = c.from.ensures in
-    let over = c.if-from-room.true in
-    fitting-none c.args.count c.args.columns c.args.room c.requires (omega arith)
+pub overflow_mul-all : goal.overflow_mul-all
+overflow_mul-all c =
+    let wide = c.from-wide.ensures in
+    let same = c.from.ensures in
+    let most = c.requires.most in
+    let all = mul-le c.args.count c.from.result 65_536 255 (omega arith) (omega arith) in
+    omega arith
 
-pub returns-then-columns-eq0 : goal.returns-then-columns-eq0
-returns-then-columns-eq0 c =
-    let none = ap (λ k. c.args.count * k) c.if-columns-eq0.true in
-    fitting-own c.args.count c.args.columns c.args.room c.args.count c.args.room c.requires (omega arith) (omega arith) (omega arith)
+pub returns-then-all-from : goal.returns-then-all-from
+returns-then-all-from c =
+    let wide = ap (λ k. c.args.count * k) (c.from.ensures ∙ c.from-wide.ensures) in
+    let room = c.from-2.ensures in
+    fitting-own c.args.count c.args.columns c.args.room c.args.count (c.args.room - c.args.count * c.from.result) c.requires.some (omega arith) (omega arith)
+    (ap (λ k. c.args.room - k) wide)
+
+pub returns-then-wide-room : goal.returns-then-wide-room
+returns-then-wide-room c =
+    let wide = c.from-wide.ensures in
+    fitting-none c.args.count c.args.columns c.args.room c.requires.some (omega arith)
 
 pub returns : goal.returns
 returns c =
-    let wide = c.from.ensures in
-    let fits = c.if-from-room.false in
-    let some : 0 < c.args.columns = omega (arith, c.if-columns-eq0.false) in
-    fitting-some c.args.count c.args.columns c.args.room c.min-count.result _ c.from-4.result c.requires some (omega arith)
-    (c.min-count.ensures ∙ ap (λ q. min c.args.count q) (c.from-3.ensures ∙ ap (λ k. c.args.room / k) c.from-2.ensures)) c.from-4.ensures refl
+    let w = c.from-wide.ensures in
+    let wide = ap (λ k. c.args.count * k) (c.from.ensures ∙ c.from-wide.ensures) in
+    let room = c.from-2.ensures in
+    let many = c.from-3.ensures ∙ ap (λ k. c.args.room / k) c.from-wide.ensures in
+    fitting-some c.args.count c.args.columns c.args.room c.from-3.result (c.args.room - c.args.room / c.from-wide.result * c.from-wide.result) (omega arith) (omega arith) many
+    (ap (λ k. c.args.room - c.args.room / k * k) w ∙ sym (ap (λ k. c.args.room - k * c.args.columns) many))

@@ -9,5 +9,5 @@ returns c =
     let few = c.alike-alike.ensures.most in
     let most = c.min-most.ensures in
     let some = c.first_fitting-fit.ensures.some in
-    first-piece c.args.part c.args.levels.now c.args.room c.requires.within (get_or c.args.levels.now 0 0) (fit.count - 1) c.alike-alike.result fit (omega arith)
+    first-piece c.args.run c.args.levels.now c.args.room c.requires.within (get_or c.args.levels.now 0 0) (fit.count - 1) c.args.most c.alike-alike.result fit (omega arith) c.requires.most
     c.first_fitting-fit.ensures (omega arith) c.alike-alike.ensures.level
