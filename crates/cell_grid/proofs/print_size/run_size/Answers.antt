@@ -1,5 +1,5 @@
 -- As many bytes as its slice of the text.
-use Rattle.std.proofs.Common.{length, sym, ap, ◌∙◌, arith}
+use Rattle.std.proofs.Common.{length, ap, arith}
 use Rattle.paragraphs.specs.declared.span.Span.{Span}
 use Rattle.cell_grid.proofs.RunPrinting.{run-order}
 use Rattle.cell_grid.proofs.Sizes.{slices-size}

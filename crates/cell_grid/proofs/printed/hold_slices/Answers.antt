@@ -1,14 +1,12 @@
 -- One cluster after the other.
 use Rattle.std.proofs.Common.{◌<◌, ◌≤◌, ◌+◌, ◌++◌, ℕ, List, length, take, drop, flat_map, refl, sym, ap, subst, ◌∙◌, arith, append_assoc}
-use Rattle.paragraphs.specs.declared.span.Span.{Span}
 use Rattle.cell_grid.specs.declared.entry.Entry.{Entry}
 use Rattle.cell_grid.specs.Held.{AppendsAllBut}
 use Rattle.cell_grid.specs.Print.{slice_of}
-use Rattle.cell_grid.specs.Printable.{IsSlice}
 use Rattle.cell_grid.specs.Runs.{span_after, cluster_count, run_entry, run_entries}
 use Rattle.cell_grid.proofs.HeldEnd.{but-start, but-on, but-cut}
 use Rattle.cell_grid.proofs.RunEntries.{length-run_entries}
-use Rattle.cell_grid.proofs.RunPrinting.{entry-within, entry-read, entry-slice}
+use Rattle.cell_grid.proofs.RunPrinting.{entry-within, entry-read}
 use Rattle.cell_grid.proofs.Steps.{take-whole, flat_map-take_next, flat_map-split_at}
 use Rattle.cell_grid.proofs.Writing.{on_err}
 use Rattle.cell_grid.proofs.printed.hold_slices.Goals as goal
