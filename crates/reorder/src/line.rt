@@ -8,26 +8,45 @@ use bg_types::{Bidi, Memory};
 use std::alloc::Global;
 use unicode_tables::Tables;
 
-/// Whether L1 resets a code point of a class, given whether the one after it in the line is reset.
+/// Whether L1 resets a code point of a class where it stands at the line's end.
 #[tactic(auto, unfolding(crate::specs::LineLevels::is_separator, crate::specs::LineLevels::is_run_class, bg_types::specs::Classes::is_removed, bg_types::specs::Classes::is_isolate_control))]
+#[inline]
+fn may_be_reset(class: Bidi) -> bool
+    ensures { result ≡ (is_separator class || is_run_class class) }
+{
+    matches!(
+        class,
+        Bidi::S
+            | Bidi::B
+            | Bidi::Ws
+            | Bidi::Lri
+            | Bidi::Rli
+            | Bidi::Fsi
+            | Bidi::Pdi
+            | Bidi::Lre
+            | Bidi::Rle
+            | Bidi::Lro
+            | Bidi::Rlo
+            | Bidi::Pdf
+            | Bidi::Bn
+    )
+}
+
+#[tactic(auto, unfolding(crate::specs::LineLevels::is_separator))]
+#[inline]
+fn is_separator(class: Bidi) -> bool
+    ensures { result ≡ is_separator class }
+{
+    matches!(class, Bidi::S | Bidi::B)
+}
+
+/// Whether L1 resets a code point of a class, given whether the one after it in the line is reset.
+#[inline]
 fn is_reset(class: Bidi, follower_is_reset: bool) -> bool
     ensures { result ≡ (is_separator class || (is_run_class class && follower_is_reset)) }
 {
-    match class {
-        Bidi::S | Bidi::B => true,
-        Bidi::Ws
-        | Bidi::Lri
-        | Bidi::Rli
-        | Bidi::Fsi
-        | Bidi::Pdi
-        | Bidi::Lre
-        | Bidi::Rle
-        | Bidi::Lro
-        | Bidi::Rlo
-        | Bidi::Pdf
-        | Bidi::Bn => follower_is_reset,
-        _ => false,
-    }
+    // Most code points are letters, for which one test is enough.
+    may_be_reset(class) && (follower_is_reset || is_separator(class))
 }
 
 /// Puts into a list, in place of what it has, the level of each code point of a line after L1, by their classes and their
