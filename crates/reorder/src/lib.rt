@@ -9,4 +9,4 @@ mod order;
 
 pub use line::{levels_after_l1, line_levels};
 pub use mirror::mirrored;
-pub use order::visual;
+pub use order::{visual, visual_into};

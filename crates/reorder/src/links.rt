@@ -1,11 +1,10 @@
 //! Lists of cluster numbers, kept as links.
 
-ghost use Rattle.std.specs.Prelude.{◌≡◌, ◌==◌, ◌<◌, ◌≤◌, ◌%◌, length, All, IfOk, slice_set, if◌then◌else◌};
+ghost use Rattle.std.specs.Prelude.{◌≡◌, ◌==◌, ◌<◌, ◌≤◌, ◌%◌, length, All, OnOk, slice_set, if◌then◌else◌};
 ghost use Rattle.reorder.specs.Links.{walk};
 ghost use Rattle.reorder.specs.VisualList.{is_odd};
 
 use bg_types::Memory;
-use std::alloc::Global;
 
 /// A list of numbers that is not empty: the link at each of them but the last is the number right of it.
 #[derive(Clone, Copy)]
@@ -59,16 +58,16 @@ impl Piece {
     }
 }
 
-/// The numbers that the links lead along from `first`, as many as there are links.
-pub(crate) fn walked(alloc: Global, links: &[u32], first: u32) -> Result<Vec<u32>, Memory>
+/// Puts the numbers that the links lead along from `first`, as many as there are links, into a list, in place of what it has.
+pub(crate) fn walk_into(order: &mut Vec<u32>, links: &[u32], first: u32) -> Result<(), Memory>
     requires { All (λ at. at < length links.now) (walk (length links.now) links.now first) }
-    ensures { IfOk result (λ order. order.items ≡ walk (length links.now) links.now first) }
+    ensures { OnOk result (order.new.items ≡ walk (length links.now) links.now first) }
 {
-    let mut order = Vec::with_capacity(alloc, links.len())?;
+    order.clear();
     let mut at = first;
     for _ in 0..links.len() {
-        order.push_reserved(at);
+        order.push(at)?;
         at = links[at as usize];
     }
-    Ok(order)
+    Ok(())
 }

@@ -1,11 +1,11 @@
 //! The visual order of a line: L2.
 
-ghost use Rattle.std.specs.Prelude.{◌≡◌, ℕ, ◌<◌, ◌≤◌, length, All, IfOk, IsPermutation, slice_index};
+ghost use Rattle.std.specs.Prelude.{◌≡◌, ℕ, ◌<◌, ◌≤◌, length, All, IfOk, OnOk, IsPermutation, slice_index};
 ghost use Rattle.std.specs.List.{list_any, range_with_len};
 ghost use Rattle.reorder.specs.VisualList.{arranged, is_odd, numbers, visual_list};
 ghost use Rattle.reorder.specs.Links.{IsLinked, clusters_between};
 
-use crate::links::{Piece, walked};
+use crate::links::{Piece, walk_into};
 use bg_types::Memory;
 use std::alloc::Global;
 
@@ -61,12 +61,33 @@ fn has_odd(levels: &[u8]) -> bool
     levels.iter().any(|level| *level % 2 == 1)
 }
 
-/// The numbers below `count`: the order of a line in which nothing is reversed.
-fn numbers_below(alloc: Global, count: usize) -> Result<Vec<u32>, Memory>
+/// Puts the numbers below `count`, the order of a line in which nothing is reversed, into a list, in place of what it has.
+fn count_into(order: &mut Vec<u32>, count: usize) -> Result<(), Memory>
     requires { count ≤ CLUSTERS }
-    ensures { IfOk result (λ order. order.items ≡ range_with_len 0 count) }
+    ensures { OnOk result (order.new.items ≡ range_with_len 0 count) }
 {
-    Ok((0..count as u32).collect(alloc)?)
+    order.clear();
+    for number in 0..count as u32 {
+        order.push(number)?;
+    }
+    Ok(())
+}
+
+/// Puts the numbers of a line's clusters from left to right, by their levels (UAX #9, L2), into a list, in place of what it
+/// has. `links` is another list to work in, whatever it has.
+/// Cost: O(n), 4 bytes of memory a cluster in each list.
+pub fn visual_into(order: &mut Vec<u32>, links: &mut Vec<u32>, levels: &[u8]) -> Result<(), Memory>
+    requires { length levels.now ≤ CLUSTERS }
+    ensures list { OnOk result (order.new.items ≡ visual_list levels.now) }
+    ensures rearrangement { OnOk result (IsPermutation (range_with_len 0 (length levels.now)) order.new.items) }
+{
+    if !has_odd(levels) {
+        return count_into(order, levels.len());
+    }
+    links.clear();
+    links.resize(levels.len(), 0)?;
+    let line = stretch_from(levels, links, 0, 0);
+    walk_into(order, links, line.piece.first)
 }
 
 /// The numbers of a line's clusters from left to right, by their levels (UAX #9, L2).
@@ -76,10 +97,8 @@ pub fn visual(alloc: Global, levels: &[u8]) -> Result<Vec<u32>, Memory>
     ensures list { IfOk result (λ order. order.items ≡ visual_list levels.now) }
     ensures rearrangement { IfOk result (λ order. IsPermutation (range_with_len 0 (length levels.now)) order.items) }
 {
-    if !has_odd(levels) {
-        return numbers_below(alloc, levels.len());
-    }
-    let mut links = vec![in alloc; 0; levels.len()]?;
-    let line = stretch_from(levels, &mut links, 0, 0);
-    walked(alloc, &links, line.piece.first)
+    let mut order = Vec::with_capacity(alloc, levels.len())?;
+    let mut links = Vec::new(alloc);
+    visual_into(&mut order, &mut links, levels)?;
+    Ok(order)
 }

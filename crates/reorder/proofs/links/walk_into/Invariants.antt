@@ -1,12 +1,10 @@
--- What stays true in the loop of `walked`.
-use Rattle.std.proofs.Common.{◌≡◌, ◌<◌, ◌≤◌, ◌-◌, ◌++◌, length, vec_len, vec_capacity, All}
+-- What stays true in the loop of `walk_into`.
+use Rattle.std.proofs.Common.{◌≡◌, ◌<◌, ◌-◌, ◌++◌, length, All}
 use Rattle.reorder.specs.Links.{walk}
-use Rattle.reorder.proofs.links.walked.Given as goal
+use Rattle.reorder.proofs.links.walk_into.Given as goal
 
 abbrev pub invariant-loop : goal.invariant-loop
 invariant-loop l = record {
   walked : l.order.items ++ walk (length l.links - l.counter) l.links l.at ≡ walk (length l.links) l.links l.first;
   within : All (λ at. at < length l.links) (walk (length l.links - l.counter) l.links l.at);
-  count : vec_len l.order ≡ l.counter;
-  room : length l.links ≤ vec_capacity l.order;
 }
