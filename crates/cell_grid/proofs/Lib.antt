@@ -14,6 +14,7 @@ pub mod RunEntries
 pub mod Alone
 pub mod Cutting
 pub mod PieceEntries
+pub mod Stretches
 pub mod PieceCuts
 pub mod PieceRows
 pub mod Reaching

@@ -9,6 +9,7 @@ pub mod Separators
 pub mod Shifting
 pub mod Runs
 pub mod Pieces
+pub mod Stretches
 pub mod Outline
 pub mod Parts
 pub mod Cuts

@@ -20,6 +20,7 @@ mod row;
 mod runs;
 mod separator;
 mod span;
+mod stretch;
 
 pub use cell::{Cell, Cells};
 pub use entries::Entries;

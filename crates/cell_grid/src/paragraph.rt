@@ -23,6 +23,7 @@ use crate::part::Cursor;
 use crate::piece::cut;
 use crate::row::Row;
 use crate::separator::{is_separator_alone, separator_rows};
+use crate::stretch::Order;
 use bg_types::{Base, Bidi, Memory};
 use bidi_explicit::paragraph_level;
 use bidi_weak_neutral::levels_at;
@@ -51,6 +52,7 @@ struct Lists {
     /// The level of each code point.
     levels: Vec<u8>,
     pieces: Vec<ClusterRun>,
+    order: Order,
 }
 
 impl Lists {
@@ -60,6 +62,7 @@ impl Lists {
         Ok(Lists {
             levels: Vec::with_capacity(alloc, room)?,
             pieces: Vec::with_capacity(alloc, room)?,
+            order: Order::new(alloc),
         })
     }
 }
@@ -122,6 +125,7 @@ fn row_of(
         whole,
         count,
         &lists.pieces,
+        &mut lists.order,
     )
 }
 

@@ -17,7 +17,8 @@ use crate::column::{end_column, start_column};
 use crate::entries::Entries;
 use crate::entry::Entry;
 use crate::laws_below::laws_below;
-use crate::runs::{arranged, entry_in, shift_runs};
+use crate::runs::{entry_in, shift_runs};
+use crate::stretch::Order;
 use bg_types::Memory;
 use paragraphs::Span;
 use std::alloc::Global;
@@ -79,6 +80,7 @@ impl Row {
         whole: Span,
         count: u32,
         pieces: &[ClusterRun],
+        order: &mut Order,
     ) -> Result<Row, Memory>
         requires whole { whole ≡ extent (spans_of pieces.now) }
         requires count { count ≡ length (spans_of pieces.now) }
@@ -91,7 +93,7 @@ impl Row {
     {
         laws_below();
         let start = start_column(width, para_level, end_column(pieces, 0));
-        let runs = arranged(alloc, pieces)?;
+        let runs = order.arranged(alloc, pieces)?;
         Ok(Row {
             width,
             start,

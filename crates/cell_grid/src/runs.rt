@@ -1,38 +1,12 @@
 //! The runs of a row.
 
-ghost use Rattle.std.specs.Prelude.{◌≡◌, ◌+◌, ◌^◌, ◌<◌, ◌≤◌, length, map, slice_get, IfOk};
+ghost use Rattle.std.specs.Prelude.{◌≡◌, ◌+◌, ◌^◌, ◌<◌, map, slice_get};
 ghost use Rattle.std.specs.List.{All};
-ghost use Rattle.cell_grid.specs.declared.cluster_run.ClusterRun.{ClusterRun};
-ghost use Rattle.cell_grid.specs.Pieces.{arranged};
 ghost use Rattle.cell_grid.specs.Runs.{runs_columns, runs_entries, shifted_run, IsInReach, MayShiftRun};
 
 use crate::cluster_run::ClusterRun;
 use crate::entry::Entry;
 use crate::span::shifted;
-use bg_types::Memory;
-use reorder::visual;
-use std::alloc::Global;
-
-/// The level of each of these pieces.
-fn levels_of(alloc: Global, pieces: &[ClusterRun]) -> Result<Vec<u8>, Memory>
-    ensures { IfOk result (λ levels. levels.items ≡ map (λ (r : ClusterRun). r.level) pieces.now) }
-{
-    Ok(pieces.iter().map(|piece| piece.level).collect(alloc)?)
-}
-
-/// The runs of a line that has these pieces, from left to right (UAX #9, L2).
-pub(crate) fn arranged(alloc: Global, pieces: &[ClusterRun]) -> Result<Vec<ClusterRun>, Memory>
-    requires { length pieces.now ≤ 4_000_000 }
-    ensures { IfOk result (λ runs. runs.items ≡ arranged pieces.now) }
-{
-    let levels = levels_of(alloc, pieces)?;
-    let order = visual(alloc, &levels)?;
-    let mut runs = Vec::with_capacity(alloc, order.len())?;
-    for number in &order {
-        runs.push(pieces[*number as usize])?;
-    }
-    Ok(runs)
-}
 
 /// The entry with this number, from the left, of runs that begin at this column.
 pub(crate) fn entry_in(runs: &[ClusterRun], start: u16, number: usize) -> Option<Entry>
