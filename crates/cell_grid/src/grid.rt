@@ -4,7 +4,7 @@ ghost use Rattle.std.specs.Prelude.{◌≡◌, ◌++◌, ◌≤◌, length, IfOk
 ghost use Rattle.cell_grid.specs.Grids.{IsDrawable, paragraph_rows, grid_of, IsDrawn};
 
 use crate::laws_below::laws_below;
-use crate::paragraph::rows;
+use crate::paragraph::{Lists, rows_with};
 use crate::row::Row;
 use bg_types::{Base, Memory};
 use paragraphs::{Para, split};
@@ -97,8 +97,9 @@ pub fn draw<'a>(
     let paragraphs = split(alloc, tables, text)?;
     // Each paragraph has at least one row.
     let mut rows = Vec::with_capacity(alloc, paragraphs.len())?;
+    let mut lists = Lists::for_width(alloc, width)?;
     for para in &paragraphs {
-        push_rows(alloc, tables, width, base, para, &mut rows)?;
+        push_rows(alloc, tables, width, base, para, &mut lists, &mut rows)?;
     }
     Ok(Grid::of(tables, text, rows))
 }
@@ -110,6 +111,7 @@ fn push_rows(
     width: u16,
     base: Base,
     para: &Para,
+    lists: &mut Lists,
     drawn: &mut Vec<Row>,
 ) -> Result<(), Memory>
     requires at_least { 2 ≤ width }
@@ -118,7 +120,7 @@ fn push_rows(
     ensures { OnOk result (drawn.new.items ≡ drawn.old.items ++ paragraph_rows tables.now width base para.now) }
 {
     laws_below();
-    let made = rows(alloc, tables, width, base, para)?;
+    let made = rows_with(alloc, tables, width, base, para, lists)?;
     drawn.reserve(made.len())?;
     for row in made {
         let mut row = row;

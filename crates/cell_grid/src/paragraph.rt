@@ -48,7 +48,7 @@ struct Material<'a> {
 
 /// What a line's row is made of, in lists that are used for one line after the other.
 #[derive(Drop)]
-struct Lists {
+pub(crate) struct Lists {
     /// The level of each code point.
     levels: Vec<u8>,
     pieces: Vec<ClusterRun>,
@@ -57,7 +57,7 @@ struct Lists {
 
 impl Lists {
     /// Empty ones, with room for most lines of this width.
-    fn for_width(alloc: Global, width: u16) -> Result<Lists, Memory> {
+    pub(crate) fn for_width(alloc: Global, width: u16) -> Result<Lists, Memory> {
         let room = usize::from(width);
         Ok(Lists {
             levels: Vec::with_capacity(alloc, room)?,
@@ -130,7 +130,12 @@ fn row_of(
 }
 
 /// The rows of a paragraph's lines, from the top, counted from the paragraph's start.
-fn rows_in(alloc: Global, material: &Material, width: u16) -> Result<Vec<Row>, Memory>
+fn rows_in(
+    alloc: Global,
+    material: &Material,
+    width: u16,
+    lists: &mut Lists,
+) -> Result<Vec<Row>, Memory>
     requires at_least { 2 ≤ width }
     requires at_most { width ≤ 500 }
     requires text { IsUtf8 material.now.text.now }
@@ -155,9 +160,8 @@ fn rows_in(alloc: Global, material: &Material, width: u16) -> Result<Vec<Row>, M
     )?;
     let mut rows = Vec::with_capacity(alloc, lines.len())?;
     let mut cursor = Cursor::start();
-    let mut lists = Lists::for_width(alloc, width)?;
     for line in &lines {
-        rows.push(row_of(alloc, material, width, &mut cursor, &mut lists, *line)?)?;
+        rows.push(row_of(alloc, material, width, &mut cursor, lists, *line)?)?;
     }
     Ok(rows)
 }
@@ -187,6 +191,26 @@ pub fn rows(
     ensures may_shift { IfOk result (λ rows. (bytes places : ℕ) → bytes + length para.now.text ≤ 4_000_000
         → places + length (code_points para.now.text) ≤ 4_000_000 → All (MayShiftRow bytes places) rows.items) }
 {
+    let mut lists = Lists::for_width(alloc, width)?;
+    rows_with(alloc, tables, width, base, para, &mut lists)
+}
+
+/// The same, made in these lists.
+pub(crate) fn rows_with(
+    alloc: Global,
+    tables: &Tables,
+    width: u16,
+    base: Base,
+    para: &Para,
+    lists: &mut Lists,
+) -> Result<Vec<Row>, Memory>
+    requires at_least { 2 ≤ width }
+    requires at_most { width ≤ 500 }
+    requires size { length para.now.text ≤ 4_000_000 }
+    ensures rows { IfOk result (λ rows. rows.items ≡ rows_of tables.now width base para.now.text) }
+    ensures may_shift { IfOk result (λ rows. (bytes places : ℕ) → bytes + length para.now.text ≤ 4_000_000
+        → places + length (code_points para.now.text) ≤ 4_000_000 → All (MayShiftRow bytes places) rows.items) }
+{
     laws_below();
     let text = para.text();
     let para_level = paragraph_level(tables, para, base);
@@ -206,5 +230,5 @@ pub fn rows(
         levels,
         clusters,
     };
-    rows_in(alloc, &material, width)
+    rows_in(alloc, &material, width, lists)
 }

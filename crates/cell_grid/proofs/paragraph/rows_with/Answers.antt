@@ -23,7 +23,7 @@ use Rattle.cell_grid.specs.Separators.{IsSeparatorAlone, separator_row}
 use Rattle.cell_grid.specs.Shifting.{MayShiftRow}
 use Rattle.cell_grid.proofs.Drawn.{rows-shift}
 use Rattle.cell_grid.proofs.Separating.{separator-rows}
-use Rattle.cell_grid.proofs.paragraph.rows.Goals as goal
+use Rattle.cell_grid.proofs.paragraph.rows_with.Goals as goal
 
 -- the classes of points that are lent twice
 points-lent : (tables : TableValues) (classes lent : List Bidi) (once twice : List ℕ) → lent ≡ classes → classes ≡ map (bidi_of tables) once → once ≡ twice
