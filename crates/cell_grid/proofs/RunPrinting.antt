@@ -1,5 +1,5 @@
 -- What a run prints.
-use Rattle.std.proofs.Common.{◌≡◌, ℕ, zero, suc, ◌+◌, ◌-◌, ◌*◌, ◌^◌, ◌<◌, ◌≤◌, ◌%◌, Bool, true, false, cond, ◌||◌, true≢false, Option, Some, None, List, [], ◌∷◌, ◌++◌, map, length, take, drop, get_or, slice_range, flat_map, refl, sym, ap, subst, ◌∙◌, arith, append-nil, mul-le-mul_right}
+use Rattle.std.proofs.Common.{◌≡◌, ℕ, zero, suc, ◌+◌, ◌-◌, ◌*◌, ◌^◌, ◌<◌, ◌≤◌, ◌%◌, ◌==◌, Bool, true, false, cond, ◌||◌, true≢false, Option, Some, None, List, [], ◌∷◌, ◌++◌, map, length, take, drop, get_or, slice_range, flat_map, refl, sym, ap, subst, ◌∙◌, arith, append-nil, mul-le-mul_right}
 use Rattle.std.proofs.lemmas.Bool.{or_parts, ne_eqb}
 use Rattle.std.proofs.lemmas.List.Concat.{flat_map-append, flat_map-cons}
 use Rattle.std.proofs.lemmas.List.Folds.{list_any-append}
@@ -135,6 +135,46 @@ module _ (text : List ℕ) (r : ClusterRun) (h : IsPrintable text r) (even : r.l
 
   pub slices-text : run_slices text r ≡ slice_range text r.span.first_byte (span_after r.further r.span).end_byte
   slices-text = slices-upto (cluster_count r) ∙ ap (slice_range text r.span.first_byte) (sym (ends-next text r h r.further))
+
+-- ---- the clusters of a run of an odd level
+
+module _ (text : List ℕ) (r : ClusterRun) (h : IsPrintable text r) (odd : r.level % 2 ≡ 1) where
+  from-last : (number : ℕ) → cluster_from_left r number ≡ r.further - number
+  from-last number = ap (λ k. cond (k == 1) (r.further - number) number) odd
+
+  -- the cluster behind so many from the left ends where as many others do as are left, and begins a cluster before
+  module _ (number end : ℕ) (lt : number < cluster_count r) (is : end ≡ r.span.first_byte + (cluster_count r - number) * byte_count r.span) where
+    left-is : (cluster_count r - number) * byte_count r.span ≡ (r.further - number) * byte_count r.span + byte_count r.span
+    left-is =
+        let e : cluster_count r - number ≡ r.further - number + 1 = omega arith in
+        let all = ap (λ k. k * byte_count r.span) e in
+        omega arith
+
+    pub start-odd : end - byte_count r.span ≡ (span_after (cluster_from_left r number) r.span).first_byte
+    start-odd =
+        let all = left-is in
+        let e : end - byte_count r.span ≡ r.span.first_byte + (r.further - number) * byte_count r.span = omega arith in
+        e ∙ sym (ap (λ k. (span_after k r.span).first_byte) (from-last number))
+
+    pub end-odd : end ≡ (span_after (cluster_from_left r number) r.span).end_byte
+    end-odd =
+        let all = left-is in
+        let order = (first-slice text r h).order in
+        let e : end ≡ r.span.end_byte + (r.further - number) * byte_count r.span = omega arith in
+        e ∙ sym (ap (λ k. (span_after k r.span).end_byte) (from-last number))
+
+    pub start-next : end - byte_count r.span ≡ r.span.first_byte + (cluster_count r - (number + 1)) * byte_count r.span
+    start-next =
+        let all = left-is in
+        let e : cluster_count r - (number + 1) ≡ r.further - number = omega arith in
+        let same = ap (λ k. k * byte_count r.span) e in
+        omega arith
+
+    pub within-odd : byte_count r.span ≤ end
+    within-odd = let all = left-is in omega arith
+
+    pub slice-odd : IsSlice text (span_after (cluster_from_left r number) r.span)
+    slice-odd = h.slices (cluster_from_left r number) (from_left-within r number (omega arith))
 
 -- ---- a run whose clusters print what stands in the text
 

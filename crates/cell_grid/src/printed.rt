@@ -1,6 +1,6 @@
 //! The print of a grid.
 
-ghost use Rattle.std.specs.Prelude.{◌≡◌, ◌<◌, ◌≤◌, ◌++◌, false, true, length, take, slice_range, is_err, IfOk, OnOk, OnErr};
+ghost use Rattle.std.specs.Prelude.{◌≡◌, ◌%◌, ◌<◌, ◌≤◌, ◌++◌, false, true, length, take, slice_range, is_err, IfOk, OnOk, OnErr};
 ghost use Rattle.std.specs.List.{All, flat_map, list_any};
 ghost use Rattle.std.specs.Io.KnownBytes.{Appends};
 ghost use Rattle.std.specs.Str.{IsCharBoundary};
@@ -120,13 +120,18 @@ fn hold_first<W: Sink>(
     ensures err { OnErr result (AppendsBeginning (W.written sink.old) (W.written sink.new) (held.old.bytes ++ flat_map (run_text tables.now text.now) runs.now)) }
     ensures failed { W.has_failed sink.new ≡ is_err result }
 {
-    let start = runs[0].span.first_byte as usize;
+    let first = &runs[0];
+    if first.level % 2 == 1 {
+        hold_odd_run(tables, text, first, held, sink)?;
+        return Ok(1);
+    }
+    let start = first.span.first_byte as usize;
     let (count, end) = slice_at(tables, text, runs, start);
     if count > 0 {
         hold_text(&text[start..end], held, sink)?;
         return Ok(count);
     }
-    hold_run(tables, text, &runs[0], held, sink)?;
+    hold_clusters(tables, text, first, held, sink)?;
     Ok(1)
 }
 
@@ -161,6 +166,7 @@ fn prints_its_slice(tables: &Tables, text: &str, run: &ClusterRun) -> bool
 
 /// Whether each cluster of a run is known to print what stands in the text: they have columns, no tab is among them, and at
 /// an odd level nothing that is mirrored.
+#[inline(always)]
 pub(crate) fn prints_its_clusters(tables: &Tables, text: &str, run: &ClusterRun) -> bool
     requires { IsPrintable text.now run.now }
     ensures { result ≡ true → run_text tables.now text.now run.now ≡ run_slices text.now run.now }
@@ -200,8 +206,8 @@ fn is_replaced(tables: &Tables, c: char) -> bool
     is_segment_separator(word.bidi) || word.has_mirror
 }
 
-/// Holds what the cells of a run print.
-fn hold_run<W: Sink>(
+/// Holds what the cells of a run of an odd level print.
+fn hold_odd_run<W: Sink>(
     tables: &Tables,
     text: &str,
     run: &ClusterRun,
@@ -209,35 +215,42 @@ fn hold_run<W: Sink>(
     sink: &mut W,
 ) -> Result<(), Device>
     requires working { W.has_failed sink.old ≡ false }
+    requires odd { run.now.level % 2 ≡ 1 }
     requires run { IsPrintable text.now run.now }
     ensures ok { OnOk result (AppendsAllBut (W.written sink.old) (W.written sink.new) (held.old.bytes ++ run_text tables.now text.now run.now) held.new.bytes) }
     ensures err { OnErr result (AppendsBeginning (W.written sink.old) (W.written sink.new) (held.old.bytes ++ run_text tables.now text.now run.now)) }
     ensures failed { W.has_failed sink.new ≡ is_err result }
 {
     if prints_its_clusters(tables, text, run) {
-        hold_slices(text, *run, held, sink)
+        hold_backwards(text, *run, held, sink)
     } else {
         hold_clusters(tables, text, run, held, sink)
     }
 }
 
-/// Holds the clusters of a run as they stand in the text, one after the other from the left.
-fn hold_slices<W: Sink>(
+/// Holds the clusters of a run of an odd level as they stand in the text, from the last to the first.
+fn hold_backwards<W: Sink>(
     text: &str,
     run: ClusterRun,
     held: &mut Held,
     sink: &mut W,
 ) -> Result<(), Device>
     requires working { W.has_failed sink.old ≡ false }
+    requires odd { run.level % 2 ≡ 1 }
     requires run { IsPrintable text.now run }
     ensures ok { OnOk result (AppendsAllBut (W.written sink.old) (W.written sink.new) (held.old.bytes ++ run_slices text.now run) held.new.bytes) }
     ensures err { OnErr result (AppendsBeginning (W.written sink.old) (W.written sink.new) (held.old.bytes ++ run_slices text.now run)) }
     ensures failed { W.has_failed sink.new ≡ is_err result }
 {
-    for number in 0..run.count() {
-        let cluster = run.cluster(run.cluster_from_left(number as u16));
-        let bytes = &text[cluster.first_byte as usize..cluster.end_byte as usize];
-        hold_few(bytes, held, sink)?;
+    let bytes = run.span.end_byte - run.span.first_byte;
+    let last = run.cluster(run.further);
+    let count = run.count();
+    let mut end = last.end_byte;
+    for _ in 0..count {
+        let start = end - bytes;
+        let cluster = &text[start as usize..end as usize];
+        hold_few(cluster, held, sink)?;
+        end = start;
     }
     Ok(())
 }
