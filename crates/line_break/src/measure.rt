@@ -1,6 +1,6 @@
 //! What is read of a cluster by itself.
 
-ghost use Rattle.std.specs.Prelude.{◌≡◌, ◌<◌, ◌^◌, List, [], ◌∷◌, length, map, slice_index, encode_utf8, MatchOption};
+ghost use Rattle.std.specs.Prelude.{◌≡◌, ◌<◌, ◌^◌, true, false, List, [], ◌∷◌, length, map, slice_index, encode_utf8};
 ghost use Rattle.std.specs.List.{All, concat};
 ghost use Rattle.unicode_tables.specs.Word.{word_of};
 ghost use Rattle.unicode_tables.specs.declared.word.Word.{Word};
@@ -22,29 +22,46 @@ pub(crate) struct Measure {
 impl Measure {
     ghost use Rattle.line_break.specs.Measures.{measure_of, IsNext};
 
-    /// The next cluster, which is taken, is measured. `points` are the code points still to
-    /// come, and `words` are theirs.
+    /// That of no cluster, which is to be read.
+    pub(crate) fn empty() -> Measure {
+        Measure {
+            size: 0,
+            columns: 0,
+            is_space: false,
+        }
+    }
+
+    /// Takes the next cluster, if there is one, and measures it. `points` are the code points still
+    /// to come, and `words` are theirs. A measure is read in place: one that is handed out would be
+    /// packed into a register and unpacked again.
     #[inline]
-    pub(crate) fn of_next(
+    pub(crate) fn read_next(
+        &mut self,
         tables: &Tables,
         clusters: &mut Clusters,
         points: &[char],
         words: &[Word],
-    ) -> Option<Measure>
+    ) -> bool
         requires some { All (λ cluster. 0 < length cluster) clusters.old }
         requires few { length (concat clusters.old) < 2 ^ 32 }
         requires points { points.now ≡ code_points (concat clusters.old) }
         requires words { words.now ≡ map (word_of tables.now) points.now }
-        ensures { MatchOption result (clusters.old ≡ []) (λ m. IsNext tables.now m clusters.old clusters.new) }
+        ensures next { result ≡ true → IsNext tables.now self.new clusters.old clusters.new }
+        ensures none { result ≡ false → clusters.old ≡ [] }
     {
         if let Some(c) = clusters.next_alone(points, words) {
-            return Some(Measure::of_one(tables, words[0], c));
+            self.read_one(tables, words[0], c);
+            return true;
         }
         if let Some(size) = clusters.next_marked(points, words) {
-            return Some(Measure::of_marked(tables, &points[..size], &words[..size]));
+            self.read_marked(tables, &points[..size], &words[..size]);
+            return true;
         }
-        let cluster = clusters.next()?;
-        Some(Measure::of_several(tables, cluster))
+        let Some(cluster) = clusters.next() else {
+            return false;
+        };
+        self.read_several(tables, cluster);
+        true
     }
 
     /// The cluster as lines see it, with this status after it.
@@ -61,44 +78,38 @@ impl Measure {
 
     /// A cluster of one character, of which this is the word.
     #[inline]
-    fn of_one(tables: &Tables, word: Word, c: char) -> Measure
+    fn read_one(&mut self, tables: &Tables, word: Word, c: char)
         requires { word ≡ word_of tables.now c }
-        ensures measured { result ≡ measure_of tables.now (c ∷ []) }
+        ensures measured { self.new ≡ measure_of tables.now (c ∷ []) }
         ensures points { code_points (encode_utf8 c) ≡ c ∷ [] }
     {
-        Measure {
-            size: 1,
-            columns: columns_of_one(tables, word, c),
-            is_space: word.is_space,
-        }
+        self.size = 1;
+        self.columns = columns_of_one(tables, word, c);
+        self.is_space = word.is_space;
     }
 
     /// A cluster of these characters, which have these words and of which the first has columns by
     /// itself.
     #[inline]
-    fn of_marked(tables: &Tables, points: &[char], words: &[Word]) -> Measure
+    fn read_marked(&mut self, tables: &Tables, points: &[char], words: &[Word])
         requires few { length points.now < 2 ^ 32 }
         requires words { words.now ≡ map (word_of tables.now) points.now }
         requires seen { 0 < slice_index (map (λ (w : Word). w.columns) words.now) 0 }
-        ensures { result ≡ measure_of tables.now points.now }
+        ensures { self.new ≡ measure_of tables.now points.now }
     {
-        Measure {
-            size: points.len() as u32,
-            columns: columns_of_marked(tables, points, words),
-            is_space: are_spaces(words),
-        }
+        self.size = points.len() as u32;
+        self.columns = columns_of_marked(tables, points, words);
+        self.is_space = are_spaces(words);
     }
 
     /// A cluster of any number of characters.
-    fn of_several(tables: &Tables, cluster: &str) -> Measure
+    fn read_several(&mut self, tables: &Tables, cluster: &str)
         requires some { 0 < length cluster.now }
         requires few { length cluster.now < 2 ^ 32 }
-        ensures { result ≡ measure_of tables.now (code_points cluster.now) }
+        ensures { self.new ≡ measure_of tables.now (code_points cluster.now) }
     {
-        Measure {
-            size: cluster.chars().count() as u32,
-            columns: columns(tables, cluster),
-            is_space: is_space(tables, cluster),
-        }
+        self.size = cluster.chars().count() as u32;
+        self.columns = columns(tables, cluster);
+        self.is_space = is_space(tables, cluster);
     }
 }

@@ -115,7 +115,8 @@ pub fn outline_of(
     let mut place = 0;
     let mut last = ShapeRun::empty();
     let mut end = Boundary::before_all();
-    while let Some(measure) = Measure::of_next(
+    let mut measure = Measure::empty();
+    while measure.read_next(
         tables,
         &mut clusters,
         &points[place as usize..],

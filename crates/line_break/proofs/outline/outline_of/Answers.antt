@@ -27,8 +27,8 @@ use Rattle.line_break.proofs.outline.outline_of.Goals as goal
 none-before : (runs : List ShapeRun) (last : ShapeRun) → runs ≡ [] → last ≡ no_run → runs ++ if_some last ≡ []
 none-before runs last none empty = ap (λ (l : List ShapeRun). l ++ if_some last) none ∙ ap if_some empty
 
-pub loop-measure-init : goal.loop-measure-init
-loop-measure-init c =
+pub loop-clusters-init : goal.loop-clusters-init
+loop-clusters-init c =
     let text = c.args.para.now.text in
     let given = c.clusters-clusters.ensures in
     let u = subst IsUtf8 given.joined (IsUtf8-concat c.clusters-clusters.result given.utf8) in
@@ -50,42 +50,42 @@ loop-measure-init c =
       offered = breaks-start _ _ c.in_ok-outline.ensures.clusters.0 c.in_ok-outline.ensures.opportunities;
     }
 
-pub of_next-requires-clause-some : goal.of_next-requires-clause-some
-of_next-requires-clause-some c = c.loop-measure.invariant.outlined.some
+pub read_next-requires-clause-some : goal.read_next-requires-clause-some
+read_next-requires-clause-some c = c.loop-clusters.invariant.outlined.some
 
-pub of_next-requires-clause-few : goal.of_next-requires-clause-few
-of_next-requires-clause-few c =
-    let all = c.loop-measure.invariant.outlined.bytes in
+pub read_next-requires-clause-few : goal.read_next-requires-clause-few
+read_next-requires-clause-few c =
+    let all = c.loop-clusters.invariant.outlined.bytes in
     omega (arith, c.requires.size)
 
-pub of_next-requires-clause-points : goal.of_next-requires-clause-points
-of_next-requires-clause-points c =
-    slice-from c.loop-measure.place c.args.points.now ∙ ap (drop c.loop-measure.place) c.requires.points ∙ c.loop-measure.invariant.outlined.points
+pub read_next-requires-clause-points : goal.read_next-requires-clause-points
+read_next-requires-clause-points c =
+    slice-from c.loop-clusters.place c.args.points.now ∙ ap (drop c.loop-clusters.place) c.requires.points ∙ c.loop-clusters.invariant.outlined.points
 
-pub of_next-requires-clause-words : goal.of_next-requires-clause-words
-of_next-requires-clause-words c = words-from c.args.tables.now c.args.points.now c.args.words.now c.loop-measure.place c.requires.words
+pub read_next-requires-clause-words : goal.read_next-requires-clause-words
+read_next-requires-clause-words c = words-from c.args.tables.now c.args.points.now c.args.words.now c.loop-clusters.place c.requires.words
 
 pub overflow_sub-span : goal.overflow_sub-span
 overflow_sub-span c =
-    let m = c.loop-measure.invariant.outlined in
-    let cluster = c.in-Some.ensures.cluster in
-    let some = cluster-some _ _ _ _ _ _ m cluster _ c.in-Some.ensures.taken in
-    let end = cluster-end _ _ _ _ _ _ m cluster _ c.in-Some.ensures.taken _ c.bytes_left.result (ap length c.text-length.ensures) c.bytes_left.ensures in
+    let m = c.loop-clusters.invariant.outlined in
+    let cluster = (c.read_next.ensures.next c.loop-clusters-test.true).cluster in
+    let some = cluster-some _ _ _ _ _ _ m cluster _ (c.read_next.ensures.next c.loop-clusters-test.true).taken in
+    let end = cluster-end _ _ _ _ _ _ m cluster _ (c.read_next.ensures.next c.loop-clusters-test.true).taken _ c.bytes_left.result (ap length c.text-length.ensures) c.bytes_left.ensures in
     omega arith
 
-pub overflow_sub-span-in-Some : goal.overflow_sub-span-in-Some
-overflow_sub-span-in-Some c =
-    let some = points-some c.args.tables.now c.args.para.now.text _ _ c.loop-measure.place c.loop-measure.invariant.measured c.in-Some.ensures.cluster _ c.in-Some.ensures.taken in
-    let size = ap (λ (x : Measure). x.size) c.in-Some.ensures.measured in
+pub overflow_sub-span-in-loop-clusters : goal.overflow_sub-span-in-loop-clusters
+overflow_sub-span-in-loop-clusters c =
+    let some = points-some c.args.tables.now c.args.para.now.text _ _ c.loop-clusters.place c.loop-clusters.invariant.measured (c.read_next.ensures.next c.loop-clusters-test.true).cluster _ (c.read_next.ensures.next c.loop-clusters-test.true).taken in
+    let size = ap (λ (x : Measure). x.size) (c.read_next.ensures.next c.loop-clusters-test.true).measured in
     omega arith
 
 pub overflow_add-span : goal.overflow_add-span
 overflow_add-span c =
-    let m = c.loop-measure.invariant.outlined in
-    let cluster = c.in-Some.ensures.cluster in
-    let fits = cluster-fits _ _ _ _ _ _ m cluster _ c.in-Some.ensures.taken in
-    let few = cluster-points _ _ _ _ _ _ m cluster _ c.in-Some.ensures.taken in
-    let size = ap (λ (x : Measure). x.size) c.in-Some.ensures.measured in
+    let m = c.loop-clusters.invariant.outlined in
+    let cluster = (c.read_next.ensures.next c.loop-clusters-test.true).cluster in
+    let fits = cluster-fits _ _ _ _ _ _ m cluster _ (c.read_next.ensures.next c.loop-clusters-test.true).taken in
+    let few = cluster-points _ _ _ _ _ _ m cluster _ (c.read_next.ensures.next c.loop-clusters-test.true).taken in
+    let size = ap (λ (x : Measure). x.size) (c.read_next.ensures.next c.loop-clusters-test.true).measured in
     let so_far = m.places in
     let all = c.requires.size in
     omega arith
@@ -94,10 +94,10 @@ pub push_reserved-requires : goal.push_reserved-requires
 push_reserved-requires c =
     let t = c.args.tables.now in
     let p = c.args.para.now.text in
-    let fits = points-within t p _ _ c.loop-measure.place c.loop-measure.invariant.measured c.in-Some.ensures.cluster _ c.in-Some.ensures.taken in
-    let some = points-some t p _ _ c.loop-measure.place c.loop-measure.invariant.measured c.in-Some.ensures.cluster _ c.in-Some.ensures.taken in
-    let filled = c.loop-measure.invariant.clusters.filled in
-    let room = c.loop-measure.invariant.clusters.room in
+    let fits = points-within t p _ _ c.loop-clusters.place c.loop-clusters.invariant.measured (c.read_next.ensures.next c.loop-clusters-test.true).cluster _ (c.read_next.ensures.next c.loop-clusters-test.true).taken in
+    let some = points-some t p _ _ c.loop-clusters.place c.loop-clusters.invariant.measured (c.read_next.ensures.next c.loop-clusters-test.true).cluster _ (c.read_next.ensures.next c.loop-clusters-test.true).taken in
+    let filled = c.loop-clusters.invariant.clusters.filled in
+    let room = c.loop-clusters.invariant.clusters.room in
     let all = ap length c.requires.points in
     let same = length-breaks t p in
     omega arith
@@ -106,65 +106,65 @@ pub index-requires : goal.index-requires
 index-requires c =
     let t = c.args.tables.now in
     let p = c.args.para.now.text in
-    let at = c.in-Some.ensures.taken in
-    let cluster = c.in-Some.ensures.cluster in
-    let fits = points-within t p _ _ c.loop-measure.place c.loop-measure.invariant.measured cluster _ at in
-    let some = points-some t p _ _ c.loop-measure.place c.loop-measure.invariant.measured cluster _ at in
-    let size = ap (λ (x : Measure). x.size) c.in-Some.ensures.measured in
+    let at = (c.read_next.ensures.next c.loop-clusters-test.true).taken in
+    let cluster = (c.read_next.ensures.next c.loop-clusters-test.true).cluster in
+    let fits = points-within t p _ _ c.loop-clusters.place c.loop-clusters.invariant.measured cluster _ at in
+    let some = points-some t p _ _ c.loop-clusters.place c.loop-clusters.invariant.measured cluster _ at in
+    let size = ap (λ (x : Measure). x.size) (c.read_next.ensures.next c.loop-clusters-test.true).measured in
     let all = ap length (breaks-of t p c.args.points.now c.args.words.now _ c.requires.points c.requires.words c.in_ok-statuses.ensures) in
     omega arith
 
-pub loop-measure-smaller : goal.loop-measure-smaller
-loop-measure-smaller c = omega (arith, ap length c.in-Some.ensures.taken)
+pub loop-clusters-smaller : goal.loop-clusters-smaller
+loop-clusters-smaller c = omega (arith, ap length (c.read_next.ensures.next c.loop-clusters-test.true).taken)
 
 pub join-requires-clause-last : goal.join-requires-clause-last
 join-requires-clause-last c =
-    subst (λ (n : ShapeRun). EndsAt c.loop-measure.last n.first_byte n.first_place) (sym c.of_one-next.ensures) c.loop-measure.invariant.ends
+    subst (λ (n : ShapeRun). EndsAt c.loop-clusters.last n.first_byte n.first_place) (sym c.of_one-next.ensures) c.loop-clusters.invariant.ends
 
 pub join-requires-clause-one : goal.join-requires-clause-one
 join-requires-clause-one c = ap (λ (n : ShapeRun). n.count) c.of_one-next.ensures
 
 pub join-requires-clause-some : goal.join-requires-clause-some
 join-requires-clause-some c =
-    let some = points-some c.args.tables.now c.args.para.now.text _ _ c.loop-measure.place c.loop-measure.invariant.measured c.in-Some.ensures.cluster _ c.in-Some.ensures.taken in
-    let size = ap (λ (x : Measure). x.size) c.in-Some.ensures.measured in
+    let some = points-some c.args.tables.now c.args.para.now.text _ _ c.loop-clusters.place c.loop-clusters.invariant.measured (c.read_next.ensures.next c.loop-clusters-test.true).cluster _ (c.read_next.ensures.next c.loop-clusters-test.true).taken in
+    let size = ap (λ (x : Measure). x.size) (c.read_next.ensures.next c.loop-clusters-test.true).measured in
     let points = ap (λ (n : ShapeRun). n.points) c.of_one-next.ensures in
     omega arith
 
 pub join-requires-clause-few : goal.join-requires-clause-few
 join-requires-clause-few c =
     let first = ap (λ (n : ShapeRun). n.first_place) c.of_one-next.ensures in
-    let so_far = c.loop-measure.invariant.outlined.places in
-    let bytes = c.loop-measure.invariant.outlined.bytes in
+    let so_far = c.loop-clusters.invariant.outlined.places in
+    let bytes = c.loop-clusters.invariant.outlined.bytes in
     let all = c.requires.size in
     omega arith
 
 pub behind-end-requires-clause-columns : goal.behind-end-requires-clause-columns
 behind-end-requires-clause-columns c =
-    let done = c.loop-measure.outline.clusters.items in
-    let at = ap (λ (b : Boundary). b.columns) c.loop-measure.invariant.end in
-    let two = columns-two done (length done) (two-done c.args.tables.now c.args.para.now.text _ _ c.loop-measure.place c.loop-measure.invariant.measured) in
+    let done = c.loop-clusters.outline.clusters.items in
+    let at = ap (λ (b : Boundary). b.columns) c.loop-clusters.invariant.end in
+    let two = columns-two done (length done) (two-done c.args.tables.now c.args.para.now.text _ _ c.loop-clusters.place c.loop-clusters.invariant.measured) in
     let here = ap (λ (x : Cluster). x.columns) c.cluster-cluster.ensures in
-    let few = c.loop-measure.invariant.count in
-    let so_far = c.loop-measure.invariant.outlined.places in
-    let bytes = c.loop-measure.invariant.outlined.bytes in
+    let few = c.loop-clusters.invariant.count in
+    let so_far = c.loop-clusters.invariant.outlined.places in
+    let bytes = c.loop-clusters.invariant.outlined.bytes in
     let all = c.requires.size in
     omega arith
 
-pub loop-measure-preserved : goal.loop-measure-preserved
-loop-measure-preserved c =
+pub loop-clusters-preserved : goal.loop-clusters-preserved
+loop-clusters-preserved c =
     let t = c.args.tables.now in
     let p = c.args.para.now.text in
-    let at = c.in-Some.ensures.taken in
-    let cluster = c.in-Some.ensures.cluster in
-    let here = c.in-Some.measure in
-    let o = c.loop-measure.invariant.outlined in
-    let m = c.loop-measure.invariant.measured in
-    let fits = points-within t p _ _ c.loop-measure.place m cluster _ at in
-    let some = points-some t p _ _ c.loop-measure.place m cluster _ at in
-    let size = ap (λ (x : Measure). x.size) c.in-Some.ensures.measured in
-    let columns = ap (λ (x : Measure). x.columns) c.in-Some.ensures.measured in
-    let is_space = ap (λ (x : Measure). x.is_space) c.in-Some.ensures.measured in
+    let at = (c.read_next.ensures.next c.loop-clusters-test.true).taken in
+    let cluster = (c.read_next.ensures.next c.loop-clusters-test.true).cluster in
+    let here = c.read_next.new.self in
+    let o = c.loop-clusters.invariant.outlined in
+    let m = c.loop-clusters.invariant.measured in
+    let fits = points-within t p _ _ c.loop-clusters.place m cluster _ at in
+    let some = points-some t p _ _ c.loop-clusters.place m cluster _ at in
+    let size = ap (λ (x : Measure). x.size) (c.read_next.ensures.next c.loop-clusters-test.true).measured in
+    let columns = ap (λ (x : Measure). x.columns) (c.read_next.ensures.next c.loop-clusters-test.true).measured in
+    let is_space = ap (λ (x : Measure). x.is_space) (c.read_next.ensures.next c.loop-clusters-test.true).measured in
     let end = cluster-end _ _ _ _ _ _ o cluster _ at _ c.bytes_left.result (ap length c.text-length.ensures) c.bytes_left.ensures in
     let next = c.of_one-next.ensures in
     record {
@@ -172,56 +172,56 @@ loop-measure-preserved c =
           IsOutlinedTo-at _ _ _ _ _ _ o cluster _ at _ here.size _ _ _ size end refl
           (spans-on _ _ _ c.in_ok-join.ensures.runs _ _ next (omega arith) (omega arith)) (sizes-on _ _ _ c.in_ok-join.ensures.runs _ _ next here.size (omega arith));
       measured =
-          IsMeasuredTo-on t p _ _ c.loop-measure.place m cluster _ at _ here.size _ size
+          IsMeasuredTo-on t p _ _ c.loop-clusters.place m cluster _ at _ here.size _ size
           (c.cluster-cluster.ensures
-          ∙ measured-is t (code_points cluster) c.in_ok-statuses.statuses.items (breaks t p) c.loop-measure.place here.size
+          ∙ measured-is t (code_points cluster) c.in_ok-statuses.statuses.items (breaks t p) c.loop-clusters.place here.size
           here.columns here.is_space c.index.result.now (breaks-of t p c.args.points.now c.args.words.now _ c.requires.points c.requires.words c.in_ok-statuses.ensures) size some fits columns is_space c.index.ensures)
           c.push_reserved.ensures.items;
       gathered =
-          AreGathered-on _ _ _ c.in_ok-join.ensures.runs _ _ next c.cluster-cluster.result _ _ c.loop-measure.invariant.gathered
+          AreGathered-on _ _ _ c.in_ok-join.ensures.runs _ _ next c.cluster-cluster.result _ _ c.loop-clusters.invariant.gathered
           (sym (ap (λ (x : Cluster). x.columns) c.cluster-cluster.ensures)) c.push_reserved.ensures.items;
       first = λ none. absurd (let some = c.in_ok-join.ensures.some in omega arith);
       ends = EndsAt-span _ _ _ _ next (omega arith) (omega arith) c.in_ok-join.ensures.end;
-      clusters = HasRoom-on _ _ _ _ here.size _ _ c.loop-measure.invariant.clusters (omega arith) c.push_reserved.ensures.len c.push_reserved.ensures.capacity;
+      clusters = HasRoom-on _ _ _ _ here.size _ _ c.loop-clusters.invariant.clusters (omega arith) c.push_reserved.ensures.len c.push_reserved.ensures.capacity;
       within = let all = ap length c.requires.points in let same = length-breaks t p in omega arith;
       count =
-          let before = c.loop-measure.invariant.count in
+          let before = c.loop-clusters.invariant.count in
           let put = ap length c.push_reserved.ensures.items in
-          let one = length_push c.loop-measure.outline.clusters.items c.cluster-cluster.result in
+          let one = length_push c.loop-clusters.outline.clusters.items c.cluster-cluster.result in
           omega arith;
-      end = end-on _ c.cluster-cluster.result _ _ _ c.push_reserved.ensures.items c.loop-measure.invariant.end c.behind-end.ensures;
+      end = end-on _ c.cluster-cluster.result _ _ _ c.push_reserved.ensures.items c.loop-clusters.invariant.end c.behind-end.ensures;
       offered =
-          breaks-on _ c.cluster-cluster.result _ _ _ _ _ c.push_reserved.ensures.items c.loop-measure.invariant.end c.behind-end.ensures
-          c.loop-measure.invariant.offered c.in_ok-offer.ensures;
+          breaks-on _ c.cluster-cluster.result _ _ _ _ _ c.push_reserved.ensures.items c.loop-clusters.invariant.end c.behind-end.ensures
+          c.loop-clusters.invariant.offered c.in_ok-offer.ensures;
     }
 
 pub returns-clause-spans : goal.returns-clause-spans
-returns-clause-spans c = ap (flat_map spans_of) c.in_ok-close.ensures ∙ spans-end _ _ _ _ _ _ c.loop-measure.invariant.outlined c.in_default.ensures
+returns-clause-spans c = ap (flat_map spans_of) c.in_ok-close.ensures ∙ spans-end _ _ _ _ _ _ c.loop-clusters.invariant.outlined (c.read_next.ensures.none c.loop-clusters-test.false)
 
 pub returns-clause-sizes : goal.returns-clause-sizes
-returns-clause-sizes c = ap (flat_map sizes_of) c.in_ok-close.ensures ∙ sizes-end _ _ _ _ _ _ c.loop-measure.invariant.outlined c.in_default.ensures
+returns-clause-sizes c = ap (flat_map sizes_of) c.in_ok-close.ensures ∙ sizes-end _ _ _ _ _ _ c.loop-clusters.invariant.outlined (c.read_next.ensures.none c.loop-clusters-test.false)
 
 pub returns-clause-columns : goal.returns-clause-columns
 returns-clause-columns c =
-    ap (flat_map columns_of) c.in_ok-close.ensures ∙ c.loop-measure.invariant.gathered.columns
+    ap (flat_map columns_of) c.in_ok-close.ensures ∙ c.loop-clusters.invariant.gathered.columns
     ∙ ap (map (λ (x : Cluster). x.columns))
-    (line_clusters-end c.args.tables.now c.args.para.now.text _ _ c.loop-measure.place c.loop-measure.invariant.measured c.in_default.ensures)
+    (line_clusters-end c.args.tables.now c.args.para.now.text _ _ c.loop-clusters.place c.loop-clusters.invariant.measured (c.read_next.ensures.none c.loop-clusters-test.false))
 
 pub returns-clause-some : goal.returns-clause-some
-returns-clause-some c = All-same HasSome _ _ c.in_ok-close.ensures c.loop-measure.invariant.gathered.some
+returns-clause-some c = All-same HasSome _ _ c.in_ok-close.ensures c.loop-clusters.invariant.gathered.some
 
 pub returns-clause-longest : goal.returns-clause-longest
-returns-clause-longest c = ap are_longest c.in_ok-close.ensures ∙ c.loop-measure.invariant.gathered.longest
+returns-clause-longest c = ap are_longest c.in_ok-close.ensures ∙ c.loop-clusters.invariant.gathered.longest
 
 pub returns-clause-clusters : goal.returns-clause-clusters
 returns-clause-clusters c =
-    line_clusters-end c.args.tables.now c.args.para.now.text _ _ c.loop-measure.place c.loop-measure.invariant.measured c.in_default.ensures
+    line_clusters-end c.args.tables.now c.args.para.now.text _ _ c.loop-clusters.place c.loop-clusters.invariant.measured (c.read_next.ensures.none c.loop-clusters-test.false)
 
 pub returns-clause-few : goal.returns-clause-few
 returns-clause-few c =
-    let count = c.loop-measure.invariant.count in
-    let so_far = c.loop-measure.invariant.outlined.places in
-    let bytes = c.loop-measure.invariant.outlined.bytes in
+    let count = c.loop-clusters.invariant.count in
+    let so_far = c.loop-clusters.invariant.outlined.places in
+    let bytes = c.loop-clusters.invariant.outlined.bytes in
     omega arith
 
 pub returns-clause-opportunities : goal.returns-clause-opportunities
@@ -230,12 +230,12 @@ returns-clause-opportunities c =
     let p = c.args.para.now.text in
     let given = c.clusters-clusters.ensures in
     let u = subst IsUtf8 given.joined (IsUtf8-concat c.clusters-clusters.result given.utf8) in
-    c.loop-measure.invariant.offered
-    ∙ ap breaks_in (line_clusters-end t p _ _ c.loop-measure.place c.loop-measure.invariant.measured c.in_default.ensures)
+    c.loop-clusters.invariant.offered
+    ∙ ap breaks_in (line_clusters-end t p _ _ c.loop-clusters.place c.loop-clusters.invariant.measured (c.read_next.ensures.none c.loop-clusters-test.false))
     ∙ breaks-all (line_clusters t p) (must-end t p (c.cluster_places.ensures.some p u) (c.cluster_places.ensures.sum p u))
 
 pub returns-clause-most : goal.returns-clause-most
 returns-clause-most c =
     All-same (λ (x : Cluster). x.columns ≤ 2) _ _
-    (line_clusters-end c.args.tables.now c.args.para.now.text _ _ c.loop-measure.place c.loop-measure.invariant.measured c.in_default.ensures)
+    (line_clusters-end c.args.tables.now c.args.para.now.text _ _ c.loop-clusters.place c.loop-clusters.invariant.measured (c.read_next.ensures.none c.loop-clusters-test.false))
     (two-line_clusters c.args.tables.now c.args.para.now.text)

@@ -8,8 +8,8 @@ use Rattle.line_break.proofs.Offering.{breaks_in, end_of}
 use Rattle.line_break.proofs.Outlining.{IsOutlinedTo, HasRoom}
 use Rattle.line_break.proofs.outline.outline_of.Given as goal
 
-abbrev pub invariant-loop-measure : goal.invariant-loop-measure
-invariant-loop-measure l = record {
+abbrev pub invariant-loop-clusters : goal.invariant-loop-clusters
+invariant-loop-clusters l = record {
   outlined : IsOutlinedTo l.para.text l.clusters (flat_map spans_of (l.outline.runs.items ++ if_some l.last)) (flat_map sizes_of (l.outline.runs.items ++ if_some l.last)) l.byte l.place;
   measured : IsMeasuredTo l.tables l.para.text l.clusters l.outline.clusters.items l.place;
   gathered : AreGathered (l.outline.runs.items ++ if_some l.last) l.outline.clusters.items;
@@ -22,5 +22,5 @@ invariant-loop-measure l = record {
   offered : l.outline.opportunities.items ≡ breaks_in l.outline.clusters.items;
 }
 
-abbrev pub decreases-loop-measure : goal.decreases-loop-measure
-decreases-loop-measure l = length l.clusters
+abbrev pub decreases-loop-clusters : goal.decreases-loop-clusters
+decreases-loop-clusters l = length l.clusters

@@ -4,11 +4,11 @@ use Rattle.std.specs.Prelude.{encode_utf8}
 use Rattle.std.proofs.lemmas.Str.{chars-nil, chars_past_char, IsUtf8-encode}
 use Rattle.line_break.proofs.Measuring.{measure-is}
 use Rattle.line_break.proofs.Spaces.{is_space-alone}
-use Rattle.line_break.proofs.measure.Measure.of_one.Goals as goal
+use Rattle.line_break.proofs.measure.Measure.read_one.Goals as goal
 
 pub returns-clause-measured : goal.returns-clause-measured
 returns-clause-measured c =
-    measure-is c.args.tables.now (c.args.c ∷ []) 1 c.columns_of_one.result c.args.word.is_space refl c.columns_of_one.ensures
+    measure-is c.args.tables.now (c.args.c ∷ []) 1 c.columns_of_one-self.result c.args.word.is_space refl c.columns_of_one-self.ensures
     (is_space-alone c.args.tables.now c.args.word c.args.c c.requires)
 
 pub returns-clause-points : goal.returns-clause-points
