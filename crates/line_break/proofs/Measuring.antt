@@ -1,5 +1,5 @@
 -- The clusters of a paragraph, measured up to one of them.
-use Rattle.std.proofs.Common.{◌≡◌, ℕ, zero, suc, ◌+◌, ◌-◌, ◌<◌, ◌≤◌, Bool, true, false, cond, List, [], ◌∷◌, ◌++◌, map, length, drop, get_or, sum, refl, sym, ap, subst, ◌∙◌, arith}
+use Rattle.std.proofs.Common.{◌≡◌, ℕ, zero, suc, ◌+◌, ◌-◌, ◌<◌, ◌≤◌, Bool, true, false, cond, List, [], ◌∷◌, ◌++◌, map, length, take, drop, get_or, sum, refl, sym, ap, subst, ◌∙◌, arith}
 use Rattle.std.proofs.lemmas.List.{append-nil, append_assoc, length-append, length-map, drop-drop, get_or-drop, take_at}
 use Rattle.std.proofs.lemmas.List.Elements.{All-nil, All-cons, All-head, All-tail, All-take}
 use Rattle.std.proofs.lemmas.List.Sums.{sum_by-cons}
@@ -120,6 +120,16 @@ measured-is tables points statuses all place size columns is_space after same n 
   where
     cluster_of : ℕ → Bool → Break → Cluster
     cluster_of columns is_space after = record { columns = columns; is_space = is_space; after = after }
+
+take-none : {A : Type 0} (n : ℕ) → take {A = A} n [] ≡ []
+take-none zero = refl
+take-none (suc n) = refl
+
+-- those behind the first, of the first n
+pub drop_first-take : {A : Type 0} (n : ℕ) (xs : List A) → drop 1 (take n xs) ≡ take (n - 1) (drop 1 xs)
+drop_first-take zero xs = refl
+drop_first-take (suc n) [] = sym (take-none (suc n - 1))
+drop_first-take (suc n) (x ∷ xs) = let same : n ≡ suc n - 1 = omega arith in ap (λ k. take k xs) same
 
 -- what is read of a cluster by itself
 pub measure-is : (tables : TableValues) (points : List ℕ) (size columns : ℕ) (is_space : Bool)

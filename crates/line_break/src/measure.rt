@@ -1,9 +1,10 @@
 //! What is read of a cluster by itself.
 
-ghost use Rattle.std.specs.Prelude.{◌≡◌, ◌<◌, ◌^◌, true, false, List, [], ◌∷◌, length, map, slice_index, encode_utf8};
-ghost use Rattle.std.specs.List.{All, concat};
+ghost use Rattle.std.specs.Prelude.{◌≡◌, ◌<◌, ◌^◌, true, false, List, [], ◌∷◌, length, map, drop, slice_index, encode_utf8};
+ghost use Rattle.std.specs.List.{All, concat, list_any};
 ghost use Rattle.unicode_tables.specs.Word.{word_of};
 ghost use Rattle.unicode_tables.specs.declared.word.Word.{Word};
+ghost use Rattle.paragraphs.specs.Classes.{is_wide};
 ghost use Rattle.paragraphs.specs.Text.{code_points};
 
 use crate::cluster::{Cluster, are_spaces, is_space};
@@ -88,13 +89,14 @@ impl Measure {
         self.is_space = word.is_space;
     }
 
-    /// A cluster of these characters, which have these words and of which the first has columns by
-    /// itself.
+    /// A cluster of these characters, which have these words, where the first has columns by itself
+    /// and none of the others is wide.
     #[inline]
     fn read_marked(&mut self, tables: &Tables, points: &[char], words: &[Word])
         requires few { length points.now < 2 ^ 32 }
         requires words { words.now ≡ map (word_of tables.now) points.now }
         requires seen { 0 < slice_index (map (λ (w : Word). w.columns) words.now) 0 }
+        requires narrow { list_any (λ (w : Word). is_wide w.ea) (drop 1 words.now) ≡ false }
         ensures { self.new ≡ measure_of tables.now points.now }
     {
         self.size = points.len() as u32;

@@ -1,16 +1,19 @@
 -- A text that begins with a plain character and marks.
-use Rattle.std.proofs.Common.{◌≡◌, ℕ, zero, suc, ◌+◌, ◌-◌, ◌*◌, ◌<◌, ◌≤◌, true, false, Option, Some, None, IfSome, List, [], ◌∷◌, ◌++◌, map, length, take, drop, get_or, refl, sym, ap, subst, ◌∙◌, inl, inr, arith}
+use Rattle.std.proofs.Common.{◌≡◌, ℕ, zero, suc, ◌+◌, ◌-◌, ◌*◌, ◌<◌, ◌≤◌, Bool, true, false, ◌||◌, Option, Some, None, IfSome, List, [], ◌∷◌, ◌++◌, map, length, take, drop, get_or, refl, sym, ap, ap₂, subst, ◌∙◌, inl, inr, arith}
 use Rattle.std.proofs.lemmas.Bool.{cases_lt}
 use Rattle.std.proofs.lemmas.Bool.Decides.{nat_tests}
+use Rattle.std.proofs.lemmas.List.Folds.{list_any_more}
 use Rattle.std.proofs.lemmas.List.{length-append, length-drop, length-map, length-take, take-append-drop, drop_at, get_or-map, get_or-take, get_or-drop}
 use Rattle.std.proofs.lemmas.Str.{chars_from_encodes, length-encode}
 use Rattle.std.specs.Char.{len_utf8}
+use Rattle.std.specs.List.{list_any}
 use Rattle.std.specs.Prelude.{encode_utf8, encode_utf8_all}
 use Rattle.std.specs.Str.{IsUtf8, IsCharBoundary}
 use Rattle.unicode_tables.specs.declared.word.Word.{Word}
 use Rattle.unicode_segmentation.proofs.TextLemmas.{IsUtf8-before}
 use Rattle.paragraphs.specs.Text.{code_points}
 use Rattle.paragraphs.specs.Clusters.{clusters, is_plain}
+use Rattle.paragraphs.specs.Classes.{is_wide}
 use Rattle.paragraphs.specs.Marked.{is_mark, AreMarked}
 use Rattle.paragraphs.proofs.Joined.{AreMarks, ends-before, clusters-marked}
 use Rattle.paragraphs.proofs.Slices.{byte_of, text-split, IsUtf8-rest, IsCharBoundary-byte_of, length-byte_of}
@@ -33,6 +36,17 @@ module _ (points : List ℕ) (words : List Word) (same : map (λ (w : Word). w.i
         | inl lt ↦ lt
         | inr ge ↦ absurd (seen (omega arith))
       ]
+
+-- one more that isn't wide
+pub narrow-on : (words : List Word) (k : ℕ) (d : Word) → 0 < k → k < length words → list_any (λ (w : Word). is_wide w.ea) (take (k - 1) (drop 1 words)) ≡ false
+    → is_wide (get_or words k d).ea ≡ false → list_any (λ (w : Word). is_wide w.ea) (take (k + 1 - 1) (drop 1 words)) ≡ false
+narrow-on words k d some within narrow here =
+    let p : Word → Bool = λ w. is_wide w.ea in
+    let more : k + 1 - 1 ≡ k - 1 + 1 = omega arith in
+    let at : 1 + (k - 1) ≡ k = omega arith in
+    ap (λ n. list_any p (take n (drop 1 words))) more
+    ∙ list_any_more p (drop 1 words) (k - 1) d (omega (arith, length-drop 1 words))
+    ∙ ap₂ ◌||◌ narrow (ap p (get_or-drop 1 words (k - 1) d ∙ ap (λ n. get_or words n d) at) ∙ here)
 
 -- what is told of a place, if there is one
 pub marked-from : (points : List ℕ) (place : Option ℕ) → is_plain (get_or points 0 0) ≡ true → IfSome place (λ n. 0 < n) → IfSome place (λ n. n ≤ length points)

@@ -1,5 +1,5 @@
 -- The columns of one code point, as its word tells them.
-use Rattle.std.proofs.Common.{◌≡◌, ℕ, ◌<◌, Bool, true, false, ◌||◌, ◌&&◌, ◌==◌, List, [], ◌∷◌, map, length, get_or, sym, ap, ◌∙◌, refl, arith}
+use Rattle.std.proofs.Common.{◌≡◌, ℕ, ◌<◌, Bool, true, false, ◌||◌, ◌&&◌, ◌==◌, List, [], ◌∷◌, map, length, drop, get_or, sym, ap, ◌∙◌, refl, arith}
 use Rattle.std.proofs.lemmas.Bool.Decides.{nat_tests}
 use Rattle.std.proofs.lemmas.List.{get_or-map}
 use Rattle.std.specs.List.{list_all, list_any}
@@ -46,30 +46,29 @@ pub off-columns : (n : ℕ) (b : Bool) → (n ≡ 1 → ⊥) → (n == 1 && b) �
 off-columns n b off = grind (arith, nat_tests)
 
 -- the cases of several code points, of which the first is seen, where `more` says whether one of the others is wide
-by_marks : (ends unseen later wide more : Bool) (choice : ℕ) → 0 < alone (ends || unseen) wide
+by_marks : (ends unseen later wide more : Bool) (choice : ℕ) → 0 < alone (ends || unseen) wide → more ≡ false
     → ◌≡◌ {A = ℕ} (if ends then 0 else (if unseen && later then 0 else (if wide || more then 2 else choice)))
-    (if wide || more then 2 else (if ends then 0 else (if unseen && true then 0 else (if wide || false then 2 else choice))))
-by_marks true unseen later wide more choice h = absurd (omega arith)
-by_marks false true later wide more choice h = absurd (omega arith)
-by_marks false false later true more choice h = refl
-by_marks false false later false true choice h = refl
-by_marks false false later false false choice h = refl
+    (if ends then 0 else (if unseen && true then 0 else (if wide || false then 2 else choice)))
+by_marks true unseen later wide more choice h none = absurd (omega arith)
+by_marks false true later wide more choice h none = absurd (omega arith)
+by_marks false false later wide true choice h none = absurd (cc none)
+by_marks false false later wide false choice h none = refl
 
 -- the words tell whether one of several code points is wide
 any-wide : (tables : TableValues) (points : List ℕ) → list_any (λ (w : Word). is_wide w.ea) (map (word_of tables) points) ≡ list_any (takes_two tables) points
 any-wide tables [] = refl
 any-wide tables (c ∷ points) = ap (λ b. takes_two tables c || b) (any-wide tables points)
 
--- the columns of several code points are those of the first alone, or two
+-- the columns of several code points are those of the first alone, where it is seen and none of the others is wide
 pub columns-of_marked : (tables : TableValues) (points : List ℕ) (words : List Word) → words ≡ map (word_of tables) points
-    → 0 < get_or (map (λ (w : Word). w.columns) words) 0 0
-    → (if list_any (λ (w : Word). is_wide w.ea) words then 2 else columns_of tables (get_or points 0 0 ∷ [])) ≡ columns_of tables points
-columns-of_marked tables [] words same seen = absurd (let none = ap (λ (ws : List Word). get_or (map (λ (w : Word). w.columns) ws) 0 0) same in omega arith)
-columns-of_marked tables (c ∷ points) words same seen =
+    → 0 < get_or (map (λ (w : Word). w.columns) words) 0 0 → list_any (λ (w : Word). is_wide w.ea) (drop 1 words) ≡ false
+    → columns_of tables (get_or points 0 0 ∷ []) ≡ columns_of tables points
+columns-of_marked tables [] words same seen narrow = absurd (let none = ap (λ (ws : List Word). get_or (map (λ (w : Word). w.columns) ws) 0 0) same in omega arith)
+columns-of_marked tables (c ∷ points) words same seen narrow =
     let first = ap (λ (ws : List Word). get_or (map (λ (w : Word). w.columns) ws) 0 0) same in
-    ap (λ b. if b then 2 else columns_of tables (c ∷ [])) (ap (list_any (λ (w : Word). is_wide w.ea)) same ∙ any-wide tables (c ∷ points))
-    ∙ sym (by_marks (ends_line tables c) (is_invisible tables c) (list_all (is_invisible tables) points) (takes_two tables c) (list_any (takes_two tables) points)
-    (if takes_two_by_choice tables c then 2 else 1) (omega arith))
+    let later = sym (any-wide tables points) ∙ sym (ap (λ (ws : List Word). list_any (λ (w : Word). is_wide w.ea) (drop 1 ws)) same) ∙ narrow in
+    sym (by_marks (ends_line tables c) (is_invisible tables c) (list_all (is_invisible tables) points) (takes_two tables c) (list_any (takes_two tables) points)
+    (if takes_two_by_choice tables c then 2 else 1) (omega arith) later)
 
 -- where one is seen by itself there is one
 pub seen-some : (words : List Word) → 0 < get_or (map (λ (w : Word). w.columns) words) 0 0 → 0 < length words

@@ -1,16 +1,17 @@
 //! The clusters of a text (UAX #29).
 
-ghost use Rattle.std.specs.Prelude.{◌≡◌, ℕ, ◌<◌, ◌≤◌, true, map, List, [], ◌∷◌, length, slice_index, take, drop, encode_utf8, encode_utf8_all, IfSome, MatchOption};
-ghost use Rattle.std.specs.List.{concat};
+ghost use Rattle.std.specs.Prelude.{◌≡◌, ℕ, ◌-◌, ◌<◌, ◌≤◌, true, false, map, List, [], ◌∷◌, length, slice_index, take, drop, encode_utf8, encode_utf8_all, IfSome, MatchOption};
+ghost use Rattle.std.specs.List.{concat, list_any};
 ghost use Rattle.unicode_segmentation.specs.Grapheme.{is_grapheme_break};
 ghost use Rattle.paragraphs.specs.Text.{code_points};
 ghost use Rattle.unicode_tables.specs.declared.word.Word.{Word};
 ghost use Rattle.paragraphs.specs.Clusters.{clusters, is_plain};
+ghost use Rattle.paragraphs.specs.Classes.{is_wide};
 ghost use Rattle.paragraphs.specs.Marked.{is_mark, AreMarked};
 
 use std::marker::Model;
 use unicode_segmentation::UnicodeSegmentation;
-use unicode_tables::Word;
+use unicode_tables::{Word, is_wide};
 
 /// How many bytes each mark of `is_mark` has.
 const MARK_LEN: usize = 2;
@@ -75,8 +76,8 @@ impl<'a> Clusters<'a> {
     }
 
     /// Takes the next cluster where it is seen at once that it is a character that has columns by
-    /// itself, and marks, and gives how many code points it has. `points` are the code points still
-    /// to come, and `words` are theirs.
+    /// itself, and marks that aren't wide, and gives how many code points it has. `points` are the
+    /// code points still to come, and `words` are theirs.
     /// Cost: O(n) of the cluster.
     #[inline]
     pub fn next_marked(&mut self, points: &[char], words: &[Word]) -> Option<usize>
@@ -86,6 +87,7 @@ impl<'a> Clusters<'a> {
         ensures points { IfSome result (λ n. code_points (encode_utf8_all (take n points.now)) ≡ take n points.now) }
         ensures size { IfSome result (λ n. (0 < n) × (n ≤ length points.now)) }
         ensures seen { IfSome result (λ _. 0 < slice_index (map (λ (w : Word). w.columns) words.now) 0) }
+        ensures narrow { IfSome result (λ n. list_any (λ (w : Word). is_wide w.ea) (take (n - 1) (drop 1 words.now)) ≡ false) }
     {
         let text = self.rest();
         let c = *points.first()?;
@@ -130,13 +132,14 @@ fn stands_alone(points: &[char], words: &[Word]) -> bool
 }
 
 /// How many of these code points are a plain one that has columns by itself, and the marks behind
-/// it, where a plain one follows them (GB9, GB999) or nothing (GB2).
+/// it, none of them wide, where a plain one follows them (GB9, GB999) or nothing (GB2).
 #[inline]
 fn marked_size(points: &[char], words: &[Word]) -> Option<usize>
     requires some { 0 < length points.now }
     requires words { map (λ (w : Word). w.is_plain) words.now ≡ map is_plain points.now }
     ensures marked { IfSome result (λ n. AreMarked points.now n) }
     ensures seen { IfSome result (λ _. 0 < slice_index (map (λ (w : Word). w.columns) words.now) 0) }
+    ensures narrow { IfSome result (λ n. list_any (λ (w : Word). is_wide w.ea) (take (n - 1) (drop 1 words.now)) ≡ false) }
 {
     if !words[0].is_plain || words[0].columns == 0 {
         return None;
@@ -145,7 +148,7 @@ fn marked_size(points: &[char], words: &[Word]) -> Option<usize>
 }
 
 /// The place of the first plain code point behind the first of these, or their end, if there are
-/// only marks before it.
+/// only marks before it, and none of them is wide.
 #[inline]
 fn marks_end(points: &[char], words: &[Word]) -> Option<usize>
     requires some { 0 < length points.now }
@@ -153,13 +156,14 @@ fn marks_end(points: &[char], words: &[Word]) -> Option<usize>
     ensures some { IfSome result (λ n. 0 < n) }
     ensures within { IfSome result (λ n. n ≤ length points.now) }
     ensures marks { IfSome result (λ n. (k : ℕ) → 0 < k → k < n → is_mark (slice_index points.now k) ≡ true) }
+    ensures narrow { IfSome result (λ n. list_any (λ (w : Word). is_wide w.ea) (take (n - 1) (drop 1 words.now)) ≡ false) }
     ensures behind { IfSome result (λ n. n < length points.now → is_plain (slice_index points.now n) ≡ true) }
 {
     for k in 1..points.len() {
         if words[k].is_plain {
             return Some(k);
         }
-        if !is_mark(points[k] as usize) {
+        if !is_mark(points[k] as usize) || is_wide(words[k].ea) {
             return None;
         }
     }

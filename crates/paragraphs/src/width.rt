@@ -1,6 +1,6 @@
 //! The columns of a cluster.
 
-ghost use Rattle.std.specs.Prelude.{◌≡◌, ◌<◌, length, map, slice_index, [], ◌∷◌};
+ghost use Rattle.std.specs.Prelude.{◌≡◌, ◌<◌, false, length, map, drop, slice_index, [], ◌∷◌};
 ghost use Rattle.std.specs.List.{list_all, list_any};
 ghost use Rattle.unicode_tables.specs.Word.{word_of};
 ghost use Rattle.unicode_tables.specs.declared.word.Word.{Word};
@@ -41,28 +41,16 @@ pub fn columns_of_one(tables: &Tables, word: Word, c: char) -> u8
     }
 }
 
-/// The columns of a cluster of these code points, which have these words and of which the first has
-/// columns by itself.
-/// Cost: O(n) of the cluster.
+/// The columns of a cluster of these code points, which have these words, where the first has
+/// columns by itself and none of the others is wide: those of the first alone.
 #[inline]
 pub fn columns_of_marked(tables: &Tables, points: &[char], words: &[Word]) -> u8
     requires words { words.now ≡ map (word_of tables.now) points.now }
     requires seen { 0 < slice_index (map (λ (w : Word). w.columns) words.now) 0 }
+    requires narrow { list_any (λ (w : Word). is_wide w.ea) (drop 1 words.now) ≡ false }
     ensures { result ≡ columns_of tables.now points.now }
 {
-    if has_wide_word(words) {
-        2
-    } else {
-        columns_of_one(tables, words[0], points[0])
-    }
-}
-
-/// Whether one of these words is that of a wide character.
-#[inline]
-fn has_wide_word(words: &[Word]) -> bool
-    ensures { result ≡ list_any (λ (w : Word). is_wide w.ea) words.now }
-{
-    words.iter().any(|word| is_wide(word.ea))
+    columns_of_one(tables, words[0], points[0])
 }
 
 /// The columns of a cluster of any number of code points.

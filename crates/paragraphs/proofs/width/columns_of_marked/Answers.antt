@@ -1,6 +1,5 @@
--- One is wide, or the first tells the columns.
+-- The first tells the columns.
 use Rattle.std.proofs.Common.{◌<◌, [], ◌∷◌, ap, ◌∙◌, get_or, length, arith}
-use Rattle.std.specs.Prelude.{if◌then◌else◌}
 use Rattle.std.proofs.lemmas.List.{get_or_default, length-map}
 use Rattle.unicode_tables.specs.Word.{word_of}
 use Rattle.paragraphs.specs.Columns.{columns_of}
@@ -21,17 +20,11 @@ columns_of_one-requires c =
     let within : 0 < length points = omega (arith, ap length c.requires.words, length-map points (word_of c.args.tables.now)) in
     word-first c.args.tables.now points c.args.words.now c.index-points-0.result _ c.requires.words within c.index-points-0.is
 
-pub returns-then-has_wide_word : goal.returns-then-has_wide_word
-returns-then-has_wide_word c =
-    ap (λ b. if b then 2 else columns_of c.args.tables.now (get_or c.args.points.now 0 0 ∷ [])) c.if-has_wide_word.ensures
-    ∙ columns-of_marked c.args.tables.now c.args.points.now c.args.words.now c.requires.words c.requires.seen
-
-pub returns-else-has_wide_word : goal.returns-else-has_wide_word
-returns-else-has_wide_word c =
+pub returns : goal.returns
+returns c =
     let points = c.args.points.now in
     let some = seen-some c.args.words.now c.requires.seen in
     let within : 0 < length points = omega (arith, ap length c.requires.words, length-map points (word_of c.args.tables.now)) in
     c.columns_of_one.ensures
     ∙ ap (λ x. columns_of c.args.tables.now (x ∷ [])) (c.index-points-0.is ∙ get_or_default points 0 c.index-points-0.result 0 within)
-    ∙ ap (λ b. if b then 2 else columns_of c.args.tables.now (get_or c.args.points.now 0 0 ∷ [])) c.if-has_wide_word.ensures
-    ∙ columns-of_marked c.args.tables.now c.args.points.now c.args.words.now c.requires.words c.requires.seen
+    ∙ columns-of_marked c.args.tables.now c.args.points.now c.args.words.now c.requires.words c.requires.seen c.requires.narrow

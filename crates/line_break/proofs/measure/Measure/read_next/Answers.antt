@@ -1,13 +1,15 @@
 -- A cluster of one character, as its bytes.
 use Rattle.std.proofs.Common.{List, map, length, take, get_or, ap, sym, ◌∙◌, arith}
-use Rattle.std.specs.List.{concat}
+use Rattle.std.specs.List.{concat, list_any}
 use Rattle.std.specs.Prelude.{encode_utf8, encode_utf8_all}
 use Rattle.std.proofs.lemmas.List.{length-append, take-map}
 use Rattle.std.proofs.lemmas.Str.{length-le-encodes}
 use Rattle.std.proofs.lemmas.Simd.{map-map}
 use Rattle.unicode_tables.specs.Word.{word_of}
 use Rattle.unicode_tables.specs.declared.word.Word.{Word}
+use Rattle.paragraphs.specs.Classes.{is_wide}
 use Rattle.line_break.specs.Measures.{measure_of}
+use Rattle.line_break.proofs.Measuring.{drop_first-take}
 use Rattle.line_break.proofs.measure.Measure.read_next.Goals as goal
 
 pub next_alone-requires-clause-words : goal.next_alone-requires-clause-words
@@ -35,6 +37,10 @@ read_marked-requires-clause-few c =
     let left = c.next_marked.new.self in
     let all = ap (λ cs. length (concat cs)) (sym c.in_default.ensures.taken ∙ c.in-Some-next_marked.ensures.taken) in
     omega (arith, c.requires.few, all, length-append (encode_utf8_all own) (concat left), length-le-encodes own)
+
+pub read_marked-requires-clause-narrow : goal.read_marked-requires-clause-narrow
+read_marked-requires-clause-narrow c =
+    ap (list_any (λ (w : Word). is_wide w.ea)) (drop_first-take c.in-Some-next_marked.size c.args.words.now) ∙ c.in-Some-next_marked.ensures.narrow
 
 pub read_marked-requires-clause-words : goal.read_marked-requires-clause-words
 read_marked-requires-clause-words c =
