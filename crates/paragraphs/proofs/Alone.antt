@@ -1,5 +1,5 @@
 -- The first character of a text whose code points are known.
-use Rattle.std.proofs.Common.{◌≡◌, ℕ, true, Some, List, [], ◌∷◌, ◌++◌, take, drop, sym, ap, ap₂, subst, ◌∙◌}
+use Rattle.std.proofs.Common.{◌≡◌, ℕ, ◌+◌, ◌≤◌, length, true, Some, List, [], ◌∷◌, ◌++◌, take, drop, sym, ap, ap₂, subst, ◌∙◌}
 use Rattle.std.proofs.lemmas.List.{append-nil, drop_at}
 use Rattle.std.proofs.lemmas.Str.{chars_past_char, encodes-chars, length-encode, IsUtf8-past_char, IsCharBoundary-at_seam}
 use Rattle.std.specs.Char.{len_utf8}
@@ -11,6 +11,7 @@ use Rattle.paragraphs.specs.Text.{code_points}
 use Rattle.paragraphs.specs.Clusters.{clusters}
 use Rattle.paragraphs.proofs.Afresh.{clusters-alone}
 use Rattle.paragraphs.proofs.ClusterPlaces.{concat-clusters}
+use Rattle.paragraphs.proofs.Slices.{IsCharBoundary-on}
 
 -- the code points of clusters are those of their text
 pub points-of_clusters : (text points : List ℕ) (left : List (List ℕ)) → IsUtf8 text → left ≡ clusters text → points ≡ code_points (concat left) → points ≡ code_points text
@@ -26,7 +27,7 @@ module _ (text points : List ℕ) (c : ℕ) (u : IsUtf8 text) (all : points ≡ 
   split = sym (encodes-chars text u) ∙ ap encode_utf8_all (sym all ∙ points-first points c first)
 
   -- a text may be cut after it
-  pub IsCharBoundary-past : (n : ℕ) → n ≡ len_utf8 c → IsCharBoundary text n
+  IsCharBoundary-past : (n : ℕ) → n ≡ len_utf8 c → IsCharBoundary text n
   IsCharBoundary-past n e =
       subst (IsCharBoundary text) (length-encode c ∙ sym e)
       (IsCharBoundary-at_seam text (encode_utf8 c) (encode_utf8_all (drop 1 points)) split (IsUtf8-past_char text _ c u split))
@@ -49,3 +50,9 @@ module _ (text points : List ℕ) (c : ℕ) (u : IsUtf8 text) (all : points ≡ 
         clusters-alone text rest c points-rest
         (ap₂ (is_grapheme_break true) (sym (ap (take 1) (points-first points c first))) (sym points-past) ∙ broken)
         ∙ ap (λ x. x ∷ clusters rest) (append-nil (encode_utf8 c))
+
+-- a text may be cut after the first character of what is left of it from a byte on
+pub IsCharBoundary-past_first : (text : List ℕ) (byte : ℕ) (rest points : List ℕ) (left : List (List ℕ)) (c n : ℕ) → byte ≤ length text → rest ≡ drop byte text → IsUtf8 rest
+    → left ≡ clusters rest → points ≡ code_points (concat left) → Some c ≡ slice_get points 0 → n ≡ len_utf8 c → IsCharBoundary text (byte + n)
+IsCharBoundary-past_first text byte rest points left c n within from u own all first e =
+    IsCharBoundary-on text byte rest n within from (IsCharBoundary-past rest points c u (points-of_clusters rest points left u own all) first n e)

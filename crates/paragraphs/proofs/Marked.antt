@@ -16,7 +16,7 @@ use Rattle.paragraphs.specs.Clusters.{clusters, is_plain}
 use Rattle.paragraphs.specs.Classes.{is_wide}
 use Rattle.paragraphs.specs.Marked.{is_mark, AreMarked}
 use Rattle.paragraphs.proofs.Joined.{AreMarks, ends-before, clusters-marked}
-use Rattle.paragraphs.proofs.Slices.{byte_of, text-split, IsUtf8-rest, IsCharBoundary-byte_of, length-byte_of}
+use Rattle.paragraphs.proofs.Slices.{byte_of, text-split, IsUtf8-rest, IsCharBoundary-byte_of, length-byte_of, IsCharBoundary-on}
 
 -- the words of code points, in order
 module _ (points : List ℕ) (words : List Word) (same : map (λ (w : Word). w.is_plain) words ≡ map is_plain points) where
@@ -101,7 +101,7 @@ module _ (text points : List ℕ) (n : ℕ) (u : IsUtf8 text) (all : points ≡ 
   marked-within = let e = length-byte_of text u n in omega arith
 
   -- a text may be cut after them
-  pub IsCharBoundary-marked : (end : ℕ) → end ≡ byte_of (code_points text) n → IsCharBoundary text end
+  IsCharBoundary-marked : (end : ℕ) → end ≡ byte_of (code_points text) n → IsCharBoundary text end
   IsCharBoundary-marked end e = subst (IsCharBoundary text) (sym e) (IsCharBoundary-byte_of text u n)
 
   pub points-marked : code_points (encode_utf8_all (take n points)) ≡ take n points
@@ -130,3 +130,10 @@ module _ (text points : List ℕ) (n : ℕ) (u : IsUtf8 text) (all : points ≡ 
         ∙ m.behind (omega (arith, ap length points-behind, length-drop n points)) in
         clusters-marked text rest c marks split (sym m.plain) marks-are (ends-before (code_points rest) behind)
         ∙ ap (λ ps. encode_utf8_all ps ∷ clusters rest) (sym front)
+
+-- a text may be cut after them, where they are what is left of it from a byte on
+pub IsCharBoundary-past_marks : (text : List ℕ) (byte : ℕ) (rest points : List ℕ) (n c len : ℕ) → byte ≤ length text → rest ≡ drop byte text → IsUtf8 rest → points ≡ code_points rest
+    → AreMarked points n → c ≡ get_or points 0 0 → len ≡ len_utf8 c → IsCharBoundary text (byte + (len + (n - 1) * 2))
+IsCharBoundary-past_marks text byte rest points n c len within from u all m first e =
+    IsCharBoundary-on text byte rest (len + (n - 1) * 2) within from
+    (IsCharBoundary-marked rest points n u all m (len + (n - 1) * 2) (ap (λ l. l + (n - 1) * 2) e ∙ marked-bytes rest points n u all m c first))

@@ -1,8 +1,8 @@
 -- The places of a text's code points among its bytes.
 use Rattle.std.proofs.Common.{◌≡◌, ℕ, ◌+◌, ◌-◌, ◌≤◌, zero, suc, List, [], ◌∷◌, ◌++◌, length, take, drop, slice_range, refl, sym, ap, subst, ◌∙◌, arith}
-use Rattle.std.proofs.lemmas.List.{length-append, length-take-le, take-append-drop, take_at, drop_at}
+use Rattle.std.proofs.lemmas.List.{append_assoc, length-append, length-take-le, take-append-drop, take_at, drop_at, drop-drop}
 use Rattle.std.proofs.lemmas.List.Folds.{drop_split}
-use Rattle.std.proofs.lemmas.Str.{chars_from_encodes, encodes-append, encodes-chars, IsCharBoundary-at_seam, IsUtf8-past_char}
+use Rattle.std.proofs.lemmas.Str.{chars_from_encodes, encodes-append, encodes-chars, IsCharBoundary-at_seam, IsCharBoundary-from_rest, IsUtf8-past_char}
 use Rattle.std.specs.Prelude.{encode_utf8_all}
 use Rattle.std.specs.Str.{IsUtf8, IsCharBoundary}
 use Rattle.unicode_segmentation.proofs.TextLemmas.{IsUtf8-before, take_split}
@@ -30,6 +30,35 @@ byte_of-slice points from to le =
     ap (λ t. length (encode_utf8_all t)) (take_split points from to le)
     ∙ ap length (encodes-append (take from points) (slice_range points from to))
     ∙ length-append (encode_utf8_all (take from points)) (encode_utf8_all (slice_range points from to))
+
+-- what is left of a text from a byte on, and from n bytes further
+module _ (text : List ℕ) (byte : ℕ) (rest : List ℕ) (n : ℕ) where
+  pub IsCharBoundary-on : byte ≤ length text → rest ≡ drop byte text → IsCharBoundary rest n → IsCharBoundary text (byte + n)
+  IsCharBoundary-on within left at = IsCharBoundary-from_rest text byte n within (subst (λ t. IsCharBoundary t n) left at)
+
+  pub drop-on : rest ≡ drop byte text → drop (byte + n) text ≡ drop n rest
+  drop-on left = sym (drop-drop n byte text) ∙ ap (drop n) (sym left)
+
+-- a text's end
+pub record IsBehind (text rest : List ℕ) : Type 0 where
+  pub within : length rest ≤ length text
+  pub left : drop (length text - length rest) text ≡ rest
+  pub boundary : IsCharBoundary text (length text - length rest)
+
+-- what is left behind a piece of what is left of a text from a byte on
+pub IsBehind-on : (text : List ℕ) (byte : ℕ) (left piece rest : List ℕ) → left ≡ drop byte text → left ≡ piece ++ rest → IsUtf8 rest → IsBehind text rest
+IsBehind-on text byte left piece rest from joined u =
+    let front = take byte text ++ piece in
+    let split : text ≡ front ++ rest =
+    sym (take-append-drop byte text) ∙ ap (λ t. take byte text ++ t) (sym from ∙ joined) ∙ sym (append_assoc (take byte text) piece rest) in
+    let size = ap length split in
+    let both = length-append front rest in
+    let end : length front ≡ length text - length rest = omega arith in
+    record {
+      within = omega arith;
+      left = ap (λ n. drop n text) (sym end) ∙ ap (drop (length front)) split ∙ drop_at front rest (length front) refl;
+      boundary = subst (IsCharBoundary text) end (IsCharBoundary-at_seam text front rest split u);
+    }
 
 module _ (text : List ℕ) (u : IsUtf8 text) where
   pub text-split : (n : ℕ) → text ≡ encode_utf8_all (take n (code_points text)) ++ encode_utf8_all (drop n (code_points text))

@@ -19,18 +19,22 @@ const MARK_LEN: usize = 2;
 /// Iterates over clusters, each as a slice of the text. Takes no memory.
 #[derive(Debug, Drop)]
 pub struct Clusters<'a> {
-    /// The text from where the next cluster begins.
-    rest: &'a str,
+    text: &'a str,
+    /// Where in it the next cluster begins.
+    byte: usize,
 }
 
 impl<'a> Model for Clusters<'a> {
-    ghost use Rattle.std.specs.Prelude.{List, ℕ};
+    ghost use Rattle.std.specs.Prelude.{List, ℕ, drop};
+    ghost use Rattle.std.specs.Str.{IsCharBoundary};
     ghost use Rattle.paragraphs.specs.Clusters.{clusters};
 
     // The clusters still to come, each as its bytes.
     ghost Value = { List (List ℕ) };
 
-    ghost view = { λ s. clusters s.rest.now };
+    ghost view = { λ s. clusters (drop s.byte s.text.now) };
+
+    ghost invariant = { λ s. IsCharBoundary s.text.now s.byte };
 }
 
 impl<'a> Clusters<'a> {
@@ -39,14 +43,7 @@ impl<'a> Clusters<'a> {
     pub(crate) fn of(text: &'a str) -> Clusters<'a>
         ensures { result ≡ clusters text.now }
     {
-        Clusters { rest: text }
-    }
-
-    #[inline]
-    fn rest(&self) -> &'a str
-        ensures { self.now ≡ clusters result.now }
-    {
-        self.rest
+        Clusters { text, byte: 0 }
     }
 
     /// How many bytes the clusters still to come have.
@@ -54,7 +51,8 @@ impl<'a> Clusters<'a> {
     pub fn bytes_left(&self) -> usize
         ensures { result ≡ length (concat self.now) }
     {
-        self.rest().len()
+        let rest = &self.text[self.byte..];
+        rest.len()
     }
 
     /// Takes the next cluster where it is seen at once that it is a single character, and gives
@@ -66,12 +64,13 @@ impl<'a> Clusters<'a> {
         ensures taken { MatchOption result (self.new ≡ self.old) (λ c. self.old ≡ encode_utf8 c ∷ self.new) }
         ensures first { IfSome result (λ c. points.now ≡ c ∷ drop 1 points.now) }
     {
-        let text = self.rest();
+        // What is left is a text.
+        let _rest = &self.text[self.byte..];
         let c = *points.first()?;
         if !stands_alone(points, words) {
             return None;
         }
-        self.rest = &text[c.len_utf8()..];
+        self.byte += c.len_utf8();
         Some(c)
     }
 
@@ -89,11 +88,11 @@ impl<'a> Clusters<'a> {
         ensures seen { IfSome result (λ _. 0 < slice_index (map (λ (w : Word). w.columns) words.now) 0) }
         ensures narrow { IfSome result (λ n. list_any (λ (w : Word). is_wide w.ea) (take (n - 1) (drop 1 words.now)) ≡ false) }
     {
-        let text = self.rest();
+        // What is left is a text.
+        let _rest = &self.text[self.byte..];
         let c = *points.first()?;
         let size = marked_size(points, words)?;
-        let end = c.len_utf8() + (size - 1) * MARK_LEN;
-        self.rest = &text[end..];
+        self.byte += c.len_utf8() + (size - 1) * MARK_LEN;
         Some(size)
     }
 }
@@ -109,10 +108,10 @@ impl<'a> Iterator for Clusters<'a> {
 
     #[inline]
     fn next(&mut self) -> Option<&'a str> {
-        let text = self.rest();
-        let mut graphemes = text.graphemes(true);
+        let rest = &self.text[self.byte..];
+        let mut graphemes = rest.graphemes(true);
         let cluster = graphemes.next()?;
-        self.rest = graphemes.as_str();
+        self.byte = self.text.len() - graphemes.as_str().len();
         Some(cluster)
     }
 }

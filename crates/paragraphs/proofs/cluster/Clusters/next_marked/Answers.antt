@@ -1,36 +1,56 @@
 -- A plain character with marks, and the clusters after them.
-use Rattle.std.proofs.Common.{◌≡◌, ◌+◌, ◌-◌, ◌*◌, ◌∙◌, get_or, ap, sym}
+use Rattle.std.proofs.Common.{◌≡◌, ◌+◌, ◌-◌, ◌*◌, ◌∙◌, drop, get_or, ap, sym, arith}
+use Rattle.paragraphs.specs.Clusters.{clusters}
 use Rattle.paragraphs.proofs.Alone.{points-first, points-of_clusters}
-use Rattle.paragraphs.proofs.Marked.{marked-bytes, IsCharBoundary-marked, points-marked, clusters-past_marks}
+use Rattle.paragraphs.proofs.Marked.{marked-bytes, IsCharBoundary-past_marks, points-marked, clusters-past_marks}
+use Rattle.paragraphs.proofs.Slices.{drop-on}
 use Rattle.paragraphs.proofs.cluster.Clusters.next_marked.Goals as goal
 
-pub range_from-self-inside-requires : goal.range_from-self-inside-requires
-range_from-self-inside-requires c = λ _.
-    let text = c.rest-text.result.now in
-    let u = c.rest-text.utf8 in
+pub range_from-rest-requires : goal.range_from-rest-requires
+range_from-rest-requires c = λ _. c.self.invariant
+
+pub invariant_of-self : goal.invariant_of-self
+invariant_of-self c =
+    let inside = c.self.inside in
+    let rest = c.range_from-rest.result.now in
     let points = c.args.points.now in
-    let n = c.in_ok-size.size in
-    let all = points-of_clusters text points _ u c.rest-text.ensures c.requires.points in
     let first : c.in_ok-c.field-0.now ≡ get_or points 0 0 = sym (ap (λ ps. get_or ps 0 0) (points-first points c.in_ok-c.field-0.now c.in_ok-c.ensures.value)) in
-    IsCharBoundary-marked text points n u all c.in_ok-size.ensures.marked (c.len_utf8.result + (n - 1) * 2)
-    (ap (λ l. l + (n - 1) * 2) c.len_utf8.ensures.value ∙ marked-bytes text points n u all c.in_ok-size.ensures.marked c.in_ok-c.field-0.now first)
+    let all = points-of_clusters rest points _ c.range_from-rest.utf8 (sym c.self.view_is ∙ ap clusters (sym c.range_from-rest.ensures.value)) c.requires.points in
+    IsCharBoundary-past_marks inside.text.now inside.byte rest points c.in_ok-size.size c.in_ok-c.field-0.now c.len_utf8.result c.self.invariant.0 c.range_from-rest.ensures.value
+    c.range_from-rest.utf8 all c.in_ok-size.ensures.marked first c.len_utf8.ensures.value
+
+pub overflow_add-self-2 : goal.overflow_add-self-2
+overflow_add-self-2 c =
+    let inside = c.self.inside in
+    let rest = c.range_from-rest.result.now in
+    let points = c.args.points.now in
+    let first : c.in_ok-c.field-0.now ≡ get_or points 0 0 = sym (ap (λ ps. get_or ps 0 0) (points-first points c.in_ok-c.field-0.now c.in_ok-c.ensures.value)) in
+    let all = points-of_clusters rest points _ c.range_from-rest.utf8 (sym c.self.view_is ∙ ap clusters (sym c.range_from-rest.ensures.value)) c.requires.points in
+    let within =
+    IsCharBoundary-past_marks inside.text.now inside.byte rest points c.in_ok-size.size c.in_ok-c.field-0.now c.len_utf8.result c.self.invariant.0 c.range_from-rest.ensures.value
+    c.range_from-rest.utf8 all c.in_ok-size.ensures.marked first c.len_utf8.ensures.value in
+    omega (arith, within.0)
 
 pub returns-clause-taken : goal.returns-clause-taken
 returns-clause-taken c =
-    let text = c.rest-text.result.now in
-    let u = c.rest-text.utf8 in
+    let inside = c.self.inside in
+    let rest = c.range_from-rest.result.now in
+    let u = c.range_from-rest.utf8 in
+    let value = c.range_from-rest.ensures.value in
     let points = c.args.points.now in
     let n = c.in_ok-size.size in
-    let all = points-of_clusters text points _ u c.rest-text.ensures c.requires.points in
+    let left = sym c.self.view_is ∙ ap clusters (sym value) in
+    let all = points-of_clusters rest points _ u left c.requires.points in
     let m = c.in_ok-size.ensures.marked in
     let first : c.in_ok-c.field-0.now ≡ get_or points 0 0 = sym (ap (λ ps. get_or ps 0 0) (points-first points c.in_ok-c.field-0.now c.in_ok-c.ensures.value)) in
-    c.rest-text.ensures
-    ∙ clusters-past_marks text points n u all m (c.len_utf8.result + (n - 1) * 2) c.range_from-self-inside.result.now
-    (ap (λ l. l + (n - 1) * 2) c.len_utf8.ensures.value ∙ marked-bytes text points n u all m c.in_ok-c.field-0.now first)
-    c.range_from-self-inside.ensures.value
+    let end = c.len_utf8.result + (n - 1) * 2 in
+    left
+    ∙ clusters-past_marks rest points n u all m end (drop (inside.byte + end) inside.text.now)
+    (ap (λ l. l + (n - 1) * 2) c.len_utf8.ensures.value ∙ marked-bytes rest points n u all m c.in_ok-c.field-0.now first)
+    (drop-on inside.text.now inside.byte rest end value)
 
 pub returns-clause-points : goal.returns-clause-points
 returns-clause-points c =
-    let text = c.rest-text.result.now in
-    points-marked text c.args.points.now c.in_ok-size.size c.rest-text.utf8
-    (points-of_clusters text c.args.points.now _ c.rest-text.utf8 c.rest-text.ensures c.requires.points) c.in_ok-size.ensures.marked
+    let rest = c.range_from-rest.result.now in
+    points-marked rest c.args.points.now c.in_ok-size.size c.range_from-rest.utf8
+    (points-of_clusters rest c.args.points.now _ c.range_from-rest.utf8 (sym c.self.view_is ∙ ap clusters (sym c.range_from-rest.ensures.value)) c.requires.points) c.in_ok-size.ensures.marked

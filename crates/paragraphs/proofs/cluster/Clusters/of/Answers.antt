@@ -1,0 +1,6 @@
+-- A text begins with a character.
+use Rattle.std.proofs.lemmas.Str.{IsCharBoundary-start}
+use Rattle.paragraphs.proofs.cluster.Clusters.of.Goals as goal
+
+pub invariant_of-result : goal.invariant_of-result
+invariant_of-result c = IsCharBoundary-start c.args.text.now c.utf8.text
