@@ -144,9 +144,7 @@ fn rows_in(
     requires levels { length material.now.levels.items ≡ length (code_points material.now.text.now) }
     requires some { AllHaveSome material.now.clusters.runs.items }
     requires runs { AreFrom material.now.tables.now material.now.text.now 0 material.now.clusters.runs.items }
-    requires clusters { material.now.clusters.clusters.items ≡ line_clusters material.now.tables.now material.now.text.now }
     requires opportunities { material.now.clusters.opportunities.items ≡ opportunities_of (line_clusters material.now.tables.now material.now.text.now) }
-    requires most { All (λ c. c.columns ≤ 2) material.now.clusters.clusters.items }
     ensures { IfOk result (λ rows. rows.items
         ≡ map (row_of material.now.tables.now width material.now.para_level material.now.text.now material.now.levels.items)
         (lines material.now.tables.now material.now.text.now width)) }
@@ -154,8 +152,9 @@ fn rows_in(
     laws_below();
     let lines = lines_of(
         alloc,
-        &material.clusters.clusters,
-        &material.clusters.opportunities,
+        material.tables,
+        material.text,
+        &material.clusters,
         width,
     )?;
     let mut rows = Vec::with_capacity(alloc, lines.len())?;

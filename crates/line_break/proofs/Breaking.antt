@@ -109,6 +109,9 @@ module _ (cl : List Cluster) (opps : List Opportunity) (w : ℕ) (o : Open) (h :
     between : (i : ℕ) → o.reached.clusters < i → i < (get_or opps o.next d).boundary.clusters → status_at cl i ≡ No
     between i a b = no-opportunity cl i (next.none i a b)
 
+    pub next-order : o.start.clusters ≤ (get_or opps o.next d).boundary.clusters
+    next-order = let low = h.order in let more = next.behind in omega arith
+
     -- it fits
     module _ (fits : (get_or opps o.next d).boundary.solid - o.start.columns ≤ w) where
       fits-next : solid (take (get_or opps o.next d).boundary.clusters cl) ≤ columns (take o.start.clusters cl) + w

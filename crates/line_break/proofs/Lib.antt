@@ -21,3 +21,5 @@ pub mod Offering
 pub mod LastStatus
 pub mod Following
 pub mod Fitting
+mod Counting
+mod Reading

@@ -31,6 +31,10 @@ length-breaks tables text = length-statuses_behind [] (map (point_of tables) (co
 abbrev pub sizes : List (List ℕ) → List ℕ
 sizes left = map length (map code_points left)
 
+-- the first n clusters of a paragraph
+abbrev pub first_lines : TableValues → List ℕ → ℕ → List Cluster
+first_lines tables text n = take n (line_clusters tables text)
+
 -- the clusters before `left` are measured, and have `place` code points
 pub record IsMeasuredTo (tables : TableValues) (text : List ℕ) (left : List (List ℕ)) (done : List Cluster) (place : ℕ) : Type 0 where
   pub utf8 : All IsUtf8 left
@@ -98,6 +102,20 @@ module _ (tables : TableValues) (text : List ℕ) where
           } in
           subst (λ (x : List Cluster). IsMeasuredTo tables text later x (place + size)) (sym (put ∙ ap (λ x. done ++ x ∷ []) is))
           (subst (λ (x : ℕ). IsMeasuredTo tables text later (done ++ measured tables (code_points c) (drop place (breaks tables text)) ∷ []) (place + x)) (sym n) next)
+
+-- one more of a list that goes on with it
+take-on : {A : Type 0} (n : ℕ) (xs : List A) (x : A) (rest : List A) → take n xs ++ x ∷ rest ≡ xs → take (suc n) xs ≡ take n xs ++ x ∷ []
+take-on zero xs x rest e = ap (take 1) (sym e)
+take-on (suc n) [] x rest e = absurd (cc e)
+take-on (suc n) (y ∷ xs) x rest e = let later : take n xs ++ x ∷ rest ≡ xs = cc e in ap (λ l. y ∷ l) (take-on n xs x rest later)
+
+module _ (tables : TableValues) (text : List ℕ) (left : List (List ℕ)) (n place : ℕ) (m : IsMeasuredTo tables text left (first_lines tables text n) place) where
+  pub first_lines-on : (c : List ℕ) (later : List (List ℕ)) → left ≡ c ∷ later → (new : Cluster) → new ≡ measured tables (code_points c) (drop place (breaks tables text))
+      → first_lines tables text (n + 1) ≡ first_lines tables text n ++ new ∷ []
+  first_lines-on c later e new is =
+      let here = subst (λ (l : List (List ℕ)). IsMeasuredTo tables text l (first_lines tables text n) place) e m in
+      let one : n + 1 ≡ suc n = omega arith in
+      ap (first_lines tables text) one ∙ take-on n (line_clusters tables text) _ _ here.so_far ∙ ap (λ x. first_lines tables text n ++ x ∷ []) (sym is)
 
 same_default : (xs : List Break) (i : ℕ) (d e : Break) → i < length xs → get_or xs i d ≡ get_or xs i e
 same_default [] i d e l = absurd (omega arith)

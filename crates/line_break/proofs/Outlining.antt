@@ -26,18 +26,6 @@ pub record IsOutlinedTo (text : List ℕ) (left : List (List ℕ)) (done : List 
   pub all_sizes : sizes ++ map length (map code_points left) ≡ cluster_sizes text
   pub points : drop place (code_points text) ≡ code_points (concat left)
 
--- a list of this many entries up to a place, with room for one at each of `count` places
-pub record HasRoom (count place entries capacity : ℕ) : Type 0 where
-  pub filled : entries ≤ place
-  pub room : count ≤ capacity
-
--- one more entry, for a cluster of one code point or more
-pub HasRoom-on : (count place entries capacity size more same : ℕ) → HasRoom count place entries capacity → 0 < size → more ≡ entries + 1 → same ≡ capacity → HasRoom count (place + size) more same
-HasRoom-on count place entries capacity size more same h some one e =
-    let filled = h.filled in
-    let room = h.room in
-    record { filled = omega arith; room = omega arith }
-
 module _ (text : List ℕ) where
   pub IsOutlinedTo-start : (left : List (List ℕ)) (done : List Span) (sizes : List ℕ) → left ≡ clusters text → All IsUtf8 left → All (λ (cluster : List ℕ). 0 < length cluster) left
       → concat left ≡ text → done ≡ [] → sizes ≡ [] → IsOutlinedTo text left done sizes 0 0

@@ -3,6 +3,7 @@
 
 mod class;
 mod cluster;
+mod cursor;
 pub mod laws;
 mod line;
 mod measure;

@@ -1,17 +1,18 @@
 //! The lines of a paragraph.
 
-ghost use Rattle.std.specs.Prelude.{◌≡◌, ◌^◌, ◌<◌, ◌≤◌, IfOk, length, slice_range};
-ghost use Rattle.std.specs.List.{All, flat_map};
+ghost use Rattle.std.specs.Prelude.{◌≡◌, ◌≤◌, IfOk, length, slice_range};
+ghost use Rattle.std.specs.List.{flat_map};
 ghost use Rattle.paragraphs.specs.Clusters.{clusters};
-ghost use Rattle.line_break.specs.Lines.{lines, lines_of};
+ghost use Rattle.line_break.specs.Cursors.{AreRunsOf};
+ghost use Rattle.line_break.specs.LineClusters.{line_clusters};
+ghost use Rattle.line_break.specs.Lines.{lines};
 ghost use Rattle.line_break.specs.Opportunities.{opportunities_of};
 
-use crate::cluster::Cluster;
+use crate::cursor::Cursor;
 use crate::open::Open;
-use crate::opportunity::Opportunity;
-use crate::outline::outline_of;
+use crate::outline::{Outline, outline_of};
 use bg_types::Memory;
-use paragraphs::{Para, code_points_of};
+use paragraphs::{Para, code_points_of, laws};
 use std::alloc::Global;
 use unicode_tables::Tables;
 
@@ -38,30 +39,34 @@ pub fn lines(alloc: Global, tables: &Tables, para: &Para, width: u16) -> Result<
     let points = code_points_of(alloc, para.text())?;
     let words = tables.words_of_each(alloc, &points)?;
     let outline = outline_of(alloc, tables, para, &points, &words)?;
-    lines_of(alloc, &outline.clusters, &outline.opportunities, width)
+    lines_of(alloc, tables, para.text(), &outline, width)
 }
 
-/// The lines of a paragraph of these clusters, as `lines` gives them.
-/// Cost: O(n) of the clusters, memory for the lines.
+/// The lines of a paragraph of at most 4,000,000 bytes, as `lines` gives them, from its outline.
+/// Cost: O(n) of the runs and the opportunities, and of the clusters that are cut where no opportunity fits; memory for
+/// the lines.
 pub fn lines_of(
     alloc: Global,
-    clusters: &[Cluster],
-    opportunities: &[Opportunity],
+    tables: &Tables,
+    text: &str,
+    outline: &Outline,
     width: u16,
 ) -> Result<Vec<Line>, Memory>
-    requires columns { All (λ c. c.columns ≤ 2) clusters.now }
-    requires length { length clusters.now < 2 ^ 31 }
-    requires opportunities { opportunities.now ≡ opportunities_of clusters.now }
+    requires size { length text.now ≤ 4_000_000 }
+    requires runs { AreRunsOf tables.now text.now outline.now.runs.items }
+    requires opportunities { outline.now.opportunities.items ≡ opportunities_of (line_clusters tables.now text.now) }
     requires width { 2 ≤ width }
-    ensures { IfOk result (λ v. v.items ≡ lines_of width clusters.now) }
+    ensures { IfOk result (λ v. v.items ≡ lines tables.now text.now width) }
 {
+    laws::clusters_join();
     let mut lines = Vec::new(alloc);
-    if clusters.is_empty() {
+    if text.is_empty() {
         lines.push(Line { start: 0, end: 0 })?;
         return Ok(lines);
     }
     let mut open = Open::first();
-    while let Some(line) = open.next_line(clusters, opportunities, width as u32) {
+    let mut cursor = Cursor::start();
+    while let Some(line) = open.next_line(&mut cursor, tables, text, outline, width as u32) {
         lines.push(line)?;
     }
     Ok(lines)

@@ -1,7 +1,7 @@
 //! The clusters of a paragraph.
 
-ghost use Rattle.std.specs.Prelude.{◌≡◌, ◌+◌, ◌++◌, ◌^◌, ◌<◌, ◌≤◌, [], length, map, vec_capacity, vec_len, true, IfOk, OnOk};
-ghost use Rattle.std.specs.List.{All, flat_map};
+ghost use Rattle.std.specs.Prelude.{◌≡◌, ◌+◌, ◌++◌, ◌^◌, ◌<◌, ◌≤◌, [], length, map, true, IfOk, OnOk};
+ghost use Rattle.std.specs.List.{flat_map};
 ghost use Rattle.unicode_tables.specs.Word.{word_of};
 ghost use Rattle.paragraphs.specs.Text.{code_points};
 ghost use Rattle.paragraphs.specs.Clusters.{cluster_sizes};
@@ -10,7 +10,6 @@ ghost use Rattle.line_break.specs.LineClusters.{line_clusters};
 ghost use Rattle.line_break.specs.Opportunities.{opportunities_of};
 ghost use Rattle.line_break.specs.Runs.{AllHaveSome, AreJoined, EndsAt, are_longest, columns_of, if_some, sizes_of, spans_of};
 
-use crate::cluster::Cluster;
 use crate::measure::Measure;
 use crate::opportunity::{Boundary, Opportunity, offer};
 use crate::run::ShapeRun;
@@ -25,23 +24,19 @@ use unicode_tables::{Tables, Word};
 pub struct Outline {
     /// Those of one shape, as far as they follow each other.
     pub runs: Vec<ShapeRun>,
-    /// What lines ask of each.
-    pub clusters: Vec<Cluster>,
     /// Where a line may end.
     pub opportunities: Vec<Opportunity>,
 }
 
 impl Outline {
-    /// That of no clusters yet, with room for what lines ask of so many. For the rest there is room for what most texts
-    /// have: three clusters a run, and four between opportunities.
+    /// That of no clusters yet, with room for what most texts have of so many: three of them a run, and four between
+    /// opportunities.
     fn with_room(alloc: Global, clusters: usize) -> Result<Outline, Memory>
         ensures runs { IfOk result (λ o. o.runs.items ≡ []) }
-        ensures clusters { IfOk result (λ o. (o.clusters.items ≡ []) × (vec_len o.clusters ≡ 0) × (clusters ≤ vec_capacity o.clusters)) }
         ensures opportunities { IfOk result (λ o. o.opportunities.items ≡ []) }
     {
         Ok(Outline {
             runs: Vec::with_capacity(alloc, clusters / 3)?,
-            clusters: Vec::with_capacity(alloc, clusters)?,
             opportunities: Vec::with_capacity(alloc, clusters / 4)?,
         })
     }
@@ -99,9 +94,6 @@ pub fn outline_of(
     ensures columns { IfOk result (λ o. flat_map columns_of o.runs.items ≡ map (λ c. c.columns) (line_clusters tables.now para.now.text)) }
     ensures some { IfOk result (λ o. AllHaveSome o.runs.items) }
     ensures longest { IfOk result (λ o. are_longest o.runs.items ≡ true) }
-    ensures clusters { IfOk result (λ o. o.clusters.items ≡ line_clusters tables.now para.now.text) }
-    ensures few { IfOk result (λ o. length o.clusters.items ≤ length para.now.text) }
-    ensures most { IfOk result (λ o. All (λ c. c.columns ≤ 2) o.clusters.items) }
     ensures opportunities { IfOk result (λ o. o.opportunities.items ≡ opportunities_of (line_clusters tables.now para.now.text)) }
 {
     laws::clusters_join();
@@ -129,7 +121,6 @@ pub fn outline_of(
             end_place: place + measure.size,
         };
         let cluster = measure.cluster(statuses[span.end_place as usize - 1]);
-        outline.clusters.push_reserved(cluster);
         let next = ShapeRun::of_one(span, measure.columns);
         join(&mut outline.runs, &mut last, next)?;
         end = end.behind(cluster);

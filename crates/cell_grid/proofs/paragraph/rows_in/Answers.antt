@@ -1,13 +1,9 @@
 -- A row for each line.
 use Rattle.std.proofs.Common.{◌≡◌, ℕ, ◌+◌, ◌<◌, ◌≤◌, ◌∷◌, [], ◌++◌, List, length, map, take, drop, get_or, refl, sym, ap, subst, ◌∙◌, arith}
 use Rattle.std.proofs.lemmas.List.{map-append}
-use Rattle.std.proofs.lemmas.List.Elements.{All-same}
 use Rattle.unicode_tables.specs.Tables.{TableValues}
-use Rattle.line_break.specs.declared.cluster.Cluster.{Cluster}
 use Rattle.line_break.specs.declared.line.Line.{Line}
-use Rattle.line_break.specs.LineClusters.{line_clusters}
-use Rattle.line_break.specs.Lines.{lines, lines_of}
-use Rattle.line_break.specs.Opportunities.{opportunities_of}
+use Rattle.line_break.specs.Lines.{lines}
 use Rattle.cell_grid.specs.Rows.{DrawnRow, row_of}
 use Rattle.cell_grid.specs.Outline.{IsLine}
 use Rattle.cell_grid.specs.Parts.{left_of}
@@ -17,31 +13,14 @@ use Rattle.cell_grid.proofs.Counting.{few-clusters}
 use Rattle.cell_grid.proofs.LinesOf.{IsLine-lines}
 use Rattle.cell_grid.proofs.paragraph.rows_in.Goals as goal
 
--- the lines of the clusters are those of the text
-lines-are : (tables : TableValues) (text : List ℕ) (width : ℕ) (found : List Line) (lent own : List Cluster) → found ≡ lines_of width lent → lent ≡ own → own ≡ line_clusters tables text
-    → found ≡ lines tables text width
-lines-are tables text width found lent own a b d = a ∙ ap (lines_of width) (b ∙ d)
-
-pub lines_of-requires-clause-columns : goal.lines_of-requires-clause-columns
-lines_of-requires-clause-columns c = All-same (λ (x : Cluster). x.columns ≤ 2) _ _ c.deref.ensures.value c.requires.most
-
-pub lines_of-requires-clause-length : goal.lines_of-requires-clause-length
-lines_of-requires-clause-length c =
-    let text = c.args.material.now.text.now in
-    let few = few-clusters c.laws_below.ensures text c.requires.text in
-    let n = ap length (c.deref.ensures.value ∙ c.requires.clusters) ∙ c.laws_below.ensures.each_measured c.args.material.now.tables.now text in
-    let all = c.requires.size in
-    omega arith
-
-pub lines_of-requires-clause-opportunities : goal.lines_of-requires-clause-opportunities
-lines_of-requires-clause-opportunities c =
-    c.deref-2.ensures.value ∙ c.requires.opportunities ∙ ap opportunities_of (sym (c.deref.ensures.value ∙ c.requires.clusters))
+pub lines_of-requires-clause-runs : goal.lines_of-requires-clause-runs
+lines_of-requires-clause-runs c = record { spans = c.requires.runs.spans; columns = c.requires.runs.columns }
 
 pub loop-line-init : goal.loop-line-init
 loop-line-init c =
     let m = c.args.material.now in
     let runs = m.clusters.runs.items in
-    let items = c.deref-line-items.ensures.value ∙ lines-are m.tables.now m.text.now c.args.width _ _ _ c.in_ok-lines.ensures c.deref.ensures.value c.requires.clusters in
+    let items = c.deref-line-items.ensures.value ∙ c.in_ok-lines.ensures in
     record {
       made = c.in_ok-rows.ensures.items;
       ahead = record {
@@ -77,7 +56,7 @@ row_of-requires-clause-line c =
     let d : Line = record { start = 0; end = 0 } in
     let tables = c.args.material.now.tables.now in
     let text = c.args.material.now.text.now in
-    let items = c.deref-line-items.ensures.value ∙ lines-are tables text c.args.width _ _ _ c.in_ok-lines.ensures c.deref.ensures.value c.requires.clusters in
+    let items = c.deref-line-items.ensures.value ∙ c.in_ok-lines.ensures in
     let lt = subst (λ (l : List Line). i < length l) items c.loop-line-test.true in
     subst (λ (l : List Line). IsLine tables c.args.width text (get_or l i d)) (sym items)
     (IsLine-lines c.laws_below.ensures tables text c.requires.text c.args.width c.requires.at_least i d lt)
@@ -110,6 +89,6 @@ pub returns : goal.returns
 returns c =
     let m = c.args.material.now in
     let f : Line → DrawnRow = row_of m.tables.now c.args.width m.para_level m.text.now m.levels.items in
-    let items = c.deref-line-items.ensures.value ∙ lines-are m.tables.now m.text.now c.args.width _ _ _ c.in_ok-lines.ensures c.deref.ensures.value c.requires.clusters in
+    let items = c.deref-line-items.ensures.value ∙ c.in_ok-lines.ensures in
     c.loop-line.invariant.made
     ∙ ap (map f) (take-whole c.deref-line-items.result.now c.loop-line.line-index c.loop-line-test.false ∙ items)

@@ -87,9 +87,6 @@ rows_in-requires-clause-classes c =
 pub rows_in-requires-clause-levels : goal.rows_in-requires-clause-levels
 rows_in-requires-clause-levels c = c.in_ok-levels.ensures.one_each ∙ ap length (c.deref-3.ensures.value ∙ c.in_ok-points.ensures)
 
-pub rows_in-requires-clause-clusters : goal.rows_in-requires-clause-clusters
-rows_in-requires-clause-clusters c = c.in_ok-clusters.ensures.clusters ∙ ap (line_clusters c.args.tables.now) (sym c.text-text.ensures)
-
 pub rows_in-requires-clause-runs : goal.rows_in-requires-clause-runs
 rows_in-requires-clause-runs c =
     let text = sym c.text-text.ensures in

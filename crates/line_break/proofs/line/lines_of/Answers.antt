@@ -1,23 +1,33 @@
 -- At first all lines are left.
-use Rattle.std.proofs.Common.{List, length, [], ◌++◌, ◌∷◌, sym, ap, subst, ◌∙◌}
+use Rattle.std.proofs.Common.{◌≡◌, ◌<◌, ℕ, List, length, [], ◌++◌, ◌∷◌, sym, ap, subst, ◌∙◌}
 use Rattle.std.proofs.lemmas.Bool.{eqb-true}
+use Rattle.line_break.specs.declared.opportunity.Boundary.{Boundary}
 use Rattle.line_break.specs.declared.opportunity.Opportunity.{Opportunity}
+use Rattle.line_break.specs.Cursors.{IsBefore}
+use Rattle.line_break.specs.LineClusters.{line_clusters}
 use Rattle.line_break.specs.Open.{IsOpen, lines_left}
 use Rattle.line_break.proofs.LinesLeft.{line_of, lines_of-nil, lines_of-left, some_from_test}
+use Rattle.line_break.proofs.Reading.{no-lines, some-lines}
 use Rattle.line_break.proofs.line.lines_of.Goals as goal
 
 pub returns-then-is_empty : goal.returns-then-is_empty
 returns-then-is_empty c =
+    let text = c.args.text.now in
     c.in_ok-push.ensures.items ∙ ap (λ ls. ls ++ line_of 0 0 ∷ []) c.new-lines.ensures.items
-    ∙ sym (lines_of-nil c.args.width c.args.clusters.now (eqb-true (length c.args.clusters.now) 0 (sym c.if-is_empty.ensures)))
+    ∙ sym (lines_of-nil c.args.width (line_clusters c.args.tables.now text)
+    (no-lines c.args.tables.now text (c.clusters_join.ensures.joined text c.utf8.text) (c.clusters_join.ensures.some text) (eqb-true (length text) 0 (sym c.if-is_empty.ensures))))
 
 pub loop-line-init : goal.loop-line-init
-loop-line-init c = record {
-  state =
-      subst (λ (opportunities : List Opportunity). IsOpen c.args.clusters.now opportunities c.args.width c.first-open.result) (sym c.requires.opportunities)
-      (c.first-open.ensures.state c.args.clusters.now c.args.width);
-  so_far =
-      ap (λ ls. ls ++ lines_left c.args.clusters.now c.args.width c.first-open.result.start.clusters) c.new-lines.ensures.items
-      ∙ ap (lines_left c.args.clusters.now c.args.width) c.first-open.ensures.start
-      ∙ lines_of-left c.args.width c.args.clusters.now (some_from_test (length c.args.clusters.now) c.if-is_empty.ensures);
-}
+loop-line-init c =
+    let text = c.args.text.now in
+    let cl = line_clusters c.args.tables.now text in
+    record {
+      state =
+          subst (λ (opportunities : List Opportunity). IsOpen cl opportunities c.args.width c.first-open.result) (sym c.requires.opportunities)
+          (c.first-open.ensures.state cl c.args.width);
+      cursor = subst (IsBefore c.args.outline.now.runs.items c.start-cursor.result) (sym c.first-open.ensures.start) (c.start-cursor.ensures c.args.outline.now.runs.items);
+      so_far =
+          ap (λ ls. ls ++ lines_left cl c.args.width c.first-open.result.start.clusters) c.new-lines.ensures.items
+          ∙ ap (lines_left cl c.args.width) c.first-open.ensures.start
+          ∙ lines_of-left c.args.width cl (some-lines c.args.tables.now text (c.clusters_join.ensures.joined text c.utf8.text) (some_from_test (length text) c.if-is_empty.ensures));
+    }

@@ -1,6 +1,5 @@
 -- Each cluster stands where the one before it ends, and takes the status after its last code point.
-use Rattle.std.proofs.Common.{◌≡◌, ◌≤◌, List, [], ◌++◌, map, length, drop, refl, sym, ap, subst, ◌∙◌, arith}
-use Rattle.std.proofs.lemmas.List.{length_push}
+use Rattle.std.proofs.Common.{◌≡◌, ◌≤◌, List, [], ◌∷◌, ◌++◌, map, length, drop, refl, sym, ap, subst, ◌∙◌, arith}
 use Rattle.std.proofs.lemmas.List.Elements.{All-same}
 use Rattle.std.specs.List.{flat_map}
 use Rattle.std.specs.Str.{IsUtf8}
@@ -17,10 +16,10 @@ use Rattle.line_break.proofs.Gathering.{AreGathered-start, spans-on, sizes-on, A
 use Rattle.line_break.proofs.Joined.{HasSome, EndsAt-span}
 use Rattle.line_break.proofs.LastStatus.{must-end}
 use Rattle.line_break.proofs.Marking.{breaks-of, slice-from, words-from}
-use Rattle.line_break.proofs.Measuring.{length-breaks, IsMeasuredTo-start, line_clusters-end, IsMeasuredTo-on, measured-is, two-done, two-line_clusters}
+use Rattle.line_break.proofs.Measuring.{length-breaks, IsMeasuredTo-start, line_clusters-end, IsMeasuredTo-on, measured-is, two-done, first_lines, first_lines-on}
 use Rattle.line_break.proofs.Offering.{breaks_in, end-start, breaks-start, end-on, breaks-on, breaks-all}
 use Rattle.line_break.proofs.Measuring.{cluster-some as points-some, cluster-fits as points-within}
-use Rattle.line_break.proofs.Outlining.{IsUtf8-concat, IsOutlinedTo-start, cluster-some, cluster-fits, cluster-points, cluster-end, IsOutlinedTo-at, HasRoom-on, spans-end, sizes-end}
+use Rattle.line_break.proofs.Outlining.{IsUtf8-concat, IsOutlinedTo-start, cluster-some, cluster-fits, cluster-points, cluster-end, IsOutlinedTo-at, spans-end, sizes-end}
 use Rattle.line_break.proofs.outline.outline_of.Goals as goal
 
 -- no run yet
@@ -32,6 +31,7 @@ loop-clusters-init c =
     let text = c.args.para.now.text in
     let given = c.clusters-clusters.ensures in
     let u = subst IsUtf8 given.joined (IsUtf8-concat c.clusters-clusters.result given.utf8) in
+    let none : first_lines c.args.tables.now text c.before_all-end.result.clusters ≡ [] = ap (λ (b : Boundary). first_lines c.args.tables.now text b.clusters) c.before_all-end.ensures in
     record {
       outlined =
           IsOutlinedTo-start text _ _ _ given.clusters given.utf8 given.some given.joined
@@ -39,15 +39,14 @@ loop-clusters-init c =
           (ap (flat_map sizes_of) (none-before _ _ c.in_ok-outline.ensures.runs c.empty-last.ensures));
       measured =
           IsMeasuredTo-start c.args.tables.now text _ _ given.clusters given.utf8
-          (c.cluster_places.ensures.some text u) (c.cluster_places.ensures.sum text u) c.in_ok-outline.ensures.clusters.0;
-      gathered = AreGathered-start _ _ (none-before _ _ c.in_ok-outline.ensures.runs c.empty-last.ensures) c.in_ok-outline.ensures.clusters.0;
+          (c.cluster_places.ensures.some text u) (c.cluster_places.ensures.sum text u) none;
+      gathered = AreGathered-start _ _ (none-before _ _ c.in_ok-outline.ensures.runs c.empty-last.ensures) none;
       ends = subst (λ (run : ShapeRun). EndsAt run 0 0) (sym c.empty-last.ensures) (record { few = omega arith; bytes = omega arith; places = omega arith });
       first = λ none. c.in_ok-outline.ensures.runs;
-      clusters = let room = c.in_ok-outline.ensures.clusters in record { filled = omega arith; room = omega arith };
       within = omega arith;
-      count = let none = ap length c.in_ok-outline.ensures.clusters.0 in omega arith;
-      end = c.before_all-end.ensures ∙ end-start _ c.in_ok-outline.ensures.clusters.0;
-      offered = breaks-start _ _ c.in_ok-outline.ensures.clusters.0 c.in_ok-outline.ensures.opportunities;
+      count = let first = ap (λ (b : Boundary). b.clusters) c.before_all-end.ensures in omega arith;
+      end = c.before_all-end.ensures ∙ end-start _ none;
+      offered = breaks-start _ _ none c.in_ok-outline.ensures.opportunities;
     }
 
 pub read_next-requires-clause-some : goal.read_next-requires-clause-some
@@ -90,18 +89,6 @@ overflow_add-span c =
     let all = c.requires.size in
     omega arith
 
-pub push_reserved-requires : goal.push_reserved-requires
-push_reserved-requires c =
-    let t = c.args.tables.now in
-    let p = c.args.para.now.text in
-    let fits = points-within t p _ _ c.loop-clusters.place c.loop-clusters.invariant.measured (c.read_next.ensures.next c.loop-clusters-test.true).cluster _ (c.read_next.ensures.next c.loop-clusters-test.true).taken in
-    let some = points-some t p _ _ c.loop-clusters.place c.loop-clusters.invariant.measured (c.read_next.ensures.next c.loop-clusters-test.true).cluster _ (c.read_next.ensures.next c.loop-clusters-test.true).taken in
-    let filled = c.loop-clusters.invariant.clusters.filled in
-    let room = c.loop-clusters.invariant.clusters.room in
-    let all = ap length c.requires.points in
-    let same = length-breaks t p in
-    omega arith
-
 pub index-requires : goal.index-requires
 index-requires c =
     let t = c.args.tables.now in
@@ -141,9 +128,10 @@ join-requires-clause-few c =
 
 pub behind-end-requires-clause-columns : goal.behind-end-requires-clause-columns
 behind-end-requires-clause-columns c =
-    let done = c.loop-clusters.outline.clusters.items in
+    let done = first_lines c.args.tables.now c.args.para.now.text c.loop-clusters.end.clusters in
     let at = ap (λ (b : Boundary). b.columns) c.loop-clusters.invariant.end in
     let two = columns-two done (length done) (two-done c.args.tables.now c.args.para.now.text _ _ c.loop-clusters.place c.loop-clusters.invariant.measured) in
+    let same = ap (λ (b : Boundary). b.clusters) c.loop-clusters.invariant.end in
     let here = ap (λ (x : Cluster). x.columns) c.cluster-cluster.ensures in
     let few = c.loop-clusters.invariant.count in
     let so_far = c.loop-clusters.invariant.outlined.places in
@@ -167,31 +155,31 @@ loop-clusters-preserved c =
     let is_space = ap (λ (x : Measure). x.is_space) (c.read_next.ensures.next c.loop-clusters-test.true).measured in
     let end = cluster-end _ _ _ _ _ _ o cluster _ at _ c.bytes_left.result (ap length c.text-length.ensures) c.bytes_left.ensures in
     let next = c.of_one-next.ensures in
+    let done = first_lines t p c.loop-clusters.end.clusters in
+    let own =
+    c.cluster-cluster.ensures
+    ∙ measured-is t (code_points cluster) c.in_ok-statuses.statuses.items (breaks t p) c.loop-clusters.place here.size
+    here.columns here.is_space c.index.result.now (breaks-of t p c.args.points.now c.args.words.now _ c.requires.points c.requires.words c.in_ok-statuses.ensures) size some fits columns is_space c.index.ensures in
+    let on = ap (λ (b : Boundary). b.clusters) c.behind-end.ensures in
+    let put : first_lines t p c.behind-end.result.clusters ≡ done ++ c.cluster-cluster.result ∷ [] =
+    ap (first_lines t p) on ∙ first_lines-on t p _ c.loop-clusters.end.clusters c.loop-clusters.place m cluster _ at c.cluster-cluster.result own in
     record {
       outlined =
           IsOutlinedTo-at _ _ _ _ _ _ o cluster _ at _ here.size _ _ _ size end refl
           (spans-on _ _ _ c.in_ok-join.ensures.runs _ _ next (omega arith) (omega arith)) (sizes-on _ _ _ c.in_ok-join.ensures.runs _ _ next here.size (omega arith));
       measured =
           IsMeasuredTo-on t p _ _ c.loop-clusters.place m cluster _ at _ here.size _ size
-          (c.cluster-cluster.ensures
-          ∙ measured-is t (code_points cluster) c.in_ok-statuses.statuses.items (breaks t p) c.loop-clusters.place here.size
-          here.columns here.is_space c.index.result.now (breaks-of t p c.args.points.now c.args.words.now _ c.requires.points c.requires.words c.in_ok-statuses.ensures) size some fits columns is_space c.index.ensures)
-          c.push_reserved.ensures.items;
+          own put;
       gathered =
           AreGathered-on _ _ _ c.in_ok-join.ensures.runs _ _ next c.cluster-cluster.result _ _ c.loop-clusters.invariant.gathered
-          (sym (ap (λ (x : Cluster). x.columns) c.cluster-cluster.ensures)) c.push_reserved.ensures.items;
+          (sym (ap (λ (x : Cluster). x.columns) c.cluster-cluster.ensures)) put;
       first = λ none. absurd (let some = c.in_ok-join.ensures.some in omega arith);
       ends = EndsAt-span _ _ _ _ next (omega arith) (omega arith) c.in_ok-join.ensures.end;
-      clusters = HasRoom-on _ _ _ _ here.size _ _ c.loop-clusters.invariant.clusters (omega arith) c.push_reserved.ensures.len c.push_reserved.ensures.capacity;
       within = let all = ap length c.requires.points in let same = length-breaks t p in omega arith;
-      count =
-          let before = c.loop-clusters.invariant.count in
-          let put = ap length c.push_reserved.ensures.items in
-          let one = length_push c.loop-clusters.outline.clusters.items c.cluster-cluster.result in
-          omega arith;
-      end = end-on _ c.cluster-cluster.result _ _ _ c.push_reserved.ensures.items c.loop-clusters.invariant.end c.behind-end.ensures;
+      count = let before = c.loop-clusters.invariant.count in omega arith;
+      end = end-on _ c.cluster-cluster.result _ _ _ put c.loop-clusters.invariant.end c.behind-end.ensures;
       offered =
-          breaks-on _ c.cluster-cluster.result _ _ _ _ _ c.push_reserved.ensures.items c.loop-clusters.invariant.end c.behind-end.ensures
+          breaks-on _ c.cluster-cluster.result _ _ _ _ _ put c.loop-clusters.invariant.end c.behind-end.ensures
           c.loop-clusters.invariant.offered c.in_ok-offer.ensures;
     }
 
@@ -213,17 +201,6 @@ returns-clause-some c = All-same HasSome _ _ c.in_ok-close.ensures c.loop-cluste
 pub returns-clause-longest : goal.returns-clause-longest
 returns-clause-longest c = ap are_longest c.in_ok-close.ensures ∙ c.loop-clusters.invariant.gathered.longest
 
-pub returns-clause-clusters : goal.returns-clause-clusters
-returns-clause-clusters c =
-    line_clusters-end c.args.tables.now c.args.para.now.text _ _ c.loop-clusters.place c.loop-clusters.invariant.measured (c.read_next.ensures.none c.loop-clusters-test.false)
-
-pub returns-clause-few : goal.returns-clause-few
-returns-clause-few c =
-    let count = c.loop-clusters.invariant.count in
-    let so_far = c.loop-clusters.invariant.outlined.places in
-    let bytes = c.loop-clusters.invariant.outlined.bytes in
-    omega arith
-
 pub returns-clause-opportunities : goal.returns-clause-opportunities
 returns-clause-opportunities c =
     let t = c.args.tables.now in
@@ -233,9 +210,3 @@ returns-clause-opportunities c =
     c.loop-clusters.invariant.offered
     ∙ ap breaks_in (line_clusters-end t p _ _ c.loop-clusters.place c.loop-clusters.invariant.measured (c.read_next.ensures.none c.loop-clusters-test.false))
     ∙ breaks-all (line_clusters t p) (must-end t p (c.cluster_places.ensures.some p u) (c.cluster_places.ensures.sum p u))
-
-pub returns-clause-most : goal.returns-clause-most
-returns-clause-most c =
-    All-same (λ (x : Cluster). x.columns ≤ 2) _ _
-    (line_clusters-end c.args.tables.now c.args.para.now.text _ _ c.loop-clusters.place c.loop-clusters.invariant.measured (c.read_next.ensures.none c.loop-clusters-test.false))
-    (two-line_clusters c.args.tables.now c.args.para.now.text)
