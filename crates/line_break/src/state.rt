@@ -62,8 +62,8 @@ impl State {
 /// The column of a character of this word. But for SA, LB1 is in the table.
 #[inline]
 #[tactic(auto, unfolding(crate::specs::Classes::asks_more))]
-pub(crate) fn column_of(word: Word) -> usize
-    ensures { IsColumn (point_of_word word) result }
+pub(crate) fn column_of(word: &Word) -> usize
+    ensures { IsColumn (point_of_word word.now) result }
 {
     match word.lb {
         Lb::Cp | Lb::Op | Lb::Sa => column_by_more(word),
@@ -72,11 +72,11 @@ pub(crate) fn column_of(word: Word) -> usize
 }
 
 /// The column of a character whose class alone doesn't tell it. It is apart from the loop over statuses, which then tests
-/// a bit in place of a jump.
+/// a bit in place of a jump; and the word is lent, so that the loop reads of it the class alone.
 #[inline(never)]
-fn column_by_more(word: Word) -> usize
-    requires { asks_more word.lb ≡ true }
-    ensures { IsColumn (point_of_word word) result }
+fn column_by_more(word: &Word) -> usize
+    requires { asks_more word.now.lb ≡ true }
+    ensures { IsColumn (point_of_word word.now) result }
 {
     match word.lb {
         Lb::Cp => column_by_width(word.ea, Lb::Cp as usize, WIDE_CP),

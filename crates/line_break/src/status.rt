@@ -58,9 +58,9 @@ pub(crate) fn statuses_of(alloc: Global, words: &[Word]) -> Result<Vec<Break>, M
     let Some(first) = words.first() else {
         return Ok(statuses);
     };
-    let mut state = State::start().next(column_of(*first));
+    let mut state = State::start().next(column_of(first));
     for word in &words[1..] {
-        let column = column_of(*word);
+        let column = column_of(word);
         statuses.push_reserved(state.status_before(column));
         state = state.next(column);
     }

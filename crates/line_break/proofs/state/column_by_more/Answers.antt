@@ -10,13 +10,13 @@ use Rattle.line_break.proofs.state.column_by_more.Goals as goal
 
 pub returns-in-Cp : goal.returns-in-Cp
 returns-in-Cp c =
-    let w = c.args.word in
+    let w = c.args.word.now in
     subst (IsColumn (point_of_word w)) (sym c.column_by_width.ensures)
     (IsColumn-of w _ _ (sym c.in-Cp.is) (column-cp w.bidi (is_east_asian w.ea)))
 
 pub returns-in-Op : goal.returns-in-Op
 returns-in-Op c =
-    let w = c.args.word in
+    let w = c.args.word.now in
     subst (IsColumn (point_of_word w)) (sym c.column_by_width-in-Op.ensures)
     (IsColumn-of w _ _ (sym c.in-Op.is) (column-op w.bidi (is_east_asian w.ea)))
 
@@ -30,10 +30,10 @@ left _ h cp op = absurd (cc h)
 
 pub returns-then-is_nonspacing : goal.returns-then-is_nonspacing
 returns-then-is_nonspacing c =
-    let w = c.args.word in
+    let w = c.args.word.now in
     IsColumn-of w _ _ (sym (left w.lb c.requires c.in_default.not-Cp c.in_default.not-Op)) (column-mark w.bidi _ (sym c.is_nonspacing.ensures ∙ c.if-is_nonspacing.true))
 
 pub returns-else-is_nonspacing : goal.returns-else-is_nonspacing
 returns-else-is_nonspacing c =
-    let w = c.args.word in
+    let w = c.args.word.now in
     IsColumn-of w _ _ (sym (left w.lb c.requires c.in_default.not-Cp c.in_default.not-Op)) (column-letter w.bidi _ (sym c.is_nonspacing.ensures ∙ c.if-is_nonspacing.false))

@@ -5,5 +5,5 @@ use Rattle.line_break.proofs.state.column_of.Goals as goal
 
 pub returns-in_default : goal.returns-in_default
 returns-in_default c =
-    let w = c.args.word in
+    let w = c.args.word.now in
     IsColumn-of w _ _ refl (column-other w.bidi _ _ c.in_default.not-Cp c.in_default.not-Op c.in_default.not-Sa)
