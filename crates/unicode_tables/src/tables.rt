@@ -106,7 +106,11 @@ impl Tables {
     pub fn words_of_each(&self, alloc: Global, points: &[char]) -> Result<Vec<Word>, Memory>
         ensures { IfOk result (λ words. words.items ≡ map (word_of self.now) points.now) }
     {
-        Ok(points.iter().map(|c| self.word(*c)).collect(alloc)?)
+        let mut words = Vec::with_capacity(alloc, points.len())?;
+        for c in points {
+            words.push_reserved(self.word(*c));
+        }
+        Ok(words)
     }
 
     /// Bidi_Class of a character.
