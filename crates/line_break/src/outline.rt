@@ -68,7 +68,7 @@ fn join(runs: &mut Vec<ShapeRun>, last: &mut ShapeRun, next: ShapeRun) -> Result
     ensures end { OnOk result (EndsAt last.new (next.first_byte + next.bytes) (next.first_place + next.points)) }
 {
     if last.goes_on(next) {
-        *last = last.longer();
+        last.lengthen();
         return Ok(());
     }
     close(runs, *last)?;

@@ -63,15 +63,12 @@ impl ShapeRun {
         self.bytes == next.bytes && self.points == next.points && self.columns == next.columns
     }
 
-    /// The run with one more cluster.
+    /// Takes one more cluster.
     #[inline]
-    pub(crate) fn longer(self) -> ShapeRun
-        requires { self.count + 1 < 2 ^ 32 }
-        ensures { result ≡ longer self }
+    pub(crate) fn lengthen(&mut self)
+        requires { self.old.count + 1 < 2 ^ 32 }
+        ensures { self.new ≡ longer self.old }
     {
-        ShapeRun {
-            count: self.count + 1,
-            ..self
-        }
+        self.count += 1;
     }
 }

@@ -5,8 +5,8 @@ use Rattle.line_break.specs.Runs.{AreJoined, EndsAt, if_some}
 use Rattle.line_break.proofs.Joined.{AreJoined-push, AreJoined-longer, EndsAt-alone, EndsAt-longer}
 use Rattle.line_break.proofs.outline.join.Goals as goal
 
-pub longer-requires : goal.longer-requires
-longer-requires c =
+pub lengthen-requires : goal.lengthen-requires
+lengthen-requires c =
     let few = c.requires.last.few in
     omega (arith, c.requires.few)
 
@@ -14,15 +14,15 @@ pub returns-then-goes_on-clause-runs : goal.returns-then-goes_on-clause-runs
 returns-then-goes_on-clause-runs c =
     let front = c.args.runs.now.items in
     let last = c.args.last.now in
-    subst (λ (r : ShapeRun). AreJoined (front ++ if_some last) c.args.next (front ++ if_some r)) (sym c.longer.ensures)
+    subst (λ (r : ShapeRun). AreJoined (front ++ if_some last) c.args.next (front ++ if_some r)) (sym c.lengthen.ensures)
     (AreJoined-longer last c.args.next c.requires.one c.requires.last (sym c.if-goes_on.ensures) front c.requires.first)
 
 pub returns-then-goes_on-clause-some : goal.returns-then-goes_on-clause-some
-returns-then-goes_on-clause-some c = let more = ap (λ (r : ShapeRun). r.count) c.longer.ensures in omega arith
+returns-then-goes_on-clause-some c = let more = ap (λ (r : ShapeRun). r.count) c.lengthen.ensures in omega arith
 
 pub returns-then-goes_on-clause-end : goal.returns-then-goes_on-clause-end
 returns-then-goes_on-clause-end c =
-    subst (λ (r : ShapeRun). EndsAt r (c.args.next.first_byte + c.args.next.bytes) (c.args.next.first_place + c.args.next.points)) (sym c.longer.ensures)
+    subst (λ (r : ShapeRun). EndsAt r (c.args.next.first_byte + c.args.next.bytes) (c.args.next.first_place + c.args.next.points)) (sym c.lengthen.ensures)
     (EndsAt-longer c.args.last.now c.args.next c.requires.one c.requires.last (sym c.if-goes_on.ensures) c.requires.some)
 
 pub returns-clause-runs : goal.returns-clause-runs
