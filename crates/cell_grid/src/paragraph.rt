@@ -169,7 +169,11 @@ fn rows_in(
 fn classes_of(alloc: Global, words: &[Word]) -> Result<Vec<Bidi>, Memory>
     ensures { IfOk result (λ classes. classes.items ≡ map (λ (w : Word). w.bidi) words.now) }
 {
-    Ok(words.iter().map(|word| word.bidi).collect(alloc)?)
+    let mut classes = Vec::with_capacity(alloc, words.len())?;
+    for word in words {
+        classes.push_reserved(word.bidi);
+    }
+    Ok(classes)
 }
 
 /// The rows of a paragraph of at most 4,000,000 bytes at a width in columns, from the top, with bytes and
