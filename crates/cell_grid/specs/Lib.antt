@@ -8,6 +8,7 @@ pub mod Rows
 pub mod Separators
 pub mod Shifting
 pub mod Runs
+pub mod RunCounts
 pub mod Pieces
 pub mod Stretches
 pub mod Outline

@@ -17,6 +17,7 @@ mod piece;
 mod print_size;
 mod printed;
 mod row;
+mod run_count;
 mod runs;
 mod separator;
 mod span;

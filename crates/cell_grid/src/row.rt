@@ -6,6 +6,7 @@ ghost use Rattle.cell_grid.specs.declared.cell.Cell.TheVariants.{Blank};
 ghost use Rattle.cell_grid.specs.Cells.{entries_cells};
 ghost use Rattle.cell_grid.specs.Pieces.{spans_of, levels_of, columns_of};
 ghost use Rattle.cell_grid.specs.Rows.{row_with, shifted};
+ghost use Rattle.cell_grid.specs.RunCounts.{run_count};
 ghost use Rattle.cell_grid.specs.Runs.{runs_columns, runs_entries, IsInReach};
 ghost use Rattle.cell_grid.specs.Separators.{separator_row};
 ghost use Rattle.cell_grid.specs.Shifting.{MayShiftRow};
@@ -17,6 +18,7 @@ use crate::column::{end_column, start_column};
 use crate::entries::Entries;
 use crate::entry::Entry;
 use crate::laws_below::laws_below;
+use crate::run_count::run_count;
 use crate::runs::{entry_in, shift_runs};
 use crate::stretch::Order;
 use bg_types::Memory;
@@ -200,6 +202,16 @@ impl Row {
         ensures most { result ≤ 4_000_000 }
     {
         self.count as usize
+    }
+
+    /// How many runs its entries make, each as long as it can be: of clusters that are alike in their level and in how many bytes,
+    /// code points and columns they have, and follow each other in the text and in the row.
+    /// Cost: O(n) of its runs of like clusters.
+    pub fn run_count(&self) -> usize
+        ensures count { result ≡ run_count self.now.entries }
+        ensures most { result ≤ 4_000_000 }
+    {
+        run_count(&self.runs)
     }
 
     /// Its entries from left to right, one for each cluster of the line.
