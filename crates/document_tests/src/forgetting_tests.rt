@@ -1,4 +1,4 @@
-//! Rows are kept for some windows, or as many as were asked for, and no longer.
+//! Rows are kept in the memory of some windows, or of as many as were asked for, and no longer.
 
 ghost use Rattle.std.specs.Prelude.{◌≤◌};
 
@@ -9,6 +9,9 @@ use std::alloc::Global;
 
 /// How many lines the text has, each of which is a row.
 const LINES: usize = 400;
+
+/// So wide each of these rows, with a run of letters and one of the line feed, weighs as much as one with a run for each column.
+const WIDTH: u16 = 2;
 
 /// A window has so many of them.
 const ROWS: usize = 10;
@@ -28,12 +31,14 @@ fn shown_from(document: &mut Document, line: usize) -> Result<usize, Memory> {
     Ok(document.laid())
 }
 
-/// How many lines of the first window are laid out again after so many windows were shown one below the other, where so many
-/// rows may be kept.
-fn laid_again(alloc: Global, rows: usize, windows: usize) -> Result<usize, Memory>
-    requires { rows ≤ 1_000_000 }
+/// How many lines of the first window are laid out again at this width after so many windows were shown one below the other,
+/// where so many rows may be kept.
+fn laid_again(alloc: Global, width: u16, rows: usize, windows: usize) -> Result<usize, Memory>
+    requires at_least { 2 ≤ width }
+    requires at_most { width ≤ 500 }
+    requires rows { rows ≤ 1_000_000 }
 {
-    let mut document = document_of(alloc, small_tables(alloc)?, 17, &lines(alloc)?)?;
+    let mut document = document_of(alloc, small_tables(alloc)?, width, &lines(alloc)?)?;
     document.keep_rows(rows);
     for number in 0..windows {
         shown_from(&mut document, number.saturating_mul(ROWS))?;
@@ -43,17 +48,27 @@ fn laid_again(alloc: Global, rows: usize, windows: usize) -> Result<usize, Memor
 
 #[test]
 fn rows_of_some_windows_are_kept_and_of_many_forgotten(rt: HostRuntime) -> Result<(), Memory> {
-    assert_eq!(rt; laid_again(rt.alloc(), 0, 20)?, 0);
-    assert_eq!(rt; laid_again(rt.alloc(), 0, 40)?, ROWS);
+    assert_eq!(rt; laid_again(rt.alloc(), WIDTH, 0, 20)?, 0);
+    assert_eq!(rt; laid_again(rt.alloc(), WIDTH, 0, 40)?, ROWS);
+    Ok(())
+}
+
+#[test]
+fn more_rows_are_kept_where_each_has_fewer_runs_than_columns(
+    rt: HostRuntime,
+) -> Result<(), Memory> {
+    // 256 rows with a run for each of 4 columns weigh 1,280, and 400 lines 1,200.
+    assert_eq!(rt; laid_again(rt.alloc(), 4, 0, 40)?, 0);
+    assert_eq!(rt; laid_again(rt.alloc(), 3, 0, 40)?, ROWS);
     Ok(())
 }
 
 #[test]
 fn as_many_rows_are_kept_as_were_asked_for(rt: HostRuntime) -> Result<(), Memory> {
-    assert_eq!(rt; laid_again(rt.alloc(), LINES, 40)?, 0);
-    assert_eq!(rt; laid_again(rt.alloc(), LINES - 1, 40)?, ROWS);
+    assert_eq!(rt; laid_again(rt.alloc(), WIDTH, LINES, 40)?, 0);
+    assert_eq!(rt; laid_again(rt.alloc(), WIDTH, LINES - 1, 40)?, ROWS);
     // Those of four windows are more.
-    assert_eq!(rt; laid_again(rt.alloc(), 100, 20)?, 0);
+    assert_eq!(rt; laid_again(rt.alloc(), WIDTH, 100, 20)?, 0);
     Ok(())
 }
 
@@ -62,7 +77,7 @@ fn the_next_window_forgets_what_is_too_much(rt: HostRuntime) -> Result<(), Memor
     let mut document = document_of(
         rt.alloc(),
         small_tables(rt.alloc())?,
-        17,
+        WIDTH,
         &lines(rt.alloc())?,
     )?;
     document.keep_rows(LINES);
@@ -81,7 +96,7 @@ fn rows_that_edits_dropped_are_not_counted(rt: HostRuntime) -> Result<(), Memory
     let mut document = document_of(
         rt.alloc(),
         small_tables(rt.alloc())?,
-        17,
+        WIDTH,
         &lines(rt.alloc())?,
     )?;
     document.keep_rows(LINES);

@@ -1,5 +1,5 @@
 -- Rows that are kept of paragraphs.
-use Rattle.std.proofs.Common.{◌≡◌, ℕ, zero, suc, Bool, true, false, Option, Some, None, List, [], ◌∷◌, ◌++◌, ◌+◌, length, arith, get_or, set, map, take, drop, refl, sym, ap, ap₂, subst, ◌∙◌}
+use Rattle.std.proofs.Common.{◌≡◌, ℕ, zero, suc, Bool, true, false, Option, Some, None, List, [], ◌∷◌, ◌++◌, ◌+◌, arith, get_or, set, map, take, drop, refl, sym, ap, ap₂, subst, ◌∙◌}
 use Rattle.std.proofs.lemmas.List.{map-set, set-get_or}
 use Rattle.std.proofs.lemmas.List.Elements.{All-nil, All-cons, All-head, All-tail, All-append, All-take, All-drop}
 use Rattle.std.proofs.lemmas.List.Sums.{sum_by-cons}
@@ -11,12 +11,12 @@ use Rattle.bg_types.specs.declared.class.Base.{Base}
 use Rattle.unicode_tables.specs.Tables.{TableValues}
 use Rattle.text_buffer.specs.Buffers.{KeptParagraph, paragraphs_in, kept_in, forgotten, IsSplit}
 use Rattle.text_buffer.specs.Edits.{anew}
-use Rattle.live_document.specs.Keeping.{Rows, KeptText, rows_of_text, IsLaid, IsKeptAt, rows_beside, rows_at, rows_held, flags, is_kept}
+use Rattle.live_document.specs.Keeping.{Rows, KeptText, rows_of_text, IsLaid, IsKeptAt, rows_beside, rows_at, rows_weight, weight_held, flags, is_kept}
 
 -- what is kept of a paragraph tells its rows and its flag
-pub rows_at-kept : (kept : KeptText) (n : ℕ) (o : Option Rows) → slice_get (kept_in kept) n ≡ Some o → rows_at kept n ≡ option_map_or (λ (rows : Rows). rows.items) o []
+pub rows_at-kept : (kept : KeptText) (n : ℕ) (o : Option Rows) → slice_get (kept_in kept) n ≡ Some o → rows_at kept n ≡ option_map_or (λ (rows : Rows). rows) o []
 rows_at-kept [] n o h = cc
-rows_at-kept (p ∷ kept) zero o h = ap (λ (k : Option Rows). option_map_or (λ (rows : Rows). rows.items) k []) (same_Some p.kept o h)
+rows_at-kept (p ∷ kept) zero o h = ap (λ (k : Option Rows). option_map_or (λ (rows : Rows). rows) k []) (same_Some p.kept o h)
 rows_at-kept (p ∷ kept) (suc n) o h = rows_at-kept kept n o h
 
 pub flag-kept : (kept : KeptText) (n : ℕ) (o : Option Rows) → slice_get (kept_in kept) n ≡ Some o → is_kept (flags kept) n ≡ is_some o
@@ -49,8 +49,8 @@ kept-same (p ∷ kept) (q ∷ new) e f =
     (kept-same kept new (ap (drop 1) e) (ap (drop 1) f))
 
 module _ (tables : TableValues) (width : ℕ) (base : Base) where
-  laid-beside : (o : Option Rows) (points : List ℕ) → IfSome o (λ (rows : Rows). rows.items ≡ rows_of_text tables width base points) → is_some o ≡ true
-      → option_map_or (λ (rows : Rows). rows.items) o [] ≡ rows_of_text tables width base points
+  laid-beside : (o : Option Rows) (points : List ℕ) → IfSome o (λ (rows : Rows). rows ≡ rows_of_text tables width base points) → is_some o ≡ true
+      → option_map_or (λ (rows : Rows). rows) o [] ≡ rows_of_text tables width base points
   laid-beside None points laid h = cc
   laid-beside (Some rows) points laid h = laid
 
@@ -61,13 +61,13 @@ module _ (tables : TableValues) (width : ℕ) (base : Base) where
   rows_at-laid (p ∷ kept) all zero h = laid-beside p.kept p.points (All-head (IsLaid tables width base) p kept all) h
   rows_at-laid (p ∷ kept) all (suc n) h = rows_at-laid kept (All-tail (IsLaid tables width base) p kept all) n h
 
-  laid-some : (o : Option Rows) (points : List ℕ) (rows : Rows) → o ≡ Some rows → rows.items ≡ rows_of_text tables width base points
-      → IfSome o (λ (rows : Rows). rows.items ≡ rows_of_text tables width base points)
-  laid-some o points rows e is = subst (λ (k : Option Rows). IfSome k (λ (rows : Rows). rows.items ≡ rows_of_text tables width base points)) (sym e) is
+  laid-some : (o : Option Rows) (points : List ℕ) (rows : Rows) → o ≡ Some rows → rows ≡ rows_of_text tables width base points
+      → IfSome o (λ (rows : Rows). rows ≡ rows_of_text tables width base points)
+  laid-some o points rows e is = subst (λ (k : Option Rows). IfSome k (λ (rows : Rows). rows ≡ rows_of_text tables width base points)) (sym e) is
 
   -- a paragraph's own rows are kept of it
   pub laid-set : (kept new : KeptText) (n : ℕ) (rows : Rows) → paragraphs_in new ≡ paragraphs_in kept → kept_in new ≡ set (kept_in kept) n (Some rows)
-      → rows.items ≡ rows_of_text tables width base (get_or (paragraphs_in kept) n []) → All (IsLaid tables width base) kept → All (IsLaid tables width base) new
+      → rows ≡ rows_of_text tables width base (get_or (paragraphs_in kept) n []) → All (IsLaid tables width base) kept → All (IsLaid tables width base) new
   laid-set [] [] n rows e f is all = All-nil (IsLaid tables width base)
   laid-set [] (q ∷ new) n rows e f is all = cc
   laid-set (p ∷ kept) [] n rows e f is all = cc
@@ -90,7 +90,7 @@ module _ (tables : TableValues) (width : ℕ) (base : Base) where
   laid-none [] (q ∷ new) e = cc
   laid-none (p ∷ kept) (q ∷ new) e =
       All-cons (IsLaid tables width base) q new
-      (subst (λ (k : Option Rows). IfSome k (λ (rows : Rows). rows.items ≡ rows_of_text tables width base q.points)) (sym (ap (λ l. get_or l 0 None) e)) tt)
+      (subst (λ (k : Option Rows). IfSome k (λ (rows : Rows). rows ≡ rows_of_text tables width base q.points)) (sym (ap (λ l. get_or l 0 None) e)) tt)
       (laid-none kept new (ap (drop 1) e))
 
   pub laid-anew : (texts : List (List ℕ)) → All (IsLaid tables width base) (map (anew {K = Rows}) texts)
@@ -107,7 +107,7 @@ module _ (tables : TableValues) (width : ℕ) (base : Base) where
 
   -- with one more kept
   pub kept-set : (kept new : KeptText) (n : ℕ) (rows : Rows) → paragraphs_in new ≡ paragraphs_in kept → kept_in new ≡ set (kept_in kept) n (Some rows)
-      → rows.items ≡ rows_of_text tables width base (get_or (paragraphs_in kept) n []) → IsKeptAt tables width base kept → IsKeptAt tables width base new
+      → rows ≡ rows_of_text tables width base (get_or (paragraphs_in kept) n []) → IsKeptAt tables width base kept → IsKeptAt tables width base new
   kept-set kept new n rows e f is at = record {
     at_least = at.at_least;
     at_most = at.at_most;
@@ -115,33 +115,33 @@ module _ (tables : TableValues) (width : ℕ) (base : Base) where
     laid = laid-set kept new n rows e f is at.laid;
   }
 
--- ---- how many rows are kept
+-- ---- what weighs that is kept
 
 abbrev pub own_held : KeptParagraph Rows → ℕ
-own_held p = option_map_or (λ (rows : Rows). length rows.items) p.kept 0
+own_held p = option_map_or rows_weight p.kept 0
 
-pub held-beside : (o : Option Rows) → option_map_or (λ (rows : Rows). length rows.items) o 0 ≡ length (option_map_or (λ (rows : Rows). rows.items) o [])
-held-beside None = refl
+pub held-beside : (o : Option Rows) → option_map_or rows_weight o 0 ≡ rows_weight (option_map_or (λ (rows : Rows). rows) o [])
+held-beside None = omega arith
 held-beside (Some rows) = refl
 
-pub held-cons : (p : KeptParagraph Rows) (kept : KeptText) → rows_held (p ∷ kept) ≡ length (rows_beside p) + rows_held kept
-held-cons p kept = sum_by-cons own_held p kept ∙ ap (λ n. n + rows_held kept) (held-beside p.kept)
+pub held-cons : (p : KeptParagraph Rows) (kept : KeptText) → weight_held (p ∷ kept) ≡ rows_weight (rows_beside p) + weight_held kept
+held-cons p kept = sum_by-cons own_held p kept ∙ ap (λ n. n + weight_held kept) (held-beside p.kept)
 
 -- one more paragraph is kept
 pub held-set : (kept new : KeptText) (n : ℕ) (rows : Rows) → paragraphs_in new ≡ paragraphs_in kept → kept_in new ≡ set (kept_in kept) n (Some rows)
-    → slice_get (kept_in kept) n ≡ Some None → rows_held new ≡ rows_held kept + length rows.items
+    → slice_get (kept_in kept) n ≡ Some None → weight_held new ≡ weight_held kept + rows_weight rows
 held-set [] new n rows e f h = cc
 held-set (p ∷ kept) [] n rows e f h = cc
 held-set (p ∷ kept) (q ∷ new) zero rows e f h =
     let a = held-cons p kept in
     let b = held-cons q new in
-    let same = ap rows_held (kept-same kept new (ap (drop 1) e) (ap (drop 1) f)) in
-    let none : length (rows_beside p) ≡ 0 = ap (λ (k : Option Rows). length (option_map_or (λ (rows : Rows). rows.items) k [])) (same_Some p.kept None h) in
-    let some : length (rows_beside q) ≡ length rows.items = ap (λ (k : Option Rows). length (option_map_or (λ (rows : Rows). rows.items) k [])) (ap (λ l. get_or l 0 None) f) in
+    let same = ap weight_held (kept-same kept new (ap (drop 1) e) (ap (drop 1) f)) in
+    let none : rows_weight (rows_beside p) ≡ 0 = ap (λ (k : Option Rows). rows_weight (option_map_or (λ (rows : Rows). rows) k [])) (same_Some p.kept None h) in
+    let some : rows_weight (rows_beside q) ≡ rows_weight rows = ap (λ (k : Option Rows). rows_weight (option_map_or (λ (rows : Rows). rows) k [])) (ap (λ l. get_or l 0 None) f) in
     omega arith
 held-set (p ∷ kept) (q ∷ new) (suc n) rows e f h =
     let a = held-cons p kept in
     let b = held-cons q new in
-    let own : length (rows_beside q) ≡ length (rows_beside p) = ap (λ (k : Option Rows). length (option_map_or (λ (rows : Rows). rows.items) k [])) (ap (λ l. get_or l 0 None) f) in
+    let own : rows_weight (rows_beside q) ≡ rows_weight (rows_beside p) = ap (λ (k : Option Rows). rows_weight (option_map_or (λ (rows : Rows). rows) k [])) (ap (λ l. get_or l 0 None) f) in
     let later = held-set kept new n rows (ap (drop 1) e) (ap (drop 1) f) h in
     omega arith

@@ -15,7 +15,7 @@ use Rattle.cell_grid.specs.Grids.{grid_rows}
 use Rattle.cell_grid.specs.Rows.{DrawnRow}
 use Rattle.text_buffer.specs.Edits.{anew, IsParagraphOf, IsTouched, IsTouchedInTurn, AreTouched, Step}
 use Rattle.text_buffer.specs.declared.touched.Touched.{Touched}
-use Rattle.live_document.specs.Keeping.{Rows, KeptText, flags, is_kept}
+use Rattle.live_document.specs.Keeping.{Rows, KeptText, rows_weight, flags, is_kept}
 use Rattle.live_document.specs.Documents.{counted, paragraphs_of, IsLive}
 use Rattle.live_document.specs.Cost.{HasRow, IsBare, KeepsOthers, KeepsUnchanged, marks, unmarked, carried, stretch_marks}
 use Rattle.live_document.specs.declared.shown.Shown.{Shown}
@@ -148,7 +148,7 @@ marks-in_turn old new (s ∷ steps) h = marks-in_turn h.0 new steps h.2 ∙ ap (
 
 -- ---- the same of the rows themselves
 
-some-count : (o : Option Rows) → is_some (option_map (λ (rows : Rows). length rows.items) o) ≡ is_some o
+some-count : (o : Option Rows) → is_some (option_map rows_weight o) ≡ is_some o
 some-count None = refl
 some-count (Some rows) = refl
 

@@ -19,7 +19,7 @@ use Rattle.text_buffer.specs.declared.touched.Touched.{Touched}
 use Rattle.text_buffer.specs.declared.fault.BufferFault.{BufferFault}
 use Rattle.text_buffer.specs.declared.fault.Stopped.{Stopped}
 use Rattle.text_buffer.proofs.Interface.{changed-all}
-use Rattle.live_document.specs.Keeping.{KeptText, rows_held, IsLaid, IsKeptAt, StaysKept}
+use Rattle.live_document.specs.Keeping.{KeptText, weight_held, IsLaid, IsKeptAt, StaysKept}
 use Rattle.live_document.specs.declared.shown.Shown.{Shown}
 use Rattle.live_document.specs.Documents.{IsWindowOf, IsLive}
 use Rattle.live_document.specs.Showing.{window_in, no_window, IsAtHand}
@@ -94,7 +94,7 @@ nothing-window kept s is = ap (window_in kept) is
 
 -- a desk's text has changed, and the paragraphs with it or they are behind
 pub live-followed : (old new : Desk) (tables : TableValues) (width : ℕ) (base : Base) (behind later : Bool) (kept now : KeptText) (s nothing : Shown) (held from to : ℕ) (points : List ℕ)
-    → IsLive old tables width base behind kept s held → nothing ≡ record { first = 0; skip = 0; count = 0; number = 0 } → StaysKept tables kept now → rows_held now ≤ rows_held kept
+    → IsLive old tables width base behind kept s held → nothing ≡ record { first = 0; skip = 0; count = 0; number = 0 } → StaysKept tables kept now → weight_held now ≤ weight_held kept
     → (later ≡ false → behind ≡ false) → (later ≡ false → text_in now ≡ replaced (text_in kept) from to points) → text new.set ≡ replaced (text old.set) from to points
     → IsLive new tables width base later now nothing held
 live-followed old new tables width base behind later kept now s nothing held from to points live none stays less before same changed = record {
@@ -110,7 +110,7 @@ live-followed old new tables width base behind later kept now s nothing held fro
 -- the desk's text is the same, and the paragraphs are its own
 pub live-caught : (desk : Desk) (tables : TableValues) (width : ℕ) (base : Base) (now : KeptText) (s : Shown) (held : ℕ)
     → IsKeptAt tables width base now → text_in now ≡ text desk.set → IsAtHand now s → IsWindowOf desk.set tables width base (window_in now s)
-    → rows_held now ≤ held → held ≤ 15_000_000 → IsLive desk tables width base false now s held
+    → weight_held now ≤ held → held ≤ 60_000_000_000_000 → IsLive desk tables width base false now s held
 live-caught desk tables width base now s held at is hand shown less few = record {
   kept_at = at;
   text_is = λ h. is;
@@ -138,7 +138,7 @@ live-range old tables width base behind kept s held changes later live edit h =
 
 -- the changes of a desk's text are made in the paragraphs too, or these are behind
 pub live-told : (old new : Desk) (tables : TableValues) (width : ℕ) (base : Base) (behind later : Bool) (kept now : KeptText) (s nothing : Shown) (held : ℕ) (changes : List Change)
-    → IsLive old tables width base behind kept s held → nothing ≡ record { first = 0; skip = 0; count = 0; number = 0 } → StaysKept tables kept now → rows_held now ≤ rows_held kept
+    → IsLive old tables width base behind kept s held → nothing ≡ record { first = 0; skip = 0; count = 0; number = 0 } → StaysKept tables kept now → weight_held now ≤ weight_held kept
     → (later ≡ false → behind ≡ false) → (later ≡ false → text_in now ≡ all_changed (text_in kept) changes) → IsEdit (text old.set) changes (text new.set)
     → IsLive new tables width base later now nothing held
 live-told old new tables width base behind later kept now s nothing held changes live none stays less before same edit = record {
@@ -153,7 +153,7 @@ live-told old new tables width base behind later kept now s nothing held changes
 
 -- the paragraphs are behind their desk
 pub live-behind : (desk : Desk) (tables : TableValues) (width : ℕ) (base : Base) (kept : KeptText) (nothing : Shown) (held : ℕ)
-    → IsKeptAt tables width base kept → nothing ≡ record { first = 0; skip = 0; count = 0; number = 0 } → rows_held kept ≤ held → held ≤ 15_000_000
+    → IsKeptAt tables width base kept → nothing ≡ record { first = 0; skip = 0; count = 0; number = 0 } → weight_held kept ≤ held → held ≤ 60_000_000_000_000
     → IsLive desk tables width base true kept nothing held
 live-behind desk tables width base kept nothing held at none less few = record {
   kept_at = at;
@@ -181,7 +181,7 @@ live-alike old new tables width base behind kept s held live same = record {
 -- nothing is kept any more, and the width or the base may be another
 pub live-turned : (desk : Desk) (tables : TableValues) (width : ℕ) (base : Base) (behind : Bool) (kept now : KeptText) (s nothing : Shown) (held wider : ℕ) (turned : Base)
     → IsLive desk tables width base behind kept s held → 2 ≤ wider → wider ≤ 500 → nothing ≡ record { first = 0; skip = 0; count = 0; number = 0 }
-    → paragraphs_in now ≡ paragraphs_in kept → All (IsLaid tables wider turned) now → rows_held now ≡ 0 → IsLive desk tables wider turned behind now nothing 0
+    → paragraphs_in now ≡ paragraphs_in kept → All (IsLaid tables wider turned) now → weight_held now ≡ 0 → IsLive desk tables wider turned behind now nothing 0
 live-turned desk tables width base behind kept now s nothing held wider turned live least most none same laid empty = record {
   kept_at = record { at_least = least; at_most = most; split = subst (IsSplit tables) (sym same) live.kept_at.split; laid = laid };
   text_is = λ h. ap concat same ∙ live.text_is h;
@@ -194,7 +194,7 @@ live-turned desk tables width base behind kept now s nothing held wider turned l
 
 -- the paragraphs are the desk's, nothing is kept of them, and nothing is shown
 pub live-bare : (desk : Desk) (tables : TableValues) (width : ℕ) (base : Base) (kept now : KeptText) (nothing : Shown) → IsKeptAt tables width base kept → text_in kept ≡ text desk.set
-    → nothing ≡ record { first = 0; skip = 0; count = 0; number = 0 } → paragraphs_in now ≡ paragraphs_in kept → All (IsLaid tables width base) now → rows_held now ≡ 0
+    → nothing ≡ record { first = 0; skip = 0; count = 0; number = 0 } → paragraphs_in now ≡ paragraphs_in kept → All (IsLaid tables width base) now → weight_held now ≡ 0
     → IsLive desk tables width base false now nothing 0
 live-bare desk tables width base kept now nothing at is none same laid empty = record {
   kept_at = record { at_least = at.at_least; at_most = at.at_most; split = subst (IsSplit tables) (sym same) at.split; laid = laid };

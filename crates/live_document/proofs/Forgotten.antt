@@ -1,5 +1,5 @@
 -- Rows that are dropped, and how many are kept then.
-use Rattle.std.proofs.Common.{◌≡◌, ℕ, zero, suc, ◌+◌, ◌-◌, ◌<◌, ◌≤◌, ◌⊎◌, inl, inr, Bool, true, false, None, Some, Option, List, [], ◌∷◌, ◌++◌, length, get_or, map, take, drop, replicate, slice_range, flat_map, refl, sym, ap, ap₂, subst, ◌∙◌, arith, length-append}
+use Rattle.std.proofs.Common.{◌≡◌, ℕ, zero, suc, ◌+◌, ◌-◌, ◌<◌, ◌≤◌, ◌⊎◌, inl, inr, Bool, true, false, None, Some, Option, List, [], ◌∷◌, ◌++◌, length, get_or, map, take, drop, replicate, slice_range, flat_map, refl, sym, ap, ap₂, subst, ◌∙◌, arith}
 use Rattle.std.proofs.lemmas.Bool.{cases_lt}
 use Rattle.std.proofs.lemmas.List.{take-map, drop-map, length-map, get_or-append_right, get_or_append_left, drop-drop, length-drop, length-take-le}
 use Rattle.std.proofs.lemmas.List.Concat.{flat_map-cons}
@@ -20,8 +20,8 @@ use Rattle.text_buffer.specs.Edits.{anew, AreTouched, IsTouched, IsTouchedInTurn
 use Rattle.text_buffer.specs.declared.fault.BufferFault.{BufferFault}
 use Rattle.text_buffer.specs.declared.fault.Stopped.{Stopped}
 use Rattle.text_buffer.specs.declared.touched.Touched.{Touched}
-use Rattle.live_document.specs.Keeping.{Rows, KeptText, rows_of_text, rows_of_texts, rows_beside, rows_held, held_outside, IsLaid, flags, is_kept}
-use Rattle.live_document.specs.Cost.{marks, rows_kept, rows_outside}
+use Rattle.live_document.specs.Keeping.{Rows, KeptText, rows_of_text, rows_of_texts, rows_beside, row_weight, rows_weight, weight_held, held_outside, IsLaid, flags, is_kept}
+use Rattle.live_document.specs.Cost.{marks, weight_kept, weight_outside}
 use Rattle.live_document.specs.Documents.{counted, paragraphs_of}
 use Rattle.live_document.specs.Showing.{rows_from, window_in, IsAtHand}
 use Rattle.live_document.specs.declared.shown.Shown.{Shown}
@@ -63,46 +63,46 @@ module _ {K : Type 0} (f : KeptParagraph K → ℕ) (bare : (points : List ℕ) 
       let later = sum-in_turn h.0 new steps h.2 in
       omega arith
 
--- ---- how many rows are kept
+-- ---- what weighs that is kept
 
 -- nothing is kept of any of them
-pub held-none : (kept new : KeptText) → kept_in new ≡ forgotten (kept_in kept) → rows_held new ≡ 0
+pub held-none : (kept new : KeptText) → kept_in new ≡ forgotten (kept_in kept) → weight_held new ≡ 0
 held-none kept [] e = omega arith
 held-none [] (q ∷ new) e = cc
 held-none (p ∷ kept) (q ∷ new) e =
     let a = held-cons q new in
-    let none : length (rows_beside q) ≡ 0 = ap (λ (k : Option Rows). length (option_map_or (λ (rows : Rows). rows.items) k [])) (ap (λ l. get_or l 0 None) e) in
+    let none : rows_weight (rows_beside q) ≡ 0 = ap (λ (k : Option Rows). rows_weight (option_map_or (λ (rows : Rows). rows) k [])) (ap (λ l. get_or l 0 None) e) in
     let later = held-none kept new (ap (drop 1) e) in
     omega arith
 
 -- an edit keeps no more
-pub held-after : (old new : KeptText) (from to : ℕ) (r : Result Touched BufferFault) → IfOk r (λ t. IsTouched old from to t new) → OnErr r (new ≡ old) → rows_held new ≤ rows_held old
+pub held-after : (old new : KeptText) (from to : ℕ) (r : Result Touched BufferFault) → IfOk r (λ t. IsTouched old from to t new) → OnErr r (new ≡ old) → weight_held new ≤ weight_held old
 held-after old new from to (Ok t) touched same = sum-touched own_held (λ points. refl) old new from to t touched
-held-after old new from to (Err e) touched same = let h = ap rows_held same in omega arith
+held-after old new from to (Err e) touched same = let h = ap weight_held same in omega arith
 
 pub held-all : (old new : KeptText) (changes : List Change) (r : Result (Unit {0}) Stopped) → OnOk r (AreTouched old changes new) → IfErr r (λ s. AreTouched old (take s.made changes) new)
-    → rows_held new ≤ rows_held old
+    → weight_held new ≤ weight_held old
 held-all old new changes (Ok u) all begun = sum-in_turn own_held (λ points. refl) old new all.steps all.touched
 held-all old new changes (Err s) all begun = sum-in_turn own_held (λ points. refl) old new begun.steps begun.touched
 
-pub held-anew : (texts : List (List ℕ)) → rows_held (map (anew {K = Rows}) texts) ≡ 0
+pub held-anew : (texts : List (List ℕ)) → weight_held (map (anew {K = Rows}) texts) ≡ 0
 held-anew texts = sum-anew own_held (λ points. refl) texts
 
 -- no more than the paragraphs have
 module _ (tables : TableValues) (width : ℕ) (base : Base) where
-  beside-most : (o : Option Rows) (points : List ℕ) → IfSome o (λ (rows : Rows). rows.items ≡ rows_of_text tables width base points)
-      → length (option_map_or (λ (rows : Rows). rows.items) o []) ≤ length (rows_of_text tables width base points)
+  beside-most : (o : Option Rows) (points : List ℕ) → IfSome o (λ (rows : Rows). rows ≡ rows_of_text tables width base points)
+      → rows_weight (option_map_or (λ (rows : Rows). rows) o []) ≤ rows_weight (rows_of_text tables width base points)
   beside-most None points h = omega arith
-  beside-most (Some rows) points h = let e = ap length h in omega arith
+  beside-most (Some rows) points h = let e = ap rows_weight h in omega arith
 
-  pub held-most : (kept : KeptText) → All (IsLaid tables width base) kept → rows_held kept ≤ length (rows_of_texts tables width base (paragraphs_in kept))
+  pub held-most : (kept : KeptText) → All (IsLaid tables width base) kept → weight_held kept ≤ rows_weight (rows_of_texts tables width base (paragraphs_in kept))
   held-most [] all = omega arith
   held-most (p ∷ kept) all =
       let a = held-cons p kept in
       let b = beside-most p.kept p.points (All-head (IsLaid tables width base) p kept all) in
       let f = rows_of_text tables width base in
-      let c = ap length (flat_map-cons f p.points (paragraphs_in kept)) in
-      let d = length-append (f p.points) (flat_map f (paragraphs_in kept)) in
+      let c = ap rows_weight (flat_map-cons f p.points (paragraphs_in kept)) in
+      let d = sum_by-append row_weight (f p.points) (flat_map f (paragraphs_in kept)) in
       let later = held-most kept (All-tail (IsLaid tables width base) p kept all) in
       omega arith
 
@@ -175,9 +175,9 @@ module _ (old new : KeptText) (from to : ℕ) (order : from ≤ to) (within : to
       (All-take (IsLaid tables width base) (to - from) (drop from old) (All-drop (IsLaid tables width base) from old all))
       (laid-anew tables width base (paragraphs_in (drop to old)))))
 
-  pub held-but : rows_held new ≡ rows_held (slice_range old from to)
+  pub held-but : weight_held new ≡ weight_held (slice_range old from to)
   held-but =
-      let is = ap rows_held but-is in
+      let is = ap weight_held but-is in
       let a = sum_by-append own_held (bare (take from old)) (slice_range old from to ++ bare (drop to old)) in
       let b = sum_by-append own_held (slice_range old from to) (bare (drop to old)) in
       let c = held-anew (paragraphs_in (take from old)) in
@@ -238,11 +238,11 @@ module _ (old new : KeptText) (from to : ℕ) (order : from ≤ to) (within : to
 
 -- ---- what is seen of it
 
-beside-counted : (o : Option Rows) → option_map_or (λ (rows : ℕ). rows) (option_map (λ (rows : Rows). length rows.items) o) 0 ≡ length (option_map_or (λ (rows : Rows). rows.items) o [])
+beside-counted : (o : Option Rows) → option_map_or (λ (rows : ℕ). rows) (option_map rows_weight o) 0 ≡ rows_weight (option_map_or (λ (rows : Rows). rows) o [])
 beside-counted None = refl
 beside-counted (Some rows) = refl
 
-pub kept-held : (kept : KeptText) → rows_kept (map counted kept) ≡ rows_held kept
+pub kept-held : (kept : KeptText) → weight_kept (map counted kept) ≡ weight_held kept
 kept-held [] = refl
 kept-held (p ∷ kept) =
     let a = held-cons p kept in
@@ -252,15 +252,15 @@ kept-held (p ∷ kept) =
     omega arith
 
 -- so outside a stretch, and inside
-pub outside-held : (kept : KeptText) (from to : ℕ) → held_outside kept from to ≡ rows_outside (map counted kept) from to
+pub outside-held : (kept : KeptText) (from to : ℕ) → held_outside kept from to ≡ weight_outside (map counted kept) from to
 outside-held kept from to =
-    let a = sym (kept-held (take from kept)) ∙ ap rows_kept (sym (take-map counted from kept)) in
-    let b = sym (kept-held (drop to kept)) ∙ ap rows_kept (sym (drop-map counted to kept)) in
+    let a = sym (kept-held (take from kept)) ∙ ap weight_kept (sym (take-map counted from kept)) in
+    let b = sym (kept-held (drop to kept)) ∙ ap weight_kept (sym (drop-map counted to kept)) in
     omega (arith, a, b)
 
-pub slice-held : (kept : KeptText) (from to : ℕ) → rows_held (slice_range kept from to) ≡ rows_kept (slice_range (map counted kept) from to)
+pub slice-held : (kept : KeptText) (from to : ℕ) → weight_held (slice_range kept from to) ≡ weight_kept (slice_range (map counted kept) from to)
 slice-held kept from to =
-    sym (kept-held (slice_range kept from to)) ∙ ap rows_kept (sym (ap (take (to - from)) (drop-map counted from kept) ∙ take-map counted (to - from) (drop from kept)))
+    sym (kept-held (slice_range kept from to)) ∙ ap weight_kept (sym (ap (take (to - from)) (drop-map counted from kept) ∙ take-map counted (to - from) (drop from kept)))
 
 -- ---- the same of what is seen
 
@@ -268,7 +268,7 @@ abbrev own_kept : KeptParagraph ℕ → ℕ
 own_kept p = option_map_or (λ (rows : ℕ). rows) p.kept 0
 
 -- what is behind keeps nothing
-pub none-behind : (behind : Bool) (tables : TableValues) (set : OperationSet) (kept : KeptText) → (behind ≡ false → ⊥) → rows_kept (paragraphs_of behind tables set kept) ≡ 0
+pub none-behind : (behind : Bool) (tables : TableValues) (set : OperationSet) (kept : KeptText) → (behind ≡ false → ⊥) → weight_kept (paragraphs_of behind tables set kept) ≡ 0
 none-behind true tables set kept h = sum-anew own_kept (λ points. refl) (paragraph_points tables (text set))
 none-behind false tables set kept h = absurd (h refl)
 
@@ -276,7 +276,7 @@ own-none : (o : Option ℕ) → (is_some o ≡ true → ⊥) → option_map_or (
 own-none None h = refl
 own-none (Some n) h = absurd (h refl)
 
-front-none : (ps : List (KeptParagraph ℕ)) (n : ℕ) → ((k : ℕ) → is_kept (marks ps) k ≡ true → n ≤ k) → rows_kept (take n ps) ≡ 0
+front-none : (ps : List (KeptParagraph ℕ)) (n : ℕ) → ((k : ℕ) → is_kept (marks ps) k ≡ true → n ≤ k) → weight_kept (take n ps) ≡ 0
 front-none ps zero h = omega arith
 front-none [] (suc n) h = omega arith
 front-none (p ∷ ps) (suc n) h =
@@ -285,7 +285,7 @@ front-none (p ∷ ps) (suc n) h =
     let later = front-none ps n (λ k there. (let low = h (suc k) there in omega arith)) in
     omega arith
 
-back-none : (ps : List (KeptParagraph ℕ)) (n : ℕ) → ((k : ℕ) → is_kept (marks ps) k ≡ true → k < n) → rows_kept (drop n ps) ≡ 0
+back-none : (ps : List (KeptParagraph ℕ)) (n : ℕ) → ((k : ℕ) → is_kept (marks ps) k ≡ true → k < n) → weight_kept (drop n ps) ≡ 0
 back-none [] zero h = omega arith
 back-none [] (suc n) h = omega arith
 back-none (p ∷ ps) zero h =
@@ -297,20 +297,20 @@ back-none (p ∷ ps) (suc n) h = back-none ps n (λ k there. (let high = h (suc 
 
 -- rows are kept of a stretch alone
 kept-inside : (ps : List (KeptParagraph ℕ)) (from to : ℕ) → from ≤ to → ((k : ℕ) → is_kept (marks ps) k ≡ true → (from ≤ k) × (k < to))
-    → rows_kept ps ≡ rows_kept (slice_range ps from to)
+    → weight_kept ps ≡ weight_kept (slice_range ps from to)
 kept-inside ps from to order inside =
     let front = sum_by-take-drop own_kept ps from in
     let back = sum_by-take-drop own_kept (drop from ps) (to - from) in
     let e : from + (to - from) ≡ to = omega arith in
-    let there = ap rows_kept (drop-drop (to - from) from ps) in
-    let here = ap (λ n. rows_kept (drop n ps)) e in
+    let there = ap weight_kept (drop-drop (to - from) from ps) in
+    let here = ap (λ n. weight_kept (drop n ps)) e in
     let a = front-none ps from (λ k is. (inside k is).0) in
     let b = back-none ps to (λ k is. (inside k is).1) in
     omega arith
 
 -- after edits no more rows are kept than may be, or than a stretch had of which alone some were kept
 pub kept-edited : (old new : List (KeptParagraph ℕ)) (steps : List Step) (from to most : ℕ) → from ≤ to → IsTouchedInTurn old steps new
-    → (rows_kept old ≤ most) ⊎ ((k : ℕ) → is_kept (marks old) k ≡ true → (from ≤ k) × (k < to)) → rows_kept new ≤ max most (rows_kept (slice_range old from to))
+    → (weight_kept old ≤ most) ⊎ ((k : ℕ) → is_kept (marks old) k ≡ true → (from ≤ k) × (k < to)) → weight_kept new ≤ max most (weight_kept (slice_range old from to))
 kept-edited old new steps from to most order touched held =
     let less = sum-in_turn own_kept (λ points. refl) old new steps touched in
     elim held [ inl few ↦ omega (arith, less, few) | inr inside ↦ (let own = kept-inside old from to order inside in omega (arith, less, own)) ]

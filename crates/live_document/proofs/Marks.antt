@@ -4,12 +4,12 @@ use Rattle.std.proofs.lemmas.Bool.{cases_lt}
 use Rattle.std.proofs.lemmas.List.{drop_more, length-set, get_or-set_same, get_or-set_other, ext_get_or}
 use Rattle.std.proofs.lemmas.List.Concat.{flat_map-append, flat_map-cons}
 use Rattle.std.proofs.lemmas.List.Edits.{between_none, between_more, length-between, get_or-between}
-use Rattle.std.proofs.lemmas.List.Sums.{sum_by-cons}
+use Rattle.std.proofs.lemmas.List.Sums.{sum_by-cons, sum_by-append}
 use Rattle.std.proofs.Common.{append-nil}
 use Rattle.bg_types.specs.declared.class.Base.{Base}
 use Rattle.unicode_tables.specs.Tables.{TableValues}
 use Rattle.cell_grid.proofs.Interface.{slice-parts}
-use Rattle.live_document.specs.Keeping.{is_kept, rows_of_text, rows_of_texts, IsMarked}
+use Rattle.live_document.specs.Keeping.{is_kept, rows_of_text, rows_of_texts, row_weight, rows_weight, IsMarked}
 
 -- nothing was marked yet
 pub marked-none : (marks : List Bool) (n : ℕ) → IsMarked marks n n marks
@@ -167,6 +167,42 @@ module _ (tables : TableValues) (width : ℕ) (base : Base) where
 
   pub rows-none : (texts : List (List ℕ)) (n : ℕ) → length (rows_of_texts tables width base (slice_range texts n n)) ≡ 0
   rows-none texts n = ap (λ l. length (flat_map (rows_of_text tables width base) l)) (between_none texts n)
+
+  -- so is what they weigh
+  pub weight-up : (texts : List (List ℕ)) (from first end : ℕ) → from ≡ first + 1 → first < length texts → first < end
+      → rows_weight (rows_of_texts tables width base (slice_range texts first end))
+      ≡ rows_weight (rows_of_text tables width base (get_or texts first [])) + rows_weight (rows_of_texts tables width base (slice_range texts from end))
+  weight-up texts from first end e within order =
+      let f = rows_of_text tables width base in
+      ap (λ l. rows_weight (flat_map f l)) (slice-front texts first end [] within order)
+      ∙ ap rows_weight (flat_map-cons f (get_or texts first []) (slice_range texts (first + 1) end))
+      ∙ sum_by-append row_weight (f (get_or texts first [])) (flat_map f (slice_range texts (first + 1) end))
+      ∙ ap (λ n. rows_weight (f (get_or texts first [])) + rows_weight (flat_map f (slice_range texts n end))) (sym e)
+
+  pub weight-down : (texts : List (List ℕ)) (first end : ℕ) → end < length texts → first ≤ end
+      → rows_weight (rows_of_texts tables width base (slice_range texts first (end + 1)))
+      ≡ rows_weight (rows_of_texts tables width base (slice_range texts first end)) + rows_weight (rows_of_text tables width base (get_or texts end []))
+  weight-down texts first end within order =
+      let f = rows_of_text tables width base in
+      let x = get_or texts end [] in
+      ap (λ l. rows_weight (flat_map f l)) (between_more texts first end [] order within)
+      ∙ ap rows_weight (flat_map-append f (slice_range texts first end) (x ∷ []))
+      ∙ sum_by-append row_weight (flat_map f (slice_range texts first end)) (flat_map f (x ∷ []))
+      ∙ ap (λ l. rows_weight (flat_map f (slice_range texts first end)) + rows_weight l) (flat_map-cons f x [] ∙ append-nil (f x))
+
+  pub weight-whole : (texts : List (List ℕ)) (first number end : ℕ) → first ≤ number → number < end → number < length texts
+      → rows_weight (rows_of_texts tables width base (slice_range texts first end))
+      ≡ rows_weight (rows_of_texts tables width base (slice_range texts first number))
+      + (rows_weight (rows_of_text tables width base (get_or texts number [])) + rows_weight (rows_of_texts tables width base (slice_range texts (number + 1) end)))
+  weight-whole texts first number end low high within =
+      let f = rows_of_text tables width base in
+      let parts = ap (λ l. rows_weight (flat_map f l)) (slice-parts texts first number end low (omega arith)) ∙ ap rows_weight (flat_map-append f (slice_range texts first number) (slice_range texts number end)) in
+      let both = sum_by-append row_weight (flat_map f (slice_range texts first number)) (flat_map f (slice_range texts number end)) in
+      let own = weight-up texts (number + 1) number end refl within high in
+      omega arith
+
+  pub weight-none : (texts : List (List ℕ)) (n : ℕ) → rows_weight (rows_of_texts tables width base (slice_range texts n n)) ≡ 0
+  weight-none texts n = ap (λ l. rows_weight (flat_map (rows_of_text tables width base) l)) (between_none texts n)
 
 -- the one that was set
 pub set-mark : (marks new : List Bool) (n : ℕ) → new ≡ set marks n true → n < length marks → is_kept new n ≡ true

@@ -493,7 +493,7 @@ pub some-flag : (kept : KeptText) (n : ℕ) → 0 < length (rows_at kept n) → 
 some-flag [] n some = absurd (omega arith)
 some-flag (p ∷ kept) zero some = beside p.kept some
   where
-    beside : (o : Option Rows) → 0 < length (option_map_or (λ (rows : Rows). rows.items) o []) → is_some o ≡ true
+    beside : (o : Option Rows) → 0 < length (option_map_or (λ (rows : Rows). rows) o []) → is_some o ≡ true
     beside None some = absurd (omega arith)
     beside (Some rows) some = refl
 some-flag (p ∷ kept) (suc n) some = some-flag kept n some

@@ -38,20 +38,21 @@ marks paragraphs = each (λ (p : KeptParagraph ℕ). is_some p.kept) paragraphs
 abbrev pub unmarked : List Bool → (from to : ℕ) → ℕ
 unmarked ms from to = count_by not (slice_range ms from to)
 
--- how many rows are kept
-abbrev pub rows_kept : List (KeptParagraph ℕ) → ℕ
-rows_kept paragraphs = sum_by (λ (p : KeptParagraph ℕ). option_map_or (λ rows. rows) p.kept 0) paragraphs
+-- what the rows weigh that are kept
+abbrev pub weight_kept : List (KeptParagraph ℕ) → ℕ
+weight_kept paragraphs = sum_by (λ (p : KeptParagraph ℕ). option_map_or (λ weight. weight) p.kept 0) paragraphs
 
--- how many rows are kept of the paragraphs before one number and from another on
-abbrev pub rows_outside : List (KeptParagraph ℕ) → (from to : ℕ) → ℕ
-rows_outside paragraphs from to = rows_kept (take from paragraphs) + rows_kept (drop to paragraphs)
+-- what those weigh of the paragraphs before one number and from another on
+abbrev pub weight_outside : List (KeptParagraph ℕ) → (from to : ℕ) → ℕ
+weight_outside paragraphs from to = weight_kept (take from paragraphs) + weight_kept (drop to paragraphs)
 
--- so many rows may be kept: those of four windows, with 64 rows each or more, or as many as were asked for
-abbrev pub allowed : (most rows : ℕ) → ℕ
-allowed most rows = max most (4 * max rows 64)
+-- so much they may weigh: as the rows of four windows would with a run for each column, of 64 rows each or more, or as many such
+-- rows as were asked for
+abbrev pub allowed : (most width rows : ℕ) → ℕ
+allowed most width rows = max most (4 * max rows 64) * (width + 1)
 
 -- a window was laid out: its rows are those of the paragraphs from `first` up to `end`; so many of these were laid out as were
--- not kept, and all of them are kept now; what was kept of others stays, unless that is too many rows, and then of no others
+-- not kept, and all of them are kept now; what was kept of others stays, unless all weigh too much, and then of no others
 -- anything is kept
 pub record IsLaidOut (old new : LiveDocument) (place above below : ℕ) : Type 0 where
   pub first : ℕ
@@ -61,9 +62,9 @@ pub record IsLaidOut (old new : LiveDocument) (place above below : ℕ) : Type 0
   pub bottom : HasRow new.tables new.width new.base (paragraphs_in new.paragraphs) (end - 1) (bottom_of place below (whole_rows new))
   pub laid : new.laid ≡ unmarked (marks old.paragraphs) first end
   pub kept : (k : ℕ) → first ≤ k → k < end → is_kept (marks new.paragraphs) k ≡ true
-  pub stays : rows_outside old.paragraphs first end + rows_kept (slice_range new.paragraphs first end) ≤ allowed new.most (length new.window.rows)
+  pub stays : weight_outside old.paragraphs first end + weight_kept (slice_range new.paragraphs first end) ≤ allowed new.most new.width (length new.window.rows)
       → (k : ℕ) → is_kept (marks old.paragraphs) k ≡ true → is_kept (marks new.paragraphs) k ≡ true
-  pub held : (rows_kept new.paragraphs ≤ allowed new.most (length new.window.rows)) ⊎ ((k : ℕ) → is_kept (marks new.paragraphs) k ≡ true → (first ≤ k) × (k < end))
+  pub held : (weight_kept new.paragraphs ≤ allowed new.most new.width (length new.window.rows)) ⊎ ((k : ℕ) → is_kept (marks new.paragraphs) k ≡ true → (first ≤ k) × (k < end))
   pub texts : paragraphs_in new.paragraphs ≡ paragraph_points new.tables (text new.desk.set)
   pub same : paragraphs_in new.paragraphs ≡ paragraphs_in old.paragraphs
 

@@ -1,5 +1,5 @@
 -- What a document is seen as.
-use Rattle.std.specs.Prelude.{◌≡◌, ◌≤◌, ◌⊎◌, ℕ, Bool, true, false, Option, List, refl, length, option_map, map as each, encode_utf8_all}
+use Rattle.std.specs.Prelude.{◌≡◌, ◌≤◌, ◌⊎◌, ℕ, Bool, true, false, Option, List, refl, option_map, map as each, encode_utf8_all}
 use Rattle.std.specs.Coded.{Coded, code_by, coded×, coded_ℕ, coded_list, coded_option}
 use Rattle.bg_types.specs.declared.class.Base.{Base}
 use Rattle.bg_types.specs.contracts.class.Base.{the_row as base_row}
@@ -16,11 +16,11 @@ use Rattle.cell_grid.specs.contracts.row.Row.{the_row as drawn_row}
 use Rattle.cell_grid.specs.Grids.{DrawnGrid, grid_of, grid_rows}
 use Rattle.cell_grid.specs.Windows.{DrawnWindow, window_of}
 use Rattle.live_document.specs.declared.shown.Shown.{Shown}
-use Rattle.live_document.specs.Keeping.{Rows, KeptText, rows_held, IsKeptAt}
+use Rattle.live_document.specs.Keeping.{Rows, KeptText, rows_weight, weight_held, IsKeptAt}
 use Rattle.live_document.specs.Showing.{window_in, no_window, IsAtHand}
 
--- a document: its desk; the tables, the width and the base that it is drawn at; the paragraphs of its text, each with how many
--- rows are kept of it, or nothing; how many rows may be kept, where a window doesn't need more; the window that is shown; how many
+-- a document: its desk; the tables, the width and the base that it is drawn at; the paragraphs of its text, each with what
+-- the rows weigh that are kept of it, or nothing; how many rows may be kept, where a window doesn't need more; the window that is shown; how many
 -- paragraphs the last window took to lay out
 pub record LiveDocument : Type 0 where
   pub desk : Desk
@@ -33,7 +33,7 @@ pub record LiveDocument : Type 0 where
   pub laid : ℕ
 
 abbrev pub counted : KeptParagraph Rows → KeptParagraph ℕ
-counted p = record { points = p.points; kept = option_map (λ (rows : Rows). length rows.items) p.kept }
+counted p = record { points = p.points; kept = option_map rows_weight p.kept }
 
 -- a document whose paragraphs are behind its desk keeps nothing
 abbrev pub paragraphs_of : (behind : Bool) → TableValues → OperationSet → KeptText → List (KeptParagraph ℕ)
@@ -45,16 +45,16 @@ abbrev pub IsWindowOf : OperationSet → TableValues → (width : ℕ) → Base 
 IsWindowOf set tables width base window =
     (window ≡ no_window) ⊎ ((place : ℕ) × (above : ℕ) × (below : ℕ) × (window ≡ window_of above below place (grid_rows tables width base (encode_utf8_all (text set)))))
 
--- unless they are behind, the paragraphs are those of the desk's text; what is behind isn't shown. No more rows are kept than
--- the number says
+-- unless they are behind, the paragraphs are those of the desk's text; what is behind isn't shown. The rows that are kept weigh
+-- no more than the number says
 pub record IsLive (desk : Desk) (tables : TableValues) (width : ℕ) (base : Base) (behind : Bool) (kept : KeptText) (s : Shown) (held : ℕ) : Type 0 where
   pub kept_at : IsKeptAt tables width base kept
   pub text_is : behind ≡ false → text_in kept ≡ text desk.set
   pub unshown : behind ≡ true → window_in kept s ≡ no_window
   pub at_hand : IsAtHand kept s
   pub of_now : IsWindowOf desk.set tables width base (window_in kept s)
-  pub held_is : rows_held kept ≤ held
-  pub held_few : held ≤ 15_000_000
+  pub held_is : weight_held kept ≤ held
+  pub held_few : held ≤ 60_000_000_000_000
 
 -- *Grid* of the desk's text
 abbrev pub whole_grid : LiveDocument → DrawnGrid

@@ -1,15 +1,15 @@
 -- Rows that are kept beside the paragraphs of a text.
-use Rattle.std.specs.Prelude.{◌≡◌, ◌+◌, ◌≤◌, ◌<◌, ◌⊎◌, ℕ, List, [], Bool, true, false, is_some, Vec, map as each, length, take, drop, slice_get, slice_index_or, encode_utf8_all, IfSome}
-use Rattle.std.specs.Global.{Global}
+use Rattle.std.specs.Prelude.{◌≡◌, ◌+◌, ◌≤◌, ◌<◌, ◌⊎◌, ◌*◌, ℕ, List, [], Bool, true, false, is_some, map as each, length, take, drop, slice_get, slice_index_or, sum_by, encode_utf8_all, IfSome}
 use Rattle.std.specs.List.{All, flat_map}
 use Rattle.std.specs.Option.{option_map_or}
 use Rattle.bg_types.specs.declared.class.Base.{Base}
 use Rattle.unicode_tables.specs.Tables.{TableValues}
+use Rattle.cell_grid.specs.RunCounts.{run_count}
 use Rattle.cell_grid.specs.Rows.{DrawnRow, rows_of}
-use Rattle.text_buffer.specs.Buffers.{KeptParagraph, paragraphs_in, kept_items, IsSplit}
+use Rattle.text_buffer.specs.Buffers.{KeptParagraph, paragraphs_in, kept_weight, IsSplit}
 
 abbrev pub Rows : Type 0
-Rows = Vec DrawnRow Global
+Rows = List DrawnRow
 
 -- what a buffer is seen as that keeps rows
 abbrev pub KeptText : Type 0
@@ -24,7 +24,7 @@ rows_of_texts tables width base texts = flat_map (rows_of_text tables width base
 
 -- the rows that are kept of a paragraph are those of its text at this width and base, counted from its start
 abbrev pub IsLaid : TableValues → (width : ℕ) → Base → KeptParagraph Rows → Type 0
-IsLaid tables width base p = IfSome p.kept (λ (rows : Rows). rows.items ≡ rows_of_text tables width base p.points)
+IsLaid tables width base p = IfSome p.kept (λ (rows : Rows). rows ≡ rows_of_text tables width base p.points)
 
 -- these are the paragraphs of their text, and what is kept of them is theirs
 pub record IsKeptAt (tables : TableValues) (width : ℕ) (base : Base) (kept : KeptText) : Type 0 where
@@ -35,19 +35,31 @@ pub record IsKeptAt (tables : TableValues) (width : ℕ) (base : Base) (kept : K
 
 -- the rows that are kept of a paragraph, or none
 abbrev pub rows_beside : KeptParagraph Rows → List DrawnRow
-rows_beside p = option_map_or (λ (rows : Rows). rows.items) p.kept []
+rows_beside p = option_map_or (λ (rows : Rows). rows) p.kept []
 
 -- those of the paragraph with this number
 abbrev pub rows_at : KeptText → ℕ → List DrawnRow
 rows_at kept number = option_map_or rows_beside (slice_get kept number) []
 
--- how many rows are kept
-abbrev pub rows_held : KeptText → ℕ
-rows_held kept = kept_items kept
+-- what rows weigh: each one, and each of its runs of like clusters one
+abbrev pub row_weight : DrawnRow → ℕ
+row_weight r = 1 + run_count r.entries
+
+abbrev pub rows_weight : Rows → ℕ
+rows_weight rows = sum_by row_weight rows
+
+-- rows that weigh so much
+pub record Weigh (rows : Rows) (weight : ℕ) : Type 0 where
+  pub is : weight ≡ rows_weight rows
+  pub few : weight ≤ 4_000_001 * length rows
+
+-- what the rows weigh that are kept
+abbrev pub weight_held : KeptText → ℕ
+weight_held kept = kept_weight rows_weight kept
 
 -- how many of them of the paragraphs before one number and from another on
 abbrev pub held_outside : KeptText → (from to : ℕ) → ℕ
-held_outside kept from to = rows_held (take from kept) + rows_held (drop to kept)
+held_outside kept from to = weight_held (take from kept) + weight_held (drop to kept)
 
 -- of which paragraphs rows are kept
 abbrev pub flags : KeptText → List Bool

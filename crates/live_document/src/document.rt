@@ -10,7 +10,7 @@ ghost use Rattle.desk_replica.specs.Desk.{fresh};
 ghost use Rattle.desk_replica.specs.Merging.{with_operations};
 ghost use Rattle.desk_replica.specs.Stretch.{typed_text, deletions, replacement, IsTextRefusal, IsTextRefused, IsRangeRefused, IsReplaceRefusal, IsReplaceRefused};
 ghost use Rattle.desk_replica.specs.declared.answer.TypeFault.{TypeFault as Untyped};
-ghost use Rattle.live_document.specs.Cost.{rows_kept, IsLaidOut, KeepsOthers};
+ghost use Rattle.live_document.specs.Cost.{weight_kept, IsLaidOut, KeepsOthers};
 ghost use Rattle.live_document.specs.Documents.{window_round, IsDrawnAlike, IsWindowOf};
 ghost use Rattle.live_document.specs.Runs.{Types, Erases, Replaces, Resizes, Turns, Keeps, Shows, IsCall};
 ghost use Rattle.live_document.specs.Showing.{no_window};
@@ -23,11 +23,11 @@ mod typing;
 
 use crate::following::{buffer_of, catch_up, follow};
 use crate::keeping::{Most, forget_rows};
+use crate::paragraph_rows::ParagraphRows;
 use crate::showing::lay_window_out;
 use crate::shown::Shown;
 use crate::window::Window;
 use bg_types::{Base, Id, Memory, Op};
-use cell_grid::Row;
 use desk_replica::{Replica, TypeFault};
 use rga_sequence::Blocks;
 use std::alloc::Global;
@@ -50,14 +50,14 @@ pub struct Document {
     tables: Rc<Tables>,
     width: u16,
     base: Base,
-    buffer: Buffer<Vec<Row>>,
+    buffer: Buffer<ParagraphRows>,
     /// The paragraphs are not those of the desk's text.
     behind: bool,
     shown: Shown,
     laid: usize,
-    /// At most so many rows are kept.
+    /// What is kept weighs so much at most.
     held: usize,
-    /// So many may be.
+    /// So many rows may be kept.
     most: Most,
 }
 
@@ -409,10 +409,11 @@ impl Document {
         self.shown = Shown::nothing();
     }
 
-    /// From now on so many rows may be kept (at most 1,000,000), or those of four windows where these are more; a document is
-    /// made with 0. Where the rows of a whole text may be kept, a paragraph is laid out once and after edits of its own alone.
-    /// What is shown stays, and the next `show` forgets what is too much.
-    /// Cost: O(1); `show` then keeps up to 20 bytes for each cluster of a row.
+    /// From now on rows are kept in the memory of so many (at most 1,000,000), or of those of four windows where these are more,
+    /// counted as if each column had a run of its own; a document is made with 0. A row has 20 bytes for each run of like clusters,
+    /// so that most texts have many more rows in it. Where the rows of a whole text may be kept, a paragraph is laid out once and
+    /// after edits of its own alone. What is shown stays, and the next `show` forgets what is too much.
+    /// Cost: O(1); `show` then keeps up to 20 bytes for each run of a row.
     pub fn keep_rows(&mut self, rows: usize)
         requires { rows ≤ 1_000_000 }
         ensures most { self.new ≡ record self.old { most = rows } }
@@ -422,12 +423,12 @@ impl Document {
     }
 
     /// Lays out what is not kept of a window: the rows from so many above the row of a place to so many below it, each at
-    /// most 1,000. `window` shows it then. What was kept stays, unless that is more rows than four such windows have, each of at
-    /// least 64 rows, and more than `keep_rows` was asked for: then the rows of the window's paragraphs alone. After `Memory`
-    /// nothing is shown, and no rows are kept.
+    /// most 1,000. `window` shows it then. What was kept stays, unless its rows and their runs of like clusters are more than
+    /// those of four such windows with a run for each column, each of at least 64 rows, and of as many such rows as `keep_rows` was
+    /// asked for: then the rows of the window's paragraphs alone. After `Memory` nothing is shown, and no rows are kept.
     /// Cost: O(d / 32) of the d paragraphs between the place and where the last edit or `show` was, O(64) for each that has a
-    /// row in the window, and that of `rows` for each of them of which nothing is kept; memory for their rows. Once more rows
-    /// were made than may be kept, they are counted: O(n / 32) of all paragraphs, and O(64) for each block of at most 64 of
+    /// row in the window, and that of `rows` for each of them of which nothing is kept; memory for their rows. Once more
+    /// was made than may be kept, it is counted: O(n / 32) of all paragraphs, and O(64) for each block of at most 64 of
     /// which something is kept. Where an edit was refused memory before, that of `text` and `Buffer::of` too.
     pub fn show(&mut self, place: usize, above: usize, below: usize) -> Result<(), Memory>
         requires place { place ≤ length (visible self.old.desk.set) }
@@ -437,7 +438,7 @@ impl Document {
         // What has a row of it is laid out, unless it is kept.
         ensures laid { OnOk result (IsLaidOut self.old self.new place above below) }
         ensures nothing { OnErr result (self.new.window ≡ no_window) }
-        ensures forgotten { OnErr result (rows_kept self.new.paragraphs ≡ 0) }
+        ensures forgotten { OnErr result (weight_kept self.new.paragraphs ≡ 0) }
         ensures desk { self.new.desk ≡ self.old.desk }
         ensures drawn { IsDrawnAlike self.old self.new }
         ensures call { IsCall self.old (Shows place above below) (is_err result) self.new }

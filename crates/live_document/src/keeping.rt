@@ -1,12 +1,13 @@
 //! Rows that are kept beside paragraphs.
 
-ghost use Rattle.std.specs.Prelude.{◌≡◌, ◌+◌, ◌-◌, ◌≤◌, ◌<◌, ◌⊎◌, ℕ, [], true, max, All, length, not, get_or, slice_set, slice_range, count_by, IfOk, OnOk, OnErr, if◌then◌else◌};
+ghost use Rattle.std.specs.Prelude.{◌≡◌, ◌+◌, ◌-◌, ◌*◌, ◌≤◌, ◌<◌, ◌⊎◌, ℕ, [], true, max, All, length, not, get_or, slice_set, slice_range, count_by, IfOk, OnOk, OnErr, if◌then◌else◌};
 ghost use Rattle.bg_types.specs.declared.class.Base.{Base};
 ghost use Rattle.unicode_tables.specs.Tables.{TableValues};
 ghost use Rattle.text_buffer.specs.Buffers.{paragraphs_in};
-ghost use Rattle.live_document.specs.Keeping.{flags, is_kept, rows_at, rows_held, rows_of_text, rows_of_texts, IsLaid, IsKeptAt, IsMarked};
+ghost use Rattle.live_document.specs.Keeping.{flags, is_kept, rows_at, rows_of_text, rows_of_texts, rows_weight, weight_held, IsLaid, IsKeptAt, IsMarked};
 
 use crate::laws_below::laws_below;
+use crate::paragraph_rows::ParagraphRows;
 use bg_types::{Base, Memory};
 use cell_grid::{Row, rows};
 use std::alloc::Global;
@@ -21,64 +22,65 @@ pub struct Most {
 }
 
 /// The rows that are kept of a paragraph, counted from its start; none where none are.
-pub fn kept_rows(buffer: &Buffer<Vec<Row>>, number: usize) -> &[Row]
+pub fn kept_rows(buffer: &Buffer<ParagraphRows>, number: usize) -> &[Row]
     requires { number < length buffer.now }
     ensures { result.now ≡ rows_at buffer.now number }
 {
     match buffer.kept(number) {
-        Some(rows) => rows.as_slice(),
+        Some(kept) => kept.as_slice(),
         None => &[],
     }
 }
 
 /// Drops the rows of all paragraphs, as is needed before another width or base direction.
-pub fn forget_rows(buffer: &mut Buffer<Vec<Row>>)
+pub fn forget_rows(buffer: &mut Buffer<ParagraphRows>)
     ensures paragraphs { paragraphs_in buffer.new ≡ paragraphs_in buffer.old }
-    ensures held { rows_held buffer.new ≡ 0 }
+    ensures held { weight_held buffer.new ≡ 0 }
     ensures none { (tables : TableValues) (width : ℕ) (base : Base) → All (IsLaid tables width base) buffer.new }
 {
     buffer.forget_but(0, 0);
 }
 
-/// Drops the rows of all paragraphs but those from one number up to another, which have so many, where more are kept than the
-/// most. At most `held` are. Returns how many are kept then at most.
+/// Drops the rows of all paragraphs but those from one number up to another, which weigh so much, where more is kept than the
+/// most. At most `held` is. Returns what is kept then at most.
 pub fn forget_others(
-    buffer: &mut Buffer<Vec<Row>>,
+    buffer: &mut Buffer<ParagraphRows>,
     from: usize,
     to: usize,
-    rows: usize,
+    weight: usize,
     held: usize,
     most: usize,
 ) -> usize
     requires order { from ≤ to }
     requires within { to ≤ length buffer.old }
-    requires held { rows_held buffer.old ≤ held }
-    requires few { held ≤ 1_000_000_000 }
-    requires rows { rows_held (slice_range buffer.old from to) ≤ rows }
+    requires held { weight_held buffer.old ≤ held }
+    requires few { held ≤ 1_000_000_000_000_000 }
+    requires weight { weight_held (slice_range buffer.old from to) ≤ weight }
     ensures paragraphs { paragraphs_in buffer.new ≡ paragraphs_in buffer.old }
     ensures laid { (tables : TableValues) (width : ℕ) (base : Base) → All (IsLaid tables width base) buffer.old → All (IsLaid tables width base) buffer.new }
     ensures inside { (k : ℕ) → from ≤ k → k < to → is_kept (flags buffer.new) k ≡ is_kept (flags buffer.old) k }
-    ensures stays { rows_held buffer.old ≤ most → buffer.new ≡ buffer.old }
-    ensures held { rows_held buffer.new ≤ result }
-    ensures few { result ≤ max most rows }
-    ensures bounded { (rows_held buffer.new ≤ most) ⊎ ((k : ℕ) → is_kept (flags buffer.new) k ≡ true → (from ≤ k) × (k < to)) }
+    ensures stays { weight_held buffer.old ≤ most → buffer.new ≡ buffer.old }
+    ensures held { weight_held buffer.new ≤ result }
+    ensures few { result ≤ max most weight }
+    ensures bounded { (weight_held buffer.new ≤ most) ⊎ ((k : ℕ) → is_kept (flags buffer.new) k ≡ true → (from ≤ k) × (k < to)) }
 {
     if held <= most {
         return held;
     }
     // What edits dropped was not counted.
-    let kept = buffer.kept_items();
+    let kept = buffer.kept_weight();
     if kept <= most {
         return kept;
     }
     buffer.forget_but(from, to);
-    rows
+    weight
 }
 
-/// How many rows a paragraph has, how many paragraphs it took to lay out, 0 or 1, and how many rows this made.
+/// How many rows a paragraph has, what they weigh, how many paragraphs it took to lay out, 0 or 1, and what this made weighs.
 #[derive(Clone, Copy)]
 pub struct LaidOut {
     pub rows: usize,
+    pub weight: usize,
     pub laid: usize,
     pub made: usize,
 }
@@ -89,7 +91,7 @@ pub fn lay_out(
     tables: &Tables,
     width: u16,
     base: Base,
-    buffer: &mut Buffer<Vec<Row>>,
+    buffer: &mut Buffer<ParagraphRows>,
     number: usize,
 ) -> Result<LaidOut, Memory>
     requires kept { IsKeptAt tables.now width base buffer.old }
@@ -99,37 +101,44 @@ pub fn lay_out(
     ensures marks { OnOk result (flags buffer.new ≡ slice_set (flags buffer.old) number true) }
     ensures rows { IfOk result (λ out. out.rows ≡ length (rows_of_text tables.now width base (get_or (paragraphs_in buffer.old) number []))) }
     ensures few { IfOk result (λ out. out.rows ≤ 4_000_001) }
+    ensures weight { IfOk result (λ out. out.weight ≡ rows_weight (rows_of_text tables.now width base (get_or (paragraphs_in buffer.old) number []))) }
+    ensures most { IfOk result (λ out. out.weight ≤ 4_000_001 * out.rows) }
     ensures laid { IfOk result (λ out. out.laid ≡ (if is_kept (flags buffer.old) number then 0 else 1)) }
-    ensures held { IfOk result (λ out. rows_held buffer.new ≡ rows_held buffer.old + out.made) }
-    ensures made { IfOk result (λ out. out.made ≤ out.rows) }
+    ensures held { IfOk result (λ out. weight_held buffer.new ≡ weight_held buffer.old + out.made) }
+    ensures made { IfOk result (λ out. out.made ≤ out.weight) }
     ensures err { OnErr result (buffer.new ≡ buffer.old) }
 {
     laws_below();
     // The text has no more bytes than it may.
     let _bytes = buffer.bytes();
-    if let Some(rows) = buffer.kept(number) {
+    if let Some(kept) = buffer.kept(number) {
         return Ok(LaidOut {
-            rows: rows.len(),
+            rows: kept.as_slice().len(),
+            weight: kept.total(),
             laid: 0,
             made: 0,
         });
     }
     let made = rows(alloc, tables, width, base, &buffer.paragraph(number))?;
     let rows = made.len();
+    let made = ParagraphRows::of(made);
+    let weight = made.total();
     buffer.keep(number, made);
     Ok(LaidOut {
         rows,
+        weight,
         laid: 1,
-        made: rows,
+        made: weight,
     })
 }
 
-/// Paragraphs that a window reaches: up to which number, how many rows they have, how many of them were laid out, and how
-/// many rows this made.
+/// Paragraphs that a window reaches: up to which number, how many rows they have, what these weigh, how many of them were laid
+/// out, and what this made weighs.
 #[derive(Clone, Copy)]
 pub struct Reach {
     pub number: usize,
     pub rows: usize,
+    pub weight: usize,
     pub laid: usize,
     pub made: usize,
 }
@@ -140,7 +149,7 @@ pub fn reach_up(
     tables: &Tables,
     width: u16,
     base: Base,
-    buffer: &mut Buffer<Vec<Row>>,
+    buffer: &mut Buffer<ParagraphRows>,
     number: usize,
     wanted: usize,
 ) -> Result<Reach, Memory>
@@ -152,29 +161,34 @@ pub fn reach_up(
     ensures order { IfOk result (λ reach. reach.number ≤ number) }
     ensures marked { IfOk result (λ reach. IsMarked (flags buffer.old) reach.number number (flags buffer.new)) }
     ensures rows { IfOk result (λ reach. reach.rows ≡ length (rows_of_texts tables.now width base (slice_range (paragraphs_in buffer.old) reach.number number))) }
+    ensures weight { IfOk result (λ reach. reach.weight ≡ rows_weight (rows_of_texts tables.now width base (slice_range (paragraphs_in buffer.old) reach.number number))) }
     ensures enough { IfOk result (λ reach. (wanted ≤ reach.rows) ⊎ (reach.number ≡ 0)) }
     ensures needed { IfOk result (λ reach. reach.number < number
         → length (rows_of_texts tables.now width base (slice_range (paragraphs_in buffer.old) (reach.number + 1) number)) < wanted) }
     ensures few { IfOk result (λ reach. reach.rows ≤ 5_000_000) }
+    ensures most { IfOk result (λ reach. reach.weight ≤ 4_000_001 * reach.rows) }
     ensures laid { IfOk result (λ reach. reach.laid ≡ count_by not (slice_range (flags buffer.old) reach.number number)) }
     ensures once { IfOk result (λ reach. reach.laid + reach.number ≤ number) }
-    ensures held { IfOk result (λ reach. rows_held buffer.new ≡ rows_held buffer.old + reach.made) }
-    ensures made { IfOk result (λ reach. reach.made ≤ reach.rows) }
+    ensures held { IfOk result (λ reach. weight_held buffer.new ≡ weight_held buffer.old + reach.made) }
+    ensures made { IfOk result (λ reach. reach.made ≤ reach.weight) }
 {
     let mut first = number;
     let mut rows = 0;
+    let mut weight = 0;
     let mut laid = 0;
     let mut made = 0;
     while first > 0 && rows < wanted {
         first -= 1;
         let out = lay_out(alloc, tables, width, base, buffer, first)?;
         rows += out.rows;
+        weight += out.weight;
         laid += out.laid;
         made += out.made;
     }
     Ok(Reach {
         number: first,
         rows,
+        weight,
         laid,
         made,
     })
@@ -186,7 +200,7 @@ pub fn reach_down(
     tables: &Tables,
     width: u16,
     base: Base,
-    buffer: &mut Buffer<Vec<Row>>,
+    buffer: &mut Buffer<ParagraphRows>,
     number: usize,
     wanted: usize,
 ) -> Result<Reach, Memory>
@@ -199,23 +213,27 @@ pub fn reach_down(
     ensures within { IfOk result (λ reach. reach.number ≤ length buffer.old) }
     ensures marked { IfOk result (λ reach. IsMarked (flags buffer.old) number reach.number (flags buffer.new)) }
     ensures rows { IfOk result (λ reach. reach.rows ≡ length (rows_of_texts tables.now width base (slice_range (paragraphs_in buffer.old) number reach.number))) }
+    ensures weight { IfOk result (λ reach. reach.weight ≡ rows_weight (rows_of_texts tables.now width base (slice_range (paragraphs_in buffer.old) number reach.number))) }
     ensures enough { IfOk result (λ reach. (wanted ≤ reach.rows) ⊎ (reach.number ≡ length buffer.old)) }
     ensures needed { IfOk result (λ reach. number < reach.number
         → length (rows_of_texts tables.now width base (slice_range (paragraphs_in buffer.old) number (reach.number - 1))) < wanted) }
     ensures few { IfOk result (λ reach. reach.rows ≤ 5_000_000) }
+    ensures most { IfOk result (λ reach. reach.weight ≤ 4_000_001 * reach.rows) }
     ensures laid { IfOk result (λ reach. reach.laid ≡ count_by not (slice_range (flags buffer.old) number reach.number)) }
     ensures once { IfOk result (λ reach. reach.laid + number ≤ reach.number) }
-    ensures held { IfOk result (λ reach. rows_held buffer.new ≡ rows_held buffer.old + reach.made) }
-    ensures made { IfOk result (λ reach. reach.made ≤ reach.rows) }
+    ensures held { IfOk result (λ reach. weight_held buffer.new ≡ weight_held buffer.old + reach.made) }
+    ensures made { IfOk result (λ reach. reach.made ≤ reach.weight) }
 {
     let count = buffer.paragraph_count();
     let mut end = number;
     let mut rows = 0;
+    let mut weight = 0;
     let mut laid = 0;
     let mut made = 0;
     while end < count && rows < wanted {
         let out = lay_out(alloc, tables, width, base, buffer, end)?;
         rows += out.rows;
+        weight += out.weight;
         laid += out.laid;
         made += out.made;
         end += 1;
@@ -223,6 +241,7 @@ pub fn reach_down(
     Ok(Reach {
         number: end,
         rows,
+        weight,
         laid,
         made,
     })

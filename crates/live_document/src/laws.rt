@@ -5,7 +5,7 @@ ghost use Rattle.bg_types.specs.declared.change.Change.{Change};
 ghost use Rattle.bg_types.specs.Edit.{IsInRange};
 ghost use Rattle.text_buffer.specs.Edits.{Step, IsTouchedInTurn};
 ghost use Rattle.live_document.specs.Carrying.{IsCarried, KeepsItsSide};
-ghost use Rattle.live_document.specs.Cost.{allowed, rows_kept, unmarked, carried, stretch_marks, IsLaidOut};
+ghost use Rattle.live_document.specs.Cost.{allowed, weight_kept, unmarked, carried, stretch_marks, IsLaidOut};
 ghost use Rattle.live_document.specs.Documents.{LiveDocument, IsWindowOf};
 ghost use Rattle.live_document.specs.Runs.{DocumentCall, Shows, IsCall, IsRun};
 ghost use Rattle.live_document.specs.Showing.{no_window};
@@ -31,12 +31,13 @@ pub fn cost_law()
         → after.laid ≤ unmarked (carried steps (stretch_marks one.first one.end (length shown.paragraphs))) two.first two.end }
 {}
 
-/// The memory law. After a window was laid out and then edits came, no more rows are kept than four such windows have, each of at
-/// least 64 rows, or than were asked for, or than the window's paragraphs had.
+/// The memory law. After a window was laid out and then edits came, what is kept weighs no more than the rows of four such windows
+/// would with a run for each column, each of at least 64 rows, or than as many such rows as were asked for, or than what the window's
+/// paragraphs had.
 pub fn memory_law()
     ensures { (before shown changed : LiveDocument) (steps : List Step) (place above below : ℕ)
         → (one : IsLaidOut before shown place above below) → IsTouchedInTurn shown.paragraphs steps changed.paragraphs
-        → rows_kept changed.paragraphs ≤ max (allowed shown.most (length shown.window.rows)) (rows_kept (slice_range shown.paragraphs one.first one.end)) }
+        → weight_kept changed.paragraphs ≤ max (allowed shown.most shown.width (length shown.window.rows)) (weight_kept (slice_range shown.paragraphs one.first one.end)) }
 {}
 
 /// A gap that is carried over a change has on its other side what it had there.

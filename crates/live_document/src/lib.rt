@@ -7,6 +7,7 @@ mod following;
 mod keeping;
 pub mod laws;
 mod laws_below;
+mod paragraph_rows;
 mod printing;
 mod reading;
 mod showing;

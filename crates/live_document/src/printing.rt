@@ -11,6 +11,7 @@ ghost use Rattle.live_document.specs.Showing.{shown_in, there_sizes, there_text,
 
 use crate::keeping::kept_rows;
 use crate::laws_below::laws_below;
+use crate::paragraph_rows::ParagraphRows;
 use crate::shown::Shown;
 use crate::window::{Spot, spot_behind, spot_of};
 use bg_types::{Device, Memory, Sink};
@@ -26,7 +27,7 @@ struct OwnText<'a> {
 }
 
 /// The row there, which prints in its paragraph's text as in the whole one.
-fn text_there<'a>(buffer: &'a Buffer<Vec<Row>>, spot: Spot) -> OwnText<'a>
+fn text_there<'a>(buffer: &'a Buffer<ParagraphRows>, spot: Spot) -> OwnText<'a>
     requires readable { (left : ℕ) × IsReadable buffer.now spot.number spot.row left }
     requires within { spot.number < length buffer.now }
     requires inside { spot.row < length (rows_at buffer.now spot.number) }
@@ -47,7 +48,7 @@ fn text_there<'a>(buffer: &'a Buffer<Vec<Row>>, spot: Spot) -> OwnText<'a>
 /// Writes the row that is shown with this number.
 pub fn print_shown_row<W: Sink>(
     tables: &Tables,
-    buffer: &Buffer<Vec<Row>>,
+    buffer: &Buffer<ParagraphRows>,
     shown: Shown,
     number: usize,
     sink: &mut W,
@@ -66,7 +67,7 @@ pub fn print_shown_row<W: Sink>(
 /// How many bytes that row prints.
 pub fn shown_row_size(
     tables: &Tables,
-    buffer: &Buffer<Vec<Row>>,
+    buffer: &Buffer<ParagraphRows>,
     shown: Shown,
     number: usize,
 ) -> Result<usize, Memory>
@@ -81,7 +82,7 @@ pub fn shown_row_size(
 /// Tells how many bytes the cells of each entry of that row have there, at the front of a list with room for them.
 pub fn shown_entry_sizes(
     tables: &Tables,
-    buffer: &Buffer<Vec<Row>>,
+    buffer: &Buffer<ParagraphRows>,
     shown: Shown,
     number: usize,
     sizes: &mut [usize],
@@ -98,7 +99,7 @@ pub fn shown_entry_sizes(
 /// Writes all rows that are shown.
 pub fn print_shown<W: Sink>(
     tables: &Tables,
-    buffer: &Buffer<Vec<Row>>,
+    buffer: &Buffer<ParagraphRows>,
     shown: Shown,
     sink: &mut W,
 ) -> Result<(), Device>
@@ -121,7 +122,7 @@ pub fn print_shown<W: Sink>(
 }
 
 /// How many bytes they print.
-pub fn shown_size(tables: &Tables, buffer: &Buffer<Vec<Row>>, shown: Shown) -> Result<usize, Memory>
+pub fn shown_size(tables: &Tables, buffer: &Buffer<ParagraphRows>, shown: Shown) -> Result<usize, Memory>
     requires { IsReadable buffer.now shown.first shown.skip shown.count }
     ensures { IfOk result (λ size. size ≡ length (printed (shown_in tables.now buffer.now shown))) }
 {

@@ -1,16 +1,17 @@
 //! The rows of a window are laid out and kept.
 
-ghost use Rattle.std.specs.Prelude.{◌≡◌, ◌≤◌, ◌<◌, ◌+◌, ◌-◌, ◌⊎◌, ℕ, true, min, max, length, not, count_by, slice_range, slice_set, encode_utf8_all, IfOk, if◌then◌else◌};
+ghost use Rattle.std.specs.Prelude.{◌≡◌, ◌≤◌, ◌<◌, ◌+◌, ◌-◌, ◌*◌, ◌⊎◌, ℕ, true, [], min, max, length, get_or, not, count_by, slice_range, slice_set, encode_utf8_all, IfOk, if◌then◌else◌};
 ghost use Rattle.cell_grid.specs.Grids.{grid_rows};
 ghost use Rattle.cell_grid.specs.Windows.{window_of};
 ghost use Rattle.text_buffer.specs.Buffers.{paragraphs_in, text_in};
 ghost use Rattle.text_buffer.specs.Edits.{IsParagraphOf};
 ghost use Rattle.live_document.specs.Cost.{allowed, top_of, bottom_of, HasRow};
-ghost use Rattle.live_document.specs.Keeping.{flags, is_kept, rows_held, held_outside, IsKeptAt};
+ghost use Rattle.live_document.specs.Keeping.{flags, is_kept, rows_of_text, rows_weight, weight_held, held_outside, IsKeptAt};
 ghost use Rattle.live_document.specs.Showing.{window_in, IsAtHand, IsRowOf};
 
 use crate::keeping::{Reach, forget_others, kept_rows, lay_out, reach_down, reach_up};
 use crate::laws_below::laws_below;
+use crate::paragraph_rows::ParagraphRows;
 use crate::shown::Shown;
 use bg_types::{Base, Memory};
 use caret::row_at;
@@ -19,13 +20,13 @@ use std::alloc::Global;
 use text_buffer::Buffer;
 use unicode_tables::Tables;
 
-/// Rows of so many windows may be kept at least.
+/// So much may be kept at least: the rows of this many windows, with a run for each column.
 const WINDOWS: usize = 4;
 
 /// So many rows are a window's at least: a caret's move shows a row or three, and must leave what an editor draws.
 const FEWEST_ROWS: usize = 64;
 
-/// A window, the number behind that of its last paragraph, how many paragraphs were laid out for it, and how many rows are kept
+/// A window, the number behind that of its last paragraph, how many paragraphs were laid out for it, and what weighs that is kept
 /// at most.
 #[derive(Clone, Copy)]
 pub struct Outcome {
@@ -44,9 +45,11 @@ pub struct OwnRow {
     pub row: usize,
     /// How many rows it has.
     pub rows: usize,
+    /// What they weigh.
+    pub weight: usize,
     /// How many paragraphs were laid out: 0 or 1.
     pub laid: usize,
-    /// How many rows this made.
+    /// What this made weighs.
     pub made: usize,
 }
 
@@ -56,7 +59,7 @@ fn own_row(
     tables: &Tables,
     width: u16,
     base: Base,
-    buffer: &mut Buffer<Vec<Row>>,
+    buffer: &mut Buffer<ParagraphRows>,
     place: usize,
 ) -> Result<OwnRow, Memory>
     requires kept { IsKeptAt tables.now width base buffer.old }
@@ -67,8 +70,10 @@ fn own_row(
     ensures marks { IfOk result (λ own. flags buffer.new ≡ slice_set (flags buffer.old) own.number true) }
     ensures row { IfOk result (λ own. IsRowOf tables.now width base (paragraphs_in buffer.old) place own.number own.row own.rows) }
     ensures few { IfOk result (λ own. own.rows ≤ 4_000_001) }
-    ensures held { IfOk result (λ own. rows_held buffer.new ≡ rows_held buffer.old + own.made) }
-    ensures made { IfOk result (λ own. own.made ≤ own.rows) }
+    ensures held { IfOk result (λ own. weight_held buffer.new ≡ weight_held buffer.old + own.made) }
+    ensures weight { IfOk result (λ own. own.weight ≡ rows_weight (rows_of_text tables.now width base (get_or (paragraphs_in buffer.old) own.number []))) }
+    ensures most { IfOk result (λ own. own.weight ≤ 4_000_001 * own.rows) }
+    ensures made { IfOk result (λ own. own.made ≤ own.weight) }
     ensures laid { IfOk result (λ own. own.laid ≡ (if is_kept (flags buffer.old) own.number then 0 else 1)) }
 {
     // All that is looked up for a window is near its place.
@@ -83,19 +88,20 @@ fn own_row(
         number,
         row: row_at(rows, place - first_place),
         rows: out.rows,
+        weight: out.weight,
         laid: out.laid,
         made: out.made,
     })
 }
 
-/// Lays out what isn't kept of the window round the row of a place. Where more rows are kept then than the most, and than four
-/// such windows have, those of other paragraphs are forgotten, and else none.
+/// Lays out what isn't kept of the window round the row of a place. Where more is kept then than the most rows weigh with a run for
+/// each column, and than those of four such windows do, the rows of other paragraphs are forgotten, and else none.
 pub fn lay_window_out(
     alloc: Global,
     tables: &Tables,
     width: u16,
     base: Base,
-    buffer: &mut Buffer<Vec<Row>>,
+    buffer: &mut Buffer<ParagraphRows>,
     place: usize,
     above: usize,
     below: usize,
@@ -106,8 +112,8 @@ pub fn lay_window_out(
     requires place { place ≤ length (text_in buffer.old) }
     requires above { above ≤ 1_000 }
     requires below { below ≤ 1_000 }
-    requires held { rows_held buffer.old ≤ held }
-    requires held_few { held ≤ 15_000_000 }
+    requires held { weight_held buffer.old ≤ held }
+    requires held_few { held ≤ 60_000_000_000_000 }
     requires most { most ≤ 1_000_000 }
     ensures kept { IsKeptAt tables.now width base buffer.new }
     ensures paragraphs { paragraphs_in buffer.new ≡ paragraphs_in buffer.old }
@@ -120,12 +126,12 @@ pub fn lay_window_out(
     ensures bottom { IfOk result (λ outcome. HasRow tables.now width base (paragraphs_in buffer.old) (outcome.end - 1)
         (bottom_of place below (grid_rows tables.now width base (encode_utf8_all (text_in buffer.old))))) }
     ensures marked { IfOk result (λ outcome. (k : ℕ) → outcome.shown.first ≤ k → k < outcome.end → is_kept (flags buffer.new) k ≡ true) }
-    ensures stays { IfOk result (λ outcome. held_outside buffer.old outcome.shown.first outcome.end + rows_held (slice_range buffer.new outcome.shown.first outcome.end)
-        ≤ allowed most outcome.shown.count → (k : ℕ) → is_kept (flags buffer.old) k ≡ true → is_kept (flags buffer.new) k ≡ true) }
-    ensures bounded { IfOk result (λ outcome. (rows_held buffer.new ≤ allowed most outcome.shown.count)
+    ensures stays { IfOk result (λ outcome. held_outside buffer.old outcome.shown.first outcome.end + weight_held (slice_range buffer.new outcome.shown.first outcome.end)
+        ≤ allowed most width outcome.shown.count → (k : ℕ) → is_kept (flags buffer.old) k ≡ true → is_kept (flags buffer.new) k ≡ true) }
+    ensures bounded { IfOk result (λ outcome. (weight_held buffer.new ≤ allowed most width outcome.shown.count)
         ⊎ ((k : ℕ) → is_kept (flags buffer.new) k ≡ true → (outcome.shown.first ≤ k) × (k < outcome.end))) }
-    ensures held { IfOk result (λ outcome. rows_held buffer.new ≤ outcome.held) }
-    ensures few { IfOk result (λ outcome. outcome.held ≤ 15_000_000) }
+    ensures held { IfOk result (λ outcome. weight_held buffer.new ≤ outcome.held) }
+    ensures few { IfOk result (λ outcome. outcome.held ≤ 60_000_000_000_000) }
     ensures laid { IfOk result (λ outcome. outcome.laid ≡ count_by not (slice_range (flags buffer.old) outcome.shown.first outcome.end)) }
 {
     // There are no more paragraphs than a number can tell.
@@ -144,14 +150,14 @@ pub fn lay_window_out(
         wanted_down,
     )?;
     let shown = cut_out(up, own, down, above, below);
-    let allowed = most.max(WINDOWS * shown.count.max(FEWEST_ROWS));
+    let rows = most.max(WINDOWS * shown.count.max(FEWEST_ROWS));
     let held = forget_others(
         buffer,
         up.number,
         down.number,
-        up.rows + own.rows + down.rows,
+        up.weight + own.weight + down.weight,
         held + up.made + own.made + down.made,
-        allowed,
+        rows * (usize::from(width) + 1),
     );
     laws_below();
     let _bytes = buffer.bytes();

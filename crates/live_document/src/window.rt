@@ -1,6 +1,6 @@
 //! A window over the rows that a document keeps.
 
-ghost use Rattle.std.specs.Prelude.{◌≡◌, ◌+◌, ◌<◌, ℕ, Some, take, drop, length, slice_get, IfOk};
+ghost use Rattle.std.specs.Prelude.{◌≡◌, ◌+◌, ◌^◌, ◌<◌, ℕ, Some, take, drop, length, slice_get, IfOk};
 ghost use Rattle.cell_grid.specs.Rows.{shifted_entry};
 ghost use Rattle.cell_grid.specs.Shifting.{MayShift};
 ghost use Rattle.live_document.specs.Keeping.{rows_at};
@@ -9,6 +9,7 @@ ghost use Rattle.live_document.specs.Reading.{IsReading};
 
 use crate::keeping::kept_rows;
 use crate::laws_below::laws_below;
+use crate::paragraph_rows::ParagraphRows;
 use crate::reading::{go_to_row, rows_under};
 use crate::shown::Shown;
 use bg_types::Memory;
@@ -20,7 +21,7 @@ use text_buffer::{Buffer, Cursor};
 /// The rows round a place, as `Document::show` laid them out. It borrows the document and copies nothing.
 #[derive(Drop)]
 pub struct Window<'a> {
-    buffer: &'a Buffer<Vec<Row>>,
+    buffer: &'a Buffer<ParagraphRows>,
     shown: Shown,
 }
 
@@ -37,7 +38,7 @@ impl<'a> Model for Window<'a> {
 }
 
 impl<'a> Window<'a> {
-    pub(crate) fn of(buffer: &'a Buffer<Vec<Row>>, shown: Shown) -> Window<'a>
+    pub(crate) fn of(buffer: &'a Buffer<ParagraphRows>, shown: Shown) -> Window<'a>
         requires { IsReadable buffer.now shown.first shown.skip shown.count }
         ensures { result ≡ window_in buffer.now shown }
     {
@@ -102,7 +103,7 @@ impl<'a> Window<'a> {
 #[derive(Drop)]
 pub struct WindowRows<'a> {
     /// At the paragraph from which the rows are counted.
-    cursor: Cursor<'a, Vec<Row>>,
+    cursor: Cursor<'a, ParagraphRows>,
     /// How many rows from there on stand above the next one.
     row: usize,
     /// How many are still to come.
@@ -146,7 +147,7 @@ impl<'a> Iterator for WindowRows<'a> {
 }
 
 /// Where the rows that are shown begin. Where there are none, the text does.
-fn top_of(buffer: &Buffer<Vec<Row>>, shown: Shown) -> Spot
+fn top_of(buffer: &Buffer<ParagraphRows>, shown: Shown) -> Spot
     requires { IsReadable buffer.now shown.first shown.skip shown.count }
     ensures within { result.number < length buffer.now }
     ensures readable { IsReadable buffer.now result.number result.row shown.count }
@@ -162,7 +163,7 @@ fn top_of(buffer: &Buffer<Vec<Row>>, shown: Shown) -> Spot
 }
 
 /// A row of a cursor's paragraph, where it stands in the text.
-fn row_under<'a>(cursor: &Cursor<'a, Vec<Row>>, row: usize) -> WindowRow<'a>
+fn row_under<'a>(cursor: &Cursor<'a, ParagraphRows>, row: usize) -> WindowRow<'a>
     requires reading { (left : ℕ) × IsReading cursor.now row left }
     requires inside { row < length (rows_at cursor.now.paragraphs cursor.now.number) }
     ensures { slice_get (rows_from cursor.now.paragraphs cursor.now.number) row ≡ Some result }
@@ -187,10 +188,11 @@ pub struct Spot {
 }
 
 /// The paragraph in which a row stands that is counted from a paragraph on.
-pub fn spot_of(buffer: &Buffer<Vec<Row>>, number: usize, row: usize) -> Spot
+pub fn spot_of(buffer: &Buffer<ParagraphRows>, number: usize, row: usize) -> Spot
     requires { row < length (rows_from buffer.now number) }
     ensures within { result.number < length buffer.now }
     ensures inside { result.row < length (rows_at buffer.now result.number) }
+    ensures few { result.row + 1 < 2 ^ 64 }
     ensures same { drop result.row (rows_from buffer.now result.number) ≡ drop row (rows_from buffer.now number) }
 {
     // There are no more paragraphs than a number can tell.
@@ -207,7 +209,7 @@ pub fn spot_of(buffer: &Buffer<Vec<Row>>, number: usize, row: usize) -> Spot
 }
 
 /// The paragraph in which the row stands that is shown with this number.
-pub fn spot_behind(buffer: &Buffer<Vec<Row>>, shown: Shown, number: usize) -> Spot
+pub fn spot_behind(buffer: &Buffer<ParagraphRows>, shown: Shown, number: usize) -> Spot
     requires { shown.skip + number < length (rows_from buffer.now shown.first) }
     ensures within { result.number < length buffer.now }
     ensures inside { result.row < length (rows_at buffer.now result.number) }
@@ -227,7 +229,7 @@ pub fn spot_behind(buffer: &Buffer<Vec<Row>>, shown: Shown, number: usize) -> Sp
 }
 
 /// The row there, where it stands in the text.
-fn row_there<'a>(buffer: &'a Buffer<Vec<Row>>, spot: Spot) -> WindowRow<'a>
+fn row_there<'a>(buffer: &'a Buffer<ParagraphRows>, spot: Spot) -> WindowRow<'a>
     requires readable { (left : ℕ) × IsReadable buffer.now spot.number spot.row left }
     requires within { spot.number < length buffer.now }
     requires inside { spot.row < length (rows_at buffer.now spot.number) }

@@ -13,6 +13,6 @@ pub mod Made
 pub mod Whole
 pub mod Forgets
 pub mod Founds
-pub mod KeptItems
+pub mod Weights
 pub mod Runs
 pub mod Interface

@@ -1,6 +1,5 @@
 -- What a buffer is seen as: the paragraphs of its text, each with what is kept of it. Joined they are the text.
-use Rattle.std.specs.Prelude.{◌≡◌, ◌≤◌, ◌-◌, ◌++◌, ℕ, List, Option, None, Vec, length, take, drop, map as each, encode_utf8_all, sum_by}
-use Rattle.std.specs.Global.{Global}
+use Rattle.std.specs.Prelude.{◌≡◌, ◌≤◌, ◌-◌, ◌++◌, ℕ, List, Option, None, length, take, drop, map as each, encode_utf8_all, sum_by}
 use Rattle.std.specs.List.{concat}
 use Rattle.std.specs.Option.{option_map_or}
 use Rattle.unicode_tables.specs.Tables.{TableValues}
@@ -29,9 +28,9 @@ module _ {K : Type 0} where
   abbrev pub kept_but : (from to : ℕ) → List (Option K) → List (Option K)
   kept_but from to kept = forgotten (take from kept) ++ (take (to - from) (drop from kept) ++ forgotten (drop to kept))
 
--- where lists are kept, how many items these have together
-abbrev pub kept_items : {T : Type 0} → List (KeptParagraph (Vec T Global)) → ℕ
-kept_items ps = sum_by (λ p. option_map_or (λ list. length list.items) p.kept 0) ps
+  -- what all that is kept weighs together
+  abbrev pub kept_weight : (weight : K → ℕ) → List (KeptParagraph K) → ℕ
+  kept_weight weight ps = sum_by (λ p. option_map_or weight p.kept 0) ps
 
 -- a paragraph of a buffer, by its number
 pub record Standing (K : Type 0) : Type 0 where

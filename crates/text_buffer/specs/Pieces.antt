@@ -1,6 +1,5 @@
 -- Paragraphs as they are kept, and what they are seen as.
-use Rattle.std.specs.Prelude.{ℕ, List, Option, Vec, is_some, count_by, length, map as each, string_bytes, sum_by}
-use Rattle.std.specs.Global.{Global}
+use Rattle.std.specs.Prelude.{ℕ, List, Option, is_some, count_by, map as each, string_bytes, sum_by}
 use Rattle.std.specs.Option.{option_map_or}
 use Rattle.paragraphs.specs.Text.{code_points}
 use Rattle.text_buffer.specs.Buffers.{KeptParagraph}
@@ -24,10 +23,9 @@ module _ {K : Type 0} where
   abbrev pub seen : Piece K → KeptParagraph K
   seen p = record { points = points_of p; kept = p.kept }
 
-module _ {T : Type 0} where
-  -- how many items the list has that is kept, if one is
-  abbrev pub items_of : Piece (Vec T Global) → ℕ
-  items_of p = option_map_or (λ (list : Vec T Global). length list.items) p.kept 0
+  -- what weighs that is kept of it, and of some
+  abbrev pub weight_of : (weight : K → ℕ) → Piece K → ℕ
+  weight_of weight p = option_map_or weight p.kept 0
 
-  abbrev pub items_in : List (Piece (Vec T Global)) → ℕ
-  items_in ps = sum_by items_of ps
+  abbrev pub weight_in : (weight : K → ℕ) → List (Piece K) → ℕ
+  weight_in weight ps = sum_by (weight_of weight) ps

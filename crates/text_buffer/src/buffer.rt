@@ -6,7 +6,7 @@ ghost use Rattle.std.specs.Str.{IsUtf8};
 ghost use Rattle.paragraphs.specs.Text.{code_points};
 ghost use Rattle.paragraphs.specs.Paragraphs.{paragraphs};
 ghost use Rattle.bg_types.specs.Edit.{IsInRange, changed};
-ghost use Rattle.text_buffer.specs.Buffers.{bytes_in, paragraphs_in, kept_in, kept_but, kept_items, text_in, IsSplit};
+ghost use Rattle.text_buffer.specs.Buffers.{bytes_in, paragraphs_in, kept_in, kept_but, kept_weight, text_in, IsSplit};
 ghost use Rattle.text_buffer.specs.Edits.{replaced, place_of, end_of, anew, all_changed, AreInRange, IsParagraphOf, IsTouched, AreTouched};
 ghost use Rattle.text_buffer.specs.Runs.{IsStepOf};
 ghost use Rattle.text_buffer.specs.declared.fault.BufferFault.TheVariants.{TooLong};
@@ -20,12 +20,12 @@ use crate::find::{
 };
 use crate::forget::forget_but;
 use crate::found::{find, find_at};
-use crate::items;
 use crate::replace::blocks_of;
 use crate::rows::{kept_at, set_kept_in};
 use crate::run::{are_in_range, first_run};
 use crate::stretch::{LIMIT, plan_edit};
 use crate::touched::Touched;
+use crate::weighed::{Weighed, of_blocks};
 use bg_types::Change;
 use paragraphs::Para;
 use std::alloc::Global;
@@ -380,13 +380,13 @@ impl<K: Drop> Buffer<K> {
     }
 }
 
-impl<T: Drop> Buffer<Vec<T>> {
-    /// How many items there are in all lists that are kept.
+impl<K: Weighed + Drop> Buffer<K> {
+    /// How much all weighs that is kept.
     /// Cost: O(n / 32) of the paragraphs, and O(64) for each block of at most 64 of which something is kept.
-    pub fn kept_items(&self) -> usize
-        requires { kept_items self.now ≤ 1_000_000_000 }
-        ensures { result ≡ kept_items self.now }
+    pub fn kept_weight(&self) -> usize
+        requires { kept_weight K.weight self.now ≤ 1_000_000_000_000_000 }
+        ensures { result ≡ kept_weight K.weight self.now }
     {
-        items::of_blocks(&self.blocks)
+        of_blocks(&self.blocks)
     }
 }

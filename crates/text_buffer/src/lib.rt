@@ -9,7 +9,6 @@ mod fault;
 mod find;
 mod forget;
 mod found;
-mod items;
 mod parted;
 mod piece;
 mod place;
@@ -19,8 +18,10 @@ mod rows;
 mod run;
 mod stretch;
 mod touched;
+mod weighed;
 
 pub use buffer::Buffer;
 pub use cursor::Cursor;
 pub use fault::{BufferFault, Stopped};
 pub use touched::Touched;
+pub use weighed::Weighed;

@@ -3,7 +3,7 @@ use Rattle.std.proofs.Common.{sym, ap, ◌∙◌, arith}
 use Rattle.std.proofs.lemmas.Str.{chars_from_encodes}
 use Rattle.rga_tree.specs.TextOf.{text}
 use Rattle.text_buffer.specs.Buffers.{paragraphs_in}
-use Rattle.live_document.specs.Keeping.{rows_held}
+use Rattle.live_document.specs.Keeping.{weight_held}
 use Rattle.live_document.proofs.Forgotten.{held-anew}
 use Rattle.live_document.proofs.following.catch_up.Goals as goal
 
@@ -16,4 +16,4 @@ pub returns-clause-kept : goal.returns-clause-kept
 returns-clause-kept c = λ width base at. c.in_ok-buffer.ensures.kept width base at.at_least at.at_most
 
 pub returns-clause-held : goal.returns-clause-held
-returns-clause-held c = let none = ap rows_held c.in_ok-buffer.ensures.nothing ∙ held-anew (paragraphs_in c.in_ok-buffer.field-0) in omega (arith, none)
+returns-clause-held c = let none = ap weight_held c.in_ok-buffer.ensures.nothing ∙ held-anew (paragraphs_in c.in_ok-buffer.field-0) in omega (arith, none)

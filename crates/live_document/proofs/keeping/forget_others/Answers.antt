@@ -12,11 +12,11 @@ returns-clause-inside c = inside-but c.args.buffer.now c.forget_but.new.self c.a
 pub returns-clause-held : goal.returns-clause-held
 returns-clause-held c =
     let h = held-but c.args.buffer.now c.forget_but.new.self c.args.from c.args.to c.requires.order c.requires.within c.forget_but.ensures.paragraphs c.forget_but.ensures.kept in
-    omega (arith, h, c.requires.rows)
+    omega (arith, h, c.requires.weight)
 
 pub returns-clause-bounded : goal.returns-clause-bounded
 returns-clause-bounded c =
     inr (outside-but c.args.buffer.now c.forget_but.new.self c.args.from c.args.to c.requires.order c.requires.within c.forget_but.ensures.paragraphs c.forget_but.ensures.kept)
 
-pub kept_items-kept-requires : goal.kept_items-kept-requires
-kept_items-kept-requires c = omega (arith, c.requires.held, c.requires.few)
+pub kept_weight-kept-requires : goal.kept_weight-kept-requires
+kept_weight-kept-requires c = omega (arith, c.requires.held, c.requires.few)

@@ -1,8 +1,8 @@
 -- One paragraph more is laid out, in front of those that are.
 use Rattle.std.proofs.Common.{◌≡◌, ◌+◌, ◌-◌, ◌<◌, ℕ, [], cond, length, get_or, slice_range, refl, sym, ap, ◌∙◌, inl, arith}
 use Rattle.text_buffer.specs.Buffers.{paragraphs_in}
-use Rattle.live_document.specs.Keeping.{flags, is_kept, rows_of_text, rows_of_texts}
-use Rattle.live_document.proofs.Marks.{marked-none, marked-up, count-up, count-none, rows-up, rows-none, cond-most}
+use Rattle.live_document.specs.Keeping.{flags, is_kept, rows_of_text, rows_of_texts, rows_weight}
+use Rattle.live_document.proofs.Marks.{marked-none, marked-up, count-up, count-none, rows-up, rows-none, weight-up, weight-none, cond-most}
 use Rattle.live_document.proofs.Stretches.{count-texts, count-flags}
 use Rattle.live_document.proofs.keeping.reach_up.Goals as goal
 
@@ -15,6 +15,8 @@ loop-first-init c = record {
   rows_are = sym (rows-none c.args.tables.now c.args.width c.args.base (paragraphs_in c.args.buffer.now) c.args.number);
   needed = λ h. absurd (omega arith);
   few = omega arith;
+  weight_is = sym (weight-none c.args.tables.now c.args.width c.args.base (paragraphs_in c.args.buffer.now) c.args.number);
+  most = omega arith;
   held_is = omega arith;
   made_few = omega arith;
   laid_are = sym (count-none (flags c.args.buffer.now) c.args.number);
@@ -38,7 +40,9 @@ loop-first-preserved c =
     let same = ap length h.paragraphs in
     let within : first < length (flags now) = omega arith in
     let many = rows-up c.args.tables.now c.args.width c.args.base texts from first c.args.number next (omega arith) (omega arith) in
+    let heavy = weight-up c.args.tables.now c.args.width c.args.base texts from first c.args.number next (omega arith) (omega arith) in
     let own = e.rows ∙ ap (λ ts. length (rows_of_text c.args.tables.now c.args.width c.args.base (get_or ts first []))) h.paragraphs in
+    let weigh = e.weight ∙ ap (λ ts. rows_weight (rows_of_text c.args.tables.now c.args.width c.args.base (get_or ts first []))) h.paragraphs in
     let marks = count-up (flags old) from first c.args.number next (omega arith) (omega arith) in
     let laid : c.in_ok-out.out.laid ≡ cond {A = ℕ} (is_kept (flags old) first) 0 1 = e.laid ∙ ap (λ b. cond {A = ℕ} b 0 1) (h.marked.outside first (inl (omega arith))) in
     record {
@@ -49,6 +53,8 @@ loop-first-preserved c =
       rows_are = omega (arith, h.rows_are, many, own);
       needed = λ before. (let same = ap (λ n. length (rows_of_texts c.args.tables.now c.args.width c.args.base (slice_range texts n c.args.number))) next in omega (arith, h.rows_are, same));
       few = omega (arith, h.few, e.few);
+      weight_is = omega (arith, h.weight_is, heavy, weigh);
+      most = omega (arith, h.most, e.most);
       held_is = omega (arith, h.held_is, e.held);
       made_few = omega (arith, h.made_few, e.made);
       laid_are = omega (arith, h.laid_are, marks, laid);

@@ -1,5 +1,6 @@
 -- What was reached has the window.
-use Rattle.std.proofs.Common.{◌≡◌, ◌⊎◌, ◌+◌, ◌-◌, ◌<◌, ◌≤◌, inl, inr, ℕ, true, [], not, drop, length, get_or, count_by, slice_range, sym, ap, subst, ◌∙◌, arith}
+use Rattle.std.proofs.Common.{◌≡◌, ◌⊎◌, ◌+◌, ◌*◌, ◌-◌, ◌<◌, ◌≤◌, inl, inr, ℕ, true, [], not, drop, length, get_or, count_by, slice_range, sym, ap, subst, ◌∙◌, arith}
+use Rattle.std.proofs.lemmas.Nat.{mul-le}
 use Rattle.std.proofs.lemmas.Option.{slice_get-get_or}
 use Rattle.std.proofs.lemmas.List.Elements.{All-take, All-drop}
 use Rattle.std.specs.List.{concat}
@@ -10,9 +11,9 @@ use Rattle.cell_grid.specs.Windows.{window_of}
 use Rattle.text_buffer.specs.Buffers.{KeptParagraph, bytes_in, paragraphs_in, text_in, IsSplit}
 use Rattle.text_buffer.specs.Edits.{IsParagraphOf}
 use Rattle.live_document.specs.Cost.{allowed, top_of, bottom_of, HasRow}
-use Rattle.live_document.specs.Keeping.{Rows, flags, is_kept, rows_held, held_outside, rows_of_texts, IsKeptAt, IsLaid}
+use Rattle.live_document.specs.Keeping.{Rows, flags, is_kept, weight_held, held_outside, rows_of_texts, rows_weight, IsKeptAt, IsLaid}
 use Rattle.live_document.specs.Showing.{window_in, IsRowOf}
-use Rattle.live_document.proofs.Marks.{marked-whole, laid-whole, rows-whole}
+use Rattle.live_document.proofs.Marks.{marked-whole, laid-whole, weight-whole}
 use Rattle.live_document.proofs.Forgotten.{held-most}
 use Rattle.live_document.proofs.Placing.{slice-map}
 use Rattle.live_document.proofs.Staying.{kept-stays}
@@ -23,8 +24,8 @@ use Rattle.live_document.proofs.showing.lay_window_out.Goals as goal
 pub overflow_add-own : goal.overflow_add-own
 overflow_add-own c = let n = count-texts c.args.buffer.now in omega (arith, n, c.in_ok-own.ensures.number.there, c.paragraph_count-count.ensures, c.paragraph_count-count.type_inv)
 
-pub forget_others-held-requires-clause-rows : goal.forget_others-held-requires-clause-rows
-forget_others-held-requires-clause-rows c =
+pub forget_others-held-requires-clause-weight : goal.forget_others-held-requires-clause-weight
+forget_others-held-requires-clause-weight c =
     let T = c.args.tables.now in
     let w = c.args.width in
     let base = c.args.base in
@@ -40,19 +41,24 @@ forget_others-held-requires-clause-rows c =
     let f = c.in_ok-up.up.number in
     let e = c.in_ok-down.down.number in
     let most = held-most T w base (slice_range b3 f e) (All-take (IsLaid T w base) (e - f) (drop f b3) (All-drop (IsLaid T w base) f b3 de.kept.laid)) in
-    let same = ap (λ ts. length (rows_of_texts T w base ts)) (sym (slice-map (λ (p : KeptParagraph Rows). p.points) b3 f e)) in
-    let old = ap (λ ts. length (rows_of_texts T w base (slice_range ts f e))) e03 in
-    let whole = rows-whole T w base texts f c.in_ok-own.own.number e ue.order (omega (arith, de.order)) (omega (arith, n0, oe.number.there)) in
-    let ups = ue.rows ∙ ap (λ ts. length (rows_of_texts T w base (slice_range ts f c.in_ok-own.own.number))) oe.paragraphs in
-    let downs = de.rows ∙ ap (λ ts. length (rows_of_texts T w base (slice_range ts (c.in_ok-own.own.number + 1) e))) e02 in
-    omega (arith, most, same, old, whole, ups, downs, oe.row.count)
+    let same = ap (λ ts. rows_weight (rows_of_texts T w base ts)) (sym (slice-map (λ (p : KeptParagraph Rows). p.points) b3 f e)) in
+    let old = ap (λ ts. rows_weight (rows_of_texts T w base (slice_range ts f e))) e03 in
+    let whole = weight-whole T w base texts f c.in_ok-own.own.number e ue.order (omega (arith, de.order)) (omega (arith, n0, oe.number.there)) in
+    let ups = ue.weight ∙ ap (λ ts. rows_weight (rows_of_texts T w base (slice_range ts f c.in_ok-own.own.number))) oe.paragraphs in
+    let downs = de.weight ∙ ap (λ ts. rows_weight (rows_of_texts T w base (slice_range ts (c.in_ok-own.own.number + 1) e))) e02 in
+    omega (arith, most, same, old, whole, ups, downs, oe.weight)
 
 pub forget_others-held-requires-clause-few : goal.forget_others-held-requires-clause-few
 forget_others-held-requires-clause-few c =
     let oe = c.in_ok-own.ensures in
     let ue = c.in_ok-up.ensures in
     let de = c.in_ok-down.ensures in
-    omega (arith, c.requires.held_few, oe.few, oe.made, ue.few, ue.made, de.few, de.made)
+    omega (arith, c.requires.held_few, oe.few, oe.most, oe.made, ue.few, ue.most, ue.made, de.few, de.most, de.made)
+
+pub overflow_mul-rows : goal.overflow_mul-rows
+overflow_mul-rows c =
+    let rows : c.max-rows.result ≤ 1_000_000 = omega (arith, c.requires.most, c.max.ensures, c.max-rows.ensures, c.cut_out-shown.ensures.count) in
+    omega (arith, mul-le c.max-rows.result (c.from.result + 1) 1_000_000 501 rows (omega (arith, c.from.ensures, c.requires.kept.at_most)))
 
 pub returns : goal.returns
 returns c =
@@ -120,6 +126,11 @@ returns c =
     (λ h. let same = ap (λ ts. length (rows_of_texts T w base (slice_range ts (own.number + 1) (down.number - 1)))) (e02 ∙ sym e04) in
     let n = de.needed h in omega (arith, n, same, c.saturating_sub-wanted_down.ensures)) in
     let shown = c.cut_out-shown.result in
+    let rows : c.max-rows.result ≤ 1_000_000 = omega (arith, c.requires.most, c.max.ensures, c.max-rows.ensures, c.cut_out-shown.ensures.count) in
+    let wide = mul-le c.max-rows.result (w + 1) 1_000_000 501 rows (omega (arith, at.at_most)) in
+    let broad = ap (λ n. c.max-rows.result * (n + 1)) c.from.ensures in
+    let most : c.max-rows.result * (c.from.result + 1) ≡ allowed c.args.most w shown.count =
+        broad ∙ ap (λ n. n * (w + 1)) (omega (arith, c.max.ensures, c.max-rows.ensures)) in
     record {
       kept = at;
       paragraphs = e04;
@@ -132,14 +143,14 @@ returns c =
       bottom = subst (λ ts. HasRow T w base ts (down.number - 1) (bottom_of place below (grid_rows T w base (encode_utf8_all (concat ts))))) e04 bottom;
       marked = λ k from to. inside k (omega (arith, from, c.cut_out-shown.ensures.first)) to;
       stays =
-          subst (λ (n : ℕ). held_outside b0 n down.number + rows_held (slice_range b4 n down.number) ≤ allowed c.args.most shown.count → (k : ℕ) → is_kept (flags b0) k ≡ true → is_kept (flags b4) k ≡ true)
+          subst (λ (n : ℕ). held_outside b0 n down.number + weight_held (slice_range b4 n down.number) ≤ allowed c.args.most w shown.count → (k : ℕ) → is_kept (flags b0) k ≡ true → is_kept (flags b4) k ≡ true)
           (sym c.cut_out-shown.ensures.first)
-          (kept-stays T w base b0 b3 b4 up.number down.number (allowed c.args.most shown.count) (omega (arith, ue.order, de.order)) (omega (arith, n0, n3, l3, de.within, e01, e02))
-          e03 fe.paragraphs whole fe.inside (λ few. fe.stays (omega (arith, few, c.max.ensures, c.max-allowed.ensures))) c.requires.kept.laid de.kept.laid at.laid);
-      bounded = subst (λ (n : ℕ). (rows_held b4 ≤ allowed c.args.most shown.count) ⊎ ((k : ℕ) → is_kept (flags b4) k ≡ true → (n ≤ k) × (k < down.number))) (sym c.cut_out-shown.ensures.first)
-          (elim fe.bounded [ inl some ↦ inl (omega (arith, some, c.max.ensures, c.max-allowed.ensures)) | inr none ↦ inr none ]);
+          (kept-stays T w base b0 b3 b4 up.number down.number (allowed c.args.most w shown.count) (omega (arith, ue.order, de.order)) (omega (arith, n0, n3, l3, de.within, e01, e02))
+          e03 fe.paragraphs whole fe.inside (λ few. fe.stays (subst (λ (n : ℕ). weight_held b3 ≤ n) (sym most) few)) c.requires.kept.laid de.kept.laid at.laid);
+      bounded = subst (λ (n : ℕ). (weight_held b4 ≤ allowed c.args.most w shown.count) ⊎ ((k : ℕ) → is_kept (flags b4) k ≡ true → (n ≤ k) × (k < down.number))) (sym c.cut_out-shown.ensures.first)
+          (elim fe.bounded [ inl some ↦ inl (subst (λ (n : ℕ). weight_held b4 ≤ n) most some) | inr none ↦ inr none ]);
       held = fe.held;
-      few = omega (arith, fe.few, ue.few, oe.few, de.few, c.max.ensures, c.max-allowed.ensures, c.cut_out-shown.ensures.count);
+      few = omega (arith, fe.few, ue.few, ue.most, oe.few, oe.most, de.few, de.most, rows, wide, broad);
       laid =
           laid-whole (flags b0) (flags b1) (flags b2) (flags b3) up.number own.number down.number (omega arith) ue.order (omega (arith, de.order)) oe.marks ue.marked de.marked
           own.laid up.laid down.laid (omega (arith, de.within)) oe.laid ue.laid de.laid

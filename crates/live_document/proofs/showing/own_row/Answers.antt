@@ -1,10 +1,10 @@
 -- The paragraph's rows rise, and the first begins by the place.
-use Rattle.std.proofs.Common.{◌-◌, ◌≤◌, [], length, get_or, take, sym, ap, subst, ◌∙◌, arith}
+use Rattle.std.proofs.Common.{◌≡◌, ◌-◌, ◌≤◌, [], length, get_or, take, sym, ap, subst, ◌∙◌, arith}
 use Rattle.std.specs.List.{concat}
 use Rattle.cell_grid.specs.Rows.{rows_of}
 use Rattle.text_buffer.specs.Buffers.{bytes_in, paragraphs_in, text_in}
 use Rattle.cell_grid.specs.Windows.{FirstPlacesRise, begins_by, row_at}
-use Rattle.live_document.specs.Keeping.{flags, rows_of_text}
+use Rattle.live_document.specs.Keeping.{flags, rows_of_text, rows_weight}
 use Rattle.live_document.specs.Showing.{IsRowOf}
 use Rattle.live_document.proofs.Beside.{rows_at-laid}
 use Rattle.live_document.proofs.Marks.{set-mark}
@@ -106,3 +106,8 @@ returns-clause-row c =
       count = e.rows;
       within = omega (arith, c.row_at.ensures.within, ap length rows, e.rows);
     })
+
+pub returns-clause-weight : goal.returns-clause-weight
+returns-clause-weight c =
+    subst (λ was. c.in_ok-out.out.weight ≡ rows_weight (rows_of_text c.args.tables.now c.args.width c.args.base (get_or (paragraphs_in was) c.paragraph_of-number.result []))) c.go_to.ensures
+    c.in_ok-out.ensures.weight

@@ -5,7 +5,7 @@ use Rattle.paragraphs.specs.Paragraphs.{paragraph_points}
 use Rattle.rga_tree.specs.TextOf.{text}
 use Rattle.text_buffer.specs.Buffers.{paragraphs_in}
 use Rattle.unicode_tables.specs.Tables.{TableValues}
-use Rattle.live_document.specs.Cost.{allowed, top_of, bottom_of, marks, rows_outside, unmarked, IsLaidOut}
+use Rattle.live_document.specs.Cost.{allowed, top_of, bottom_of, marks, weight_outside, unmarked, IsLaidOut}
 use Rattle.live_document.specs.Documents.{LiveDocument, counted}
 use Rattle.live_document.specs.Keeping.{is_kept, IsKeptAt}
 use Rattle.live_document.specs.Showing.{window_in}
@@ -33,9 +33,9 @@ returns-in-Ok-clause-laid c =
     let split = (caught.kept i.width i.base old).split ∙ ap₂ (λ (t : TableValues) (ps : List ℕ). paragraph_points t ps) c.deref.ensures caught.text in
     let texts = texts-counted after ∙ e.paragraphs ∙ split in
     let seen = live-caught i.behind i.tables.value i.desk.set i.buffer before caught.same caught.nothing split in
-    let outside = outside-held before o.shown.first o.end ∙ ap (λ ps. rows_outside ps o.shown.first o.end) seen in
+    let outside = outside-held before o.shown.first o.end ∙ ap (λ ps. weight_outside ps o.shown.first o.end) seen in
     let inside = slice-held after o.shown.first o.end in
-    let count = ap (allowed i.most.rows) (shown-count after o.shown e.at_hand) in
+    let count = ap (allowed i.most.rows i.width) (shown-count after o.shown e.at_hand) in
     let new : LiveDocument = record { desk = i.desk; tables = i.tables.value; width = i.width; base = i.base; paragraphs = map counted after; most = i.most.rows; window = window_in after o.shown; laid = o.laid } in
     subst (λ (d : LiveDocument). IsLaidOut d new c.args.place c.args.above c.args.below) c.self.view_is
     (record {

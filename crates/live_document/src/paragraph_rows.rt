@@ -1,0 +1,74 @@
+//! The rows that are kept of a paragraph.
+
+ghost use Rattle.std.specs.Prelude.{◌≡◌, ◌≤◌, length};
+ghost use Rattle.live_document.specs.Keeping.{rows_weight, Weigh};
+
+use cell_grid::Row;
+use std::marker::Model;
+use text_buffer::Weighed;
+
+/// The rows of a paragraph, counted from its start, and what they weigh.
+#[derive(Drop)]
+pub struct ParagraphRows {
+    rows: Vec<Row>,
+    weight: usize,
+}
+
+impl Model for ParagraphRows {
+    ghost use Rattle.std.specs.Prelude.{List};
+    ghost use Rattle.cell_grid.specs.Rows.{DrawnRow};
+
+    ghost Value = { List DrawnRow };
+
+    ghost use Rattle.live_document.specs.Keeping.{Weigh};
+
+    ghost view = { λ p. p.rows.items };
+
+    ghost invariant = { λ p. Weigh p.rows.items p.weight };
+}
+
+impl ParagraphRows {
+    pub fn of(rows: Vec<Row>) -> ParagraphRows
+        requires few { length rows.items ≤ 5_000_000 }
+        ensures { result ≡ rows.items }
+    {
+        let weight = weigh(&rows);
+        ParagraphRows { rows, weight }
+    }
+
+    #[inline]
+    pub fn as_slice(&self) -> &[Row]
+        ensures { result.now ≡ self.now }
+    {
+        self.rows.as_slice()
+    }
+
+    /// What they weigh: 1 each, and 1 for each of their runs of like clusters.
+    #[inline]
+    pub fn total(&self) -> usize
+        ensures { Weigh self.now result }
+    {
+        self.weight
+    }
+}
+
+impl Weighed for ParagraphRows {
+    ghost weight = { rows_weight };
+
+    #[inline]
+    fn weight(&self) -> usize {
+        self.weight
+    }
+}
+
+/// What rows weigh.
+fn weigh(rows: &[Row]) -> usize
+    requires few { length rows.now ≤ 5_000_000 }
+    ensures { Weigh rows.now result }
+{
+    let mut weight = 0;
+    for row in rows {
+        weight += 1 + row.run_count();
+    }
+    weight
+}
