@@ -31,8 +31,8 @@ fn shown_from(document: &mut Document, line: usize) -> Result<usize, Memory> {
     Ok(document.laid())
 }
 
-/// How many lines of the first window are laid out again at this width after so many windows were shown one below the other,
-/// where so many rows may be kept.
+/// How many lines are laid out again at this width after they were shown in so many windows, one below the other, where so many
+/// rows may be kept.
 fn laid_again(alloc: Global, width: u16, rows: usize, windows: usize) -> Result<usize, Memory>
     requires at_least { 2 ≤ width }
     requires at_most { width ≤ 500 }
@@ -43,13 +43,23 @@ fn laid_again(alloc: Global, width: u16, rows: usize, windows: usize) -> Result<
     for number in 0..windows {
         shown_from(&mut document, number.saturating_mul(ROWS))?;
     }
-    shown_from(&mut document, 0)
+    laid_of_first(&mut document, windows.saturating_mul(ROWS).min(LINES))
+}
+
+/// How many of the first lines, at least one, were not kept. A window of so many rows forgets none.
+fn laid_of_first(document: &mut Document, lines: usize) -> Result<usize, Memory>
+    requires { lines ≤ 400 }
+{
+    document.show(0, 0, lines.saturating_sub(1))?;
+    Ok(document.laid())
 }
 
 #[test]
 fn rows_of_some_windows_are_kept_and_of_many_forgotten(rt: HostRuntime) -> Result<(), Memory> {
     assert_eq!(rt; laid_again(rt.alloc(), WIDTH, 0, 20)?, 0);
-    assert_eq!(rt; laid_again(rt.alloc(), WIDTH, 0, 40)?, ROWS);
+    // Of 400 lines no more than 256 stay, and where more are kept an eighth of them goes, or little more.
+    let laid = laid_again(rt.alloc(), WIDTH, 0, 40)?;
+    assert!(rt; 144 <= laid && laid <= 186);
     Ok(())
 }
 
@@ -59,14 +69,16 @@ fn more_rows_are_kept_where_each_has_fewer_runs_than_columns(
 ) -> Result<(), Memory> {
     // 256 rows with a run for each of 4 columns weigh 1,280, and 400 lines 1,200.
     assert_eq!(rt; laid_again(rt.alloc(), 4, 0, 40)?, 0);
-    assert_eq!(rt; laid_again(rt.alloc(), 3, 0, 40)?, ROWS);
+    let laid = laid_again(rt.alloc(), 3, 0, 40)?;
+    assert!(rt; 59 <= laid && laid <= 112);
     Ok(())
 }
 
 #[test]
 fn as_many_rows_are_kept_as_were_asked_for(rt: HostRuntime) -> Result<(), Memory> {
     assert_eq!(rt; laid_again(rt.alloc(), WIDTH, LINES, 40)?, 0);
-    assert_eq!(rt; laid_again(rt.alloc(), WIDTH, LINES - 1, 40)?, ROWS);
+    let laid = laid_again(rt.alloc(), WIDTH, LINES - 1, 40)?;
+    assert!(rt; 1 <= laid && laid <= 50);
     // Those of four windows are more.
     assert_eq!(rt; laid_again(rt.alloc(), WIDTH, 100, 20)?, 0);
     Ok(())
@@ -87,7 +99,8 @@ fn the_next_window_forgets_what_is_too_much(rt: HostRuntime) -> Result<(), Memor
     document.keep_rows(0);
     assert_eq!(rt; shown_from(&mut document, 0)?, 0);
     assert_eq!(rt; shown_from(&mut document, 0)?, 0);
-    assert_eq!(rt; shown_from(&mut document, ROWS)?, ROWS);
+    let laid = laid_of_first(&mut document, LINES)?;
+    assert!(rt; 144 <= laid && laid <= 194);
     Ok(())
 }
 

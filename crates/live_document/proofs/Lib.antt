@@ -14,5 +14,6 @@ mod Taking
 mod Cost
 mod Runs
 mod Forgotten
+mod Thinned
 mod Staying
 mod Carried

@@ -52,8 +52,8 @@ abbrev pub allowed : (most width rows : ℕ) → ℕ
 allowed most width rows = max most (4 * max rows 64) * (width + 1)
 
 -- a window was laid out: its rows are those of the paragraphs from `first` up to `end`; so many of these were laid out as were
--- not kept, and all of them are kept now; what was kept of others stays, unless all weigh too much, and then of no others
--- anything is kept
+-- not kept, and all of them are kept now; what was kept of others stays, unless all weigh too much, and then so much of it goes
+-- that they do not, or all
 pub record IsLaidOut (old new : LiveDocument) (place above below : ℕ) : Type 0 where
   pub first : ℕ
   pub end : ℕ

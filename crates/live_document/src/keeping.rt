@@ -14,6 +14,9 @@ use std::alloc::Global;
 use text_buffer::Buffer;
 use unicode_tables::Tables;
 
+/// One paragraph of so many is forgotten at a time.
+const TURNS: usize = 8;
+
 /// How many rows may be kept, where a window doesn't need more.
 #[derive(Clone, Copy)]
 pub struct Most {
@@ -41,8 +44,8 @@ pub fn forget_rows(buffer: &mut Buffer<ParagraphRows>)
     buffer.forget_but(0, 0);
 }
 
-/// Drops the rows of all paragraphs but those from one number up to another, which weigh so much, where more is kept than the
-/// most. At most `held` is. Returns what is kept then at most.
+/// Where more is kept than the most, drops rows of other paragraphs than those from one number up to another, which weigh so
+/// much, until no more is kept, or of all others. At most `held` is kept. Returns what is kept then at most.
 pub fn forget_others(
     buffer: &mut Buffer<ParagraphRows>,
     from: usize,
@@ -72,8 +75,34 @@ pub fn forget_others(
     if kept <= most {
         return kept;
     }
+    let left = thin_out(buffer, from, to, most);
+    if left <= most {
+        return left;
+    }
     buffer.forget_but(from, to);
     weight
+}
+
+/// Drops the rows of one paragraph of so many at a time, but of none from one number up to another, until what is kept weighs no
+/// more than the most: then a window elsewhere still has most of its rows. Returns what is kept.
+fn thin_out(buffer: &mut Buffer<ParagraphRows>, from: usize, to: usize, most: usize) -> usize
+    requires { weight_held buffer.old ≤ 1_000_000_000_000_000 }
+    ensures paragraphs { paragraphs_in buffer.new ≡ paragraphs_in buffer.old }
+    ensures laid { (tables : TableValues) (width : ℕ) (base : Base) → All (IsLaid tables width base) buffer.old → All (IsLaid tables width base) buffer.new }
+    ensures inside { (k : ℕ) → from ≤ k → k < to → is_kept (flags buffer.new) k ≡ is_kept (flags buffer.old) k }
+    ensures within { weight_held (slice_range buffer.new from to) ≤ weight_held (slice_range buffer.old from to) }
+    ensures less { weight_held buffer.new ≤ weight_held buffer.old }
+    ensures held { result ≡ weight_held buffer.new }
+{
+    let first = from % TURNS;
+    for turn in 0..TURNS {
+        buffer.forget_in_turn(from, to, TURNS, (first + turn) % TURNS);
+        let left = buffer.kept_weight();
+        if left <= most {
+            return left;
+        }
+    }
+    buffer.kept_weight()
 }
 
 /// How many rows a paragraph has, what they weigh, how many paragraphs it took to lay out, 0 or 1, and what this made weighs.

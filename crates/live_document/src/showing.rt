@@ -95,7 +95,7 @@ fn own_row(
 }
 
 /// Lays out what isn't kept of the window round the row of a place. Where more is kept then than the most rows weigh with a run for
-/// each column, and than those of four such windows do, the rows of other paragraphs are forgotten, and else none.
+/// each column, and than those of four such windows do, so many rows of other paragraphs are forgotten, and else none.
 pub fn lay_window_out(
     alloc: Global,
     tables: &Tables,

@@ -1,6 +1,6 @@
 //! Blocks of paragraphs.
 
-ghost use Rattle.std.specs.Prelude.{◌≡◌, ◌+◌, ◌<◌, ◌≤◌, ◌++◌, ◌&&◌, nat_le, nat_lt, length, take, drop, slice_set, vec_len, IfOk, IfErr, OnOk, OnErr};
+ghost use Rattle.std.specs.Prelude.{◌≡◌, ◌+◌, ◌<◌, ◌≤◌, ◌++◌, length, take, drop, slice_set, vec_len, IfOk, IfErr, OnOk, OnErr};
 ghost use Rattle.std.specs.List.{concat};
 ghost use Rattle.text_buffer.specs.Buffers.{bytes_in};
 ghost use Rattle.text_buffer.specs.Pieces.{points_in, kept_of, kept_count};
@@ -8,6 +8,7 @@ ghost use Rattle.text_buffer.specs.Forgetting.{left_of};
 
 use crate::piece::{Piece, count_of};
 use crate::row::{drop_front, splice};
+use crate::spared::Spared;
 use bg_types::Memory;
 
 /// How many bytes and code points some paragraphs have, and of how many of them something is kept.
@@ -158,35 +159,31 @@ impl<K: Drop> Block<K> {
         self.kept = self.kept - was + is;
     }
 
-    /// Drops what is kept of all but its paragraphs from `from` up to `to`.
+    /// Drops what is kept of all but these of its paragraphs, of which the first has this number.
     #[inline(always)]
-    pub fn forget_but(&mut self, from: usize, to: usize)
+    pub fn forget_but(&mut self, spared: Spared, first: usize)
         requires few { bytes_in (concat (points_in self.old.pieces.items)) ≤ 9_000_000 }
+        requires step { 0 < spared.step }
+        requires first { first ≤ 9_000_000 }
         ensures points { points_in self.new.pieces.items ≡ points_in self.old.pieces.items }
-        ensures kept { kept_of self.new.pieces.items ≡ left_of from to (kept_of self.old.pieces.items) }
+        ensures kept { kept_of self.new.pieces.items ≡ left_of spared first (kept_of self.old.pieces.items) }
     {
         if self.kept == 0 {
             return;
         }
-        forget_outside(&mut self.pieces, from, to);
+        forget_outside(&mut self.pieces, spared, first);
         self.kept = sum_up(&self.pieces).kept;
     }
 }
 
-/// Drops what is kept of all but the paragraphs from `from` up to `to`.
-fn forget_outside<K: Drop>(pieces: &mut [Piece<K>], from: usize, to: usize)
+/// Drops what is kept of all but these paragraphs, of which the first has this number.
+fn forget_outside<K: Drop>(pieces: &mut [Piece<K>], spared: Spared, first: usize)
+    requires step { 0 < spared.step }
+    requires first { first ≤ 9_000_000 }
     ensures points { points_in pieces.new ≡ points_in pieces.old }
-    ensures kept { kept_of pieces.new ≡ left_of from to (kept_of pieces.old) }
+    ensures kept { kept_of pieces.new ≡ left_of spared first (kept_of pieces.old) }
 {
     for number in 0..pieces.len() {
-        pieces[number].forget_unless(is_between(number, from, to));
+        pieces[number].forget_unless(spared, first + number);
     }
-}
-
-/// Whether a number is one of those from `from` up to `to`.
-#[inline]
-fn is_between(number: usize, from: usize, to: usize) -> bool
-    ensures { result ≡ (nat_le from number && nat_lt number to) }
-{
-    from <= number && number < to
 }

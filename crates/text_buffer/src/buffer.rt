@@ -8,6 +8,7 @@ ghost use Rattle.paragraphs.specs.Paragraphs.{paragraphs};
 ghost use Rattle.bg_types.specs.Edit.{IsInRange, changed};
 ghost use Rattle.text_buffer.specs.Buffers.{bytes_in, paragraphs_in, kept_in, kept_but, kept_weight, text_in, IsSplit};
 ghost use Rattle.text_buffer.specs.Edits.{replaced, place_of, end_of, anew, all_changed, AreInRange, IsParagraphOf, IsTouched, AreTouched};
+ghost use Rattle.text_buffer.specs.Forgetting.{left_of};
 ghost use Rattle.text_buffer.specs.Runs.{IsStepOf};
 ghost use Rattle.text_buffer.specs.declared.fault.BufferFault.TheVariants.{TooLong};
 
@@ -23,6 +24,7 @@ use crate::found::{find, find_at};
 use crate::replace::blocks_of;
 use crate::rows::{kept_at, set_kept_in};
 use crate::run::{are_in_range, first_run};
+use crate::spared::Spared;
 use crate::stretch::{LIMIT, plan_edit};
 use crate::touched::Touched;
 use crate::weighed::{Weighed, of_blocks};
@@ -221,7 +223,32 @@ impl<K: Drop> Buffer<K> {
         ensures paragraphs { paragraphs_in self.new ≡ paragraphs_in self.old }
         ensures kept { kept_in self.new ≡ kept_but from to (kept_in self.old) }
     {
-        forget_but(&mut self.blocks, from, to);
+        self.forget_others(Spared::between(from, to));
+    }
+
+    /// Drops what is kept of each paragraph whose number leaves `turn` when it is divided by `step`, but of none from one number
+    /// up to another.
+    /// Cost: that of `forget_but`.
+    pub fn forget_in_turn(&mut self, from: usize, to: usize, step: usize, turn: usize)
+        requires { 0 < step }
+        ensures paragraphs { paragraphs_in self.new ≡ paragraphs_in self.old }
+        ensures kept { kept_in self.new ≡ left_of (record { from = from; to = to; step = step; turn = turn }) 0 (kept_in self.old) }
+    {
+        self.forget_others(Spared {
+            from,
+            to,
+            step,
+            turn,
+        });
+    }
+
+    /// Drops what is kept of all but these paragraphs.
+    fn forget_others(&mut self, spared: Spared)
+        requires { 0 < spared.step }
+        ensures paragraphs { paragraphs_in self.new ≡ paragraphs_in self.old }
+        ensures kept { kept_in self.new ≡ left_of spared 0 (kept_in self.old) }
+    {
+        forget_but(&mut self.blocks, spared);
     }
 
     /// Puts a text in the place of the code points from one place up to another, and tells which paragraphs it made anew; of

@@ -16,6 +16,7 @@ mod replace;
 mod row;
 mod rows;
 mod run;
+mod spared;
 mod stretch;
 mod touched;
 mod weighed;

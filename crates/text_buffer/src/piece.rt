@@ -1,8 +1,10 @@
 //! A paragraph as it is kept.
 
-ghost use Rattle.std.specs.Prelude.{◌≡◌, None, IfOk, is_some, cond, length, string_bytes};
+ghost use Rattle.std.specs.Prelude.{◌≡◌, ◌<◌, None, IfOk, is_some, cond, length, string_bytes};
 ghost use Rattle.paragraphs.specs.Text.{code_points};
+ghost use Rattle.text_buffer.specs.Forgetting.{stays};
 
+use crate::spared::Spared;
 use bg_types::Memory;
 use std::alloc::Global;
 
@@ -38,12 +40,16 @@ impl<K: Drop> Piece<K> {
         }
     }
 
-    /// Drops what is kept, unless that is to stay.
-    pub fn forget_unless(&mut self, stays: bool)
+    /// Drops what is kept, unless the paragraph with this number, which this is, is spared.
+    pub fn forget_unless(&mut self, spared: Spared, number: usize)
+        requires { 0 < spared.step }
         ensures text { self.new.text ≡ self.old.text }
-        ensures kept { self.new.kept ≡ cond stays self.old.kept None }
+        ensures kept { self.new.kept ≡ cond (stays spared number) self.old.kept None }
     {
-        if !stays {
+        if !self.kept.is_some() {
+            return;
+        }
+        if !spared.has(number) {
             self.kept = None;
         }
     }

@@ -15,8 +15,8 @@ loop-number-preserved g c =
     let now = c.loop-number.pieces in
     let i = c.loop-number.number in
     let d = c.index-pieces-number.result in
-    swept-more c.args.from c.args.to old now i c.loop-number.invariant d c.forget_unless.new.self (omega (arith, c.loop-number-test.true, c.loop-number.auto.pieces)) c.forget_unless.ensures.text
-    (c.forget_unless.ensures.kept ∙ ap (λ b. cond b (get_or now i d).kept None) c.is_between.ensures)
+    swept-more c.args.spared c.args.first old now i c.loop-number.invariant d c.forget_unless.new.self (omega (arith, c.loop-number-test.true, c.loop-number.auto.pieces)) c.forget_unless.ensures.text
+    c.forget_unless.ensures.kept
 
 pub returns-clause-points : goal.returns-clause-points
 returns-clause-points g c =
@@ -34,4 +34,4 @@ returns-clause-kept g c =
     let i = c.loop-number.number in
     let s = c.loop-number.invariant in
     let few : length now ≤ i = omega (arith, c.loop-number.auto.pieces, c.loop-number-test.false) in
-    sym (ap kept_of (take_all i now few)) ∙ s.kept ∙ ap (λ ps. left_of c.args.from c.args.to (kept_of ps)) (take_all i old (omega (arith, few, s.size)))
+    sym (ap kept_of (take_all i now few)) ∙ s.kept ∙ ap (λ ps. left_of c.args.spared c.args.first (kept_of ps)) (take_all i old (omega (arith, few, s.size)))

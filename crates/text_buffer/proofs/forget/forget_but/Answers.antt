@@ -1,5 +1,5 @@
 -- One row more is done.
-use Rattle.std.proofs.Common.{◌+◌, ◌<◌, ◌≤◌, [], length, map, get_or, refl, sym, ap, ap₂, subst, ◌∙◌, arith}
+use Rattle.std.proofs.Common.{◌+◌, ◌<◌, ◌≤◌, [], length, map, get_or, refl, sym, ap, subst, ◌∙◌, arith}
 use Rattle.std.proofs.lemmas.List.{take_all}
 use Rattle.std.proofs.Math.Seq.{map-set_same}
 use Rattle.std.specs.List.{concat}
@@ -23,7 +23,15 @@ forget_but_in-requires-clause-few g c =
     let s = c.loop-q.invariant.swept in
     let within : q < length old = omega (arith, c.loop-q-test.true, c.loop-q.auto.blocks) in
     let row = same-at (rows_of now) (rows_of old) q [] s.back in
-    omega (arith, ap (λ r. bytes_in (concat (points_in r))) row, bytes-row old q within, c.requires.bytes)
+    omega (arith, ap (λ r. bytes_in (concat (points_in r))) row, bytes-row old q within, c.requires.texts.bytes)
+
+pub forget_but_in-requires-clause-before : goal.forget_but_in-requires-clause-before
+forget_but_in-requires-clause-before g c =
+    let old = c.args.blocks.now in
+    let q = c.loop-q.q in
+    let s = c.loop-q.invariant.swept in
+    let within : q < length old = omega (arith, c.loop-q-test.true, c.loop-q.auto.blocks) in
+    omega (arith, s.before_is, texts-length old q within, c.requires.texts.paragraphs)
 
 pub overflow_add-before : goal.overflow_add-before
 overflow_add-before g c =
@@ -33,7 +41,7 @@ overflow_add-before g c =
     let s = c.loop-q.invariant.swept in
     let within : q < length old = omega (arith, c.loop-q-test.true, c.loop-q.auto.blocks) in
     let row = same-at (rows_of now) (rows_of old) q [] s.back in
-    omega (arith, s.before_is, ap length row, texts-length old q within, c.count_in-count.ensures, c.requires.paragraphs)
+    omega (arith, s.before_is, ap length row, texts-length old q within, c.count_in-count.ensures, c.requires.texts.paragraphs)
 
 pub loop-q-preserved : goal.loop-q-preserved
 loop-q-preserved g c =
@@ -43,11 +51,10 @@ loop-q-preserved g c =
     let s = c.loop-q.invariant.swept in
     let e = c.forget_but_in.ensures in
     let within : q < length (rows_of old) = omega (arith, c.loop-q-test.true, c.loop-q.auto.blocks, length-rows old) in
-    let kept = e.kept ∙ ap₂ (λ i j. left_of i j (kept_of (get_or (rows_of now) q []))) c.saturating_sub.ensures c.saturating_sub-in-loop-q.ensures in
-    let next = rows-swept c.args.from c.args.to (rows_of old) (rows_of now) q c.loop-q.before s (get_or (rows_of c.forget_but_in.new.blocks) q []) within e.points kept in
+    let next = rows-swept c.args.spared (rows_of old) (rows_of now) q c.loop-q.before s (get_or (rows_of c.forget_but_in.new.blocks) q []) within e.points e.kept in
     record {
-      swept = subst (λ b. AreSwept c.args.from c.args.to (rows_of old) (rows_of c.forget_but_in.new.blocks) (q + 1) (c.loop-q.before + b)) (sym c.count_in-count.ensures)
-          (subst (λ r. AreSwept c.args.from c.args.to (rows_of old) r (q + 1) (c.loop-q.before + length (get_or (rows_of now) q []))) (sym e.row) next);
+      swept = subst (λ b. AreSwept c.args.spared (rows_of old) (rows_of c.forget_but_in.new.blocks) (q + 1) (c.loop-q.before + b)) (sym c.count_in-count.ensures)
+          (subst (λ r. AreSwept c.args.spared (rows_of old) r (q + 1) (c.loop-q.before + length (get_or (rows_of now) q []))) (sym e.row) next);
       rows = ap (map points_in) e.row ∙ map-set_same points_in (rows_of now) q (get_or (rows_of c.forget_but_in.new.blocks) q []) [] e.points ∙ c.loop-q.invariant.rows;
     }
 
@@ -67,4 +74,4 @@ returns-clause-kept g c =
     let q = c.loop-q.q in
     let s = c.loop-q.invariant.swept in
     let few : length now ≤ q = omega (arith, s.size, length-rows c.loop-q.blocks, c.loop-q.auto.blocks, c.loop-q-test.false) in
-    sym (ap (λ r. kept_of (joined r)) (take_all q now few)) ∙ s.kept ∙ ap (λ r. left_of c.args.from c.args.to (kept_of (joined r))) (take_all q old (omega (arith, few, s.size)))
+    sym (ap (λ r. kept_of (joined r)) (take_all q now few)) ∙ s.kept ∙ ap (λ r. left_of c.args.spared 0 (kept_of (joined r))) (take_all q old (omega (arith, few, s.size)))

@@ -7,6 +7,6 @@ use Rattle.text_buffer.proofs.forget.forget_but.Given as goal
 
 abbrev pub invariant-loop-q : goal.invariant-loop-q
 invariant-loop-q g l = record {
-  swept : AreSwept l.from l.to (rows_of l.initial.blocks) (rows_of l.blocks) l.q l.before;
+  swept : AreSwept l.spared (rows_of l.initial.blocks) (rows_of l.blocks) l.q l.before;
   rows : map points_in (rows_of l.blocks) ≡ map points_in (rows_of l.initial.blocks);
 }

@@ -30,4 +30,4 @@ returns-clause-kept g c =
     let q = c.args.q in
     let x = c.forget_but.new.self in
     let here = ap (λ r. get_or r q []) (rows-set bs q x) ∙ get_or-set_same (rows_of bs) q x.pieces.items [] (omega (arith, length-rows bs, c.requires.block)) in
-    ap kept_of here ∙ c.forget_but.ensures.kept ∙ sym (ap (λ r. left_of c.args.from c.args.to (kept_of r)) (row-get bs q c.index-blocks-q.result c.requires.block))
+    ap kept_of here ∙ c.forget_but.ensures.kept ∙ sym (ap (λ r. left_of c.args.spared c.args.before (kept_of r)) (row-get bs q c.index-blocks-q.result c.requires.block))
