@@ -43,7 +43,7 @@ after-next k s =
 -- which cluster is further right stands earlier in the text at an odd level
 turned-next : (b : Bool) (f k : ℕ) (s : Span) → k < f
     → cond b (same_span (span_behind (span_after (cond b (f - (k + 1)) (k + 1)) s)) (span_after (cond b (f - k) k) s))
-        (same_span (span_behind (span_after (cond b (f - k) k) s)) (span_after (cond b (f - (k + 1)) (k + 1)) s)) ≡ true
+    (same_span (span_behind (span_after (cond b (f - k) k) s)) (span_after (cond b (f - (k + 1)) (k + 1)) s)) ≡ true
 turned-next true f k s lt =
     let one : f - (k + 1) + 1 ≡ f - k = omega arith in
     same-self (span_behind (span_after (f - (k + 1)) s)) (span_after (f - k) s) (after-next (f - (k + 1)) s ∙ ap (λ n. span_after n s) one)

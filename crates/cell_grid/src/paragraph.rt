@@ -198,7 +198,7 @@ pub fn rows(
     rows_with(alloc, tables, width, base, para, &mut lists)
 }
 
-/// The same, made in these lists.
+/// What `rows` answers, made in these lists.
 pub(crate) fn rows_with(
     alloc: Global,
     tables: &Tables,

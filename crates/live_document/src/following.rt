@@ -17,7 +17,11 @@ use text_buffer::Buffer;
 use unicode_tables::Tables;
 
 /// The paragraphs of a text of at most 4,000,000 bytes, beside which no rows are kept.
-pub fn buffer_of(alloc: Global, tables: &Tables, text: &str) -> Result<Buffer<ParagraphRows>, Memory>
+pub fn buffer_of(
+    alloc: Global,
+    tables: &Tables,
+    text: &str,
+) -> Result<Buffer<ParagraphRows>, Memory>
     ensures text { IfOk result (λ buffer. text_in buffer ≡ code_points text.now) }
     ensures nothing { IfOk result (λ buffer. buffer ≡ map anew (paragraphs_in buffer)) }
     ensures kept { IfOk result (λ buffer. (width : ℕ) (base : Base) → 2 ≤ width → width ≤ 500 → IsKeptAt tables.now width base buffer) }

@@ -122,7 +122,11 @@ pub fn print_shown<W: Sink>(
 }
 
 /// How many bytes they print.
-pub fn shown_size(tables: &Tables, buffer: &Buffer<ParagraphRows>, shown: Shown) -> Result<usize, Memory>
+pub fn shown_size(
+    tables: &Tables,
+    buffer: &Buffer<ParagraphRows>,
+    shown: Shown,
+) -> Result<usize, Memory>
     requires { IsReadable buffer.now shown.first shown.skip shown.count }
     ensures { IfOk result (λ size. size ≡ length (printed (shown_in tables.now buffer.now shown))) }
 {

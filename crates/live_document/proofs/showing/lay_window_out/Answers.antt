@@ -130,7 +130,7 @@ returns c =
     let wide = mul-le c.max-rows.result (w + 1) 1_000_000 501 rows (omega (arith, at.at_most)) in
     let broad = ap (λ n. c.max-rows.result * (n + 1)) c.from.ensures in
     let most : c.max-rows.result * (c.from.result + 1) ≡ allowed c.args.most w shown.count =
-        broad ∙ ap (λ n. n * (w + 1)) (omega (arith, c.max.ensures, c.max-rows.ensures)) in
+    broad ∙ ap (λ n. n * (w + 1)) (omega (arith, c.max.ensures, c.max-rows.ensures)) in
     record {
       kept = at;
       paragraphs = e04;
