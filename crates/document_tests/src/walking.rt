@@ -167,8 +167,8 @@ fn is_same(seen: &WindowRow, row: &Row) -> bool {
         && seen.para_level() == row.para_level()
         && seen.width() == row.width()
         && seen.entry_count() == row.entry_count();
-    for (n, entry) in row.entries().enumerate() {
-        right = n < seen.entry_count() && seen.entry(n) == entry && right;
+    for (shown, own) in seen.entries().zip(row.entries()) {
+        right = shown == own && right;
     }
     right
 }
