@@ -112,7 +112,8 @@ fn rows_that_edits_dropped_are_not_counted(rt: HostRuntime) -> Result<(), Memory
         WIDTH,
         &lines(rt.alloc())?,
     )?;
-    document.keep_rows(LINES);
+    // In the end the first line has four rows, which weigh as much as three of the others.
+    document.keep_rows(LINES + 2);
     for number in 0..40 {
         shown_from(&mut document, ROWS * number)?;
     }
