@@ -1,21 +1,32 @@
 //! The code points of a text.
 
-ghost use Rattle.std.specs.Prelude.{◌≡◌, IfOk};
+ghost use Rattle.std.specs.Prelude.{◌≡◌, IfOk, OnOk};
 ghost use Rattle.paragraphs.specs.Text.{code_points};
 
 use bg_types::Memory;
 use std::alloc::Global;
 
-/// The code points of a text.
-/// Cost: O(n), 4 bytes of memory a code point.
-pub fn code_points_of(alloc: Global, text: &str) -> Result<Vec<char>, Memory>
-    ensures { IfOk result (λ points. points.items ≡ code_points text.now) }
+/// Puts the code points of a text into a list, in place of what it has.
+/// Cost: O(n), 4 bytes of memory a byte of the text.
+pub fn code_points_into(points: &mut Vec<char>, text: &str) -> Result<(), Memory>
+    ensures { OnOk result (points.new.items ≡ code_points text.now) }
 {
+    points.clear();
     // No text has more characters than bytes.
-    let mut points = Vec::with_capacity(alloc, text.len())?;
+    points.reserve(text.len())?;
     let mut chars = text.chars();
     while let Some(c) = chars.next() {
         points.push_reserved(c);
     }
+    Ok(())
+}
+
+/// The code points of a text.
+/// Cost: O(n), 4 bytes of memory a byte of the text.
+pub fn code_points_of(alloc: Global, text: &str) -> Result<Vec<char>, Memory>
+    ensures { IfOk result (λ points. points.items ≡ code_points text.now) }
+{
+    let mut points = Vec::new(alloc);
+    code_points_into(&mut points, text)?;
     Ok(points)
 }

@@ -1,6 +1,6 @@
 //! The tables, and the looking up.
 
-ghost use Rattle.std.specs.Prelude.{◌≡◌, map, IfOk};
+ghost use Rattle.std.specs.Prelude.{◌≡◌, map, IfOk, OnOk};
 ghost use Rattle.std.specs.Str.{chars};
 
 use crate::bracket::Bracket;
@@ -101,15 +101,26 @@ impl Tables {
         self.words.at(c as usize)
     }
 
+    /// Puts the word of each of these characters into a list, in place of what it has.
+    /// Cost: O(n), 8 bytes of memory a character.
+    pub fn words_into(&self, words: &mut Vec<Word>, points: &[char]) -> Result<(), Memory>
+        ensures { OnOk result (words.new.items ≡ map (word_of self.now) points.now) }
+    {
+        words.clear();
+        words.reserve(points.len())?;
+        for c in points {
+            words.push_reserved(self.word(*c));
+        }
+        Ok(())
+    }
+
     /// The word of each of these characters.
     /// Cost: O(n), 8 bytes of memory a character.
     pub fn words_of_each(&self, alloc: Global, points: &[char]) -> Result<Vec<Word>, Memory>
         ensures { IfOk result (λ words. words.items ≡ map (word_of self.now) points.now) }
     {
-        let mut words = Vec::with_capacity(alloc, points.len())?;
-        for c in points {
-            words.push_reserved(self.word(*c));
-        }
+        let mut words = Vec::new(alloc);
+        self.words_into(&mut words, points)?;
         Ok(words)
     }
 

@@ -1,7 +1,7 @@
 -- The words so far are those of the code points so far, and there is room for the rest.
 use Rattle.std.proofs.Common.{◌≡◌, ◌≤◌, map, take, length, vec_len, vec_capacity}
 use Rattle.unicode_tables.specs.Word.{word_of}
-use Rattle.unicode_tables.proofs.tables.Tables.words_of_each.Given as goal
+use Rattle.unicode_tables.proofs.tables.Tables.words_into.Given as goal
 
 abbrev pub invariant-loop-c : goal.invariant-loop-c
 invariant-loop-c l = record {

@@ -2,13 +2,13 @@
 use Rattle.std.proofs.Common.{◌<◌, ◌+◌, ◌++◌, ◌∷◌, [], map, take, length, get_or, sym, ap, ◌∙◌, arith}
 use Rattle.std.proofs.lemmas.List.{map-append, take_all, take_more}
 use Rattle.unicode_tables.specs.Word.{word_of}
-use Rattle.unicode_tables.proofs.tables.Tables.words_of_each.Goals as goal
+use Rattle.unicode_tables.proofs.tables.Tables.words_into.Goals as goal
 
 pub loop-c-init : goal.loop-c-init
 loop-c-init c = record {
-  made = c.in_ok-words.ensures.items;
-  count = c.in_ok-words.ensures.len;
-  room = let all = c.in_ok-words.ensures.capacity in omega arith;
+  made = c.in_ok-reserve.ensures.items ∙ c.clear.ensures.items;
+  count = c.in_ok-reserve.ensures.len ∙ c.clear.ensures.len;
+  room = let none = c.clear.ensures.len in let kept = c.in_ok-reserve.ensures.len in let all = c.in_ok-reserve.ensures.ok in omega arith;
 }
 
 pub push_reserved-requires : goal.push_reserved-requires

@@ -1,19 +1,20 @@
 -- Each character takes a byte at least.
-use Rattle.std.proofs.Common.{length, sym, ap, subst, arith}
+use Rattle.std.proofs.Common.{length, sym, ap, subst, ◌∙◌, arith}
 use Rattle.std.proofs.lemmas.Str.{IsUtf8-past_char}
 use Rattle.std.specs.Str.{IsUtf8}
 use Rattle.paragraphs.proofs.Gathered.{past_char-shorter, points-start, points-on, points-end}
-use Rattle.paragraphs.proofs.points.code_points_of.Goals as goal
+use Rattle.paragraphs.proofs.points.code_points_into.Goals as goal
 
 pub loop-c-init : goal.loop-c-init
 loop-c-init c =
-    let none = c.in_ok-points.ensures.len in
-    let all = c.in_ok-points.ensures.capacity in
+    let none = c.clear.ensures.len in
+    let all = c.in_ok-reserve.ensures.ok in
+    let kept = c.in_ok-reserve.ensures.len in
     let same = c.chars-chars.ensures.rest in
     let long = ap length same in
     record {
       utf8 = subst IsUtf8 (sym same) c.utf8.text;
-      so_far = points-start _ _ _ c.in_ok-points.ensures.items same;
+      so_far = points-start _ _ _ (c.in_ok-reserve.ensures.items ∙ c.clear.ensures.items) same;
       room = omega arith;
     }
 
