@@ -4,7 +4,8 @@ ghost use Rattle.std.specs.Prelude.{◌≡◌, ◌++◌, ◌≤◌, length, IfOk
 ghost use Rattle.cell_grid.specs.Grids.{IsDrawable, paragraph_rows, grid_of, IsDrawn};
 
 use crate::laws_below::laws_below;
-use crate::paragraph::{Lists, rows_with};
+use crate::lists::Lists;
+use crate::paragraph::rows_with;
 use crate::row::Row;
 use bg_types::{Base, Memory};
 use paragraphs::{Para, split};
@@ -97,7 +98,7 @@ pub fn draw<'a>(
     let paragraphs = split(alloc, tables, text)?;
     // Each paragraph has at least one row.
     let mut rows = Vec::with_capacity(alloc, paragraphs.len())?;
-    let mut lists = Lists::for_width(alloc, width)?;
+    let mut lists = Lists::new(alloc);
     for para in &paragraphs {
         push_rows(alloc, tables, width, base, para, &mut lists, &mut rows)?;
     }

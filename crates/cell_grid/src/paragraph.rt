@@ -17,18 +17,17 @@ ghost use Rattle.cell_grid.specs.Parts.{IsWithin, left_of, AreFrom};
 ghost use Rattle.cell_grid.specs.Rows.{row_of, rows_of};
 ghost use Rattle.cell_grid.specs.Shifting.{MayShiftRow};
 
-use crate::cluster_run::ClusterRun;
 use crate::laws_below::laws_below;
+use crate::lists::{LineLists, Lists};
 use crate::part::Cursor;
 use crate::piece::cut;
 use crate::row::Row;
 use crate::separator::{is_separator_alone, separator_rows};
-use crate::stretch::Order;
 use bg_types::{Base, Bidi, Memory};
 use bidi_explicit::paragraph_level;
 use bidi_weak_neutral::levels_at;
-use line_break::{Line, Outline, lines_of, outline_of};
-use paragraphs::{Para, Span, code_points_of};
+use line_break::{Line, Outline, lines_into, outline_into};
+use paragraphs::{Para, Span, code_points_into};
 use reorder::levels_after_l1;
 use std::alloc::Global;
 use unicode_tables::{Tables, Word};
@@ -40,43 +39,22 @@ struct Material<'a> {
     text: &'a str,
     para_level: u8,
     /// The class of each code point.
-    classes: Vec<Bidi>,
+    classes: &'a [Bidi],
     /// The level of each code point.
-    levels: Vec<u8>,
-    clusters: Outline,
-}
-
-/// What a line's row is made of, in lists that are used for one line after the other.
-#[derive(Drop)]
-pub(crate) struct Lists {
-    /// The level of each code point.
-    levels: Vec<u8>,
-    pieces: Vec<ClusterRun>,
-    order: Order,
-}
-
-impl Lists {
-    /// Empty ones, with room for most lines of this width.
-    pub(crate) fn for_width(alloc: Global, width: u16) -> Result<Lists, Memory> {
-        let room = usize::from(width);
-        Ok(Lists {
-            levels: Vec::with_capacity(alloc, room)?,
-            pieces: Vec::with_capacity(alloc, room)?,
-            order: Order::new(alloc),
-        })
-    }
+    levels: &'a [u8],
+    clusters: &'a Outline,
 }
 
 /// Puts the levels of a line's code points, which has this extent in the paragraph's text, into a list, in place of what it
 /// has (L1).
 fn levels_in_line(levels: &mut Vec<u8>, material: &Material, whole: Span) -> Result<(), Memory>
-    requires classes { material.now.classes.items ≡ classes_of material.now.tables.now material.now.text.now }
-    requires levels { length material.now.levels.items ≡ length (code_points material.now.text.now) }
+    requires classes { material.now.classes.now ≡ classes_of material.now.tables.now material.now.text.now }
+    requires levels { length material.now.levels.now ≡ length (code_points material.now.text.now) }
     requires order { whole.first_place ≤ whole.end_place }
     requires within { whole.end_place ≤ length (code_points material.now.text.now) }
     ensures { OnOk result (levels.new.items ≡ levels_after_l1 material.now.para_level
         (slice_range (classes_of material.now.tables.now material.now.text.now) whole.first_place whole.end_place)
-        (slice_range material.now.levels.items whole.first_place whole.end_place)) }
+        (slice_range material.now.levels.now whole.first_place whole.end_place)) }
 {
     let first = whole.first_place as usize;
     let end = whole.end_place as usize;
@@ -91,21 +69,21 @@ fn row_of(
     material: &Material,
     width: u16,
     cursor: &mut Cursor,
-    lists: &mut Lists,
+    lists: &mut LineLists,
     line: Line,
 ) -> Result<Row, Memory>
     requires width { width ≤ 500 }
     requires size { length (clusters material.now.text.now) ≤ 4_000_000 }
-    requires classes { material.now.classes.items ≡ classes_of material.now.tables.now material.now.text.now }
-    requires levels { length material.now.levels.items ≡ length (code_points material.now.text.now) }
-    requires runs { AllHaveSome material.now.clusters.runs.items }
-    requires within { All IsWithin (left_of material.now.clusters.runs.items cursor.old) }
-    requires at_start { AreFrom material.now.tables.now material.now.text.now line.start (left_of material.now.clusters.runs.items cursor.old) }
+    requires classes { material.now.classes.now ≡ classes_of material.now.tables.now material.now.text.now }
+    requires levels { length material.now.levels.now ≡ length (code_points material.now.text.now) }
+    requires runs { AllHaveSome material.now.clusters.now.runs.items }
+    requires within { All IsWithin (left_of material.now.clusters.now.runs.items cursor.old) }
+    requires at_start { AreFrom material.now.tables.now material.now.text.now line.start (left_of material.now.clusters.now.runs.items cursor.old) }
     requires line { IsLine material.now.tables.now width material.now.text.now line }
     ensures row { IfOk result (λ row. row
-        ≡ row_of material.now.tables.now width material.now.para_level material.now.text.now material.now.levels.items line) }
-    ensures at_end { IfOk result (λ row. AreFrom material.now.tables.now material.now.text.now line.end (left_of material.now.clusters.runs.items cursor.new)) }
-    ensures within { IfOk result (λ row. All IsWithin (left_of material.now.clusters.runs.items cursor.new)) }
+        ≡ row_of material.now.tables.now width material.now.para_level material.now.text.now material.now.levels.now line) }
+    ensures at_end { IfOk result (λ row. AreFrom material.now.tables.now material.now.text.now line.end (left_of material.now.clusters.now.runs.items cursor.new)) }
+    ensures within { IfOk result (λ row. All IsWithin (left_of material.now.clusters.now.runs.items cursor.new)) }
 {
     let count = (line.end - line.start) as u32;
     let whole = cursor.extent(&material.clusters.runs, count);
@@ -134,46 +112,48 @@ fn rows_in(
     alloc: Global,
     material: &Material,
     width: u16,
-    lists: &mut Lists,
+    found: &mut Vec<Line>,
+    lists: &mut LineLists,
 ) -> Result<Vec<Row>, Memory>
     requires at_least { 2 ≤ width }
     requires at_most { width ≤ 500 }
     requires text { IsUtf8 material.now.text.now }
     requires size { length material.now.text.now ≤ 4_000_000 }
-    requires classes { material.now.classes.items ≡ classes_of material.now.tables.now material.now.text.now }
-    requires levels { length material.now.levels.items ≡ length (code_points material.now.text.now) }
-    requires some { AllHaveSome material.now.clusters.runs.items }
-    requires runs { AreFrom material.now.tables.now material.now.text.now 0 material.now.clusters.runs.items }
-    requires opportunities { material.now.clusters.opportunities.items ≡ opportunities_of (line_clusters material.now.tables.now material.now.text.now) }
+    requires classes { material.now.classes.now ≡ classes_of material.now.tables.now material.now.text.now }
+    requires levels { length material.now.levels.now ≡ length (code_points material.now.text.now) }
+    requires some { AllHaveSome material.now.clusters.now.runs.items }
+    requires runs { AreFrom material.now.tables.now material.now.text.now 0 material.now.clusters.now.runs.items }
+    requires opportunities { material.now.clusters.now.opportunities.items ≡ opportunities_of (line_clusters material.now.tables.now material.now.text.now) }
     ensures { IfOk result (λ rows. rows.items
-        ≡ map (row_of material.now.tables.now width material.now.para_level material.now.text.now material.now.levels.items)
+        ≡ map (row_of material.now.tables.now width material.now.para_level material.now.text.now material.now.levels.now)
         (lines material.now.tables.now material.now.text.now width)) }
 {
     laws_below();
-    let lines = lines_of(
-        alloc,
+    lines_into(
+        found,
         material.tables,
         material.text,
-        &material.clusters,
+        material.clusters,
         width,
     )?;
-    let mut rows = Vec::with_capacity(alloc, lines.len())?;
+    let mut rows = Vec::with_capacity(alloc, found.len())?;
     let mut cursor = Cursor::start();
-    for line in &lines {
+    for line in found.iter() {
         rows.push(row_of(alloc, material, width, &mut cursor, lists, *line)?)?;
     }
     Ok(rows)
 }
 
-/// The Bidi class that each of these words tells.
-fn classes_of(alloc: Global, words: &[Word]) -> Result<Vec<Bidi>, Memory>
-    ensures { IfOk result (λ classes. classes.items ≡ map (λ (w : Word). w.bidi) words.now) }
+/// Puts the Bidi class that each of these words tells into a list, in place of what it has.
+fn classes_into(classes: &mut Vec<Bidi>, words: &[Word]) -> Result<(), Memory>
+    ensures { OnOk result (classes.new.items ≡ map (λ (w : Word). w.bidi) words.now) }
 {
-    let mut classes = Vec::with_capacity(alloc, words.len())?;
+    classes.clear();
+    classes.reserve(words.len())?;
     for word in words {
         classes.push_reserved(word.bidi);
     }
-    Ok(classes)
+    Ok(())
 }
 
 /// The rows of a paragraph of at most 4,000,000 bytes at a width in columns, from the top, with bytes and
@@ -194,12 +174,13 @@ pub fn rows(
     ensures may_shift { IfOk result (λ rows. (bytes places : ℕ) → bytes + length para.now.text ≤ 4_000_000
         → places + length (code_points para.now.text) ≤ 4_000_000 → All (MayShiftRow bytes places) rows.items) }
 {
-    let mut lists = Lists::for_width(alloc, width)?;
+    let mut lists = Lists::new(alloc);
     rows_with(alloc, tables, width, base, para, &mut lists)
 }
 
-/// What `rows` answers, made in these lists.
-pub(crate) fn rows_with(
+/// What `rows` answers, made in these lists, whatever they have.
+/// Cost: O(n), at most 20 bytes of memory a cluster.
+pub fn rows_with(
     alloc: Global,
     tables: &Tables,
     width: u16,
@@ -220,18 +201,25 @@ pub(crate) fn rows_with(
     if is_separator_alone(tables, text) {
         return separator_rows(alloc, width, para_level, text);
     }
-    let points = code_points_of(alloc, text)?;
-    let words = tables.words_of_each(alloc, &points)?;
-    let classes = classes_of(alloc, &words)?;
-    let levels = levels_at(alloc, tables, para_level, &points, &classes)?;
-    let clusters = outline_of(alloc, tables, para, &points, &words)?;
+    code_points_into(&mut lists.points, text)?;
+    tables.words_into(&mut lists.words, &lists.points)?;
+    classes_into(&mut lists.classes, &lists.words)?;
+    let levels = levels_at(alloc, tables, para_level, &lists.points, &lists.classes)?;
+    outline_into(
+        &mut lists.clusters,
+        &mut lists.statuses,
+        tables,
+        para,
+        &lists.points,
+        &lists.words,
+    )?;
     let material = Material {
         tables,
         text,
         para_level,
-        classes,
-        levels,
-        clusters,
+        classes: &lists.classes,
+        levels: &levels,
+        clusters: &lists.clusters,
     };
-    rows_in(alloc, &material, width, lists)
+    rows_in(alloc, &material, width, &mut lists.lines, &mut lists.line)
 }

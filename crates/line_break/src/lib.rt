@@ -18,8 +18,8 @@ mod status_table;
 
 pub use class::is_one_of;
 pub use cluster::{Cluster, is_space};
-pub use line::{Line, lines, lines_of};
+pub use line::{Line, lines, lines_into};
 pub use opportunity::{Boundary, Opportunity};
-pub use outline::{Outline, outline_of};
+pub use outline::{Outline, outline_into};
 pub use run::ShapeRun;
 pub use status::{Break, opportunities};

@@ -1,6 +1,6 @@
 //! The lines of a paragraph.
 
-ghost use Rattle.std.specs.Prelude.{◌≡◌, ◌≤◌, IfOk, length, slice_range};
+ghost use Rattle.std.specs.Prelude.{◌≡◌, ◌≤◌, IfOk, OnOk, length, slice_range};
 ghost use Rattle.std.specs.List.{flat_map};
 ghost use Rattle.paragraphs.specs.Clusters.{clusters};
 ghost use Rattle.line_break.specs.Cursors.{AreRunsOf};
@@ -10,7 +10,7 @@ ghost use Rattle.line_break.specs.Opportunities.{opportunities_of};
 
 use crate::cursor::Cursor;
 use crate::open::Open;
-use crate::outline::{Outline, outline_of};
+use crate::outline::{Outline, outline_into};
 use bg_types::Memory;
 use paragraphs::{Para, code_points_of, laws};
 use std::alloc::Global;
@@ -38,36 +38,41 @@ pub fn lines(alloc: Global, tables: &Tables, para: &Para, width: u16) -> Result<
 {
     let points = code_points_of(alloc, para.text())?;
     let words = tables.words_of_each(alloc, &points)?;
-    let outline = outline_of(alloc, tables, para, &points, &words)?;
-    lines_of(alloc, tables, para.text(), &outline, width)
+    let mut outline = Outline::new(alloc);
+    let mut statuses = Vec::new(alloc);
+    outline_into(&mut outline, &mut statuses, tables, para, &points, &words)?;
+    let mut found = Vec::new(alloc);
+    lines_into(&mut found, tables, para.text(), &outline, width)?;
+    Ok(found)
 }
 
-/// The lines of a paragraph of at most 4,000,000 bytes, as `lines` gives them, from its outline.
+/// Puts the lines of a paragraph of at most 4,000,000 bytes, as `lines` gives them, from its outline into a list, in place
+/// of what it has.
 /// Cost: O(n) of the runs and the opportunities, and of the clusters that are cut where no opportunity fits; memory for
 /// the lines.
-pub fn lines_of(
-    alloc: Global,
+pub fn lines_into(
+    found: &mut Vec<Line>,
     tables: &Tables,
     text: &str,
     outline: &Outline,
     width: u16,
-) -> Result<Vec<Line>, Memory>
+) -> Result<(), Memory>
     requires size { length text.now ≤ 4_000_000 }
     requires runs { AreRunsOf tables.now text.now outline.now.runs.items }
     requires opportunities { outline.now.opportunities.items ≡ opportunities_of (line_clusters tables.now text.now) }
     requires width { 2 ≤ width }
-    ensures { IfOk result (λ v. v.items ≡ lines tables.now text.now width) }
+    ensures { OnOk result (found.new.items ≡ lines tables.now text.now width) }
 {
     laws::clusters_join();
-    let mut lines = Vec::new(alloc);
+    found.clear();
     if text.is_empty() {
-        lines.push(Line { start: 0, end: 0 })?;
-        return Ok(lines);
+        found.push(Line { start: 0, end: 0 })?;
+        return Ok(());
     }
     let mut open = Open::first();
     let mut cursor = Cursor::start();
     while let Some(line) = open.next_line(&mut cursor, tables, text, outline, width as u32) {
-        lines.push(line)?;
+        found.push(line)?;
     }
-    Ok(lines)
+    Ok(())
 }

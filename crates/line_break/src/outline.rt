@@ -1,6 +1,6 @@
 //! The clusters of a paragraph.
 
-ghost use Rattle.std.specs.Prelude.{◌≡◌, ◌+◌, ◌++◌, ◌^◌, ◌<◌, ◌≤◌, [], length, map, true, IfOk, OnOk};
+ghost use Rattle.std.specs.Prelude.{◌≡◌, ◌+◌, ◌++◌, ◌^◌, ◌<◌, ◌≤◌, [], length, map, true, OnOk};
 ghost use Rattle.std.specs.List.{flat_map};
 ghost use Rattle.unicode_tables.specs.Word.{word_of};
 ghost use Rattle.paragraphs.specs.Text.{code_points};
@@ -13,7 +13,7 @@ ghost use Rattle.line_break.specs.Runs.{AllHaveSome, AreJoined, EndsAt, are_long
 use crate::measure::Measure;
 use crate::opportunity::{Boundary, Opportunity, offer};
 use crate::run::ShapeRun;
-use crate::status::statuses_of;
+use crate::status::{Break, statuses_into};
 use bg_types::Memory;
 use paragraphs::{Para, Span, laws};
 use std::alloc::Global;
@@ -29,16 +29,25 @@ pub struct Outline {
 }
 
 impl Outline {
-    /// That of no clusters yet, with room for what most texts have of so many: three of them a run, and four between
+    /// That of no clusters. Takes no memory.
+    pub fn new(alloc: Global) -> Outline {
+        Outline {
+            runs: Vec::new(alloc),
+            opportunities: Vec::new(alloc),
+        }
+    }
+
+    /// Empties it, and makes room for what most texts have of so many clusters: three of them a run, and four between
     /// opportunities.
-    fn with_room(alloc: Global, clusters: usize) -> Result<Outline, Memory>
-        ensures runs { IfOk result (λ o. o.runs.items ≡ []) }
-        ensures opportunities { IfOk result (λ o. o.opportunities.items ≡ []) }
+    fn begin(&mut self, clusters: usize) -> Result<(), Memory>
+        ensures runs { OnOk result (self.new.runs.items ≡ []) }
+        ensures opportunities { OnOk result (self.new.opportunities.items ≡ []) }
     {
-        Ok(Outline {
-            runs: Vec::with_capacity(alloc, clusters / 3)?,
-            opportunities: Vec::with_capacity(alloc, clusters / 4)?,
-        })
+        self.runs.clear();
+        self.opportunities.clear();
+        self.runs.reserve(clusters / 3)?;
+        self.opportunities.reserve(clusters / 4)?;
+        Ok(())
     }
 }
 
@@ -76,31 +85,33 @@ fn join(runs: &mut Vec<ShapeRun>, last: &mut ShapeRun, next: ShapeRun) -> Result
     Ok(())
 }
 
-/// The clusters of a paragraph of at most 4,000,000 bytes, which has these code points with
-/// these words. It is cut into clusters once, and each is measured once.
+/// Puts the clusters of a paragraph of at most 4,000,000 bytes, which has these code points with
+/// these words, into an outline, in place of what it has. The paragraph is cut into clusters once, and
+/// each is measured once. `statuses` is a list to work in, whatever it has.
 /// Cost: O(n), memory for the clusters.
-pub fn outline_of(
-    alloc: Global,
+pub fn outline_into(
+    outline: &mut Outline,
+    statuses: &mut Vec<Break>,
     tables: &Tables,
     para: &Para,
     points: &[char],
     words: &[Word],
-) -> Result<Outline, Memory>
+) -> Result<(), Memory>
     requires size { length para.now.text ≤ 4_000_000 }
     requires points { points.now ≡ code_points para.now.text }
     requires words { words.now ≡ map (word_of tables.now) points.now }
-    ensures spans { IfOk result (λ o. flat_map spans_of o.runs.items ≡ spans para.now.text) }
-    ensures sizes { IfOk result (λ o. flat_map sizes_of o.runs.items ≡ cluster_sizes para.now.text) }
-    ensures columns { IfOk result (λ o. flat_map columns_of o.runs.items ≡ map (λ c. c.columns) (line_clusters tables.now para.now.text)) }
-    ensures some { IfOk result (λ o. AllHaveSome o.runs.items) }
-    ensures longest { IfOk result (λ o. are_longest o.runs.items ≡ true) }
-    ensures opportunities { IfOk result (λ o. o.opportunities.items ≡ opportunities_of (line_clusters tables.now para.now.text)) }
+    ensures spans { OnOk result (flat_map spans_of outline.new.runs.items ≡ spans para.now.text) }
+    ensures sizes { OnOk result (flat_map sizes_of outline.new.runs.items ≡ cluster_sizes para.now.text) }
+    ensures columns { OnOk result (flat_map columns_of outline.new.runs.items ≡ map (λ c. c.columns) (line_clusters tables.now para.now.text)) }
+    ensures some { OnOk result (AllHaveSome outline.new.runs.items) }
+    ensures longest { OnOk result (are_longest outline.new.runs.items ≡ true) }
+    ensures opportunities { OnOk result (outline.new.opportunities.items ≡ opportunities_of (line_clusters tables.now para.now.text)) }
 {
     laws::clusters_join();
     laws::cluster_places();
-    let statuses = statuses_of(alloc, words)?;
+    statuses_into(statuses, words)?;
     // No paragraph has more clusters than code points.
-    let mut outline = Outline::with_room(alloc, points.len())?;
+    outline.begin(points.len())?;
     let length = para.text().len();
     let mut clusters = para.clusters();
     let mut byte = 0;
@@ -129,5 +140,5 @@ pub fn outline_of(
         place = span.end_place;
     }
     close(&mut outline.runs, last)?;
-    Ok(outline)
+    Ok(())
 }

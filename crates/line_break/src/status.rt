@@ -1,6 +1,6 @@
 //! The statuses of a paragraph's boundaries.
 
-ghost use Rattle.std.specs.Prelude.{◌≡◌, IfOk, map};
+ghost use Rattle.std.specs.Prelude.{◌≡◌, IfOk, OnOk, map};
 ghost use Rattle.line_break.specs.Items.{point_of_word};
 ghost use Rattle.line_break.specs.Statuses.{statuses, breaks};
 ghost use Rattle.line_break.specs.Lines.{is_must, is_break};
@@ -46,24 +46,27 @@ pub fn opportunities(alloc: Global, tables: &Tables, para: &Para) -> Result<Vec<
 {
     let points = code_points_of(alloc, para.text())?;
     let words = tables.words_of_each(alloc, &points)?;
-    statuses_of(alloc, &words)
+    let mut after = Vec::new(alloc);
+    statuses_into(&mut after, &words)?;
+    Ok(after)
 }
 
-/// The status of the boundary after each of a paragraph's code points, which have these words, in
-/// order.
-pub(crate) fn statuses_of(alloc: Global, words: &[Word]) -> Result<Vec<Break>, Memory>
-    ensures { IfOk result (λ v. v.items ≡ statuses (map point_of_word words.now)) }
+/// Puts the status of the boundary after each of a paragraph's code points, which have these words, in
+/// order, into a list, in place of what it has.
+pub(crate) fn statuses_into(after: &mut Vec<Break>, words: &[Word]) -> Result<(), Memory>
+    ensures { OnOk result (after.new.items ≡ statuses (map point_of_word words.now)) }
 {
-    let mut statuses = Vec::with_capacity(alloc, words.len())?;
+    after.clear();
+    after.reserve(words.len())?;
     let Some(first) = words.first() else {
-        return Ok(statuses);
+        return Ok(());
     };
     let mut state = State::start().next(column_of(first));
     for word in &words[1..] {
         let column = column_of(word);
-        statuses.push_reserved(state.status_before(column));
+        after.push_reserved(state.status_before(column));
         state = state.next(column);
     }
-    statuses.push_reserved(Break::Must);
-    Ok(statuses)
+    after.push_reserved(Break::Must);
+    Ok(())
 }

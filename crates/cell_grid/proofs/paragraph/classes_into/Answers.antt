@@ -3,7 +3,7 @@ use Rattle.std.proofs.Common.{◌≡◌, ℕ, List, ◌<◌, ◌+◌, ◌++◌, 
 use Rattle.std.proofs.lemmas.List.{map-append, take_all, take_more}
 use Rattle.bg_types.specs.declared.class.Bidi.{Bidi}
 use Rattle.unicode_tables.specs.declared.word.Word.{Word}
-use Rattle.cell_grid.proofs.paragraph.classes_of.Goals as goal
+use Rattle.cell_grid.proofs.paragraph.classes_into.Goals as goal
 
 -- the class of one more
 made-on : (words : List Word) (i : ℕ) (d : Word) → i < length words → (classes more : List Bidi) → classes ≡ map (λ (w : Word). w.bidi) (take i words)
@@ -14,9 +14,9 @@ made-on words i d lt classes more made put =
 
 pub loop-word-init : goal.loop-word-init
 loop-word-init c = record {
-  made = c.in_ok-classes.ensures.items;
-  count = c.in_ok-classes.ensures.len;
-  room = let all = c.in_ok-classes.ensures.capacity in omega arith;
+  made = c.in_ok-reserve.ensures.items ∙ c.clear.ensures.items;
+  count = c.in_ok-reserve.ensures.len ∙ c.clear.ensures.len;
+  room = let none = c.clear.ensures.len in let kept = c.in_ok-reserve.ensures.len in let all = c.in_ok-reserve.ensures.ok in omega arith;
 }
 
 pub push_reserved-requires : goal.push_reserved-requires

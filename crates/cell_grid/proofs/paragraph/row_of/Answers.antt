@@ -26,20 +26,20 @@ extent-whole-requires-clause-clusters c =
 pub levels_in_line-requires-clause-order : goal.levels_in_line-requires-clause-order
 levels_in_line-requires-clause-order c =
     let m = c.args.material.now in
-    let runs = left_of m.clusters.runs.items c.args.cursor.now in
+    let runs = left_of m.clusters.now.runs.items c.args.cursor.now in
     let count = c.args.line.end - c.args.line.start in
     let line = line-next m.tables.now m.text.now c.args.line (c.args.line.end - c.args.line.start) runs c.requires.line.order refl c.requires.at_start in
     let at = c.extent-whole.ensures ∙ ap (λ (l : List ShapeRun). extent (take (c.args.line.end - c.args.line.start) (all_spans (left_of l c.args.cursor.now)))) c.deref.ensures.value in
-    whole-order m.tables.now c.args.width m.para_level m.text.now m.levels.items c.args.line c.requires.line count runs line c.extent-whole.result at
+    whole-order m.tables.now c.args.width m.para_level m.text.now m.levels.now c.args.line c.requires.line count runs line c.extent-whole.result at
 
 pub levels_in_line-requires-clause-within : goal.levels_in_line-requires-clause-within
 levels_in_line-requires-clause-within c =
     let m = c.args.material.now in
-    let runs = left_of m.clusters.runs.items c.args.cursor.now in
+    let runs = left_of m.clusters.now.runs.items c.args.cursor.now in
     let count = c.args.line.end - c.args.line.start in
     let line = line-next m.tables.now m.text.now c.args.line (c.args.line.end - c.args.line.start) runs c.requires.line.order refl c.requires.at_start in
     let at = c.extent-whole.ensures ∙ ap (λ (l : List ShapeRun). extent (take (c.args.line.end - c.args.line.start) (all_spans (left_of l c.args.cursor.now)))) c.deref.ensures.value in
-    whole-within m.tables.now c.args.width m.para_level m.text.now m.levels.items c.args.line c.requires.line count runs line c.extent-whole.result at
+    whole-within m.tables.now c.args.width m.para_level m.text.now m.levels.now c.args.line c.requires.line count runs line c.extent-whole.result at
 
 pub cut-requires-clause-clusters : goal.cut-requires-clause-clusters
 cut-requires-clause-clusters c =
@@ -50,12 +50,12 @@ cut-requires-clause-clusters c =
 pub cut-requires-clause-levels : goal.cut-requires-clause-levels
 cut-requires-clause-levels c =
     let m = c.args.material.now in
-    let runs = left_of m.clusters.runs.items c.args.cursor.now in
+    let runs = left_of m.clusters.now.runs.items c.args.cursor.now in
     let count = c.args.line.end - c.args.line.start in
     let line = line-next m.tables.now m.text.now c.args.line (c.args.line.end - c.args.line.start) runs c.requires.line.order refl c.requires.at_start in
     let at = c.extent-whole.ensures ∙ ap (λ (l : List ShapeRun). extent (take (c.args.line.end - c.args.line.start) (all_spans (left_of l c.args.cursor.now)))) c.deref.ensures.value in
     ap (λ (l : List ShapeRun). sum (take count (all_sizes (left_of l c.args.cursor.now)))) c.deref-2.ensures.value
-    ∙ after-long m.tables.now c.args.width m.para_level m.text.now m.levels.items c.args.line c.requires.line count runs line c.extent-whole.result at c.levels_in_line.new.levels.items c.requires.levels c.in_ok-levels_in_line.ensures
+    ∙ after-long m.tables.now c.args.width m.para_level m.text.now m.levels.now c.args.line c.requires.line count runs line c.extent-whole.result at c.levels_in_line.new.levels.items c.requires.levels c.in_ok-levels_in_line.ensures
     ∙ sym (ap length c.deref-3.ensures.value)
 
 pub of_pieces-requires-clause-room : goal.of_pieces-requires-clause-room
@@ -69,7 +69,7 @@ of_pieces-requires-clause-room c =
 pub of_pieces-requires-clause-whole : goal.of_pieces-requires-clause-whole
 of_pieces-requires-clause-whole c =
     let m = c.args.material.now in
-    let runs = left_of m.clusters.runs.items c.args.cursor.now in
+    let runs = left_of m.clusters.now.runs.items c.args.cursor.now in
     let count = c.args.line.end - c.args.line.start in
     let line = line-next m.tables.now m.text.now c.args.line (c.args.line.end - c.args.line.start) runs c.requires.line.order refl c.requires.at_start in
     let at = c.extent-whole.ensures ∙ ap (λ (l : List ShapeRun). extent (take (c.args.line.end - c.args.line.start) (all_spans (left_of l c.args.cursor.now)))) c.deref.ensures.value in
@@ -88,7 +88,7 @@ of_pieces-requires-clause-count c =
 pub returns-clause-row : goal.returns-clause-row
 returns-clause-row c =
     let m = c.args.material.now in
-    let runs = left_of m.clusters.runs.items c.args.cursor.now in
+    let runs = left_of m.clusters.now.runs.items c.args.cursor.now in
     let count = c.args.line.end - c.args.line.start in
     let line = line-next m.tables.now m.text.now c.args.line (c.args.line.end - c.args.line.start) runs c.requires.line.order refl c.requires.at_start in
     let at = c.extent-whole.ensures ∙ ap (λ (l : List ShapeRun). extent (take (c.args.line.end - c.args.line.start) (all_spans (left_of l c.args.cursor.now)))) c.deref.ensures.value in
@@ -99,15 +99,15 @@ returns-clause-row c =
     let same_columns = c.in_ok-cut.ensures.columns ∙ ap (λ (l : List ShapeRun). hung c.args.width (take count (all_columns (left_of l c.args.cursor.now)))) c.deref-2.ensures.value in
     IfOk-weaker c.of_pieces.result _ _
     (λ row e. e ∙ ap (λ (l : List ClusterRun). row_with c.args.width m.para_level (spans_of l) (levels_of l) (columns_of l)) c.deref-4.ensures.value
-    ∙ row-pieces m.tables.now c.args.width m.para_level m.text.now m.levels.items c.args.line c.requires.line count runs line c.extent-whole.result at c.levels_in_line.new.levels.items c.requires.levels
+    ∙ row-pieces m.tables.now c.args.width m.para_level m.text.now m.levels.now c.args.line c.requires.line count runs line c.extent-whole.result at c.levels_in_line.new.levels.items c.requires.levels
     c.in_ok-levels_in_line.ensures c.cut.new.pieces.items same_spans same_levels same_columns)
     c.of_pieces.ensures
 
 pub returns-clause-at_end : goal.returns-clause-at_end
 returns-clause-at_end c =
     let m = c.args.material.now in
-    let runs = left_of m.clusters.runs.items c.args.cursor.now in
-    let next = left_of m.clusters.runs.items c.cut.new.cursor in
+    let runs = left_of m.clusters.now.runs.items c.args.cursor.now in
+    let next = left_of m.clusters.now.runs.items c.cut.new.cursor in
     let count = c.args.line.end - c.args.line.start in
     let passed = subst (λ (l : List ShapeRun). ArePassed count (left_of l c.args.cursor.now) (left_of l c.cut.new.cursor)) c.deref-2.ensures.value c.in_ok-cut.ensures.passed in
     IfOk-weaker c.of_pieces.result _ _

@@ -13,14 +13,14 @@ use Rattle.cell_grid.proofs.Counting.{few-clusters}
 use Rattle.cell_grid.proofs.LinesOf.{IsLine-lines}
 use Rattle.cell_grid.proofs.paragraph.rows_in.Goals as goal
 
-pub lines_of-requires-clause-runs : goal.lines_of-requires-clause-runs
-lines_of-requires-clause-runs c = record { spans = c.requires.runs.spans; columns = c.requires.runs.columns }
+pub lines_into-requires-clause-runs : goal.lines_into-requires-clause-runs
+lines_into-requires-clause-runs c = record { spans = c.requires.runs.spans; columns = c.requires.runs.columns }
 
 pub loop-line-init : goal.loop-line-init
 loop-line-init c =
     let m = c.args.material.now in
-    let runs = m.clusters.runs.items in
-    let items = c.deref-line-items.ensures.value ∙ c.in_ok-lines.ensures in
+    let runs = m.clusters.now.runs.items in
+    let items = c.deref-line-items.ensures.value ∙ c.in_ok-lines_into.ensures in
     record {
       made = c.in_ok-rows.ensures.items;
       ahead = record {
@@ -40,7 +40,7 @@ row_of-requires-clause-at_start c =
     let i = c.loop-line.line-index in
     let d : Line = record { start = 0; end = 0 } in
     let line : Line = get_or items i d in
-    let left = left_of m.clusters.runs.items c.loop-line.cursor in
+    let left = left_of m.clusters.now.runs.items c.loop-line.cursor in
     ahead-here m.tables.now m.text.now (get_or items i d) (drop (i + 1) items) left
     (subst (λ (l : List Line). AreAhead m.tables.now m.text.now l left) (drop-next items i (get_or items i d) d c.loop-line-test.true refl) c.loop-line.invariant.ahead)
 
@@ -56,7 +56,7 @@ row_of-requires-clause-line c =
     let d : Line = record { start = 0; end = 0 } in
     let tables = c.args.material.now.tables.now in
     let text = c.args.material.now.text.now in
-    let items = c.deref-line-items.ensures.value ∙ c.in_ok-lines.ensures in
+    let items = c.deref-line-items.ensures.value ∙ c.in_ok-lines_into.ensures in
     let lt = subst (λ (l : List Line). i < length l) items c.loop-line-test.true in
     subst (λ (l : List Line). IsLine tables c.args.width text (get_or l i d)) (sym items)
     (IsLine-lines c.laws_below.ensures tables text c.requires.text c.args.width c.requires.at_least i d lt)
@@ -68,9 +68,9 @@ loop-line-preserved c =
     let d : Line = record { start = 0; end = 0 } in
     let line : Line = get_or items i d in
     let m = c.args.material.now in
-    let f : Line → DrawnRow = row_of m.tables.now c.args.width m.para_level m.text.now m.levels.items in
-    let left = left_of m.clusters.runs.items c.loop-line.cursor in
-    let next = left_of m.clusters.runs.items c.row_of.new.cursor in
+    let f : Line → DrawnRow = row_of m.tables.now c.args.width m.para_level m.text.now m.levels.now in
+    let left = left_of m.clusters.now.runs.items c.loop-line.cursor in
+    let next = left_of m.clusters.now.runs.items c.row_of.new.cursor in
     record {
       made =
           c.in_ok-push.ensures.items
@@ -88,7 +88,7 @@ loop-line-preserved c =
 pub returns : goal.returns
 returns c =
     let m = c.args.material.now in
-    let f : Line → DrawnRow = row_of m.tables.now c.args.width m.para_level m.text.now m.levels.items in
-    let items = c.deref-line-items.ensures.value ∙ c.in_ok-lines.ensures in
+    let f : Line → DrawnRow = row_of m.tables.now c.args.width m.para_level m.text.now m.levels.now in
+    let items = c.deref-line-items.ensures.value ∙ c.in_ok-lines_into.ensures in
     c.loop-line.invariant.made
     ∙ ap (map f) (take-whole c.deref-line-items.result.now c.loop-line.line-index c.loop-line-test.false ∙ items)

@@ -8,7 +8,7 @@ use Rattle.cell_grid.proofs.paragraph.rows_in.Given as goal
 
 abbrev pub invariant-loop-line : goal.invariant-loop-line
 invariant-loop-line l = record {
-  made : l.rows.items ≡ map (row_of l.material.tables.now l.width l.material.para_level l.material.text.now l.material.levels.items) (take l.line-index l.line-items);
-  ahead : AreAhead l.material.tables.now l.material.text.now (drop l.line-index l.line-items) (left_of l.material.clusters.runs.items l.cursor);
-  within : All IsWithin (left_of l.material.clusters.runs.items l.cursor);
+  made : l.rows.items ≡ map (row_of l.material.tables.now l.width l.material.para_level l.material.text.now l.material.levels.now) (take l.line-index l.line-items);
+  ahead : AreAhead l.material.tables.now l.material.text.now (drop l.line-index l.line-items) (left_of l.material.clusters.now.runs.items l.cursor);
+  within : All IsWithin (left_of l.material.clusters.now.runs.items l.cursor);
 }

@@ -74,41 +74,41 @@ returns-then-is_separator_alone-clause-may_shift c =
 
 pub levels_at-requires-clause-classes : goal.levels_at-requires-clause-classes
 levels_at-requires-clause-classes c =
-    points-lent c.args.tables.now _ _ _ _ c.deref-4.ensures.value (classes-told c.args.tables.now _ _ _ _ c.in_ok-classes.ensures c.deref-2.ensures.value c.in_ok-words.ensures) (c.deref.ensures.value ∙ sym c.deref-3.ensures.value)
+    points-lent c.args.tables.now _ _ _ _ c.deref-4.ensures.value (classes-told c.args.tables.now _ _ _ _ c.in_ok-classes_into.ensures c.deref-2.ensures.value c.in_ok-words_into.ensures) (c.deref.ensures.value ∙ sym c.deref-3.ensures.value)
 
 pub rows_in-requires-clause-text : goal.rows_in-requires-clause-text
 rows_in-requires-clause-text c = c.text-text.utf8
 
 pub rows_in-requires-clause-classes : goal.rows_in-requires-clause-classes
 rows_in-requires-clause-classes c =
-    classes-told c.args.tables.now _ _ _ _ c.in_ok-classes.ensures c.deref-2.ensures.value c.in_ok-words.ensures
-    ∙ ap (map (bidi_of c.args.tables.now)) (c.deref.ensures.value ∙ c.in_ok-points.ensures)
+    c.deref-7.ensures.value ∙ classes-told c.args.tables.now _ _ _ _ c.in_ok-classes_into.ensures c.deref-2.ensures.value c.in_ok-words_into.ensures
+    ∙ ap (map (bidi_of c.args.tables.now)) (c.deref.ensures.value ∙ c.in_ok-code_points_into.ensures)
 
 pub rows_in-requires-clause-levels : goal.rows_in-requires-clause-levels
-rows_in-requires-clause-levels c = c.in_ok-levels.ensures.one_each ∙ ap length (c.deref-3.ensures.value ∙ c.in_ok-points.ensures)
+rows_in-requires-clause-levels c = ap length c.deref-8.ensures.value ∙ c.in_ok-levels.ensures.one_each ∙ ap length (c.deref-3.ensures.value ∙ c.in_ok-code_points_into.ensures)
 
 pub rows_in-requires-clause-runs : goal.rows_in-requires-clause-runs
 rows_in-requires-clause-runs c =
     let text = sym c.text-text.ensures in
     record {
-      spans = c.in_ok-clusters.ensures.spans ∙ ap spans text;
-      sizes = c.in_ok-clusters.ensures.sizes ∙ ap cluster_sizes text;
-      columns = c.in_ok-clusters.ensures.columns ∙ ap (own_columns c.args.tables.now) text;
+      spans = c.in_ok-outline_into.ensures.spans ∙ ap spans text;
+      sizes = c.in_ok-outline_into.ensures.sizes ∙ ap cluster_sizes text;
+      columns = c.in_ok-outline_into.ensures.columns ∙ ap (own_columns c.args.tables.now) text;
     }
 
 pub rows_in-requires-clause-opportunities : goal.rows_in-requires-clause-opportunities
 rows_in-requires-clause-opportunities c =
-    c.in_ok-clusters.ensures.opportunities ∙ ap (λ (t : List ℕ). opportunities_of (line_clusters c.args.tables.now t)) (sym c.text-text.ensures)
+    c.in_ok-outline_into.ensures.opportunities ∙ ap (λ (t : List ℕ). opportunities_of (line_clusters c.args.tables.now t)) (sym c.text-text.ensures)
 
 pub returns-clause-rows : goal.returns-clause-rows
 returns-clause-rows c =
     let tables = c.args.tables.now in
     let text = c.args.para.now.text in
     let level = c.paragraph_level-para_level.ensures.level in
-    let own = levels-are tables text c.args.base _ _ _ _ c.in_ok-levels.ensures.levels (c.deref-3.ensures.value ∙ c.in_ok-points.ensures ∙ ap code_points c.text-text.ensures)
-    (points-lent tables _ _ _ _ c.deref-4.ensures.value (classes-told c.args.tables.now _ _ _ _ c.in_ok-classes.ensures c.deref-2.ensures.value c.in_ok-words.ensures) (c.deref.ensures.value ∙ sym c.deref-3.ensures.value)) level in
+    let own = levels-are tables text c.args.base _ _ _ _ c.in_ok-levels.ensures.levels (c.deref-3.ensures.value ∙ c.in_ok-code_points_into.ensures ∙ ap code_points c.text-text.ensures)
+    (points-lent tables _ _ _ _ c.deref-4.ensures.value (classes-told c.args.tables.now _ _ _ _ c.in_ok-classes_into.ensures c.deref-2.ensures.value c.in_ok-words_into.ensures) (c.deref.ensures.value ∙ sym c.deref-3.ensures.value)) level in
     IfOk-weaker c.rows_in.result _ _
-    (λ rows made. rows-are tables c.args.width c.args.base text c.text-text.result.now c.paragraph_level-para_level.result c.in_ok-levels.levels.items rows.items made level c.text-text.ensures own)
+    (λ rows made. rows-are tables c.args.width c.args.base text c.text-text.result.now c.paragraph_level-para_level.result c.deref-8.result.now rows.items made level c.text-text.ensures (c.deref-8.ensures.value ∙ own))
     c.rows_in.ensures
 
 pub returns-clause-may_shift : goal.returns-clause-may_shift

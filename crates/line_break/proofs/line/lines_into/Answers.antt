@@ -8,12 +8,12 @@ use Rattle.line_break.specs.LineClusters.{line_clusters}
 use Rattle.line_break.specs.Open.{IsOpen, lines_left}
 use Rattle.line_break.proofs.LinesLeft.{line_of, lines_of-nil, lines_of-left, some_from_test}
 use Rattle.line_break.proofs.Reading.{no-lines, some-lines}
-use Rattle.line_break.proofs.line.lines_of.Goals as goal
+use Rattle.line_break.proofs.line.lines_into.Goals as goal
 
 pub returns-then-is_empty : goal.returns-then-is_empty
 returns-then-is_empty c =
     let text = c.args.text.now in
-    c.in_ok-push.ensures.items ∙ ap (λ ls. ls ++ line_of 0 0 ∷ []) c.new-lines.ensures.items
+    c.in_ok-push.ensures.items ∙ ap (λ ls. ls ++ line_of 0 0 ∷ []) c.clear.ensures.items
     ∙ sym (lines_of-nil c.args.width (line_clusters c.args.tables.now text)
     (no-lines c.args.tables.now text (c.clusters_join.ensures.joined text c.utf8.text) (c.clusters_join.ensures.some text) (eqb-true (length text) 0 (sym c.if-is_empty.ensures))))
 
@@ -27,7 +27,7 @@ loop-line-init c =
           (c.first-open.ensures.state cl c.args.width);
       cursor = subst (IsBefore c.args.outline.now.runs.items c.start-cursor.result) (sym c.first-open.ensures.start) (c.start-cursor.ensures c.args.outline.now.runs.items);
       so_far =
-          ap (λ ls. ls ++ lines_left cl c.args.width c.first-open.result.start.clusters) c.new-lines.ensures.items
+          ap (λ ls. ls ++ lines_left cl c.args.width c.first-open.result.start.clusters) c.clear.ensures.items
           ∙ ap (lines_left cl c.args.width) c.first-open.ensures.start
           ∙ lines_of-left c.args.width cl (some-lines c.args.tables.now text (c.clusters_join.ensures.joined text c.utf8.text) (some_from_test (length text) c.if-is_empty.ensures));
     }

@@ -20,7 +20,7 @@ use Rattle.line_break.proofs.Measuring.{length-breaks, IsMeasuredTo-start, line_
 use Rattle.line_break.proofs.Offering.{breaks_in, end-start, breaks-start, end-on, breaks-on, breaks-all}
 use Rattle.line_break.proofs.Measuring.{cluster-some as points-some, cluster-fits as points-within}
 use Rattle.line_break.proofs.Outlining.{IsUtf8-concat, IsOutlinedTo-start, cluster-some, cluster-fits, cluster-points, cluster-end, IsOutlinedTo-at, spans-end, sizes-end}
-use Rattle.line_break.proofs.outline.outline_of.Goals as goal
+use Rattle.line_break.proofs.outline.outline_into.Goals as goal
 
 -- no run yet
 none-before : (runs : List ShapeRun) (last : ShapeRun) → runs ≡ [] → last ≡ no_run → runs ++ if_some last ≡ []
@@ -35,18 +35,18 @@ loop-clusters-init c =
     record {
       outlined =
           IsOutlinedTo-start text _ _ _ given.clusters given.utf8 given.some given.joined
-          (ap (flat_map spans_of) (none-before _ _ c.in_ok-outline.ensures.runs c.empty-last.ensures))
-          (ap (flat_map sizes_of) (none-before _ _ c.in_ok-outline.ensures.runs c.empty-last.ensures));
+          (ap (flat_map spans_of) (none-before _ _ c.in_ok-begin.ensures.runs c.empty-last.ensures))
+          (ap (flat_map sizes_of) (none-before _ _ c.in_ok-begin.ensures.runs c.empty-last.ensures));
       measured =
           IsMeasuredTo-start c.args.tables.now text _ _ given.clusters given.utf8
           (c.cluster_places.ensures.some text u) (c.cluster_places.ensures.sum text u) none;
-      gathered = AreGathered-start _ _ (none-before _ _ c.in_ok-outline.ensures.runs c.empty-last.ensures) none;
+      gathered = AreGathered-start _ _ (none-before _ _ c.in_ok-begin.ensures.runs c.empty-last.ensures) none;
       ends = subst (λ (run : ShapeRun). EndsAt run 0 0) (sym c.empty-last.ensures) (record { few = omega arith; bytes = omega arith; places = omega arith });
-      first = λ none. c.in_ok-outline.ensures.runs;
+      first = λ none. c.in_ok-begin.ensures.runs;
       within = omega arith;
       count = let first = ap (λ (b : Boundary). b.clusters) c.before_all-end.ensures in omega arith;
       end = c.before_all-end.ensures ∙ end-start _ none;
-      offered = breaks-start _ _ none c.in_ok-outline.ensures.opportunities;
+      offered = breaks-start _ _ none c.in_ok-begin.ensures.opportunities;
     }
 
 pub read_next-requires-clause-some : goal.read_next-requires-clause-some
@@ -98,7 +98,7 @@ index-requires c =
     let fits = points-within t p _ _ c.loop-clusters.place c.loop-clusters.invariant.measured cluster _ at in
     let some = points-some t p _ _ c.loop-clusters.place c.loop-clusters.invariant.measured cluster _ at in
     let size = ap (λ (x : Measure). x.size) (c.read_next.ensures.next c.loop-clusters-test.true).measured in
-    let all = ap length (breaks-of t p c.args.points.now c.args.words.now _ c.requires.points c.requires.words c.in_ok-statuses.ensures) in
+    let all = ap length (breaks-of t p c.args.points.now c.args.words.now _ c.requires.points c.requires.words c.in_ok-statuses_into.ensures) in
     omega arith
 
 pub loop-clusters-smaller : goal.loop-clusters-smaller
@@ -158,8 +158,8 @@ loop-clusters-preserved c =
     let done = first_lines t p c.loop-clusters.end.clusters in
     let own =
     c.cluster-cluster.ensures
-    ∙ measured-is t (code_points cluster) c.in_ok-statuses.statuses.items (breaks t p) c.loop-clusters.place here.size
-    here.columns here.is_space c.index.result.now (breaks-of t p c.args.points.now c.args.words.now _ c.requires.points c.requires.words c.in_ok-statuses.ensures) size some fits columns is_space c.index.ensures in
+    ∙ measured-is t (code_points cluster) c.statuses_into.new.after.items (breaks t p) c.loop-clusters.place here.size
+    here.columns here.is_space c.index.result.now (breaks-of t p c.args.points.now c.args.words.now _ c.requires.points c.requires.words c.in_ok-statuses_into.ensures) size some fits columns is_space c.index.ensures in
     let on = ap (λ (b : Boundary). b.clusters) c.behind-end.ensures in
     let put : first_lines t p c.behind-end.result.clusters ≡ done ++ c.cluster-cluster.result ∷ [] =
     ap (first_lines t p) on ∙ first_lines-on t p _ c.loop-clusters.end.clusters c.loop-clusters.place m cluster _ at c.cluster-cluster.result own in

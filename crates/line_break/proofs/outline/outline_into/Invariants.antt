@@ -6,7 +6,7 @@ use Rattle.line_break.proofs.Gathering.{AreGathered}
 use Rattle.line_break.proofs.Measuring.{first_lines, IsMeasuredTo}
 use Rattle.line_break.proofs.Offering.{breaks_in, end_of}
 use Rattle.line_break.proofs.Outlining.{IsOutlinedTo}
-use Rattle.line_break.proofs.outline.outline_of.Given as goal
+use Rattle.line_break.proofs.outline.outline_into.Given as goal
 
 abbrev pub invariant-loop-clusters : goal.invariant-loop-clusters
 invariant-loop-clusters l = record {

@@ -1,13 +1,10 @@
 -- The statuses of the paragraph's code points.
 use Rattle.std.proofs.Common.{ap, ◌∙◌}
-use Rattle.std.proofs.lemmas.Result.{IfOk-weaker}
 use Rattle.paragraphs.specs.Text.{code_points}
 use Rattle.line_break.proofs.Marking.{breaks-of}
 use Rattle.line_break.proofs.status.opportunities.Goals as goal
 
 pub returns : goal.returns
 returns c =
-    IfOk-weaker c.statuses_of.result _ _
-    (λ v e. breaks-of c.args.tables.now c.args.para.now.text c.deref.result.now c.deref-2.result.now _
-    (c.deref.ensures.value ∙ c.in_ok-points.ensures ∙ ap code_points c.text.ensures) (c.deref-2.ensures.value ∙ c.in_ok-words.ensures) e)
-    c.statuses_of.ensures
+    breaks-of c.args.tables.now c.args.para.now.text c.deref.result.now c.deref-2.result.now _
+    (c.deref.ensures.value ∙ c.in_ok-points.ensures ∙ ap code_points c.text.ensures) (c.deref-2.ensures.value ∙ c.in_ok-words.ensures) c.in_ok-statuses_into.ensures

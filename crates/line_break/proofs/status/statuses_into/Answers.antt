@@ -1,17 +1,17 @@
 -- Each step over a word adds the status before its code point.
-use Rattle.std.proofs.Common.{[], arith}
+use Rattle.std.proofs.Common.{[], ◌∙◌, arith}
 use Rattle.line_break.proofs.Marking.{words-first, IsMarkedTo-start, IsMarkedTo-on, statuses-end, next-word, no_word}
-use Rattle.line_break.proofs.status.statuses_of.Goals as goal
+use Rattle.line_break.proofs.status.statuses_into.Goals as goal
 
 pub loop-word-init : goal.loop-word-init
 loop-word-init c = record {
   marked =
       IsMarkedTo-start c.args.words.now c.in-Some.first.now _ _ _
       (words-first c.args.words.now c.in-Some.first.now c.in-Some.ensures.value)
-      c.in_ok-statuses.ensures.items
+      (c.in_ok-reserve.ensures.items ∙ c.clear.ensures.items)
       (c.next-state.ensures [] c.start.ensures _ c.column_of.ensures);
-  count = c.in_ok-statuses.ensures.len;
-  room = let all = c.in_ok-statuses.ensures.capacity in omega arith;
+  count = c.in_ok-reserve.ensures.len ∙ c.clear.ensures.len;
+  room = let none = c.clear.ensures.len in let kept = c.in_ok-reserve.ensures.len in let all = c.in_ok-reserve.ensures.ok in omega arith;
 }
 
 pub loop-word-preserved : goal.loop-word-preserved

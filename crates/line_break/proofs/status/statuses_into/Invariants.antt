@@ -1,11 +1,11 @@
 -- The statuses are known up to the place, and there is room for those of the words that are left.
 use Rattle.std.proofs.Common.{◌≡◌, ◌≤◌, ◌+◌, length, drop, vec_len, vec_capacity}
 use Rattle.line_break.specs.Marked.{IsMarkedTo}
-use Rattle.line_break.proofs.status.statuses_of.Given as goal
+use Rattle.line_break.proofs.status.statuses_into.Given as goal
 
 abbrev pub invariant-loop-word : goal.invariant-loop-word
 invariant-loop-word l = record {
-  marked : IsMarkedTo l.words (drop (1 + l.word-index) l.words) l.statuses.items l.state.number;
-  count : vec_len l.statuses ≡ l.word-index;
-  room : length l.words ≤ vec_capacity l.statuses;
+  marked : IsMarkedTo l.words (drop (1 + l.word-index) l.words) l.after.items l.state.number;
+  count : vec_len l.after ≡ l.word-index;
+  room : length l.words ≤ vec_capacity l.after;
 }
