@@ -9,7 +9,7 @@ ghost use Rattle.view_cache.specs.KeptParagraphs.{AreLaid, nothing_kept, IsNewes
 
 use crate::key::Key;
 use bg_types::{Base, Memory};
-use cell_grid::{Row, rows};
+use cell_grid::{Lists, Row, rows_with};
 use lru::LruCache;
 use paragraphs::Para;
 use std::alloc::Global;
@@ -87,11 +87,33 @@ impl KeptRows {
         ensures laid { AreLaid tables.now self.old → AreLaid tables.now self.new }
         ensures err { OnErr result (self.new ≡ self.old) }
     {
+        let mut lists = Lists::new(alloc);
+        self.keep_with(alloc, tables, width, base, para, &mut lists)
+    }
+
+    /// What `keep` does; a paragraph is laid out in these lists, whatever they have.
+    pub(crate) fn keep_with(
+        &mut self,
+        alloc: Global,
+        tables: &Tables,
+        width: u16,
+        base: Base,
+        para: &Para,
+        lists: &mut Lists,
+    ) -> Result<bool, Memory>
+        requires at_least { 2 ≤ width }
+        requires at_most { width ≤ 500 }
+        requires size { length para.now.text ≤ 4_000_000 }
+        ensures use_ok { IfOk result (λ anew. IsUse (paragraph_key para.now.text width base) self.old anew self.new) }
+        ensures newest { OnOk result (IsNewest (paragraph_key para.now.text width base) self.new) }
+        ensures laid { AreLaid tables.now self.old → AreLaid tables.now self.new }
+        ensures err { OnErr result (self.new ≡ self.old) }
+    {
         let key = Key::of(alloc, self.hash_key, para.text(), width, base)?;
         if self.kept.promote(&key) {
             return Ok(false);
         }
-        let rows = rows(alloc, tables, width, base, para)?;
+        let rows = rows_with(alloc, tables, width, base, para, lists)?;
         self.kept.put(key, rows)?;
         Ok(true)
     }

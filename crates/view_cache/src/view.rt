@@ -12,7 +12,7 @@ ghost use Rattle.view_cache.specs.Drawings.{empty_view, paragraph_keys, IsDrawin
 use crate::kept_rows::KeptRows;
 use bg_types::{Base, Memory};
 use cell_grid::laws::rows_may_shift;
-use cell_grid::{Grid, Row};
+use cell_grid::{Grid, Lists, Row};
 use paragraphs::{Para, split};
 use std::alloc::Global;
 use std::marker::Model;
@@ -114,7 +114,8 @@ impl<'a> View<'a> {
     {
         let paragraphs = split(self.alloc, self.tables, text)?;
         let mut rows = Vec::new(self.alloc);
-        let laid = self.push_each(width, base, &paragraphs, &mut rows)?;
+        let mut lists = Lists::new(self.alloc);
+        let laid = self.push_each(width, base, &paragraphs, &mut lists, &mut rows)?;
         self.laid = laid;
         Ok(Grid::of(self.tables, text, rows))
     }
@@ -126,6 +127,7 @@ impl<'a> View<'a> {
         width: u16,
         base: Base,
         paragraphs: &[Para],
+        lists: &mut Lists,
         drawn: &mut Vec<Row>,
     ) -> Result<usize, Memory>
         requires at_least { 2 ≤ width }
@@ -141,7 +143,7 @@ impl<'a> View<'a> {
         drawn.reserve(paragraphs.len())?;
         let mut laid = 0;
         for para in paragraphs {
-            if self.push_rows(width, base, para, drawn)? {
+            if self.push_rows(width, base, para, lists, drawn)? {
                 laid += 1;
             }
         }
@@ -155,6 +157,7 @@ impl<'a> View<'a> {
         width: u16,
         base: Base,
         para: &Para,
+        lists: &mut Lists,
         drawn: &mut Vec<Row>,
     ) -> Result<bool, Memory>
         requires at_least { 2 ≤ width }
@@ -167,7 +170,9 @@ impl<'a> View<'a> {
             ⊎ (self.new ≡ record self.old { keys = used self.old.room (paragraph_key para.now.text width base) self.old.keys })) }
     {
         rows_may_shift();
-        let laid = self.kept.keep(self.alloc, self.tables, width, base, para)?;
+        let laid = self
+            .kept
+            .keep_with(self.alloc, self.tables, width, base, para, lists)?;
         push_shifted(self.alloc, self.kept.newest(), para, drawn)?;
         Ok(laid)
     }

@@ -6,7 +6,7 @@ use Rattle.view_cache.specs.Keys.{ParagraphKey, paragraph_key}
 use Rattle.view_cache.specs.KeptParagraphs.{AreLaid}
 use Rattle.view_cache.specs.Kept.{IsKept}
 use Rattle.view_cache.proofs.Kept.{kept_of, used-promoted, used-missed, unmoved, use-done, newest-done, laid-done}
-use Rattle.view_cache.proofs.kept_rows.KeptRows.keep.Goals as goal
+use Rattle.view_cache.proofs.kept_rows.KeptRows.keep_with.Goals as goal
 
 pub invariant_of-self : goal.invariant_of-self
 invariant_of-self c =
