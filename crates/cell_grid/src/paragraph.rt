@@ -30,6 +30,7 @@ use line_break::{Line, Outline, lines_into, outline_into};
 use paragraphs::{Para, Span, code_points_into};
 use reorder::levels_after_l1;
 use std::alloc::Global;
+use std::mem;
 use unicode_tables::{Tables, Word};
 
 /// What the rows of a paragraph are made of.
@@ -150,9 +151,13 @@ fn classes_into(classes: &mut Vec<Bidi>, words: &[Word]) -> Result<(), Memory>
 {
     classes.clear();
     classes.reserve(words.len())?;
+    // A list that is lent would have its length written at each push.
+    let empty = Vec::new(*classes.allocator());
+    let mut own = mem::replace(classes, empty);
     for word in words {
-        classes.push_reserved(word.bidi);
+        own.push_reserved(word.bidi);
     }
+    *classes = own;
     Ok(())
 }
 

@@ -9,6 +9,7 @@ use crate::state::{State, column_of};
 use bg_types::Memory;
 use paragraphs::{Para, code_points_of};
 use std::alloc::Global;
+use std::mem;
 use unicode_tables::{Tables, Word};
 
 /// What the boundary after a code point means for a line (UAX #14, LD).
@@ -61,12 +62,16 @@ pub(crate) fn statuses_into(after: &mut Vec<Break>, words: &[Word]) -> Result<()
     let Some(first) = words.first() else {
         return Ok(());
     };
+    // A list that is lent would have its length written at each push.
+    let empty = Vec::new(*after.allocator());
+    let mut own = mem::replace(after, empty);
     let mut state = State::start().next(column_of(first));
     for word in &words[1..] {
         let column = column_of(word);
-        after.push_reserved(state.status_before(column));
+        own.push_reserved(state.status_before(column));
         state = state.next(column);
     }
-    after.push_reserved(Break::Must);
+    own.push_reserved(Break::Must);
+    *after = own;
     Ok(())
 }

@@ -10,6 +10,7 @@ use crate::words::Words;
 use bg_types::{Bidi, Ea, Lb, Memory};
 use std::alloc::Global;
 use std::marker::Model;
+use std::mem;
 
 /// What the five data files say of each code point, and how wide ambiguous characters are. A look-up reads one word, and
 /// the few code points that it marks have their bracket or their mirrored character beside it.
@@ -108,9 +109,13 @@ impl Tables {
     {
         words.clear();
         words.reserve(points.len())?;
+        // A list that is lent would have its length written at each push.
+        let empty = Vec::new(*words.allocator());
+        let mut own = mem::replace(words, empty);
         for c in points {
-            words.push_reserved(self.word(*c));
+            own.push_reserved(self.word(*c));
         }
+        *words = own;
         Ok(())
     }
 

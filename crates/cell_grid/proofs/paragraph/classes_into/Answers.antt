@@ -1,5 +1,5 @@
 -- A class more at each step.
-use Rattle.std.proofs.Common.{◌≡◌, ℕ, List, ◌<◌, ◌+◌, ◌++◌, ◌∷◌, [], map, take, length, get_or, sym, ap, ◌∙◌, arith}
+use Rattle.std.proofs.Common.{◌≡◌, ℕ, List, ◌<◌, ◌+◌, ◌++◌, ◌∷◌, [], map, take, length, vec_capacity, vec_len, get_or, sym, ap, ◌∙◌, arith}
 use Rattle.std.proofs.lemmas.List.{map-append, take_all, take_more}
 use Rattle.bg_types.specs.declared.class.Bidi.{Bidi}
 use Rattle.unicode_tables.specs.declared.word.Word.{Word}
@@ -13,11 +13,18 @@ made-on words i d lt classes more made put =
     ∙ sym (map-append (λ (w : Word). w.bidi) (take i words) (get_or words i d ∷ [])) ∙ sym (ap (map (λ (w : Word). w.bidi)) (take_more words i d lt))
 
 pub loop-word-init : goal.loop-word-init
-loop-word-init c = record {
-  made = c.in_ok-reserve.ensures.items ∙ c.clear.ensures.items;
-  count = c.in_ok-reserve.ensures.len ∙ c.clear.ensures.len;
-  room = let none = c.clear.ensures.len in let kept = c.in_ok-reserve.ensures.len in let all = c.in_ok-reserve.ensures.ok in omega arith;
-}
+loop-word-init c =
+    let moved = c.replace-own.ensures.value in
+    let none = c.clear.ensures.len in
+    let kept = c.in_ok-reserve.ensures.len in
+    let all = c.in_ok-reserve.ensures.ok in
+    let own_len = ap vec_len moved in
+    let own_room = ap vec_capacity moved in
+    record {
+      made = ap (λ v. v.items) moved ∙ c.in_ok-reserve.ensures.items ∙ c.clear.ensures.items;
+      count = own_len ∙ kept ∙ none;
+      room = omega arith;
+    }
 
 pub push_reserved-requires : goal.push_reserved-requires
 push_reserved-requires c =

@@ -5,7 +5,7 @@ use Rattle.cell_grid.proofs.paragraph.classes_into.Given as goal
 
 abbrev pub invariant-loop-word : goal.invariant-loop-word
 invariant-loop-word l = record {
-  made : l.classes.items ≡ map (λ (w : Word). w.bidi) (take l.word-index l.words);
-  count : vec_len l.classes ≡ l.word-index;
-  room : length l.words ≤ vec_capacity l.classes;
+  made : l.own.items ≡ map (λ (w : Word). w.bidi) (take l.word-index l.words);
+  count : vec_len l.own ≡ l.word-index;
+  room : length l.words ≤ vec_capacity l.own;
 }

@@ -1,18 +1,25 @@
 -- Each step over a word adds the status before its code point.
-use Rattle.std.proofs.Common.{[], ◌∙◌, arith}
+use Rattle.std.proofs.Common.{[], vec_capacity, vec_len, ap, ◌∙◌, arith}
 use Rattle.line_break.proofs.Marking.{words-first, IsMarkedTo-start, IsMarkedTo-on, statuses-end, next-word, no_word}
 use Rattle.line_break.proofs.status.statuses_into.Goals as goal
 
 pub loop-word-init : goal.loop-word-init
-loop-word-init c = record {
-  marked =
-      IsMarkedTo-start c.args.words.now c.in-Some.first.now _ _ _
-      (words-first c.args.words.now c.in-Some.first.now c.in-Some.ensures.value)
-      (c.in_ok-reserve.ensures.items ∙ c.clear.ensures.items)
-      (c.next-state.ensures [] c.start.ensures _ c.column_of.ensures);
-  count = c.in_ok-reserve.ensures.len ∙ c.clear.ensures.len;
-  room = let none = c.clear.ensures.len in let kept = c.in_ok-reserve.ensures.len in let all = c.in_ok-reserve.ensures.ok in omega arith;
-}
+loop-word-init c =
+    let moved = c.replace-own.ensures.value in
+    let none = c.clear.ensures.len in
+    let kept = c.in_ok-reserve.ensures.len in
+    let all = c.in_ok-reserve.ensures.ok in
+    let own_len = ap vec_len moved in
+    let own_room = ap vec_capacity moved in
+    record {
+      marked =
+          IsMarkedTo-start c.args.words.now c.in-Some.first.now _ _ _
+          (words-first c.args.words.now c.in-Some.first.now c.in-Some.ensures.value)
+          (ap (λ v. v.items) moved ∙ c.in_ok-reserve.ensures.items ∙ c.clear.ensures.items)
+          (c.next-state.ensures [] c.start.ensures _ c.column_of.ensures);
+      count = own_len ∙ kept ∙ none;
+      room = omega arith;
+    }
 
 pub loop-word-preserved : goal.loop-word-preserved
 loop-word-preserved c =

@@ -5,7 +5,7 @@ use Rattle.line_break.proofs.status.statuses_into.Given as goal
 
 abbrev pub invariant-loop-word : goal.invariant-loop-word
 invariant-loop-word l = record {
-  marked : IsMarkedTo l.words (drop (1 + l.word-index) l.words) l.after.items l.state.number;
-  count : vec_len l.after ≡ l.word-index;
-  room : length l.words ≤ vec_capacity l.after;
+  marked : IsMarkedTo l.words (drop (1 + l.word-index) l.words) l.own.items l.state.number;
+  count : vec_len l.own ≡ l.word-index;
+  room : length l.words ≤ vec_capacity l.own;
 }

@@ -8,6 +8,6 @@ use Rattle.paragraphs.proofs.points.code_points_into.Given as goal
 abbrev pub invariant-loop-c : goal.invariant-loop-c
 invariant-loop-c l = record {
   utf8 : IsUtf8 (chars_rest l.chars);
-  so_far : l.points.items ++ code_points (chars_rest l.chars) ≡ code_points l.text;
-  room : vec_len l.points + length (chars_rest l.chars) ≤ vec_capacity l.points;
+  so_far : l.own.items ++ code_points (chars_rest l.chars) ≡ code_points l.text;
+  room : vec_len l.own + length (chars_rest l.chars) ≤ vec_capacity l.own;
 }

@@ -1,15 +1,22 @@
 -- A word more at each step.
-use Rattle.std.proofs.Common.{◌<◌, ◌+◌, ◌++◌, ◌∷◌, [], map, take, length, get_or, sym, ap, ◌∙◌, arith}
+use Rattle.std.proofs.Common.{◌<◌, ◌+◌, ◌++◌, ◌∷◌, [], map, take, length, vec_capacity, vec_len, get_or, sym, ap, ◌∙◌, arith}
 use Rattle.std.proofs.lemmas.List.{map-append, take_all, take_more}
 use Rattle.unicode_tables.specs.Word.{word_of}
 use Rattle.unicode_tables.proofs.tables.Tables.words_into.Goals as goal
 
 pub loop-c-init : goal.loop-c-init
-loop-c-init c = record {
-  made = c.in_ok-reserve.ensures.items ∙ c.clear.ensures.items;
-  count = c.in_ok-reserve.ensures.len ∙ c.clear.ensures.len;
-  room = let none = c.clear.ensures.len in let kept = c.in_ok-reserve.ensures.len in let all = c.in_ok-reserve.ensures.ok in omega arith;
-}
+loop-c-init c =
+    let moved = c.replace-own.ensures.value in
+    let none = c.clear.ensures.len in
+    let kept = c.in_ok-reserve.ensures.len in
+    let all = c.in_ok-reserve.ensures.ok in
+    let own_len = ap vec_len moved in
+    let own_room = ap vec_capacity moved in
+    record {
+      made = ap (λ v. v.items) moved ∙ c.in_ok-reserve.ensures.items ∙ c.clear.ensures.items;
+      count = own_len ∙ kept ∙ none;
+      room = omega arith;
+    }
 
 pub push_reserved-requires : goal.push_reserved-requires
 push_reserved-requires c =

@@ -5,7 +5,7 @@ use Rattle.unicode_tables.proofs.tables.Tables.words_into.Given as goal
 
 abbrev pub invariant-loop-c : goal.invariant-loop-c
 invariant-loop-c l = record {
-  made : l.words.items ≡ map (word_of l.self) (take l.c-index l.points);
-  count : vec_len l.words ≡ l.c-index;
-  room : length l.points ≤ vec_capacity l.words;
+  made : l.own.items ≡ map (word_of l.self) (take l.c-index l.points);
+  count : vec_len l.own ≡ l.c-index;
+  room : length l.points ≤ vec_capacity l.own;
 }
