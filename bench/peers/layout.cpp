@@ -1,6 +1,7 @@
 // Lays out a text by libraries in place of the crates: levels, break opportunities, lines at a width, and
 // rows in visual order. bench/layout builds it twice: with -DICU over ICU, else over FriBidi and libunibreak.
-// Usage: layout WIDTH FILE >ROWS, where FILE is UTF-8 with no code point above U+FFFF.
+// Usage: layout WIDTH FILE >ROWS, where FILE is UTF-8 with no code point above U+FFFF. At width 0 the file is read, and nothing
+// is laid out.
 #include <clocale>
 #include <cstdint>
 #include <cstdio>
@@ -226,6 +227,8 @@ int main(int argc, char **argv) {
         text.push_back((Unit)point);
     }
     Layout layout{std::atoi(argv[1])};
+    if (layout.width == 0)
+        return 0;
     std::string out;
     size_t from = 0;
     for (size_t at = 0; at < text.size(); at++)
