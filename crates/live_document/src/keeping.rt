@@ -14,8 +14,8 @@ use std::alloc::Global;
 use text_buffer::Buffer;
 use unicode_tables::Tables;
 
-/// One paragraph of so many is forgotten at a time.
-const TURNS: usize = 8;
+/// Each paragraph of so many is forgotten first.
+const FIRST_STEP: usize = 16;
 
 /// How many rows may be kept, where a window doesn't need more.
 #[derive(Clone, Copy)]
@@ -83,8 +83,8 @@ pub fn forget_others(
     weight
 }
 
-/// Drops the rows of one paragraph of so many at a time, but of none from one number up to another, until what is kept weighs no
-/// more than the most: then a window elsewhere still has most of its rows. Returns what is kept.
+/// Drops the rows of each sixteenth paragraph, then of each eighth, and so on to each second, but of none from one number up to
+/// another, until what is kept weighs no more than the most. Returns what is kept.
 fn thin_out(buffer: &mut Buffer<ParagraphRows>, from: usize, to: usize, most: usize) -> usize
     requires { weight_held buffer.old ≤ 1_000_000_000_000_000 }
     ensures paragraphs { paragraphs_in buffer.new ≡ paragraphs_in buffer.old }
@@ -94,13 +94,15 @@ fn thin_out(buffer: &mut Buffer<ParagraphRows>, from: usize, to: usize, most: us
     ensures less { weight_held buffer.new ≤ weight_held buffer.old }
     ensures held { result ≡ weight_held buffer.new }
 {
-    let first = from % TURNS;
-    for turn in 0..TURNS {
-        buffer.forget_in_turn(from, to, TURNS, (first + turn) % TURNS);
+    let mut step = FIRST_STEP;
+    while step > 1 {
+        // The same ones go again and again, so that a window elsewhere lacks few.
+        buffer.forget_in_turn(from, to, step, 0);
         let left = buffer.kept_weight();
         if left <= most {
             return left;
         }
+        step /= 2;
     }
     buffer.kept_weight()
 }

@@ -1,39 +1,39 @@
--- One paragraph of so many is forgotten at a time.
+-- The rows of some more paragraphs are dropped.
 use Rattle.std.proofs.Common.{refl, ◌∙◌, arith}
 use Rattle.live_document.proofs.Thinned.{laid-left, less-left, less-between, inside-all}
 use Rattle.live_document.proofs.keeping.thin_out.Goals as goal
 
-pub loop-turn-init : goal.loop-turn-init
-loop-turn-init c = record { paragraphs = refl; laid = λ tables width base all. all; inside = λ k low high. refl; within = omega arith; less = omega arith }
+pub loop-step-init : goal.loop-step-init
+loop-step-init c = record { paragraphs = refl; laid = λ tables width base all. all; inside = λ k low high. refl; within = omega arith; less = omega arith }
 
 pub kept_weight-left-requires : goal.kept_weight-left-requires
 kept_weight-left-requires c =
-    let less = less-left _ 0 c.loop-turn.buffer c.forget_in_turn.new.self c.forget_in_turn.ensures.kept in
-    omega (arith, less, c.loop-turn.invariant.less, c.requires)
+    let less = less-left _ 0 c.loop-step.buffer c.forget_in_turn.new.self c.forget_in_turn.ensures.kept in
+    omega (arith, less, c.loop-step.invariant.less, c.requires)
 
 pub returns-then-left-most : goal.returns-then-left-most
 returns-then-left-most c =
-    let was = c.loop-turn.invariant in
+    let was = c.loop-step.invariant in
     let e = c.forget_in_turn.ensures in
     let now = c.forget_in_turn.new.self in
     record {
       paragraphs = e.paragraphs ∙ was.paragraphs;
-      laid = λ tables width base all. laid-left tables width base _ 0 c.loop-turn.buffer now e.paragraphs e.kept (was.laid tables width base all);
-      inside = λ k low high. inside-all _ c.loop-turn.buffer now e.kept k low high ∙ was.inside k low high;
-      within = (let less = less-between _ c.loop-turn.buffer now c.args.from c.args.to e.kept in omega (arith, less, was.within));
-      less = (let less = less-left _ 0 c.loop-turn.buffer now e.kept in omega (arith, less, was.less));
+      laid = λ tables width base all. laid-left tables width base _ 0 c.loop-step.buffer now e.paragraphs e.kept (was.laid tables width base all);
+      inside = λ k low high. inside-all _ c.loop-step.buffer now e.kept k low high ∙ was.inside k low high;
+      within = (let less = less-between _ c.loop-step.buffer now c.args.from c.args.to e.kept in omega (arith, less, was.within));
+      less = (let less = less-left _ 0 c.loop-step.buffer now e.kept in omega (arith, less, was.less));
       held = c.kept_weight-left.ensures;
     }
 
-pub loop-turn-preserved : goal.loop-turn-preserved
-loop-turn-preserved c =
-    let was = c.loop-turn.invariant in
+pub loop-step-preserved : goal.loop-step-preserved
+loop-step-preserved c =
+    let was = c.loop-step.invariant in
     let e = c.forget_in_turn.ensures in
     let now = c.forget_in_turn.new.self in
     record {
       paragraphs = e.paragraphs ∙ was.paragraphs;
-      laid = λ tables width base all. laid-left tables width base _ 0 c.loop-turn.buffer now e.paragraphs e.kept (was.laid tables width base all);
-      inside = λ k low high. inside-all _ c.loop-turn.buffer now e.kept k low high ∙ was.inside k low high;
-      within = (let less = less-between _ c.loop-turn.buffer now c.args.from c.args.to e.kept in omega (arith, less, was.within));
-      less = (let less = less-left _ 0 c.loop-turn.buffer now e.kept in omega (arith, less, was.less));
+      laid = λ tables width base all. laid-left tables width base _ 0 c.loop-step.buffer now e.paragraphs e.kept (was.laid tables width base all);
+      inside = λ k low high. inside-all _ c.loop-step.buffer now e.kept k low high ∙ was.inside k low high;
+      within = (let less = less-between _ c.loop-step.buffer now c.args.from c.args.to e.kept in omega (arith, less, was.within));
+      less = (let less = less-left _ 0 c.loop-step.buffer now e.kept in omega (arith, less, was.less));
     }
