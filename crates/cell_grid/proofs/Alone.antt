@@ -4,10 +4,13 @@ use Rattle.reorder.specs.VisualList.{is_odd}
 use Rattle.paragraphs.specs.declared.span.Span.{Span}
 use Rattle.cell_grid.specs.declared.cluster_run.ClusterRun.{ClusterRun}
 use Rattle.cell_grid.specs.declared.entry.Entry.{Entry}
-use Rattle.cell_grid.specs.Runs.{byte_count, point_count, span_after, run_entries, run_columns, IsInReach}
+use Rattle.cell_grid.specs.declared.kept_span.KeptSpan.{KeptSpan}
+use Rattle.cell_grid.specs.KeptSpans.{span_kept}
+use Rattle.cell_grid.specs.Shifting.{StaysInReach}
+use Rattle.cell_grid.specs.Runs.{run_span, byte_count, point_count, span_after, run_entries, run_columns, IsInReach}
 use Rattle.cell_grid.proofs.Standing.{span_of}
 
-span-is : (a b c d : ℕ) (t : Span) → a ≡ t.first_byte → b ≡ t.end_byte → c ≡ t.first_place → d ≡ t.end_place → span_of a b c d ≡ t
+pub span-is : (a b c d : ℕ) (t : Span) → a ≡ t.first_byte → b ≡ t.end_byte → c ≡ t.first_place → d ≡ t.end_place → span_of a b c d ≡ t
 span-is a b c d t e f g h =
     ap (λ x. span_of x b c d) e ∙ ap (λ x. span_of t.first_byte x c d) f ∙ ap (λ x. span_of t.first_byte t.end_byte x d) g
     ∙ ap (λ x. span_of t.first_byte t.end_byte t.first_place x) h
@@ -37,27 +40,31 @@ pub record IsOf32Bits (s : Span) : Type 0 where
 
 -- the entry of this cluster
 abbrev entry_of : (column : ℕ) → ClusterRun → (cluster number : ℕ) → Entry
-entry_of column r cluster number = entry_by (span_after cluster r.span) (column + number * r.columns) r.level r.columns
+entry_of column r cluster number = entry_by (span_after cluster (run_span r)) (column + number * r.columns) r.level r.columns
 
 same-cond : (b : Bool) (x : ℕ) → cond b x x ≡ x
 same-cond true x = refl
 same-cond false x = refl
 
-abbrev pub alone : Entry → ClusterRun
-alone e = record { span = e.span; further = 0; level = e.level; columns = e.columns }
+-- one whose kept span is that of an entry
+abbrev pub alone : KeptSpan → Entry → ClusterRun
+alone s e = record { span = s; further = 0; level = e.level; columns = e.columns }
 
-pub alone-entries : (e : Entry) → run_entries e.column (alone e) ≡ e ∷ []
-alone-entries e =
-    ap (λ c. entry_of e.column (alone e) c 0 ∷ []) (same-cond (is_odd e.level) 0)
-    ∙ ap (λ x. x ∷ []) (entry-is (span_after 0 e.span) (e.column + 0 * e.columns) e.level e.columns e (none-after e.span) (none-more e.column e.columns) refl refl)
+module _ (s : KeptSpan) (e : Entry) (is : span_kept s ≡ e.span) where
+  pub alone-entries : run_entries e.column (alone s e) ≡ e ∷ []
+  alone-entries =
+      ap (λ c. entry_of e.column (alone s e) c 0 ∷ []) (same-cond (is_odd e.level) 0)
+      ∙ ap (λ x. x ∷ []) (entry-is (span_after 0 (span_kept s)) (e.column + 0 * e.columns) e.level e.columns e (none-after (span_kept s) ∙ is) (none-more e.column e.columns) refl refl)
 
-pub alone-columns : (e : Entry) → run_columns (alone e) ≡ e.columns
-alone-columns e = omega arith
+  pub alone-columns : run_columns (alone s e) ≡ e.columns
+  alone-columns = omega arith
 
-pub alone-reach : (e : Entry) → IsOf32Bits e.span → IsInReach (alone e)
-alone-reach e bits = record {
-  first_byte = subst (λ k. k < 2 ^ 32) (sym (none-more e.span.first_byte (byte_count e.span))) bits.first_byte;
-  end_byte = subst (λ k. k < 2 ^ 32) (sym (none-more e.span.end_byte (byte_count e.span))) bits.end_byte;
-  first_place = subst (λ k. k < 2 ^ 32) (sym (none-more e.span.first_place (point_count e.span))) bits.first_place;
-  end_place = subst (λ k. k < 2 ^ 32) (sym (none-more e.span.end_place (point_count e.span))) bits.end_place;
-}
+  pub alone-reach : IsOf32Bits e.span → IsInReach (alone s e)
+  alone-reach bits =
+      subst (λ (t : Span). StaysInReach (0 * byte_count t) (0 * point_count t) t) (sym is)
+      (record {
+        first_byte = subst (λ k. k < 2 ^ 32) (sym (none-more e.span.first_byte (byte_count e.span))) bits.first_byte;
+        end_byte = subst (λ k. k < 2 ^ 32) (sym (none-more e.span.end_byte (byte_count e.span))) bits.end_byte;
+        first_place = subst (λ k. k < 2 ^ 32) (sym (none-more e.span.first_place (point_count e.span))) bits.first_place;
+        end_place = subst (λ k. k < 2 ^ 32) (sym (none-more e.span.end_place (point_count e.span))) bits.end_place;
+      })

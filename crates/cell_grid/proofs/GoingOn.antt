@@ -8,7 +8,7 @@ use Rattle.paragraphs.specs.declared.span.Span.{Span}
 use Rattle.cell_grid.specs.declared.cluster_run.ClusterRun.{ClusterRun}
 use Rattle.cell_grid.specs.declared.entry.Entry.{Entry}
 use Rattle.cell_grid.specs.RunCounts.{span_behind, same_span, goes_on, runs_behind, run_count}
-use Rattle.cell_grid.specs.Runs.{byte_count, point_count, span_after, cluster_from_left, run_entry, run_entries, runs_columns, runs_entries}
+use Rattle.cell_grid.specs.Runs.{run_span, byte_count, point_count, span_after, cluster_from_left, run_entry, run_entries, runs_columns, runs_entries}
 use Rattle.cell_grid.proofs.Alone.{none-after}
 use Rattle.cell_grid.proofs.RunEntries.{runs_entries-append}
 use Rattle.cell_grid.proofs.Standing.{span_of}
@@ -52,11 +52,11 @@ turned-next false f k s lt = same-self (span_behind (span_after k s)) (span_afte
 module _ (column : ℕ) (r : ClusterRun) where
   goes-on : (k : ℕ) → k < r.further → goes_on (run_entry column r k) (run_entry column r (k + 1)) ≡ true
   goes-on k lt =
-      let behind = cond (is_odd r.level) (same_span (span_behind (span_after (cluster_from_left r (k + 1)) r.span)) (span_after (cluster_from_left r k) r.span))
-      (same_span (span_behind (span_after (cluster_from_left r k) r.span)) (span_after (cluster_from_left r (k + 1)) r.span)) in
+      let behind = cond (is_odd r.level) (same_span (span_behind (span_after (cluster_from_left r (k + 1)) (run_span r))) (span_after (cluster_from_left r k) (run_span r)))
+      (same_span (span_behind (span_after (cluster_from_left r k) (run_span r))) (span_after (cluster_from_left r (k + 1)) (run_span r))) in
       ap (λ x. x && (r.columns == r.columns) && behind) (eq-eqb r.level r.level refl)
       ∙ ap (λ x. x && behind) (eq-eqb r.columns r.columns refl)
-      ∙ turned-next (is_odd r.level) r.further k r.span lt
+      ∙ turned-next (is_odd r.level) r.further k (run_span r) lt
 
   none-from : (from n : ℕ) → from + n ≤ r.further → runs_behind (run_entry column r from) (map (run_entry column r) (range_with_len (from + 1) n)) ≡ 0
   none-from from zero le = refl
@@ -82,10 +82,10 @@ module _ (column : ℕ) (r : ClusterRun) where
 
 module _ (l r : ClusterRun) (column next : ℕ) where
   abbrev left : Span
-  left = span_after (cluster_from_left l l.further) l.span
+  left = span_after (cluster_from_left l l.further) (run_span l)
 
   abbrev right : Span
-  right = span_after (cluster_from_left r 0) r.span
+  right = span_after (cluster_from_left r 0) (run_span r)
 
   abbrev behind : Bool
   behind = cond (is_odd l.level) (same_span (span_behind right) left) (same_span (span_behind left) right)
@@ -103,7 +103,7 @@ module _ (l r : ClusterRun) (column next : ℕ) where
   alike level columns =
       ap (λ x. x && (l.columns == r.columns) && behind) (eq-eqb l.level r.level level) ∙ ap (λ x. x && behind) (eq-eqb l.columns r.columns columns)
 
-  pub goes-odd : l.level ≡ r.level → l.columns ≡ r.columns → is_odd l.level ≡ true → go_on ≡ same_span (span_behind (span_after r.further r.span)) l.span
+  pub goes-odd : l.level ≡ r.level → l.columns ≡ r.columns → is_odd l.level ≡ true → go_on ≡ same_span (span_behind (span_after r.further (run_span r))) (run_span l)
   goes-odd level columns odd =
       let none : l.further - l.further ≡ 0 = omega arith in
       let all : r.further - 0 ≡ r.further = omega arith in
@@ -111,17 +111,17 @@ module _ (l r : ClusterRun) (column next : ℕ) where
       let first = cond-true (is_odd r.level) (r.further - 0) 0 (sym (ap is_odd level) ∙ odd) ∙ all in
       alike level columns
       ∙ cond-true (is_odd l.level) (same_span (span_behind right) left) (same_span (span_behind left) right) odd
-      ∙ ap (λ k. same_span (span_behind (span_after k r.span)) left) first
-      ∙ ap (same_span (span_behind (span_after r.further r.span))) (ap (λ k. span_after k l.span) last ∙ none-after l.span)
+      ∙ ap (λ k. same_span (span_behind (span_after k (run_span r))) left) first
+      ∙ ap (same_span (span_behind (span_after r.further (run_span r)))) (ap (λ k. span_after k (run_span l)) last ∙ none-after (run_span l))
 
-  pub goes-even : l.level ≡ r.level → l.columns ≡ r.columns → is_odd l.level ≡ false → go_on ≡ same_span (span_behind (span_after l.further l.span)) r.span
+  pub goes-even : l.level ≡ r.level → l.columns ≡ r.columns → is_odd l.level ≡ false → go_on ≡ same_span (span_behind (span_after l.further (run_span l))) (run_span r)
   goes-even level columns even =
       let last = cond-false (is_odd l.level) (l.further - l.further) l.further even in
       let first = cond-false (is_odd r.level) (r.further - 0) 0 (sym (ap is_odd level) ∙ even) in
       alike level columns
       ∙ cond-false (is_odd l.level) (same_span (span_behind right) left) (same_span (span_behind left) right) even
-      ∙ ap (λ k. same_span (span_behind (span_after k l.span)) right) last
-      ∙ ap (same_span (span_behind (span_after l.further l.span))) (ap (λ k. span_after k r.span) first ∙ none-after r.span)
+      ∙ ap (λ k. same_span (span_behind (span_after k (run_span l))) right) last
+      ∙ ap (same_span (span_behind (span_after l.further (run_span l)))) (ap (λ k. span_after k (run_span r)) first ∙ none-after (run_span r))
 
 -- ---- entries, and more behind their last
 

@@ -12,6 +12,7 @@ pub mod Covering
 pub mod Celled
 pub mod RunEntries
 pub mod Alone
+pub mod KeptSpans
 pub mod GoingOn
 pub mod Cutting
 pub mod PieceEntries

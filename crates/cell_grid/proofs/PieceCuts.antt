@@ -1,5 +1,5 @@
 -- Runs cut into pieces: by the levels of their clusters, and where columns hang.
-use Rattle.std.proofs.Common.{◌≡◌, ℕ, zero, suc, ◌+◌, ◌-◌, ◌*◌, ◌/◌, ◌<◌, ◌≤◌, List, [], ◌∷◌, ◌++◌, length, take, drop, get_or, replicate, sum, flat_map, refl, sym, ap, subst, ◌∙◌, arith, append_assoc, append-nil, inl, inr}
+use Rattle.std.proofs.Common.{◌≡◌, ℕ, zero, suc, ◌+◌, ◌-◌, ◌*◌, ◌/◌, ◌<◌, ◌≤◌, List, [], ◌∷◌, ◌++◌, length, map, take, drop, get_or, replicate, sum, flat_map, refl, sym, ap, subst, ◌∙◌, arith, append_assoc, append-nil, inl, inr}
 use Rattle.std.proofs.Math.Nat.{div-mul-le_self}
 use Rattle.std.proofs.lemmas.Bool.Decides.{leb_tells}
 use Rattle.std.proofs.lemmas.Nat.{le-div}
@@ -8,18 +8,22 @@ use Rattle.std.proofs.lemmas.List.Concat.{flat_map-append, flat_map-cons}
 use Rattle.std.proofs.lemmas.List.Elements.{All-nil, All-cons, All-head, All-tail, All-push, All-same}
 use Rattle.std.proofs.lemmas.List.Folds.{sum_by-replicate}
 use Rattle.std.proofs.lemmas.List.Sums.{sum_by-cons, sum_by-append}
-use Rattle.std.specs.List.{All}
+use Rattle.std.specs.List.{All, range_with_len}
 use Rattle.reorder.specs.LineLevels.{group_firsts}
+use Rattle.paragraphs.specs.declared.span.Span.{Span}
 use Rattle.line_break.specs.declared.run.ShapeRun.{ShapeRun}
 use Rattle.line_break.specs.Runs.{span_in, sizes_of}
 use Rattle.line_break.specs.Runs.{spans_of as shape_spans, columns_of as shape_columns}
 use Rattle.cell_grid.specs.declared.cluster_run.ClusterRun.{ClusterRun}
+use Rattle.cell_grid.specs.declared.kept_span.KeptSpan.{KeptSpan}
 use Rattle.cell_grid.specs.declared.piece.Fitting.{Fitting}
 use Rattle.cell_grid.specs.Cuts.{AreFitting, IsFirstPiece}
 use Rattle.cell_grid.specs.Hanging.{hung}
+use Rattle.cell_grid.specs.KeptSpans.{span_kept}
 use Rattle.cell_grid.specs.Parts.{front, behind, all_spans, all_sizes, all_columns, IsWithin, ArePassed}
 use Rattle.cell_grid.specs.Pieces.{run_spans, run_levels, run_widths, spans_of, levels_of, columns_of}
-use Rattle.cell_grid.specs.Runs.{span_after, cluster_count, run_columns, runs_columns, IsInReach}
+use Rattle.cell_grid.specs.Runs.{byte_count, point_count, span_after, cluster_count, run_columns, runs_columns, IsInReach}
+use Rattle.cell_grid.specs.Shifting.{StaysInReach}
 use Rattle.cell_grid.proofs.Cutting.{spans-cut, sizes-cut, columns-cut, behind-within, length-spans_of, taken, dropped, one-less}
 use Rattle.cell_grid.proofs.Hung.{hung-full}
 use Rattle.cell_grid.proofs.Numbered.{map-range-same}
@@ -134,15 +138,14 @@ span-alike part k =
     ∙ ap (λ n. span_of (part.first_byte + k * (part.first_byte + part.bytes - part.first_byte)) (part.first_byte + part.bytes + k * (part.first_byte + part.bytes - part.first_byte)) n (part.first_place + k * part.points + part.points)) e3
     ∙ ap (λ n. span_of (part.first_byte + k * (part.first_byte + part.bytes - part.first_byte)) (part.first_byte + part.bytes + k * (part.first_byte + part.bytes - part.first_byte)) (part.first_place + k * (part.first_place + part.points - part.first_place)) n) e4
 
-abbrev pub piece_of : ShapeRun → (further level columns : ℕ) → ClusterRun
-piece_of part further level columns = record {
-  span = span_of part.first_byte (part.first_byte + part.bytes) part.first_place (part.first_place + part.points);
-  further = further;
-  level = level;
-  columns = columns;
-}
+-- where the first cluster stands
+abbrev pub first_of : ShapeRun → Span
+first_of part = span_of part.first_byte (part.first_byte + part.bytes) part.first_place (part.first_place + part.points)
 
-reach-one : (first size further count : ℕ) → further + 1 ≤ count → first + count * size ≤ 4_000_000 → first + size + further * size ≤ 4_000_000
+abbrev pub piece_of : KeptSpan → (further level columns : ℕ) → ClusterRun
+piece_of s further level columns = record { span = s; further = further; level = level; columns = columns }
+
+pub reach-one : (first size further count : ℕ) → further + 1 ≤ count → first + count * size ≤ 4_000_000 → first + size + further * size ≤ 4_000_000
 reach-one first size further count le within =
     let c : count ≡ further + 1 + (count - (further + 1)) = omega arith in
     let all = ap (λ k. k * size) c in
@@ -150,7 +153,8 @@ reach-one first size further count le within =
 
 module _ (run : ShapeRun) (levels : List ℕ) (room : ℕ) (within : IsWithin run) (level further most alike : ℕ) (f : Fitting)
     (few : alike ≤ most) (most_within : most ≤ run.count) (fit : AreFitting alike run.columns room f) (so : further + 1 ≡ f.count)
-    (same : (k : ℕ) → k < alike → get_or levels (k * run.points) 0 ≡ level) where
+    (same : (k : ℕ) → k < alike → get_or levels (k * run.points) 0 ≡ level)
+    (s : KeptSpan) (at : span_kept s ≡ first_of run) where
   n-most : further + 1 ≤ most
   n-most = let m = fit.most in omega arith
 
@@ -166,7 +170,7 @@ module _ (run : ShapeRun) (levels : List ℕ) (room : ℕ) (within : IsWithin ru
   piece-columns later =
       ap (λ n. hung room (replicate n run.columns ++ later)) so ∙ fit.hung later ∙ ap (λ n. replicate n f.columns ++ hung f.room later) (sym so)
 
-  piece-reach : IsInReach (piece_of run further level f.columns)
+  piece-reach : IsInReach (piece_of s further level f.columns)
   piece-reach =
       let m = n-most in
       let b : run.first_byte + run.bytes - run.first_byte ≡ run.bytes = omega arith in
@@ -175,14 +179,15 @@ module _ (run : ShapeRun) (levels : List ℕ) (room : ℕ) (within : IsWithin ru
       let ep = ap (λ k. further * k) p in
       let wb = reach-one run.first_byte run.bytes further run.count (omega arith) within.bytes in
       let wp = reach-one run.first_place run.points further run.count (omega arith) within.places in
-      record { first_byte = omega arith; end_byte = omega arith; first_place = omega arith; end_place = omega arith }
+      subst (λ (t : Span). StaysInReach (further * byte_count t) (further * point_count t) t) (sym at)
+      (record { first_byte = omega arith; end_byte = omega arith; first_place = omega arith; end_place = omega arith })
 
-  pub first-piece : IsFirstPiece run most levels room (piece_of run further level f.columns) f.room
+  pub first-piece : IsFirstPiece run most levels room (piece_of s further level f.columns) f.room
   first-piece = record {
     within = n-most;
     spans =
-        sym (map-range-same (span_in run) (λ k. span_after k (span_of run.first_byte (run.first_byte + run.bytes) run.first_place (run.first_place + run.points))) 0 (further + 1)
-        (λ k low high. span-alike run k));
+        ap (λ t. map (λ k. span_after k t) (range_with_len 0 (further + 1))) at
+        ∙ sym (map-range-same (span_in run) (λ k. span_after k (first_of run)) 0 (further + 1) (λ k low high. span-alike run k));
     levels_alike = piece-levels;
     columns = piece-columns;
     reach = piece-reach;

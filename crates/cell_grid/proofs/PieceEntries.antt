@@ -20,7 +20,7 @@ use Rattle.cell_grid.specs.Cells.{total}
 use Rattle.cell_grid.specs.LawsBelow.{LawsBelow}
 use Rattle.cell_grid.specs.Pieces.{run_spans, run_levels, run_widths, spans_of, levels_of, columns_of, no_piece, piece_at, arranged}
 use Rattle.cell_grid.specs.Rows.{entries_from}
-use Rattle.cell_grid.specs.Runs.{span_after, cluster_count, cluster_from_left, run_entry, run_entries, run_columns, runs_entries}
+use Rattle.cell_grid.specs.Runs.{run_span, span_after, cluster_count, cluster_from_left, run_entry, run_entries, run_columns, runs_entries}
 use Rattle.cell_grid.specs.Spans.{extent}
 use Rattle.cell_grid.proofs.Cutting.{rising}
 use Rattle.cell_grid.proofs.RunEntries.{total-runs}
@@ -35,7 +35,7 @@ pub length-spans : (ps : List ClusterRun) → length (spans_of ps) ≡ counts ps
 length-spans [] = refl
 length-spans (r ∷ ps) =
     ap length (flat_map-cons run_spans r ps) ∙ length-append (run_spans r) (spans_of ps)
-    ∙ ap (λ n. n + length (spans_of ps)) (length-map-range_with_len (λ k. span_after k r.span) 0 (cluster_count r))
+    ∙ ap (λ n. n + length (spans_of ps)) (length-map-range_with_len (λ k. span_after k (run_span r)) 0 (cluster_count r))
     ∙ ap (λ n. cluster_count r + n) (length-spans ps) ∙ sym (sum_by-cons cluster_count r ps)
 
 pub length-levels : (ps : List ClusterRun) → length (levels_of ps) ≡ counts ps
@@ -100,7 +100,7 @@ entry_by s column level columns = record { span = s; level = level; column = col
 module _ (spans : List Span) (levels columns : List ℕ) where
   -- those of clusters whose numbers are given by their place in the row
   module _ (at : ℕ → ℕ) (r : ClusterRun) (n : ℕ)
-      (span : (i : ℕ) → i < n → get_or spans (at i) (extent []) ≡ span_after (cluster_from_left r i) r.span)
+      (span : (i : ℕ) → i < n → get_or spans (at i) (extent []) ≡ span_after (cluster_from_left r i) (run_span r))
       (level : (i : ℕ) → i < n → get_or levels (at i) 0 ≡ r.level)
       (wide : (i : ℕ) → i < n → get_or columns (at i) 0 ≡ r.columns) where
     entry-is : (column from : ℕ) → from < n
@@ -108,8 +108,8 @@ module _ (spans : List Span) (levels columns : List ℕ) where
     unfolding entry_by
     entry-is column from lt =
         ap (λ s. entry_by s (column + from * r.columns) (get_or levels (at from) 0) (get_or columns (at from) 0)) (span from lt)
-        ∙ ap (λ l. entry_by (span_after (cluster_from_left r from) r.span) (column + from * r.columns) l (get_or columns (at from) 0)) (level from lt)
-        ∙ ap (entry_by (span_after (cluster_from_left r from) r.span) (column + from * r.columns) r.level) (wide from lt)
+        ∙ ap (λ l. entry_by (span_after (cluster_from_left r from) (run_span r)) (column + from * r.columns) l (get_or columns (at from) 0)) (level from lt)
+        ∙ ap (entry_by (span_after (cluster_from_left r from) (run_span r)) (column + from * r.columns) r.level) (wide from lt)
 
     numbered : (column from m : ℕ) → from + m ≡ n
         → entries_from spans levels columns (column + from * r.columns) (map at (range_with_len from m)) ≡ map (run_entry column r) (range_with_len from m)
@@ -163,14 +163,14 @@ module _ (ps : List ClusterRun) (k : ℕ) (lt : k < length ps) where
   unfolding its
   from-left i within = elim (is_odd (piece_at ps k).level) as (λ o. cond o ((piece_at ps k).further - i) i < cluster_count (piece_at ps k)) [ true ↦ omega arith | false ↦ omega arith ]
 
-  its-span : (j : ℕ) → j < cluster_count its → get_or (spans_of ps) (first + j) (extent []) ≡ span_after j its.span
+  its-span : (j : ℕ) → j < cluster_count its → get_or (spans_of ps) (first + j) (extent []) ≡ span_after j (run_span its)
   unfolding its first
   its-span j within =
       let r = piece_at ps k in
-      let n = length-map-range_with_len (λ i. span_after i r.span) 0 (cluster_count r) in
+      let n = length-map-range_with_len (λ i. span_after i (run_span r)) 0 (cluster_count r) in
       ap (λ b. get_or (spans_of ps) (b + j) (extent [])) (sym (length-spans (take k ps)))
       ∙ get_or-flat_map run_spans ps k j no_piece (extent []) lt (omega arith)
-      ∙ get_or-map-range_with_len (λ i. span_after i r.span) 0 (cluster_count r) j j (extent []) within (omega arith)
+      ∙ get_or-map-range_with_len (λ i. span_after i (run_span r)) 0 (cluster_count r) j j (extent []) within (omega arith)
 
   its-level : (j : ℕ) → j < cluster_count its → get_or (levels_of ps) (first + j) 0 ≡ its.level
   unfolding its first

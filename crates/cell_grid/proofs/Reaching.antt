@@ -9,9 +9,10 @@ use Rattle.paragraphs.specs.declared.span.Span.{Span}
 use Rattle.cell_grid.specs.declared.cluster_run.ClusterRun.{ClusterRun}
 use Rattle.cell_grid.specs.declared.entry.Entry.{Entry}
 use Rattle.cell_grid.specs.Rows.{shifted_entry}
-use Rattle.cell_grid.specs.Runs.{byte_count, point_count, span_after, cluster_count, cluster_from_left, run_entry, run_entries, run_columns, runs_entries, shifted_run, IsInReach, MayShiftRun}
+use Rattle.cell_grid.specs.Runs.{run_span, byte_count, point_count, span_after, cluster_count, cluster_from_left, run_entry, run_entries, run_columns, runs_entries, shifted_run, IsInReach, MayShiftRun}
 use Rattle.cell_grid.specs.Shifting.{StaysInReach, MayShift}
 use Rattle.cell_grid.specs.Spans.{shifted_span}
+use Rattle.cell_grid.proofs.KeptSpans.{later-kept}
 use Rattle.cell_grid.proofs.Numbered.{at-number, All-front, All-back}
 use Rattle.cell_grid.proofs.Alone.{entry_by, none-after}
 use Rattle.cell_grid.proofs.Standing.{span_of}
@@ -19,10 +20,10 @@ use Rattle.cell_grid.proofs.Standing.{span_of}
 -- ---- a cluster within the run
 
 -- where the last cluster is in reach each is
-pub reaches : (r : ClusterRun) (number : ℕ) → number ≤ r.further → IsInReach r → StaysInReach (number * byte_count r.span) (number * point_count r.span) r.span
+pub reaches : (r : ClusterRun) (number : ℕ) → number ≤ r.further → IsInReach r → StaysInReach (number * byte_count (run_span r)) (number * point_count (run_span r)) (run_span r)
 reaches r number le reach =
-    let bytes = mul-le-mul_right (byte_count r.span) le in
-    let points = mul-le-mul_right (point_count r.span) le in
+    let bytes = mul-le-mul_right (byte_count (run_span r)) le in
+    let points = mul-le-mul_right (point_count (run_span r)) le in
     let a = reach.first_byte in
     let b = reach.end_byte in
     let c = reach.first_place in
@@ -46,20 +47,20 @@ from_left-within r number le = turned-below (is_odd r.level) r.further number le
 
 module _ (P : Span → Type 0) where
   -- what holds of each entry holds of each cluster
-  pub clusters-hold : (column : ℕ) (r : ClusterRun) → All (λ (e : Entry). P e.span) (run_entries column r) → (number : ℕ) → number ≤ r.further → P (span_after number r.span)
+  pub clusters-hold : (column : ℕ) (r : ClusterRun) → All (λ (e : Entry). P e.span) (run_entries column r) → (number : ℕ) → number ≤ r.further → P (span_after number (run_span r))
   clusters-hold column r all number le =
       let i = cluster_from_left r number in
       let within = from_left-within r number le in
       let lt : i < cluster_count r = omega arith in
-      subst (λ k. P (span_after k r.span)) (turned (is_odd r.level) r.further number le)
+      subst (λ k. P (span_after k (run_span r))) (turned (is_odd r.level) r.further number le)
       (at-number (run_entry column r) (cluster_count r) (λ (e : Entry). P e.span) all i lt)
 
   pub all-clusters : (column : ℕ) (runs : List ClusterRun) → All (λ (e : Entry). P e.span) (runs_entries column runs)
-      → All (λ (r : ClusterRun). (number : ℕ) → number ≤ r.further → P (span_after number r.span)) runs
-  all-clusters column [] all = All-nil (λ (r : ClusterRun). (number : ℕ) → number ≤ r.further → P (span_after number r.span))
+      → All (λ (r : ClusterRun). (number : ℕ) → number ≤ r.further → P (span_after number (run_span r))) runs
+  all-clusters column [] all = All-nil (λ (r : ClusterRun). (number : ℕ) → number ≤ r.further → P (span_after number (run_span r)))
   all-clusters column (r ∷ later) all =
       let Q : Entry → Type 0 = λ e. P e.span in
-      All-cons (λ (r : ClusterRun). (number : ℕ) → number ≤ r.further → P (span_after number r.span)) r later
+      All-cons (λ (r : ClusterRun). (number : ℕ) → number ≤ r.further → P (span_after number (run_span r))) r later
       (clusters-hold column r (All-front Q (run_entries column r) (runs_entries (column + run_columns r) later) all))
       (all-clusters (column + run_columns r) later (All-back Q (run_entries column r) (runs_entries (column + run_columns r) later) all))
 
@@ -69,7 +70,7 @@ pub may-shift-runs : (bytes places column : ℕ) (runs : List ClusterRun) → Al
 may-shift-runs bytes places column runs all = λ i d lt.
     let r = slice_index_or runs i d in
     let each = all-clusters (MayShift bytes places) column runs all i d lt in
-    record { first = subst (MayShift bytes places) (none-after r.span) (each 0 (omega arith)); last = each r.further (omega arith) }
+    record { first = subst (MayShift bytes places) (none-after (run_span r)) (each 0 (omega arith)); last = each r.further (omega arith) }
 
 same-size : (first end more : ℕ) → end + more - (first + more) ≡ end - first
 same-size first end more = omega arith
@@ -106,18 +107,20 @@ module _ (bytes places : ℕ) where
       let b = h.last.end_byte in
       let c = h.last.first_place in
       let d = h.last.end_place in
-      record {
-        first_byte = subst (λ k. k < 2 ^ 32) (sym (first_bytes r.span r.further)) (omega arith);
-        end_byte = subst (λ k. k < 2 ^ 32) (sym (end_bytes r.span r.further)) (omega arith);
-        first_place = subst (λ k. k < 2 ^ 32) (sym (first_places r.span r.further)) (omega arith);
-        end_place = subst (λ k. k < 2 ^ 32) (sym (end_places r.span r.further)) (omega arith);
-      }
+      subst (λ (s : Span). StaysInReach (r.further * byte_count s) (r.further * point_count s) s) (sym (later-kept bytes places r.span))
+      (record {
+        first_byte = subst (λ k. k < 2 ^ 32) (sym (first_bytes (run_span r) r.further)) (omega arith);
+        end_byte = subst (λ k. k < 2 ^ 32) (sym (end_bytes (run_span r) r.further)) (omega arith);
+        first_place = subst (λ k. k < 2 ^ 32) (sym (first_places (run_span r) r.further)) (omega arith);
+        end_place = subst (λ k. k < 2 ^ 32) (sym (end_places (run_span r) r.further)) (omega arith);
+      })
 
   entries-shifted : (column : ℕ) (r : ClusterRun) (from n : ℕ) → map (run_entry column (shifted_run bytes places r)) (range_with_len from n) ≡ map (shifted_entry bytes places) (map (run_entry column r) (range_with_len from n))
   entries-shifted column r from zero = refl
   entries-shifted column r from (suc n) =
       let k = cluster_from_left r from in
-      ap (λ s. entry_by s (column + from * r.columns) r.level r.columns ∷ map (run_entry column (shifted_run bytes places r)) (range_with_len (from + 1) n)) (after-shifted r.span k)
+      ap (λ s. entry_by s (column + from * r.columns) r.level r.columns ∷ map (run_entry column (shifted_run bytes places r)) (range_with_len (from + 1) n))
+      (ap (span_after k) (later-kept bytes places r.span) ∙ after-shifted (run_span r) k)
       ∙ ap (λ l. shifted_entry bytes places (run_entry column r from) ∷ l) (entries-shifted column r (from + 1) n)
 
   pub runs-shifted : (column : ℕ) (runs : List ClusterRun) → runs_entries column (map (shifted_run bytes places) runs) ≡ map (shifted_entry bytes places) (runs_entries column runs)

@@ -17,7 +17,7 @@ use Rattle.cell_grid.specs.declared.cluster_run.ClusterRun.{ClusterRun}
 use Rattle.cell_grid.specs.declared.entry.Entry.{Entry}
 use Rattle.cell_grid.specs.Print.{separates_segments, is_replaced, begins_with_tab, mirrored_text, slice_of, own_text, run_slices, run_text}
 use Rattle.cell_grid.specs.Printable.{IsSlice, IsPrintable}
-use Rattle.cell_grid.specs.Runs.{byte_count, span_after, cluster_count, cluster_from_left, run_entry, run_entries, run_columns, runs_columns, runs_entries, IsInReach}
+use Rattle.cell_grid.specs.Runs.{run_span, byte_count, span_after, cluster_count, cluster_from_left, run_entry, run_entries, run_columns, runs_columns, runs_entries, IsInReach}
 use Rattle.cell_grid.proofs.Alone.{none-after}
 use Rattle.cell_grid.proofs.Printing.{own-slice}
 use Rattle.cell_grid.proofs.Reaching.{all-clusters, from_left-within}
@@ -85,20 +85,20 @@ some-upto : (x k m : ℕ) → x ≤ x + k * m
 some-upto x k m = omega arith
 
 module _ (text : List ℕ) (r : ClusterRun) (h : IsPrintable text r) where
-  pub first-slice : IsSlice text r.span
-  first-slice = subst (IsSlice text) (none-after r.span) (h.slices 0 (omega arith))
+  pub first-slice : IsSlice text (run_span r)
+  first-slice = subst (IsSlice text) (none-after (run_span r)) (h.slices 0 (omega arith))
 
-  pub last-slice : IsSlice text (span_after r.further r.span)
+  pub last-slice : IsSlice text (span_after r.further (run_span r))
   last-slice = h.slices r.further (omega arith)
 
   -- a cluster ends where the next one begins
-  pub ends-next : (k : ℕ) → r.span.end_byte + k * byte_count r.span ≡ r.span.first_byte + (k + 1) * byte_count r.span
+  pub ends-next : (k : ℕ) → (run_span r).end_byte + k * byte_count (run_span r) ≡ (run_span r).first_byte + (k + 1) * byte_count (run_span r)
   ends-next k =
       let order = first-slice.order in
-      let size : r.span.end_byte ≡ r.span.first_byte + byte_count r.span = omega arith in
-      end-next k r.span.first_byte r.span.end_byte (byte_count r.span) size
+      let size : (run_span r).end_byte ≡ (run_span r).first_byte + byte_count (run_span r) = omega arith in
+      end-next k (run_span r).first_byte (run_span r).end_byte (byte_count (run_span r)) size
 
-  pub run-order : r.span.first_byte ≤ (span_after r.further r.span).end_byte
+  pub run-order : (run_span r).first_byte ≤ (span_after r.further (run_span r)).end_byte
   run-order = let order = first-slice.order in omega arith
 
 -- ---- the clusters of a run of an even level
@@ -108,20 +108,20 @@ module _ (text : List ℕ) (r : ClusterRun) (h : IsPrintable text r) (even : r.l
   not-odd = ne_eqb (r.level % 2) 1 (λ one. let two = even in absurd (omega arith))
 
   -- each stands where it does in the text
-  cluster-slice : (k : ℕ) → slice_of text (run_entry 0 r k).span ≡ slice_range text (r.span.first_byte + k * byte_count r.span) (r.span.first_byte + (k + 1) * byte_count r.span)
+  cluster-slice : (k : ℕ) → slice_of text (run_entry 0 r k).span ≡ slice_range text ((run_span r).first_byte + k * byte_count (run_span r)) ((run_span r).first_byte + (k + 1) * byte_count (run_span r))
   cluster-slice k =
-      ap (λ b. slice_of text (span_after (cond b (r.further - k) k) r.span)) not-odd
-      ∙ ap (slice_range text (r.span.first_byte + k * byte_count r.span)) (ends-next text r h k)
+      ap (λ b. slice_of text (span_after (cond b (r.further - k) k) (run_span r))) not-odd
+      ∙ ap (slice_range text ((run_span r).first_byte + k * byte_count (run_span r))) (ends-next text r h k)
 
   slices-upto : (n : ℕ)
-      → flat_map (λ (e : Entry). slice_of text e.span) (map (run_entry 0 r) (range_with_len 0 n)) ≡ slice_range text r.span.first_byte (r.span.first_byte + n * byte_count r.span)
+      → flat_map (λ (e : Entry). slice_of text e.span) (map (run_entry 0 r) (range_with_len 0 n)) ≡ slice_range text (run_span r).first_byte ((run_span r).first_byte + n * byte_count (run_span r))
   slices-upto zero =
-      let e : r.span.first_byte + 0 * byte_count r.span - r.span.first_byte ≡ 0 = none-upto r.span.first_byte (byte_count r.span) in
-      ap (λ k. take k (drop r.span.first_byte text)) (sym e)
+      let e : (run_span r).first_byte + 0 * byte_count (run_span r) - (run_span r).first_byte ≡ 0 = none-upto (run_span r).first_byte (byte_count (run_span r)) in
+      ap (λ k. take k (drop (run_span r).first_byte text)) (sym e)
   slices-upto (suc n) =
       let f : Entry → List ℕ = λ e. slice_of text e.span in
-      let size = byte_count r.span in
-      let from = r.span.first_byte in
+      let size = byte_count (run_span r) in
+      let from = (run_span r).first_byte in
       let e : suc n ≡ n + 1 = omega arith in
       let low = some-upto from n size in
       let high = one-upto from n size in
@@ -133,8 +133,8 @@ module _ (text : List ℕ) (r : ClusterRun) (h : IsPrintable text r) (even : r.l
       ∙ sym (slice-parts text from (from + n * size) (from + (n + 1) * size) low high)
       ∙ ap (λ k. slice_range text from (from + k * size)) (sym e)
 
-  pub slices-text : run_slices text r ≡ slice_range text r.span.first_byte (span_after r.further r.span).end_byte
-  slices-text = slices-upto (cluster_count r) ∙ ap (slice_range text r.span.first_byte) (sym (ends-next text r h r.further))
+  pub slices-text : run_slices text r ≡ slice_range text (run_span r).first_byte (span_after r.further (run_span r)).end_byte
+  slices-text = slices-upto (cluster_count r) ∙ ap (slice_range text (run_span r).first_byte) (sym (ends-next text r h r.further))
 
 -- ---- the clusters of a run of an odd level
 
@@ -143,37 +143,37 @@ module _ (text : List ℕ) (r : ClusterRun) (h : IsPrintable text r) (odd : r.le
   from-last number = ap (λ k. cond (k == 1) (r.further - number) number) odd
 
   -- the cluster behind so many from the left ends where as many others do as are left, and begins a cluster before
-  module _ (number end : ℕ) (lt : number < cluster_count r) (is : end ≡ r.span.first_byte + (cluster_count r - number) * byte_count r.span) where
-    left-is : (cluster_count r - number) * byte_count r.span ≡ (r.further - number) * byte_count r.span + byte_count r.span
+  module _ (number end : ℕ) (lt : number < cluster_count r) (is : end ≡ (run_span r).first_byte + (cluster_count r - number) * byte_count (run_span r)) where
+    left-is : (cluster_count r - number) * byte_count (run_span r) ≡ (r.further - number) * byte_count (run_span r) + byte_count (run_span r)
     left-is =
         let e : cluster_count r - number ≡ r.further - number + 1 = omega arith in
-        let all = ap (λ k. k * byte_count r.span) e in
+        let all = ap (λ k. k * byte_count (run_span r)) e in
         omega arith
 
-    pub start-odd : end - byte_count r.span ≡ (span_after (cluster_from_left r number) r.span).first_byte
+    pub start-odd : end - byte_count (run_span r) ≡ (span_after (cluster_from_left r number) (run_span r)).first_byte
     start-odd =
         let all = left-is in
-        let e : end - byte_count r.span ≡ r.span.first_byte + (r.further - number) * byte_count r.span = omega arith in
-        e ∙ sym (ap (λ k. (span_after k r.span).first_byte) (from-last number))
+        let e : end - byte_count (run_span r) ≡ (run_span r).first_byte + (r.further - number) * byte_count (run_span r) = omega arith in
+        e ∙ sym (ap (λ k. (span_after k (run_span r)).first_byte) (from-last number))
 
-    pub end-odd : end ≡ (span_after (cluster_from_left r number) r.span).end_byte
+    pub end-odd : end ≡ (span_after (cluster_from_left r number) (run_span r)).end_byte
     end-odd =
         let all = left-is in
         let order = (first-slice text r h).order in
-        let e : end ≡ r.span.end_byte + (r.further - number) * byte_count r.span = omega arith in
-        e ∙ sym (ap (λ k. (span_after k r.span).end_byte) (from-last number))
+        let e : end ≡ (run_span r).end_byte + (r.further - number) * byte_count (run_span r) = omega arith in
+        e ∙ sym (ap (λ k. (span_after k (run_span r)).end_byte) (from-last number))
 
-    pub start-next : end - byte_count r.span ≡ r.span.first_byte + (cluster_count r - (number + 1)) * byte_count r.span
+    pub start-next : end - byte_count (run_span r) ≡ (run_span r).first_byte + (cluster_count r - (number + 1)) * byte_count (run_span r)
     start-next =
         let all = left-is in
         let e : cluster_count r - (number + 1) ≡ r.further - number = omega arith in
-        let same = ap (λ k. k * byte_count r.span) e in
+        let same = ap (λ k. k * byte_count (run_span r)) e in
         omega arith
 
-    pub within-odd : byte_count r.span ≤ end
+    pub within-odd : byte_count (run_span r) ≤ end
     within-odd = let all = left-is in omega arith
 
-    pub slice-odd : IsSlice text (span_after (cluster_from_left r number) r.span)
+    pub slice-odd : IsSlice text (span_after (cluster_from_left r number) (run_span r))
     slice-odd = h.slices (cluster_from_left r number) (from_left-within r number (omega arith))
 
 -- ---- a run whose clusters print what stands in the text
@@ -226,24 +226,24 @@ module _ (text : List ℕ) (u : IsUtf8 text) (p : ℕ → Bool) where
       (or_parts (list_any p (code_points part)) (list_any p (code_points back)) later.1).0
 
 module _ (tables : TableValues) (text : List ℕ) (r : ClusterRun) (h : IsPrintable text r) (u : IsUtf8 text) (some : 0 < r.columns) where
-  module _ (p : ℕ → Bool) (none : list_any p (code_points (slice_range text r.span.first_byte (span_after r.further r.span).end_byte)) ≡ false) where
+  module _ (p : ℕ → Bool) (none : list_any p (code_points (slice_range text (run_span r).first_byte (span_after r.further (run_span r)).end_byte)) ≡ false) where
     -- what no code point of the run has, none of a cluster has
-    cluster-none : (number : ℕ) → number ≤ r.further → list_any p (code_points (slice_of text (span_after number r.span))) ≡ false
+    cluster-none : (number : ℕ) → number ≤ r.further → list_any p (code_points (slice_of text (span_after number (run_span r)))) ≡ false
     cluster-none number le =
-        let size = byte_count r.span in
-        let from = r.span.first_byte + number * size in
-        let to = r.span.end_byte + number * size in
+        let size = byte_count (run_span r) in
+        let from = (run_span r).first_byte + number * size in
+        let to = (run_span r).end_byte + number * size in
         let here = h.slices number le in
         let first = first-slice text r h in
         let last = last-slice text r h in
-        let low = some-upto r.span.first_byte number size in
-        let high : to ≤ r.span.end_byte + r.further * size = (let more = mul-le-mul_right size le in omega arith) in
-        part-none text u p r.span.first_byte from to (r.span.end_byte + r.further * size) low here.order high first.start here.start here.end last.end none
+        let low = some-upto (run_span r).first_byte number size in
+        let high : to ≤ (run_span r).end_byte + r.further * size = (let more = mul-le-mul_right size le in omega arith) in
+        part-none text u p (run_span r).first_byte from to ((run_span r).end_byte + r.further * size) low here.order high first.start here.start here.end last.end none
 
-  cluster-utf8 : (number : ℕ) → number ≤ r.further → IsUtf8 (slice_of text (span_after number r.span))
+  cluster-utf8 : (number : ℕ) → number ≤ r.further → IsUtf8 (slice_of text (span_after number (run_span r)))
   cluster-utf8 number le =
       let here = h.slices number le in
-      IsUtf8-between text (span_after number r.span).first_byte (span_after number r.span).end_byte u here.order here.start here.end
+      IsUtf8-between text (span_after number (run_span r)).first_byte (span_after number (run_span r)).end_byte u here.order here.start here.end
 
   each-same : ((k : ℕ) → k ≤ r.further → own_text tables text (run_entry 0 r k) ≡ slice_of text (run_entry 0 r k).span) → (from n : ℕ) → from + n ≤ cluster_count r
       → flat_map (own_text tables text) (map (run_entry 0 r) (range_with_len from n)) ≡ flat_map (λ (e : Entry). slice_of text e.span) (map (run_entry 0 r) (range_with_len from n))
@@ -258,27 +258,27 @@ module _ (tables : TableValues) (text : List ℕ) (r : ClusterRun) (h : IsPrinta
       ∙ sym (flat_map-cons g (run_entry 0 r from) later)
 
   -- no tab is in it, and nothing is mirrored at its level
-  pub even-clusters : r.level % 2 ≡ 0 → list_any (separates_segments tables) (code_points (slice_range text r.span.first_byte (span_after r.further r.span).end_byte)) ≡ false
+  pub even-clusters : r.level % 2 ≡ 0 → list_any (separates_segments tables) (code_points (slice_range text (run_span r).first_byte (span_after r.further (run_span r)).end_byte)) ≡ false
       → run_text tables text r ≡ run_slices text r
   even-clusters even none =
       each-same
       (λ k le.
       let number = cluster_from_left r k in
       let within = from_left-within r k le in
-      let bytes = slice_of text (span_after number r.span) in
+      let bytes = slice_of text (span_after number (run_span r)) in
       own-slice tables text (run_entry 0 r k) some (begins-none tables (code_points bytes) (cluster-none (separates_segments tables) none number within))
       (even-text tables r.level bytes even (cluster-utf8 number within)))
       0 (cluster_count r) (omega arith)
 
   -- nothing in it is ever replaced
-  pub kept-clusters : list_any (is_replaced tables) (code_points (slice_range text r.span.first_byte (span_after r.further r.span).end_byte)) ≡ false
+  pub kept-clusters : list_any (is_replaced tables) (code_points (slice_range text (run_span r).first_byte (span_after r.further (run_span r)).end_byte)) ≡ false
       → run_text tables text r ≡ run_slices text r
   kept-clusters none =
       each-same
       (λ k le.
       let number = cluster_from_left r k in
       let within = from_left-within r k le in
-      let bytes = slice_of text (span_after number r.span) in
+      let bytes = slice_of text (span_after number (run_span r)) in
       let kept = cluster-none (is_replaced tables) none number within in
       own-slice tables text (run_entry 0 r k) some (kept-tab tables (code_points bytes) kept) (kept-text tables r.level bytes (cluster-utf8 number within) kept))
       0 (cluster_count r) (omega arith)

@@ -14,7 +14,7 @@ use Rattle.cell_grid.specs.Cells.{entries_cells}
 use Rattle.cell_grid.specs.Rows.{DrawnRow}
 use Rattle.cell_grid.specs.Print.{slice_of, own_text, run_slices, cell_text, row_text}
 use Rattle.cell_grid.specs.Printable.{IsPrintable}
-use Rattle.cell_grid.specs.Runs.{byte_count, span_after, cluster_count, cluster_from_left, run_entry}
+use Rattle.cell_grid.specs.Runs.{run_span, byte_count, span_after, cluster_count, cluster_from_left, run_entry}
 use Rattle.cell_grid.proofs.Parts.{length-slice}
 use Rattle.cell_grid.proofs.Printing.{row-text}
 use Rattle.cell_grid.proofs.Reaching.{from_left-within}
@@ -62,25 +62,25 @@ next-size : (n size : ℕ) → size + n * size ≡ suc n * size
 next-size n size = omega arith
 
 module _ (text : List ℕ) (r : ClusterRun) (h : IsPrintable text r) where
-  slice-size : (k : ℕ) → k ≤ r.further → length (slice_of text (run_entry 0 r k).span) ≡ byte_count r.span
+  slice-size : (k : ℕ) → k ≤ r.further → length (slice_of text (run_entry 0 r k).span) ≡ byte_count (run_span r)
   slice-size k le =
       let number = cluster_from_left r k in
       let here = h.slices number (from_left-within r k le) in
-      length-slice text (span_after number r.span).first_byte (span_after number r.span).end_byte here.order here.end.0
-      ∙ one-size r.span.first_byte r.span.end_byte (number * byte_count r.span) (first-slice text r h).order
+      length-slice text (span_after number (run_span r)).first_byte (span_after number (run_span r)).end_byte here.order here.end.0
+      ∙ one-size (run_span r).first_byte (run_span r).end_byte (number * byte_count (run_span r)) (first-slice text r h).order
 
-  each-size : (from n : ℕ) → from + n ≤ cluster_count r → length (flat_map (λ (e : Entry). slice_of text e.span) (map (run_entry 0 r) (range_with_len from n))) ≡ n * byte_count r.span
-  each-size from zero le = none-size (byte_count r.span)
+  each-size : (from n : ℕ) → from + n ≤ cluster_count r → length (flat_map (λ (e : Entry). slice_of text e.span) (map (run_entry 0 r) (range_with_len from n))) ≡ n * byte_count (run_span r)
+  each-size from zero le = none-size (byte_count (run_span r))
   each-size from (suc n) le =
       let f : Entry → List ℕ = λ e. slice_of text e.span in
       let later = map (run_entry 0 r) (range_with_len (from + 1) n) in
       ap length (flat_map-cons f (run_entry 0 r from) later) ∙ length-append (f (run_entry 0 r from)) (flat_map f later)
       ∙ ap (λ k. k + length (flat_map f later)) (slice-size from (omega arith))
-      ∙ ap (λ k. byte_count r.span + k) (each-size (from + 1) n (omega arith))
-      ∙ next-size n (byte_count r.span)
+      ∙ ap (λ k. byte_count (run_span r) + k) (each-size (from + 1) n (omega arith))
+      ∙ next-size n (byte_count (run_span r))
 
   -- they have the bytes from where the first begins up to where the last ends
-  pub slices-size : length (run_slices text r) + r.span.first_byte ≡ (span_after r.further r.span).end_byte
+  pub slices-size : length (run_slices text r) + (run_span r).first_byte ≡ (span_after r.further (run_span r)).end_byte
   slices-size =
       let all = each-size 0 (cluster_count r) (omega arith) in
       let ends = ends-next text r h r.further in

@@ -7,6 +7,7 @@ pub mod Coming
 pub mod Rows
 pub mod Separators
 pub mod Shifting
+pub mod KeptSpans
 pub mod Runs
 pub mod RunCounts
 pub mod Pieces

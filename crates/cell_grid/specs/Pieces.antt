@@ -4,12 +4,12 @@ use Rattle.std.specs.List.{flat_map, range_with_len}
 use Rattle.reorder.specs.VisualList.{visual_list}
 use Rattle.paragraphs.specs.declared.span.Span.{Span}
 use Rattle.cell_grid.specs.declared.cluster_run.ClusterRun.{ClusterRun}
-use Rattle.cell_grid.specs.Runs.{span_after, cluster_count}
-use Rattle.cell_grid.specs.Spans.{extent}
+use Rattle.cell_grid.specs.Runs.{run_span, span_after, cluster_count}
+use Rattle.cell_grid.specs.KeptSpans.{no_span}
 
 -- where the clusters of a run stand, in the order of the text, their levels and their columns
 abbrev pub run_spans : ClusterRun → List Span
-run_spans r = map (λ k. span_after k r.span) (range_with_len 0 (cluster_count r))
+run_spans r = map (λ k. span_after k (run_span r)) (range_with_len 0 (cluster_count r))
 
 abbrev pub run_levels : ClusterRun → List ℕ
 run_levels r = replicate (cluster_count r) r.level
@@ -29,7 +29,7 @@ columns_of pieces = flat_map run_widths pieces
 
 -- the piece with this number
 abbrev pub no_piece : ClusterRun
-no_piece = record { span = extent []; further = 0; level = 0; columns = 0 }
+no_piece = record { span = no_span; further = 0; level = 0; columns = 0 }
 
 abbrev pub piece_at : List ClusterRun → ℕ → ClusterRun
 piece_at pieces k = slice_index_or pieces k no_piece

@@ -6,7 +6,7 @@ use Rattle.paragraphs.specs.declared.span.Span.{Span}
 use Rattle.cell_grid.specs.declared.cluster_run.ClusterRun.{ClusterRun}
 use Rattle.cell_grid.specs.declared.entry.Entry.{Entry}
 use Rattle.cell_grid.specs.Rows.{DrawnRow}
-use Rattle.cell_grid.specs.Runs.{span_after, run_columns, IsInReach}
+use Rattle.cell_grid.specs.Runs.{run_span, span_after, run_columns, IsInReach}
 
 -- a slice of the text between characters
 pub record IsSlice (text : List ℕ) (s : Span) : Type 0 where
@@ -22,4 +22,4 @@ AreSlices text r = All (λ (e : Entry). IsSlice text e.span) r.entries
 pub record IsPrintable (text : List ℕ) (r : ClusterRun) : Type 0 where
   pub reach : IsInReach r
   pub columns : run_columns r < 2 ^ 16
-  pub slices : (number : ℕ) → number ≤ r.further → IsSlice text (span_after number r.span)
+  pub slices : (number : ℕ) → number ≤ r.further → IsSlice text (span_after number (run_span r))

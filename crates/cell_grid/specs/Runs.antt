@@ -6,6 +6,7 @@ use Rattle.paragraphs.specs.declared.span.Span.{Span}
 use Rattle.cell_grid.specs.declared.cluster_run.ClusterRun.{ClusterRun}
 use Rattle.cell_grid.specs.declared.entry.Entry.{Entry}
 use Rattle.cell_grid.specs.Cells.{StandWithin}
+use Rattle.cell_grid.specs.KeptSpans.{span_kept, kept_later}
 use Rattle.cell_grid.specs.Shifting.{StaysInReach, MayShift}
 use Rattle.cell_grid.specs.Spans.{shifted_span}
 
@@ -20,6 +21,10 @@ point_count s = s.end_place - s.first_place
 abbrev pub span_after : (count : ℕ) → Span → Span
 span_after count s = shifted_span (count * byte_count s) (count * point_count s) s
 
+-- where its first cluster in the text stands
+abbrev pub run_span : ClusterRun → Span
+run_span r = span_kept r.span
+
 abbrev pub cluster_count : ClusterRun → ℕ
 cluster_count r = r.further + 1
 
@@ -30,7 +35,7 @@ cluster_from_left r number = if is_odd r.level then r.further - number else numb
 -- the entry with this number, from the left, of a run that begins at this column
 abbrev pub run_entry : (column : ℕ) → ClusterRun → (number : ℕ) → Entry
 run_entry column r number = record {
-  span = span_after (cluster_from_left r number) r.span;
+  span = span_after (cluster_from_left r number) (run_span r);
   column = column + number * r.columns;
   level = r.level;
   columns = r.columns;
@@ -53,16 +58,16 @@ runs_entries column (r ∷ later) = run_entries column r ++ runs_entries (column
 
 -- the last cluster of a run still has numbers of 32 bits
 abbrev pub IsInReach : ClusterRun → Type 0
-IsInReach r = StaysInReach (r.further * byte_count r.span) (r.further * point_count r.span) r.span
+IsInReach r = StaysInReach (r.further * byte_count (run_span r)) (r.further * point_count (run_span r)) (run_span r)
 
 -- a run moved this many bytes and places later
 abbrev pub shifted_run : (bytes places : ℕ) → ClusterRun → ClusterRun
-shifted_run bytes places r = record r { span = shifted_span bytes places r.span }
+shifted_run bytes places r = record r { span = kept_later bytes places r.span }
 
 -- its first and its last cluster may be shifted
 pub record MayShiftRun (bytes places : ℕ) (r : ClusterRun) : Type 0 where
-  pub first : MayShift bytes places r.span
-  pub last : MayShift bytes places (span_after r.further r.span)
+  pub first : MayShift bytes places (run_span r)
+  pub last : MayShift bytes places (span_after r.further (run_span r))
 
 -- the runs of a row: their entries stand within the width from column `start` on, and are so many
 pub record AreKept (width start count : ℕ) (runs : List ClusterRun) : Type 0 where

@@ -1,9 +1,11 @@
 //! Clusters of a row that are alike and follow each other.
 
 ghost use Rattle.std.specs.Prelude.{◌≡◌, ◌+◌, ◌^◌, ◌<◌, ◌≤◌, [], ◌∷◌};
-ghost use Rattle.cell_grid.specs.Runs.{span_after, cluster_count, cluster_from_left, run_entry, run_entries, run_columns, IsInReach};
+ghost use Rattle.cell_grid.specs.KeptSpans.{IsShort};
+ghost use Rattle.cell_grid.specs.Runs.{run_span, span_after, cluster_count, cluster_from_left, run_entry, run_entries, run_columns, IsInReach};
 
 use crate::entry::Entry;
+use crate::kept_span::KeptSpan;
 use crate::span::span_after;
 use paragraphs::Span;
 use std::mem::size_of;
@@ -14,7 +16,7 @@ use std::mem::size_of;
 #[derive(Clone, Copy, Debug)]
 pub(crate) struct ClusterRun {
     /// Where the first of them in the text stands.
-    pub(crate) span: Span,
+    pub(crate) span: KeptSpan,
     /// How many more there are.
     pub(crate) further: u16,
     pub(crate) level: u8,
@@ -22,19 +24,21 @@ pub(crate) struct ClusterRun {
     pub(crate) columns: u8,
 }
 
-// No row keeps more than it would with an `Entry` for each cluster.
-const _: () = prove!(size_of::<ClusterRun>() <= 20);
+// Less than an `Entry` has, so that no row keeps more than it would with one for each cluster.
+const _: () = prove!(size_of::<ClusterRun>() <= 16);
 
 impl ClusterRun {
     /// One cluster.
     #[inline]
     pub(crate) fn of(entry: Entry) -> ClusterRun
+        requires { IsShort entry.span }
         ensures entries { run_entries entry.column result ≡ entry ∷ [] }
         ensures columns { run_columns result ≡ entry.columns }
         ensures reach { IsInReach result }
     {
+        let span = KeptSpan::of(entry.span);
         ClusterRun {
-            span: entry.span,
+            span,
             further: 0,
             level: entry.level,
             columns: entry.columns,
@@ -63,9 +67,9 @@ impl ClusterRun {
     pub(crate) fn cluster(&self, number: u16) -> Span
         requires within { number ≤ self.now.further }
         requires reach { IsInReach self.now }
-        ensures { result ≡ span_after number self.now.span }
+        ensures { result ≡ span_after number (run_span self.now) }
     {
-        span_after(number, self.span)
+        span_after(number, self.span.read())
     }
 
     /// Which cluster, in the order of the text, stands behind so many from the left.

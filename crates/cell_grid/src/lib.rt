@@ -9,6 +9,7 @@ mod entry;
 mod entry_sizes;
 mod grid;
 mod held;
+mod kept_span;
 pub mod laws;
 mod laws_below;
 mod lists;

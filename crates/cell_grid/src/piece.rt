@@ -11,6 +11,7 @@ ghost use Rattle.cell_grid.specs.Pieces.{spans_of, levels_of, columns_of};
 ghost use Rattle.cell_grid.specs.Runs.{IsInReach};
 
 use crate::cluster_run::ClusterRun;
+use crate::kept_span::KeptSpan;
 use crate::part::{Cursor, behind};
 use bg_types::Memory;
 use line_break::ShapeRun;
@@ -101,6 +102,7 @@ fn first_piece(run: ShapeRun, most: u32, levels: &[u8], room: u16) -> (ClusterRu
         first_place: run.first_place,
         end_place: run.first_place + run.points,
     };
+    let span = KeptSpan::of(span);
     let piece = ClusterRun {
         span,
         further: (fit.count - 1) as u16,

@@ -60,8 +60,9 @@ fn run_size(tables: &Tables, text: &str, run: &ClusterRun) -> Result<usize, Memo
     ensures { IfOk result (λ size. size ≡ length (run_text tables.now text.now run.now)) }
 {
     if prints_its_clusters(tables, text, run) {
+        let first = run.span.read();
         let last = run.cluster(run.further);
-        return Ok(last.end_byte as usize - run.span.first_byte as usize);
+        return Ok(last.end_byte as usize - first.first_byte as usize);
     }
     clusters_size(tables, text, run)
 }

@@ -9,7 +9,7 @@ ghost use Rattle.paragraphs.specs.Text.{code_points};
 ghost use Rattle.cell_grid.specs.Held.{AppendsAllBut};
 ghost use Rattle.cell_grid.specs.Print.{is_segment_separator, separates_segments, is_replaced, begins_with_tab, mirrored_text, own_text, run_slices, run_text, row_text, printed, printed_row};
 ghost use Rattle.cell_grid.specs.Printable.{IsSlice, IsPrintable};
-ghost use Rattle.cell_grid.specs.Runs.{span_after};
+ghost use Rattle.cell_grid.specs.Runs.{run_span, span_after};
 
 use crate::cluster_run::ClusterRun;
 use crate::entry::Entry;
@@ -125,7 +125,8 @@ fn hold_first<W: Sink>(
         hold_odd_run(tables, text, first, held, sink)?;
         return Ok(1);
     }
-    let start = first.span.first_byte as usize;
+    let span = first.span.read();
+    let start = span.first_byte as usize;
     let (count, end) = slice_at(tables, text, runs, start);
     if count > 0 {
         hold_text(&text[start..end], held, sink)?;
@@ -147,7 +148,8 @@ fn slice_at(tables: &Tables, text: &str, runs: &[ClusterRun], start: usize) -> (
     let mut end = start;
     for number in 0..runs.len() {
         let run = runs[number];
-        if run.span.first_byte as usize != end || !prints_its_slice(tables, text, &run) {
+        let first = run.span.read();
+        if first.first_byte as usize != end || !prints_its_slice(tables, text, &run) {
             return (number, end);
         }
         let last = run.cluster(run.further);
@@ -159,7 +161,7 @@ fn slice_at(tables: &Tables, text: &str, runs: &[ClusterRun], start: usize) -> (
 /// Whether a run is known to print what stands in the text: its clusters do, and stand in the order of the text.
 fn prints_its_slice(tables: &Tables, text: &str, run: &ClusterRun) -> bool
     requires { IsPrintable text.now run.now }
-    ensures { result ≡ true → run_text tables.now text.now run.now ≡ slice_range text.now run.now.span.first_byte (span_after run.now.further run.now.span).end_byte }
+    ensures { result ≡ true → run_text tables.now text.now run.now ≡ slice_range text.now (run_span run.now).first_byte (span_after run.now.further (run_span run.now)).end_byte }
 {
     run.level % 2 == 0 && prints_its_clusters(tables, text, run)
 }
@@ -174,8 +176,9 @@ pub(crate) fn prints_its_clusters(tables: &Tables, text: &str, run: &ClusterRun)
     if run.columns == 0 {
         return false;
     }
+    let first = run.span.read();
     let last = run.cluster(run.further);
-    let clusters = &text[run.span.first_byte as usize..last.end_byte as usize];
+    let clusters = &text[first.first_byte as usize..last.end_byte as usize];
     if run.level % 2 == 0 {
         !has_segment_separator(tables, clusters)
     } else {
@@ -242,7 +245,8 @@ fn hold_backwards<W: Sink>(
     ensures err { OnErr result (AppendsBeginning (W.written sink.old) (W.written sink.new) (held.old.bytes ++ run_slices text.now run)) }
     ensures failed { W.has_failed sink.new ≡ is_err result }
 {
-    let bytes = run.span.end_byte - run.span.first_byte;
+    let first = run.span.read();
+    let bytes = first.end_byte - first.first_byte;
     let last = run.cluster(run.further);
     let count = run.count();
     let mut end = last.end_byte;

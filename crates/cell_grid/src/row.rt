@@ -114,7 +114,8 @@ impl Row {
         para_level: u8,
         bytes: u32,
     ) -> Result<Row, Memory>
-        requires { width ≤ 500 }
+        requires width { width ≤ 500 }
+        requires few { bytes ≤ 4_000_000 }
         ensures { IfOk result (λ row. row ≡ separator_row width para_level bytes) }
     {
         let start = start_column(width, para_level, 0);

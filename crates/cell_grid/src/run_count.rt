@@ -40,9 +40,9 @@ fn goes_on(left: &ClusterRun, right: &ClusterRun) -> bool
     }
     if left.level % 2 == 1 {
         // What stands further right stands earlier in the text.
-        return is_next(right.cluster(right.further), left.span);
+        return is_next(right.cluster(right.further), left.span.read());
     }
-    is_next(left.cluster(left.further), right.span)
+    is_next(left.cluster(left.further), right.span.read())
 }
 
 /// Whether the second span is the one behind the first, and of its size.

@@ -6,7 +6,6 @@ ghost use Rattle.cell_grid.specs.Runs.{runs_columns, runs_entries, shifted_run, 
 
 use crate::cluster_run::ClusterRun;
 use crate::entry::Entry;
-use crate::span::shifted;
 
 /// The entry with this number, from the left, of runs that begin at this column.
 pub(crate) fn entry_in(runs: &[ClusterRun], start: u16, number: usize) -> Option<Entry>
@@ -34,6 +33,6 @@ pub(crate) fn shift_runs(runs: &mut [ClusterRun], bytes: u32, places: u32)
 {
     for run in runs.iter_mut() {
         let span = run.span;
-        run.span = shifted(span, bytes, places);
+        run.span = span.later(bytes, places);
     }
 }

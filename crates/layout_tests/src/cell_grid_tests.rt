@@ -1,6 +1,7 @@
 //! What no clause says: rows drawn and printed, with small tables, and calls that succeed.
 
 mod hostile;
+mod long_clusters;
 
 use crate::drawn::{Drawn, Shown};
 use crate::rows::{ByClasses, assert_rows, assert_rows_by};

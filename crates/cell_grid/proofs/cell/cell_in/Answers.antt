@@ -2,15 +2,15 @@
 use Rattle.std.proofs.Common.{◌≡◌, ◌+◌, [], length, drop, get_or, refl, sym, ap, ◌∙◌, arith}
 use Rattle.std.proofs.lemmas.List.{drop-drop}
 use Rattle.cell_grid.specs.declared.cluster_run.ClusterRun.{ClusterRun}
+use Rattle.cell_grid.specs.KeptSpans.{no_span}
 use Rattle.cell_grid.specs.Runs.{cluster_count, run_columns, runs_columns, runs_entries}
-use Rattle.cell_grid.specs.Spans.{extent}
 use Rattle.cell_grid.proofs.RunEntries.{rest-drop, rest-length, rest-columns}
 use Rattle.cell_grid.proofs.Seeing.{before-all, behind-all, some, seen-head, seen-tail}
 use Rattle.cell_grid.proofs.Steps.{drop-none}
 use Rattle.cell_grid.proofs.cell.cell_in.Goals as goal
 
 abbrev no_run : ClusterRun
-no_run = record { span = extent []; further = 0; level = 0; columns = 0 }
+no_run = record { span = no_span; further = 0; level = 0; columns = 0 }
 
 pub returns-then-column-left : goal.returns-then-column-left
 returns-then-column-left c = before-all c.args.start c.args.column c.args.runs.now (omega arith)

@@ -1,14 +1,14 @@
 -- One run more.
 use Rattle.std.proofs.Common.{[], get_or, refl, ap, arith}
 use Rattle.cell_grid.specs.declared.cluster_run.ClusterRun.{ClusterRun}
+use Rattle.cell_grid.specs.KeptSpans.{no_span}
 use Rattle.cell_grid.specs.Runs.{runs_columns}
-use Rattle.cell_grid.specs.Spans.{extent}
 use Rattle.cell_grid.proofs.RunEntries.{rest-columns}
 use Rattle.cell_grid.proofs.Steps.{drop-none}
 use Rattle.cell_grid.proofs.column.end_column.Goals as goal
 
 abbrev no_run : ClusterRun
-no_run = record { span = extent []; further = 0; level = 0; columns = 0 }
+no_run = record { span = no_span; further = 0; level = 0; columns = 0 }
 
 pub overflow_cast-end : goal.overflow_cast-end
 overflow_cast-end c =

@@ -5,7 +5,7 @@ use Rattle.paragraphs.specs.declared.span.Span.{Span}
 use Rattle.cell_grid.specs.declared.entry.Entry.{Entry}
 use Rattle.cell_grid.specs.Held.{AppendsAllBut}
 use Rattle.cell_grid.specs.Print.{slice_of}
-use Rattle.cell_grid.specs.Runs.{byte_count, span_after, cluster_count, cluster_from_left, run_entry, run_entries}
+use Rattle.cell_grid.specs.Runs.{run_span, byte_count, span_after, cluster_count, cluster_from_left, run_entry, run_entries}
 use Rattle.cell_grid.proofs.HeldEnd.{but-start, but-on, but-cut}
 use Rattle.cell_grid.proofs.RunEntries.{length-run_entries}
 use Rattle.cell_grid.proofs.RunPrinting.{entry-within, entry-read, first-slice, ends-next, start-odd, end-odd, start-next, within-odd, slice-odd}
@@ -14,7 +14,11 @@ use Rattle.cell_grid.proofs.Writing.{on_err}
 use Rattle.cell_grid.proofs.printed.hold_backwards.Goals as goal
 
 pub overflow_sub-bytes : goal.overflow_sub-bytes
-overflow_sub-bytes g c = let order = (first-slice c.args.text.now c.args.run c.requires.run).order in omega arith
+overflow_sub-bytes g c =
+    let order = (first-slice c.args.text.now c.args.run c.requires.run).order in
+    let first = ap (λ (s : Span). s.first_byte) c.read-first.ensures in
+    let end = ap (λ (s : Span). s.end_byte) c.read-first.ensures in
+    omega arith
 
 pub cluster-last-requires : goal.cluster-last-requires
 cluster-last-requires g c = record { within = omega arith; reach = c.requires.run.reach }
@@ -27,7 +31,7 @@ loop-init g c =
     let all : cluster_count c.args.run - 0 ≡ cluster_count c.args.run = omega arith in
     record {
       working = c.requires.working;
-      end = last ∙ same ∙ ap (λ k. r.span.first_byte + k * byte_count r.span) (sym all);
+      end = last ∙ same ∙ ap (λ k. (run_span r).first_byte + k * byte_count (run_span r)) (sym all);
       so_far = but-start (g.W.Sink.written c.args.sink.now) c.args.held.now.bytes;
     }
 
@@ -39,6 +43,7 @@ overflow_sub-start g c =
     let count = c.count-count.ensures in
     let lt : c.loop.counter < cluster_count c.args.run = omega arith in
     let within = within-odd text r c.requires.run c.requires.odd n c.loop.end lt c.loop.invariant.end in
+    let size = ap byte_count c.read-first.ensures in
     omega arith
 
 pub range-cluster-requires-clause-start_boundary : goal.range-cluster-requires-clause-start_boundary
@@ -48,7 +53,7 @@ range-cluster-requires-clause-start_boundary g c = λ _.
     let n = c.loop.counter in
     let count = c.count-count.ensures in
     let lt : c.loop.counter < cluster_count c.args.run = omega arith in
-    subst (IsCharBoundary text) (sym (start-odd text r c.requires.run c.requires.odd n c.loop.end lt c.loop.invariant.end)) (slice-odd text r c.requires.run c.requires.odd n c.loop.end lt c.loop.invariant.end).start
+    subst (IsCharBoundary text) (sym (ap (λ k. c.loop.end - k) (ap byte_count c.read-first.ensures) ∙ start-odd text r c.requires.run c.requires.odd n c.loop.end lt c.loop.invariant.end)) (slice-odd text r c.requires.run c.requires.odd n c.loop.end lt c.loop.invariant.end).start
 
 pub range-cluster-requires-clause-end_boundary : goal.range-cluster-requires-clause-end_boundary
 range-cluster-requires-clause-end_boundary g c =
@@ -70,12 +75,13 @@ loop-preserved g c =
     let e = run_entry 0 r n in
     let before = c.args.held.now.bytes in
     let done = flat_map f (take n (run_entries 0 r)) in
-    let start = start-odd text r c.requires.run c.requires.odd n c.loop.end lt c.loop.invariant.end in
+    let size = ap (λ k. c.loop.end - k) (ap byte_count c.read-first.ensures) in
+    let start = size ∙ start-odd text r c.requires.run c.requires.odd n c.loop.end lt c.loop.invariant.end in
     let end = end-odd text r c.requires.run c.requires.odd n c.loop.end lt c.loop.invariant.end in
-    let bytes = c.range-cluster.ensures.value ∙ ap (λ k. slice_range text k c.loop.end) start ∙ ap (slice_range text (span_after (cluster_from_left r n) r.span).first_byte) end in
+    let bytes = c.range-cluster.ensures.value ∙ ap (λ k. slice_range text k c.loop.end) start ∙ ap (slice_range text (span_after (cluster_from_left r n) (run_span r)).first_byte) end in
     record {
       working = c.in_ok-hold_few.ensures.failed;
-      end = start-next text r c.requires.run c.requires.odd n c.loop.end lt c.loop.invariant.end;
+      end = size ∙ start-next text r c.requires.run c.requires.odd n c.loop.end lt c.loop.invariant.end;
       so_far =
           but-on _ _ _ (before ++ done) _ c.loop.invariant.so_far c.range-cluster.result.now _ _ c.in_ok-hold_few.ensures.ok
           (ap (λ t. before ++ t) (flat_map-take_next f (run_entries 0 r) n e e (entry-within text r n lt) (entry-read text r n e e lt refl) ∙ ap (λ t. done ++ t) (sym bytes))
@@ -94,9 +100,10 @@ returns-in_err-hold_few-clause-err g c =
     let before = c.args.held.now.bytes in
     let done = flat_map f (take n (run_entries 0 r)) in
     let rest = flat_map f (drop (n + 1) (run_entries 0 r)) in
-    let start = start-odd text r c.requires.run c.requires.odd n c.loop.end lt c.loop.invariant.end in
+    let size = ap (λ k. c.loop.end - k) (ap byte_count c.read-first.ensures) in
+    let start = size ∙ start-odd text r c.requires.run c.requires.odd n c.loop.end lt c.loop.invariant.end in
     let end = end-odd text r c.requires.run c.requires.odd n c.loop.end lt c.loop.invariant.end in
-    let bytes = c.range-cluster.ensures.value ∙ ap (λ k. slice_range text k c.loop.end) start ∙ ap (slice_range text (span_after (cluster_from_left r n) r.span).first_byte) end in
+    let bytes = c.range-cluster.ensures.value ∙ ap (λ k. slice_range text k c.loop.end) start ∙ ap (slice_range text (span_after (cluster_from_left r n) (run_span r)).first_byte) end in
     on_err c.from_residual.result
     (but-cut _ _ _ (before ++ done) _ c.loop.invariant.so_far c.range-cluster.result.now rest _ c.in_err-hold_few.ensures.err
     (ap (λ t. before ++ t) (flat_map-split_at f (run_entries 0 r) n e e (entry-within text r n lt) (entry-read text r n e e lt refl) ∙ ap (λ t. done ++ (t ++ rest)) (sym bytes))

@@ -1,7 +1,9 @@
 -- The first runs are a beginning of all.
-use Rattle.std.proofs.Common.{[], ◌++◌, get_or, drop, flat_map, refl, sym, ap, ◌∙◌, append_assoc}
+use Rattle.std.proofs.Common.{[], ◌++◌, get_or, drop, flat_map, refl, sym, ap, subst, ◌∙◌, append_assoc}
+use Rattle.std.specs.Str.{IsCharBoundary}
+use Rattle.paragraphs.specs.declared.span.Span.{Span}
 use Rattle.cell_grid.specs.declared.cluster_run.ClusterRun.{ClusterRun}
-use Rattle.cell_grid.specs.Spans.{extent}
+use Rattle.cell_grid.specs.KeptSpans.{no_span}
 use Rattle.cell_grid.specs.Print.{run_text}
 use Rattle.cell_grid.proofs.HeldEnd.{begins-longer}
 use Rattle.cell_grid.proofs.Printing.{pieces-parts}
@@ -11,14 +13,16 @@ use Rattle.cell_grid.proofs.Writing.{on_err}
 use Rattle.cell_grid.proofs.printed.hold_first.Goals as goal
 
 abbrev no_run : ClusterRun
-no_run = record { span = extent []; further = 0; level = 0; columns = 0 }
+no_run = record { span = no_span; further = 0; level = 0; columns = 0 }
 
 pub slice_at-count-requires-clause-start : goal.slice_at-count-requires-clause-start
 slice_at-count-requires-clause-start g c =
+    subst (λ (s : Span). IsCharBoundary c.args.text.now s.first_byte) (sym c.read-span.ensures)
     (first-slice c.args.text.now (get_or c.args.runs.now 0 no_run) (c.requires.runs 0 no_run c.requires.some)).start
 
 pub range-requires-clause-start_boundary : goal.range-requires-clause-start_boundary
 range-requires-clause-start_boundary g c = λ _.
+    subst (λ (s : Span). IsCharBoundary c.args.text.now s.first_byte) (sym c.read-span.ensures)
     (first-slice c.args.text.now (get_or c.args.runs.now 0 no_run) (c.requires.runs 0 no_run c.requires.some)).start
 
 pub returns-in_err-hold_text-clause-err : goal.returns-in_err-hold_text-clause-err

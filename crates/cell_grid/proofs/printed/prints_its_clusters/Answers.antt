@@ -5,6 +5,7 @@ use Rattle.std.specs.List.{list_any}
 use Rattle.paragraphs.specs.Text.{code_points}
 use Rattle.paragraphs.specs.declared.span.Span.{Span}
 use Rattle.cell_grid.specs.Print.{separates_segments, is_replaced}
+use Rattle.cell_grid.specs.Runs.{run_span}
 use Rattle.cell_grid.proofs.RunPrinting.{even-clusters, kept-clusters}
 use Rattle.cell_grid.proofs.printed.prints_its_clusters.Goals as goal
 
@@ -16,7 +17,8 @@ returns-then-run-eq0-2 c h =
     let text = c.args.text.now in
     let r = c.args.run.now in
     let last = ap (λ (s : Span). s.end_byte) c.cluster-last.ensures in
-    let slice = c.range-clusters.ensures.value ∙ ap (slice_range text r.span.first_byte) last in
+    let first = ap (λ (s : Span). s.first_byte) c.read-first.ensures in
+    let slice = c.range-clusters.ensures.value ∙ ap (λ k. slice_range text k c.cluster-last.result.end_byte) first ∙ ap (slice_range text (run_span r).first_byte) last in
     let none = ap (λ t. list_any (separates_segments c.args.tables.now) (code_points t)) (sym slice) ∙ sym c.has_segment_separator.ensures ∙ not-true c.has_segment_separator.result h in
     even-clusters c.args.tables.now text r c.requires c.utf8.text (omega (arith, c.if-run-eq0.false)) (omega (arith, c.if-run-eq0-2.true)) none
 
@@ -25,6 +27,7 @@ returns-else-run-eq0-2 c h =
     let text = c.args.text.now in
     let r = c.args.run.now in
     let last = ap (λ (s : Span). s.end_byte) c.cluster-last.ensures in
-    let slice = c.range-clusters.ensures.value ∙ ap (slice_range text r.span.first_byte) last in
+    let first = ap (λ (s : Span). s.first_byte) c.read-first.ensures in
+    let slice = c.range-clusters.ensures.value ∙ ap (λ k. slice_range text k c.cluster-last.result.end_byte) first ∙ ap (slice_range text (run_span r).first_byte) last in
     let none = ap (λ t. list_any (is_replaced c.args.tables.now) (code_points t)) (sym slice) ∙ sym c.has_replaced.ensures ∙ not-true c.has_replaced.result h in
     kept-clusters c.args.tables.now text r c.requires c.utf8.text (omega (arith, c.if-run-eq0.false)) none

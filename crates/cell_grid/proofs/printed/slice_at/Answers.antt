@@ -3,15 +3,15 @@ use Rattle.std.proofs.Common.{◌≡◌, [], slice_index_or, slice_range, refl, 
 use Rattle.std.specs.Str.{IsCharBoundary}
 use Rattle.paragraphs.specs.declared.span.Span.{Span}
 use Rattle.cell_grid.specs.declared.cluster_run.ClusterRun.{ClusterRun}
+use Rattle.cell_grid.specs.KeptSpans.{no_span}
 use Rattle.cell_grid.specs.Print.{run_text}
-use Rattle.cell_grid.specs.Runs.{span_after}
-use Rattle.cell_grid.specs.Spans.{extent}
+use Rattle.cell_grid.specs.Runs.{run_span, span_after}
 use Rattle.cell_grid.proofs.Printing.{stretch-on}
 use Rattle.cell_grid.proofs.RunPrinting.{last-slice, run-order}
 use Rattle.cell_grid.proofs.printed.slice_at.Goals as goal
 
 abbrev no_run : ClusterRun
-no_run = record { span = extent []; further = 0; level = 0; columns = 0 }
+no_run = record { span = no_span; further = 0; level = 0; columns = 0 }
 
 pub cluster-last-requires : goal.cluster-last-requires
 cluster-last-requires c = record { within = omega arith; reach = (c.requires.runs c.loop-number.number no_run c.loop-number-test.true).reach }
@@ -25,10 +25,10 @@ loop-number-preserved c =
     let h = c.requires.runs n no_run c.loop-number-test.true in
     let last = ap (λ (s : Span). s.end_byte) c.cluster-last.ensures in
     let order = run-order text r h in
-    let at = c.if-run-end.false in
+    let at = sym (ap (λ (s : Span). s.first_byte) c.read-first.ensures) ∙ c.if-first-end.false in
     let own : run_text c.args.tables.now text r ≡ slice_range text c.loop-number.end c.cluster-last.result.end_byte =
     c.prints_its_slice.ensures c.if-not-prints_its_slice.false
-    ∙ ap (λ k. slice_range text k (span_after r.further r.span).end_byte) at ∙ ap (slice_range text c.loop-number.end) (sym last) in
+    ∙ ap (λ k. slice_range text k (span_after r.further (run_span r)).end_byte) at ∙ ap (slice_range text c.loop-number.end) (sym last) in
     record {
       order = omega (arith, c.loop-number.invariant.order);
       boundary = subst (IsCharBoundary text) (sym last) (last-slice text r h).end;

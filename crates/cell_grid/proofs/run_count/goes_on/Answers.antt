@@ -2,6 +2,7 @@
 use Rattle.std.proofs.Common.{sym, ap, ◌∙◌, arith}
 use Rattle.std.proofs.lemmas.Bool.{eq-eqb, ne_eqb}
 use Rattle.cell_grid.specs.RunCounts.{span_behind, same_span}
+use Rattle.cell_grid.specs.Runs.{run_span}
 use Rattle.cell_grid.proofs.GoingOn.{other-level, other-columns, goes-odd, goes-even}
 use Rattle.cell_grid.proofs.run_count.goes_on.Goals as goal
 
@@ -15,12 +16,12 @@ pub returns-then-left-eq1 : goal.returns-then-left-eq1
 returns-then-left-eq1 c = λ column next.
     let l = c.args.left.now in
     let r = c.args.right.now in
-    c.is_next.ensures ∙ ap (λ s. same_span (span_behind s) l.span) c.cluster.ensures
+    c.is_next.ensures ∙ ap (same_span (span_behind c.cluster.result)) c.read.ensures ∙ ap (λ s. same_span (span_behind s) (run_span l)) c.cluster.ensures
     ∙ sym (goes-odd l r column next (omega arith) (omega arith) (eq-eqb _ 1 c.if-left-eq1.true))
 
 pub returns : goal.returns
 returns c = λ column next.
     let l = c.args.left.now in
     let r = c.args.right.now in
-    c.is_next-2.ensures ∙ ap (λ s. same_span (span_behind s) r.span) c.cluster-2.ensures
+    c.is_next-2.ensures ∙ ap (same_span (span_behind c.cluster-2.result)) c.read-2.ensures ∙ ap (λ s. same_span (span_behind s) (run_span r)) c.cluster-2.ensures
     ∙ sym (goes-even l r column next (omega arith) (omega arith) (ne_eqb _ 1 c.if-left-eq1.false))

@@ -2,9 +2,9 @@
 use Rattle.std.proofs.Common.{ℕ, ◌+◌, ◌-◌, [], cond, take, get_or, refl, sym, ap, ◌∙◌, arith}
 use Rattle.std.proofs.lemmas.Bool.{eqb-true}
 use Rattle.cell_grid.specs.declared.cluster_run.ClusterRun.{ClusterRun}
+use Rattle.cell_grid.specs.KeptSpans.{no_span}
 use Rattle.cell_grid.specs.RunCounts.{run_count}
 use Rattle.cell_grid.specs.Runs.{runs_entries}
-use Rattle.cell_grid.specs.Spans.{extent}
 use Rattle.cell_grid.proofs.GoingOn.{count-none, count-to-one, count-to-next}
 use Rattle.cell_grid.proofs.Passing.{some-runs}
 use Rattle.cell_grid.proofs.Steps.{take-whole}
@@ -12,7 +12,7 @@ use Rattle.cell_grid.proofs.run_count.run_count.Goals as goal
 use Rattle.cell_grid.proofs.run_count.run_count.Goals.{then-not-goes_on, else-not-goes_on}
 
 abbrev no_run : ClusterRun
-no_run = record { span = extent []; further = 0; level = 0; columns = 0 }
+no_run = record { span = no_span; further = 0; level = 0; columns = 0 }
 
 pub loop-number-init : goal.loop-number-init
 loop-number-init c =

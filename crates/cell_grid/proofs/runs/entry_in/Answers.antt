@@ -1,14 +1,14 @@
 -- One run after the other is passed.
 use Rattle.std.proofs.Common.{◌≡◌, ◌+◌, ◌-◌, [], drop, get_or, slice_get, Some, refl, sym, ap, ◌∙◌, arith}
 use Rattle.cell_grid.specs.declared.cluster_run.ClusterRun.{ClusterRun}
+use Rattle.cell_grid.specs.KeptSpans.{no_span}
 use Rattle.cell_grid.specs.Runs.{cluster_count, run_columns, runs_entries}
-use Rattle.cell_grid.specs.Spans.{extent}
 use Rattle.cell_grid.proofs.RunEntries.{rest-first, rest-later, rest-columns}
 use Rattle.cell_grid.proofs.Steps.{drop-none}
 use Rattle.cell_grid.proofs.runs.entry_in.Goals as goal
 
 abbrev no_run : ClusterRun
-no_run = record { span = extent []; further = 0; level = 0; columns = 0 }
+no_run = record { span = no_span; further = 0; level = 0; columns = 0 }
 
 pub loop-run-init : goal.loop-run-init
 loop-run-init c = record { among = refl; fits = c.requires.fits }

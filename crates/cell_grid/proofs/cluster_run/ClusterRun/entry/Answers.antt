@@ -2,7 +2,7 @@
 use Rattle.std.proofs.Common.{ℕ, ◌+◌, ◌*◌, ap, ◌∙◌, arith}
 use Rattle.paragraphs.specs.declared.span.Span.{Span}
 use Rattle.cell_grid.specs.declared.entry.Entry.{Entry}
-use Rattle.cell_grid.specs.Runs.{span_after, cluster_from_left}
+use Rattle.cell_grid.specs.Runs.{run_span, span_after, cluster_from_left}
 use Rattle.cell_grid.proofs.Reaching.{columns-within}
 use Rattle.cell_grid.proofs.cluster_run.ClusterRun.entry.Goals as goal
 
@@ -24,5 +24,5 @@ pub returns : goal.returns
 returns c =
     let r = c.args.self.now in
     let make : Span → ℕ → Entry = λ span before. record { span = span; column = c.args.column + before; level = r.level; columns = r.columns } in
-    ap (λ s. make s (c.args.number * c.from.result)) (c.cluster-span.ensures ∙ ap (λ k. span_after k r.span) c.cluster_from_left-cluster.ensures.which)
-    ∙ ap (λ n. make (span_after (cluster_from_left r c.args.number) r.span) (c.args.number * n)) c.from.ensures
+    ap (λ s. make s (c.args.number * c.from.result)) (c.cluster-span.ensures ∙ ap (λ k. span_after k (run_span r)) c.cluster_from_left-cluster.ensures.which)
+    ∙ ap (λ n. make (span_after (cluster_from_left r c.args.number) (run_span r)) (c.args.number * n)) c.from.ensures

@@ -2,12 +2,12 @@
 use Rattle.std.proofs.Common.{◌+◌, [], length, get_or, refl, sym, ap, ◌∙◌, arith, rules}
 use Rattle.std.proofs.lemmas.Bool.{eqb-true}
 use Rattle.cell_grid.specs.declared.cluster_run.ClusterRun.{ClusterRun}
-use Rattle.cell_grid.specs.Spans.{extent}
+use Rattle.cell_grid.specs.KeptSpans.{no_span}
 use Rattle.cell_grid.proofs.Passing.{some-runs, none-left, passed-within, fits-first, stays-left, one-passed, next-run, run-passed}
 use Rattle.cell_grid.proofs.entries.EntriesIterator.next.Goals as goal
 
 abbrev no_run : ClusterRun
-no_run = record { span = extent []; further = 0; level = 0; columns = 0 }
+no_run = record { span = no_span; further = 0; level = 0; columns = 0 }
 
 pub returns-then-is_empty-clause-steps : goal.returns-then-is_empty-clause-steps
 returns-then-is_empty-clause-steps c =

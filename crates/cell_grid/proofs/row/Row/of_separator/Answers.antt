@@ -28,6 +28,9 @@ kept-one width start runs r e is reach own at none fits wide =
       counted = omega arith;
     }
 
+pub of-run-requires : goal.of-run-requires
+of-run-requires c = record { bytes = omega arith; places = omega arith; end_byte = omega (arith, c.requires.few); end_place = omega arith }
+
 pub invariant_of-result : goal.invariant_of-result
 invariant_of-result c =
     let start = c.start_column-start.result in
@@ -35,7 +38,7 @@ invariant_of-result c =
     let own = one-run start c.in_ok-from_slice.field-0.items c.of-run.result e c.in_ok-from_slice.ensures.items (append-nil _ ∙ c.of-run.ensures.entries) in
     let fits = start-fits c.args.width c.args.para_level (0 ∷ []) (omega arith) in
     let at = c.start_column-start.ensures (0 ∷ []) (omega arith) in
-    kept-one c.args.width start c.in_ok-from_slice.field-0.items c.of-run.result e c.in_ok-from_slice.ensures.items c.of-run.ensures.reach own (omega arith) (omega arith) (omega arith) c.requires
+    kept-one c.args.width start c.in_ok-from_slice.field-0.items c.of-run.result e c.in_ok-from_slice.ensures.items c.of-run.ensures.reach own (omega arith) (omega arith) (omega arith) c.requires.width
 
 pub returns : goal.returns
 returns c =
