@@ -10,8 +10,11 @@ use std::alloc::Global;
 /// How many lines the text has, each of which is a row.
 const LINES: usize = 400;
 
-/// So wide each of these rows, with a run of letters and one of the line feed, weighs as much as one with a run for each column.
+/// So wide a row with an entry for each column weighs 88 bytes, and each of these, of a run of letters and one of the line feed, 80.
 const WIDTH: u16 = 2;
+
+/// As many rows with an entry for each column weigh as much as these lines, or little more.
+const AS_HEAVY: usize = 364;
 
 /// A window has so many of them.
 const ROWS: usize = 10;
@@ -57,9 +60,9 @@ fn laid_of_first(document: &mut Document, lines: usize) -> Result<usize, Memory>
 #[test]
 fn rows_of_some_windows_are_kept_and_of_many_forgotten(rt: HostRuntime) -> Result<(), Memory> {
     assert_eq!(rt; laid_again(rt.alloc(), WIDTH, 0, 20)?, 0);
-    // Of 400 lines no more than 256 stay, and where more are kept no more than each second one goes.
+    // Of 400 lines no more than 281 stay, and where more are kept no more than each second one goes.
     let laid = laid_again(rt.alloc(), WIDTH, 0, 40)?;
-    assert!(rt; 144 <= laid && laid <= 200);
+    assert!(rt; 119 <= laid && laid <= 200);
     Ok(())
 }
 
@@ -67,17 +70,17 @@ fn rows_of_some_windows_are_kept_and_of_many_forgotten(rt: HostRuntime) -> Resul
 fn more_rows_are_kept_where_each_has_fewer_runs_than_columns(
     rt: HostRuntime,
 ) -> Result<(), Memory> {
-    // 256 rows with a run for each of 4 columns weigh 1,280, and 400 lines 1,200.
+    // 256 rows with an entry for each of 4 columns weigh 32,768 bytes, and 400 lines 32,000.
     assert_eq!(rt; laid_again(rt.alloc(), 4, 0, 40)?, 0);
     let laid = laid_again(rt.alloc(), 3, 0, 40)?;
-    assert!(rt; 59 <= laid && laid <= 112);
+    assert!(rt; 55 <= laid && laid <= 100);
     Ok(())
 }
 
 #[test]
 fn as_many_rows_are_kept_as_were_asked_for(rt: HostRuntime) -> Result<(), Memory> {
-    assert_eq!(rt; laid_again(rt.alloc(), WIDTH, LINES, 40)?, 0);
-    let laid = laid_again(rt.alloc(), WIDTH, LINES - 1, 40)?;
+    assert_eq!(rt; laid_again(rt.alloc(), WIDTH, AS_HEAVY, 40)?, 0);
+    let laid = laid_again(rt.alloc(), WIDTH, AS_HEAVY - 1, 40)?;
     assert!(rt; 1 <= laid && laid <= 50);
     // Those of four windows are more.
     assert_eq!(rt; laid_again(rt.alloc(), WIDTH, 100, 20)?, 0);
@@ -92,7 +95,7 @@ fn the_next_window_forgets_what_is_too_much(rt: HostRuntime) -> Result<(), Memor
         WIDTH,
         &lines(rt.alloc())?,
     )?;
-    document.keep_rows(LINES);
+    document.keep_rows(AS_HEAVY);
     for number in 0..40 {
         shown_from(&mut document, ROWS * number)?;
     }
@@ -100,7 +103,7 @@ fn the_next_window_forgets_what_is_too_much(rt: HostRuntime) -> Result<(), Memor
     assert_eq!(rt; shown_from(&mut document, 0)?, 0);
     assert_eq!(rt; shown_from(&mut document, 0)?, 0);
     let laid = laid_of_first(&mut document, LINES)?;
-    assert!(rt; 144 <= laid && laid <= 200);
+    assert!(rt; 119 <= laid && laid <= 200);
     Ok(())
 }
 
@@ -112,8 +115,8 @@ fn rows_that_edits_dropped_are_not_counted(rt: HostRuntime) -> Result<(), Memory
         WIDTH,
         &lines(rt.alloc())?,
     )?;
-    // In the end the first line has four rows, which weigh as much as three of the others.
-    document.keep_rows(LINES + 2);
+    // In the end the first line has four rows, which weigh 272 bytes.
+    document.keep_rows(AS_HEAVY + 2);
     for number in 0..40 {
         shown_from(&mut document, ROWS * number)?;
     }

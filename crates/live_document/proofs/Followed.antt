@@ -110,7 +110,7 @@ live-followed old new tables width base behind later kept now s nothing held fro
 -- the desk's text is the same, and the paragraphs are its own
 pub live-caught : (desk : Desk) (tables : TableValues) (width : ℕ) (base : Base) (now : KeptText) (s : Shown) (held : ℕ)
     → IsKeptAt tables width base now → text_in now ≡ text desk.set → IsAtHand now s → IsWindowOf desk.set tables width base (window_in now s)
-    → weight_held now ≤ held → held ≤ 60_000_000_000_000 → IsLive desk tables width base false now s held
+    → weight_held now ≤ held → held ≤ 900_000_000_000_000 → IsLive desk tables width base false now s held
 live-caught desk tables width base now s held at is hand shown less few = record {
   kept_at = at;
   text_is = λ h. is;
@@ -153,7 +153,7 @@ live-told old new tables width base behind later kept now s nothing held changes
 
 -- the paragraphs are behind their desk
 pub live-behind : (desk : Desk) (tables : TableValues) (width : ℕ) (base : Base) (kept : KeptText) (nothing : Shown) (held : ℕ)
-    → IsKeptAt tables width base kept → nothing ≡ record { first = 0; skip = 0; count = 0; number = 0 } → weight_held kept ≤ held → held ≤ 60_000_000_000_000
+    → IsKeptAt tables width base kept → nothing ≡ record { first = 0; skip = 0; count = 0; number = 0 } → weight_held kept ≤ held → held ≤ 900_000_000_000_000
     → IsLive desk tables width base true kept nothing held
 live-behind desk tables width base kept nothing held at none less few = record {
   kept_at = at;

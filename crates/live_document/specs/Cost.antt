@@ -46,10 +46,10 @@ weight_kept paragraphs = sum_by (λ (p : KeptParagraph ℕ). option_map_or (λ w
 abbrev pub weight_outside : List (KeptParagraph ℕ) → (from to : ℕ) → ℕ
 weight_outside paragraphs from to = weight_kept (take from paragraphs) + weight_kept (drop to paragraphs)
 
--- so much they may weigh: as the rows of four windows would with a run for each column, of 64 rows each or more, or as many such
--- rows as were asked for
+-- so much they may weigh: as the rows of four windows would with an entry of 20 bytes for each column, of 64 rows each or more, or
+-- as many such rows as were asked for
 abbrev pub allowed : (most width rows : ℕ) → ℕ
-allowed most width rows = max most (4 * max rows 64) * (width + 1)
+allowed most width rows = max most (4 * max rows 64) * (48 + 20 * width)
 
 -- a window was laid out: its rows are those of the paragraphs from `first` up to `end`; so many of these were laid out as were
 -- not kept, and all of them are kept now; what was kept of others stays, unless all weigh too much, and then so much of it goes

@@ -54,7 +54,7 @@ pub record IsLive (desk : Desk) (tables : TableValues) (width : ℕ) (base : Bas
   pub at_hand : IsAtHand kept s
   pub of_now : IsWindowOf desk.set tables width base (window_in kept s)
   pub held_is : weight_held kept ≤ held
-  pub held_few : held ≤ 60_000_000_000_000
+  pub held_few : held ≤ 900_000_000_000_000
 
 -- *Grid* of the desk's text
 abbrev pub whole_grid : LiveDocument → DrawnGrid

@@ -57,7 +57,7 @@ pub fn forget_others(
     requires order { from ≤ to }
     requires within { to ≤ length buffer.old }
     requires held { weight_held buffer.old ≤ held }
-    requires few { held ≤ 1_000_000_000_000_000 }
+    requires few { held ≤ 2_000_000_000_000_000 }
     requires weight { weight_held (slice_range buffer.old from to) ≤ weight }
     ensures paragraphs { paragraphs_in buffer.new ≡ paragraphs_in buffer.old }
     ensures laid { (tables : TableValues) (width : ℕ) (base : Base) → All (IsLaid tables width base) buffer.old → All (IsLaid tables width base) buffer.new }
@@ -86,7 +86,7 @@ pub fn forget_others(
 /// Drops the rows of each sixteenth paragraph, then of each eighth, and so on to each second, but of none from one number up to
 /// another, until what is kept weighs no more than the most. Returns what is kept.
 fn thin_out(buffer: &mut Buffer<ParagraphRows>, from: usize, to: usize, most: usize) -> usize
-    requires { weight_held buffer.old ≤ 1_000_000_000_000_000 }
+    requires { weight_held buffer.old ≤ 2_000_000_000_000_000 }
     ensures paragraphs { paragraphs_in buffer.new ≡ paragraphs_in buffer.old }
     ensures laid { (tables : TableValues) (width : ℕ) (base : Base) → All (IsLaid tables width base) buffer.old → All (IsLaid tables width base) buffer.new }
     ensures inside { (k : ℕ) → from ≤ k → k < to → is_kept (flags buffer.new) k ≡ is_kept (flags buffer.old) k }
@@ -133,7 +133,7 @@ pub fn lay_out(
     ensures rows { IfOk result (λ out. out.rows ≡ length (rows_of_text tables.now width base (get_or (paragraphs_in buffer.old) number []))) }
     ensures few { IfOk result (λ out. out.rows ≤ 4_000_001) }
     ensures weight { IfOk result (λ out. out.weight ≡ rows_weight (rows_of_text tables.now width base (get_or (paragraphs_in buffer.old) number []))) }
-    ensures most { IfOk result (λ out. out.weight ≤ 4_000_001 * out.rows) }
+    ensures most { IfOk result (λ out. out.weight ≤ 64_000_048 * out.rows) }
     ensures laid { IfOk result (λ out. out.laid ≡ (if is_kept (flags buffer.old) number then 0 else 1)) }
     ensures held { IfOk result (λ out. weight_held buffer.new ≡ weight_held buffer.old + out.made) }
     ensures made { IfOk result (λ out. out.made ≤ out.weight) }
@@ -197,7 +197,7 @@ pub fn reach_up(
     ensures needed { IfOk result (λ reach. reach.number < number
         → length (rows_of_texts tables.now width base (slice_range (paragraphs_in buffer.old) (reach.number + 1) number)) < wanted) }
     ensures few { IfOk result (λ reach. reach.rows ≤ 5_000_000) }
-    ensures most { IfOk result (λ reach. reach.weight ≤ 4_000_001 * reach.rows) }
+    ensures most { IfOk result (λ reach. reach.weight ≤ 64_000_048 * reach.rows) }
     ensures laid { IfOk result (λ reach. reach.laid ≡ count_by not (slice_range (flags buffer.old) reach.number number)) }
     ensures once { IfOk result (λ reach. reach.laid + reach.number ≤ number) }
     ensures held { IfOk result (λ reach. weight_held buffer.new ≡ weight_held buffer.old + reach.made) }
@@ -249,7 +249,7 @@ pub fn reach_down(
     ensures needed { IfOk result (λ reach. number < reach.number
         → length (rows_of_texts tables.now width base (slice_range (paragraphs_in buffer.old) number (reach.number - 1))) < wanted) }
     ensures few { IfOk result (λ reach. reach.rows ≤ 5_000_000) }
-    ensures most { IfOk result (λ reach. reach.weight ≤ 4_000_001 * reach.rows) }
+    ensures most { IfOk result (λ reach. reach.weight ≤ 64_000_048 * reach.rows) }
     ensures laid { IfOk result (λ reach. reach.laid ≡ count_by not (slice_range (flags buffer.old) number reach.number)) }
     ensures once { IfOk result (λ reach. reach.laid + number ≤ reach.number) }
     ensures held { IfOk result (λ reach. weight_held buffer.new ≡ weight_held buffer.old + reach.made) }

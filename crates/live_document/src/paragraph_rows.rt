@@ -7,6 +7,12 @@ use cell_grid::Row;
 use std::marker::Model;
 use text_buffer::Weighed;
 
+/// How many bytes a row has.
+pub const ROW_BYTES: usize = 48;
+
+/// How many bytes each of its runs of like clusters has.
+const RUN_BYTES: usize = 16;
+
 /// The rows of a paragraph, counted from its start, and what they weigh.
 #[derive(Drop)]
 pub struct ParagraphRows {
@@ -43,7 +49,7 @@ impl ParagraphRows {
         self.rows.as_slice()
     }
 
-    /// What they weigh: 1 each, and 1 for each of their runs of like clusters.
+    /// What they weigh, in bytes: each one, and each of its runs of like clusters.
     #[inline]
     pub fn total(&self) -> usize
         ensures { Weigh self.now result }
@@ -68,7 +74,7 @@ fn weigh(rows: &[Row]) -> usize
 {
     let mut weight = 0;
     for row in rows {
-        weight += 1 + row.run_count();
+        weight += ROW_BYTES + RUN_BYTES * row.run_count();
     }
     weight
 }

@@ -11,7 +11,7 @@ ghost use Rattle.live_document.specs.Showing.{window_in, IsAtHand, IsRowOf};
 
 use crate::keeping::{Reach, forget_others, kept_rows, lay_out, reach_down, reach_up};
 use crate::laws_below::laws_below;
-use crate::paragraph_rows::ParagraphRows;
+use crate::paragraph_rows::{ParagraphRows, ROW_BYTES};
 use crate::shown::Shown;
 use bg_types::{Base, Memory};
 use caret::row_at;
@@ -20,8 +20,11 @@ use std::alloc::Global;
 use text_buffer::Buffer;
 use unicode_tables::Tables;
 
-/// So much may be kept at least: the rows of this many windows, with a run for each column.
+/// So much may be kept at least: the rows of this many windows, with an entry for each column.
 const WINDOWS: usize = 4;
+
+/// How many bytes an entry has.
+const ENTRY_BYTES: usize = 20;
 
 /// So many rows are a window's at least: a caret's move shows a row or three, and must leave what an editor draws.
 const FEWEST_ROWS: usize = 64;
@@ -72,7 +75,7 @@ fn own_row(
     ensures few { IfOk result (λ own. own.rows ≤ 4_000_001) }
     ensures held { IfOk result (λ own. weight_held buffer.new ≡ weight_held buffer.old + own.made) }
     ensures weight { IfOk result (λ own. own.weight ≡ rows_weight (rows_of_text tables.now width base (get_or (paragraphs_in buffer.old) own.number []))) }
-    ensures most { IfOk result (λ own. own.weight ≤ 4_000_001 * own.rows) }
+    ensures most { IfOk result (λ own. own.weight ≤ 64_000_048 * own.rows) }
     ensures made { IfOk result (λ own. own.made ≤ own.weight) }
     ensures laid { IfOk result (λ own. own.laid ≡ (if is_kept (flags buffer.old) own.number then 0 else 1)) }
 {
@@ -94,8 +97,8 @@ fn own_row(
     })
 }
 
-/// Lays out what isn't kept of the window round the row of a place. Where more is kept then than the most rows weigh with a run for
-/// each column, and than those of four such windows do, so many rows of other paragraphs are forgotten, and else none.
+/// Lays out what isn't kept of the window round the row of a place. Where more is kept then than the most rows weigh with an
+/// entry for each column, and than those of four such windows do, so many rows of other paragraphs are forgotten, and else none.
 pub fn lay_window_out(
     alloc: Global,
     tables: &Tables,
@@ -113,7 +116,7 @@ pub fn lay_window_out(
     requires above { above ≤ 1_000 }
     requires below { below ≤ 1_000 }
     requires held { weight_held buffer.old ≤ held }
-    requires held_few { held ≤ 60_000_000_000_000 }
+    requires held_few { held ≤ 900_000_000_000_000 }
     requires most { most ≤ 1_000_000 }
     ensures kept { IsKeptAt tables.now width base buffer.new }
     ensures paragraphs { paragraphs_in buffer.new ≡ paragraphs_in buffer.old }
@@ -131,7 +134,7 @@ pub fn lay_window_out(
     ensures bounded { IfOk result (λ outcome. (weight_held buffer.new ≤ allowed most width outcome.shown.count)
         ⊎ ((k : ℕ) → is_kept (flags buffer.new) k ≡ true → (outcome.shown.first ≤ k) × (k < outcome.end))) }
     ensures held { IfOk result (λ outcome. weight_held buffer.new ≤ outcome.held) }
-    ensures few { IfOk result (λ outcome. outcome.held ≤ 60_000_000_000_000) }
+    ensures few { IfOk result (λ outcome. outcome.held ≤ 900_000_000_000_000) }
     ensures laid { IfOk result (λ outcome. outcome.laid ≡ count_by not (slice_range (flags buffer.old) outcome.shown.first outcome.end)) }
 {
     // There are no more paragraphs than a number can tell.
@@ -157,7 +160,7 @@ pub fn lay_window_out(
         down.number,
         up.weight + own.weight + down.weight,
         held + up.made + own.made + down.made,
-        rows * (usize::from(width) + 1),
+        rows * (ROW_BYTES + ENTRY_BYTES * usize::from(width)),
     );
     laws_below();
     let _bytes = buffer.bytes();

@@ -411,7 +411,7 @@ impl<K: Weighed + Drop> Buffer<K> {
     /// How much all weighs that is kept.
     /// Cost: O(n / 32) of the paragraphs, and O(64) for each block of at most 64 of which something is kept.
     pub fn kept_weight(&self) -> usize
-        requires { kept_weight K.weight self.now ≤ 1_000_000_000_000_000 }
+        requires { kept_weight K.weight self.now ≤ 2_000_000_000_000_000 }
         ensures { result ≡ kept_weight K.weight self.now }
     {
         of_blocks(&self.blocks)

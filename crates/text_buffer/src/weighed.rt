@@ -29,7 +29,7 @@ fn of_piece<K: Weighed>(piece: &Piece<K>) -> usize
 
 /// What is kept of some paragraphs.
 fn of_pieces<K: Weighed>(pieces: &[Piece<K>]) -> usize
-    requires few { weight_in K.weight pieces.now ≤ 1_000_000_000_000_000 }
+    requires few { weight_in K.weight pieces.now ≤ 2_000_000_000_000_000 }
     ensures { result ≡ weight_in K.weight pieces.now }
 {
     let mut weight = 0;
@@ -41,7 +41,7 @@ fn of_pieces<K: Weighed>(pieces: &[Piece<K>]) -> usize
 
 /// What is kept of a block, which is passed where nothing is.
 fn of_block<K: Weighed>(block: &Block<K>) -> usize
-    requires few { weight_in K.weight block.now.pieces.items ≤ 1_000_000_000_000_000 }
+    requires few { weight_in K.weight block.now.pieces.items ≤ 2_000_000_000_000_000 }
     ensures { result ≡ weight_in K.weight block.now.pieces.items }
 {
     if block.kept == 0 {
@@ -52,7 +52,7 @@ fn of_block<K: Weighed>(block: &Block<K>) -> usize
 
 /// What is kept of all blocks.
 pub fn of_blocks<K: Weighed>(blocks: &[Block<K>]) -> usize
-    requires few { weight_in K.weight (pieces_in blocks.now) ≤ 1_000_000_000_000_000 }
+    requires few { weight_in K.weight (pieces_in blocks.now) ≤ 2_000_000_000_000_000 }
     ensures { result ≡ weight_in K.weight (pieces_in blocks.now) }
 {
     let mut weight = 0;

@@ -58,7 +58,7 @@ forget_others-held-requires-clause-few c =
 pub overflow_mul-rows : goal.overflow_mul-rows
 overflow_mul-rows c =
     let rows : c.max-rows.result ≤ 1_000_000 = omega (arith, c.requires.most, c.max.ensures, c.max-rows.ensures, c.cut_out-shown.ensures.count) in
-    omega (arith, mul-le c.max-rows.result (c.from.result + 1) 1_000_000 501 rows (omega (arith, c.from.ensures, c.requires.kept.at_most)))
+    omega (arith, mul-le c.max-rows.result (48 + 20 * c.from.result) 1_000_000 10_048 rows (omega (arith, c.from.ensures, c.requires.kept.at_most)))
 
 pub returns : goal.returns
 returns c =
@@ -127,10 +127,10 @@ returns c =
     let n = de.needed h in omega (arith, n, same, c.saturating_sub-wanted_down.ensures)) in
     let shown = c.cut_out-shown.result in
     let rows : c.max-rows.result ≤ 1_000_000 = omega (arith, c.requires.most, c.max.ensures, c.max-rows.ensures, c.cut_out-shown.ensures.count) in
-    let wide = mul-le c.max-rows.result (w + 1) 1_000_000 501 rows (omega (arith, at.at_most)) in
-    let broad = ap (λ n. c.max-rows.result * (n + 1)) c.from.ensures in
-    let most : c.max-rows.result * (c.from.result + 1) ≡ allowed c.args.most w shown.count =
-    broad ∙ ap (λ n. n * (w + 1)) (omega (arith, c.max.ensures, c.max-rows.ensures)) in
+    let wide = mul-le c.max-rows.result (48 + 20 * w) 1_000_000 10_048 rows (omega (arith, at.at_most)) in
+    let broad = ap (λ n. c.max-rows.result * (48 + 20 * n)) c.from.ensures in
+    let most : c.max-rows.result * (48 + 20 * c.from.result) ≡ allowed c.args.most w shown.count =
+    broad ∙ ap (λ n. n * (48 + 20 * w)) (omega (arith, c.max.ensures, c.max-rows.ensures)) in
     record {
       kept = at;
       paragraphs = e04;
