@@ -5,9 +5,11 @@ pub mod Strongest
 pub mod Matching
 pub mod Passing
 pub mod Chains
+pub mod Runs
 pub mod Linking
 pub mod Taken
 pub mod Gathering
+pub mod Walking
 pub mod Facts
 pub mod Uniformity
 pub mod Whole

@@ -1,8 +1,7 @@
 -- The links of a paragraph's places.
-use Rattle.std.proofs.Common.{ℕ, suc, ◌≡◌, ◌≤◌, ◌<◌, ◌+◌, ◌-◌, ◌==◌, inl, inr, refl, ap, subst, sym, ◌∙◌, List, [], ◌∷◌, ◌++◌, length, get_or, drop, Option, Some, None, Bool, true, false, if◌then◌else◌, zero-add, arith}
+use Rattle.std.proofs.Common.{ℕ, suc, ◌≡◌, ◌≤◌, ◌<◌, ◌+◌, ◌-◌, inl, inr, refl, ap, subst, sym, ◌∙◌, List, [], ◌∷◌, ◌++◌, length, get_or, drop, Option, Some, None, Bool, true, false, if◌then◌else◌, zero-add, arith}
 use Rattle.std.specs.Prelude.{is_some, not, ◌&&◌, IfSome}
-use Rattle.std.proofs.lemmas.Bool.{cases_Bool, eqb-true}
-use Rattle.std.proofs.lemmas.Bool.Decides.{eqb_tells}
+use Rattle.std.proofs.lemmas.Bool.{cases_Bool}
 use Rattle.std.proofs.lemmas.List.{length-drop}
 use Rattle.std.proofs.lemmas.Option.{slice_get-get_or}
 use Rattle.bidi_explicit.specs.declared.controls.Control.{Control}
@@ -11,6 +10,7 @@ use Rattle.bidi_explicit.specs.Sequences.{kept_at, is_kept, same_level, has_leve
 use Rattle.bidi_explicit.specs.Links.{pdi_at, linked, AreKept, AreMatched}
 use Rattle.bidi_explicit.specs.LevelRuns.{IsLevelRun}
 use Rattle.bidi_explicit.proofs.Chains.{kept_at-is, kept_from-here, next-out, next-after, range-more, IsForward}
+use Rattle.bidi_explicit.proofs.Runs.{run-beside}
 
 pub below-more : (n : ℕ) → below (suc n) ≡ below n ++ n ∷ []
 below-more n = range-more 0 n ∙ ap (λ k. below n ++ k ∷ []) (zero-add n)
@@ -142,20 +142,8 @@ linked-beside controls places i inside same =
     next-after places (pdi_at controls i) i (same_level-first (kept_at places i) (kept_at places (suc i)) same) (suc i)
     (kept_from-here places (suc i) None inside there) same
 
-same_level-both : (a b c : Option Kept) → same_level a b ≡ true → same_level a c ≡ true → same_level b c ≡ true
-same_level-both (Some x) (Some y) (Some z) h k =
-    let there : x.level ≡ y.level = eqb-true x.level y.level h in
-    ap (λ l. l == z.level) (sym there) ∙ k
-same_level-both (Some x) (Some y) None h k = cc
-same_level-both (Some x) None c h k = cc
-same_level-both None b c h k = cc
-
 -- inside a level run each place is linked to the next
 pub linked-run : (controls : List Control) (places : List (Option Kept)) (start end : ℕ) → end ≤ length places → IsLevelRun places start end →
     (i : ℕ) → start ≤ i → suc i < end → linked controls places i ≡ Some (suc i)
 linked-run controls places start end within run i from to =
-    linked-beside controls places i (omega arith)
-    (elim (eqb_tells i start) [
-      | inl here ↦ (let at = here.1 in subst (λ k. same_level (kept_at places k) (kept_at places (suc i)) ≡ true) (sym at) (run (suc i) (omega arith) to))
-      | inr other ↦ (let ne = other.1 in same_level-both (kept_at places start) (kept_at places i) (kept_at places (suc i)) (run i (omega arith) (omega arith)) (run (suc i) (omega arith) to))
-    ])
+    linked-beside controls places i (omega arith) (run-beside places start end run i from to)

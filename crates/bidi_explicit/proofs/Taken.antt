@@ -1,37 +1,16 @@
 -- The places that sequences have taken, and what begins no sequence since it follows one of them.
-use Rattle.std.proofs.Common.{ℕ, zero, suc, ◌≡◌, ◌≤◌, ◌<◌, ◌+◌, ◌==◌, ◌||◌, inl, inr, refl, ap, ap₂, subst, sym, ◌∙◌, List, [], ◌∷◌, ◌++◌, length, get_or, set, Option, Some, None, Bool, true, false, zero-add, arith}
-use Rattle.std.specs.Prelude.{is_some, not, ◌&&◌, replicate}
+use Rattle.std.proofs.Common.{ℕ, zero, suc, ◌≡◌, ◌≤◌, ◌<◌, ◌+◌, ◌==◌, ◌||◌, inl, inr, refl, ap, ap₂, subst, sym, ◌∙◌, List, [], ◌∷◌, ◌++◌, length, get_or, Option, Some, None, Bool, true, false, zero-add, arith}
+use Rattle.std.specs.Prelude.{is_some, not, ◌&&◌}
 use Rattle.std.specs.List.{list_any}
-use Rattle.std.proofs.Math.Bool.{or-false, or-true}
+use Rattle.std.proofs.Math.Bool.{or-true}
 use Rattle.std.proofs.lemmas.Bool.{cases_Bool, eqb-true, false≢true}
 use Rattle.std.proofs.lemmas.Bool.Decides.{eqb_tells}
-use Rattle.std.proofs.lemmas.Grind.{get_or-set_at}
-use Rattle.std.proofs.lemmas.List.{length-set, get_or-set_other, get_or-replicate, length-replicate}
 use Rattle.std.proofs.lemmas.List.FromFn.{length-range_with_len, get_or-range_with_len}
 use Rattle.std.proofs.lemmas.List.Folds.{list_any-append, list_any_at, list_any_none}
 use Rattle.bidi_explicit.specs.declared.kept.Kept.{Kept}
 use Rattle.bidi_explicit.specs.Sequences.{is_kept, is_place, below, chain, follows, begins}
-use Rattle.bidi_explicit.specs.LevelRuns.{has_place, AreTold}
 use Rattle.bidi_explicit.proofs.Chains.{IsForward, goes_on, is_kept-is}
-
--- one mark more
-mark-here : (marks : List Bool) (i j : ℕ) → i < length marks → get_or (set marks i true) j false ≡ (get_or marks j false || j == i)
-mark-here marks i j inside =
-    elim (eqb_tells j i) [
-      | inl h ↦ get_or-set_at marks i j true false h.1 inside ∙ sym (or-true (get_or marks j false)) ∙ ap (λ b. get_or marks j false || b) (sym h.0)
-      | inr h ↦ get_or-set_other marks i j true false h.1 ∙ sym (or-false (get_or marks j false)) ∙ ap (λ b. get_or marks j false || b) (sym h.0)
-    ]
-
-has-more : (order : List ℕ) (i j : ℕ) → has_place (order ++ i ∷ []) j ≡ (has_place order j || j == i)
-has-more order i j = list_any-append (λ k. j == k) order (i ∷ []) ∙ ap (λ b. has_place order j || b) (or-false (j == i))
-
-pub AreTold-more : (order : List ℕ) (marks : List Bool) (i : ℕ) → i < length marks → AreTold order marks → AreTold (order ++ i ∷ []) (set marks i true)
-AreTold-more order marks i inside told j within =
-    let before : j < length marks = omega (arith, length-set marks i true) in
-    mark-here marks i j inside ∙ ap (λ b. b || j == i) (told j before) ∙ sym (has-more order i j)
-
-pub AreTold-start : (n : ℕ) → AreTold [] (replicate n false)
-AreTold-start n i within = get_or-replicate n i false false (omega (arith, length-replicate n false))
+use Rattle.bidi_explicit.proofs.Runs.{has_place}
 
 -- a link of one of these places leads here
 abbrev pub is_led : (ℕ → Option ℕ) → List ℕ → ℕ → Bool
@@ -52,7 +31,7 @@ has-led f (k ∷ js) j i h e =
     ]
 
 module _ (f : ℕ → Option ℕ) (n : ℕ) (forward : IsForward f n) where
-  follows-at : (j i : ℕ) → is_place i (f j) ≡ true → follows f n i ≡ true
+  pub follows-at : (j i : ℕ) → is_place i (f j) ≡ true → follows f n i ≡ true
   follows-at j i leads =
       let to = forward j i (place-is i (f j) leads) in
       let before : j < i = to.0 in

@@ -1,5 +1,5 @@
 -- A paragraph without controls is one sequence of all its places.
-use Rattle.std.proofs.Common.{ℕ, zero, suc, ◌≡◌, ◌≤◌, ◌<◌, ◌+◌, ◌==◌, ◌||◌, inl, inr, refl, ap, ap₂, sym, subst, ◌∙◌, List, [], ◌∷◌, map, filter, length, drop, slice_range, Option, Some, None, Bool, true, false, if◌then◌else◌, zero-add, arith}
+use Rattle.std.proofs.Common.{ℕ, zero, suc, ◌≡◌, ◌≤◌, ◌<◌, ◌+◌, ◌-◌, ◌==◌, ◌||◌, inl, inr, refl, ap, ap₂, sym, subst, ◌∙◌, List, [], ◌∷◌, map, filter, length, drop, slice_range, Option, Some, None, Bool, true, false, if◌then◌else◌, zero-add, append-nil, arith}
 use Rattle.std.specs.Prelude.{is_some, not, ◌&&◌, slice_get, IfSome}
 use Rattle.std.specs.List.{All, list_any, range_with_len}
 use Rattle.std.proofs.Math.Bool.{and-false, or-true}
@@ -7,7 +7,7 @@ use Rattle.std.proofs.lemmas.Bool.Decides.{eqb_tells}
 use Rattle.std.proofs.lemmas.Bool.{false≢true, cases_lt, or_parts}
 use Rattle.std.proofs.lemmas.List.{length-map}
 use Rattle.std.proofs.lemmas.List.FromFn.{length-range_with_len}
-use Rattle.std.proofs.lemmas.List.Elements.{All-nil, All-cons, All-head, All-tail}
+use Rattle.std.proofs.lemmas.List.Elements.{All-nil, All-cons, All-head, All-tail, All-same}
 use Rattle.bg_types.specs.declared.class.Bidi.{Bidi}
 use Rattle.bg_types.specs.declared.class.Bidi.TheVariants.{L, R, Al, En, Es, Et, An, Cs, Nsm, B, S, Ws, On}
 use Rattle.paragraphs.specs.Classes.{is_separator, is_removed, is_isolate_control}
@@ -16,10 +16,10 @@ use Rattle.bidi_explicit.specs.Nesting.{nest, is_initiator, matched, matching}
 use Rattle.bidi_explicit.specs.Levels.{descend, explicit_places, none_open, plain}
 use Rattle.bidi_explicit.specs.Sequences.{RunSequence, kept_at, is_kept, kept_from, kept_before, kept_after, same_level, has_level_of, over_isolate, next, chain, is_place, below, begins, direction_between, level_or, is_unmatched, last_or, sos_of, eos_of, sequence_from, sequences_of}
 use Rattle.bidi_explicit.specs.Embedding.{Embedding, embedding_at}
-use Rattle.bidi_explicit.specs.declared.embedded.Extent.{Extent}
 use Rattle.bidi_explicit.specs.Extents.{extent_sequences, IsKept, IsStretch, IsWithin}
-use Rattle.bidi_explicit.specs.Uniform.{is_control, IsNoControl, kept_at_level, one_sequence, whole_extent, one_extent}
-use Rattle.bidi_explicit.proofs.Gathering.{range-new}
+use Rattle.bidi_explicit.specs.LevelRuns.{HasPlace, own_places, run_places}
+use Rattle.bidi_explicit.specs.Uniform.{is_control, IsNoControl, kept_at_level, one_sequence, whole_run, one_run, whole_extent, one_extent}
+use Rattle.bidi_explicit.proofs.Runs.{not-zero}
 
 -- X1 to X8
 step-down : (p : ℕ) (c : Bidi) (cs : List Bidi) → IsNoControl c
@@ -254,27 +254,38 @@ embedding-uniform p cs h =
     ap (λ s. let e : Embedding = record { level = p; places = map (kept_at_level p) cs; sequences = s } in e) (sym (sequences-uniform p cs a))
     ∙ ap (λ ps. let e : Embedding = record { level = p; places = ps; sequences = sequences_of p cs ps } in e) (sym (places-uniform p cs a))
 
-not-zero : (m : ℕ) → (suc m == 0) ≡ false
-not-zero m = elim (eqb_tells (suc m) 0) [ inl h ↦ absurd (let e = h.1 in omega arith) | inr h ↦ h.0 ]
+-- the run of all places
+whole-places : (m : ℕ) → run_places (whole_run (suc m) ∷ []) ≡ below (suc m)
+whole-places m =
+    let all : suc m - 0 ≡ suc m = omega arith in
+    append-nil (own_places (whole_run (suc m))) ∙ ap (range_with_len 0) all
 
--- all numbers below n, as a stretch of them
-whole-range : (n : ℕ) → slice_range (below n) 0 n ≡ below n
-whole-range n =
-    ap (slice_range (below n) 0) (sym (zero-add (length (below n)) ∙ length-range_with_len 0 n)) ∙ range-new [] (below n)
-
-pub one-extent : (p n : ℕ) → extent_sequences (below n) (one_extent p n) ≡ one_sequence p n
+pub one-extent : (p n : ℕ) → extent_sequences (one_run n) (one_extent p n) ≡ one_sequence p n
 one-extent p zero = refl
 one-extent p (suc m) =
-    ap (λ b. extent_sequences (below (suc m)) (if b then [] else whole_extent p (suc m) ∷ [])) (not-zero m)
-    ∙ ap (λ js. (let s : RunSequence = record { places = js; level = p; sos = direction_between p p; eos = direction_between p p } in s) ∷ []) (whole-range (suc m))
+    ap (λ b. extent_sequences (if b then [] else whole_run (suc m) ∷ []) (if b then [] else whole_extent p ∷ [])) (not-zero (suc m) (omega arith))
+    ∙ ap (λ js. (let s : RunSequence = record { places = js; level = p; sos = direction_between p p; eos = direction_between p p } in s) ∷ []) (whole-places m)
 
-all-if : (P : Extent → Type 0) (b : Bool) (e : Extent) → P e → All P (if b then [] else e ∷ [])
-all-if P true e h = All-nil P
-all-if P false e h = All-cons P e [] h (All-nil P)
+positive : (n : ℕ) → (n == 0) ≡ false → 0 < n
+positive n e = elim (eqb_tells n 0) [ inl h ↦ absurd (false≢true (sym e ∙ h.0)) | inr h ↦ (let ne = h.1 in omega arith) ]
 
-pub within-one : (p : ℕ) (cs : List Bidi) → IsWithin (map (kept_at_level p) cs) (below (length cs)) (one_extent p (length cs))
-within-one p cs = record {
-  stretches = all-if (IsStretch (below (length cs))) (length cs == 0) (whole_extent p (length cs)) (let n = length-range_with_len 0 (length cs) in (omega arith, omega arith));
-  kept = all-range (IsKept (map (kept_at_level p) cs)) 0 (length cs)
-      (λ k lt. ap (is_kept (map (kept_at_level p) cs)) (zero-add k) ∙ ap is_some (at-place p cs k lt).1);
+within-if : (places : List (Option Kept)) (p n : ℕ) (b : Bool) → (n == 0) ≡ b → All (IsKept places) (below n) →
+    IsWithin places (if b then [] else whole_run n ∷ []) (if b then [] else whole_extent p ∷ [])
+within-if places p n true e kept = record {
+  stretches = All-nil (IsStretch []);
+  some = All-nil HasPlace;
+  kept = All-nil (IsKept places);
 }
+within-if places p n false e kept =
+    let all : n - 0 ≡ n = omega arith in
+    record {
+      stretches = All-cons (IsStretch (whole_run n ∷ [])) (whole_extent p) [] (omega arith, omega arith) (All-nil (IsStretch (whole_run n ∷ [])));
+      some = All-cons HasPlace (whole_run n) [] (positive n e) (All-nil HasPlace);
+      kept = All-same (IsKept places) (run_places (whole_run n ∷ [])) (below n) (append-nil (own_places (whole_run n)) ∙ ap (range_with_len 0) all) kept;
+    }
+
+pub within-one : (p : ℕ) (cs : List Bidi) → IsWithin (map (kept_at_level p) cs) (one_run (length cs)) (one_extent p (length cs))
+within-one p cs =
+    within-if (map (kept_at_level p) cs) p (length cs) (length cs == 0) refl
+    (all-range (IsKept (map (kept_at_level p) cs)) 0 (length cs)
+    (λ k lt. ap (is_kept (map (kept_at_level p) cs)) (zero-add k) ∙ ap is_some (at-place p cs k lt).1))

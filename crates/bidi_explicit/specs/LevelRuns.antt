@@ -1,21 +1,45 @@
--- Places in a row at one level (UAX #9, BD7), and the places that a sequence has already.
-use Rattle.std.specs.Prelude.{ℕ, ◌-◌, ◌==◌, ◌<◌, ◌≡◌, Bool, true, false, Option, List, length, slice_index_or}
-use Rattle.std.specs.List.{list_any, range_with_len}
+-- Level runs: places in a row at one level (UAX #9, BD7), and what is known of those that sequences have already.
+use Rattle.std.specs.Prelude.{ℕ, ◌+◌, ◌-◌, ◌==◌, ◌<◌, ◌≤◌, ◌≡◌, not, Bool, true, false, Option, List, length, slice_index_or}
+use Rattle.std.specs.List.{All, flat_map, list_any, range_with_len}
 use Rattle.bidi_explicit.specs.declared.kept.Kept.{Kept}
+use Rattle.bidi_explicit.specs.declared.level_run.LevelRun.{LevelRun}
 use Rattle.bidi_explicit.specs.Sequences.{kept_at, same_level}
-
--- the places after `start`, up to `end`, are kept at its level
-abbrev pub IsLevelRun : List (Option Kept) → (start end : ℕ) → Type 0
-IsLevelRun places start end = (k : ℕ) → start < k → k < end → same_level (kept_at places start) (kept_at places k) ≡ true
 
 -- the places from `start` on, up to `end`
 abbrev pub places_between : (start end : ℕ) → List ℕ
 places_between start end = range_with_len start (end - start)
 
--- a place is one of these
-abbrev pub has_place : List ℕ → ℕ → Bool
-has_place order i = list_any (λ j. i == j) order
+abbrev pub own_places : LevelRun → List ℕ
+own_places r = places_between r.start r.end
 
--- the marks tell of each place whether it is one of these
-abbrev pub AreTold : List ℕ → List Bool → Type 0
-AreTold order marks = (i : ℕ) → i < length marks → slice_index_or marks i false ≡ has_place order i
+-- the places of runs, one run after the other
+abbrev pub run_places : List LevelRun → List ℕ
+run_places runs = flat_map own_places runs
+
+abbrev pub HasPlace : LevelRun → Type 0
+HasPlace r = r.start < r.end
+
+-- the places after `start`, up to `end`, are kept at its level
+abbrev pub IsLevelRun : List (Option Kept) → (start end : ℕ) → Type 0
+IsLevelRun places start end = (k : ℕ) → start < k → k < end → same_level (kept_at places start) (kept_at places k) ≡ true
+
+-- no level run goes on to this place from the one before it
+abbrev pub IsEdge : List (Option Kept) → ℕ → Type 0
+IsEdge places i = (before : ℕ) → before + 1 ≡ i → same_level (kept_at places before) (kept_at places i) ≡ false
+
+-- a run of a place and all behind it, in a row, that are kept at its level
+pub record IsRun (places : List (Option Kept)) (r : LevelRun) : Type 0 where
+  pub some : HasPlace r
+  pub within : r.end ≤ length places
+  pub level : IsLevelRun places r.start r.end
+  pub edge : IsEdge places r.end
+
+-- one of these runs begins at a place
+abbrev pub has_start : List LevelRun → ℕ → Bool
+has_start runs i = list_any (λ (r : LevelRun). i == r.start) runs
+
+-- these are level runs, and the ends tell of each place where the one that begins there ends, or 0 if none does
+pub record AreTold (places : List (Option Kept)) (runs : List LevelRun) (ends : List ℕ) : Type 0 where
+  pub whole : All (IsRun places) runs
+  pub begun : (i : ℕ) → i < length ends → (slice_index_or ends i 0 == 0) ≡ not (has_start runs i)
+  pub noted : (i : ℕ) → 0 < slice_index_or ends i 0 → IsRun places (record { start = i; end = slice_index_or ends i 0 })

@@ -2,6 +2,7 @@
 pub mod Nesting
 pub mod Levels
 pub mod Sequences
+pub mod LevelRuns
 pub mod Extents
 pub mod Uniform
 pub mod Embedding
@@ -9,7 +10,6 @@ pub mod Flat
 pub mod Strong
 pub mod Controls
 pub mod Links
-pub mod LevelRuns
 pub mod Ladder
 pub mod Frames
 pub mod Laws

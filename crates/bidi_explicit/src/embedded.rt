@@ -5,10 +5,12 @@ ghost use Rattle.std.specs.List.{All};
 ghost use Rattle.bidi_explicit.specs.Extents.{IsKept};
 
 use crate::kept::Kept;
+use crate::level_run::LevelRun;
+use crate::sequence::Sequence;
 use bg_types::Bidi;
 use std::marker::Model;
 
-/// Where a sequence stands in the order of places, and what else is known of it.
+/// Where a sequence stands in the list of level runs, and what else is known of it.
 #[derive(Clone, Copy, Debug)]
 pub(crate) struct Extent {
     pub(crate) start: usize,
@@ -23,7 +25,7 @@ pub(crate) struct Extent {
 pub struct Embedded {
     pub(crate) level: u8,
     pub(crate) places: Vec<Option<Kept>>,
-    pub(crate) order: Vec<usize>,
+    pub(crate) runs: Vec<LevelRun>,
     pub(crate) extents: Vec<Extent>,
 }
 
@@ -33,9 +35,9 @@ impl Model for Embedded {
 
     ghost Value = { Embedding };
 
-    ghost view = { λ e. record { level = e.level; places = e.places.items; sequences = extent_sequences e.order.items e.extents.items } };
+    ghost view = { λ e. record { level = e.level; places = e.places.items; sequences = extent_sequences e.runs.items e.extents.items } };
 
-    ghost invariant = { λ e. IsWithin e.places.items e.order.items e.extents.items };
+    ghost invariant = { λ e. IsWithin e.places.items e.runs.items e.extents.items };
 }
 
 impl Embedded {
@@ -72,61 +74,10 @@ impl Embedded {
     {
         let extent = self.extents[number];
         Sequence {
-            places: &self.order[extent.start..extent.end],
+            runs: &self.runs[extent.start..extent.end],
             level: extent.level,
             sos: extent.sos,
             eos: extent.eos,
         }
-    }
-}
-
-/// An isolating run sequence of a paragraph (BD13).
-#[derive(Debug, Drop)]
-pub struct Sequence<'a> {
-    places: &'a [usize],
-    level: u8,
-    sos: Bidi,
-    eos: Bidi,
-}
-
-impl<'a> Model for Sequence<'a> {
-    ghost use Rattle.bidi_explicit.specs.Sequences.{RunSequence};
-
-    ghost Value = { RunSequence };
-
-    ghost view = { λ s. record { places = s.places.now; level = s.level; sos = s.sos; eos = s.eos } };
-}
-
-impl<'a> Sequence<'a> {
-    /// The places of its characters in the paragraph, counted in code points, in rising order.
-    #[inline]
-    pub fn places(&self) -> &'a [usize]
-        ensures { result.now ≡ self.now.places }
-    {
-        self.places
-    }
-
-    /// The level of all its characters, at most 125.
-    #[inline]
-    pub fn level(&self) -> u8
-        ensures { result ≡ self.now.level }
-    {
-        self.level
-    }
-
-    /// The direction before its first character, L or R.
-    #[inline]
-    pub fn sos(&self) -> Bidi
-        ensures { result ≡ self.now.sos }
-    {
-        self.sos
-    }
-
-    /// The direction after its last character, L or R.
-    #[inline]
-    pub fn eos(&self) -> Bidi
-        ensures { result ≡ self.now.eos }
-    {
-        self.eos
     }
 }

@@ -10,12 +10,15 @@ mod level;
 mod level_run;
 mod paragraph;
 mod places;
+mod sequence;
 mod sequences;
 mod stack;
 mod uniform;
 
-pub use embedded::{Embedded, Sequence};
+pub use embedded::Embedded;
 pub use kept::Kept;
 pub use level::paragraph_level;
+pub use level_run::LevelRun;
 pub use paragraph::{explicit, explicit_at, explicit_by_controls};
+pub use sequence::{Places, Sequence};
 pub use uniform::has_controls;

@@ -27,11 +27,11 @@ pub fn explicit_by_controls(alloc: Global, level: u8, classes: &[Bidi]) -> Resul
 {
     let controls = controls(alloc, classes)?;
     let places = places(alloc, level, classes, &controls)?;
-    let (order, extents) = sequences(alloc, level, &controls, &places)?;
+    let (runs, extents) = sequences(alloc, level, &controls, &places)?;
     Ok(Embedded {
         level,
         places,
-        order,
+        runs,
         extents,
     })
 }

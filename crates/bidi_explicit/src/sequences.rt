@@ -1,16 +1,16 @@
 //! Isolating run sequences (UAX #9, BD13 and X10).
 
-ghost use Rattle.std.specs.Prelude.{◌≡◌, ◌<◌, ◌≤◌, ◌++◌, [], Some, IfOk, IfSome, OnOk, false, is_some, length, not, ◌&&◌, replicate};
+ghost use Rattle.std.specs.Prelude.{◌≡◌, ◌==◌, ◌<◌, ◌≤◌, ◌++◌, [], Some, IfOk, IfSome, OnOk, is_some, length, ◌&&◌, replicate, take};
 ghost use Rattle.bidi_explicit.specs.Sequences.{chain, chains, direction_between, eos_of, has_level_of, kept_after, kept_before, last_or, level_or, next_by, over_isolate, sos_of};
 ghost use Rattle.bidi_explicit.specs.Extents.{extent_of, extent_sequences, IsWithin};
 ghost use Rattle.bidi_explicit.specs.Links.{is_unclosed, is_unclosed_at, linked, AreKept, AreMatched};
-ghost use Rattle.bidi_explicit.specs.LevelRuns.{AreTold};
+ghost use Rattle.bidi_explicit.specs.LevelRuns.{AreTold, run_places};
 
 use crate::controls::Control;
 use crate::embedded::Extent;
 use crate::kept::Kept;
 use crate::kind::Kind;
-use crate::level_run::{append_run, same_level};
+use crate::level_run::{LevelRun, append_run, same_level};
 use bg_types::{Bidi, Memory};
 use std::alloc::Global;
 
@@ -104,10 +104,10 @@ fn over_isolate(places: &[Option<Kept>], pdi: usize) -> Option<usize>
     Some(pdi)
 }
 
-/// Appends the places of the chain that begins at `first`, marks them, and returns the last.
+/// Appends the level runs of the chain that begins at `first`, notes their ends, and returns the last place.
 fn append_chain(
-    order: &mut Vec<usize>,
-    taken: &mut [bool],
+    runs: &mut Vec<LevelRun>,
+    ends: &mut [usize],
     controls: &[Control],
     places: &[Option<Kept>],
     first: usize,
@@ -115,16 +115,17 @@ fn append_chain(
     requires first { first < length places.now }
     requires controls { length controls.now ≡ length places.now }
     requires matched { AreMatched controls.now }
-    requires long { length taken.old ≡ length places.now }
-    requires told { AreTold order.old.items taken.old }
-    ensures chain { OnOk result (order.new.items ≡ order.old.items ++ chain (linked controls.now places.now) (length places.now) first) }
+    requires long { length ends.old ≡ length places.now }
+    requires told { AreTold places.now runs.old.items ends.old }
+    ensures before { OnOk result (take (length runs.old.items) runs.new.items ≡ runs.old.items) }
+    ensures chain { OnOk result (run_places runs.new.items ≡ run_places runs.old.items ++ chain (linked controls.now places.now) (length places.now) first) }
     ensures last { IfOk result (λ last. last ≡ last_or first (chain (linked controls.now places.now) (length places.now) first)) }
     ensures inside { IfOk result (λ last. last < length places.now) }
-    ensures told { OnOk result (AreTold order.new.items taken.new) }
+    ensures told { OnOk result (AreTold places.now runs.new.items ends.new) }
 {
-    let mut last = append_run(order, taken, places, first)?;
+    let mut last = append_run(runs, ends, places, first)?;
     while let Some(start) = next(places, controls[last].pdi, last) {
-        last = append_run(order, taken, places, start)?;
+        last = append_run(runs, ends, places, start)?;
     }
     Ok(last)
 }
@@ -161,19 +162,17 @@ fn is_unclosed(control: Control) -> bool
     }
 }
 
-/// Whether a place begins a sequence, given whether an earlier one has it.
-fn begins(place: Option<Kept>, is_taken: bool) -> bool
-    ensures { result ≡ (is_some place && not is_taken) }
+/// Whether the sequence of a place at which a level run begins is a new one, given the end that is noted there, or 0.
+fn begins(place: Option<Kept>, end: usize) -> bool
+    ensures { result ≡ (is_some place && end == 0) }
 {
-    !is_taken && place.is_some()
+    place.is_some() && end == 0
 }
 
-/// Appends the sequence that begins at `first`, and marks its places.
-/// Never inlined: the loop over all places, few of which begin one, would count up all that this needs.
-#[inline(never)]
+/// Appends the sequence that begins at `first`, and notes the ends of its level runs.
 fn append_sequence(
-    order: &mut Vec<usize>,
-    taken: &mut [bool],
+    runs: &mut Vec<LevelRun>,
+    ends: &mut [usize],
     level: u8,
     controls: &[Control],
     places: &[Option<Kept>],
@@ -182,74 +181,70 @@ fn append_sequence(
     requires first { first < length places.now }
     requires controls { length controls.now ≡ length places.now }
     requires matched { AreMatched controls.now }
-    requires long { length taken.old ≡ length places.now }
-    requires told { AreTold order.old.items taken.old }
-    ensures order { OnOk result (order.new.items ≡ order.old.items ++ chain (linked controls.now places.now) (length places.now) first) }
-    ensures extent { IfOk result (λ e. e ≡ extent_of level (is_unclosed_at controls.now) places.now (length order.old.items) first (chain (linked controls.now places.now) (length places.now) first)) }
-    ensures told { OnOk result (AreTold order.new.items taken.new) }
+    requires long { length ends.old ≡ length places.now }
+    requires told { AreTold places.now runs.old.items ends.old }
+    ensures before { OnOk result (take (length runs.old.items) runs.new.items ≡ runs.old.items) }
+    ensures chain { OnOk result (run_places runs.new.items ≡ run_places runs.old.items ++ chain (linked controls.now places.now) (length places.now) first) }
+    ensures extent { IfOk result (λ e. e ≡ extent_of level (is_unclosed_at controls.now) places.now (length runs.old.items) (length runs.new.items) first (chain (linked controls.now places.now) (length places.now) first)) }
+    ensures told { OnOk result (AreTold places.now runs.new.items ends.new) }
 {
-    let start = order.len();
-    let last = append_chain(order, taken, controls, places, first)?;
+    let start = runs.len();
+    let last = append_chain(runs, ends, controls, places, first)?;
     Ok(Extent {
         start,
-        end: order.len(),
+        end: runs.len(),
         level: level_or(level, places, Some(first)),
         sos: sos(level, places, first),
         eos: eos(level, controls[last], places, last),
     })
 }
 
-/// Appends each sequence where it begins, and its extent.
+/// Appends each sequence where it begins, and its extent. What a sequence has already is passed a level run at a time.
 fn append_sequences(
-    order: &mut Vec<usize>,
+    runs: &mut Vec<LevelRun>,
     extents: &mut Vec<Extent>,
-    taken: &mut [bool],
+    ends: &mut [usize],
     level: u8,
     controls: &[Control],
     places: &[Option<Kept>],
 ) -> Result<(), Memory>
-    requires order { order.old.items ≡ [] }
+    requires runs { runs.old.items ≡ [] }
     requires extents { extents.old.items ≡ [] }
-    requires taken { taken.old ≡ replicate (length places.now) false }
+    requires ends { ends.old ≡ replicate (length places.now) 0 }
     requires long { length controls.now ≡ length places.now }
     requires matched { AreMatched controls.now }
     requires kept { AreKept controls.now places.now }
-    ensures sequences { OnOk result (extent_sequences order.new.items extents.new.items ≡ chains level (linked controls.now places.now) (is_unclosed_at controls.now) places.now) }
-    ensures within { OnOk result (IsWithin places.now order.new.items extents.new.items) }
+    ensures sequences { OnOk result (extent_sequences runs.new.items extents.new.items ≡ chains level (linked controls.now places.now) (is_unclosed_at controls.now) places.now) }
+    ensures within { OnOk result (IsWithin places.now runs.new.items extents.new.items) }
 {
-    for (first, place) in places.iter().enumerate() {
-        if begins(*place, taken[first]) {
-            let extent = append_sequence(order, taken, level, controls, places, first)?;
+    let mut first = 0;
+    while first < places.len() {
+        if begins(places[first], ends[first]) {
+            let extent = append_sequence(runs, ends, level, controls, places, first)?;
             extents.push(extent)?;
         }
+        first = ends[first].max(first + 1);
     }
     Ok(())
 }
 
-/// The isolating run sequences of a paragraph of this level: their places, one sequence after the other,
+/// The isolating run sequences of a paragraph of this level: their level runs, one sequence after the other,
 /// and the part of each.
 pub(crate) fn sequences(
     alloc: Global,
     level: u8,
     controls: &[Control],
     places: &[Option<Kept>],
-) -> Result<(Vec<usize>, Vec<Extent>), Memory>
+) -> Result<(Vec<LevelRun>, Vec<Extent>), Memory>
     requires long { length controls.now ≡ length places.now }
     requires matched { AreMatched controls.now }
     requires kept { AreKept controls.now places.now }
     ensures sequences { IfOk result (λ s. extent_sequences s.0.items s.1.items ≡ chains level (linked controls.now places.now) (is_unclosed_at controls.now) places.now) }
     ensures within { IfOk result (λ s. IsWithin places.now s.0.items s.1.items) }
 {
-    let mut order = Vec::with_capacity(alloc, places.len())?;
+    let mut runs = Vec::new(alloc);
     let mut extents = Vec::new(alloc);
-    let mut taken = vec![in alloc; false; places.len()]?;
-    append_sequences(
-        &mut order,
-        &mut extents,
-        &mut taken,
-        level,
-        controls,
-        places,
-    )?;
-    Ok((order, extents))
+    let mut ends = vec![in alloc; 0; places.len()]?;
+    append_sequences(&mut runs, &mut extents, &mut ends, level, controls, places)?;
+    Ok((runs, extents))
 }

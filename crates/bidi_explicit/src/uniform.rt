@@ -3,11 +3,11 @@
 ghost use Rattle.std.specs.Prelude.{◌≡◌, false, IfOk, map};
 ghost use Rattle.std.specs.List.{list_any};
 ghost use Rattle.bidi_explicit.specs.Embedding.{embedding_at};
-ghost use Rattle.bidi_explicit.specs.Sequences.{below};
-ghost use Rattle.bidi_explicit.specs.Uniform.{is_control, kept_at_level, one_extent};
+ghost use Rattle.bidi_explicit.specs.Uniform.{is_control, kept_at_level, one_extent, one_run};
 
 use crate::embedded::{Embedded, Extent};
 use crate::kept::Kept;
+use crate::level_run::LevelRun;
 use crate::sequences::direction_between;
 use bg_types::{Bidi, Memory};
 use std::alloc::Global;
@@ -49,14 +49,21 @@ fn kept_places(alloc: Global, level: u8, classes: &[Bidi]) -> Result<Vec<Option<
     Ok(classes.iter().map(kept).collect(alloc)?)
 }
 
-/// The numbers below `count`.
-fn numbers_below(alloc: Global, count: usize) -> Result<Vec<usize>, Memory>
-    ensures { IfOk result (λ numbers. numbers.items ≡ below count) }
+/// The level run of all places, where there is a place.
+fn one_run(alloc: Global, count: usize) -> Result<Vec<LevelRun>, Memory>
+    ensures { IfOk result (λ runs. runs.items ≡ one_run count) }
 {
-    Ok((0..count).collect(alloc)?)
+    let mut runs = Vec::new(alloc);
+    if count > 0 {
+        runs.push(LevelRun {
+            start: 0,
+            end: count,
+        })?;
+    }
+    Ok(runs)
 }
 
-/// The extent of a sequence of all places at a level, where there is a place.
+/// The extent of a sequence of one run at a level, where there is a place.
 fn one_extent(alloc: Global, level: u8, count: usize) -> Result<Vec<Extent>, Memory>
     ensures { IfOk result (λ extents. extents.items ≡ one_extent level count) }
 {
@@ -65,7 +72,7 @@ fn one_extent(alloc: Global, level: u8, count: usize) -> Result<Vec<Extent>, Mem
         let direction = direction_between(level, level);
         extents.push(Extent {
             start: 0,
-            end: count,
+            end: 1,
             level,
             sos: direction,
             eos: direction,
@@ -82,7 +89,7 @@ pub(crate) fn uniform(alloc: Global, level: u8, classes: &[Bidi]) -> Result<Embe
     Ok(Embedded {
         level,
         places: kept_places(alloc, level, classes)?,
-        order: numbers_below(alloc, classes.len())?,
+        runs: one_run(alloc, classes.len())?,
         extents: one_extent(alloc, level, classes.len())?,
     })
 }

@@ -6,6 +6,7 @@ pub mod Runs
 pub mod NeutralScans
 pub mod Filling
 pub mod PuttingBack
+pub mod RunPlaces
 pub mod AllLevels
 pub mod Bounds
 pub mod UniformLevels

@@ -1,14 +1,13 @@
 -- N1, N2, I1 and I2 in one pass.
-use Rattle.std.proofs.Common.{ℕ, ◌+◌, ◌<◌, ◌≡◌, refl, ap, sym, ◌∙◌, List, [], ◌∷◌, map, drop, set, length, get_or, Bool, true, false}
+use Rattle.std.proofs.Common.{ℕ, ◌+◌, ◌<◌, ◌≡◌, refl, ap, sym, ◌∙◌, List, [], ◌∷◌, ◌++◌, map, take, drop, set, length, get_or, Bool, true, false}
 use Rattle.std.specs.Prelude.{not, ◌&&◌, if◌then◌else◌}
-use Rattle.std.proofs.lemmas.List.{drop_more}
+use Rattle.std.proofs.lemmas.List.{append_assoc, drop_more, take_more_set}
 use Rattle.bg_types.specs.declared.class.Bidi.{Bidi}
 use Rattle.bg_types.specs.declared.class.Bidi.TheVariants.{L}
 use Rattle.bidi_weak_neutral.specs.Classes.{is, is_neutral, direction, embedding_direction}
 use Rattle.bidi_weak_neutral.specs.Context.{nearest}
 use Rattle.bidi_weak_neutral.specs.Neutral.{side, n1, n2, implicit_level}
 use Rattle.bidi_weak_neutral.specs.Pass.{neutral_type}
-use Rattle.bidi_weak_neutral.specs.Levels.{levels_at}
 use Rattle.bidi_weak_neutral.proofs.Scan.{scan, in_context_from-scan}
 
 -- the nearest earlier type that isn't neutral
@@ -66,28 +65,28 @@ other-level level eos before c cs other =
     ∙ ap (λ b. implicit_level level (if b then embedding_direction level else c) ∷ levels_from level eos c cs) other
 
 -- one step of the pass
-module _ (level : ℕ) (eos before : Bidi) (types : List Bidi) (places levels whole : List ℕ) (k : ℕ) (in_types : k < length types) (in_places : k < length places) where
+module _ (level : ℕ) (eos before : Bidi) (types : List Bidi) (levels whole : List ℕ) (k : ℕ) (in_types : k < length types) (in_levels : k < length levels) where
   put : (v : ℕ) (b : Bidi) → levels_from level eos before (get_or types k L ∷ drop (k + 1) types) ≡ v ∷ levels_from level eos b (drop (k + 1) types)
-      → levels_at levels (drop k places) (levels_from level eos before (drop k types)) ≡ whole
-      → levels_at (set levels (get_or places k 0) v) (drop (k + 1) places) (levels_from level eos b (drop (k + 1) types)) ≡ whole
+      → take k levels ++ levels_from level eos before (drop k types) ≡ whole
+      → take (k + 1) (set levels k v) ++ levels_from level eos b (drop (k + 1) types) ≡ whole
   put v b here so_far =
-      sym
-      (ap (λ p. levels_at levels p (levels_from level eos before (drop k types))) (drop_more places k 0 in_places)
-      ∙ ap (λ t. levels_at levels (get_or places k 0 ∷ drop (k + 1) places) (levels_from level eos before t)) (drop_more types k L in_types)
-      ∙ ap (levels_at levels (get_or places k 0 ∷ drop (k + 1) places)) here)
+      let rest = levels_from level eos b (drop (k + 1) types) in
+      ap (λ t. t ++ rest) (take_more_set levels k v in_levels)
+      ∙ append_assoc (take k levels) (v ∷ []) rest
+      ∙ ap (λ t. take k levels ++ t) (sym (ap (levels_from level eos before) (drop_more types k L in_types) ∙ here))
       ∙ so_far
 
   pub put-other : (v : ℕ) → is_neutral (get_or types k L) ≡ false → v ≡ implicit_level level (get_or types k L)
-      → levels_at levels (drop k places) (levels_from level eos before (drop k types)) ≡ whole
-      → levels_at (set levels (get_or places k 0) v) (drop (k + 1) places) (levels_from level eos (get_or types k L) (drop (k + 1) types)) ≡ whole
+      → take k levels ++ levels_from level eos before (drop k types) ≡ whole
+      → take (k + 1) (set levels k v) ++ levels_from level eos (get_or types k L) (drop (k + 1) types) ≡ whole
   put-other v other is =
       put v (get_or types k L)
       (other-level level eos before (get_or types k L) (drop (k + 1) types) other ∙ ap (λ v. v ∷ levels_from level eos (get_or types k L) (drop (k + 1) types)) (sym is))
 
   pub put-neutral : (v : ℕ) (after : Bidi) → is_neutral (get_or types k L) ≡ true → nearest (λ x. not (is_neutral x)) eos (drop (k + 1) types) ≡ after
       → v ≡ implicit_level level (neutral_type level before after)
-      → levels_at levels (drop k places) (levels_from level eos before (drop k types)) ≡ whole
-      → levels_at (set levels (get_or places k 0) v) (drop (k + 1) places) (levels_from level eos before (drop (k + 1) types)) ≡ whole
+      → take k levels ++ levels_from level eos before (drop k types) ≡ whole
+      → take (k + 1) (set levels k v) ++ levels_from level eos before (drop (k + 1) types) ≡ whole
   put-neutral v after neutral ahead is =
       put v before
       (neutral-level level eos before (get_or types k L) after (drop (k + 1) types) neutral ahead

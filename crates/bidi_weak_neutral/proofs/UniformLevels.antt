@@ -2,8 +2,7 @@
 use Rattle.std.proofs.Common.{arith, ℕ, zero, suc, ◌+◌, ◌<◌, ◌≤◌, ◌≡◌, refl, ap, ap₂, sym, subst, ◌∙◌, List, [], ◌∷◌, map, length, replicate, false}
 use Rattle.std.specs.Prelude.{slice_index, nat_le}
 use Rattle.std.specs.List.{All, list_any, range_with_len}
-use Rattle.std.proofs.lemmas.List.{length-replicate}
-use Rattle.std.proofs.lemmas.List.FromFn.{length-range_with_len, get_or-range_with_len}
+use Rattle.std.proofs.lemmas.List.{length-replicate, nil_from_length}
 use Rattle.std.proofs.lemmas.List.Elements.{All-nil, All-cons}
 use Rattle.bg_types.specs.declared.class.Bidi.{Bidi}
 use Rattle.bg_types.proofs.Interface.{two_cases}
@@ -21,6 +20,7 @@ use Rattle.bidi_weak_neutral.specs.Uniform.{uniform_levels}
 use Rattle.bidi_weak_neutral.proofs.Scan.{scan}
 use Rattle.bidi_weak_neutral.proofs.Filling.{fill_at, fill_step, filled_levels-is}
 use Rattle.bidi_weak_neutral.proofs.AllLevels.{length-levels_at}
+use Rattle.bidi_weak_neutral.proofs.RunPlaces.{levels-whole}
 use Rattle.bidi_weak_neutral.proofs.Bounds.{resolved_levels-le}
 
 map-shift : {A : Type 0} (f : ℕ → A) (k j n : ℕ) → j ≡ suc k → map f (range_with_len j n) ≡ map (λ i. f (suc i)) (range_with_len k n)
@@ -51,13 +51,13 @@ same-direction level = two_cases (nat_le level level) (λ e. rw e refl) (λ e. r
 
 module _ (tables : TableValues) (level : ℕ) where
   -- what the rules make of it, with its one sequence put back
-  put : (points : List ℕ) (cs : List Bidi) → length points ≡ length cs
+  put : (points : List ℕ) (cs : List Bidi) → length points ≡ length cs → length (uniform_levels tables level points cs) ≡ length cs
       → resolved_levels tables points (record { level = level; places = map (kept_at_level level) cs; sequences = one_sequence level (length cs) })
       ≡ uniform_levels tables level points cs
-  put [] [] n = refl
-  put (p ∷ points) [] n = absurd (omega arith)
-  put [] (c ∷ cs) n = absurd (omega arith)
-  put (p ∷ ps) (c ∷ cs) n =
+  put [] [] n long = sym (nil_from_length (uniform_levels tables level [] []) long)
+  put (p ∷ points) [] n long = absurd (omega arith)
+  put [] (c ∷ cs) n long = absurd (omega arith)
+  put (p ∷ ps) (c ∷ cs) n long =
       let points = p ∷ ps in
       let classes = c ∷ cs in
       let d = direction_between level level in
@@ -66,14 +66,16 @@ module _ (tables : TableValues) (level : ℕ) where
       let chars : map (slice_index points) (below (length classes)) ≡ points = ap (λ k. map (slice_index points) (below k)) (sym n) ∙ points-below points in
       let before = map (λ i. type_of (kept_at (map (kept_at_level level) classes) i)) (below (length classes)) in
       let levels = made (map (slice_index points) (below (length classes))) before in
-      let long : length levels ≡ length classes =
+      let all : length levels ≡ length classes =
       length-levels_at (replicate (length points) level) (below (length classes)) _ ∙ length-replicate (length points) level ∙ n in
-      filled_levels-is level (kept_levels (map (kept_at_level level) classes) levels) ∙ filled-kept level level classes levels long
+      filled_levels-is level (kept_levels (map (kept_at_level level) classes) levels) ∙ filled-kept level level classes levels all
       ∙ ap (λ x. made x before) chars ∙ ap (made points) (types-below level classes)
+      ∙ levels-whole (replicate (length points) level) (uniform_levels tables level points classes) (length classes) (length-replicate (length points) level ∙ n) long
 
   pub uniform-resolved : (points : List ℕ) (cs : List Bidi) → list_any is_control cs ≡ false → length points ≡ length cs
+      → length (uniform_levels tables level points cs) ≡ length cs
       → uniform_levels tables level points cs ≡ resolved_levels tables points (embedding_at level cs)
-  uniform-resolved points cs h n = sym (put points cs n) ∙ ap (resolved_levels tables points) (embedding-uniform level cs h)
+  uniform-resolved points cs h n long = sym (put points cs n long) ∙ ap (resolved_levels tables points) (embedding-uniform level cs h)
 
 one-low : (level n : ℕ) → level ≤ 125 → All (λ s. s.level ≤ 125) (one_sequence level n)
 one-low level zero low = All-nil _
@@ -84,10 +86,3 @@ pub uniform-le : (tables : TableValues) (level : ℕ) (points : List ℕ) (cs : 
 uniform-le tables level points cs low h =
     resolved_levels-le tables points (embedding_at level cs) (omega arith)
     (subst (λ e. All (λ s. s.level ≤ 125) e.sequences) (embedding-uniform level cs h) (one-low level (length cs) low))
-
--- the numbers below n
-pub below-within : (n : ℕ) → All (λ i. i < n) (below n)
-below-within n = λ k d lt.
-    let one = get_or-range_with_len 0 n k d (let all = length-range_with_len 0 n in omega arith) in
-    let all = length-range_with_len 0 n in
-    omega arith

@@ -1,13 +1,12 @@
 //! 3.3.5 and 3.3.6 Resolving Neutral and Isolate Formatting Types, and Implicit Levels: N1, N2, I1, I2.
 
-ghost use Rattle.std.specs.Prelude.{◌≡◌, ℕ, ◌<◌, ◌≤◌, All, true, not, length, map, drop, slice_index_or};
+ghost use Rattle.std.specs.Prelude.{◌≡◌, ℕ, ◌<◌, ◌≤◌, true, not, length, map, drop, slice_index_or};
 ghost use Rattle.bg_types.specs.declared.class.Bidi.{Bidi};
 ghost use Rattle.bg_types.specs.declared.class.Bidi.TheVariants.{L};
 ghost use Rattle.bidi_weak_neutral.specs.Classes.{is_neutral};
 ghost use Rattle.bidi_weak_neutral.specs.Context.{nearest};
 ghost use Rattle.bidi_weak_neutral.specs.Neutral.{n1, n2, i1, i2, implicit_level};
 ghost use Rattle.bidi_weak_neutral.specs.Pass.{neutral_type};
-ghost use Rattle.bidi_weak_neutral.specs.Levels.{levels_at};
 
 use crate::class::{direction, embedding_direction, is_neutral, is_number, type_at};
 use bg_types::Bidi;
@@ -82,28 +81,20 @@ fn implicit_level(level: u8, class: Bidi) -> u8
     }
 }
 
-/// Puts the levels of a sequence's types at its places (N1, N2, I1, I2).
-pub(crate) fn put_levels(
-    levels: &mut [u8],
-    places: &[usize],
-    types: &[Bidi],
-    level: u8,
-    sos: Bidi,
-    eos: Bidi,
-)
-    requires places { All (λ i. i < length levels.old) places.now }
-    requires types { length types.now ≡ length places.now }
+/// Puts the level of each type of a sequence (N1, N2, I1, I2).
+pub(crate) fn put_levels(levels: &mut [u8], types: &[Bidi], level: u8, sos: Bidi, eos: Bidi)
+    requires types { length types.now ≡ length levels.old }
     requires level { level ≤ 125 }
-    ensures { levels.new ≡ levels_at levels.old places.now (map (implicit_level level) (n2 level (n1 sos eos types.now))) }
+    ensures { levels.new ≡ map (implicit_level level) (n2 level (n1 sos eos types.now)) }
 {
     let mut before = sos;
     let mut end = 0;
     let mut neutral = level;
-    for (k, place) in places.iter().enumerate() {
+    for k in 0..types.len() {
         let class = types[k];
         if !is_neutral(class) {
             before = class;
-            levels[*place] = implicit_level(level, class);
+            levels[k] = implicit_level(level, class);
             continue;
         }
         if end <= k {
@@ -111,6 +102,6 @@ pub(crate) fn put_levels(
             let after = type_at(types, end, eos);
             neutral = implicit_level(level, neutral_type(level, before, after));
         }
-        levels[*place] = neutral;
+        levels[k] = neutral;
     }
 }

@@ -5,15 +5,14 @@ ghost use Rattle.unicode_tables.specs.Tables.{bidi_of};
 ghost use Rattle.std.specs.List.{list_all, list_any};
 ghost use Rattle.paragraphs.specs.Text.{code_points};
 ghost use Rattle.bidi_explicit.specs.Embedding.{embedding_at};
-ghost use Rattle.bidi_explicit.specs.Sequences.{below};
 ghost use Rattle.bidi_explicit.specs.Uniform.{is_control};
 ghost use Rattle.bidi_weak_neutral.specs.Classes.{is_plain};
-ghost use Rattle.bidi_weak_neutral.specs.Levels.{kept_levels, filled_levels, types_before, characters_of, types_after_n0, put_back, resolved_levels, levels_of, is_plain_text};
+ghost use Rattle.bidi_weak_neutral.specs.Levels.{kept_levels, filled_levels, types_before, characters_of, types_after_n0, sequence_levels, put_back, resolved_levels, levels_of, is_plain_text};
 ghost use Rattle.bidi_weak_neutral.specs.Uniform.{uniform_levels};
 
 use crate::class::{embedding_direction, is_plain};
 use crate::neutral::put_levels;
-use crate::sequence::{gather, resolve_types};
+use crate::sequence::{gather, put_at_runs, resolve_types};
 use crate::weak::resolve_weak;
 use bg_types::{Base, Bidi, Memory};
 use bidi_explicit::{
@@ -30,6 +29,7 @@ struct Buffers {
     characters: Vec<char>,
     before: Vec<Bidi>,
     types: Vec<Bidi>,
+    levels: Vec<u8>,
 }
 
 /// The types of a sequence of the paragraph after N0, in the buffer of types.
@@ -46,17 +46,16 @@ fn resolve_sequence(
     ensures types { OnOk result (buffers.new.types.items ≡ types_after_n0 tables.now sequence.now (characters_of points.now sequence.now) (types_before places.now sequence.now)) }
     ensures one_each { OnOk result (length buffers.new.types.items ≡ length sequence.now.places) }
 {
-    let count = sequence.places().len();
-    buffers.characters.resize(count, ' ')?;
-    buffers.before.resize(count, Bidi::On)?;
-    buffers.types.resize(count, Bidi::On)?;
+    buffers.characters.clear();
+    buffers.before.clear();
     gather(
         points,
         places,
-        sequence.places(),
+        sequence.runs(),
         &mut buffers.characters,
         &mut buffers.before,
-    );
+    )?;
+    buffers.types.resize(buffers.before.len(), Bidi::On)?;
     resolve_types(
         alloc,
         tables,
@@ -65,6 +64,33 @@ fn resolve_sequence(
         &buffers.before,
         &mut buffers.types,
     )
+}
+
+/// The levels of a sequence of the paragraph, in the buffer of levels.
+fn sequence_levels(
+    alloc: Global,
+    tables: &Tables,
+    points: &[char],
+    places: &[Option<Kept>],
+    sequence: &Sequence,
+    buffers: &mut Buffers,
+) -> Result<(), Memory>
+    requires points { All (λ i. i < length points.now) sequence.now.places }
+    requires kept { All (λ i. i < length places.now) sequence.now.places }
+    requires level { sequence.now.level ≤ 125 }
+    ensures levels { OnOk result (buffers.new.levels.items ≡ sequence_levels tables.now points.now places.now sequence.now) }
+    ensures one_each { OnOk result (length buffers.new.levels.items ≡ length sequence.now.places) }
+{
+    resolve_sequence(alloc, tables, points, places, sequence, buffers)?;
+    buffers.levels.resize(buffers.types.len(), 0)?;
+    put_levels(
+        &mut buffers.levels,
+        &buffers.types,
+        sequence.level(),
+        sequence.sos(),
+        sequence.eos(),
+    );
+    Ok(())
 }
 
 /// Gives each removed place the level of the one before it, or else the paragraph level.
@@ -100,19 +126,13 @@ fn put_back(
         characters: Vec::new(alloc),
         before: Vec::new(alloc),
         types: Vec::new(alloc),
+        levels: Vec::new(alloc),
     };
     for number in 0..embedded.sequence_count() {
         let sequence = embedded.sequence(number);
         let places = embedded.places();
-        resolve_sequence(alloc, tables, points, places, &sequence, &mut buffers)?;
-        put_levels(
-            levels,
-            sequence.places(),
-            &buffers.types,
-            sequence.level(),
-            sequence.sos(),
-            sequence.eos(),
-        );
+        sequence_levels(alloc, tables, points, places, &sequence, &mut buffers)?;
+        put_at_runs(levels, sequence.runs(), &buffers.levels);
     }
     Ok(())
 }
@@ -135,15 +155,7 @@ fn resolve_levels(
     Ok(())
 }
 
-/// The places of a paragraph of this many code points.
-fn all_places(alloc: Global, count: usize) -> Result<Vec<usize>, Memory>
-    ensures { IfOk result (λ places. places.items ≡ below count) }
-{
-    Ok((0..count).collect(alloc)?)
-}
-
-/// Resolves the levels of a paragraph without controls, whose places are one sequence, in a list that holds the
-/// paragraph level throughout.
+/// Resolves the levels of a paragraph without controls, whose places are one sequence.
 fn resolve_uniform(
     alloc: Global,
     tables: &Tables,
@@ -154,15 +166,14 @@ fn resolve_uniform(
 ) -> Result<(), Memory>
     requires level { level ≤ 125 }
     requires classes { length classes.now ≡ length points.now }
-    requires levels { levels.old ≡ replicate (length points.now) level }
+    requires levels { length levels.old ≡ length points.now }
     ensures { OnOk result (levels.new ≡ uniform_levels tables.now level points.now classes.now) }
 {
     let direction = embedding_direction(level);
-    let places = all_places(alloc, classes.len())?;
     let mut types = vec![in alloc; Bidi::On; classes.len()]?;
     resolve_weak(classes, &mut types, direction);
     resolve(alloc, tables, level, direction, points, classes, &mut types)?;
-    put_levels(levels, &places, &types, level, direction, direction);
+    put_levels(levels, &types, level, direction, direction);
     Ok(())
 }
 

@@ -1,12 +1,13 @@
-//! The types of one isolating run sequence: W1 to W7 and N0.
+//! One isolating run sequence: its characters and types, W1 to W7 and N0, and its levels put back.
 
-ghost use Rattle.std.specs.Prelude.{◌≡◌, OnOk, All, ◌<◌, length, map, slice_index};
+ghost use Rattle.std.specs.Prelude.{◌≡◌, OnOk, All, ◌<◌, ◌++◌, [], length, map, slice_index};
+ghost use Rattle.bidi_explicit.specs.LevelRuns.{HasPlace, run_places};
 ghost use Rattle.bidi_explicit.specs.Sequences.{kept_at};
-ghost use Rattle.bidi_weak_neutral.specs.Levels.{type_of, types_after_n0};
+ghost use Rattle.bidi_weak_neutral.specs.Levels.{levels_at, type_of, types_after_n0};
 
 use crate::weak::resolve_weak;
 use bg_types::{Bidi, Memory};
-use bidi_explicit::{Kept, Sequence};
+use bidi_explicit::{Kept, LevelRun, Sequence};
 use bracket_pairs::resolve;
 use std::alloc::Global;
 use unicode_tables::Tables;
@@ -22,34 +23,52 @@ fn class_of(kept: Option<Kept>) -> Bidi
     }
 }
 
-/// The type of what is kept at a place.
-#[inline]
-fn type_of(places: &[Option<Kept>], place: usize) -> Bidi
-    requires { place < length places.now }
-    ensures { result ≡ type_of (kept_at places.now place) }
+/// Appends the types of what is kept at places in a row.
+fn append_types(kept: &[Option<Kept>], types: &mut Vec<Bidi>) -> Result<(), Memory>
+    ensures { OnOk result (types.new.items ≡ types.old.items ++ map type_of kept.now) }
 {
-    class_of(places[place])
+    types.reserve(kept.len())?;
+    for place in kept {
+        types.push_reserved(class_of(*place));
+    }
+    Ok(())
 }
 
-/// Puts the characters of a sequence and their types before W1 into two lists of its length.
+/// Puts the characters of a sequence of these level runs and their types before W1 into two lists, which are empty.
 pub(crate) fn gather(
     of_paragraph: &[char],
     kept: &[Option<Kept>],
-    places: &[usize],
-    characters: &mut [char],
-    types: &mut [Bidi],
-)
-    requires inside { All (λ i. i < length of_paragraph.now) places.now }
-    requires kept { All (λ i. i < length kept.now) places.now }
-    requires characters { length characters.old ≡ length places.now }
-    requires types { length types.old ≡ length places.now }
-    ensures characters { characters.new ≡ map (slice_index of_paragraph.now) places.now }
-    ensures types { types.new ≡ map (λ i. type_of (kept_at kept.now i)) places.now }
+    runs: &[LevelRun],
+    characters: &mut Vec<char>,
+    types: &mut Vec<Bidi>,
+) -> Result<(), Memory>
+    requires some { All HasPlace runs.now }
+    requires inside { All (λ i. i < length of_paragraph.now) (run_places runs.now) }
+    requires kept { All (λ i. i < length kept.now) (run_places runs.now) }
+    requires characters { characters.old.items ≡ [] }
+    requires types { types.old.items ≡ [] }
+    ensures characters { OnOk result (characters.new.items ≡ map (slice_index of_paragraph.now) (run_places runs.now)) }
+    ensures types { OnOk result (types.new.items ≡ map (λ i. type_of (kept_at kept.now i)) (run_places runs.now)) }
 {
-    for (k, place) in places.iter().enumerate() {
-        let place = *place;
-        characters[k] = of_paragraph[place];
-        types[k] = type_of(kept, place);
+    for run in runs {
+        characters.extend_from_slice(&of_paragraph[run.start..run.end])?;
+        append_types(&kept[run.start..run.end], types)?;
+    }
+    Ok(())
+}
+
+/// Puts the levels of a sequence of these level runs, in its order, at its places.
+pub(crate) fn put_at_runs(levels: &mut [u8], runs: &[LevelRun], own: &[u8])
+    requires some { All HasPlace runs.now }
+    requires inside { All (λ i. i < length levels.old) (run_places runs.now) }
+    requires own { length own.now ≡ length (run_places runs.now) }
+    ensures { levels.new ≡ levels_at levels.old (run_places runs.now) own.now }
+{
+    let mut rest = own;
+    for run in runs {
+        let (first, behind) = rest.split_at(run.end - run.start);
+        levels[run.start..run.end].copy_from_slice(first);
+        rest = behind;
     }
 }
 

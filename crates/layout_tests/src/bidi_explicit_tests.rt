@@ -228,7 +228,7 @@ fn are_isolates(embedded: &Embedded) -> bool {
     letter.level == 125
         && letter.class == L
         && embedded.sequence_count() == 64
-        && embedded.sequence(63).places().len() == 135
+        && embedded.sequence(63).places().count() == 135
 }
 
 /// Whether this is told of a sequence that is there.

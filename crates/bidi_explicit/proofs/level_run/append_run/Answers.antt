@@ -1,14 +1,20 @@
 -- The last place of a run is the one before its end.
-use Rattle.std.proofs.Common.{◌≡◌, ◌+◌, ◌-◌, ◌++◌, ◌∙◌, ap, subst, arith}
-use Rattle.bidi_explicit.specs.LevelRuns.{IsLevelRun, places_between}
+use Rattle.std.proofs.Common.{◌≡◌, ◌<◌, ◌+◌, ◌-◌, ◌++◌, ◌∷◌, [], ◌∙◌, ap, subst, arith}
+use Rattle.bidi_explicit.specs.LevelRuns.{IsRun}
+use Rattle.bidi_explicit.proofs.Runs.{run_of, AreTold-more}
 use Rattle.bidi_explicit.proofs.level_run.append_run.Goals as goal
 
 pub returns-clause-run : goal.returns-clause-run
 returns-clause-run c =
-    let end : c.run_end-end.result ≡ (c.run_end-end.result - 1) + 1 = let from = c.run_end-end.ensures.from in omega arith in
-    subst (IsLevelRun c.args.places.now c.args.start) end c.run_end-end.ensures.run
+    let end : c.run_end-end.result ≡ (c.run_end-end.result - 1) + 1 = let some : c.args.start < c.run_end-end.result = c.run_end-end.ensures.some in omega arith in
+    subst (λ e. IsRun c.args.places.now (run_of c.args.start e)) end c.run_end-end.ensures
 
-pub returns-clause-order : goal.returns-clause-order
-returns-clause-order c =
-    let end : c.run_end-end.result ≡ (c.run_end-end.result - 1) + 1 = let from = c.run_end-end.ensures.from in omega arith in
-    c.in_ok-append_places.ensures.order ∙ ap (λ k. c.args.order.now.items ++ places_between c.args.start k) end
+pub returns-clause-appended : goal.returns-clause-appended
+returns-clause-appended c =
+    let end : c.run_end-end.result ≡ (c.run_end-end.result - 1) + 1 = let some : c.args.start < c.run_end-end.result = c.run_end-end.ensures.some in omega arith in
+    c.in_ok-push.ensures.items ∙ ap (λ e. c.args.runs.now.items ++ run_of c.args.start e ∷ []) end
+
+pub returns-clause-told : goal.returns-clause-told
+returns-clause-told c =
+    rw c.in_ok-push.ensures.items
+    (AreTold-more c.args.places.now c.args.runs.now.items c.args.ends.now c.args.start c.run_end-end.result (omega (arith, c.requires.long)) c.run_end-end.ensures c.requires.told)

@@ -36,7 +36,7 @@ returns-clause-embedding c =
     let cs = c.args.classes.now in
     let controls : c.deref-2.result.now ≡ controls_from 0 cs = c.deref-2.ensures.value ∙ c.in_ok-controls.ensures in
     embedding-is cs c.args.level c.in_ok-places.places.items _ c.deref-2.result.now
-    c.in_ok-places.ensures controls (rw c.deref-3.ensures.value at c.in_ok-order.ensures.sequences)
+    c.in_ok-places.ensures controls (rw c.deref-3.ensures.value at c.in_ok-runs.ensures.sequences)
 
 pub returns-clause-places : goal.returns-clause-places
 returns-clause-places c =

@@ -1,59 +1,78 @@
--- Each sequence is gathered where it begins.
-use Rattle.std.proofs.Common.{refl, Bool, ◌≡◌, ◌∙◌, ◌<◌, sym, ap, subst, length, true, None, add-one, arith}
+-- Each sequence is gathered where it begins, and the level runs that one has already are passed.
+use Rattle.std.proofs.Common.{ℕ, refl, ◌≡◌, ◌∙◌, ◌<◌, suc, sym, ap, subst, length, get_or, true, None, add-one, arith}
+use Rattle.std.specs.Prelude.{is_some, ◌&&◌}
 use Rattle.std.proofs.lemmas.List.{length-replicate}
+use Rattle.std.proofs.lemmas.List.Elements.{All-weaker}
 use Rattle.bidi_explicit.specs.Sequences.{begins}
 use Rattle.bidi_explicit.specs.Links.{linked, is_unclosed_at}
-use Rattle.bidi_explicit.proofs.Linking.{begins-kept, linked-kept, linked-forward, linked-from_kept}
-use Rattle.bidi_explicit.proofs.Gathering.{IsGathered, IsGathered-start, IsGathered-on, IsGathered-more}
-use Rattle.bidi_explicit.proofs.Taken.{AreTold-start, IsTaken-start, IsTaken-on, IsTaken-more, begins-is}
+use Rattle.bidi_explicit.specs.LevelRuns.{HasPlace, IsRun, has_start, run_places}
+use Rattle.bidi_explicit.proofs.Linking.{linked-forward, linked-from_kept}
+use Rattle.bidi_explicit.proofs.Gathering.{IsGathered-start}
+use Rattle.bidi_explicit.proofs.Runs.{AreTold-start, has-start}
+use Rattle.bidi_explicit.proofs.Taken.{IsTaken-start, begins-is}
+use Rattle.bidi_explicit.proofs.Walking.{IsDone, IsDone-past, IsDone-more, IsNext-is}
 use Rattle.bidi_explicit.proofs.sequences.append_sequences.Goals as goal
 use Rattle.bidi_explicit.proofs.sequences.append_sequences.Goals.{then-begins+in_ok-extent+in_ok-push, else-begins}
 
 pub loop-first-init : goal.loop-first-init
 loop-first-init c = record {
-  gathered =
-      rw (c.requires.order, c.requires.extents)
-      (IsGathered-start c.args.level (linked c.args.controls.now c.args.places.now) (is_unclosed_at c.args.controls.now) c.args.places.now);
-  taken = rw c.requires.order (IsTaken-start (linked c.args.controls.now c.args.places.now) c.args.places.now);
-  told = rw (c.requires.order, c.requires.taken) (AreTold-start (length c.args.places.now));
+  done = record {
+    gathered =
+        rw (c.requires.runs, c.requires.extents)
+        (IsGathered-start c.args.level (linked c.args.controls.now c.args.places.now) (is_unclosed_at c.args.controls.now) c.args.places.now);
+    taken = rw c.requires.runs (IsTaken-start (linked c.args.controls.now c.args.places.now) c.args.places.now);
+    told = rw (c.requires.runs, c.requires.ends) (AreTold-start c.args.places.now);
+  };
+  edge = λ before at. absurd (omega arith);
+  within = omega arith;
 }
 
 pub loop-first-preserved : goal.loop-first-preserved
 loop-first-preserved c =
+    let level = c.args.level in
     let controls = c.args.controls.now in
     let places = c.args.places.now in
     let first = c.loop-first.first in
-    let f = linked controls places in
-    let long : length c.loop-first.taken ≡ length c.args.places.now = omega (arith, ap length c.requires.taken, length-replicate {A = Bool}) in
+    let runs = c.loop-first.runs.items in
+    let extents = c.loop-first.extents.items in
+    let ends = c.loop-first.ends in
+    let so_far = c.loop-first.invariant.done in
     let inside : c.loop-first.first < length c.args.places.now = c.loop-first-test.true in
-    let forward = linked-forward controls places c.requires.matched c.requires.long in
-    let from_kept = linked-from_kept controls places in
-    let t = c.loop-first.invariant.taken in
+    let long : length c.loop-first.ends ≡ length c.args.places.now = omega (arith, ap length c.requires.ends, length-replicate {A = ℕ} (length c.args.places.now) 0) in
+    let noted : length c.if-begins.ends ≡ length c.args.places.now = omega (arith, ap length c.requires.ends, length-replicate {A = ℕ} (length c.args.places.now) 0) in
     let b : c.begins.result ≡ begins (linked c.args.controls.now c.args.places.now) c.args.places.now c.loop-first.first =
-    c.begins.ensures ∙ begins-is f places forward from_kept first c.loop-first.order.items t None _ inside (c.loop-first.invariant.told first (omega arith)) in
+    c.begins.ensures
+    ∙ ap (λ e. is_some (get_or c.args.places.now c.loop-first.first None) && e) (so_far.told.begun first (omega arith))
+    ∙ begins-is (linked controls places) places (linked-forward controls places c.requires.matched c.requires.long) (linked-from_kept controls places) first (run_places runs)
+    so_far.taken None (has_start runs first) inside (sym (has-start places runs so_far.told.whole first c.loop-first.invariant.edge)) in
+    let done : IsDone c.args.level (linked c.args.controls.now c.args.places.now) (is_unclosed_at c.args.controls.now) c.args.places.now (suc c.loop-first.first)
+    c.if-begins.runs.items c.if-begins.extents.items c.if-begins.ends =
     elim c.if-begins.branch [
       | then-begins+in_ok-extent+in_ok-push w ↦
-          let here : begins (linked c.args.controls.now c.args.places.now) c.args.places.now c.loop-first.first ≡ true = sym b ∙ w.if-begins.true in
-          record {
-            gathered =
-                rw (add-one, w.order-is, w.extents-is, w.in_ok-push.ensures.items, w.in_ok-extent.ensures.order, w.in_ok-extent.ensures.extent)
-                (IsGathered-more c.args.level f (is_unclosed_at controls) places first c.loop-first.order.items c.loop-first.extents.items c.loop-first.invariant.gathered here
-                (begins-kept f places first here) (linked-kept controls places c.requires.kept) (length places) refl);
-            taken =
-                rw (add-one, w.order-is, w.in_ok-extent.ensures.order)
-                (IsTaken-more f places forward from_kept first c.loop-first.order.items t (length places) refl inside);
-            told = rw (w.order-is, w.taken-is) w.in_ok-extent.ensures.told;
-          }
-      | else-begins w ↦ record {
-        gathered =
-            rw (add-one, w.order-is, w.extents-is)
-            (IsGathered-on c.args.level f (is_unclosed_at controls) places first c.loop-first.order.items c.loop-first.extents.items c.loop-first.invariant.gathered (sym b ∙ w.if-begins.false));
-        taken = rw (add-one, w.order-is) (IsTaken-on f places forward from_kept first c.loop-first.order.items t (sym b ∙ w.if-begins.false));
-        told = rw (w.order-is, w.taken-is) c.loop-first.invariant.told;
-      }
-    ]
+          rw (w.runs-is, w.extents-is, w.ends-is)
+          (IsDone-more level controls places c.requires.matched c.requires.kept c.requires.long first inside runs extents ends so_far (sym b ∙ w.if-begins.true)
+          _ w.in_ok-extent.extent _ _ w.in_ok-extent.ensures.before w.in_ok-extent.ensures.chain w.in_ok-extent.ensures.extent w.in_ok-push.ensures.items w.in_ok-extent.ensures.told)
+      | else-begins w ↦
+          rw (w.runs-is, w.extents-is, w.ends-is)
+          (IsDone-past level controls places c.requires.matched c.requires.kept c.requires.long first inside runs extents ends so_far (sym b ∙ w.if-begins.false))
+    ] in
+    let next = IsNext-is level controls places c.requires.matched c.requires.long c.if-begins.runs.items c.if-begins.extents.items c.if-begins.ends
+    first inside noted c.loop-first.invariant.edge done _ c.max-first.ensures in
+    record { done = next.done; edge = next.edge; within = next.within }
+
+pub loop-first-smaller : goal.loop-first-smaller
+loop-first-smaller c = let max = c.max-first.ensures in omega arith
 
 pub returns-clause-sequences : goal.returns-clause-sequences
 returns-clause-sequences c =
     let at : c.loop-first.first ≡ length c.args.places.now = omega arith in
-    (subst (λ n. IsGathered c.args.level (linked c.args.controls.now c.args.places.now) (is_unclosed_at c.args.controls.now) c.args.places.now n c.loop-first.order.items c.loop-first.extents.items) at c.loop-first.invariant.gathered).made
+    (subst (λ n. IsDone c.args.level (linked c.args.controls.now c.args.places.now) (is_unclosed_at c.args.controls.now) c.args.places.now n c.loop-first.runs.items c.loop-first.extents.items c.loop-first.ends) at c.loop-first.invariant.done).gathered.made
+
+pub returns-clause-within : goal.returns-clause-within
+returns-clause-within c =
+    let done = c.loop-first.invariant.done in
+    record {
+      stretches = done.gathered.stretches;
+      some = All-weaker (IsRun c.args.places.now) HasPlace (λ r run. run.some) c.loop-first.runs.items done.told.whole;
+      kept = done.gathered.kept;
+    }

@@ -7,11 +7,11 @@ use Rattle.bidi_explicit.proofs.uniform.uniform.Goals as goal
 
 pub invariant_of-result : goal.invariant_of-result
 invariant_of-result c =
-    rw (c.in_ok-kept_places.ensures, c.in_ok-numbers_below.ensures, c.in_ok-one_extent.ensures) (within-one c.args.level c.args.classes.now)
+    rw (c.in_ok-kept_places.ensures, c.in_ok-one_run.ensures, c.in_ok-one_extent.ensures) (within-one c.args.level c.args.classes.now)
 
 pub returns : goal.returns
 returns c =
     let places = map (kept_at_level c.args.level) c.args.classes.now in
-    rw (c.in_ok-kept_places.ensures, c.in_ok-numbers_below.ensures, c.in_ok-one_extent.ensures)
+    rw (c.in_ok-kept_places.ensures, c.in_ok-one_run.ensures, c.in_ok-one_extent.ensures)
     (ap (λ s. let e : Embedding = record { level = c.args.level; places = places; sequences = s } in e) (one-extent c.args.level (length c.args.classes.now))
     ∙ embedding-uniform c.args.level c.args.classes.now c.requires)

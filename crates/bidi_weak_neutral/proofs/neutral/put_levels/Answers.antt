@@ -1,13 +1,12 @@
 -- The goals of `put_levels` that are answered by hand.
-use Rattle.std.proofs.Common.{arith, ◌+◌, ◌<◌, ◌≡◌, ◌∙◌, ap, sym, subst, length, get_or, drop, true, false}
+use Rattle.std.proofs.Common.{arith, ◌+◌, ◌<◌, ◌≡◌, ◌∙◌, ◌++◌, ap, sym, subst, length, get_or, take, drop, append-nil, true, false}
 use Rattle.std.specs.Prelude.{not}
 use Rattle.std.proofs.lemmas.Bool.{true≢false}
-use Rattle.std.proofs.lemmas.List.{get_or_default, drop_all}
+use Rattle.std.proofs.lemmas.List.{get_or_default, drop_all, take_all}
 use Rattle.bg_types.specs.declared.class.Bidi.TheVariants.{L}
 use Rattle.bidi_weak_neutral.specs.Classes.{is_neutral}
 use Rattle.bidi_weak_neutral.specs.Neutral.{implicit_level}
 use Rattle.bidi_weak_neutral.specs.Pass.{neutral_type}
-use Rattle.bidi_weak_neutral.specs.Levels.{levels_at}
 use Rattle.bidi_weak_neutral.proofs.Runs.{IsRun, IsRun-on}
 use Rattle.bidi_weak_neutral.proofs.NeutralScans.{levels_from, levels_from-is, put-other, put-neutral}
 use Rattle.bidi_weak_neutral.proofs.neutral.put_levels.Goals as goal
@@ -18,12 +17,12 @@ loop-k-preserved-then-not-is_neutral c =
     let h = c.loop-k.invariant in
     let k = c.loop-k.k in
     let types = c.args.types.now in
-    let in_places : c.loop-k.k < length c.args.places.now = omega arith in
+    let in_levels : c.loop-k.k < length c.loop-k.levels = omega arith in
     let in_types : c.loop-k.k < length c.args.types.now = omega arith in
     let other : is_neutral (get_or c.args.types.now c.loop-k.k L) ≡ false = sym c.is_neutral.ensures ∙ c.if-not-is_neutral.true in
     record {
       so_far =
-          put-other c.args.level c.args.eos c.loop-k.before types c.args.places.now c.loop-k.levels _ k in_types in_places
+          put-other c.args.level c.args.eos c.loop-k.before types c.loop-k.levels _ k in_types in_levels
           c.implicit_level.result other c.implicit_level.ensures.level h.so_far;
       run = λ more. IsRun-on _ _ _ _ _ in_types (omega arith) (h.run (omega arith));
       neutral = λ more.
@@ -37,7 +36,7 @@ loop-k-preserved c =
     let h = c.loop-k.invariant in
     let k = c.loop-k.k in
     let types = c.args.types.now in
-    let in_places : c.loop-k.k < length c.args.places.now = omega arith in
+    let in_levels : c.loop-k.k < length c.loop-k.levels = omega arith in
     let in_types : c.loop-k.k < length c.args.types.now = omega arith in
     let neutral : is_neutral (get_or c.args.types.now c.loop-k.k L) ≡ true = sym c.is_neutral.ensures ∙ c.if-not-is_neutral.false in
     let run : IsRun (λ x. not (is_neutral x)) c.args.eos c.args.types.now (c.loop-k.k + 1) c.if-end-k.end =
@@ -66,7 +65,7 @@ loop-k-preserved c =
     ] in
     record {
       so_far =
-          put-neutral c.args.level c.args.eos c.loop-k.before types c.args.places.now c.loop-k.levels _ k in_types in_places
+          put-neutral c.args.level c.args.eos c.loop-k.before types c.loop-k.levels _ k in_types in_levels
           c.if-end-k.neutral (get_or types c.if-end-k.end c.args.eos) neutral run.ahead level h.so_far;
       run = λ more. run;
       neutral = λ more. level;
@@ -74,7 +73,9 @@ loop-k-preserved c =
 
 pub returns : goal.returns
 returns c =
-    let rest = levels_from c.args.level c.args.eos c.loop-k.before (drop c.loop-k.k c.args.types.now) in
-    sym (ap (λ p. levels_at c.loop-k.levels p rest) (drop_all c.loop-k.k c.args.places.now (omega arith)))
+    let k = c.loop-k.k in
+    let levels = c.loop-k.levels in
+    sym (take_all k levels (omega arith)) ∙ sym (append-nil (take k levels))
+    ∙ ap (λ t. take k levels ++ t) (sym (ap (levels_from c.args.level c.args.eos c.loop-k.before) (drop_all k c.args.types.now (omega arith))))
     ∙ c.loop-k.invariant.so_far
-    ∙ ap (levels_at c.args.levels.now c.args.places.now) (sym (levels_from-is c.args.level c.args.sos c.args.eos c.args.types.now))
+    ∙ sym (levels_from-is c.args.level c.args.sos c.args.eos c.args.types.now)

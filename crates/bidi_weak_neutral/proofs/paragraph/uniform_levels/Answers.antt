@@ -10,6 +10,7 @@ returns-clause-levels c =
     take_at c.resolve_uniform.new.levels (drop (length c.resolve_uniform.new.levels) c.in_ok-levels.levels.items) c.in_ok-levels.levels.len (omega (arith, ap length c.deref_mut.ensures.value))
     ∙ c.in_ok-resolve_uniform.ensures
     ∙ uniform-resolved c.args.tables.now c.args.level c.args.points.now c.args.classes.now c.requires.uniform (sym c.requires.classes)
+    (omega (arith, ap length c.in_ok-resolve_uniform.ensures, ap length c.deref_mut.ensures.value, c.in_ok-levels.ensures.len, c.requires.classes))
 
 pub returns-clause-one_each : goal.returns-clause-one_each
 returns-clause-one_each c =
