@@ -2,6 +2,8 @@
 pub mod Scan
 pub mod WeakScans
 pub mod WeakPass
+pub mod Stretches
+pub mod Letters
 pub mod Runs
 pub mod NeutralScans
 pub mod Filling

@@ -1,7 +1,7 @@
 -- N1, N2, I1 and I2 in one pass.
-use Rattle.std.proofs.Common.{ℕ, ◌+◌, ◌<◌, ◌≡◌, refl, ap, sym, ◌∙◌, List, [], ◌∷◌, ◌++◌, map, take, drop, set, length, get_or, Bool, true, false}
+use Rattle.std.proofs.Common.{arith, ℕ, zero, suc, ◌+◌, ◌-◌, ◌<◌, ◌≤◌, ◌≡◌, refl, ap, sym, ◌∙◌, List, [], ◌∷◌, ◌++◌, map, take, drop, set, replicate, length, length-drop, get_or, Bool, true, false}
 use Rattle.std.specs.Prelude.{not, ◌&&◌, if◌then◌else◌}
-use Rattle.std.proofs.lemmas.List.{append_assoc, drop_more, take_more_set}
+use Rattle.std.proofs.lemmas.List.{append_assoc, drop-drop, drop_more, get_or-drop, take_more_set}
 use Rattle.bg_types.specs.declared.class.Bidi.{Bidi}
 use Rattle.bg_types.specs.declared.class.Bidi.TheVariants.{L}
 use Rattle.bidi_weak_neutral.specs.Classes.{is, is_neutral, direction, embedding_direction}
@@ -76,13 +76,6 @@ module _ (level : ℕ) (eos before : Bidi) (types : List Bidi) (levels whole : L
       ∙ ap (λ t. take k levels ++ t) (sym (ap (levels_from level eos before) (drop_more types k L in_types) ∙ here))
       ∙ so_far
 
-  pub put-other : (v : ℕ) → is_neutral (get_or types k L) ≡ false → v ≡ implicit_level level (get_or types k L)
-      → take k levels ++ levels_from level eos before (drop k types) ≡ whole
-      → take (k + 1) (set levels k v) ++ levels_from level eos (get_or types k L) (drop (k + 1) types) ≡ whole
-  put-other v other is =
-      put v (get_or types k L)
-      (other-level level eos before (get_or types k L) (drop (k + 1) types) other ∙ ap (λ v. v ∷ levels_from level eos (get_or types k L) (drop (k + 1) types)) (sym is))
-
   pub put-neutral : (v : ℕ) (after : Bidi) → is_neutral (get_or types k L) ≡ true → nearest (λ x. not (is_neutral x)) eos (drop (k + 1) types) ≡ after
       → v ≡ implicit_level level (neutral_type level before after)
       → take k levels ++ levels_from level eos before (drop k types) ≡ whole
@@ -91,3 +84,50 @@ module _ (level : ℕ) (eos before : Bidi) (types : List Bidi) (levels whole : L
       put v before
       (neutral-level level eos before (get_or types k L) after (drop (k + 1) types) neutral ahead
       ∙ ap (λ v. v ∷ levels_from level eos before (drop (k + 1) types)) (sym is))
+
+-- types of one class in a row
+row-levels : (level : ℕ) (eos x : Bidi) (xs : List Bidi) (n : ℕ) → is_neutral x ≡ false → n ≤ length xs
+    → ((k : ℕ) → k < n → get_or xs k L ≡ x)
+    → levels_from level eos x xs ≡ replicate n (implicit_level level x) ++ levels_from level eos x (drop n xs)
+row-levels level eos x xs zero other le row = refl
+row-levels level eos x [] (suc n) other le row = absurd (omega arith)
+row-levels level eos x (y ∷ ys) (suc n) other le row =
+    ap (λ y. levels_from level eos x (y ∷ ys)) (row 0 (omega arith))
+    ∙ other-level level eos x x ys other
+    ∙ ap (λ t. implicit_level level x ∷ t) (row-levels level eos x ys n other (omega arith) (λ k lt. row (suc k) (omega arith)))
+
+-- a type that is not neutral and those of its class behind it, in another list
+module _ (level : ℕ) (eos before x : Bidi) (v : ℕ) (types : List Bidi) (levels new whole : List ℕ) (i end : ℕ) (order : i < end) (within : end ≤ length types)
+    (at : get_or types i L ≡ x) (other : is_neutral x ≡ false) (is : v ≡ implicit_level level x)
+    (row : (k : ℕ) → i < k → k < end → get_or types k L ≡ x) where
+  behind : drop (end - (i + 1)) (drop (i + 1) types) ≡ drop end types
+  behind =
+      let there : (i + 1) + (end - (i + 1)) ≡ end = omega arith in
+      drop-drop (end - (i + 1)) (i + 1) types ∙ ap (λ n. drop n types) there
+
+  going : (k : ℕ) → k < end - (i + 1) → get_or (drop (i + 1) types) k L ≡ x
+  going k lt = get_or-drop (i + 1) types k L ∙ row ((i + 1) + k) (omega arith) (omega arith)
+
+  long : end - (i + 1) ≤ length (drop (i + 1) types)
+  long = omega (arith, length-drop (i + 1) types)
+
+  passed : levels_from level eos before (drop i types) ≡ replicate (end - i) v ++ levels_from level eos x (drop end types)
+  passed =
+      let lt : i < length types = omega arith in
+      let more : suc (end - (i + 1)) ≡ end - i = omega arith in
+      let l = implicit_level level x in
+      ap (levels_from level eos before) (drop_more types i L lt ∙ ap (λ y. y ∷ drop (i + 1) types) at)
+      ∙ other-level level eos before x (drop (i + 1) types) other
+      ∙ ap (λ t. l ∷ t) (row-levels level eos x (drop (i + 1) types) (end - (i + 1)) other long going
+      ∙ ap (λ t. replicate (end - (i + 1)) l ++ levels_from level eos x t) behind)
+      ∙ ap (λ n. replicate n l ++ levels_from level eos x (drop end types)) more
+      ∙ ap (λ v. replicate (end - i) v ++ levels_from level eos x (drop end types)) (sym is)
+
+  pub put-row : take end new ≡ take i levels ++ replicate (end - i) v
+      → take i levels ++ levels_from level eos before (drop i types) ≡ whole
+      → take end new ++ levels_from level eos x (drop end types) ≡ whole
+  put-row put so_far =
+      ap (λ t. t ++ levels_from level eos x (drop end types)) put
+      ∙ append_assoc (take i levels) (replicate (end - i) v) (levels_from level eos x (drop end types))
+      ∙ ap (λ t. take i levels ++ t) (sym passed)
+      ∙ so_far

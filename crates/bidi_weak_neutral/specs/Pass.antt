@@ -56,6 +56,10 @@ is_weak Cs = true
 is_weak Nsm = true
 is_weak _ = false
 
+-- a type that goes on with the letters of a strong type: one of them, or a mark behind them
+abbrev pub goes_on : Bidi → Bidi → Bool
+goes_on letter c = is c letter || is c Nsm
+
 -- N1 and N2, for a neutral between the nearest types on both sides that aren't neutral
 abbrev pub neutral_type : ℕ → Bidi → Bidi → Bidi
 neutral_type level before after =

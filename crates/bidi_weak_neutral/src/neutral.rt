@@ -1,6 +1,6 @@
 //! 3.3.5 and 3.3.6 Resolving Neutral and Isolate Formatting Types, and Implicit Levels: N1, N2, I1, I2.
 
-ghost use Rattle.std.specs.Prelude.{◌≡◌, ℕ, ◌<◌, ◌≤◌, true, not, length, map, drop, slice_index_or};
+ghost use Rattle.std.specs.Prelude.{◌≡◌, ℕ, ◌-◌, ◌<◌, ◌≤◌, ◌++◌, true, not, length, map, replicate, take, drop, slice_index_or};
 ghost use Rattle.bg_types.specs.declared.class.Bidi.{Bidi};
 ghost use Rattle.bg_types.specs.declared.class.Bidi.TheVariants.{L};
 ghost use Rattle.bidi_weak_neutral.specs.Classes.{is_neutral};
@@ -81,6 +81,25 @@ fn implicit_level(level: u8, class: Bidi) -> u8
     }
 }
 
+/// Puts a level at a place, and at those of its class that follow it in a row. Returns the place behind them.
+#[inline(always)]
+fn put_row(levels: &mut [u8], types: &[Bidi], start: usize, class: Bidi, level: u8) -> usize
+    requires start { start < length types.now }
+    requires levels { length levels.old ≡ length types.now }
+    ensures from { start < result }
+    ensures within { result ≤ length types.now }
+    ensures row { (k : ℕ) → start < k → k < result → slice_index_or types.now k L ≡ class }
+    ensures levels { take result levels.new ≡ take start levels.old ++ replicate (result - start) level }
+{
+    levels[start] = level;
+    let mut end = start + 1;
+    while end < types.len() && types[end] == class {
+        levels[end] = level;
+        end += 1;
+    }
+    end
+}
+
 /// Puts the level of each type of a sequence (N1, N2, I1, I2).
 pub(crate) fn put_levels(levels: &mut [u8], types: &[Bidi], level: u8, sos: Bidi, eos: Bidi)
     requires types { length types.now ≡ length levels.old }
@@ -90,11 +109,12 @@ pub(crate) fn put_levels(levels: &mut [u8], types: &[Bidi], level: u8, sos: Bidi
     let mut before = sos;
     let mut end = 0;
     let mut neutral = level;
-    for k in 0..types.len() {
+    let mut k = 0;
+    while k < types.len() {
         let class = types[k];
         if !is_neutral(class) {
             before = class;
-            levels[k] = implicit_level(level, class);
+            k = put_row(levels, types, k, class, implicit_level(level, class));
             continue;
         }
         if end <= k {
@@ -103,5 +123,6 @@ pub(crate) fn put_levels(levels: &mut [u8], types: &[Bidi], level: u8, sos: Bidi
             neutral = implicit_level(level, neutral_type(level, before, after));
         }
         levels[k] = neutral;
+        k += 1;
     }
 }

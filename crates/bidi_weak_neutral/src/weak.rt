@@ -1,10 +1,10 @@
 //! 3.3.4 Resolving Weak Types: W1 to W7 in one pass.
 
-ghost use Rattle.std.specs.Prelude.{◌≡◌, ℕ, ◌<◌, ◌≤◌, length, true, false, drop, slice_index_or};
-ghost use Rattle.bg_types.specs.declared.class.Bidi.TheVariants.{On};
+ghost use Rattle.std.specs.Prelude.{◌≡◌, ℕ, ◌+◌, ◌-◌, ◌<◌, ◌≤◌, ◌++◌, length, replicate, take, true, false, drop, slice_index_or};
+ghost use Rattle.bg_types.specs.declared.class.Bidi.TheVariants.{L, On};
 ghost use Rattle.bidi_weak_neutral.specs.Context.{nearest};
 ghost use Rattle.bidi_weak_neutral.specs.Weak.{is_joined, weak_types};
-ghost use Rattle.bidi_weak_neutral.specs.Pass.{marked, unmarked, strong_behind, lettered, joined, terminated, unterminated, separated, settled, is_past_terminators};
+ghost use Rattle.bidi_weak_neutral.specs.Pass.{marked, unmarked, strong_behind, lettered, joined, terminated, unterminated, separated, settled, is_past_terminators, goes_on};
 
 use crate::class::{is_strong, is_weak, type_at};
 use bg_types::Bidi;
@@ -145,6 +145,60 @@ fn letter_at(before: &[Bidi], place: usize, base: Bidi, strong: Bidi) -> Bidi
     lettered(strong, marked(base, type_at(before, place, Bidi::On)))
 }
 
+/// W4 at a place after `last`, where `letter` stands after W3. What stands behind it is looked at only for a separator.
+#[inline(always)]
+fn joined_before(
+    before: &[Bidi],
+    behind: usize,
+    base: Bidi,
+    strong: Bidi,
+    last: Bidi,
+    letter: Bidi,
+) -> Bidi
+    ensures { result ≡ joined last letter (lettered strong (marked base (slice_index_or before.now behind On))) }
+{
+    if letter == Bidi::Es || letter == Bidi::Cs {
+        joined(last, letter, letter_at(before, behind, base, strong))
+    } else {
+        letter
+    }
+}
+
+/// Whether a type goes on with the letters of a strong type: one of them, or a mark behind them.
+#[inline]
+fn goes_on(letter: Bidi, class: Bidi) -> bool
+    ensures { result ≡ goes_on letter class }
+{
+    class == letter || class == Bidi::Nsm
+}
+
+/// Puts the type after W7 of a strong type at a place, and of the letters and marks that go on with it. Returns the
+/// place behind them.
+#[inline(always)]
+fn put_letters(
+    before: &[Bidi],
+    types: &mut [Bidi],
+    start: usize,
+    class: Bidi,
+    letter: Bidi,
+) -> usize
+    requires start { start < length before.now }
+    requires types { length types.old ≡ length before.now }
+    ensures from { start < result }
+    ensures within { result ≤ length before.now }
+    ensures letters { (k : ℕ) → start < k → k < result → goes_on class (slice_index_or before.now k L) ≡ true }
+    ensures types { take result types.new ≡ take start types.old ++ replicate (result - start) letter }
+{
+    types[start] = letter;
+    for end in start + 1..before.len() {
+        if !goes_on(class, before[end]) {
+            return end;
+        }
+        types[end] = letter;
+    }
+    before.len()
+}
+
 /// The types of a sequence after W7: `before` are those before W1.
 pub(crate) fn resolve_weak(before: &[Bidi], types: &mut [Bidi], sos: Bidi)
     requires { length types.old ≡ length before.now }
@@ -152,41 +206,39 @@ pub(crate) fn resolve_weak(before: &[Bidi], types: &mut [Bidi], sos: Bidi)
 {
     let (mut base, mut strong, mut last, mut beside) = (sos, sos, Bidi::On, Bidi::On);
     let mut end = 0;
-    // Whether only marks stand after the last strong type: a mark takes what that one has become.
-    let mut on_letter = false;
-    for place in 0..before.len() {
+    let mut place = 0;
+    while place < before.len() {
         let class = before[place];
         if is_strong(class) {
             base = class;
             strong = class;
             last = lettered(class, class);
             beside = last;
-            on_letter = true;
-            types[place] = last;
+            place = put_letters(before, types, place, class, last);
             continue;
         }
-        if on_letter && class == Bidi::Nsm {
-            types[place] = last;
-            continue;
-        }
-        on_letter = false;
         if !is_weak(class) {
             base = class;
             last = class;
             beside = class;
             types[place] = class;
+            place += 1;
             continue;
         }
         let mark = marked(base, class);
         base = unmarked(base, class);
         let behind = strong_behind(strong, mark);
         let letter = lettered(strong, mark);
-        let number = joined(last, letter, letter_at(before, place + 1, base, behind));
-        end = end_from(before, place + 1, end);
-        let after = letter_at(before, end, base, behind);
-        types[place] = settled(strong, terminated(beside, number, after));
+        let number = joined_before(before, place + 1, base, behind, last, letter);
+        let mut whole = number;
+        if number == Bidi::Et {
+            end = end_from(before, place + 1, end);
+            whole = terminated(beside, number, letter_at(before, end, base, behind));
+        }
+        types[place] = settled(strong, whole);
         strong = behind;
         last = letter;
         beside = unterminated(beside, number);
+        place += 1;
     }
 }

@@ -1,5 +1,5 @@
 -- The goals of `put_levels` that are answered by hand.
-use Rattle.std.proofs.Common.{arith, ◌+◌, ◌<◌, ◌≡◌, ◌∙◌, ◌++◌, ap, sym, subst, length, get_or, take, drop, append-nil, true, false}
+use Rattle.std.proofs.Common.{arith, refl, ◌+◌, ◌<◌, ◌≡◌, ◌∙◌, ◌++◌, ap, sym, subst, length, get_or, take, drop, append-nil, true, false}
 use Rattle.std.specs.Prelude.{not}
 use Rattle.std.proofs.lemmas.Bool.{true≢false}
 use Rattle.std.proofs.lemmas.List.{get_or_default, drop_all, take_all}
@@ -8,7 +8,7 @@ use Rattle.bidi_weak_neutral.specs.Classes.{is_neutral}
 use Rattle.bidi_weak_neutral.specs.Neutral.{implicit_level}
 use Rattle.bidi_weak_neutral.specs.Pass.{neutral_type}
 use Rattle.bidi_weak_neutral.proofs.Runs.{IsRun, IsRun-on}
-use Rattle.bidi_weak_neutral.proofs.NeutralScans.{levels_from, levels_from-is, put-other, put-neutral}
+use Rattle.bidi_weak_neutral.proofs.NeutralScans.{levels_from, levels_from-is, put-row, put-neutral}
 use Rattle.bidi_weak_neutral.proofs.neutral.put_levels.Goals as goal
 use Rattle.bidi_weak_neutral.proofs.neutral.put_levels.Goals.{then-end-k, else-end-k}
 
@@ -17,18 +17,20 @@ loop-k-preserved-then-not-is_neutral c =
     let h = c.loop-k.invariant in
     let k = c.loop-k.k in
     let types = c.args.types.now in
-    let in_levels : c.loop-k.k < length c.loop-k.levels = omega arith in
+    let e = c.put_row-k.ensures in
     let in_types : c.loop-k.k < length c.args.types.now = omega arith in
     let other : is_neutral (get_or c.args.types.now c.loop-k.k L) ≡ false = sym c.is_neutral.ensures ∙ c.if-not-is_neutral.true in
+    let passed : c.loop-k.k < c.loop-k.end → ⊥ = λ more.
+    let stop : not (is_neutral (get_or c.args.types.now c.loop-k.k L)) ≡ false =
+    ap (λ x. not (is_neutral x)) (get_or_default types k L c.args.eos in_types) ∙ (h.run more).inside k (omega arith) (omega arith) in
+    true≢false (sym (ap not other) ∙ stop) in
     record {
       so_far =
-          put-other c.args.level c.args.eos c.loop-k.before types c.loop-k.levels _ k in_types in_levels
-          c.implicit_level.result other c.implicit_level.ensures.level h.so_far;
-      run = λ more. IsRun-on _ _ _ _ _ in_types (omega arith) (h.run (omega arith));
-      neutral = λ more.
-          let stop : not (is_neutral (get_or c.args.types.now c.loop-k.k L)) ≡ false =
-          ap (λ x. not (is_neutral x)) (get_or_default types k L c.args.eos in_types) ∙ (h.run (omega arith)).inside k (omega arith) (omega arith) in
-          absurd (true≢false (sym (ap not other) ∙ stop));
+          put-row c.args.level c.args.eos c.loop-k.before (get_or types k L) c.implicit_level.result types c.loop-k.levels c.put_row-k.new.levels _ k c.put_row-k.result
+          e.from e.within refl other c.implicit_level.ensures.level e.row e.levels h.so_far;
+      within = e.within;
+      run = λ more. absurd (passed (omega arith));
+      neutral = λ more. absurd (passed (omega arith));
     }
 
 pub loop-k-preserved : goal.loop-k-preserved
@@ -67,6 +69,7 @@ loop-k-preserved c =
       so_far =
           put-neutral c.args.level c.args.eos c.loop-k.before types c.loop-k.levels _ k in_types in_levels
           c.if-end-k.neutral (get_or types c.if-end-k.end c.args.eos) neutral run.ahead level h.so_far;
+      within = omega arith;
       run = λ more. run;
       neutral = λ more. level;
     }

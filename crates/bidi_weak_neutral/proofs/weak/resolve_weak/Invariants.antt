@@ -1,7 +1,6 @@
 -- What stays true in the loop of `resolve_weak`.
-use Rattle.std.proofs.Common.{◌≡◌, ◌<◌, ◌++◌, ◌∷◌, List, true, take, drop}
-use Rattle.bg_types.specs.declared.class.Bidi.{Bidi}
-use Rattle.bg_types.specs.declared.class.Bidi.TheVariants.{Nsm, On}
+use Rattle.std.proofs.Common.{◌≡◌, ◌<◌, ◌≤◌, ◌-◌, ◌++◌, length, take, drop}
+use Rattle.bg_types.specs.declared.class.Bidi.TheVariants.{On}
 use Rattle.bidi_weak_neutral.specs.Weak.{weak_types}
 use Rattle.bidi_weak_neutral.specs.Pass.{is_past_terminators}
 use Rattle.bidi_weak_neutral.proofs.Runs.{IsRun}
@@ -11,6 +10,9 @@ use Rattle.bidi_weak_neutral.proofs.weak.resolve_weak.Given as goal
 abbrev pub invariant-loop-place : goal.invariant-loop-place
 invariant-loop-place l = record {
   so_far : take l.place l.types ++ weak_from l.base l.strong l.last l.beside (drop l.place l.before) ≡ weak_types l.fn.sos l.before;
-  marks : (xs : List Bidi) → l.on_letter ≡ true → weak_from l.base l.strong l.last l.beside (Nsm ∷ xs) ≡ l.last ∷ weak_from l.base l.strong l.last l.beside xs;
+  within : l.place ≤ length l.before;
   run : l.place < l.end → IsRun is_past_terminators On l.before l.place l.end;
 }
+
+abbrev pub decreases-loop-place : goal.decreases-loop-place
+decreases-loop-place l = length l.before - l.place
