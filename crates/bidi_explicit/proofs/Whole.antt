@@ -6,11 +6,11 @@ use Rattle.bg_types.specs.declared.class.Bidi.{Bidi}
 use Rattle.bidi_explicit.specs.declared.controls.Control.{Control}
 use Rattle.bidi_explicit.specs.declared.kept.Kept.{Kept}
 use Rattle.bidi_explicit.specs.Levels.{explicit_places}
-use Rattle.bidi_explicit.specs.Sequences.{RunSequence, sequence_from, begins, below, chains, sequences_of, level_or}
+use Rattle.bidi_explicit.specs.Sequences.{RunSequence, sequence_from, begins, below, chains, sequences_of, level_or, next, is_unmatched}
 use Rattle.bidi_explicit.specs.Embedding.{Embedding, embedding_at, IsWithinDepth}
 use Rattle.bidi_explicit.specs.Controls.{controls_from}
 use Rattle.bidi_explicit.specs.Links.{linked, is_unclosed_at}
-use Rattle.bidi_explicit.proofs.Facts.{linked-next, unclosed-unmatched}
+use Rattle.bidi_explicit.proofs.Facts.{explicit_places-within, linked-next, unclosed-unmatched}
 
 abbrev pub answer : ℕ → List (Option Kept) → List RunSequence → Embedding
 answer level places sequences = record { level = level; places = places; sequences = sequences }
@@ -37,3 +37,8 @@ pub chains-within : (p : ℕ) (f : ℕ → Option ℕ) (u : ℕ → Bool) (place
 chains-within p f u places h all =
     All-map IsLow (sequence_from p f u places) (filter (begins f places) (below (length places)))
     (λ k d inside. level_or-within p places _ (omega arith) all)
+
+pub sequences-within : (level : ℕ) (cs : List Bidi) → level ≤ 1 → All IsLow (embedding_at level cs).sequences
+sequences-within level cs h =
+    let places = explicit_places level cs in
+    chains-within level (next cs places) (is_unmatched cs) places h (explicit_places-within level cs h)

@@ -37,7 +37,7 @@ struct OpenPdi {
 
 /// What is known of the characters after a place.
 #[derive(Drop)]
-struct Matcher {
+pub(crate) struct Matcher {
     pdis: Vec<OpenPdi>,
     odd: bool,
 }
@@ -53,13 +53,21 @@ impl Model for Matcher {
 
 impl Matcher {
     /// Nothing stands after the last place.
-    fn new(alloc: Global) -> Matcher
+    pub(crate) fn new(alloc: Global) -> Matcher
         ensures { result ≡ record { odd = false; pdis = [] } }
     {
         Matcher {
             pdis: Vec::new(alloc),
             odd: false,
         }
+    }
+
+    /// Moves to the last place, of whatever paragraph.
+    fn begin(&mut self)
+        ensures { self.new ≡ record { odd = false; pdis = [] } }
+    {
+        self.pdis.clear();
+        self.odd = false;
     }
 
     /// Moves over a strong character that would set this level.
@@ -135,12 +143,17 @@ fn kind_of(odd: bool, class: Bidi) -> Kind
     }
 }
 
-/// What each character of a paragraph does, in one pass from its end.
-pub(crate) fn controls(alloc: Global, classes: &[Bidi]) -> Result<Vec<Control>, Memory>
-    ensures { IfOk result (λ controls. controls.items ≡ controls_from 0 classes.now) }
+/// Puts what each character of a paragraph does into a list, in place of what it has, in one pass from the paragraph's end.
+pub(crate) fn controls_into(
+    controls: &mut Vec<Control>,
+    matcher: &mut Matcher,
+    classes: &[Bidi],
+) -> Result<(), Memory>
+    ensures { OnOk result (controls.new.items ≡ controls_from 0 classes.now) }
 {
-    let mut controls = vec![in alloc; Control::NONE; classes.len()]?;
-    let mut matcher = Matcher::new(alloc);
+    controls.clear();
+    controls.resize(classes.len(), Control::NONE)?;
+    matcher.begin();
     for place in (0..classes.len()).rev() {
         let class = classes[place];
         if let Some(level) = strong_level(class) {
@@ -149,5 +162,5 @@ pub(crate) fn controls(alloc: Global, classes: &[Bidi]) -> Result<Vec<Control>, 
             controls[place] = matcher.pass(place, class)?;
         }
     }
-    Ok(controls)
+    Ok(())
 }

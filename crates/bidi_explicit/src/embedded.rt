@@ -1,13 +1,19 @@
 //! What the explicit rules make of a paragraph.
 
-ghost use Rattle.std.specs.Prelude.{◌≡◌, ◌<◌, ◌≤◌, Some, length, slice_get};
+ghost use Rattle.std.specs.Prelude.{◌≡◌, ◌<◌, ◌≤◌, OnOk, Some, length, slice_get};
 ghost use Rattle.std.specs.List.{All};
+ghost use Rattle.bidi_explicit.specs.Embedding.{embedding_at};
 ghost use Rattle.bidi_explicit.specs.Extents.{IsKept};
 
+use crate::controls::controls_into;
 use crate::kept::Kept;
 use crate::level_run::LevelRun;
+use crate::lists::Lists;
+use crate::places::places_into;
 use crate::sequence::Sequence;
-use bg_types::Bidi;
+use crate::sequences::sequences_into;
+use bg_types::{Bidi, Memory};
+use std::alloc::Global;
 use std::marker::Model;
 
 /// Where a sequence stands in the list of level runs, and what else is known of it.
@@ -41,6 +47,45 @@ impl Model for Embedded {
 }
 
 impl Embedded {
+    /// That of no paragraph, to be put another in its place. Takes no memory.
+    pub fn new(alloc: Global) -> Embedded {
+        Embedded {
+            level: 0,
+            places: Vec::new(alloc),
+            runs: Vec::new(alloc),
+            extents: Vec::new(alloc),
+        }
+    }
+
+    /// Puts what `explicit_at` answers in its place, without a look whether there are controls: for classes of which that is known.
+    /// After `Memory` it has no sequence, or is as it was.
+    /// Cost: O(n), memory where the lists have no room.
+    pub fn embed(&mut self, lists: &mut Lists, level: u8, classes: &[Bidi]) -> Result<(), Memory>
+        requires { level ≤ 1 }
+        ensures { OnOk result (self.new ≡ embedding_at level classes.now) }
+    {
+        controls_into(&mut lists.controls, &mut lists.matcher, classes)?;
+        self.level = level;
+        self.runs.clear();
+        self.extents.clear();
+        places_into(&mut self.places, level, classes, &lists.controls)?;
+        match sequences_into(
+            &mut self.runs,
+            &mut self.extents,
+            &mut lists.ends,
+            level,
+            &lists.controls,
+            &self.places,
+        ) {
+            Ok(()) => Ok(()),
+            Err(memory) => {
+                self.runs.clear();
+                self.extents.clear();
+                Err(memory)
+            }
+        }
+    }
+
     /// The paragraph's level, 0 or 1 (P2, P3).
     #[inline]
     pub fn level(&self) -> u8

@@ -6,34 +6,24 @@ ghost use Rattle.paragraphs.specs.Text.{code_points};
 ghost use Rattle.paragraphs.specs.Classes.{is_removed};
 ghost use Rattle.bidi_explicit.specs.Embedding.{classes_of, embedding, embedding_at, IsWithinDepth};
 
-use crate::controls::controls;
 use crate::embedded::Embedded;
 use crate::level::paragraph_level;
-use crate::places::places;
-use crate::sequences::sequences;
+use crate::lists::Lists;
 use crate::uniform::{has_controls, uniform};
 use bg_types::{Base, Bidi, Memory};
 use paragraphs::Para;
 use std::alloc::Global;
 use unicode_tables::Tables;
 
-/// What `explicit_at` answers, without a look whether there are controls: for classes of which that is known.
-/// Cost: O(n), memory for each place.
-pub fn explicit_by_controls(alloc: Global, level: u8, classes: &[Bidi]) -> Result<Embedded, Memory>
+/// What the rules make of a paragraph of this level, whatever its classes.
+fn embedded_by_controls(alloc: Global, level: u8, classes: &[Bidi]) -> Result<Embedded, Memory>
     requires { level ≤ 1 }
-    ensures embedding { IfOk result (λ e. e ≡ embedding_at level classes.now) }
-    ensures places { IfOk result (λ e. length e.places ≡ length classes.now) }
-    ensures sequence_depth { IfOk result (λ e. All (λ s. s.level ≤ 125) e.sequences) }
+    ensures { IfOk result (λ e. e ≡ embedding_at level classes.now) }
 {
-    let controls = controls(alloc, classes)?;
-    let places = places(alloc, level, classes, &controls)?;
-    let (runs, extents) = sequences(alloc, level, &controls, &places)?;
-    Ok(Embedded {
-        level,
-        places,
-        runs,
-        extents,
-    })
+    let mut embedded = Embedded::new(alloc);
+    let mut lists = Lists::new(alloc);
+    embedded.embed(&mut lists, level, classes)?;
+    Ok(embedded)
 }
 
 /// What the rules make of a paragraph of this level. Without controls all its places are one sequence.
@@ -42,7 +32,7 @@ fn embedded_at(alloc: Global, level: u8, classes: &[Bidi]) -> Result<Embedded, M
     ensures { IfOk result (λ e. e ≡ embedding_at level classes.now) }
 {
     if has_controls(classes) {
-        explicit_by_controls(alloc, level, classes)
+        embedded_by_controls(alloc, level, classes)
     } else {
         uniform(alloc, level, classes)
     }

@@ -1,6 +1,6 @@
 //! The explicit level and class of each place (UAX #9, X1 to X9).
 
-ghost use Rattle.std.specs.Prelude.{◌≡◌, ◌≤◌, IfOk, length};
+ghost use Rattle.std.specs.Prelude.{◌≡◌, ◌≤◌, OnOk, length};
 ghost use Rattle.bidi_explicit.specs.Levels.{place_of, kept_under, explicit_places};
 ghost use Rattle.bidi_explicit.specs.Uniform.{is_apart};
 ghost use Rattle.bidi_explicit.specs.Controls.{controls_from};
@@ -11,7 +11,6 @@ use crate::kind::Direction;
 use crate::stack::LevelStack;
 use crate::uniform::is_control;
 use bg_types::{Bidi, Memory};
-use std::alloc::Global;
 
 /// A place of a class under a direction, in a paragraph of this level.
 #[tactic(auto, unfolding(paragraphs::specs::Classes::is_separator))]
@@ -68,18 +67,18 @@ fn put_places(places: &mut [Option<Kept>], level: u8, classes: &[Bidi], controls
     }
 }
 
-/// What is kept at each place of a paragraph of this level.
-pub(crate) fn places(
-    alloc: Global,
+/// Puts what is kept at each place of a paragraph of this level into a list, in place of what it has.
+pub(crate) fn places_into(
+    places: &mut Vec<Option<Kept>>,
     level: u8,
     classes: &[Bidi],
     controls: &[Control],
-) -> Result<Vec<Option<Kept>>, Memory>
+) -> Result<(), Memory>
     requires level { level ≤ 1 }
     requires matched { controls.now ≡ controls_from 0 classes.now }
-    ensures { IfOk result (λ places. places.items ≡ explicit_places level classes.now) }
+    ensures { OnOk result (places.new.items ≡ explicit_places level classes.now) }
 {
-    let mut places = vec![in alloc; None; classes.len()]?;
-    put_places(&mut places, level, classes, controls);
-    Ok(places)
+    places.resize(classes.len(), None)?;
+    put_places(places, level, classes, controls);
+    Ok(())
 }

@@ -12,7 +12,6 @@ use crate::kept::Kept;
 use crate::kind::Kind;
 use crate::level_run::{LevelRun, append_run, same_level};
 use bg_types::{Bidi, Memory};
-use std::alloc::Global;
 
 /// The first kept place after a place.
 fn kept_after(places: &[Option<Kept>], place: usize) -> Option<usize>
@@ -228,23 +227,25 @@ fn append_sequences(
     Ok(())
 }
 
-/// The isolating run sequences of a paragraph of this level: their level runs, one sequence after the other,
-/// and the part of each.
-pub(crate) fn sequences(
-    alloc: Global,
+/// Puts the isolating run sequences of a paragraph of this level into two lists, in place of what they have: their level
+/// runs, one sequence after the other, and the part of each.
+pub(crate) fn sequences_into(
+    runs: &mut Vec<LevelRun>,
+    extents: &mut Vec<Extent>,
+    ends: &mut Vec<usize>,
     level: u8,
     controls: &[Control],
     places: &[Option<Kept>],
-) -> Result<(Vec<LevelRun>, Vec<Extent>), Memory>
+) -> Result<(), Memory>
     requires long { length controls.now ≡ length places.now }
     requires matched { AreMatched controls.now }
     requires kept { AreKept controls.now places.now }
-    ensures sequences { IfOk result (λ s. extent_sequences s.0.items s.1.items ≡ chains level (linked controls.now places.now) (is_unclosed_at controls.now) places.now) }
-    ensures within { IfOk result (λ s. IsWithin places.now s.0.items s.1.items) }
+    ensures sequences { OnOk result (extent_sequences runs.new.items extents.new.items ≡ chains level (linked controls.now places.now) (is_unclosed_at controls.now) places.now) }
+    ensures within { OnOk result (IsWithin places.now runs.new.items extents.new.items) }
 {
-    let mut runs = Vec::new(alloc);
-    let mut extents = Vec::new(alloc);
-    let mut ends = vec![in alloc; 0; places.len()]?;
-    append_sequences(&mut runs, &mut extents, &mut ends, level, controls, places)?;
-    Ok((runs, extents))
+    runs.clear();
+    extents.clear();
+    ends.clear();
+    ends.resize(places.len(), 0)?;
+    append_sequences(runs, extents, ends, level, controls, places)
 }

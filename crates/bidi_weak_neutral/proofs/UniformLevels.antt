@@ -1,9 +1,8 @@
 -- The levels of a paragraph without controls: its places are one sequence, and all are kept.
-use Rattle.std.proofs.Common.{arith, ℕ, zero, suc, ◌+◌, ◌<◌, ◌≤◌, ◌≡◌, refl, ap, ap₂, sym, subst, ◌∙◌, List, [], ◌∷◌, map, length, replicate, false}
+use Rattle.std.proofs.Common.{arith, ℕ, zero, suc, ◌+◌, ◌<◌, ◌≡◌, refl, ap, ap₂, sym, ◌∙◌, List, [], ◌∷◌, map, length, replicate, false}
 use Rattle.std.specs.Prelude.{slice_index, nat_le}
-use Rattle.std.specs.List.{All, list_any, range_with_len}
+use Rattle.std.specs.List.{list_any, range_with_len}
 use Rattle.std.proofs.lemmas.List.{length-replicate, nil_from_length}
-use Rattle.std.proofs.lemmas.List.Elements.{All-nil, All-cons}
 use Rattle.bg_types.specs.declared.class.Bidi.{Bidi}
 use Rattle.bg_types.proofs.Interface.{two_cases}
 use Rattle.unicode_tables.specs.Tables.{TableValues}
@@ -21,7 +20,6 @@ use Rattle.bidi_weak_neutral.proofs.Scan.{scan}
 use Rattle.bidi_weak_neutral.proofs.Filling.{fill_at, fill_step, filled_levels-is}
 use Rattle.bidi_weak_neutral.proofs.AllLevels.{length-levels_at}
 use Rattle.bidi_weak_neutral.proofs.RunPlaces.{levels-whole}
-use Rattle.bidi_weak_neutral.proofs.Bounds.{resolved_levels-le}
 
 map-shift : {A : Type 0} (f : ℕ → A) (k j n : ℕ) → j ≡ suc k → map f (range_with_len j n) ≡ map (λ i. f (suc i)) (range_with_len k n)
 map-shift f k j zero e = refl
@@ -76,13 +74,3 @@ module _ (tables : TableValues) (level : ℕ) where
       → length (uniform_levels tables level points cs) ≡ length cs
       → uniform_levels tables level points cs ≡ resolved_levels tables points (embedding_at level cs)
   uniform-resolved points cs h n long = sym (put points cs n long) ∙ ap (resolved_levels tables points) (embedding-uniform level cs h)
-
-one-low : (level n : ℕ) → level ≤ 125 → All (λ s. s.level ≤ 125) (one_sequence level n)
-one-low level zero low = All-nil _
-one-low level (suc n) low = All-cons (λ s. s.level ≤ 125) _ [] low (All-nil _)
-
-pub uniform-le : (tables : TableValues) (level : ℕ) (points : List ℕ) (cs : List Bidi) → level ≤ 125 → list_any is_control cs ≡ false
-    → All (λ l. l ≤ 126) (resolved_levels tables points (embedding_at level cs))
-uniform-le tables level points cs low h =
-    resolved_levels-le tables points (embedding_at level cs) (omega arith)
-    (subst (λ e. All (λ s. s.level ≤ 125) e.sequences) (embedding-uniform level cs h) (one-low level (length cs) low))

@@ -1,91 +1,81 @@
 //! The resolved levels of a paragraph.
 
-ghost use Rattle.std.specs.Prelude.{◌≡◌, ◌<◌, ◌≤◌, IfOk, OnOk, All, Some, None, false, length, map, replicate, if◌then◌else◌};
+ghost use Rattle.std.specs.Prelude.{◌≡◌, ◌<◌, ◌≤◌, IfOk, OnOk, All, Some, None, length, map, replicate, if◌then◌else◌};
 ghost use Rattle.unicode_tables.specs.Tables.{bidi_of};
-ghost use Rattle.std.specs.List.{list_all, list_any};
+ghost use Rattle.std.specs.List.{list_all};
 ghost use Rattle.paragraphs.specs.Text.{code_points};
 ghost use Rattle.bidi_explicit.specs.Embedding.{embedding_at};
-ghost use Rattle.bidi_explicit.specs.Uniform.{is_control};
 ghost use Rattle.bidi_weak_neutral.specs.Classes.{is_plain};
-ghost use Rattle.bidi_weak_neutral.specs.Levels.{kept_levels, filled_levels, types_before, characters_of, types_after_n0, sequence_levels, put_back, resolved_levels, levels_of, is_plain_text};
 ghost use Rattle.bidi_weak_neutral.specs.Uniform.{uniform_levels};
+ghost use Rattle.bidi_weak_neutral.specs.Levels.{kept_levels, filled_levels, types_before, characters_of, types_after_n0, sequence_levels, put_back, resolved_levels, levels_of, is_plain_text};
 
+use crate::buffers::{Buffers, SequenceLists};
 use crate::class::{embedding_direction, is_plain};
 use crate::neutral::put_levels;
 use crate::sequence::{gather, put_at_runs, resolve_types};
 use crate::weak::resolve_weak;
 use bg_types::{Base, Bidi, Memory};
-use bidi_explicit::{
-    Embedded, Kept, Sequence, explicit_by_controls, has_controls, paragraph_level,
-};
+use bidi_explicit::{Embedded, Kept, Sequence, has_controls, paragraph_level};
 use bracket_pairs::resolve;
 use paragraphs::{Para, code_points_of};
 use std::alloc::Global;
 use unicode_tables::Tables;
 
-/// What is kept from one sequence to the next, so that memory is taken only for the longest.
-#[derive(Drop)]
-struct Buffers {
-    characters: Vec<char>,
-    before: Vec<Bidi>,
-    types: Vec<Bidi>,
-    levels: Vec<u8>,
-}
-
-/// The types of a sequence of the paragraph after N0, in the buffer of types.
+/// The types of a sequence of the paragraph after N0, in the list of types.
 fn resolve_sequence(
     alloc: Global,
     tables: &Tables,
     points: &[char],
     places: &[Option<Kept>],
     sequence: &Sequence,
-    buffers: &mut Buffers,
+    lists: &mut SequenceLists,
 ) -> Result<(), Memory>
     requires points { All (λ i. i < length points.now) sequence.now.places }
     requires kept { All (λ i. i < length places.now) sequence.now.places }
-    ensures types { OnOk result (buffers.new.types.items ≡ types_after_n0 tables.now sequence.now (characters_of points.now sequence.now) (types_before places.now sequence.now)) }
-    ensures one_each { OnOk result (length buffers.new.types.items ≡ length sequence.now.places) }
+    ensures types { OnOk result (lists.new.types.items ≡ types_after_n0 tables.now sequence.now (characters_of points.now sequence.now) (types_before places.now sequence.now)) }
+    ensures one_each { OnOk result (length lists.new.types.items ≡ length sequence.now.places) }
 {
-    buffers.characters.clear();
-    buffers.before.clear();
+    lists.characters.clear();
+    lists.before.clear();
     gather(
         points,
         places,
         sequence.runs(),
-        &mut buffers.characters,
-        &mut buffers.before,
+        &mut lists.characters,
+        &mut lists.before,
     )?;
-    buffers.types.resize(buffers.before.len(), Bidi::On)?;
+    lists.types.resize(lists.before.len(), Bidi::On)?;
     resolve_types(
         alloc,
         tables,
         sequence,
-        &buffers.characters,
-        &buffers.before,
-        &mut buffers.types,
-    )
+        &lists.characters,
+        &lists.before,
+        &mut lists.types,
+    )?;
+    Ok(())
 }
 
-/// The levels of a sequence of the paragraph, in the buffer of levels.
+/// The levels of a sequence of the paragraph, in the list of levels.
 fn sequence_levels(
     alloc: Global,
     tables: &Tables,
     points: &[char],
     places: &[Option<Kept>],
     sequence: &Sequence,
-    buffers: &mut Buffers,
+    lists: &mut SequenceLists,
 ) -> Result<(), Memory>
     requires points { All (λ i. i < length points.now) sequence.now.places }
     requires kept { All (λ i. i < length places.now) sequence.now.places }
     requires level { sequence.now.level ≤ 125 }
-    ensures levels { OnOk result (buffers.new.levels.items ≡ sequence_levels tables.now points.now places.now sequence.now) }
-    ensures one_each { OnOk result (length buffers.new.levels.items ≡ length sequence.now.places) }
+    ensures levels { OnOk result (lists.new.levels.items ≡ sequence_levels tables.now points.now places.now sequence.now) }
+    ensures one_each { OnOk result (length lists.new.levels.items ≡ length sequence.now.places) }
 {
-    resolve_sequence(alloc, tables, points, places, sequence, buffers)?;
-    buffers.levels.resize(buffers.types.len(), 0)?;
+    resolve_sequence(alloc, tables, points, places, sequence, lists)?;
+    lists.levels.resize(lists.types.len(), 0)?;
     put_levels(
-        &mut buffers.levels,
-        &buffers.types,
+        &mut lists.levels,
+        &lists.types,
         sequence.level(),
         sequence.sos(),
         sequence.eos(),
@@ -116,23 +106,18 @@ fn put_back(
     points: &[char],
     embedded: &Embedded,
     levels: &mut [u8],
+    lists: &mut SequenceLists,
 ) -> Result<(), Memory>
     requires points { length points.now ≡ length embedded.now.places }
     requires levels { length levels.old ≡ length embedded.now.places }
     requires depth { All (λ s. s.level ≤ 125) embedded.now.sequences }
     ensures { OnOk result (levels.new ≡ put_back tables.now points.now embedded.now.places levels.old embedded.now.sequences) }
 {
-    let mut buffers = Buffers {
-        characters: Vec::new(alloc),
-        before: Vec::new(alloc),
-        types: Vec::new(alloc),
-        levels: Vec::new(alloc),
-    };
     for number in 0..embedded.sequence_count() {
         let sequence = embedded.sequence(number);
         let places = embedded.places();
-        sequence_levels(alloc, tables, points, places, &sequence, &mut buffers)?;
-        put_at_runs(levels, sequence.runs(), &buffers.levels);
+        sequence_levels(alloc, tables, points, places, &sequence, lists)?;
+        put_at_runs(levels, sequence.runs(), &lists.levels);
     }
     Ok(())
 }
@@ -144,13 +129,14 @@ fn resolve_levels(
     points: &[char],
     embedded: &Embedded,
     levels: &mut [u8],
+    lists: &mut SequenceLists,
 ) -> Result<(), Memory>
     requires points { length points.now ≡ length embedded.now.places }
     requires levels { levels.old ≡ replicate (length points.now) embedded.now.level }
     requires depth { All (λ s. s.level ≤ 125) embedded.now.sequences }
     ensures { OnOk result (levels.new ≡ resolved_levels tables.now points.now embedded.now) }
 {
-    put_back(alloc, tables, points, embedded, levels)?;
+    put_back(alloc, tables, points, embedded, levels, lists)?;
     fill_removed(levels, embedded.places(), embedded.level());
     Ok(())
 }
@@ -163,6 +149,7 @@ fn resolve_uniform(
     points: &[char],
     classes: &[Bidi],
     levels: &mut [u8],
+    types: &mut Vec<Bidi>,
 ) -> Result<(), Memory>
     requires level { level ≤ 125 }
     requires classes { length classes.now ≡ length points.now }
@@ -170,51 +157,39 @@ fn resolve_uniform(
     ensures { OnOk result (levels.new ≡ uniform_levels tables.now level points.now classes.now) }
 {
     let direction = embedding_direction(level);
-    let mut types = vec![in alloc; Bidi::On; classes.len()]?;
-    resolve_weak(classes, &mut types, direction);
-    resolve(alloc, tables, level, direction, points, classes, &mut types)?;
-    put_levels(levels, &types, level, direction, direction);
+    types.resize(classes.len(), Bidi::On)?;
+    resolve_weak(classes, types, direction);
+    resolve(alloc, tables, level, direction, points, classes, types)?;
+    put_levels(levels, types, level, direction, direction);
     Ok(())
 }
 
-/// The levels of a paragraph of this level without controls.
-fn uniform_levels(
+/// Resolves the levels of a paragraph of this level, whatever its classes, in a list that holds this level throughout.
+fn resolve_by_controls(
     alloc: Global,
     tables: &Tables,
     level: u8,
     points: &[char],
     classes: &[Bidi],
-) -> Result<Vec<u8>, Memory>
+    levels: &mut [u8],
+    buffers: &mut Buffers,
+) -> Result<(), Memory>
     requires level { level ≤ 1 }
     requires classes { length classes.now ≡ length points.now }
-    requires uniform { list_any is_control classes.now ≡ false }
-    ensures levels { IfOk result (λ levels. levels.items ≡ resolved_levels tables.now points.now (embedding_at level classes.now)) }
-    ensures one_each { IfOk result (λ levels. length levels.items ≡ length points.now) }
-    ensures bound { IfOk result (λ levels. All (λ level. level ≤ 126) levels.items) }
+    requires levels { levels.old ≡ replicate (length points.now) level }
+    ensures { OnOk result (levels.new ≡ resolved_levels tables.now points.now (embedding_at level classes.now)) }
 {
-    let mut levels = vec![in alloc; level; points.len()]?;
-    resolve_uniform(alloc, tables, level, points, classes, &mut levels)?;
-    Ok(levels)
-}
-
-/// The levels of a paragraph of this level, whatever its classes.
-fn levels_by_controls(
-    alloc: Global,
-    tables: &Tables,
-    level: u8,
-    points: &[char],
-    classes: &[Bidi],
-) -> Result<Vec<u8>, Memory>
-    requires level { level ≤ 1 }
-    requires classes { length classes.now ≡ length points.now }
-    ensures levels { IfOk result (λ levels. levels.items ≡ resolved_levels tables.now points.now (embedding_at level classes.now)) }
-    ensures one_each { IfOk result (λ levels. length levels.items ≡ length points.now) }
-    ensures bound { IfOk result (λ levels. All (λ level. level ≤ 126) levels.items) }
-{
-    let embedded = explicit_by_controls(alloc, level, classes)?;
-    let mut levels = vec![in alloc; embedded.level(); points.len()]?;
-    resolve_levels(alloc, tables, points, &embedded, &mut levels)?;
-    Ok(levels)
+    buffers
+        .embedded
+        .embed(&mut buffers.explicit, level, classes)?;
+    resolve_levels(
+        alloc,
+        tables,
+        points,
+        &buffers.embedded,
+        levels,
+        &mut buffers.sequence,
+    )
 }
 
 /// Whether all classes are plain.
@@ -229,10 +204,66 @@ fn are_plain(classes: &[Bidi]) -> bool
     plain
 }
 
-/// What `levels` answers for a paragraph of this level, 0 or 1, of these code points, which have these classes.
+/// Resolves the levels of a paragraph of this level, in a list that holds this level throughout.
+fn resolve_paragraph(
+    alloc: Global,
+    tables: &Tables,
+    level: u8,
+    points: &[char],
+    classes: &[Bidi],
+    levels: &mut [u8],
+    buffers: &mut Buffers,
+) -> Result<(), Memory>
+    requires level { level ≤ 1 }
+    requires classes { classes.now ≡ map (bidi_of tables.now) points.now }
+    requires levels { levels.old ≡ replicate (length points.now) level }
+    ensures { OnOk result (levels.new ≡ resolved_levels tables.now points.now (embedding_at level classes.now)) }
+{
+    if level == 0 && are_plain(classes) {
+        return Ok(());
+    }
+    if has_controls(classes) {
+        return resolve_by_controls(alloc, tables, level, points, classes, levels, buffers);
+    }
+    resolve_uniform(
+        alloc,
+        tables,
+        level,
+        points,
+        classes,
+        levels,
+        &mut buffers.sequence.types,
+    )?;
+    Ok(())
+}
+
+/// Puts what `levels_at` answers into a list, in place of what it has. After `Memory` the list may have anything.
 /// Never inlined: as a part of its caller its passes would have fewer registers.
-/// Cost: O(n), memory for each place.
+/// Cost: O(n), memory where the list or the buffers have no room.
 #[inline(never)]
+pub fn levels_into(
+    alloc: Global,
+    levels: &mut Vec<u8>,
+    buffers: &mut Buffers,
+    tables: &Tables,
+    level: u8,
+    points: &[char],
+    classes: &[Bidi],
+) -> Result<(), Memory>
+    requires level { level ≤ 1 }
+    requires classes { classes.now ≡ map (bidi_of tables.now) points.now }
+    ensures levels { OnOk result (levels.new.items ≡ resolved_levels tables.now points.now (embedding_at level classes.now)) }
+    ensures one_each { OnOk result (length levels.new.items ≡ length points.now) }
+    ensures bound { OnOk result (All (λ level. level ≤ 126) levels.new.items) }
+{
+    levels.clear();
+    levels.resize(points.len(), level)?;
+    resolve_paragraph(alloc, tables, level, points, classes, levels, buffers)?;
+    Ok(())
+}
+
+/// What `levels` answers for a paragraph of this level, 0 or 1, of these code points, which have these classes.
+/// Cost: O(n), memory for each place.
 pub fn levels_at(
     alloc: Global,
     tables: &Tables,
@@ -246,14 +277,18 @@ pub fn levels_at(
     ensures one_each { IfOk result (λ levels. length levels.items ≡ length points.now) }
     ensures bound { IfOk result (λ levels. All (λ level. level ≤ 126) levels.items) }
 {
-    if level == 0 && are_plain(classes) {
-        return Ok(vec![in alloc; 0; points.len()]?);
-    }
-    if has_controls(classes) {
-        levels_by_controls(alloc, tables, level, points, classes)
-    } else {
-        uniform_levels(alloc, tables, level, points, classes)
-    }
+    let mut levels = Vec::new(alloc);
+    let mut buffers = Buffers::new(alloc);
+    levels_into(
+        alloc,
+        &mut levels,
+        &mut buffers,
+        tables,
+        level,
+        points,
+        classes,
+    )?;
+    Ok(levels)
 }
 
 /// The resolved levels of any paragraph.

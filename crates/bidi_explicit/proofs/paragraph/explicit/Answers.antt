@@ -5,11 +5,9 @@ use Rattle.std.proofs.lemmas.List.{length-map}
 use Rattle.std.proofs.lemmas.List.Elements.{All-same}
 use Rattle.unicode_tables.specs.Tables.{bidi_of}
 use Rattle.paragraphs.specs.Text.{code_points}
-use Rattle.bidi_explicit.specs.Levels.{explicit_places}
-use Rattle.bidi_explicit.specs.Sequences.{next, is_unmatched}
 use Rattle.bidi_explicit.specs.Embedding.{classes_of, embedding_at, IsWithinDepth}
 use Rattle.bidi_explicit.proofs.Facts.{explicit_places-stay, length-explicit_places, explicit_places-within}
-use Rattle.bidi_explicit.proofs.Whole.{IsLow, chains-within}
+use Rattle.bidi_explicit.proofs.Whole.{IsLow, sequences-within}
 use Rattle.bidi_explicit.proofs.paragraph.explicit.Goals as goal
 
 pub returns-clause-places : goal.returns-clause-places
@@ -33,8 +31,5 @@ returns-clause-depth c =
 
 pub returns-clause-sequence_depth : goal.returns-clause-sequence_depth
 returns-clause-sequence_depth c =
-    let places = explicit_places c.paragraph_level-level.result c.deref.result.now in
     All-same IsLow _ _ (ap (λ e. e.sequences) c.in_ok-embedded.ensures)
-    (chains-within c.paragraph_level-level.result (next c.deref.result.now places) (is_unmatched c.deref.result.now) places
-    c.paragraph_level-level.ensures.bound
-    (explicit_places-within c.paragraph_level-level.result c.deref.result.now c.paragraph_level-level.ensures.bound))
+    (sequences-within c.paragraph_level-level.result c.deref.result.now c.paragraph_level-level.ensures.bound)

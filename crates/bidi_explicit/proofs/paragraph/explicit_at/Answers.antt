@@ -1,10 +1,8 @@
 -- What is known of the definition's answer.
 use Rattle.std.proofs.Common.{◌∙◌, ap, length}
 use Rattle.std.proofs.lemmas.List.Elements.{All-same}
-use Rattle.bidi_explicit.specs.Levels.{explicit_places}
-use Rattle.bidi_explicit.specs.Sequences.{next, is_unmatched}
-use Rattle.bidi_explicit.proofs.Facts.{length-explicit_places, explicit_places-within}
-use Rattle.bidi_explicit.proofs.Whole.{IsLow, chains-within}
+use Rattle.bidi_explicit.proofs.Facts.{length-explicit_places}
+use Rattle.bidi_explicit.proofs.Whole.{IsLow, sequences-within}
 use Rattle.bidi_explicit.proofs.paragraph.explicit_at.Goals as goal
 
 pub returns-clause-places : goal.returns-clause-places
@@ -12,7 +10,4 @@ returns-clause-places c = ap (λ e. length e.places) c.in_ok-embedded.ensures �
 
 pub returns-clause-sequence_depth : goal.returns-clause-sequence_depth
 returns-clause-sequence_depth c =
-    let places = explicit_places c.args.level c.args.classes.now in
-    All-same IsLow _ _ (ap (λ e. e.sequences) c.in_ok-embedded.ensures)
-    (chains-within c.args.level (next c.args.classes.now places) (is_unmatched c.args.classes.now) places
-    c.requires (explicit_places-within c.args.level c.args.classes.now c.requires))
+    All-same IsLow _ _ (ap (λ e. e.sequences) c.in_ok-embedded.ensures) (sequences-within c.args.level c.args.classes.now c.requires)

@@ -1,11 +1,22 @@
 -- The pass begins after the last place and ends at the first.
-use Rattle.std.proofs.Common.{suc, ◌≡◌, ◌∙◌, ◌-◌, ◌<◌, sym, subst, length, arith}
+use Rattle.std.proofs.Common.{ℕ, suc, ◌≡◌, ◌∙◌, ◌-◌, ◌<◌, ap, ap₂, sym, subst, List, [], ◌++◌, length, take, replicate, arith}
 use Rattle.bg_types.specs.declared.class.Bidi.TheVariants.{L}
+use Rattle.std.proofs.lemmas.List.{take_all}
+use Rattle.bidi_explicit.specs.declared.controls.Control.{Control}
+use Rattle.bidi_explicit.specs.Controls.{no_control}
 use Rattle.bidi_explicit.proofs.Matching.{IsMatchedFrom, IsMatchedFrom-start, IsMatchedFrom-step, IsMatchedFrom-strong, IsMatchedFrom-neither}
-use Rattle.bidi_explicit.proofs.controls.controls.Goals as goal
+use Rattle.bidi_explicit.proofs.controls.controls_into.Goals as goal
 
 pub loop-place-init : goal.loop-place-init
-loop-place-init c = IsMatchedFrom-start c.args.classes.now c.new-matcher.result c.in_ok-controls.controls.items c.new-matcher.ensures (c.in_ok-controls.ensures.items_if_clones_equal (λ y h. h))
+loop-place-init c =
+    let n = length c.args.classes.now in
+    let all : length c.args.classes.now - 0 ≡ length c.args.classes.now = omega arith in
+    let made : c.resize.new.self.items ≡ replicate (length c.args.classes.now) no_control =
+    c.in_ok-resize.ensures.items
+    ∙ ap₂ (λ (xs : List Control) (k : ℕ). take n xs ++ replicate (n - k) no_control) c.clear.ensures.items c.clear.ensures.len
+    ∙ ap (λ (xs : List Control). xs ++ replicate (n - 0) no_control) (take_all n [] (omega arith))
+    ∙ ap (λ k. replicate k no_control) all in
+    IsMatchedFrom-start c.args.classes.now c.begin.new.self c.resize.new.self.items c.begin.ensures made
 
 pub loop-place-preserved-in-Some : goal.loop-place-preserved-in-Some
 loop-place-preserved-in-Some c =
@@ -25,7 +36,7 @@ loop-place-preserved-then-is_control c =
     let m : IsMatchedFrom c.args.classes.now (suc (c.loop-place.place - 1)) c.loop-place.matcher c.loop-place.controls.items =
     subst (λ n. IsMatchedFrom c.args.classes.now n c.loop-place.matcher c.loop-place.controls.items) at c.loop-place.invariant in
     IsMatchedFrom-step c.args.classes.now (c.loop-place.place - 1) c.loop-place.matcher c.loop-place.controls.items m within L
-    c.in_ok-controls-2.field-0 c.pass.new.self c.in_ok-controls-2.ensures.control c.in_ok-controls-2.ensures.after
+    c.in_ok-controls.field-0 c.pass.new.self c.in_ok-controls.ensures.control c.in_ok-controls.ensures.after
 
 pub loop-place-preserved : goal.loop-place-preserved
 loop-place-preserved c =
