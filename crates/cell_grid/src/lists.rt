@@ -3,6 +3,7 @@
 use crate::cluster_run::ClusterRun;
 use crate::stretch::Order;
 use bg_types::Bidi;
+use bidi_weak_neutral::Buffers;
 use line_break::{Break, Line, Outline};
 use std::alloc::Global;
 use unicode_tables::Word;
@@ -16,6 +17,10 @@ pub struct Lists {
     pub(crate) words: Vec<Word>,
     /// The class of each code point.
     pub(crate) classes: Vec<Bidi>,
+    /// The level of each code point.
+    pub(crate) levels: Vec<u8>,
+    /// What the levels are resolved in.
+    pub(crate) buffers: Buffers,
     /// The status of the boundary after each code point.
     pub(crate) statuses: Vec<Break>,
     pub(crate) clusters: Outline,
@@ -39,6 +44,8 @@ impl Lists {
             points: Vec::new(alloc),
             words: Vec::new(alloc),
             classes: Vec::new(alloc),
+            levels: Vec::new(alloc),
+            buffers: Buffers::new(alloc),
             statuses: Vec::new(alloc),
             clusters: Outline::new(alloc),
             lines: Vec::new(alloc),

@@ -25,7 +25,7 @@ use crate::row::Row;
 use crate::separator::{is_separator_alone, separator_rows};
 use bg_types::{Base, Bidi, Memory};
 use bidi_explicit::paragraph_level;
-use bidi_weak_neutral::levels_at;
+use bidi_weak_neutral::levels_into;
 use line_break::{Line, Outline, lines_into, outline_into};
 use paragraphs::{Para, Span, code_points_into};
 use reorder::levels_after_l1;
@@ -209,7 +209,15 @@ pub fn rows_with(
     code_points_into(&mut lists.points, text)?;
     tables.words_into(&mut lists.words, &lists.points)?;
     classes_into(&mut lists.classes, &lists.words)?;
-    let levels = levels_at(alloc, tables, para_level, &lists.points, &lists.classes)?;
+    levels_into(
+        alloc,
+        &mut lists.levels,
+        &mut lists.buffers,
+        tables,
+        para_level,
+        &lists.points,
+        &lists.classes,
+    )?;
     outline_into(
         &mut lists.clusters,
         &mut lists.statuses,
@@ -223,7 +231,7 @@ pub fn rows_with(
         text,
         para_level,
         classes: &lists.classes,
-        levels: &levels,
+        levels: &lists.levels,
         clusters: &lists.clusters,
     };
     rows_in(alloc, &material, width, &mut lists.lines, &mut lists.line)

@@ -72,8 +72,8 @@ returns-then-is_separator_alone-clause-may_shift c =
     bytes places fit_bytes fit_places))
     (returns-then-is_separator_alone-clause-rows c)
 
-pub levels_at-requires-clause-classes : goal.levels_at-requires-clause-classes
-levels_at-requires-clause-classes c =
+pub levels_into-requires-clause-classes : goal.levels_into-requires-clause-classes
+levels_into-requires-clause-classes c =
     points-lent c.args.tables.now _ _ _ _ c.deref-4.ensures.value (classes-told c.args.tables.now _ _ _ _ c.in_ok-classes_into.ensures c.deref-2.ensures.value c.in_ok-words_into.ensures) (c.deref.ensures.value ∙ sym c.deref-3.ensures.value)
 
 pub rows_in-requires-clause-text : goal.rows_in-requires-clause-text
@@ -85,7 +85,7 @@ rows_in-requires-clause-classes c =
     ∙ ap (map (bidi_of c.args.tables.now)) (c.deref.ensures.value ∙ c.in_ok-code_points_into.ensures)
 
 pub rows_in-requires-clause-levels : goal.rows_in-requires-clause-levels
-rows_in-requires-clause-levels c = ap length c.deref-8.ensures.value ∙ c.in_ok-levels.ensures.one_each ∙ ap length (c.deref-3.ensures.value ∙ c.in_ok-code_points_into.ensures)
+rows_in-requires-clause-levels c = ap length c.deref-8.ensures.value ∙ c.in_ok-levels_into.ensures.one_each ∙ ap length (c.deref-3.ensures.value ∙ c.in_ok-code_points_into.ensures)
 
 pub rows_in-requires-clause-runs : goal.rows_in-requires-clause-runs
 rows_in-requires-clause-runs c =
@@ -105,7 +105,7 @@ returns-clause-rows c =
     let tables = c.args.tables.now in
     let text = c.args.para.now.text in
     let level = c.paragraph_level-para_level.ensures.level in
-    let own = levels-are tables text c.args.base _ _ _ _ c.in_ok-levels.ensures.levels (c.deref-3.ensures.value ∙ c.in_ok-code_points_into.ensures ∙ ap code_points c.text-text.ensures)
+    let own = levels-are tables text c.args.base _ _ _ _ c.in_ok-levels_into.ensures.levels (c.deref-3.ensures.value ∙ c.in_ok-code_points_into.ensures ∙ ap code_points c.text-text.ensures)
     (points-lent tables _ _ _ _ c.deref-4.ensures.value (classes-told c.args.tables.now _ _ _ _ c.in_ok-classes_into.ensures c.deref-2.ensures.value c.in_ok-words_into.ensures) (c.deref.ensures.value ∙ sym c.deref-3.ensures.value)) level in
     IfOk-weaker c.rows_in.result _ _
     (λ rows made. rows-are tables c.args.width c.args.base text c.text-text.result.now c.paragraph_level-para_level.result c.deref-8.result.now rows.items made level c.text-text.ensures (c.deref-8.ensures.value ∙ own))
