@@ -14,6 +14,7 @@ pub mod Halves
 pub mod Giving
 pub mod Places
 pub mod Passed
+pub mod Neighbours
 pub mod Apart
 pub mod Homes
 pub mod Known

@@ -41,7 +41,7 @@ not_below x m n h lt = by_test (is_lt (id_cmp x n)) refl where
   by_test true is = let e : is_lt (id_cmp x m) ≡ true = ap is_lt (id_cmp-total.trans x n m (less_of (id_cmp x n) is) (less_of (id_cmp n m) lt)) in absurd cc
 
 -- a lesser bound
-lower : (m n : Identifier) (ss : List Stretch) → none_below m ss ≡ true → is_lt (id_cmp n m) ≡ true → none_below n ss ≡ true
+pub lower : (m n : Identifier) (ss : List Stretch) → none_below m ss ≡ true → is_lt (id_cmp n m) ≡ true → none_below n ss ≡ true
 lower m n [] h lt = refl
 lower m n (s ∷ ss) h lt =
     let p = and_parts (not (is_lt (id_cmp s.first m))) (none_below m ss) h in

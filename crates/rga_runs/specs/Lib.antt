@@ -5,6 +5,7 @@ pub mod Stretches
 pub mod Changed
 pub mod Blocks
 pub mod BlockRows
+pub mod Bounds
 pub mod Keyed
 pub mod Leaves
 pub mod KeyRows

@@ -199,7 +199,7 @@ fn least_of(stretches: &[Stretch]) -> Id
 }
 
 /// The lesser of two identifiers.
-fn lesser(a: Id, b: Id) -> Id
+pub fn lesser(a: Id, b: Id) -> Id
     ensures { result ≡ (if is_lt (id_cmp a b) then a else b) }
 {
     if is_below(a, b) { a } else { b }

@@ -17,9 +17,8 @@ ghost use Rattle.rga_runs.specs.Blocks.{at_spot};
 ghost use Rattle.rga_runs.specs.BlockRows.{items_of};
 ghost use Rattle.rga_runs.specs.Indexed.{stretches_in, IsIndexed, HasRoom};
 
-use crate::row::{
-    Row, grow, hide_character, part, passed_from, put_first, put_lone, room_behind, spot,
-};
+use crate::row::{Row, grow, hide_character, part, put_first, put_lone, room_behind, spot};
+use crate::skip::passed_from;
 use bg_types::{Id, Place};
 use std::str::Chars;
 
@@ -67,7 +66,7 @@ fn place_for(row: &mut Row, id: Id, parent: &Place) -> (usize, usize)
     ensures room { (n : ℕ) → HasRoom row.old (n + 1) → HasRoom row.new n }
 {
     let (b, j) = behind_parent(row, id, parent);
-    passed_from(&row.blocks, b, j, id)
+    passed_from(&row.blocks, &row.bounds, b, j, id)
 }
 
 /// The spot right behind the parent, or behind greater elements of its stretch: from there on greater stretches are passed.

@@ -2,6 +2,7 @@
 #![tactic(auto)]
 
 mod block;
+mod bounds;
 mod change;
 mod cut;
 mod key;
@@ -18,6 +19,7 @@ mod room;
 mod row;
 mod runs;
 mod search;
+mod skip;
 mod stretch;
 
 pub use runs::Runs;

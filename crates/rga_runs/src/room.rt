@@ -10,6 +10,7 @@ ghost use Rattle.rga_runs.specs.BlockRows.{items_of, numbers_of};
 ghost use Rattle.rga_runs.specs.Indexed.{stretches_in, IsHome, AreKnown, IsIndexed, HasRoom, HasPlace};
 
 use crate::block::{Block, Spare};
+use crate::bounds::{self, NEIGHBOURS};
 use crate::cut::{FULL, kept_of, missing};
 use crate::keys::{self, Keys};
 use crate::order::{len_of, split_at};
@@ -72,6 +73,9 @@ fn split(row: &mut Row, q: usize, cut: usize)
     rehome(&mut row.keys, &row.blocks[q + 1].stretches, number);
     row.places.push(number).unwrap();
     renumber(&mut row.places, &row.blocks, q + 1);
+    let from = NEIGHBOURS * row.bounds.len().min(q / NEIGHBOURS);
+    bounds::add(&mut row.bounds, row.blocks.len(), row.blocks[q].least);
+    bounds::renew(&mut row.bounds, &row.blocks, from);
 }
 
 /// Writes down that these stretches are those of another block now. Each has a key already.
@@ -127,6 +131,7 @@ pub fn make_memory(row: &mut Row, alloc: Global, n: usize) -> Result<(), Memory>
     row.spares.reserve(more)?;
     row.blocks.reserve(row.spares.capacity())?;
     row.places.reserve(row.spares.capacity())?;
+    row.bounds.reserve(row.spares.capacity() / NEIGHBOURS + 1)?;
     add_spares(&mut row.spares, alloc, more)
 }
 

@@ -1,16 +1,16 @@
 //! The row of blocks with the index of its stretches.
 
-ghost use Rattle.std.specs.Prelude.{◌≡◌, ◌+◌, ◌-◌, ◌^◌, ◌<◌, ◌≤◌, ◌∷◌, [], ℕ, All, length, take, drop, get_or, insert, slice_set, nat_eq, false, IfSome, IfNone, vec_len};
-ghost use Rattle.std.specs.List.{prefix_len};
+ghost use Rattle.std.specs.Prelude.{◌≡◌, ◌+◌, ◌-◌, ◌^◌, ◌<◌, ◌≤◌, ◌∷◌, [], ℕ, All, length, get_or, insert, slice_set, false, IfSome, IfNone, vec_len};
 ghost use Rattle.rga_runs.specs.declared.stretch.Stretch.{Stretch as Kept};
 ghost use Rattle.rga_runs.specs.Typed.{later, is_odd, bits_from};
 ghost use Rattle.rga_runs.specs.Stretches.{IsOutside, AreApart};
 ghost use Rattle.rga_runs.specs.Changed.{IsGrown, IsHidden, IsParted, IsLone};
-ghost use Rattle.rga_runs.specs.Blocks.{row_of, at_spot, passed};
+ghost use Rattle.rga_runs.specs.Blocks.{at_spot};
 ghost use Rattle.rga_runs.specs.BlockRows.{items_of};
 ghost use Rattle.rga_runs.specs.Indexed.{stretches_in, IsIndexed, HasRoom};
 
-use crate::block::{Block, Spare, is_below};
+use crate::block::{Block, Spare};
+use crate::bounds;
 use crate::keys::{self, Keys};
 use crate::order::{grow_at, hide_at, part_at, put_at};
 use crate::room::make_room;
@@ -28,6 +28,9 @@ pub struct Row {
     pub count: usize,
     /// Where a character was put in last. The next one is often put after it, or after what it was put after.
     pub recent: (usize, usize),
+    /// For each 32 blocks of the row an identifier that is no greater than any with which a stretch of theirs begins. The last
+    /// blocks may have none.
+    pub bounds: Vec<Id>,
 }
 
 /// The block of an identifier, the place of its stretch there, and which character of that it is.
@@ -100,69 +103,6 @@ fn keyed_spot(row: &Row, id: Id) -> Option<(usize, usize, usize)>
     Some((b, j, k))
 }
 
-/// From a spot of the row on, where the first stretch stands that doesn't begin with a greater identifier. Blocks in which all do
-/// are passed whole.
-pub fn passed_from(blocks: &[Block], b: usize, j: usize, id: Id) -> (usize, usize)
-    requires block { b < length blocks.now }
-    requires within { j ≤ length (get_or (items_of blocks.now) b []) }
-    ensures block { result.0 < length blocks.now }
-    ensures within { result.1 ≤ length (get_or (items_of blocks.now) result.0 []) }
-    ensures place { let start = at_spot (items_of blocks.now) b j in
-        at_spot (items_of blocks.now) result.0 result.1 ≡ start + passed id (drop start (row_of (items_of blocks.now))) }
-{
-    let here = &blocks[b];
-    let at = j + search::greater_in_front(&here.stretches[j..], id);
-    if at < here.stretches.len() {
-        return (b, at);
-    }
-    landing(blocks, b + 1 + passed_in_front(&blocks[b + 1..], id), id)
-}
-
-/// Where the first stretch of block q, or of those behind it, stands that doesn't begin with a greater identifier. Where that is the
-/// first of its block, the end of the block before it is answered.
-fn landing(blocks: &[Block], q: usize, id: Id) -> (usize, usize)
-    requires some { 0 < q }
-    requires block { q ≤ length blocks.now }
-    ensures block { result.0 < length blocks.now }
-    ensures within { result.1 ≤ length (get_or (items_of blocks.now) result.0 []) }
-    ensures place { at_spot (items_of blocks.now) result.0 result.1 ≡ length (row_of (take q (items_of blocks.now))) + passed id (get_or (items_of blocks.now) q []) }
-{
-    if q == blocks.len() {
-        return end_of(blocks, q - 1);
-    }
-    let at = search::greater_in_front(&blocks[q].stretches, id);
-    if at == 0 {
-        return end_of(blocks, q - 1);
-    }
-    (q, at)
-}
-
-/// The spot behind the last stretch of a block.
-fn end_of(blocks: &[Block], b: usize) -> (usize, usize)
-    requires { b < length blocks.now }
-    ensures block { result.0 < length blocks.now }
-    ensures within { result.1 ≤ length (get_or (items_of blocks.now) result.0 []) }
-    ensures place { at_spot (items_of blocks.now) result.0 result.1 ≡ length (row_of (take (b + 1) (items_of blocks.now))) }
-{
-    (b, blocks[b].stretches.len())
-}
-
-/// How many blocks at the front have only stretches that begin with a greater identifier.
-fn passed_in_front(blocks: &[Block], id: Id) -> usize
-    ensures count { result ≡ prefix_len (λ b. nat_eq (passed id b.stretches.items) (length b.stretches.items)) blocks.now }
-    ensures within { result ≤ length blocks.now }
-{
-    blocks.iter().take_while(|b| passes(b, id)).count()
-}
-
-/// Whether all stretches of a block begin with a greater identifier.
-fn passes(block: &Block, id: Id) -> bool
-    ensures { result ≡ nat_eq (passed id block.now.stretches.items) (length block.now.stretches.items) }
-{
-    is_below(id, block.least)
-        || search::greater_in_front(&block.stretches, id) == block.stretches.len()
-}
-
 /// Puts in the first stretch.
 #[inline(never)]
 pub fn put_first(row: &mut Row, id: Id, parent: Place, start: usize, hidden: bool)
@@ -178,6 +118,7 @@ pub fn put_first(row: &mut Row, id: Id, parent: Place, start: usize, hidden: boo
     let block = Block::lone(stretches, 0, id, parent, start, hidden);
     row.blocks.push(block).unwrap();
     row.places.push(0).unwrap();
+    row.bounds.clear();
     keys::put(&mut row.keys, id, 0, 0);
     row.count = 1;
     row.recent = (0, 0);
@@ -207,6 +148,7 @@ pub fn put_lone(
 {
     let (q, at) = make_room(row, b, j);
     put_at(&mut row.blocks, q, at, id, parent, start, hidden);
+    bounds::lower(&mut row.bounds, q, id);
     let number = row.blocks[q].number;
     keys::put(&mut row.keys, id, number, at);
     row.count += 1;

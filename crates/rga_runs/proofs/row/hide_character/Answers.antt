@@ -6,6 +6,7 @@ use Rattle.rga_runs.specs.declared.stretch.Stretch.{Stretch}
 use Rattle.rga_runs.specs.Changed.{IsHidden}
 use Rattle.rga_runs.specs.Blocks.{row_of, at_spot, AreHalfFull}
 use Rattle.rga_runs.specs.BlockRows.{items_of, numbers_of}
+use Rattle.rga_runs.specs.Bounds.{AreBounds}
 use Rattle.rga_runs.specs.Keyed.{look_in}
 use Rattle.rga_runs.specs.KeyRows.{keys_in}
 use Rattle.rga_runs.specs.Indexed.{IsHome, AreHome, AreKnown}
@@ -14,6 +15,8 @@ use Rattle.rga_runs.proofs.Chunks.{set_row, get_or_row, at_less, one_there, any_
 use Rattle.rga_runs.proofs.Halves.{AreHalfFull-set}
 use Rattle.rga_runs.proofs.Homes.{homes_set, home_shorter}
 use Rattle.rga_runs.proofs.Known.{known_set}
+use Rattle.rga_runs.proofs.Low.{low_set}
+use Rattle.rga_runs.proofs.Neighbours.{bounds-same}
 use Rattle.rga_runs.proofs.row.hide_character.Goals as goal
 
 pub returns : goal.returns
@@ -51,6 +54,7 @@ returns c =
         keyed = omega (arith, was.keyed, long);
         counted = omega (arith, was.counted, long);
         halves = subst AreHalfFull (sym e.2) (AreHalfFull-set xs b (set x j s) was.halves (omega (arith, length_set x j s)));
+        bounds = subst (AreBounds r.bounds.items) (sym e.2) (bounds-same r.bounds.items xs b (set x j s) (λ m h. low_set m x j d s h c.requires.within is.first) was.bounds);
       };
       room = λ n room. record {
         paid = λ few. omega (arith, room.paid few, long, c.hide_at.ensures.len);

@@ -1,7 +1,9 @@
 -- The goals of `part` that are answered by hand.
-use Rattle.std.proofs.Common.{◌≡◌, ℕ, ◌<◌, ◌≤◌, ◌+◌, ◌-◌, ◌∙◌, [], List, sym, ap, subst, length, get_or, arith}
+use Rattle.std.proofs.Common.{◌≡◌, ℕ, ◌<◌, ◌≤◌, ◌+◌, ◌-◌, ◌∙◌, [], List, not, sym, ap, subst, length, get_or, arith}
 use Rattle.std.specs.Prelude.{insert, set, slice_get}
 use Rattle.std.proofs.lemmas.List.Edits.{length-insert}
+use Rattle.std.specs.Ordering.{is_lt}
+use Rattle.bg_types.specs.Identifier.{id_cmp}
 use Rattle.rga_runs.specs.declared.stretch.Stretch.{Stretch}
 use Rattle.rga_runs.specs.declared.block.Block.{Block}
 use Rattle.rga_runs.specs.Changed.{IsParted}
@@ -9,6 +11,7 @@ use Rattle.rga_runs.specs.Typed.{later}
 use Rattle.rga_runs.specs.Stretches.{AreApart}
 use Rattle.rga_runs.specs.Blocks.{row_of, at_spot, AreHalfFull}
 use Rattle.rga_runs.specs.BlockRows.{items_of, numbers_of}
+use Rattle.rga_runs.specs.Bounds.{AreBounds}
 use Rattle.rga_runs.specs.Keyed.{look_in}
 use Rattle.rga_runs.specs.KeyRows.{keys_in}
 use Rattle.rga_runs.specs.Indexed.{AreHome, AreKnown}
@@ -18,6 +21,8 @@ use Rattle.rga_runs.proofs.Halves.{AreHalfFull-set}
 use Rattle.rga_runs.proofs.Homes.{Gains}
 use Rattle.rga_runs.proofs.Known.{homes_parted, known_parted}
 use Rattle.rga_runs.proofs.Numbers.{few_numbers}
+use Rattle.rga_runs.proofs.Low.{low_insert, low_set, low_at, later_above}
+use Rattle.rga_runs.proofs.Neighbours.{bounds-same}
 use Rattle.rga_runs.proofs.row.part.Goals as goal
 
 -- the stretch, where it stands once there is room behind it
@@ -140,6 +145,9 @@ returns c =
         keyed = omega (arith, c.put.ensures.len, was.keyed, long);
         counted = omega (arith, was.counted, long);
         halves = subst AreHalfFull (sym items) (AreHalfFull-set ys q (insert (set y i low) (i + 1) rest) was.halves (omega (arith, longer)));
+        bounds = subst (AreBounds mid.bounds.items) (sym items) (bounds-same mid.bounds.items ys q z
+            (λ m h. low_insert m (set y i low) (i + 1) rest (low_set m y i d low h within is.first) (ap (λ f. not (is_lt (id_cmp f m))) is.rest_first ∙ later_above m (get_or y i d).first c.args.k (low_at m y i d h within)))
+            was.bounds);
       };
       room = λ n paid.
           let room = c.make_room-q.ensures.room n paid in

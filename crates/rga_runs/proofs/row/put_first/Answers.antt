@@ -57,6 +57,7 @@ returns c =
         keyed = omega (arith, c.put.ensures.len, c.requires.indexed.keyed, before, after);
         counted = omega (arith, after);
         halves = subst AreHalfFull (sym items) (λ q less. absurd (omega (arith, less)));
+        bounds = λ p d less. absurd (omega (arith, ap length c.clear.ensures.items, less));
       };
       room = λ n room. record {
         paid = λ few. omega (arith, room.paid (omega (arith, few, fewer)), before, after, one, fewer, c.requires.none);

@@ -1,11 +1,13 @@
 -- The goals of `put_lone` that are answered by hand.
-use Rattle.std.proofs.Common.{◌≡◌, ◌<◌, ◌+◌, ◌∙◌, [], sym, ap, subst, length, get_or, arith}
+use Rattle.std.proofs.Common.{◌≡◌, ◌<◌, ◌+◌, ◌++◌, ◌∙◌, [], sym, ap, subst, take, drop, length, get_or, arith}
 use Rattle.std.specs.Prelude.{All, insert, set, slice_get}
+use Rattle.std.proofs.lemmas.List.{take_at}
 use Rattle.std.proofs.lemmas.List.Edits.{length-insert}
 use Rattle.rga_runs.specs.declared.block.Block.{Block}
 use Rattle.rga_runs.specs.Stretches.{IsOutside}
 use Rattle.rga_runs.specs.Blocks.{row_of, at_spot, AreHalfFull}
 use Rattle.rga_runs.specs.BlockRows.{items_of, numbers_of}
+use Rattle.rga_runs.specs.Bounds.{AreBounds}
 use Rattle.rga_runs.specs.Keyed.{look_in}
 use Rattle.rga_runs.specs.KeyRows.{keys_in}
 use Rattle.rga_runs.specs.Indexed.{AreHome, AreKnown}
@@ -67,6 +69,10 @@ returns c =
     let outside : All (IsOutside id) (row_of xs) = subst (All (IsOutside id)) (sym c.make_room-q.ensures.row) c.requires.new in
     let own = home_lone look (keys_in mid.keys) id (get_or ns q 0) s gains e.1.first e.1.count in
     let homes : AreHome look (set xs q (insert x at s)) ns = homes_insert look old_look id xs ns q at s there gains outside was.homes own in
+    let ms = mid.bounds.items in
+    let lowered : AreBounds c.lower.new.bounds (set xs q (insert x at s)) = c.lower.ensures xs at s e.1.first (subst (λ r. AreBounds r xs) (sym c.deref_mut.ensures.value) was.bounds) in
+    let kept : take mid.bounds.len (c.lower.new.bounds ++ drop (length c.lower.new.bounds) ms) ≡ c.lower.new.bounds =
+    take_at c.lower.new.bounds (drop (length c.lower.new.bounds) ms) mid.bounds.len (omega (arith, c.lower.auto.bounds, c.deref_mut.ensures.len)) in
     record {
       row = (s, e.1, row_is ∙ (λ i. insert (c.make_room-q.ensures.row i) (c.make_room-q.ensures.place i) s));
       indexed = record {
@@ -78,6 +84,7 @@ returns c =
         keyed = omega (arith, c.put.ensures.len, was.keyed, long);
         counted = omega (arith, was.counted, long);
         halves = subst AreHalfFull (sym e.2) (AreHalfFull-set xs q (insert x at s) was.halves (omega (arith, length-insert x at s c.make_room-q.ensures.within)));
+        bounds = subst (λ bounds. AreBounds bounds (items_of new)) (sym kept) (subst (AreBounds c.lower.new.bounds) (sym e.2) lowered);
       };
       room = λ n paid.
           let room = c.make_room-q.ensures.room n paid in

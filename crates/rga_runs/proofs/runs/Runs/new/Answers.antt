@@ -14,7 +14,7 @@ use Rattle.rga_runs.proofs.runs.Runs.new.Goals as goal
 
 pub invariant_of-result : goal.invariant_of-result
 invariant_of-result c =
-    let chars = c.new-4.result.items in
+    let chars = c.new-5.result.items in
     let none : row_of (items_of c.new.result.items) ≡ [] = ap (λ bs. row_of (items_of bs)) c.new.ensures.items in
     record {
       keeps_walk = KeepsWalk-nothing (elements_in chars (row_of (items_of c.new.result.items))) (ap (elements_in chars) none);
@@ -27,8 +27,9 @@ invariant_of-result c =
         keyed = omega (arith, ap (λ ls. length (all_keys ls)) c.none.ensures.leaves, ap length none);
         counted = omega (arith, ap length none);
         halves = subst AreHalfFull (sym (ap items_of c.new.ensures.items)) (λ q less. absurd (omega (arith, less)));
+        bounds = λ p d less. absurd (omega (arith, less, ap length c.new-4.ensures.items));
       };
-      counted = omega (arith, c.new-4.ensures.len, ap (λ ss. length (elements_in chars ss)) none);
+      counted = omega (arith, c.new-5.ensures.len, ap (λ ss. length (elements_in chars ss)) none);
       visible_are = sym (ap visible_in none);
       up_to = ap (λ ss. are_up_to 0 (elements_in chars ss)) none;
       enough = record {
@@ -38,8 +39,8 @@ invariant_of-result c =
         places = omega (arith, c.new.ensures.len, c.new-2.ensures.len);
         few = omega (arith, c.new.ensures.len, c.new-2.ensures.len);
       };
-      enough_characters = omega (arith, c.new-4.ensures.len);
-      few = omega (arith, c.new-4.ensures.len);
+      enough_characters = omega (arith, c.new-5.ensures.len);
+      few = omega (arith, c.new-5.ensures.len);
     } where
       nothing_known : (ls : List Leaf) (q f : Identifier) (n : ℕ) → ls ≡ [] → look_in (all_keys ls) q ≡ Some (f, n) → ⊥
       nothing_known ls q f n none is = let it : None ≡ told f n = sym (ap (λ l. look_in (all_keys l) q) none) ∙ is in absurd cc

@@ -9,8 +9,7 @@ use Rattle.rga_runs.proofs.BlockLists.{items_at, length-items}
 use Rattle.rga_runs.proofs.Passed.{prefix_map}
 use Rattle.rga_runs.proofs.Low.{all_greater, passes_here, passes_on}
 use Rattle.std.specs.List.{prefix_len}
-use Rattle.std.specs.Prelude.{nat_eq}
-use Rattle.rga_runs.proofs.row.passed_from.Goals as goal
+use Rattle.rga_runs.proofs.skip.passed_from.Goals as goal
 
 pub returns-then-at-len-clause-place : goal.returns-then-at-len-clause-place
 returns-then-at-len-clause-place c =
@@ -35,8 +34,8 @@ returns-clause-place c =
     let all : passed c.args.id (drop c.args.j (get_or xs b [])) ≡ length (drop c.args.j (get_or xs b [])) =
     omega (arith, count, length-drop c.args.j (get_or xs b []), c.if-at-len.false, c.len.ensures, ap length here, x.stretches.ok, c.greater_in_front.ensures.within, ap length c.deref.ensures.value) in
     let one_more : b + 1 ≡ suc b = omega arith in
-    let k : c.passed_in_front.result ≡ prefix_len (all_greater c.args.id) (drop (suc b) xs) =
-    c.passed_in_front.ensures.count ∙ ap (prefix_len (λ (z : Block). nat_eq (passed c.args.id z.stretches.items) (length z.stretches.items))) (take_rest bs (b + 1)) ∙ prefix_map c.args.id (drop (b + 1) bs) ∙ ap (prefix_len (all_greater c.args.id)) (sym (drop-map (λ (z : Block). z.stretches.items) (b + 1) bs)) ∙ ap (λ n. prefix_len (all_greater c.args.id) (drop n xs)) one_more in
-    let at : b + 1 + c.passed_in_front.result ≡ suc b + prefix_len (all_greater c.args.id) (drop (suc b) xs) = omega (arith, k) in
+    let k : c.passed_blocks.result ≡ prefix_len (all_greater c.args.id) (drop (suc b) xs) =
+    c.passed_blocks.ensures.count ∙ prefix_map c.args.id (drop (b + 1) bs) ∙ ap (prefix_len (all_greater c.args.id)) (sym (drop-map (λ (z : Block). z.stretches.items) (b + 1) bs)) ∙ ap (λ n. prefix_len (all_greater c.args.id) (drop n xs)) one_more in
+    let at : b + 1 + c.passed_blocks.result ≡ suc b + prefix_len (all_greater c.args.id) (drop (suc b) xs) = omega (arith, k) in
     c.landing.ensures.place ∙ ap (λ n. length (row_of (take n xs)) + passed c.args.id (get_or xs n [])) at
     ∙ passes_on c.args.id xs b c.args.j (omega (arith, c.requires.block, length-items bs)) c.requires.within all

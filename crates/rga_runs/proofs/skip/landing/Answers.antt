@@ -4,7 +4,7 @@ use Rattle.rga_runs.specs.Blocks.{row_of, passed}
 use Rattle.rga_runs.specs.BlockRows.{items_of}
 use Rattle.rga_runs.proofs.BlockLists.{items_there, length-items}
 use Rattle.rga_runs.proofs.Chunks.{none_there}
-use Rattle.rga_runs.proofs.row.landing.Goals as goal
+use Rattle.rga_runs.proofs.skip.landing.Goals as goal
 
 pub returns-then-q-blocks-clause-place : goal.returns-then-q-blocks-clause-place
 returns-then-q-blocks-clause-place c =

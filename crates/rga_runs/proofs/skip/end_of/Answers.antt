@@ -4,7 +4,7 @@ use Rattle.rga_runs.specs.Blocks.{row_of}
 use Rattle.rga_runs.specs.BlockRows.{items_of}
 use Rattle.rga_runs.proofs.BlockLists.{items_there}
 use Rattle.rga_runs.proofs.Chunks.{row-suc}
-use Rattle.rga_runs.proofs.row.end_of.Goals as goal
+use Rattle.rga_runs.proofs.skip.end_of.Goals as goal
 
 pub returns-clause-place : goal.returns-clause-place
 returns-clause-place c =
