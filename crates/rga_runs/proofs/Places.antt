@@ -38,21 +38,28 @@ place_cut above id xs ys r s same at start =
     let rest : joined (drop r ys) ≡ drop (until above (joined xs) + 1) (joined xs) = drop_parts ys r ∙ (λ i. drop ((at ∙ start) i) (same i)) in
     λ i. (at ∙ start) i + prefix_len (is_greater id) (rest i)
 
--- where what follows the parent in its part is greater
-pub place_passed : (above id : Identifier) (xs : List (List Element)) (p k : ℕ) → p < length xs → k < length (get_or xs p []) → offset xs p k ≡ until above (joined xs)
+-- where what follows an element in its part is greater
+pub passed_part : (id : Identifier) (xs : List (List Element)) (p k : ℕ) → p < length xs → k < length (get_or xs p [])
     → prefix_len (is_greater id) (drop (k + 1) (get_or xs p [])) ≡ length (drop (k + 1) (get_or xs p []))
-    → length (joined (take (p + 1) xs)) + prefix_len (is_greater id) (joined (drop (p + 1) xs)) ≡ place_of (After above) id (joined xs)
-place_passed above id xs p k there within at all =
+    → length (joined (take (p + 1) xs)) + prefix_len (is_greater id) (joined (drop (p + 1) xs)) ≡ offset xs p k + 1 + prefix_len (is_greater id) (drop (offset xs p k + 1) (joined xs))
+passed_part id xs p k there within all =
     let x = get_or xs p [] in
     let one_more : p + 1 ≡ suc p = omega arith in
-    let start : offset xs p (k + 1) ≡ until above (joined xs) + 1 = omega (arith, at) in
-    let rest : drop (until above (joined xs) + 1) (joined xs) ≡ drop (k + 1) x ++ joined (drop (suc p) xs) =
+    let start : offset xs p (k + 1) ≡ offset xs p k + 1 = omega arith in
+    let rest : drop (offset xs p k + 1) (joined xs) ≡ drop (k + 1) x ++ joined (drop (suc p) xs) =
     ap (λ n. drop n (joined xs)) (sym start) ∙ drop_joined xs p (k + 1) there (omega (arith, within)) in
-    let passed : prefix_len (is_greater id) (drop (until above (joined xs) + 1) (joined xs)) ≡ length (drop (k + 1) x) + prefix_len (is_greater id) (joined (drop (suc p) xs)) =
+    let passed : prefix_len (is_greater id) (drop (offset xs p k + 1) (joined xs)) ≡ length (drop (k + 1) x) + prefix_len (is_greater id) (joined (drop (suc p) xs)) =
     ap (prefix_len (is_greater id)) rest ∙ pre_all (is_greater id) (drop (k + 1) x) (joined (drop (suc p) xs)) all in
     let front : length (joined (take (suc p) xs)) ≡ length (joined (take p xs)) + length x = joined-suc xs p in
     ap (λ n. length (joined (take n xs)) + prefix_len (is_greater id) (joined (drop n xs))) one_more
     ∙ omega (arith, passed, front, start, length-drop (k + 1) x, within)
+
+-- where that is the parent
+pub place_passed : (above id : Identifier) (xs : List (List Element)) (p k : ℕ) → p < length xs → k < length (get_or xs p []) → offset xs p k ≡ until above (joined xs)
+    → prefix_len (is_greater id) (drop (k + 1) (get_or xs p [])) ≡ length (drop (k + 1) (get_or xs p []))
+    → length (joined (take (p + 1) xs)) + prefix_len (is_greater id) (joined (drop (p + 1) xs)) ≡ place_of (After above) id (joined xs)
+place_passed above id xs p k there within at all =
+    passed_part id xs p k there within all ∙ ap (λ n. n + 1 + prefix_len (is_greater id) (drop (n + 1) (joined xs))) at
 
 pub place_root : (id : Identifier) (xs : List (List Element)) → length (joined (take 0 xs)) + prefix_len (is_greater id) (joined (drop 0 xs)) ≡ place_of Root id (joined xs)
 place_root id xs = refl

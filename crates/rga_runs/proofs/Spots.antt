@@ -1,25 +1,34 @@
 -- Where an identifier stands among stretches.
-use Rattle.std.proofs.Common.{◌≡◌, ℕ, suc, ◌<◌, ◌≤◌, true, false, List, [], length, take, drop, get_or, sym, ap, subst, ◌∙◌, arith}
+use Rattle.std.proofs.Common.{◌≡◌, ℕ, suc, ◌<◌, ◌≤◌, ◌+◌, true, false, List, [], length, take, drop, get_or, sym, ap, subst, ◌∙◌, arith}
+use Rattle.std.specs.Ordering.{is_lt}
+use Rattle.std.specs.List.{prefix_len}
 use Rattle.std.specs.Prelude.{Option, Some, All, IfSome, set, vec_len}
-use Rattle.bg_types.specs.Identifier.{Identifier}
+use Rattle.bg_types.specs.Identifier.{Identifier, id_cmp}
+use Rattle.bg_types.specs.declared.op.Place.{Place}
+use Rattle.bg_types.proofs.Interface.{id_cmp-total}
+use Rattle.rga_tree.specs.KeepsWalk.{KeepsWalk}
+use Rattle.rga_tree.specs.Row.{place_of}
+use Rattle.rga_tree.proofs.Interface.{later-less, less_of, place_behind_sibling}
 use Rattle.rga_tree.specs.declared.element.Element.{Element}
 use Rattle.rga_sequence.specs.Blocks.{joined, offset}
 use Rattle.rga_sequence.proofs.Members.{until}
-use Rattle.rga_sequence.proofs.Spots.{get_or_joined}
+use Rattle.rga_sequence.proofs.Passing.{is_greater}
+use Rattle.rga_sequence.proofs.Spots.{get_or_joined, offset_less}
 use Rattle.rga_runs.specs.declared.stretch.Stretch.{Stretch}
 use Rattle.rga_runs.specs.declared.block.Block.{Block}
 use Rattle.rga_runs.specs.declared.row.Row.{Row}
 use Rattle.rga_runs.specs.Changed.{IsHidden}
 use Rattle.rga_runs.specs.Typed.{later, is_odd, bits_from}
-use Rattle.rga_runs.specs.Stretches.{parts_in, elements_in, are_stored, IsOutside, AreApart}
+use Rattle.rga_runs.specs.Stretches.{characters_of, elements_of, parts_in, elements_in, are_stored, IsOutside, AreApart}
 use Rattle.rga_runs.specs.Blocks.{row_of, at_spot}
 use Rattle.rga_runs.specs.BlockRows.{items_of}
 use Rattle.rga_runs.specs.Indexed.{stretches_in, HasRoom}
 use Rattle.rga_runs.proofs.Apart.{outside_others}
 use Rattle.rga_runs.proofs.BlockLists.{length-items, items_at}
 use Rattle.rga_runs.proofs.Chunks.{get_or_row, at_less, any_item, one_there, item_parts}
-use Rattle.rga_runs.proofs.Places.{hide_part}
-use Rattle.rga_runs.proofs.Rows.{length-parts, part_long, part_there, parts_set, stored_at, stored_le, stored_is, stored_set, spot_until, hidden_at, hidden_part}
+use Rattle.rga_runs.proofs.Typed.{later-none}
+use Rattle.rga_runs.proofs.Places.{hide_part, passed_part}
+use Rattle.rga_runs.proofs.Rows.{element_at, some_of_get, rest_passes, length-parts, part_long, part_there, parts_set, stored_at, stored_le, stored_is, stored_set, spot_until, hidden_at, hidden_part}
 
 -- character k of stretch p has this identifier
 pub record StandsAt (ss : List Stretch) (p k : ℕ) (q : Identifier) : Type 0 where
@@ -108,3 +117,24 @@ less_room r m n few room = record {
   places = room.places;
   few = room.few;
 }
+
+-- behind a stretch that begins with a greater child of the parent
+pub behind_greater : (parent : Place) (id : Identifier) (chars : List ℕ) (ss : List Stretch) (p : ℕ) (d : Stretch) → are_stored (length chars) ss ≡ true → KeepsWalk (elements_in chars ss) → p < length ss
+    → (get_or ss p d).parent ≡ parent → is_lt (id_cmp id (get_or ss p d).first) ≡ true
+    → length (joined (take (p + 1) (parts_in chars ss))) + prefix_len (is_greater id) (joined (drop (p + 1) (parts_in chars ss))) ≡ place_of parent id (elements_in chars ss)
+behind_greater parent id chars ss p d stored keeps there same greater =
+    let s = get_or ss p d in
+    let ys = parts_in chars ss in
+    let es = elements_in chars ss in
+    let some : 0 < s.count = s.some in
+    let deep : p < length ys = omega (arith, length-parts chars ss, there) in
+    let within : 0 < length (get_or ys p []) = part_within chars ss p 0 d stored there some in
+    let sibling : Element = record { id = later s.first 0; parent = s.parent; ch = get_or (characters_of chars s) 0 0; hidden = is_odd s.hidden } in
+    let is : get_or es (offset ys p 0) sibling ≡ sibling =
+    get_or_joined ys p 0 sibling deep within ∙ ap (λ (l : List Element). get_or l 0 sibling) (part_there chars ss p d there)
+    ∙ some_of_get (elements_of chars s) 0 sibling sibling (element_at chars s 0 (stored_at (length chars) ss p d stored there) some) in
+    let first : is_lt (id_cmp id sibling.id) ≡ true = ap (λ q. is_lt (id_cmp id q)) (later-none s.first) ∙ greater in
+    let second : is_lt (id_cmp id (later s.first 1)) ≡ true = ap is_lt (id_cmp-total.trans id s.first (later s.first 1) (less_of (id_cmp id s.first) greater) (later-less s.first)) in
+    passed_part id ys p 0 deep within (rest_passes id chars ss p 1 d stored there (λ more. second))
+    ∙ sym (place_behind_sibling es keeps (offset ys p 0) sibling id (offset_less ys p 0 deep within) (sym is) first)
+    ∙ ap (λ (q : Place). place_of q id es) same

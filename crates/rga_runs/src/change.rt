@@ -1,6 +1,6 @@
 //! A row with a character more, and with one that is hidden.
 
-ghost use Rattle.std.specs.Prelude.{◌≡◌, ◌+◌, ◌^◌, ◌<◌, ◌≤◌, ◌++◌, ◌∷◌, ℕ, List, [], All, length, take, drop, get_or, insert, slice_set, slice_index_or, not, true, vec_len, vec_capacity};
+ghost use Rattle.std.specs.Prelude.{◌≡◌, ◌+◌, ◌^◌, ◌<◌, ◌≤◌, ◌++◌, ◌∷◌, ℕ, List, [], All, length, take, drop, get_or, insert, slice_set, slice_index_or, not, true, IfSome, vec_len, vec_capacity};
 ghost use Rattle.std.specs.Ordering.{is_lt};
 ghost use Rattle.std.specs.Str.{chars, IsUtf8};
 ghost use Rattle.std.specs.Str.Iter.{chars_rest};
@@ -9,6 +9,7 @@ ghost use Rattle.bg_types.specs.Identifier.{id_cmp, same_id};
 ghost use Rattle.bg_types.specs.declared.op.Place.TheVariants.{After};
 ghost use Rattle.rga_tree.specs.declared.element.Element.{Element};
 ghost use Rattle.rga_tree.specs.Row.{place_of, start_of};
+ghost use Rattle.rga_tree.specs.KeepsWalk.{KeepsWalk};
 ghost use Rattle.rga_sequence.specs.Blocks.{joined};
 ghost use Rattle.rga_runs.specs.declared.stretch.Stretch.{Stretch as Kept};
 ghost use Rattle.rga_runs.specs.Typed.{later, typed};
@@ -31,7 +32,8 @@ pub fn put(row: &mut Row, id: Id, parent: Place, start: usize, hidden: bool)
     requires apart { AreApart (stretches_in row.old) }
     requires indexed { IsIndexed row.old }
     requires room { HasRoom row.old 2 }
-    ensures elements { (chars : List ℕ) (ch : ℕ) → length chars ≡ start → elements_in (chars ++ ch ∷ []) (stretches_in row.new)
+    ensures elements { (chars : List ℕ) (ch : ℕ) → length chars ≡ start → KeepsWalk (elements_in chars (stretches_in row.old))
+        → elements_in (chars ++ ch ∷ []) (stretches_in row.new)
         ≡ insert (elements_in chars (stretches_in row.old)) (place_of parent id (elements_in chars (stretches_in row.old)))
         (record { id = id; parent = parent; ch = ch; hidden = hidden }) }
     ensures stored { are_stored (start + 1) (stretches_in row.new) ≡ true }
@@ -56,6 +58,7 @@ fn place_for(row: &mut Row, id: Id, parent: &Place) -> (usize, usize)
     ensures block { result.0 < vec_len row.new.blocks }
     ensures within { result.1 ≤ length (get_or (items_of row.new.blocks.items) result.0 []) }
     ensures place { (chars : List ℕ) → are_stored (length chars) (stretches_in row.old) ≡ true
+        → KeepsWalk (elements_in chars (stretches_in row.old))
         → length (joined (take (at_spot (items_of row.new.blocks.items) result.0 result.1) (parts_in chars (stretches_in row.new))))
         ≡ place_of parent.now id (elements_in chars (stretches_in row.old)) }
     ensures elements { (chars : List ℕ) → elements_in chars (stretches_in row.new) ≡ elements_in chars (stretches_in row.old) }
@@ -65,8 +68,56 @@ fn place_for(row: &mut Row, id: Id, parent: &Place) -> (usize, usize)
     ensures indexed { IsIndexed row.new }
     ensures room { (n : ℕ) → HasRoom row.old (n + 1) → HasRoom row.new n }
 {
-    let (b, j) = behind_parent(row, id, parent);
+    let (b, j) = start(row, id, parent);
     passed_from(&row.blocks, &row.bounds, b, j, id)
+}
+
+/// The spot from which on greater stretches are passed: behind a greater sibling that was put in last, or behind the parent.
+fn start(row: &mut Row, id: Id, parent: &Place) -> (usize, usize)
+    requires some { 0 < vec_len row.old.blocks }
+    requires parent { IsPlaced parent.now (stretches_in row.old) }
+    requires apart { AreApart (stretches_in row.old) }
+    requires indexed { IsIndexed row.old }
+    requires room { HasRoom row.old 1 }
+    ensures block { result.0 < vec_len row.new.blocks }
+    ensures within { result.1 ≤ length (get_or (items_of row.new.blocks.items) result.0 []) }
+    ensures place { (chars : List ℕ) → are_stored (length chars) (stretches_in row.old) ≡ true
+        → KeepsWalk (elements_in chars (stretches_in row.old)) → let p = at_spot (items_of row.new.blocks.items) result.0 result.1 in
+        length (joined (take p (parts_in chars (stretches_in row.new))))
+        + prefix_len (λ e. is_lt (id_cmp id e.id)) (joined (drop p (parts_in chars (stretches_in row.new))))
+        ≡ place_of parent.now id (elements_in chars (stretches_in row.old)) }
+    ensures elements { (chars : List ℕ) → elements_in chars (stretches_in row.new) ≡ elements_in chars (stretches_in row.old) }
+    ensures stored { (n : ℕ) → are_stored n (stretches_in row.old) ≡ true → are_stored n (stretches_in row.new) ≡ true }
+    ensures outside { All (IsOutside id) (stretches_in row.old) → All (IsOutside id) (stretches_in row.new) }
+    ensures apart { AreApart (stretches_in row.new) }
+    ensures indexed { IsIndexed row.new }
+    ensures room { (n : ℕ) → HasRoom row.old (n + 1) → HasRoom row.new n }
+{
+    match behind_sibling(row, id, parent) {
+        Some(spot) => spot,
+        None => behind_parent(row, id, parent),
+    }
+}
+
+/// The spot right behind the stretch in which a character was put last, if that begins with a greater child of the same parent. What
+/// stands between the parent and that one is greater still, and so is what follows in the stretch.
+fn behind_sibling(row: &Row, id: Id, parent: &Place) -> Option<(usize, usize)>
+    ensures block { IfSome result (λ s. s.0 < vec_len row.now.blocks) }
+    ensures within { IfSome result (λ s. s.1 ≤ length (get_or (items_of row.now.blocks.items) s.0 [])) }
+    ensures place { IfSome result (λ s. (chars : List ℕ) → are_stored (length chars) (stretches_in row.now) ≡ true
+        → KeepsWalk (elements_in chars (stretches_in row.now)) → let p = at_spot (items_of row.now.blocks.items) s.0 s.1 in
+        length (joined (take p (parts_in chars (stretches_in row.now))))
+        + prefix_len (λ e. is_lt (id_cmp id e.id)) (joined (drop p (parts_in chars (stretches_in row.now))))
+        ≡ place_of parent.now id (elements_in chars (stretches_in row.now))) }
+{
+    let (b, j) = row.recent;
+    let block = row.blocks.get(b)?;
+    let stretch = block.stretches.get(j)?;
+    if stretch.is_greater_sibling(id, parent) {
+        Some((b, j + 1))
+    } else {
+        None
+    }
 }
 
 /// The spot right behind the parent, or behind greater elements of its stretch: from there on greater stretches are passed.

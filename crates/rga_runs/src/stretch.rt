@@ -199,6 +199,14 @@ impl Stretch {
         k < self.len() && id >= self.id_at(k)
     }
 
+    /// Whether its first character is a greater child of the same parent.
+    pub fn is_greater_sibling(&self, id: Id, parent: &Place) -> bool
+        ensures parent { OnTrue result (self.now.parent ≡ parent.now) }
+        ensures greater { OnTrue result (is_lt (id_cmp id self.now.first) ≡ true) }
+    {
+        id < self.first && self.parent.place() == *parent
+    }
+
     /// Whether a character that is placed right behind it, and stored there, is its next one.
     pub fn goes_on(&self, id: Id, parent: &Place, start: usize, hidden: bool) -> bool
         ensures id { OnTrue result (id ≡ later self.now.first self.now.count) }

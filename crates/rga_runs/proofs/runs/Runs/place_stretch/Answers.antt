@@ -48,7 +48,7 @@ take_in-more-requires-clause-stored c =
     let ss1 = stretches_in c.put.new.row in
     let row1 = elements_in more.items ss1 in
     let end : length chars0 ≡ c.len.result = omega (arith, c.len.ensures, self.characters.ok) in
-    let row1_is : row1 ≡ insert row (place_of parent id row) (record { id = id; parent = parent; ch = ch; hidden = false }) = ap (λ cs. elements_in cs ss1) c.push_reserved.ensures.items ∙ c.put.ensures.elements chars0 ch end in
+    let row1_is : row1 ≡ insert row (place_of parent id row) (record { id = id; parent = parent; ch = ch; hidden = false }) = ap (λ cs. elements_in cs ss1) c.push_reserved.ensures.items ∙ c.put.ensures.elements chars0 ch end self.keeps_walk in
     let longer : length more.items ≡ c.len.result + 1 = omega (arith, more.ok, c.push_reserved.ensures.len, c.len.ensures) in
     let stored : are_stored (length more.items) ss1 ≡ true = ap (λ m. are_stored m ss1) longer ∙ c.put.ensures.stored in
     let is = c.counter-known.ensures.identifier in
@@ -70,7 +70,7 @@ take_in-more-requires-clause-new c =
     let ss1 = stretches_in c.put.new.row in
     let row1 = elements_in more.items ss1 in
     let end : length chars0 ≡ c.len.result = omega (arith, c.len.ensures, self.characters.ok) in
-    let row1_is : row1 ≡ insert row (place_of parent id row) (record { id = id; parent = parent; ch = ch; hidden = false }) = ap (λ cs. elements_in cs ss1) c.push_reserved.ensures.items ∙ c.put.ensures.elements chars0 ch end in
+    let row1_is : row1 ≡ insert row (place_of parent id row) (record { id = id; parent = parent; ch = ch; hidden = false }) = ap (λ cs. elements_in cs ss1) c.push_reserved.ensures.items ∙ c.put.ensures.elements chars0 ch end self.keeps_walk in
     let longer : length more.items ≡ c.len.result + 1 = omega (arith, more.ok, c.push_reserved.ensures.len, c.len.ensures) in
     let stored : are_stored (length more.items) ss1 ≡ true = ap (λ m. are_stored m ss1) longer ∙ c.put.ensures.stored in
     let is = c.counter-known.ensures.identifier in
@@ -92,7 +92,7 @@ take_in-more-requires-clause-apart c =
     let ss1 = stretches_in c.put.new.row in
     let row1 = elements_in more.items ss1 in
     let end : length chars0 ≡ c.len.result = omega (arith, c.len.ensures, self.characters.ok) in
-    let row1_is : row1 ≡ insert row (place_of parent id row) (record { id = id; parent = parent; ch = ch; hidden = false }) = ap (λ cs. elements_in cs ss1) c.push_reserved.ensures.items ∙ c.put.ensures.elements chars0 ch end in
+    let row1_is : row1 ≡ insert row (place_of parent id row) (record { id = id; parent = parent; ch = ch; hidden = false }) = ap (λ cs. elements_in cs ss1) c.push_reserved.ensures.items ∙ c.put.ensures.elements chars0 ch end self.keeps_walk in
     let longer : length more.items ≡ c.len.result + 1 = omega (arith, more.ok, c.push_reserved.ensures.len, c.len.ensures) in
     let stored : are_stored (length more.items) ss1 ≡ true = ap (λ m. are_stored m ss1) longer ∙ c.put.ensures.stored in
     let is = c.counter-known.ensures.identifier in
@@ -120,7 +120,7 @@ invariant_of-self c =
     let ss1 = stretches_in c.put.new.row in
     let row1 = elements_in more.items ss1 in
     let end : length chars0 ≡ c.len.result = omega (arith, c.len.ensures, self.characters.ok) in
-    let row1_is : row1 ≡ insert row (place_of parent id row) (record { id = id; parent = parent; ch = ch; hidden = false }) = ap (λ cs. elements_in cs ss1) c.push_reserved.ensures.items ∙ c.put.ensures.elements chars0 ch end in
+    let row1_is : row1 ≡ insert row (place_of parent id row) (record { id = id; parent = parent; ch = ch; hidden = false }) = ap (λ cs. elements_in cs ss1) c.push_reserved.ensures.items ∙ c.put.ensures.elements chars0 ch end self.keeps_walk in
     let longer : length more.items ≡ c.len.result + 1 = omega (arith, more.ok, c.push_reserved.ensures.len, c.len.ensures) in
     let stored : are_stored (length more.items) ss1 ≡ true = ap (λ m. are_stored m ss1) longer ∙ c.put.ensures.stored in
     let is = c.counter-known.ensures.identifier in
@@ -167,7 +167,7 @@ returns-clause-content c =
     let ss1 = stretches_in c.put.new.row in
     let row1 = elements_in more.items ss1 in
     let end : length chars0 ≡ c.len.result = omega (arith, c.len.ensures, self.characters.ok) in
-    let row1_is : row1 ≡ insert row (place_of parent id row) (record { id = id; parent = parent; ch = ch; hidden = false }) = ap (λ cs. elements_in cs ss1) c.push_reserved.ensures.items ∙ c.put.ensures.elements chars0 ch end in
+    let row1_is : row1 ≡ insert row (place_of parent id row) (record { id = id; parent = parent; ch = ch; hidden = false }) = ap (λ cs. elements_in cs ss1) c.push_reserved.ensures.items ∙ c.put.ensures.elements chars0 ch end self.keeps_walk in
     let longer : length more.items ≡ c.len.result + 1 = omega (arith, more.ok, c.push_reserved.ensures.len, c.len.ensures) in
     let stored : are_stored (length more.items) ss1 ≡ true = ap (λ m. are_stored m ss1) longer ∙ c.put.ensures.stored in
     let is = c.counter-known.ensures.identifier in

@@ -48,7 +48,7 @@ invariant_of-self c =
     let start = start_within row c.args.parent c.requires.parent in
     let at = place_of c.args.parent c.args.id row in
     let end : length chars ≡ c.len.result = omega (arith, c.len.ensures, self.characters.ok) in
-    let new_row : elements_in more.items new ≡ insert row at n = ap (λ cs. elements_in cs new) c.push_reserved.ensures.items ∙ c.put.ensures.elements chars c.args.ch end in
+    let new_row : elements_in more.items new ≡ insert row at n = ap (λ cs. elements_in cs new) c.push_reserved.ensures.items ∙ c.put.ensures.elements chars c.args.ch end self.keeps_walk in
     let step = placing row (elements_in more.items new) n at self.keeps_walk c.requires.parent (c.counter-known.ensures.identifier, c.requires.before, c.ranges.ch.0) c.requires.new start refl new_row in
     let longer : length more.items ≡ c.len.result + 1 = omega (arith, more.ok, c.push_reserved.ensures.len, c.len.ensures) in
     let stored : are_stored (length more.items) new ≡ true = ap (λ m. are_stored m new) longer ∙ c.put.ensures.stored in
@@ -79,6 +79,6 @@ returns-clause-content c =
     let start = start_within row c.args.parent c.requires.parent in
     let at = place_of c.args.parent c.args.id row in
     let end : length chars ≡ c.len.result = omega (arith, c.len.ensures, self.characters.ok) in
-    let new_row : elements_in more.items new ≡ insert row at n = ap (λ cs. elements_in cs new) c.push_reserved.ensures.items ∙ c.put.ensures.elements chars c.args.ch end in
+    let new_row : elements_in more.items new ≡ insert row at n = ap (λ cs. elements_in cs new) c.push_reserved.ensures.items ∙ c.put.ensures.elements chars c.args.ch end self.keeps_walk in
     let step = placing row (elements_in more.items new) n at self.keeps_walk c.requires.parent (c.counter-known.ensures.identifier, c.requires.before, c.ranges.ch.0) c.requires.new start refl new_row in
     step.1
