@@ -1,9 +1,9 @@
 //! Lower bounds of the identifiers with which the stretches of neighbouring blocks begin, by which many blocks are passed at once.
 
-ghost use Rattle.std.specs.Prelude.{◌≡◌, ◌+◌, ◌*◌, ◌≤◌, ℕ, List, length, get_or, slice_set, insert, [], true};
+ghost use Rattle.std.specs.Prelude.{◌≡◌, ◌+◌, ◌*◌, ◌<◌, ◌≤◌, ℕ, List, length, get_or, slice_set, insert, [], true};
 ghost use Rattle.rga_runs.specs.declared.stretch.Stretch.{Stretch as Kept};
 ghost use Rattle.rga_runs.specs.BlockRows.{items_of};
-ghost use Rattle.rga_runs.specs.Bounds.{AreBounds, AreBoundsBelow};
+ghost use Rattle.rga_runs.specs.Bounds.{AreBounds, AreBoundsBelow, AreBoundsBut};
 ghost use Rattle.rga_runs.specs.Blocks.{none_below};
 
 use crate::block::{Block, lesser};
@@ -21,6 +21,29 @@ pub fn lower(bounds: &mut [Id], q: usize, id: Id)
     if g < bounds.len() {
         bounds[g] = lesser(id, bounds[g]);
     }
+}
+
+/// Lowers the bounds of the neighbours from entry `from` on: the first block of each was the last of those before it, until a block
+/// in front was split.
+pub fn lower_behind(bounds: &mut [Id], blocks: &[Block], from: usize)
+    requires { AreBoundsBut from bounds.old (items_of blocks.now) }
+    ensures { AreBounds bounds.new (items_of blocks.now) }
+{
+    let groups = blocks.len().div_ceil(NEIGHBOURS);
+    let end = bounds.len().min(groups);
+    for g in from..end {
+        let first = NEIGHBOURS * g;
+        take_in(bounds, g, blocks[first].least);
+    }
+}
+
+/// Lowers a bound, as below this identifier no stretch begins in the first block of its neighbours.
+fn take_in(bounds: &mut [Id], g: usize, least: Id)
+    requires { g < length bounds.old }
+    ensures len { length bounds.new ≡ length bounds.old }
+    ensures bounds { (xs : List (List Kept)) → none_below least (get_or xs (32 * g) []) ≡ true → AreBoundsBut g bounds.old xs → AreBoundsBut (g + 1) bounds.new xs }
+{
+    bounds[g] = lesser(least, bounds[g]);
 }
 
 /// Makes a bound for the next blocks of a row of this many, where there is memory for it.

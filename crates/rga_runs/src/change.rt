@@ -93,6 +93,10 @@ fn start(row: &mut Row, id: Id, parent: &Place) -> (usize, usize)
     ensures indexed { IsIndexed row.new }
     ensures room { (n : ℕ) → HasRoom row.old (n + 1) → HasRoom row.new n }
 {
+    // What is typed in a row is greater, and is not compared.
+    if row.latest < id.counter() {
+        return behind_parent(row, id, parent);
+    }
     match behind_sibling(row, id, parent) {
         Some(spot) => spot,
         None => behind_parent(row, id, parent),

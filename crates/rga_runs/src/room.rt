@@ -73,7 +73,8 @@ fn split(row: &mut Row, q: usize, cut: usize)
     rehome(&mut row.keys, &row.blocks[q + 1].stretches, number);
     row.places.push(number).unwrap();
     renumber(&mut row.places, &row.blocks, q + 1);
-    let from = NEIGHBOURS * row.bounds.len().min(q / NEIGHBOURS);
+    let from = NEIGHBOURS * row.bounds.len().min(row.blocks.len() / NEIGHBOURS);
+    bounds::lower_behind(&mut row.bounds, &row.blocks, q / NEIGHBOURS + 1);
     bounds::add(&mut row.bounds, row.blocks.len(), row.blocks[q].least);
     bounds::renew(&mut row.bounds, &row.blocks, from);
 }

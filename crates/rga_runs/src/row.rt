@@ -10,11 +10,10 @@ ghost use Rattle.rga_runs.specs.BlockRows.{items_of};
 ghost use Rattle.rga_runs.specs.Indexed.{stretches_in, IsIndexed, HasRoom};
 
 use crate::block::{Block, Spare};
-use crate::bounds;
 use crate::keys::{self, Keys};
 use crate::order::{grow_at, hide_at, part_at, put_at};
 use crate::room::make_room;
-use crate::search;
+use crate::{bounds, search};
 use bg_types::{Id, Place};
 
 /// Blocks in order, memory for more, the key of each stretch, and the place of the block of each number.
@@ -28,6 +27,8 @@ pub struct Row {
     pub count: usize,
     /// Where a character was put in last. The next one is often put after it, or after what it was put after.
     pub recent: (usize, usize),
+    /// The counter with which the last stretch began that was put in.
+    pub latest: u32,
     /// For each 32 blocks of the row an identifier that is no greater than any with which a stretch of theirs begins. The last
     /// blocks may have none.
     pub bounds: Vec<Id>,
@@ -122,6 +123,7 @@ pub fn put_first(row: &mut Row, id: Id, parent: Place, start: usize, hidden: boo
     keys::put(&mut row.keys, id, 0, 0);
     row.count = 1;
     row.recent = (0, 0);
+    row.latest = id.counter();
 }
 
 /// Puts in a stretch of one character at a spot.
@@ -153,6 +155,7 @@ pub fn put_lone(
     keys::put(&mut row.keys, id, number, at);
     row.count += 1;
     row.recent = (q, at);
+    row.latest = id.counter();
 }
 
 /// Parts stretch j of block b before its character k, and answers where the rest stands: its block, and its place there, which

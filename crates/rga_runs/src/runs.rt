@@ -81,6 +81,7 @@ impl Runs {
                 places: Vec::new(alloc),
                 count: 0,
                 recent: (0, 0),
+                latest: 0,
                 bounds: Vec::new(alloc),
             },
             characters: Vec::new(alloc),

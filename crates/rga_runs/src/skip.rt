@@ -15,13 +15,7 @@ use bg_types::Id;
 
 /// From a spot of the row on, where the first stretch stands that doesn't begin with a greater identifier. Blocks in which all do
 /// are passed whole.
-pub fn passed_from(
-    blocks: &[Block],
-    bounds: &[Id],
-    b: usize,
-    j: usize,
-    id: Id,
-) -> (usize, usize)
+pub fn passed_from(blocks: &[Block], bounds: &[Id], b: usize, j: usize, id: Id) -> (usize, usize)
     requires bounds { AreBounds bounds.now (items_of blocks.now) }
     requires block { b < length blocks.now }
     requires within { j ≤ length (get_or (items_of blocks.now) b []) }
@@ -132,6 +126,5 @@ fn passed_in_front(blocks: &[Block], id: Id) -> usize
 fn passes(block: &Block, id: Id) -> bool
     ensures { result ≡ nat_eq (passed id block.now.stretches.items) (length block.now.stretches.items) }
 {
-    is_below(id, block.least)
-        || greater_in_front(&block.stretches, id) == block.stretches.len()
+    is_below(id, block.least) || greater_in_front(&block.stretches, id) == block.stretches.len()
 }

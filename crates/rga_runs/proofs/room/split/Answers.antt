@@ -1,5 +1,5 @@
 -- The goals of `split` that are answered by hand.
-use Rattle.std.proofs.Common.{◌≡◌, ℕ, List, ◌<◌, ◌≤◌, ◌+◌, ◌*◌, ◌++◌, ◌∙◌, ◌∷◌, [], cond, true, sym, ap, subst, length, take, drop, get_or, length-append, length-drop, length-take-le, arith}
+use Rattle.std.proofs.Common.{◌≡◌, ℕ, List, ◌<◌, ◌≤◌, ◌+◌, ◌*◌, ◌/◌, ◌++◌, ◌∙◌, ◌∷◌, [], cond, true, sym, ap, subst, length, take, drop, get_or, length-append, length-drop, length-take-le, arith}
 use Rattle.std.specs.Prelude.{All, insert, set, slice_get, is_ok, vec_len}
 use Rattle.std.specs.Option.{option_to_list}
 use Rattle.std.proofs.lemmas.List.{take-append-drop, take_at}
@@ -10,7 +10,7 @@ use Rattle.rga_runs.specs.declared.row.Row.{Row}
 use Rattle.rga_runs.specs.Stretches.{IsOutside, AreApart}
 use Rattle.rga_runs.specs.Blocks.{row_of, AreHalfFull}
 use Rattle.rga_runs.specs.BlockRows.{items_of, numbers_of}
-use Rattle.rga_runs.specs.Bounds.{AreBounds, AreBoundsBelow}
+use Rattle.rga_runs.specs.Bounds.{AreBounds, AreBoundsBelow, AreBoundsBut}
 use Rattle.rga_runs.specs.Keyed.{look_in}
 use Rattle.rga_runs.specs.KeyRows.{keys_in}
 use Rattle.rga_runs.specs.Indexed.{IsHome, AreHome, AreKnown}
@@ -123,7 +123,7 @@ returns c =
     let rest = drop (length written) c.push.new.self.items in
     let kept : take c.push.new.self.len (written ++ rest) ≡ written = take_at written rest c.push.new.self.len (omega (arith, c.renumber.auto.places, c.deref_mut.ensures.len)) in
     let left = drop (length c.renew.new.bounds) c.add.new.bounds.items in
-    let renewed : take c.add.new.bounds.len (c.renew.new.bounds ++ left) ≡ c.renew.new.bounds = take_at c.renew.new.bounds left c.add.new.bounds.len (omega (arith, c.renew.auto.bounds, c.deref_mut-2.ensures.len)) in
+    let renewed : take c.add.new.bounds.len (c.renew.new.bounds ++ left) ≡ c.renew.new.bounds = take_at c.renew.new.bounds left c.add.new.bounds.len (omega (arith, c.renew.auto.bounds, c.deref_mut-3.ensures.len)) in
     let row_is : row_of (items_of new) ≡ row_of xs = ap row_of items ∙ split_row xs q low high there halved in
     let same = ap length row_is in
     let fewer : vec_len c.pop.new.self + 1 ≡ vec_len r.spares = omega (arith, c.pop.ensures.len, ap (λ o. length (option_to_list o)) c.unwrap-lower.ensures) in
@@ -141,7 +141,7 @@ returns c =
         keyed = omega (arith, c.rehome.ensures.len, c.requires.indexed.keyed, same);
         counted = omega (arith, c.requires.indexed.counted, same);
         halves = subst AreHalfFull (sym items) (AreHalfFull-split xs q low high c.requires.indexed.halves there (omega (arith, l, c.requires.least)) half);
-        bounds = subst (λ ms. AreBounds ms (items_of new)) (sym renewed) (subst (λ r. AreBounds c.renew.new.bounds (items_of r)) c.deref-3.ensures.value c.renew.ensures);
+        bounds = subst (λ ms. AreBounds ms (items_of new)) (sym renewed) (subst (λ r. AreBounds c.renew.new.bounds (items_of r)) c.deref-4.ensures.value c.renew.ensures);
       };
       room = λ n room. record {
         paid = λ few. omega (arith, room.paid (omega (arith, few, fewer)), same, c.split_at.ensures.len, fewer);
@@ -152,19 +152,27 @@ returns c =
       };
     }
 
-pub renew-requires : goal.renew-requires
-renew-requires c =
+pub lower_behind-requires : goal.lower_behind-requires
+lower_behind-requires c =
     let xs = items_of c.args.row.now.blocks.items in
     let q = c.args.q in
     let x = get_or xs q [] in
     let there = block_there c.args.row.now q c.requires.block in
     let ms = c.args.row.now.bounds in
-    let low = take c.args.cut x in
-    let high = drop c.args.cut x in
-    let halves = insert (set xs q low) (q + 1) high in
+    let but = bounds-split ms.items xs q (take c.args.cut x) (drop c.args.cut x) there (sym (take-append-drop c.args.cut x)) c.requires.indexed.bounds in
+    subst (λ r. AreBoundsBut (q / 32 + 1) r (items_of c.deref-3.result.now)) (sym c.deref_mut-2.ensures.value)
+    (subst (AreBoundsBut (q / 32 + 1) ms.items) (sym (ap items_of c.deref-3.ensures.value ∙ c.split_at.ensures.items)) but)
+
+pub renew-requires : goal.renew-requires
+renew-requires c =
+    let ms = c.args.row.now.bounds in
+    let ys = items_of c.split_at.new.blocks.items in
+    let low = c.lower_behind.new.bounds in
+    let left = drop (length low) ms.items in
+    let kept : take ms.len (low ++ left) ≡ low = take_at low left ms.len (omega (arith, c.lower_behind.auto.bounds, c.deref_mut-2.ensures.len)) in
     let from = 32 * c.min-from.result in
-    let before : AreBoundsBelow from ms.items halves = bounds-split ms.items xs q from low high there (omega (arith, c.min-from.ensures)) c.requires.indexed.bounds in
-    let few : from ≤ 32 * length ms.items = omega (arith, c.min-from.ensures, c.len.ensures, ms.ok) in
-    let added : AreBoundsBelow from c.add.new.bounds.items halves = c.add.ensures from halves few before in
-    subst (λ r. AreBoundsBelow from r (items_of c.deref-3.result.now)) (sym c.deref_mut-2.ensures.value)
-    (subst (AreBoundsBelow from c.add.new.bounds.items) (sym (ap items_of c.deref-3.ensures.value ∙ c.split_at.ensures.items)) added)
+    let bounds : AreBounds low ys = subst (λ r. AreBounds low (items_of r)) c.deref-3.ensures.value c.lower_behind.ensures in
+    let few : from ≤ 32 * length (take ms.len (low ++ left)) = omega (arith, c.min-from.ensures, c.len.ensures, ap length kept, c.lower_behind.auto.bounds, c.deref_mut-2.ensures.len, ms.ok) in
+    let before : AreBoundsBelow from (take ms.len (low ++ left)) ys = subst (λ r. AreBoundsBelow from r ys) (sym kept) (λ p d under within. bounds p d within) in
+    subst (λ r. AreBoundsBelow from r (items_of c.deref-4.result.now)) (sym c.deref_mut-3.ensures.value)
+    (subst (λ r. AreBoundsBelow from c.add.new.bounds.items (items_of r)) (sym c.deref-4.ensures.value) (c.add.ensures from ys few before))
