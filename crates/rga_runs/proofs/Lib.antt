@@ -19,6 +19,7 @@ pub mod Apart
 pub mod Homes
 pub mod Known
 pub mod Spots
+pub mod Taken
 pub mod Parted
 pub mod Whole
 pub mod Filled

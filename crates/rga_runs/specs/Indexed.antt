@@ -1,5 +1,5 @@
 -- A row of blocks with the index of its stretches, and memory for more.
-use Rattle.std.specs.Prelude.{◌≡◌, ◌+◌, ◌*◌, ◌^◌, ◌<◌, ◌≤◌, ℕ, List, [], All, length, get_or, slice_get, Option, Some, vec_len, vec_capacity}
+use Rattle.std.specs.Prelude.{◌≡◌, ◌+◌, ◌-◌, ◌*◌, ◌^◌, ◌<◌, ◌≤◌, ℕ, List, [], All, length, get_or, slice_get, Option, Some, min, vec_len, vec_capacity}
 use Rattle.std.proofs.Props.{props}
 use Rattle.bg_types.specs.Identifier.{Identifier}
 use Rattle.rga_runs.specs.declared.stretch.Stretch.{Stretch}
@@ -59,6 +59,17 @@ pub record HasPlace (r : Row) (n : ℕ) : Type 0 where
   pub blocks : vec_len r.blocks + vec_len r.spares ≤ vec_capacity r.blocks
   pub places : vec_len r.blocks + vec_len r.spares ≤ vec_capacity r.places
   pub few : vec_len r.blocks + vec_len r.spares < 2 ^ 32
+
+-- a row has at most n stretches more than an old one, and room for as many as that in all
+pub record TakesRoom (n : ℕ) (old new : Row) : Type 0 where
+  pub least : length (stretches_in old) ≤ length (stretches_in new)
+  pub most : length (stretches_in new) ≤ length (stretches_in old) + n
+  pub room : (m k : ℕ) → length (stretches_in new) + k ≤ length (stretches_in old) + m → HasRoom old m → HasRoom new k
+
+-- how many stretches n placings make at most, where so many characters have so many: two each, and no more in all than there are
+-- characters then, and one
+abbrev pub stretches_for : ℕ → ℕ → ℕ → ℕ
+stretches_for n characters stretches = min (2 * n) (characters + n + 1 - stretches)
 
 -- each has at most one proof, so that a ghost field may say it
 pub IsIndexed-prop : (r : Row) → IsProp (IsIndexed r)

@@ -16,7 +16,7 @@ ghost use Rattle.rga_runs.specs.Typed.{later, typed};
 ghost use Rattle.rga_runs.specs.Stretches.{parts_in, elements_in, are_stored, visible_in, IsOutside, IsPlaced, AreApart};
 ghost use Rattle.rga_runs.specs.Blocks.{at_spot};
 ghost use Rattle.rga_runs.specs.BlockRows.{items_of};
-ghost use Rattle.rga_runs.specs.Indexed.{stretches_in, IsIndexed, HasRoom};
+ghost use Rattle.rga_runs.specs.Indexed.{stretches_in, IsIndexed, HasRoom, TakesRoom};
 
 use crate::row::{Row, grow, hide_character, part, put_first, put_lone, room_behind, spot};
 use crate::skip::passed_from;
@@ -38,7 +38,7 @@ pub fn put(row: &mut Row, id: Id, parent: Place, start: usize, hidden: bool)
         (record { id = id; parent = parent; ch = ch; hidden = hidden }) }
     ensures stored { are_stored (start + 1) (stretches_in row.new) ≡ true }
     ensures indexed { IsIndexed row.new }
-    ensures room { (n : ℕ) → HasRoom row.old (n + 2) → HasRoom row.new n }
+    ensures room { TakesRoom 2 row.old row.new }
 {
     if row.blocks.is_empty() {
         put_first(row, id, parent, start, hidden);
@@ -66,7 +66,7 @@ fn place_for(row: &mut Row, id: Id, parent: &Place) -> (usize, usize)
     ensures outside { All (IsOutside id) (stretches_in row.old) → All (IsOutside id) (stretches_in row.new) }
     ensures apart { AreApart (stretches_in row.new) }
     ensures indexed { IsIndexed row.new }
-    ensures room { (n : ℕ) → HasRoom row.old (n + 1) → HasRoom row.new n }
+    ensures room { TakesRoom 1 row.old row.new }
 {
     let (b, j) = start(row, id, parent);
     passed_from(&row.blocks, &row.bounds, b, j, id)
@@ -91,7 +91,7 @@ fn start(row: &mut Row, id: Id, parent: &Place) -> (usize, usize)
     ensures outside { All (IsOutside id) (stretches_in row.old) → All (IsOutside id) (stretches_in row.new) }
     ensures apart { AreApart (stretches_in row.new) }
     ensures indexed { IsIndexed row.new }
-    ensures room { (n : ℕ) → HasRoom row.old (n + 1) → HasRoom row.new n }
+    ensures room { TakesRoom 1 row.old row.new }
 {
     // What is typed in a row is greater, and is not compared.
     if row.latest < id.counter() {
@@ -143,7 +143,7 @@ fn behind_parent(row: &mut Row, id: Id, parent: &Place) -> (usize, usize)
     ensures outside { All (IsOutside id) (stretches_in row.old) → All (IsOutside id) (stretches_in row.new) }
     ensures apart { AreApart (stretches_in row.new) }
     ensures indexed { IsIndexed row.new }
-    ensures room { (n : ℕ) → HasRoom row.old (n + 1) → HasRoom row.new n }
+    ensures room { TakesRoom 1 row.old row.new }
 {
     match parent {
         Place::Root => (0, 0),
@@ -170,7 +170,7 @@ fn behind(row: &mut Row, above: Id, id: Id) -> (usize, usize)
     ensures outside { All (IsOutside id) (stretches_in row.old) → All (IsOutside id) (stretches_in row.new) }
     ensures apart { AreApart (stretches_in row.new) }
     ensures indexed { IsIndexed row.new }
-    ensures room { (n : ℕ) → HasRoom row.old (n + 1) → HasRoom row.new n }
+    ensures room { TakesRoom 1 row.old row.new }
 {
     let (b, j, k) = spot(row, above).unwrap();
     if row.blocks[b].stretches[j].stops(k + 1, id) {
@@ -196,7 +196,7 @@ fn put_at_spot(row: &mut Row, b: usize, j: usize, id: Id, parent: Place, start: 
         (record { id = id; parent = parent; ch = ch; hidden = hidden }) }
     ensures stored { are_stored (start + 1) (stretches_in row.new) ≡ true }
     ensures indexed { IsIndexed row.new }
-    ensures room { (n : ℕ) → HasRoom row.old (n + 1) → HasRoom row.new n }
+    ensures room { TakesRoom 1 row.old row.new }
 {
     // Reading the identifier tells the proof that its counter fits.
     let _known = id.counter();
@@ -229,7 +229,7 @@ pub fn take_in(row: &mut Row, characters: &mut Vec<char>, last: Id, left: &mut C
         ≡ take at es ++ (typed (later last 1) (After last) 0 (take result (chars (chars_rest left.old))) ++ drop at es) }
     ensures stored { are_stored (length characters.new.items) (stretches_in row.new) ≡ true }
     ensures indexed { IsIndexed row.new }
-    ensures room { (n : ℕ) → HasRoom row.old n → HasRoom row.new n }
+    ensures room { TakesRoom 0 row.old row.new }
 {
     match room_behind(row, last, characters.len()) {
         Some((b, j, most)) => {
@@ -273,7 +273,7 @@ pub fn hide(row: &mut Row, id: Id) -> usize
     ensures visible { visible_in (stretches_in row.new) + result ≡ visible_in (stretches_in row.old) }
     ensures stored { (n : ℕ) → are_stored n (stretches_in row.old) ≡ true → are_stored n (stretches_in row.new) ≡ true }
     ensures indexed { IsIndexed row.new }
-    ensures room { (n : ℕ) → HasRoom row.old n → HasRoom row.new n }
+    ensures room { TakesRoom 0 row.old row.new }
 {
     let (b, j, k) = spot(row, id).unwrap();
     if row.blocks[b].stretches[j].hides(k) {

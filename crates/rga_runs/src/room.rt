@@ -7,7 +7,7 @@ ghost use Rattle.rga_runs.specs.Keyed.{look_in};
 ghost use Rattle.rga_runs.specs.Leaves.{all_keys};
 ghost use Rattle.rga_runs.specs.Blocks.{at_spot};
 ghost use Rattle.rga_runs.specs.BlockRows.{items_of, numbers_of};
-ghost use Rattle.rga_runs.specs.Indexed.{stretches_in, IsHome, AreKnown, IsIndexed, HasRoom, HasPlace};
+ghost use Rattle.rga_runs.specs.Indexed.{stretches_in, stretches_for, IsHome, AreKnown, IsIndexed, HasRoom, HasPlace};
 
 use crate::block::{Block, Spare};
 use crate::bounds::{self, NEIGHBOURS};
@@ -109,6 +109,15 @@ fn renumber(places: &mut [usize], blocks: &[Block], from: usize)
     for p in from..blocks.len() {
         places[blocks[p].number] = p;
     }
+}
+
+/// How many stretches n placings make at most, where so many characters have so many.
+pub fn most_for(n: usize, characters: usize, stretches: usize) -> usize
+    requires few { n ≤ 2 ^ 32 }
+    requires characters { characters ≤ 2 ^ 32 }
+    ensures { result ≡ stretches_for n characters stretches }
+{
+    (2 * n).min((characters + n + 1).saturating_sub(stretches))
 }
 
 /// Makes memory with which the next n stretches take none.

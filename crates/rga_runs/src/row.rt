@@ -7,7 +7,7 @@ ghost use Rattle.rga_runs.specs.Stretches.{IsOutside, AreApart};
 ghost use Rattle.rga_runs.specs.Changed.{IsGrown, IsHidden, IsParted, IsLone};
 ghost use Rattle.rga_runs.specs.Blocks.{at_spot};
 ghost use Rattle.rga_runs.specs.BlockRows.{items_of};
-ghost use Rattle.rga_runs.specs.Indexed.{stretches_in, IsIndexed, HasRoom};
+ghost use Rattle.rga_runs.specs.Indexed.{stretches_in, IsIndexed, HasRoom, TakesRoom};
 
 use crate::block::{Block, Spare};
 use crate::keys::{self, Keys};
@@ -113,7 +113,7 @@ pub fn put_first(row: &mut Row, id: Id, parent: Place, start: usize, hidden: boo
     requires room { HasRoom row.old 1 }
     ensures row { (s : Kept) × IsLone s id parent start hidden × (stretches_in row.new ≡ s ∷ []) }
     ensures indexed { IsIndexed row.new }
-    ensures room { (n : ℕ) → HasRoom row.old (n + 1) → HasRoom row.new n }
+    ensures room { TakesRoom 1 row.old row.new }
 {
     let stretches = row.spares.pop().unwrap().stretches;
     let block = Block::lone(stretches, 0, id, parent, start, hidden);
@@ -146,7 +146,7 @@ pub fn put_lone(
     ensures row { (s : Kept) × IsLone s id parent start hidden
         × (stretches_in row.new ≡ insert (stretches_in row.old) (at_spot (items_of row.old.blocks.items) b j) s) }
     ensures indexed { IsIndexed row.new }
-    ensures room { (n : ℕ) → HasRoom row.old (n + 1) → HasRoom row.new n }
+    ensures room { TakesRoom 1 row.old row.new }
 {
     let (q, at) = make_room(row, b, j);
     put_at(&mut row.blocks, q, at, id, parent, start, hidden);
@@ -175,7 +175,7 @@ pub fn part(row: &mut Row, b: usize, j: usize, k: usize) -> (usize, usize)
     ensures row { (d : Kept) → let p = at_spot (items_of row.old.blocks.items) b j in (s : Kept) × (rest : Kept) × IsParted (get_or (stretches_in row.old) p d) s rest k
         × (stretches_in row.new ≡ insert (slice_set (stretches_in row.old) p s) (p + 1) rest) }
     ensures indexed { IsIndexed row.new }
-    ensures room { (n : ℕ) → HasRoom row.old (n + 1) → HasRoom row.new n }
+    ensures room { TakesRoom 1 row.old row.new }
 {
     let (q, at) = make_room(row, b, j + 1);
     let first = part_at(&mut row.blocks, q, at - 1, k);
@@ -198,7 +198,7 @@ pub fn grow(row: &mut Row, b: usize, j: usize, more: usize)
     ensures row { (d : Kept) → let p = at_spot (items_of row.old.blocks.items) b j in (s : Kept) × IsGrown (get_or (stretches_in row.old) p d) s more
         × (stretches_in row.new ≡ slice_set (stretches_in row.old) p s) }
     ensures indexed { IsIndexed row.new }
-    ensures room { (n : ℕ) → HasRoom row.old n → HasRoom row.new n }
+    ensures room { TakesRoom 0 row.old row.new }
 {
     grow_at(&mut row.blocks, b, j, more);
     row.recent = (b, j);
@@ -214,7 +214,7 @@ pub fn hide_character(row: &mut Row, b: usize, j: usize, k: usize)
     ensures row { (d : Kept) → let p = at_spot (items_of row.old.blocks.items) b j in (s : Kept) × IsHidden (get_or (stretches_in row.old) p d) s k
         × (stretches_in row.new ≡ slice_set (stretches_in row.old) p s) }
     ensures indexed { IsIndexed row.new }
-    ensures room { (n : ℕ) → HasRoom row.old n → HasRoom row.new n }
+    ensures room { TakesRoom 0 row.old row.new }
 {
     hide_at(&mut row.blocks, b, j, k);
 }

@@ -24,13 +24,13 @@ ghost use Rattle.rga_runs.specs.Counters.{are_up_to};
 ghost use Rattle.rga_runs.specs.Filled.{filled};
 ghost use Rattle.rga_runs.specs.BlockRows.{items_of};
 ghost use Rattle.rga_runs.specs.Whole.{whole_parts};
-ghost use Rattle.rga_runs.specs.Indexed.{stretches_in, IsIndexed, IsIndexed-prop, HasRoom, HasRoom-prop};
+ghost use Rattle.rga_runs.specs.Indexed.{stretches_in, stretches_for, IsIndexed, IsIndexed-prop, HasRoom, HasRoom-prop};
 
 use crate::change::{hide, put, take_in};
 use crate::cut::FULL;
 use crate::keys;
 use crate::read::{count_before, nth_spot, visible_spot};
-use crate::room::make_memory;
+use crate::room::{make_memory, most_for};
 use crate::row::{Row, spot};
 use crate::stretch::weight;
 use bg_types::{Id, Memory, Place};
@@ -62,7 +62,7 @@ pub struct Runs {
     ghost counted: { vec_len characters ≡ length (elements_in characters.items (stretches_in row)) },
     ghost visible_are: { visible ≡ visible_in (stretches_in row) },
     ghost up_to: { are_up_to highest (elements_in characters.items (stretches_in row)) ≡ true },
-    ghost enough: { HasRoom row (2 * room) } by { HasRoom-prop row (2 * room) },
+    ghost enough: { HasRoom row (stretches_for room (vec_len characters) (length (stretches_in row))) } by { HasRoom-prop row (stretches_for room (vec_len characters) (length (stretches_in row))) },
     ghost enough_characters: { vec_len characters + room ≤ vec_capacity characters },
     ghost few: { vec_len characters + room ≤ 2 ^ 32 },
 }
@@ -162,7 +162,8 @@ impl Sequence for Runs {
             return Err(Memory);
         }
         self.characters.reserve(room)?;
-        make_memory(&mut self.row, self.alloc, 2 * room)?;
+        let stretches = most_for(room, self.characters.len(), self.row.count);
+        make_memory(&mut self.row, self.alloc, stretches)?;
         self.room = room;
         Ok(())
     }

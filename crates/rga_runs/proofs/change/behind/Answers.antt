@@ -18,6 +18,7 @@ use Rattle.rga_runs.proofs.Parted.{parted_elements, parted_place, parted_stored,
 use Rattle.rga_runs.proofs.Places.{place_cut, place_passed}
 use Rattle.rga_runs.proofs.Rows.{length-parts, rest_passes}
 use Rattle.rga_runs.proofs.Spots.{spot_there, spot_stands, read_row, place_is, part_within}
+use Rattle.rga_runs.proofs.Taken.{none_taken}
 use Rattle.rga_runs.proofs.change.behind.Goals as goal
 
 pub returns-then-stops-clause-place : goal.returns-then-stops-clause-place
@@ -126,3 +127,6 @@ returns-else-stops-clause-place c = λ chars stored.
     ap (λ n. length (joined (take n ys)) + prefix_len (is_greater c.args.id) (joined (drop n ys))) next
     ∙ place_passed c.args.above c.args.id ys p k (omega (arith, length-parts chars ss, at.there)) (part_within chars ss p k d stored at.there (at.inside d)) (place_is c.args.above chars ss p k stored c.requires.apart at)
     (rest_passes c.args.id chars ss p (k + 1) d stored at.there greater)
+
+pub returns-else-stops-clause-room : goal.returns-else-stops-clause-room
+returns-else-stops-clause-room c = none_taken 1 c.args.row.now

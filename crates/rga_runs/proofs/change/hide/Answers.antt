@@ -14,6 +14,7 @@ use Rattle.rga_runs.proofs.Places.{hidden_already}
 use Rattle.rga_runs.proofs.Rows.{length-parts}
 use Rattle.rga_runs.proofs.Spots.{spot_there, spot_stands, read_row, place_is, part_within, hidden_there, hidden_row, stored_same}
 use Rattle.rga_runs.proofs.Sums.{sum-set}
+use Rattle.rga_runs.proofs.Taken.{none_taken}
 use Rattle.rga_runs.proofs.change.hide.Goals as goal
 
 pub returns-then-hides-clause-elements : goal.returns-then-hides-clause-elements
@@ -86,3 +87,6 @@ returns-clause-stored c = λ n stored.
     let d = one_there ss p at.there in
     let h = c.hide_character.ensures.row d in
     ap (are_stored n) h.2 ∙ stored_same n ss p d h.0 stored at.there h.1.start h.1.count
+
+pub returns-then-hides-clause-room : goal.returns-then-hides-clause-room
+returns-then-hides-clause-room c = none_taken 0 c.args.row.now

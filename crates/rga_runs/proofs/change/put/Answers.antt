@@ -7,7 +7,7 @@ use Rattle.bg_types.specs.declared.op.Place.TheVariants.{Root, After}
 use Rattle.rga_tree.specs.declared.element.Element.{Element}
 use Rattle.rga_tree.specs.Row.{place_of}
 use Rattle.rga_runs.specs.Stretches.{IsOutside, IsPlaced}
-use Rattle.rga_runs.proofs.Spots.{less_room}
+use Rattle.rga_runs.proofs.Taken.{more_taken, both_taken, room_left}
 use Rattle.rga_runs.proofs.change.put.Goals as goal
 
 -- nothing stands in an empty row, so that its first element is a child of the root
@@ -23,10 +23,10 @@ pub put_at_spot-requires-clause-new : goal.put_at_spot-requires-clause-new
 put_at_spot-requires-clause-new c = c.place_for-b.ensures.outside c.requires.new
 
 pub put_at_spot-requires-clause-room : goal.put_at_spot-requires-clause-room
-put_at_spot-requires-clause-room c = c.place_for-b.ensures.room 1 c.requires.room
+put_at_spot-requires-clause-room c = room_left 1 1 c.args.row.now _ c.place_for-b.ensures.room c.requires.room
 
 pub returns-then-is_empty-clause-room : goal.returns-then-is_empty-clause-room
-returns-then-is_empty-clause-room c = λ n room. c.put_first.ensures.room n (less_room c.args.row.now (n + 2) (n + 1) (omega arith) room)
+returns-then-is_empty-clause-room c = more_taken 1 2 c.args.row.now _ (omega arith) c.put_first.ensures.room
 
 pub returns-else-is_empty-clause-room : goal.returns-else-is_empty-clause-room
-returns-else-is_empty-clause-room c = λ n room. c.put_at_spot.ensures.room n (c.place_for-b.ensures.room (n + 1) (less_room c.args.row.now (n + 2) (n + 1 + 1) (omega arith) room))
+returns-else-is_empty-clause-room c = both_taken 1 1 c.args.row.now _ _ c.place_for-b.ensures.room c.put_at_spot.ensures.room

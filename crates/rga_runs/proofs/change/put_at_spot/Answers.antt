@@ -14,7 +14,8 @@ use Rattle.rga_runs.proofs.BlockLists.{length-items}
 use Rattle.rga_runs.proofs.Chunks.{at_within, at_less}
 use Rattle.rga_runs.proofs.Places.{insert_part, insert_last}
 use Rattle.rga_runs.proofs.Rows.{length-parts, part_there, parts_set, parts_insert, parts_kept, stored_is, stored_more, stored_set, stored_insert, grown_part, lone_part}
-use Rattle.rga_runs.proofs.Spots.{read_stretch, read_row, less_room}
+use Rattle.rga_runs.proofs.Spots.{read_stretch, read_row}
+use Rattle.rga_runs.proofs.Taken.{more_taken}
 use Rattle.rga_runs.proofs.change.put_at_spot.Goals as goal
 
 pub grow-requires-clause-new : goal.grow-requires-clause-new
@@ -79,7 +80,7 @@ returns-then-goes_on-clause-stored c =
     (stored_is (c.args.start + 1) e.0 (omega (arith, start, e.1.start, e.1.count, ap (λ (s : Stretch). s.start) same, ap (λ (s : Stretch). s.count) same)))
 
 pub returns-then-goes_on-clause-room : goal.returns-then-goes_on-clause-room
-returns-then-goes_on-clause-room c = λ n room. c.grow.ensures.room n (less_room c.args.row.now (n + 1) n (omega arith) room)
+returns-then-goes_on-clause-room c = more_taken 0 1 c.args.row.now _ (omega arith) c.grow.ensures.room
 
 pub returns-else-j-gt0-clause-elements : goal.returns-else-j-gt0-clause-elements
 returns-else-j-gt0-clause-elements c = λ chars ch end.

@@ -17,6 +17,7 @@ use Rattle.rga_runs.proofs.Chunks.{get_or_row, at_less, one_there, any_item}
 use Rattle.rga_runs.proofs.Rows.{stored_is, stored_more, stored_set}
 use Rattle.rga_runs.proofs.TakenIn.{taken_in}
 use Rattle.rga_runs.proofs.Typed.{later-more}
+use Rattle.rga_runs.proofs.Taken.{none_taken}
 use Rattle.rga_runs.proofs.change.take_in.Goals as goal
 
 pub grow-requires-clause-new : goal.grow-requires-clause-new
@@ -101,3 +102,6 @@ pub returns-in-None-clause-elements : goal.returns-in-None-clause-elements
 returns-in-None-clause-elements c =
     let es = elements_in c.args.characters.now.items (row_of (items_of c.args.row.now.blocks.items)) in
     sym (take-append-drop (start_of (After c.args.last) es) es)
+
+pub returns-in-None-clause-room : goal.returns-in-None-clause-room
+returns-in-None-clause-room c = none_taken 0 c.args.row.now

@@ -20,6 +20,7 @@ use Rattle.rga_runs.proofs.Homes.{told, homes_set, home_grown}
 use Rattle.rga_runs.proofs.Known.{known_set}
 use Rattle.rga_runs.proofs.Low.{low_set}
 use Rattle.rga_runs.proofs.Neighbours.{bounds-same}
+use Rattle.rga_runs.proofs.Taken.{none_more}
 use Rattle.rga_runs.proofs.row.grow.Goals as goal
 
 pub returns : goal.returns
@@ -64,11 +65,11 @@ returns c =
         halves = subst AreHalfFull (sym e.2) (AreHalfFull-set xs b (set x j s) was.halves (omega (arith, length_set x j s)));
         bounds = subst (AreBounds r.bounds.items) (sym e.2) (bounds-same r.bounds.items xs b (set x j s) (λ m h. low_set m x j d s h c.requires.within is.first) was.bounds);
       };
-      room = λ n room. record {
+      room = none_more c.args.row.now _ (long) (λ n room. record {
         paid = λ few. omega (arith, room.paid few, long, c.grow_at.ensures.len);
         keys = λ few. omega (arith, room.keys few, long);
         blocks = omega (arith, room.blocks, c.grow_at.ensures.len, c.grow_at.ensures.capacity);
         places = omega (arith, room.places, c.grow_at.ensures.len);
         few = omega (arith, room.few, c.grow_at.ensures.len);
-      };
+      });
     }

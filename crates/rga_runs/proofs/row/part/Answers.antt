@@ -23,6 +23,7 @@ use Rattle.rga_runs.proofs.Known.{homes_parted, known_parted}
 use Rattle.rga_runs.proofs.Numbers.{few_numbers}
 use Rattle.rga_runs.proofs.Low.{low_insert, low_set, low_at, later_above}
 use Rattle.rga_runs.proofs.Neighbours.{bounds-same}
+use Rattle.rga_runs.proofs.Taken.{one_more}
 use Rattle.rga_runs.proofs.row.part.Goals as goal
 
 -- the stretch, where it stands once there is room behind it
@@ -149,7 +150,7 @@ returns c =
             (λ m h. low_insert m (set y i low) (i + 1) rest (low_set m y i d low h within is.first) (ap (λ f. not (is_lt (id_cmp f m))) is.rest_first ∙ later_above m (get_or y i d).first c.args.k (low_at m y i d h within)))
             was.bounds);
       };
-      room = λ n paid.
+      room = one_more c.args.row.now _ (omega (arith, long, ap length c.make_room-q.ensures.row)) (λ n paid.
           let room = c.make_room-q.ensures.room n paid in
           record {
             paid = λ few. omega (arith, room.paid few, long, c.part_at-first.ensures.len);
@@ -157,5 +158,5 @@ returns c =
             blocks = omega (arith, room.blocks, c.part_at-first.ensures.len, c.part_at-first.ensures.capacity);
             places = omega (arith, room.places, c.part_at-first.ensures.len);
             few = omega (arith, room.few, c.part_at-first.ensures.len);
-          };
+          });
     }

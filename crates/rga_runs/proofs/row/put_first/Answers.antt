@@ -12,6 +12,7 @@ use Rattle.rga_runs.specs.Indexed.{stretches_in, IsHome, AreHome, AreKnown}
 use Rattle.rga_runs.proofs.BlockLists.{length_none}
 use Rattle.rga_runs.proofs.Halves.{some_spare}
 use Rattle.rga_runs.proofs.Known.{home_lone, known_insert}
+use Rattle.rga_runs.proofs.Taken.{one_more}
 use Rattle.rga_runs.proofs.row.put_first.Goals as goal
 
 pub unwrap-stretches-requires : goal.unwrap-stretches-requires
@@ -59,13 +60,13 @@ returns c =
         halves = subst AreHalfFull (sym items) (λ q less. absurd (omega (arith, less)));
         bounds = λ p d less. absurd (omega (arith, ap length c.clear.ensures.items, less));
       };
-      room = λ n room. record {
+      room = one_more c.args.row.now _ (omega (arith, before, after)) (λ n room. record {
         paid = λ few. omega (arith, room.paid (omega (arith, few, fewer)), before, after, one, fewer, c.requires.none);
         keys = λ few. omega (arith, room.keys (omega (arith, few, c.put.ensures.spares)), before, after, c.put.ensures.room);
         blocks = omega (arith, room.blocks, c.push.ensures.capacity, one, fewer, c.requires.none);
         places = omega (arith, room.places, c.push-2.ensures.capacity, one, fewer, c.requires.none);
         few = omega (arith, room.few, one, fewer, c.requires.none);
-      };
+      });
     } where
       lone : (p : ℕ) → p < 1 → slice_get (0 ∷ []) (get_or (0 ∷ []) p 0) ≡ Some p
       lone zero h = refl

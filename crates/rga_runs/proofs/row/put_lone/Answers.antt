@@ -17,6 +17,7 @@ use Rattle.rga_runs.proofs.Halves.{AreHalfFull-set}
 use Rattle.rga_runs.proofs.Homes.{Gains, homes_insert}
 use Rattle.rga_runs.proofs.Known.{home_lone, known_insert}
 use Rattle.rga_runs.proofs.Numbers.{few_numbers}
+use Rattle.rga_runs.proofs.Taken.{one_more}
 use Rattle.rga_runs.proofs.row.put_lone.Goals as goal
 
 pub overflow_add-row : goal.overflow_add-row
@@ -86,7 +87,7 @@ returns c =
         halves = subst AreHalfFull (sym e.2) (AreHalfFull-set xs q (insert x at s) was.halves (omega (arith, length-insert x at s c.make_room-q.ensures.within)));
         bounds = subst (λ bounds. AreBounds bounds (items_of new)) (sym kept) (subst (AreBounds c.lower.new.bounds) (sym e.2) lowered);
       };
-      room = λ n paid.
+      room = one_more c.args.row.now _ (omega (arith, long, ap length c.make_room-q.ensures.row)) (λ n paid.
           let room = c.make_room-q.ensures.room n paid in
           record {
             paid = λ few. omega (arith, room.paid few, long, c.put_at.ensures.len);
@@ -94,5 +95,5 @@ returns c =
             blocks = omega (arith, room.blocks, c.put_at.ensures.len, c.put_at.ensures.capacity);
             places = omega (arith, room.places, c.put_at.ensures.len);
             few = omega (arith, room.few, c.put_at.ensures.len);
-          };
+          });
     }

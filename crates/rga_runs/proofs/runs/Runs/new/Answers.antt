@@ -1,5 +1,6 @@
 -- The goal of `new` that is answered by hand.
 use Rattle.std.proofs.Common.{◌≡◌, ◌∙◌, ℕ, List, [], Some, None, ap, subst, sym, length, arith}
+use Rattle.std.specs.Prelude.{vec_len}
 use Rattle.rga_tree.proofs.Interface.{KeepsWalk-nothing}
 use Rattle.rga_runs.specs.Stretches.{elements_in, are_stored, visible_in}
 use Rattle.rga_runs.specs.Counters.{are_up_to}
@@ -10,11 +11,13 @@ use Rattle.rga_runs.specs.declared.leaf.Leaf.{Leaf}
 use Rattle.rga_runs.specs.Keyed.{look_in}
 use Rattle.rga_runs.specs.Leaves.{all_keys}
 use Rattle.rga_runs.proofs.Homes.{told}
+use Rattle.rga_runs.proofs.Taken.{most_for}
 use Rattle.rga_runs.proofs.runs.Runs.new.Goals as goal
 
 pub invariant_of-result : goal.invariant_of-result
 invariant_of-result c =
     let chars = c.new-5.result.items in
+    let nothing_for = most_for 0 (vec_len c.new-5.result) (length (row_of (items_of c.new.result.items))) in
     let none : row_of (items_of c.new.result.items) ≡ [] = ap (λ bs. row_of (items_of bs)) c.new.ensures.items in
     record {
       keeps_walk = KeepsWalk-nothing (elements_in chars (row_of (items_of c.new.result.items))) (ap (elements_in chars) none);
@@ -33,8 +36,8 @@ invariant_of-result c =
       visible_are = sym (ap visible_in none);
       up_to = ap (λ ss. are_up_to 0 (elements_in chars ss)) none;
       enough = record {
-        paid = omega (arith, ap length none);
-        keys = omega (arith, ap length none, ap length c.none.ensures.leaves, c.none.result.leaves.ok, c.none.ensures.spares);
+        paid = λ some. absurd (omega (arith, some, nothing_for));
+        keys = λ some. absurd (omega (arith, some, nothing_for));
         blocks = omega (arith, c.new.ensures.len, c.new-2.ensures.len);
         places = omega (arith, c.new.ensures.len, c.new-2.ensures.len);
         few = omega (arith, c.new.ensures.len, c.new-2.ensures.len);

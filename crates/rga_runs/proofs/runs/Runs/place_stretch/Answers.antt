@@ -1,6 +1,6 @@
 -- The goals of `place_stretch` that are answered by hand.
 use Rattle.std.proofs.Common.{◌≡◌, ◌+◌, ◌-◌, ◌*◌, ◌≤◌, ◌∷◌, ◌∙◌, suc, true, false, sym, ap, refl, length, take, arith}
-use Rattle.std.specs.Prelude.{insert}
+use Rattle.std.specs.Prelude.{insert, vec_len}
 use Rattle.std.specs.Str.{chars}
 use Rattle.std.specs.Str.Iter.{chars_rest}
 use Rattle.std.proofs.lemmas.Str.{scalars-chars}
@@ -11,11 +11,12 @@ use Rattle.rga_tree.specs.Run.{AreNew}
 use Rattle.rga_tree.proofs.Interface.{has_row, next_new}
 use Rattle.rga_runs.specs.Stretches.{elements_in, are_stored}
 use Rattle.rga_runs.specs.Counters.{are_up_to}
-use Rattle.rga_runs.specs.Indexed.{stretches_in}
+use Rattle.rga_runs.specs.Indexed.{stretches_in, stretches_for}
 use Rattle.rga_runs.proofs.Counters.{up_more}
 use Rattle.rga_runs.proofs.RunPut.{one_put, others_outside, all_put, run_put}
 use Rattle.rga_runs.proofs.Rows.{length-row, parent_placed, visible_le}
 use Rattle.rga_runs.proofs.Spots.{less_room}
+use Rattle.rga_runs.proofs.Taken.{few_stretches, two_for, both_taken, room_for_less}
 use Rattle.rga_runs.proofs.TakenIn.{length-put_in, seen-put_in, up-put_in, scalars-take}
 use Rattle.rga_runs.proofs.Whole.{kept_apart, all_outside, seen_elements}
 use Rattle.rga_runs.proofs.runs.Runs.place_stretch.Goals as goal
@@ -33,6 +34,13 @@ put-requires-clause-new c =
     let ss = stretches_in self.row in
     let row = elements_in chars0 ss in
     all_outside c.args.id chars0 ss self.stored (kept_apart chars0 ss self.stored self.keeps_walk) (sym (has_row row c.args.id) ∙ next_new (operations_of row) c.args.id 1 (omega arith) (λ k less. c.requires.new k (omega (arith, less))))
+
+pub put-requires-clause-room : goal.put-requires-clause-room
+put-requires-clause-room c =
+    let self = c.args.self.now in
+    let ss = stretches_in self.row in
+    let few : length ss ≤ vec_len self.characters = omega (arith, few_stretches self.characters.items ss self.stored, self.counted) in
+    less_room self.row (stretches_for self.room (vec_len self.characters) (length ss)) 2 (two_for self.room (vec_len self.characters) (length ss) (omega (arith, c.requires.room)) few) self.enough
 
 pub take_in-more-requires-clause-stored : goal.take_in-more-requires-clause-stored
 take_in-more-requires-clause-stored c =
@@ -138,17 +146,19 @@ invariant_of-self c =
     let at = place_of parent id row in
     let long : length row2 ≡ length row + suc (length cs) = ap length all ∙ length-put_in row at id parent (ch ∷ cs) in
     let shown : seen row2 ≡ seen row + suc (length cs) = ap seen all ∙ seen-put_in row at id parent (ch ∷ cs) in
-    let fewer : 2 * (self.room - (1 + n)) + 2 ≤ 2 * self.room = omega (arith, c.requires.room, c.take_in-more.ensures.within) in
+    let counted : vec_len c.take_in-more.new.characters ≡ length row2 = omega (arith, long, few, self.counted, c.push_reserved.ensures.len, c.take_in-more.ensures.len) in
     let top = c.max-self.result in
     record {
       keeps_walk = done.0;
       stored = c.take_in-more.ensures.stored;
       indexed = c.take_in-more.ensures.indexed;
-      counted = omega (arith, long, few, self.counted, c.push_reserved.ensures.len, c.take_in-more.ensures.len);
+      counted = counted;
       visible_are = omega (arith, self.visible_are, seen_elements chars0 ss self.stored, seen_elements chars2 ss2 c.take_in-more.ensures.stored, shown, few);
       up_to = ap (are_up_to top) all
           ∙ up-put_in top row at id parent (ch ∷ cs) (up_more self.highest top row (omega (arith, c.max-self.ensures)) self.up_to) (omega (arith, c.max-self.ensures, c.counter-known.ensures.value, few));
-      enough = c.take_in-more.ensures.room (2 * (self.room - (1 + n))) (c.put.ensures.room (2 * (self.room - (1 + n))) (less_room self.row (2 * self.room) (2 * (self.room - (1 + n)) + 2) fewer self.enough));
+      enough = room_for_less self.room (self.room - (1 + n)) (vec_len self.characters) (vec_len c.take_in-more.new.characters) self.row c.take_in-more.new.row (omega (arith, c.requires.room))
+          (omega (arith, c.push_reserved.ensures.len, c.take_in-more.ensures.len, c.requires.room, c.take_in-more.ensures.within))
+          (omega (arith, few_stretches chars2 ss2 c.take_in-more.ensures.stored, counted)) (both_taken 2 0 self.row c.put.new.row c.take_in-more.new.row c.put.ensures.room c.take_in-more.ensures.room) self.enough;
       enough_characters = omega (arith, self.enough_characters, c.requires.room, c.push_reserved.ensures.len, c.push_reserved.ensures.capacity, c.take_in-more.ensures.len, c.take_in-more.ensures.capacity, c.take_in-more.ensures.within);
       few = omega (arith, self.few, c.requires.room, c.push_reserved.ensures.len, c.take_in-more.ensures.len, c.take_in-more.ensures.within);
     }

@@ -1,5 +1,6 @@
 -- The goals of `hide` that are answered by hand.
 use Rattle.std.proofs.Common.{◌*◌, ◌∙◌, true, false, sym, ap, subst, refl, length, get_or, arith}
+use Rattle.std.specs.Prelude.{vec_len}
 use Rattle.std.proofs.lemmas.List.{length-set}
 use Rattle.bg_types.specs.declared.op.Place.TheVariants.{Root}
 use Rattle.rga_tree.specs.declared.element.Element.{Element}
@@ -13,6 +14,7 @@ use Rattle.rga_runs.specs.Counters.{are_up_to}
 use Rattle.rga_runs.proofs.Counters.{up_set, up_at}
 use Rattle.rga_runs.specs.Indexed.{stretches_in}
 use Rattle.rga_runs.proofs.Rows.{is_placed}
+use Rattle.rga_runs.proofs.Taken.{room_for_same}
 use Rattle.rga_runs.proofs.Whole.{kept_apart}
 use Rattle.rga_runs.proofs.runs.RunsSequence.hide.Goals as goal
 
@@ -43,7 +45,7 @@ invariant_of-self c =
       visible_are = omega (arith, self.visible_are, c.hide.ensures.visible);
       up_to = ap (are_up_to self.highest) same
           ∙ up_set self.highest row at (record e { hidden = true }) self.up_to (up_at self.highest row at other self.up_to (until_some id row (sym (has_row row id) ∙ c.requires)));
-      enough = c.hide.ensures.room (2 * self.room) self.enough;
+      enough = room_for_same self.room (vec_len self.characters) self.row c.hide.new.row c.hide.ensures.room self.enough;
       enough_characters = self.enough_characters;
       few = self.few;
     }

@@ -1,6 +1,6 @@
 -- The goals of `place` that are answered by hand.
 use Rattle.std.proofs.Common.{◌≡◌, ◌+◌, ◌-◌, ◌*◌, ◌≤◌, ◌∙◌, true, sym, ap, refl, length, arith}
-use Rattle.std.specs.Prelude.{insert}
+use Rattle.std.specs.Prelude.{insert, vec_len}
 use Rattle.std.proofs.lemmas.List.Edits.{length-insert}
 use Rattle.rga_tree.specs.declared.element.Element.{Element}
 use Rattle.rga_tree.specs.Row.{place_of}
@@ -11,9 +11,10 @@ use Rattle.rga_sequence.proofs.Whole.{place_within}
 use Rattle.rga_runs.specs.Stretches.{elements_in, are_stored}
 use Rattle.rga_runs.specs.Counters.{are_up_to}
 use Rattle.rga_runs.proofs.Counters.{up_more, up_insert}
-use Rattle.rga_runs.specs.Indexed.{stretches_in}
+use Rattle.rga_runs.specs.Indexed.{stretches_in, stretches_for}
 use Rattle.rga_runs.proofs.Rows.{length-row, parent_placed, visible_le}
 use Rattle.rga_runs.proofs.Spots.{less_room}
+use Rattle.rga_runs.proofs.Taken.{few_stretches, two_for, room_for_less}
 use Rattle.rga_runs.proofs.Whole.{kept_apart, all_outside, seen_elements}
 use Rattle.rga_runs.proofs.runs.RunsSequence.place.Goals as goal
 
@@ -29,6 +30,13 @@ put-requires-clause-new c =
     let chars = self.characters.items in
     let ss = stretches_in self.row in
     all_outside c.args.id chars ss self.stored (kept_apart chars ss self.stored self.keeps_walk) (sym (has_row (elements_in chars ss) c.args.id) ∙ c.requires.new)
+
+pub put-requires-clause-room : goal.put-requires-clause-room
+put-requires-clause-room c =
+    let self = c.args.self.now in
+    let ss = stretches_in self.row in
+    let few : length ss ≤ vec_len self.characters = omega (arith, few_stretches self.characters.items ss self.stored, self.counted) in
+    less_room self.row (stretches_for self.room (vec_len self.characters) (length ss)) 2 (two_for self.room (vec_len self.characters) (length ss) (omega (arith, c.requires.room)) few) self.enough
 
 pub overflow_add-self : goal.overflow_add-self
 overflow_add-self c =
@@ -53,16 +61,17 @@ invariant_of-self c =
     let longer : length more.items ≡ c.len.result + 1 = omega (arith, more.ok, c.push_reserved.ensures.len, c.len.ensures) in
     let stored : are_stored (length more.items) new ≡ true = ap (λ m. are_stored m new) longer ∙ c.put.ensures.stored in
     let long = length-insert row at n (place_within c.args.parent c.args.id row start) in
-    let some : 2 * (self.room - 1) + 2 ≤ 2 * self.room = omega (arith, c.requires.room) in
+    let counted : vec_len more ≡ length (elements_in more.items new) = omega (arith, ap length new_row, long, self.counted, c.push_reserved.ensures.len) in
     record {
       keeps_walk = step.0;
       stored = stored;
       indexed = c.put.ensures.indexed;
-      counted = omega (arith, ap length new_row, long, self.counted, c.push_reserved.ensures.len);
+      counted = counted;
       visible_are = omega (arith, self.visible_are, seen_elements chars ss self.stored, seen_elements more.items new stored, ap seen new_row, seen-insert row at n, c.weight.ensures);
       up_to = ap (are_up_to c.max-self.result) new_row
           ∙ up_insert c.max-self.result row at n (up_more self.highest c.max-self.result row (omega (arith, c.max-self.ensures)) self.up_to) (omega (arith, c.max-self.ensures, c.counter-known.ensures.value));
-      enough = c.put.ensures.room (2 * (self.room - 1)) (less_room self.row (2 * self.room) (2 * (self.room - 1) + 2) some self.enough);
+      enough = room_for_less self.room (self.room - 1) (vec_len self.characters) (vec_len more) self.row c.put.new.row (omega (arith, c.requires.room)) (omega (arith, c.push_reserved.ensures.len, c.requires.room))
+          (omega (arith, few_stretches more.items new stored, counted)) c.put.ensures.room self.enough;
       enough_characters = omega (arith, self.enough_characters, c.requires.room, c.push_reserved.ensures.len, c.push_reserved.ensures.capacity);
       few = omega (arith, self.few, c.requires.room, c.push_reserved.ensures.len);
     }

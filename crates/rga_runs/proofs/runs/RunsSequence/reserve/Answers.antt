@@ -1,19 +1,21 @@
 -- The goals of `reserve` that are answered by hand.
-use Rattle.std.proofs.Common.{◌≡◌, ◌*◌, ◌∙◌, true, sym, ap, subst, length, arith}
+use Rattle.std.proofs.Common.{◌≡◌, ◌∙◌, true, sym, ap, subst, length, arith}
+use Rattle.std.specs.Prelude.{vec_len}
 use Rattle.rga_tree.specs.KeepsWalk.{KeepsWalk}
 use Rattle.rga_runs.specs.Stretches.{elements_in, are_stored, visible_in}
 use Rattle.rga_runs.specs.Counters.{are_up_to}
 use Rattle.rga_runs.specs.Blocks.{row_of}
 use Rattle.rga_runs.specs.BlockRows.{items_of}
-use Rattle.rga_runs.specs.Indexed.{stretches_in}
+use Rattle.rga_runs.specs.Indexed.{stretches_in, stretches_for, HasRoom}
 use Rattle.rga_runs.proofs.BlockLists.{few_stretches}
+use Rattle.rga_runs.proofs.Taken.{most_for}
 use Rattle.rga_runs.proofs.runs.RunsSequence.reserve.Goals as goal
 
 pub make_memory-requires-clause-counted : goal.make_memory-requires-clause-counted
 make_memory-requires-clause-counted c =
     let self = c.args.self.now in
     let room = self.enough in
-    omega (arith, few_stretches self.row.blocks.items, self.row.blocks.ok, room.few, c.if-len-room.false, c.len.ensures)
+    omega (arith, few_stretches self.row.blocks.items, self.row.blocks.ok, room.few, c.if-len-room.false, c.len.ensures, c.most_for-stretches.ensures, most_for c.max-room.result c.len-2.result self.row.count)
 
 pub invariant_of-self-in-Break-branch-2 : goal.invariant_of-self-in-Break-branch-2
 invariant_of-self-in-Break-branch-2 c =
@@ -26,6 +28,7 @@ invariant_of-self-in-Break-branch-2 c =
     let kept : more.items ≡ chars = c.reserve.ensures.items in
     let row : elements_in more.items (stretches_in new) ≡ elements_in chars ss = λ i. elements_in (kept i) (same i) in
     let stored : are_stored (length more.items) (stretches_in new) ≡ true = (λ i. are_stored (length (kept i)) (same i)) ∙ self.stored in
+    let long : vec_len self.characters ≡ vec_len more = omega (arith, c.reserve.ensures.len) in
     record {
       keeps_walk = subst KeepsWalk (sym row) self.keeps_walk;
       stored = stored;
@@ -33,7 +36,7 @@ invariant_of-self-in-Break-branch-2 c =
       counted = omega (arith, c.reserve.ensures.len, self.counted, ap length row);
       visible_are = self.visible_are ∙ sym (ap visible_in same);
       up_to = ap (are_up_to self.highest) row ∙ self.up_to;
-      enough = c.make_memory.ensures.kept (2 * self.room) self.enough;
+      enough = subst (HasRoom new) (λ i. stretches_for self.room (long i) (sym (ap length same) i)) (c.make_memory.ensures.kept (stretches_for self.room (vec_len self.characters) (length ss)) self.enough);
       enough_characters = omega (arith, self.enough_characters, c.reserve.ensures.len, c.reserve.ensures.capacity);
       few = omega (arith, self.few, c.reserve.ensures.len);
     }
@@ -56,7 +59,7 @@ invariant_of-self-2 c =
       counted = omega (arith, c.reserve.ensures.len, self.counted, ap length row);
       visible_are = self.visible_are ∙ sym (ap visible_in same);
       up_to = ap (are_up_to self.highest) row ∙ self.up_to;
-      enough = c.in_ok-make_memory.ensures.ok;
+      enough = subst (HasRoom new) (c.most_for-stretches.ensures ∙ (λ i. stretches_for c.max-room.result (c.len-2.ensures i) ((self.indexed.counted ∙ sym (ap length same)) i))) c.in_ok-make_memory.ensures.ok;
       enough_characters = omega (arith, c.in_ok-reserve.ensures.ok, c.reserve.ensures.len);
       few = omega (arith, c.if-len-room.false, c.len.ensures, c.reserve.ensures.len, self.few);
     }
