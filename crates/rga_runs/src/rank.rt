@@ -25,7 +25,7 @@ pub fn share(from: u64, to: u64, count: usize, at: u64) -> usize {
     (part / to.saturating_sub(from).max(1)) as usize
 }
 
-/// How many keys at the front aren't above an identifier. Identifiers of one site are often dense, and its place then is known.
+/// How many keys at the front aren't above an identifier. Identifiers of one site are often dense, or even, and its place then is known.
 pub fn not_above(keys: &[Key], id: Id) -> usize
     requires { IsNonDecreasingBy (λ k. rank k.first) keys.now }
     ensures within { result ≤ length keys.now }
@@ -33,15 +33,29 @@ pub fn not_above(keys: &[Key], id: Id) -> usize
     ensures above { (i : ℕ) (d : Kept) → result ≤ i → i < length keys.now → rank id < rank (get_or keys.now i d).first }
 {
     let last = rank_of(id);
-    let likely = likely_key(keys, last);
-    if ends_not_above(keys, likely, last) {
-        return likely + 1;
+    let dense = dense_key(keys, last);
+    if ends_not_above(keys, dense, last) {
+        return dense + 1;
+    }
+    let even = even_key(keys, last);
+    if ends_not_above(keys, even, last) {
+        return even + 1;
     }
     keys.partition_point(|k| rank_of(k.first) <= last)
 }
 
-/// Where the last key would stand that isn't above a number, if the numbers of keys rose evenly.
-fn likely_key(keys: &[Key], last: u64) -> usize {
+/// Where the last key would stand that isn't above a number, if the numbers of those behind it rose by one.
+fn dense_key(keys: &[Key], last: u64) -> usize {
+    match keys.last() {
+        Some(end) => {
+            (keys.len() - 1).saturating_sub(rank_of(end.first).saturating_sub(last) as usize)
+        }
+        None => 0,
+    }
+}
+
+/// The same if the numbers of all rose evenly.
+fn even_key(keys: &[Key], last: u64) -> usize {
     match keys.last() {
         Some(end) => share(
             rank_of(keys[0].first),
