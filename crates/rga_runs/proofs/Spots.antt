@@ -1,8 +1,8 @@
 -- Where an identifier stands among stretches.
-use Rattle.std.proofs.Common.{◌≡◌, ℕ, suc, ◌<◌, ◌≤◌, ◌+◌, true, false, List, [], length, take, drop, get_or, sym, ap, subst, ◌∙◌, arith}
+use Rattle.std.proofs.Common.{◌≡◌, ℕ, suc, ◌<◌, ◌≤◌, ◌+◌, true, false, List, [], length, take, drop, get_or, refl, sym, ap, subst, ◌∙◌, arith}
 use Rattle.std.specs.Ordering.{is_lt}
 use Rattle.std.specs.List.{prefix_len}
-use Rattle.std.specs.Prelude.{Option, Some, All, IfSome, set, vec_len}
+use Rattle.std.specs.Prelude.{Option, Some, None, is_some, All, IfSome, set, vec_len}
 use Rattle.bg_types.specs.Identifier.{Identifier, id_cmp}
 use Rattle.bg_types.specs.declared.op.Place.{Place}
 use Rattle.bg_types.proofs.Interface.{id_cmp-total}
@@ -60,6 +60,18 @@ spot_stands r q o v is block within inside there =
     (subst (λ z. IfSome z (λ s. s.1 < length (get_or (items_of r.blocks.items) s.0 []))) is within)
     (subst (λ z. IfSome z (λ s. (d : Stretch) → s.2 < (get_or (get_or (items_of r.blocks.items) s.0 []) s.1 d).count)) is inside)
     (subst (λ z. IfSome z (λ s. (d : Stretch) → q ≡ later (get_or (get_or (items_of r.blocks.items) s.0 []) s.1 d).first s.2)) is there)
+
+-- so not all stretches lack it
+pub stands_somewhere : (ss : List Stretch) (p k : ℕ) (q : Identifier) → StandsAt ss p k q → All (IsOutside q) ss → ⊥
+stands_somewhere ss p k q at out = let d = one_there ss p at.there in out p d at.there k (at.inside d) (at.is d)
+
+pub found_somewhere : (r : Row) (q : Identifier) (o : Option (ℕ × ℕ × ℕ)) → is_some o ≡ true → IfSome o (λ s. s.0 < vec_len r.blocks) → IfSome o (λ s. s.1 < length (get_or (items_of r.blocks.items) s.0 []))
+    → IfSome o (λ s. (d : Stretch) → s.2 < (get_or (get_or (items_of r.blocks.items) s.0 []) s.1 d).count)
+    → IfSome o (λ s. (d : Stretch) → q ≡ later (get_or (get_or (items_of r.blocks.items) s.0 []) s.1 d).first s.2)
+    → All (IsOutside q) (stretches_in r) → ⊥
+found_somewhere r q None some block within inside there = absurd cc
+found_somewhere r q (Some v) some block within inside there =
+    stands_somewhere (stretches_in r) (at_spot (items_of r.blocks.items) v.0 v.1) v.2 q (spot_stands r q (Some v) v refl block within inside there)
 
 -- a stretch that was read
 pub read_stretch : (bs : List Block) (b j : ℕ) (x : Block) (s d : Stretch) → b < length bs → j < length (get_or (items_of bs) b []) → x ≡ get_or bs b x → s ≡ get_or x.stretches.items j s → s ≡ get_or (get_or (items_of bs) b []) j d

@@ -1,6 +1,7 @@
 -- What stands in stretches, as a row of elements.
-use Rattle.std.proofs.Common.{◌≡◌, ℕ, ◌<◌, ◌+◌, true, false, List, [], length, take, get_or, Option, Some, None, refl, sym, ap, subst, ◌∙◌, arith}
-use Rattle.std.specs.Prelude.{All, IfSome, IfNone, is_some, slice_get, vec_len}
+use Rattle.std.proofs.Common.{◌≡◌, ℕ, ◌<◌, ◌+◌, Bool, true, false, List, [], length, take, get_or, Some, refl, sym, ap, subst, ◌∙◌, arith}
+use Rattle.std.specs.Prelude.{All, slice_get}
+use Rattle.std.specs.Bool.{OnTrue, OnFalse}
 use Rattle.bg_types.specs.Identifier.{Identifier}
 use Rattle.rga_tree.specs.declared.element.Element.{Element}
 use Rattle.rga_tree.specs.KeepsWalk.{KeepsWalk}
@@ -10,16 +11,12 @@ use Rattle.rga_sequence.specs.BlockRows.{has}
 use Rattle.rga_sequence.proofs.Spots.{slice_get_joined, offset_less}
 use Rattle.rga_sequence.proofs.Whole.{seen_all-joined}
 use Rattle.rga_runs.specs.declared.stretch.Stretch.{Stretch}
-use Rattle.rga_runs.specs.declared.row.Row.{Row}
 use Rattle.rga_runs.specs.Typed.{later, is_odd, bits_from, unset}
 use Rattle.rga_runs.specs.Stretches.{elements_of, parts_in, elements_in, are_stored, visible_in, IsOutside, AreApart}
-use Rattle.rga_runs.specs.Blocks.{at_spot}
-use Rattle.rga_runs.specs.BlockRows.{items_of}
-use Rattle.rga_runs.specs.Indexed.{stretches_in}
 use Rattle.rga_runs.proofs.Apart.{apart_of}
 use Rattle.rga_runs.proofs.Chunks.{any_item, one_there}
 use Rattle.rga_runs.proofs.Rows.{length-parts, part_there, outside_row, until_has, seen_row, seen_front, seen_in_part, stored_at, hidden_at, some_of_get}
-use Rattle.rga_runs.proofs.Spots.{StandsAt, spot_stands, place_is, part_within}
+use Rattle.rga_runs.proofs.Spots.{StandsAt, place_is, part_within}
 
 pub kept_apart : (chars : List ℕ) (ss : List Stretch) → are_stored (length chars) ss ≡ true → KeepsWalk (elements_in chars ss) → AreApart ss
 kept_apart chars ss stored keeps = apart_of chars ss stored keeps.distinct
@@ -46,15 +43,14 @@ all_outside q chars ss stored apart none = λ p d there k less is.
     let here = stands_has q chars ss p k stored apart at in
     absurd cc
 
--- whether a spot was found
-pub has_spot : (r : Row) (q : Identifier) (chars : List ℕ) (o : Option (ℕ × ℕ × ℕ)) → are_stored (length chars) (stretches_in r) ≡ true → AreApart (stretches_in r)
-    → IfSome o (λ s. s.0 < vec_len r.blocks) → IfSome o (λ s. s.1 < length (get_or (items_of r.blocks.items) s.0 []))
-    → IfSome o (λ s. (d : Stretch) → s.2 < (get_or (get_or (items_of r.blocks.items) s.0 []) s.1 d).count)
-    → IfSome o (λ s. (d : Stretch) → q ≡ later (get_or (get_or (items_of r.blocks.items) s.0 []) s.1 d).first s.2)
-    → IfNone o (All (IsOutside q) (stretches_in r)) → is_some o ≡ has q (elements_in chars (stretches_in r))
-has_spot r q chars None stored apart block within inside there absent = sym (outside_row q chars (stretches_in r) absent)
-has_spot r q chars (Some v) stored apart block within inside there absent =
-    sym (stands_has q chars (stretches_in r) (at_spot (items_of r.blocks.items) v.0 v.1) v.2 stored apart (spot_stands r q (Some v) v refl block within inside there))
+-- whether it was found to stand
+pub has_stands : (q : Identifier) (chars : List ℕ) (ss : List Stretch) (t : Bool) → are_stored (length chars) ss ≡ true → AreApart ss → OnTrue t (All (IsOutside q) ss → ⊥) → OnFalse t (All (IsOutside q) ss)
+    → t ≡ has q (elements_in chars ss)
+has_stands q chars ss false stored apart found lacks = sym (outside_row q chars ss lacks)
+has_stands q chars ss true stored apart found lacks = by_has (has q (elements_in chars ss)) refl where
+  by_has : (b : Bool) → has q (elements_in chars ss) ≡ b → true ≡ has q (elements_in chars ss)
+  by_has true is = sym is
+  by_has false is = absurd (found (all_outside q chars ss stored apart is))
 
 -- ---- what is read
 

@@ -1,15 +1,19 @@
 //! The row of blocks with the index of its stretches.
 
-ghost use Rattle.std.specs.Prelude.{◌≡◌, ◌+◌, ◌-◌, ◌^◌, ◌<◌, ◌≤◌, ◌∷◌, [], ℕ, All, length, get_or, insert, slice_set, false, IfSome, IfNone, vec_len};
+ghost use Rattle.std.specs.Prelude.{◌≡◌, ◌+◌, ◌-◌, ◌^◌, ◌<◌, ◌≤◌, ◌∷◌, [], ℕ, All, length, get_or, insert, slice_set, false, Some, IfSome, IfNone, vec_len};
+ghost use Rattle.std.specs.Bool.{OnTrue, OnFalse};
 ghost use Rattle.rga_runs.specs.declared.stretch.Stretch.{Stretch as Kept};
 ghost use Rattle.rga_runs.specs.Typed.{later, is_odd, bits_from};
 ghost use Rattle.rga_runs.specs.Stretches.{IsOutside, AreApart};
 ghost use Rattle.rga_runs.specs.Changed.{IsGrown, IsHidden, IsParted, IsLone};
 ghost use Rattle.rga_runs.specs.Blocks.{at_spot};
 ghost use Rattle.rga_runs.specs.BlockRows.{items_of};
+ghost use Rattle.rga_runs.specs.Keyed.{look_in};
+ghost use Rattle.rga_runs.specs.KeyRows.{keys_in};
 ghost use Rattle.rga_runs.specs.Indexed.{stretches_in, IsIndexed, HasRoom, TakesRoom};
 
 use crate::block::{Block, Spare};
+use crate::key::Key;
 use crate::keys::{self, Keys};
 use crate::order::{grow_at, hide_at, part_at, put_at};
 use crate::room::make_room;
@@ -44,13 +48,33 @@ pub fn spot(row: &Row, id: Id) -> Option<(usize, usize, usize)>
     ensures there { IfSome result (λ s. (d : Kept) → id ≡ later (get_or (get_or (items_of row.now.blocks.items) s.0 []) s.1 d).first s.2) }
     ensures absent { IfNone result (All (IsOutside id) (stretches_in row.now)) }
 {
+    match recent_spot(row, id) {
+        Some(found) => Some(found),
+        None => keyed_spot(row, id),
+    }
+}
+
+/// Whether an identifier stands.
+pub fn stands(row: &Row, id: Id) -> bool
+    requires indexed { IsIndexed row.now }
+    requires apart { AreApart (stretches_in row.now) }
+    ensures yes { OnTrue result (All (IsOutside id) (stretches_in row.now) → ⊥) }
+    ensures no { OnFalse result (All (IsOutside id) (stretches_in row.now)) }
+{
+    recent_spot(row, id).is_some() || is_keyed(row, id)
+}
+
+/// The same as `spot` of a character of the stretch in which one was put last, or of that before it.
+fn recent_spot(row: &Row, id: Id) -> Option<(usize, usize, usize)>
+    ensures block { IfSome result (λ s. s.0 < vec_len row.now.blocks) }
+    ensures within { IfSome result (λ s. s.1 < length (get_or (items_of row.now.blocks.items) s.0 [])) }
+    ensures inside { IfSome result (λ s. (d : Kept) → s.2 < (get_or (get_or (items_of row.now.blocks.items) s.0 []) s.1 d).count) }
+    ensures there { IfSome result (λ s. (d : Kept) → id ≡ later (get_or (get_or (items_of row.now.blocks.items) s.0 []) s.1 d).first s.2) }
+{
     let (b, j) = row.recent;
     match spot_in(row, b, j, id) {
         Some(found) => Some(found),
-        None => match spot_in(row, b, j.saturating_sub(1), id) {
-            Some(found) => Some(found),
-            None => keyed_spot(row, id),
-        },
+        None => spot_in(row, b, j.saturating_sub(1), id),
     }
 }
 
@@ -84,7 +108,21 @@ pub fn room_behind(row: &Row, last: Id, end: usize) -> Option<(usize, usize, usi
     Some((b, j, most))
 }
 
-/// The same by the keys: an identifier that isn't of the stretch to which its key leads stands nowhere.
+/// Whether an identifier stands, by the keys. One with which a stretch begins does, and the stretch isn't read.
+#[inline(never)]
+fn is_keyed(row: &Row, id: Id) -> bool
+    requires indexed { IsIndexed row.now }
+    requires apart { AreApart (stretches_in row.now) }
+    ensures yes { OnTrue result (All (IsOutside id) (stretches_in row.now) → ⊥) }
+    ensures no { OnFalse result (All (IsOutside id) (stretches_in row.now)) }
+{
+    match keys::find(&row.keys, id) {
+        Some(key) => key.first == id || spot_by(row, &key, id).is_some(),
+        None => false,
+    }
+}
+
+/// The same as `spot` by the keys.
 #[inline(never)]
 fn keyed_spot(row: &Row, id: Id) -> Option<(usize, usize, usize)>
     requires indexed { IsIndexed row.now }
@@ -96,6 +134,20 @@ fn keyed_spot(row: &Row, id: Id) -> Option<(usize, usize, usize)>
     ensures absent { IfNone result (All (IsOutside id) (stretches_in row.now)) }
 {
     let key = keys::find(&row.keys, id)?;
+    spot_by(row, &key, id)
+}
+
+/// The same by the key to which an identifier leads: where it isn't of the stretch of that, it stands nowhere.
+fn spot_by(row: &Row, key: &Key, id: Id) -> Option<(usize, usize, usize)>
+    requires indexed { IsIndexed row.now }
+    requires apart { AreApart (stretches_in row.now) }
+    requires found { look_in (keys_in row.now.keys) id ≡ Some (key.now.first, key.now.number) }
+    ensures block { IfSome result (λ s. s.0 < vec_len row.now.blocks) }
+    ensures within { IfSome result (λ s. s.1 < length (get_or (items_of row.now.blocks.items) s.0 [])) }
+    ensures inside { IfSome result (λ s. (d : Kept) → s.2 < (get_or (get_or (items_of row.now.blocks.items) s.0 []) s.1 d).count) }
+    ensures there { IfSome result (λ s. (d : Kept) → id ≡ later (get_or (get_or (items_of row.now.blocks.items) s.0 []) s.1 d).first s.2) }
+    ensures absent { IfNone result (All (IsOutside id) (stretches_in row.now)) }
+{
     let b = *row.places.get(key.number as usize)?;
     let block = row.blocks.get(b)?;
     let j = search::begun_by(&block.stretches, usize::from(key.hint), key.first)?;

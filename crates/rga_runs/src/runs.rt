@@ -31,7 +31,7 @@ use crate::cut::FULL;
 use crate::keys;
 use crate::read::{count_before, nth_spot, visible_spot};
 use crate::room::{make_memory, most_for};
-use crate::row::{Row, spot};
+use crate::row::{Row, spot, stands};
 use crate::stretch::weight;
 use bg_types::{Id, Memory, Place};
 use rga_tree::{Element, Fresh, Sequence, Unpacked};
@@ -249,7 +249,7 @@ impl Sequence for Runs {
 
     fn has(&self, id: Id) -> bool {
         // A new identifier most often has a greater counter than all.
-        id.counter() <= self.highest && spot(&self.row, id).is_some()
+        id.counter() <= self.highest && stands(&self.row, id)
     }
 
     fn element(&self, id: Id) -> Option<Element> {

@@ -6,7 +6,7 @@ use Rattle.rga_tree.proofs.Interface.{has_row}
 use Rattle.rga_runs.specs.Stretches.{elements_in}
 use Rattle.rga_runs.specs.Indexed.{stretches_in}
 use Rattle.rga_runs.proofs.Counters.{above_all}
-use Rattle.rga_runs.proofs.Whole.{kept_apart, has_spot}
+use Rattle.rga_runs.proofs.Whole.{kept_apart, has_stands}
 use Rattle.rga_runs.proofs.runs.RunsSequence.has.Goals as goal
 
 above_le : (a b : ℕ) → b < a → leb a b ≡ false
@@ -15,16 +15,15 @@ above_le a b above = by_test (leb a b) refl where
   by_test true is = let low = leb-true a b is in absurd (omega (arith, low, above))
   by_test false is = is
 
-pub spot-requires-clause-apart : goal.spot-requires-clause-apart
-spot-requires-clause-apart c = kept_apart c.args.self.now.characters.items (stretches_in c.args.self.now.row) c.args.self.now.stored c.args.self.now.keeps_walk
+pub stands-requires-clause-apart : goal.stands-requires-clause-apart
+stands-requires-clause-apart c = kept_apart c.args.self.now.characters.items (stretches_in c.args.self.now.row) c.args.self.now.stored c.args.self.now.keeps_walk
 
 pub returns-then-counter-self : goal.returns-then-counter-self
 returns-then-counter-self c =
     let self = c.args.self.now in
     let chars = self.characters.items in
     let ss = stretches_in self.row in
-    let f = c.spot.ensures in
-    c.is_some.ensures ∙ has_spot self.row c.args.id chars c.spot.result self.stored (kept_apart chars ss self.stored self.keeps_walk) f.block f.within f.inside f.there f.absent
+    has_stands c.args.id chars ss c.stands.result self.stored (kept_apart chars ss self.stored self.keeps_walk) c.stands.ensures.yes c.stands.ensures.no
     ∙ sym (has_row (elements_in chars ss) c.args.id)
 
 pub returns-else-counter-self : goal.returns-else-counter-self
