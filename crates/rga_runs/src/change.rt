@@ -93,10 +93,6 @@ fn start(row: &mut Row, id: Id, parent: &Place) -> (usize, usize)
     ensures indexed { IsIndexed row.new }
     ensures room { TakesRoom 1 row.old row.new }
 {
-    // What is typed in a row is greater, and is not compared.
-    if row.latest < id.counter() {
-        return behind_parent(row, id, parent);
-    }
     match behind_sibling(row, id, parent) {
         Some(spot) => spot,
         None => behind_parent(row, id, parent),
@@ -114,6 +110,10 @@ fn behind_sibling(row: &Row, id: Id, parent: &Place) -> Option<(usize, usize)>
         + prefix_len (λ e. is_lt (id_cmp id e.id)) (joined (drop p (parts_in chars (stretches_in row.now))))
         ≡ place_of parent.now id (elements_in chars (stretches_in row.now))) }
 {
+    // What is typed in a row is greater, and is not compared.
+    if row.latest < id.counter() {
+        return None;
+    }
     let (b, j) = row.recent;
     let block = row.blocks.get(b)?;
     let stretch = block.stretches.get(j)?;
