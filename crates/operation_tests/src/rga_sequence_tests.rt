@@ -367,6 +367,43 @@ fn stretches_stand_as_the_plain_row(rt: HostRuntime) {
     assert_none(&rt, "typed rows", typed);
 }
 
+/// Puts a row into both.
+fn put_both(runs: &mut Tried<Runs>, plain: &mut Tried<Plain>, row: Row) -> bool {
+    runs.put(row) && plain.put(row)
+}
+
+/// A chain of 1,400 characters, of which each is a stretch of its own in the end, in room that was made for so many placings alone:
+/// 700 that part a stretch, and then 700 more with 300 that part none.
+struct Parted;
+
+impl Trial<Runs> for Parted {
+    fn comes_out(&self, runs: &mut Tried<Runs>) -> bool {
+        let mut plain = Tried::new(runs.alloc);
+        let mut right = put_both(runs, &mut plain, ((1, 1), (0, 0), 'a', false));
+        for k in 1..1_400u32 {
+            right = put_both(runs, &mut plain, ((k + 1, 1), (k, 1), letter(k), false)) && right;
+        }
+        right = runs.reserve(700) && right;
+        for k in 1..=700u32 {
+            right = put_both(runs, &mut plain, ((2_000 + k, 2), (2 * k, 1), 'x', false)) && right;
+        }
+        right = runs.seq.room() == 0 && runs.reserve(1_000) && right;
+        for k in 1..=700u32 {
+            right = put_both(runs, &mut plain, ((3_000 + k, 2), (2 * k - 1, 1), 'y', false)) && right;
+        }
+        for k in 1..=300u32 {
+            right = put_both(runs, &mut plain, ((4_000 + k, 3), (0, 0), 'z', false)) && right;
+        }
+        right && runs.seq.room() == 0 && show_the_same(runs, &mut plain)
+    }
+}
+
+#[test]
+fn placings_that_part_stretches_are_paid_for(rt: HostRuntime) {
+    let parted = first_wrong::<Runs, Parted>(rt.alloc(), &[Parted]);
+    assert_none(&rt, "parted rows", parted);
+}
+
 #[test]
 fn blocks_stand_as_the_plain_row(rt: HostRuntime) {
     assert_blocks(&rt, &[Random]);
