@@ -10,6 +10,7 @@ use bg_types::{Bidi, Memory};
 use bidi_explicit::{Kept, LevelRun, Sequence};
 use bracket_pairs::resolve;
 use std::alloc::Global;
+use std::mem;
 use unicode_tables::Tables;
 
 /// The type of what is kept, after overrides.
@@ -28,9 +29,13 @@ fn append_types(kept: &[Option<Kept>], types: &mut Vec<Bidi>) -> Result<(), Memo
     ensures { OnOk result (types.new.items ≡ types.old.items ++ map type_of kept.now) }
 {
     types.reserve(kept.len())?;
+    // A list that is lent would have its length written at each push.
+    let empty = Vec::new(*types.allocator());
+    let mut own = mem::replace(types, empty);
     for place in kept {
-        types.push_reserved(class_of(*place));
+        own.push_reserved(class_of(*place));
     }
+    *types = own;
     Ok(())
 }
 

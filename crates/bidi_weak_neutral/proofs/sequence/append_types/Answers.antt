@@ -1,5 +1,5 @@
 -- A type more at each step.
-use Rattle.std.proofs.Common.{arith, ℕ, ◌+◌, ◌<◌, ◌≡◌, ◌∙◌, ap, sym, List, [], ◌∷◌, ◌++◌, map, take, length, get_or, append-nil, Option}
+use Rattle.std.proofs.Common.{arith, ℕ, ◌+◌, ◌<◌, ◌≡◌, ◌∙◌, ap, sym, List, [], ◌∷◌, ◌++◌, map, take, length, vec_capacity, vec_len, get_or, append-nil, Option}
 use Rattle.std.proofs.lemmas.List.{append_assoc, map-append, take_all, take_more}
 use Rattle.bg_types.specs.declared.class.Bidi.{Bidi}
 use Rattle.bidi_explicit.specs.declared.kept.Kept.{Kept}
@@ -13,11 +13,17 @@ made-on kept i d lt old types more made put =
     ∙ ap (λ l. old ++ l) (sym (map-append type_of (take i kept) (get_or kept i d ∷ [])) ∙ sym (ap (map type_of) (take_more kept i d lt)))
 
 pub loop-place-init : goal.loop-place-init
-loop-place-init c = record {
-  made = c.reserve.ensures.items ∙ sym (append-nil c.args.types.now.items);
-  count = omega (arith, c.reserve.ensures.len);
-  room = let same = c.reserve.ensures.len in let all = c.in_ok-reserve.ensures.ok in omega arith;
-}
+loop-place-init c =
+    let moved = c.replace-own.ensures.value in
+    let kept = c.in_ok-reserve.ensures.len in
+    let all = c.in_ok-reserve.ensures.ok in
+    let own_len = ap vec_len moved in
+    let own_room = ap vec_capacity moved in
+    record {
+      made = ap (λ v. v.items) moved ∙ c.in_ok-reserve.ensures.items ∙ sym (append-nil c.args.types.now.items);
+      count = omega arith;
+      room = omega arith;
+    }
 
 pub push_reserved-requires : goal.push_reserved-requires
 push_reserved-requires c =
@@ -29,7 +35,7 @@ pub loop-place-preserved : goal.loop-place-preserved
 loop-place-preserved c =
     record {
       made = made-on c.args.kept.now c.loop-place.place-index _ c.loop-place-test.true _ _ _ c.loop-place.invariant.made
-          (c.push_reserved.ensures.items ∙ ap (λ t. c.loop-place.types.items ++ t ∷ []) c.class_of.ensures);
+          (c.push_reserved.ensures.items ∙ ap (λ t. c.loop-place.own.items ++ t ∷ []) c.class_of.ensures);
       count = let one = c.push_reserved.ensures.len in let so_far = c.loop-place.invariant.count in omega arith;
       room = let same = c.push_reserved.ensures.capacity in let all = c.loop-place.invariant.room in omega arith;
     }
