@@ -389,7 +389,11 @@ impl Trial<Runs> for Parted {
         }
         right = runs.seq.room() == 0 && runs.reserve(1_000) && right;
         for k in 1..=700u32 {
-            right = put_both(runs, &mut plain, ((3_000 + k, 2), (2 * k - 1, 1), 'y', false)) && right;
+            right = put_both(
+                runs,
+                &mut plain,
+                ((3_000 + k, 2), (2 * k - 1, 1), 'y', false),
+            ) && right;
         }
         for k in 1..=300u32 {
             right = put_both(runs, &mut plain, ((4_000 + k, 3), (0, 0), 'z', false)) && right;
