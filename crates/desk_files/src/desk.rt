@@ -6,9 +6,12 @@ ghost use Rattle.rga_tree.specs.TextOf.{text};
 
 use bg_types::Memory;
 use desk_replica::Replica;
-// The one place that names the sequence of the desks of a run.
-use rga_sequence::Blocks as Elements;
+use rga_runs::Runs;
+use rga_tree::Fresh;
 use std::alloc::Global;
+
+/// The sequence of the desks of a run: no other place names it.
+pub type Elements = Runs;
 
 /// A desk of a run.
 pub type Desk = Replica<Elements>;
@@ -18,7 +21,7 @@ pub fn new_desk(alloc: Global, site: u16, key: u128) -> Desk
     requires { 0 < site }
     ensures { result ≡ fresh site }
 {
-    Replica::new(alloc, site, Elements::keyed(alloc, key), key)
+    Replica::new(alloc, site, Elements::fresh(alloc, key), key)
 }
 
 /// Lets a desk go. Who owns one calls this at its one way out: what it takes to drop a desk is then proved here alone.

@@ -12,7 +12,7 @@ mod run_fault;
 mod schedule;
 mod schedule_fault;
 
-pub use desk::{Desk, let_go, new_desk, read_text};
+pub use desk::{Desk, Elements, let_go, new_desk, read_text};
 pub use desk_replica::TakeFault;
 pub use engine::{text, text_from};
 pub use in_memory::{InMemory, readers_of};
