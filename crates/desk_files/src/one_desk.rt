@@ -16,17 +16,19 @@ ghost use Rattle.desk_files.specs.declared.run_fault.RunFault.TheVariants.{Memor
 use crate::desk::{Desk, let_go, new_desk, read_text};
 use crate::reading::{PIECE, feed_piece, finish};
 use crate::run_fault::RunFault;
-use bg_types::{Id, Memory, Op, OpView, Place, laws as sets};
+use bg_types::{Id, Memory, Op, OpView, laws as sets};
 use desk_replica::{MOST_OPERATIONS, TakeFault, laws as desks};
 use op_codec::{LONGEST_FILE, Source, Stream};
 use std::alloc::Global;
-use std::cmp::Reverse;
 
 /// The site of the one desk.
 const SITE: u16 = 1;
 
 /// How many numbers a site may have.
 const SITES: u64 = 65_536;
+
+/// How many counters in a row are near each other: some bursts of a hand, and so few that little of what is sorted waits.
+const NEAR: u32 = 256;
 
 /// By how many of the first operations it is told whether they came out of order.
 const LOOKED_AT: usize = 32;
@@ -195,38 +197,39 @@ fn put_in_order(desk: &Desk, ops: &mut [Op])
     }
 }
 
-/// An operation's turn among those that are sorted: after what it names, and of the children of one parent the
-/// greatest first, so that each goes right behind the one before.
-fn turn(op: &Op) -> (u64, Reverse<u64>) {
+/// An operation's turn among those that are sorted: by counters, but where these are near each other site by site, so that what
+/// a site typed in a row comes in a row. A deletion comes right behind what it names.
+fn turn(op: &Op) -> (u64, u64) {
     match op.view() {
-        OpView::Insert { id, parent, .. } => (behind(parent), Reverse(number(id))),
-        OpView::Erase { target } => (number(target), Reverse(0)),
+        OpView::Insert { id, .. } => (group(id), 2 * u64::from(id.counter())),
+        OpView::Erase { target } => (group(target), 2 * u64::from(target.counter()) + 1),
     }
 }
 
-/// The number of the parent, or 0 for the root.
-fn behind(parent: Place) -> u64 {
-    match parent {
-        Place::Root => 0,
-        Place::After(above) => number(above),
-    }
+/// The number of the identifiers of one site whose counters are near each other.
+fn group(id: Id) -> u64 {
+    u64::from(id.counter() / NEAR) * SITES + u64::from(id.site())
 }
 
-/// An identifier as one number, in their order.
-fn number(id: Id) -> u64 {
-    u64::from(id.counter()) * SITES + u64::from(id.site())
-}
-
-/// Whether of the first operations more than a quarter have a smaller identifier than the one before.
+/// Whether of the first operations more than a quarter insert under a smaller identifier than the one before names.
 fn came_out_of_order(ops: &[Op]) -> bool {
     let first = &ops[..ops.len().min(LOOKED_AT)];
     let mut falls = 0;
     for k in 1..first.len() {
-        if named(&first[k]) < named(&first[k - 1]) {
+        if falls_back(&first[k], &first[k - 1]) {
             falls += 1;
         }
     }
     falls > first.len() / 4
+}
+
+/// Whether an operation inserts under a smaller identifier than the one before it names. Deletions come in no order of what
+/// they name.
+fn falls_back(op: &Op, before: &Op) -> bool {
+    match op.view() {
+        OpView::Insert { id, .. } => id < named(before),
+        OpView::Erase { .. } => false,
+    }
 }
 
 /// The identifier that an operation inserts or deletes.
