@@ -99,7 +99,7 @@ impl<S: Sequence> Replica<S> {
 
     /// Pays in advance for n new operations (at most 1,000,000), those that are spare included: then
     /// n are taken, typed or erased without memory. After `Memory` the desk is as it was.
-    /// Cost: O(n), memory for them: each table's at once, and over `Blocks` a block for each 256.
+    /// Cost: O(n), memory for them: each table's at once; over `Blocks` a block for each 256, over `Runs` for the worst.
     pub fn reserve(&mut self, n: usize) -> Result<(), Memory>
         requires { n ≤ 1_000_000 }
         ensures ok { OnOk result (self.new.spare ≡ max self.old.spare n) }

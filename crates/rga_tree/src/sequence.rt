@@ -39,7 +39,7 @@ pub trait Sequence {
 
     /// Makes room for n placings (at most 4,000,000). If memory is refused, content and room
     /// stay as they were.
-    /// Cost: memory for n elements; `Blocks`: paid once, O(n).
+    /// Cost: memory for n elements; `Blocks`, `Runs`: paid once, O(n).
     fn reserve(&mut self, n: usize) -> Result<(), Memory>
         requires { n ≤ 4_000_000 }
         ensures content { content self.new ≡ content self.old }
@@ -56,7 +56,8 @@ pub trait Sequence {
     /// Places a new element below its parent, which is the root or already placed. Takes no
     /// memory, and uses up one placing of the room.
     /// Cost: `Blocks`: O(1) expected to the parent's block, O(512) in it, O(1) for 32 blocks that are passed or for
-    /// one, now and then a split; `Plain`: O(n).
+    /// one, now and then a split; `Runs`: O(log n) to the block, O(256) in it, O(1) for one that is passed, now and
+    /// then a split; `Plain`: O(n).
     fn place(&mut self, id: Id, parent: Place, ch: char, hidden: bool)
         requires parent { stands_in (content self.old) parent ≡ true }
         requires before { MayFollow parent id }
@@ -93,7 +94,7 @@ pub trait Sequence {
     }
 
     /// Hides a placed element, which may be hidden already. It stays where it is.
-    /// Cost: `Blocks`: O(512), O(1) where the element was put in last; `Plain`: O(n).
+    /// Cost: `Blocks`: O(512), `Runs`: O(log n + 256), both O(1) where the element was put in last; `Plain`: O(n).
     fn hide(&mut self, id: Id)
         requires { map.contains_key (content self.old).ins id ≡ true }
         ensures content { content self.new ≡ with_operation (content self.old) (OpView.Erase id) }
@@ -101,12 +102,12 @@ pub trait Sequence {
         ensures looked { looked self.new ≡ looked self.old };
 
     /// How many elements are visible.
-    /// Cost: `Blocks`: O(1); `Plain`: O(n).
+    /// Cost: `Blocks`, `Runs`: O(1); `Plain`: O(n).
     fn len(&self) -> usize
         ensures { result ≡ length (visible (content self.now)) };
 
     /// The identifier of visible element k.
-    /// Cost: `Blocks`: O(n / 256 + 512); `Plain`: O(n).
+    /// Cost: `Blocks`: O(n / 256 + 512); `Runs`: O(n / 128 + 256) for n stretches; `Plain`: O(n).
     fn id_at(&mut self, k: usize) -> Id
         requires { k < length (visible (content self.old)) }
         ensures value { slice_get (visible_ids (content self.old)) k ≡ Some result }
@@ -132,7 +133,7 @@ pub trait Sequence {
 
     /// How many visible elements stand before the one with this identifier, which is placed. Takes no memory, and
     /// counts as no look.
-    /// Cost: `Blocks`: O(n / 16,384 + 512); `Plain`: O(n).
+    /// Cost: `Blocks`: O(n / 16,384 + 512); `Runs`: O(n / 128 + 256) for n stretches; `Plain`: O(n).
     fn visible_before(&self, id: Id) -> usize
         requires { map.contains_key (content self.now).ins id ≡ true }
         ensures { result ≡ visible_before (content self.now) id };
@@ -142,7 +143,7 @@ pub trait Sequence {
         ensures { result ≡ length (elements (content self.now)) };
 
     /// Element j, counting hidden ones.
-    /// Cost: `Blocks`: O(n / 256); `Plain`: O(1).
+    /// Cost: `Blocks`: O(n / 256); `Runs`: O(n / 128 + 256) for n stretches; `Plain`: O(1).
     fn nth(&self, j: usize) -> Element
         requires { j < length (elements (content self.now)) }
         ensures { slice_get (elements (content self.now)) j ≡ Some result };
@@ -164,12 +165,12 @@ pub trait Sequence {
         ensures { result.now ≡ get_or (parts self.now) p [] };
 
     /// Whether the identifier's insertion is placed.
-    /// Cost: `Blocks`: O(1) expected; `Plain`: O(n).
+    /// Cost: `Blocks`: O(1) expected; `Runs`: O(log n + 256); `Plain`: O(n).
     fn has(&self, id: Id) -> bool
         ensures { result ≡ map.contains_key (content self.now).ins id };
 
     /// The placed element with this identifier.
-    /// Cost: `Blocks`: O(512), O(1) where the element was put in last; `Plain`: O(n).
+    /// Cost: `Blocks`: O(512), `Runs`: O(log n + 256), both O(1) where the element was put in last; `Plain`: O(n).
     fn element(&self, id: Id) -> Option<Element>
         ensures { result ≡ option_map (λ node. element_of (content self.now) (id, node))
             (map.get (content self.now).ins id) };
