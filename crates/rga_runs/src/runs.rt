@@ -46,7 +46,6 @@ const FEW: usize = 16;
 
 /// The elements of a tree in the order of its walk, in stretches: what one site typed in a row takes the room of its characters.
 /// Places count elements, from 0.
-#[derive(Drop)]
 pub struct Runs {
     row: Row,
     /// The characters of all elements, in the order of their arrival.
@@ -65,6 +64,20 @@ pub struct Runs {
     ghost enough: { HasRoom row (stretches_for room (vec_len characters) (length (stretches_in row))) } by { HasRoom-prop row (stretches_for room (vec_len characters) (length (stretches_in row))) },
     ghost enough_characters: { vec_len characters + room ≤ vec_capacity characters },
     ghost few: { vec_len characters + room ≤ 2 ^ 32 },
+}
+
+// Written out: a crate above then proves the call, and nothing of the parts.
+impl Drop for Runs {
+    fn drop(self) {
+        let Runs {
+            row: _,
+            characters: _,
+            alloc: _,
+            visible: _,
+            room: _,
+            highest: _,
+        } = self;
+    }
 }
 
 impl Runs {
