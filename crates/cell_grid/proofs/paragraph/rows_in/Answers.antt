@@ -1,7 +1,6 @@
 -- A row for each line.
-use Rattle.std.proofs.Common.{◌≡◌, ℕ, ◌+◌, ◌<◌, ◌≤◌, ◌∷◌, [], ◌++◌, List, length, map, take, drop, get_or, refl, sym, ap, subst, ◌∙◌, arith}
+use Rattle.std.proofs.Common.{◌+◌, ◌<◌, ◌∷◌, [], ◌++◌, List, length, map, take, drop, get_or, refl, sym, ap, subst, ◌∙◌, arith}
 use Rattle.std.proofs.lemmas.List.{map-append}
-use Rattle.unicode_tables.specs.Tables.{TableValues}
 use Rattle.line_break.specs.declared.line.Line.{Line}
 use Rattle.line_break.specs.Lines.{lines}
 use Rattle.cell_grid.specs.Rows.{DrawnRow, row_of}

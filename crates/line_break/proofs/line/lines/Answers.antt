@@ -1,5 +1,5 @@
 -- The lines of the outlined paragraph.
-use Rattle.std.proofs.Common.{◌≤◌, slice_range, map, length, sym, subst, ap, ◌∙◌, arith}
+use Rattle.std.proofs.Common.{slice_range, map, length, sym, ap, ◌∙◌, arith}
 use Rattle.std.specs.List.{flat_map}
 use Rattle.paragraphs.specs.Clusters.{clusters}
 use Rattle.paragraphs.specs.Spans.{spans}

@@ -1,7 +1,6 @@
 -- At first all lines are left.
-use Rattle.std.proofs.Common.{◌≡◌, ◌<◌, ℕ, List, length, [], ◌++◌, ◌∷◌, sym, ap, subst, ◌∙◌}
+use Rattle.std.proofs.Common.{List, length, [], ◌++◌, ◌∷◌, sym, ap, subst, ◌∙◌}
 use Rattle.std.proofs.lemmas.Bool.{eqb-true}
-use Rattle.line_break.specs.declared.opportunity.Boundary.{Boundary}
 use Rattle.line_break.specs.declared.opportunity.Opportunity.{Opportunity}
 use Rattle.line_break.specs.Cursors.{IsBefore}
 use Rattle.line_break.specs.LineClusters.{line_clusters}
