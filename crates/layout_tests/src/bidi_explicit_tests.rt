@@ -220,6 +220,15 @@ fn the_greatest_depth(rt: HostRuntime) {
 /// What is seen of 130 isolates around a letter.
 struct Isolates;
 
+/// How many places a sequence has.
+fn count_of(sequence: &Sequence) -> usize {
+    let mut count = 0usize;
+    for _place in sequence.places() {
+        count = count.saturating_add(1);
+    }
+    count
+}
+
 /// Whether the letter has the greatest level, and the isolates that fit have sequences.
 fn are_isolates(embedded: &Embedded) -> bool {
     let Some(Some(letter)) = embedded.places().get(130) else {
@@ -228,7 +237,7 @@ fn are_isolates(embedded: &Embedded) -> bool {
     letter.level == 125
         && letter.class == L
         && embedded.sequence_count() == 64
-        && embedded.sequence(63).places().count() == 135
+        && count_of(&embedded.sequence(63)) == 135
 }
 
 /// Whether this is told of a sequence that is there.
