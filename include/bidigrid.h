@@ -14,10 +14,10 @@
  * alone answers its number. After a fault each handle holds what it held before, where the call doesn't say more, and
  * one that was empty is empty.
  *
- * Out values. What a call tells it writes on every way out: the answer, or zeros after a fault. NULL may be passed
+ * Out values. They are written on every way out: what was asked for, or zeros after a fault. NULL may be passed
  * for what isn't wanted. A caret or position that is moved is read first; it stays as it was after a fault.
  *
- * Buffers. A call that writes bytes is given a buffer and its length, and tells in `*size` how many bytes there are.
+ * Buffers. A call that writes bytes is given a buffer and its length, and writes to `*size` how many bytes there are.
  * Where the buffer is too short nothing is written, and the answer is BIDIGRID_FAULT_SHORT_BUFFER with the size that
  * is wanted; so ask with NULL and 0 first. Where there are no bytes at all, as of an empty text, that is answered
  * with BIDIGRID_OK and 0. After every other fault the size is 0. What is read may also be NULL where its length is 0.
@@ -51,7 +51,7 @@ extern "C" {
 #define BIDIGRID_NONE { 0 }
 
 /* The widths, in columns; the longest text that is drawn, and the longest message that is read, in bytes; the greatest
- * site; and the most operations that a desk keeps, deletions included. */
+ * site; and the most operations that a desk may have, deletions included. */
 #define BIDIGRID_MIN_WIDTH 2
 #define BIDIGRID_MAX_WIDTH 500
 #define BIDIGRID_MAX_TEXT_SIZE 4000000
@@ -64,7 +64,7 @@ enum {
     BIDIGRID_OK = 0,
     BIDIGRID_FAULT_MEMORY = 9,               /* malloc or realloc answered NULL */
     BIDIGRID_FAULT_EMPTY_HANDLE = 101,       /* a handle holds nothing */
-    BIDIGRID_FAULT_SHORT_BUFFER = 102,       /* the buffer is too short; what is wanted is told */
+    BIDIGRID_FAULT_SHORT_BUFFER = 102,       /* the buffer is too short; the size that is wanted is written */
     BIDIGRID_FAULT_NOT_UTF8 = 103,           /* the text's bytes are not UTF-8 */
     BIDIGRID_FAULT_TEXT_TOO_LONG = 104,      /* the text has more than BIDIGRID_MAX_TEXT_SIZE bytes */
     BIDIGRID_FAULT_BAD_WIDTH = 105,          /* the width is not BIDIGRID_MIN_WIDTH to BIDIGRID_MAX_WIDTH */
@@ -79,8 +79,8 @@ enum {
     BIDIGRID_FAULT_NOT_PLACED = 114,         /* the desk has no such character yet */
     BIDIGRID_FAULT_TOO_MANY = 115,           /* more than BIDIGRID_MAX_OPERATIONS */
     BIDIGRID_FAULT_MESSAGE_TOO_LONG = 116,   /* a message: more than BIDIGRID_MAX_MESSAGE_SIZE bytes; it is not read */
-    BIDIGRID_FAULT_IDENTIFIER_REUSED = 201,  /* an operation: its identifier is kept with another parent or character */
-    BIDIGRID_FAULT_FULL = 202,               /* more than BIDIGRID_MAX_OPERATIONS would be kept */
+    BIDIGRID_FAULT_IDENTIFIER_REUSED = 201,  /* an operation: its identifier is there with another parent or character */
+    BIDIGRID_FAULT_FULL = 202,               /* there would be more than BIDIGRID_MAX_OPERATIONS */
     BIDIGRID_FAULT_COUNTER_SPENT = 203,      /* the next counter is above 4294967295 */
     BIDIGRID_FAULT_BAD_MAGIC = 301,          /* a message: it begins with other bytes than BGOP */
     BIDIGRID_FAULT_BAD_VERSION = 302,        /* a version other than 1 and 2 */
@@ -130,7 +130,7 @@ typedef struct bidigrid_bytes {
     size_t size;
 } bidigrid_bytes;
 
-/* The five data files, by their places in the list that is handed in: DerivedBidiClass.txt, BidiBrackets.txt,
+/* The five data files, by their indices in the list that is handed in: DerivedBidiClass.txt, BidiBrackets.txt,
  * BidiMirroring.txt, LineBreak.txt and EastAsianWidth.txt. */
 enum {
     BIDIGRID_DATA_BIDI_CLASS = 0,
@@ -141,17 +141,17 @@ enum {
     BIDIGRID_DATA_FILES = 5
 };
 
-/* Where a data file is faulty: one more than its place in the list, and the line from 1; else 0 and 0. */
+/* Where a data file is faulty: one more than its index in the list, and the line from 1; else 0 and 0. */
 typedef struct bidigrid_data_fault {
     size_t line;
     uint32_t file;
 } bidigrid_data_fault;
 
-/* The tables of your own data files. A fault of theirs is 401 to 405, and `*fault` tells where. */
+/* The tables of your own data files. A fault of theirs is 401 to 405, and `*fault` says where. */
 uint32_t bidigrid_tables_new(bidigrid_tables *out, const bidigrid_bytes files[BIDIGRID_DATA_FILES],
                              bool wide_ambiguous, bidigrid_data_fault *fault);
 
-/* Pictures and documents that are drawn by the tables keep them. */
+/* Tables may be freed before the pictures and documents that are drawn by them. */
 void bidigrid_tables_free(bidigrid_tables *tables);
 
 /* ---- Pictures ---- */
@@ -163,7 +163,7 @@ typedef struct bidigrid_picture {
 /* The direction of each paragraph: by its first strong letter, left to right, or right to left. */
 enum { BIDIGRID_BASE_AUTO = 0, BIDIGRID_BASE_LEFT_TO_RIGHT = 1, BIDIGRID_BASE_RIGHT_TO_LEFT = 2 };
 
-/* Lays a text in UTF-8 out in rows of `width` columns. The picture keeps a copy of the text, and its share in the
+/* Lays a text in UTF-8 out in rows of `width` columns. The picture has a copy of the text, and a share in the
  * tables. */
 uint32_t bidigrid_picture_new(bidigrid_picture *out, const bidigrid_tables *tables, uint32_t width, uint32_t base,
                               const char *text, size_t text_size);
@@ -198,13 +198,13 @@ typedef struct bidigrid_entry {
 
 uint32_t bidigrid_picture_entry(const bidigrid_picture *picture, size_t row, size_t entry, bidigrid_entry *out);
 
-/* All entries of a row from left to right, into a list with room for as many as `room` says. How many there are is
- * told, also where the answer is BIDIGRID_FAULT_SHORT_BUFFER and nothing was written. */
+/* All entries of a row from left to right, into a list with room for as many as `room` says. `*count` is how many
+ * there are, also where the answer is BIDIGRID_FAULT_SHORT_BUFFER and no entry was written. */
 uint32_t bidigrid_picture_entries(const bidigrid_picture *picture, size_t row, bidigrid_entry *entries, size_t room,
                                   size_t *count);
 
 /* The cells of a row from left to right in UTF-8, mirrored where they are read from right to left, and a line feed.
- * Show them as they stand: a terminal that reorders Hebrew and Arabic by itself has to be told not to. */
+ * Show them as they are: a terminal that reorders Hebrew and Arabic by itself has to be asked not to. */
 uint32_t bidigrid_picture_row_print(const bidigrid_picture *picture, size_t row, char *out, size_t room,
                                     size_t *size);
 
@@ -241,7 +241,7 @@ uint32_t bidigrid_caret_down(const bidigrid_picture *picture, bidigrid_caret *ca
 /* ---- Messages ---- */
 
 /* A text that several write is a set of operations, each the insertion or the deletion of one character. Copies
- * that hold the same operations show the same text, in whatever order and however often these came. A message has
+ * that have the same operations show the same text, in whatever order and however often these came. A message has
  * operations of one copy for the others; how it travels is up to you. */
 
 /* How many bytes the message has that types one character, or erases one. */
@@ -268,14 +268,14 @@ typedef struct bidigrid_id {
 
 /* ---- Documents ---- */
 
-/* A document is a desk with its text laid out: what an editor holds. It is shown by windows, a stretch of the rows
- * of the whole text round a place; a keystroke or a message costs what it changes and what is shown. */
+/* A document is a desk with its text laid out: what an editor holds. It is shown by windows, which are the rows of
+ * the whole text round a place; a keystroke or a message costs what it changes and what is shown. */
 typedef struct bidigrid_document {
     struct bidigrid_opaque *held;
 } bidigrid_document;
 
 /* A document without operations. Site and key as of bidigrid_desk_new, width and base as of bidigrid_picture_new.
- * It keeps its share in the tables. */
+ * It has a share in the tables. */
 uint32_t bidigrid_document_new(bidigrid_document *out, const bidigrid_tables *tables, uint32_t site, uint32_t width,
                                uint32_t base, uint64_t key_high, uint64_t key_low);
 
@@ -295,8 +295,8 @@ uint32_t bidigrid_document_set_base(bidigrid_document *document, uint32_t base);
 uint32_t bidigrid_document_keep_rows(bidigrid_document *document, size_t rows);
 
 /* As bidigrid_desk_insert, _erase and _replace. Where those take no memory, these are not refused for lack of it: what
- * could not be laid out is at the next bidigrid_document_show. Then nothing is shown. What it changed in the text is
- * kept for bidigrid_document_changes. */
+ * could not be laid out is at the next bidigrid_document_show. Then nothing is shown. bidigrid_document_changes tells
+ * what it changed in the text. */
 uint32_t bidigrid_document_insert(bidigrid_document *document, size_t place, const char *text, size_t text_size,
                                   uint8_t *message, size_t room, size_t *size);
 uint32_t bidigrid_document_erase(bidigrid_document *document, size_t from, size_t to, uint8_t *message, size_t room,
@@ -304,8 +304,8 @@ uint32_t bidigrid_document_erase(bidigrid_document *document, size_t from, size_
 uint32_t bidigrid_document_replace(bidigrid_document *document, size_t from, size_t to, const char *text,
                                    size_t text_size, uint8_t *message, size_t room, size_t *size);
 
-/* As bidigrid_desk_take and _merge. Then nothing is shown, but after a message of which nothing was taken. What it
- * changed in the text is kept too. */
+/* As bidigrid_desk_take and _merge. Then nothing is shown, but after a message of which nothing was taken.
+ * bidigrid_document_changes tells what it changed in the text. */
 uint32_t bidigrid_document_take(bidigrid_document *document, const uint8_t *message, size_t message_size,
                                 bidigrid_taken *told);
 uint32_t bidigrid_document_merge(bidigrid_document *document, const bidigrid_document *other);
@@ -318,11 +318,12 @@ typedef struct bidigrid_change {
     uint32_t put;       /* 1: put, 0: cut */
 } bidigrid_change;
 
-/* What the last edit, take or merge changed in the text, in order: nothing where a take or merge took nothing. It is
- * kept until the next one, so a list that is too short loses nothing: how many changes there are is told, also where
- * the answer is BIDIGRID_FAULT_SHORT_BUFFER and nothing was written. An edit's are a cut at its first place for each
- * character that was erased, and then those that were typed. Where there was no memory to keep them, which is never
- * so of a keystroke, the answer is BIDIGRID_FAULT_MEMORY: the operations stand, and the text is to be read anew. */
+/* What the last edit, take or merge changed in the text, in order: nothing where a take or merge took nothing. It
+ * can be asked for until the next one, so a list that is too short loses nothing: `*count` is how many changes there
+ * are, also where the answer is BIDIGRID_FAULT_SHORT_BUFFER and no change was written. An edit's are a cut at its
+ * first place for each character that was erased, and then those that were typed. Where there was no memory for
+ * them, which is never so of a keystroke, the answer is BIDIGRID_FAULT_MEMORY: what was done stays done, and the
+ * text is to be read anew. */
 uint32_t bidigrid_document_changes(const bidigrid_document *document, bidigrid_change *changes, size_t room,
                                    size_t *count);
 
@@ -350,7 +351,7 @@ typedef struct bidigrid_window {
 uint32_t bidigrid_document_show(bidigrid_document *document, size_t place, size_t above, size_t below,
                                 bidigrid_window *out);
 
-/* Of a row that is shown, from 0: what bidigrid_picture_row, _entries, _entry_sizes and _row_print tell of a picture's,
+/* Of a row that is shown, from 0: what bidigrid_picture_row, _entries, _entry_sizes and _row_print answer of a picture's,
  * with places and bytes of the whole text; and the print of all rows that are shown. BIDIGRID_FAULT_BAD_ROW where there
  * is no such row, as before the first bidigrid_document_show and after a change. */
 uint32_t bidigrid_document_row(const bidigrid_document *document, size_t row, bidigrid_row *out);
@@ -363,7 +364,7 @@ uint32_t bidigrid_document_row_print(const bidigrid_document *document, size_t r
 uint32_t bidigrid_document_print(const bidigrid_document *document, char *out, size_t room, size_t *size);
 
 /* Where a caret stands in a document: in a gap of a row, as a bidigrid_caret of the whole text, but that the row is
- * told by its first place. No two rows have the same one, so it holds whatever is shown. */
+ * named by its first place. No two rows have the same one, so it holds whatever is shown. */
 typedef struct bidigrid_position {
     size_t row; /* the first place of its row */
     size_t gap;
@@ -394,7 +395,7 @@ typedef struct bidigrid_desk {
 uint32_t bidigrid_desk_new(bidigrid_desk *out, uint32_t site, uint64_t key_high, uint64_t key_low);
 
 /* A desk that goes on from a file which bidigrid_desk_file wrote, as `new` and then `take`; after a fault it is not
- * made. Under its own site it types on behind its last counter. So a site is reopened from a file that holds all
+ * made. Under its own site it types on behind its last counter. So a site is reopened from a file that has all
  * messages of its own that went out: from an older one it would give identifiers twice, and others would answer
  * BIDIGRID_FAULT_IDENTIFIER_REUSED for good. Save before you send, or take a new site. */
 uint32_t bidigrid_desk_open(bidigrid_desk *out, uint32_t site, uint64_t key_high, uint64_t key_low,
@@ -423,15 +424,15 @@ uint32_t bidigrid_desk_replace(bidigrid_desk *desk, size_t from, size_t to, cons
 
 /* Takes a message, an operation file of any version (FORMATS.md). Its bytes are read whole first: a fault in them,
  * 301 to 311, changes nothing. Then its operations are taken in order; the first that is refused ends it, and those
- * before it stand. A message may come again, and before those that it builds on. */
+ * before it stay taken. A message may come again, and before those that it builds on. */
 uint32_t bidigrid_desk_take(bidigrid_desk *desk, const uint8_t *message, size_t message_size, bidigrid_taken *told);
 
-/* Takes all that another desk holds; a desk that is merged with itself stays as it is. After
+/* Takes all that another desk has; a desk that is merged with itself stays as it is. After
  * BIDIGRID_FAULT_IDENTIFIER_REUSED nothing has changed; after BIDIGRID_FAULT_FULL and BIDIGRID_FAULT_MEMORY some of
  * it is taken. */
 uint32_t bidigrid_desk_merge(bidigrid_desk *desk, const bidigrid_desk *other);
 
-/* Pays in advance for new operations, at most BIDIGRID_MAX_OPERATIONS, also at a desk that has no room for as many.
+/* Reserves memory for new operations, at most BIDIGRID_MAX_OPERATIONS, also at a desk that has no room for as many.
  * While one is spare, typing a character needs no memory, nor does taking an operation but that for reading its
  * message. */
 uint32_t bidigrid_desk_reserve(bidigrid_desk *desk, size_t operations);
@@ -440,7 +441,7 @@ uint32_t bidigrid_desk_reserve(bidigrid_desk *desk, size_t operations);
 uint32_t bidigrid_desk_text(const bidigrid_desk *desk, char *out, size_t room, size_t *size);
 uint32_t bidigrid_desk_length(const bidigrid_desk *desk, size_t *places);
 
-/* All that the desk holds, as a message: to save it, or for a desk that is new. */
+/* All that the desk has, as a message: to save it, or for a desk that is new. */
 uint32_t bidigrid_desk_file(const bidigrid_desk *desk, uint8_t *out, size_t room, size_t *size);
 
 uint32_t bidigrid_desk_id_at(const bidigrid_desk *desk, size_t place, bidigrid_id *out);

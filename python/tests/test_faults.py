@@ -1,4 +1,4 @@
-"""Messages that are refused, and what is told of them."""
+"""Messages that are refused, and what is reported of them."""
 
 import pickle
 import subprocess
@@ -49,7 +49,7 @@ def test_what_came_before_a_refused_operation_stands() -> None:
     fault = raised.value
     assert (fault.number, fault.name, fault.frame, fault.taken) == (201, "IdentifierReused", None, 1)
     assert fault.changes == [Change(1, "a"), Change(2, "b")] and document.text == "xab"
-    assert "its identifier is kept with another parent or character" in str(fault)
+    assert "its identifier is there with another parent or character" in str(fault)
 
 
 def test_a_fault_of_bytes_tells_no_older_changes() -> None:
