@@ -19,7 +19,7 @@ keyed key = record {
   };
 }
 
--- after a further number: of the first one the sum has the eighth part, and the rest of the division is kept beside it
+-- after a further number: of the first one the sum has the eighth part, and the rest of the division is beside it
 abbrev pub written : KeyedHasher → ℕ → KeyedHasher
 written h number = if h.is_new
     then record { sum = h.factor * (number / 8) % 2 ^ 64; near = 0x2000_0000 * (number % 8); is_new = false; factor = h.factor; next = h.next }

@@ -34,7 +34,7 @@ abbrev pub with_operation : OperationSet → OpView → OperationSet
 with_operation s (Insert id parent ch) = record s { ins = map.insert s.ins id (record { parent = parent; ch = ch }) }
 with_operation s (Erase target) = record s { del = set.insert s.del target }
 
--- what S keeps at the operation's identifier, if anything, is the operation
+-- what S has at the operation's identifier, if anything, is the operation
 abbrev pub MayJoin : OperationSet → OpView → Type 0
 MayJoin s (Insert id parent ch) = (kept : Node) → map.get s.ins id ≡ Some kept → kept ≡ record { parent = parent; ch = ch }
 MayJoin s (Erase target) = Unit {0}

@@ -16,11 +16,11 @@ const NEXT: u64 = 0x2545_f491_4f6c_dd1d;
 /// How many neighbouring first numbers share a product, so that they share a slot of a table too.
 const NEIGHBOURS: u64 = 8;
 
-/// What neighbours are told apart by: the highest bits of a hash of 32 bits, which name no slot.
+/// What neighbours differ by: the highest bits of a hash of 32 bits, which name no slot.
 const APART: u32 = 0x2000_0000;
 
 /// Hashes by multiplying with a key (multiply-shift). Eight identifiers of a site with neighbouring
-/// counters share a slot, so that what comes in a run is found in one place. Any two others chosen
+/// counters share a slot, so that what comes in a run is found side by side. Any two others chosen
 /// without knowing the key share one of n slots (n a power of two, at most 2^29) with a probability
 /// of at most 2 / n, so no choice of identifiers makes the calls slow.
 #[derive(Clone, Copy)]
@@ -61,7 +61,7 @@ impl BuildHasher for Keyed {
     }
 }
 
-/// The sum of the numbers that were written, each times its factor, and what tells neighbours apart.
+/// The sum of the numbers that were written, each times its factor, and what neighbours differ by.
 /// An identifier writes two: its counter, of which the sum has the eighth part, and its site.
 #[derive(Clone, Copy)]
 pub struct KeyedHasher {

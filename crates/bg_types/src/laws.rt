@@ -15,24 +15,24 @@ pub fn identifier_order()
     ensures exact { (a b : Identifier) → id_cmp a b ≡ Equal → a ≡ b }
 {}
 
-/// Sets that hold the same operations are equal.
+/// Sets that have the same operations are equal.
 pub fn same_operations()
     ensures { (s t : OperationSet) → ((op : OpView) → Holds s op ↔ Holds t op) → s ≡ t }
 {}
 
-/// The empty set holds nothing.
+/// The empty set has none.
 pub fn nothing_held()
     ensures { (op : OpView) → Holds no_operations op → ⊥ }
 {}
 
-/// S + op holds op and what S holds, and is greater by one where op is new.
+/// S + op has op and what S has, and is greater by one where op is new.
 pub fn one_more_operation()
     ensures holds { (s : OperationSet) (op x : OpView) → MayJoin s op → Holds (with_operation s op) x ↔ ((x ≡ op) ⊎ Holds s x) }
     ensures grows { (s : OperationSet) (op : OpView) → MayJoin s op → ¬ (Holds s op) → size (with_operation s op) ≡ size s + 1 }
     ensures known { (s : OperationSet) (op : OpView) → Holds s op → with_operation s op ≡ s }
 {}
 
-/// Where it is defined, the union holds what either set holds.
+/// Where it is defined, the union has what either set has.
 pub fn united_operations()
     ensures { (s t : OperationSet) → Agree s t → (op : OpView) → Holds (union s t) op ↔ (Holds s op ⊎ Holds t op) }
 {}

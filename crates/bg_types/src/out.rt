@@ -13,7 +13,7 @@ pub struct Out<W> {
 }
 
 impl<W: Write> Out<W> {
-    /// A sink that has not failed, and that holds what the writer holds.
+    /// A sink that has not failed; what the writer has counts as written.
     pub fn new(writer: W) -> Out<W>
         ensures written { ⟦<Out<W> as Sink>⟧.written result ≡ W.contents writer }
         ensures working { ⟦<Out<W> as Sink>⟧.has_failed result ≡ false }

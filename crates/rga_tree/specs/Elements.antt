@@ -1,4 +1,4 @@
--- A set of operations as the row of its elements, erased ones included.
+-- A set of operations as the list of its elements, erased ones included.
 use Rattle.std.specs.Prelude.{List, map as each, if◌then◌else◌}
 use Rattle.bg_types.specs.Identifier.{Identifier}
 use Rattle.bg_types.specs.OperationSet.{Node, OperationSet, with_operation}

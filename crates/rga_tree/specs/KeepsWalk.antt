@@ -1,4 +1,4 @@
--- Rows of elements that are the walk of their own operations.
+-- Lists of elements that are the walk of their own operations.
 use Rattle.std.specs.Prelude.{◌≡◌, true, List}
 use Rattle.std.proofs.Props.{props}
 use Rattle.bg_types.specs.OperationSet.{AllWellFormed}
@@ -8,7 +8,7 @@ use Rattle.rga_tree.specs.AllWellFormed.{AllWellFormed-prop}
 use Rattle.rga_tree.specs.Elements.{elements}
 use Rattle.rga_tree.specs.Row.{operations_of, ids_of, is_distinct}
 
--- the row has the elements of its operations in the order of the walk, each once, and those operations are a tree
+-- the list has the elements of its operations in the order of the walk, each once, and those operations are a tree
 pub record KeepsWalk (row : List Element) : Type 0 where
   pub in_order : row ≡ elements (operations_of row)
   pub distinct : is_distinct (ids_of row) ≡ true

@@ -11,7 +11,7 @@ use Rattle.rga_tree.specs.Attached.{IsAttached}
 abbrev pub IsParent : OperationSet → Identifier → Type 0
 IsParent s id = (child : Identifier) × (node : Node) × (map.get s.ins child ≡ Some node) × (node.parent ≡ After id)
 
--- the place is the root, or attached in S
+-- the parent is the root, or attached in S
 abbrev pub StandsAttached : OperationSet → Place → Type 0
 StandsAttached s Root = Unit {0}
 StandsAttached s (After parent) = IsAttached s.ins parent

@@ -1,4 +1,4 @@
--- A row of elements, and the operations that it stands for.
+-- A list of elements, and the operations that it stands for.
 use Rattle.std.specs.Prelude.{◌+◌, ◌&&◌, drop, not, true, ℕ, Bool, List, [], ◌∷◌, map as each, filter}
 use Rattle.std.specs.List.{list_any, prefix_len}
 use Rattle.std.specs.Ordering.{is_lt}

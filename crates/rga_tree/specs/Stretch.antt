@@ -8,7 +8,7 @@ use Rattle.bg_types.specs.declared.op.Place.TheVariants.{After}
 use Rattle.rga_tree.specs.Walk.{Insertions, walked_ids}
 use Rattle.rga_tree.specs.Order.{Precedes}
 
--- the identifier's insertion names this place as its parent
+-- the identifier's insertion names this parent
 abbrev pub IsChild : Insertions → Place → Identifier → Type 0
 IsChild ins place id = (node : Node) × (map.get ins id ≡ Some node) × (node.parent ≡ place)
 

@@ -7,7 +7,7 @@ use Rattle.bg_types.specs.OperationSet.{Node, OperationSet}
 use Rattle.bg_types.specs.declared.op.Place.{Place}
 use Rattle.bg_types.specs.declared.op.Place.TheVariants.{Root, After}
 
--- the place is the root, or an insertion of S
+-- the parent is the root, or an insertion of S
 abbrev pub stands_in : OperationSet → Place → Bool
 stands_in s Root = true
 stands_in s (After parent) = map.contains_key s.ins parent

@@ -11,7 +11,7 @@ use Rattle.bg_types.specs.declared.op.Place.TheVariants.{Root, After}
 abbrev pub Insertions : Type 0
 Insertions = map.FinMap id_cmp Node
 
--- the test of equality of places
+-- the test of equality of parents
 abbrev pub same_place : Place → Place → Bool
 same_place Root Root = true
 same_place Root (After b) = false
@@ -35,7 +35,7 @@ walk s p = walk_to (map.len s.ins) s.ins p
 abbrev pub walked_ids : OperationSet → List Identifier
 walked_ids s = each (λ e. e.0) (walk s Root)
 
--- the place is the root, or an identifier that is listed
+-- the parent is the root, or an identifier that is listed
 abbrev pub StandsAmong : Place → List (Identifier × Node) → Type 0
 StandsAmong Root listed = Unit {0}
 StandsAmong (After parent) listed = Contains (each (λ e. e.0) listed) parent

@@ -22,7 +22,7 @@ const _: () = prove!(size_of::<Element>() == 20);
 /// How many elements a part has at most that is unpacked.
 pub const UNPACKED: usize = 32;
 
-/// Room for the elements of a part that are not kept as elements.
+/// Room for the elements of a part that are not stored as elements.
 #[derive(Drop)]
 pub struct Unpacked {
     pub elements: [Element; UNPACKED],
@@ -44,7 +44,7 @@ impl Unpacked {
     }
 }
 
-/// How many elements at the front of a row are greater than the identifier.
+/// How many elements at the front of a list are greater than the identifier.
 /// Cost: O(n).
 pub fn greater_in_front(row: &[Element], id: Id) -> usize
     ensures count { result ≡ prefix_len (λ e. is_lt (id_cmp id e.id)) row.now }

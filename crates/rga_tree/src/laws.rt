@@ -23,7 +23,7 @@ ghost use Rattle.rga_tree.specs.Elements.{elements};
 ghost use Rattle.rga_tree.specs.Row.{place_of};
 ghost use Rattle.rga_tree.specs.Examples.{set_of, HaveSameOperations, stamp, two_in_line, two_at_root, four_in_tree, one_erased, two_runs, one_waits};
 
-/// The walk from a place is, for each child in falling order, the child and then the walk from it.
+/// The walk from a parent is, for each child in falling order, the child and then the walk from it.
 pub fn preorder()
     ensures { (s : OperationSet) → AllWellFormed s → (p : Place)
         → walk s p ≡ flat_map (λ e. e ∷ walk s (After e.0)) (children s.ins p) }
@@ -110,8 +110,8 @@ pub fn one_order()
 
 /// The unbroken-stretch law: an attached identifier and all below it form one unbroken stretch of
 /// the walk. So two runs, neither of them below the first of the other, never mix; of two runs after
-/// one place, the one whose first identifier is greater is wholly left of the other. A run of a part
-/// is a run of the set, so all this holds of it wherever it arrives.
+/// one parent, the one whose first identifier is greater is wholly left of the other. A run of a
+/// part is a run of the set, so all this holds of it wherever it arrives.
 pub fn unbroken_stretch()
     ensures stretch { (s : OperationSet) → AllWellFormed s → (top : Identifier)
         → IsAttached s.ins top → IsUnbroken s top }

@@ -1,4 +1,4 @@
-//! The order in which the insertions of a replicated text are read, and rows that keep it.
+//! The order in which the insertions of a replicated text are read, and lists of them in that order.
 #![tactic(auto)]
 
 mod element;

@@ -1,4 +1,4 @@
-//! The plain sequence: one row, searched from the front.
+//! The plain sequence: one list, searched from the front.
 
 ghost use Rattle.std.specs.Prelude.{◌≡◌, ◌-◌, ◌+◌, ◌≤◌, ◌<◌, ◌∷◌, [], Some, not, length, filter, take, count_by, insert, slice_get, vec_len, vec_capacity};
 ghost use Rattle.std.proofs.Common.{◌∙◌};
@@ -17,8 +17,8 @@ use crate::sequence::{Fresh, Sequence};
 use bg_types::{Id, Memory, Place};
 use std::alloc::Global;
 
-/// A sequence as one row, in the order of the walk. `room`, `placed` and `nth` read one number or
-/// element; every other call goes over the row, and `place` shifts what stands after the new one.
+/// A sequence as one list, in the order of the walk. `room`, `placed` and `nth` read one number or
+/// element; every other call goes over the list, and `place` shifts what comes after the new one.
 #[derive(Drop)]
 pub struct Plain {
     row: Vec<Element>,
@@ -63,7 +63,7 @@ impl Sequence for Plain {
     }
 
     fn place(&mut self, id: Id, parent: Place, ch: char, hidden: bool) {
-        // Reading the identifier tells the proof that it is well formed.
+        // Reading the identifier shows the proof that it is well formed.
         let _known = id.counter();
         let at = place_for(&self.row, id, &parent);
         put_in(&mut self.row, at, id, parent, ch, hidden);

@@ -39,7 +39,7 @@ pub trait Sequence {
 
     /// Makes room for n placings (at most 4,000,000). If memory is refused, content and room
     /// stay as they were.
-    /// Cost: memory for n elements; `Blocks`, `Runs`: paid once, O(n).
+    /// Cost: memory for n elements; `Blocks`, `Runs`: once, O(n).
     fn reserve(&mut self, n: usize) -> Result<(), Memory>
         requires { n ≤ 4_000_000 }
         ensures content { content self.new ≡ content self.old }
@@ -157,7 +157,7 @@ pub trait Sequence {
         requires { p < length (parts self.now) }
         ensures { result ≡ length (get_or (parts self.now) p []) };
 
-    /// The elements of part p. To read all elements in order, read part after part. Where they are not kept as elements, they
+    /// The elements of part p. To read all elements in order, read part after part. Where they are not stored as elements, they
     /// are unpacked into what is given.
     /// Cost: `Runs`: O(32) for a part, `Blocks` and `Plain`: O(1).
     fn part<'a>(&'a self, p: usize, unpacked: &'a mut Unpacked) -> &'a [Element]

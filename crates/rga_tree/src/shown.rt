@@ -58,7 +58,7 @@ fn encode_shown(row: &[Element], bytes: &mut [u8]) -> usize
     end
 }
 
-/// Puts the bytes of a character at a place, behind which there is room for 4, and answers where they end.
+/// Puts the bytes of a character at an index, behind which there is room for 4, and answers where they end.
 #[inline(always)]
 pub fn put_char(ch: char, bytes: &mut [u8], at: usize) -> usize
     requires { at + 4 ≤ length bytes.old }
@@ -85,7 +85,7 @@ pub fn put_char(ch: char, bytes: &mut [u8], at: usize) -> usize
     put_byte((0x80 + code % 0x40) as u8, bytes, fourth)
 }
 
-/// Puts a byte at a place, and answers where it ends.
+/// Puts a byte at an index, and answers where it ends.
 #[inline(always)]
 fn put_byte(byte: u8, bytes: &mut [u8], at: usize) -> usize
     requires { at < length bytes.old }
