@@ -13,7 +13,7 @@ abbrev pub number_in : ℕ → Option ℕ
 number_in zero = None
 number_in (suc n) = Some n
 
--- the number of an identifier's block, where its group has this place
+-- the number of an identifier's block, where its group has this number
 abbrev pub home_at : List ℕ → Identifier → Option ℕ → Option ℕ
 home_at ns q None = None
 home_at ns q (Some place) = number_in (get_or ns (8 * place + q.counter % 8) 0)

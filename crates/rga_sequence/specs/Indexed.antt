@@ -16,7 +16,7 @@ blocks_in r = items_of r.blocks.items
 abbrev pub elements_in : Row → List Element
 elements_in r = joined (blocks_in r)
 
--- the index has the number of each identifier's block, `places` the place of each number's block, `bounds` what no
+-- the index has the number of each identifier's block, `places` where in the row each number's block is, `bounds` what no
 -- identifier of some neighbouring blocks is below, and `sums` how many of their elements are visible
 pub record IsIndexed (eq : Identifier → Identifier → Bool) (r : Row) : Type 0 where
   pub grouped : IsGrouped eq r.index
@@ -27,7 +27,7 @@ pub record IsIndexed (eq : Identifier → Identifier → Bool) (r : Row) : Type 
   pub bounds : AreBounds r.bounds.items (blocks_in r)
   pub sums : AreSums r.sums.items (blocks_in r)
 
--- the next n elements take no memory: each spare block pays for the 256 elements after which it may be needed
+-- the next n elements take no memory: each spare block is for the 256 elements after which it may be needed
 pub record HasRoom (r : Row) (n : ℕ) : Type 0 where
   pub paid : length (elements_in r) + n ≤ 256 * (vec_len r.blocks + vec_len r.spares)
   pub index : HasIndexRoom r.index n

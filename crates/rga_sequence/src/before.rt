@@ -19,7 +19,7 @@ pub fn count_before(blocks: &[Block], sums: &[usize], b: usize, at: usize) -> us
     before_block(blocks, sums, b) + in_front(&blocks[b], at)
 }
 
-/// How many visible elements stand before block b: what the sums tell of the blocks before its neighbours, and the headers
+/// How many visible elements stand before block b: what the sums say of the blocks before its neighbours, and the headers
 /// of those before it.
 fn before_block(blocks: &[Block], sums: &[usize], b: usize) -> usize
     requires block { b ≤ length blocks.now }

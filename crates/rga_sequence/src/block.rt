@@ -131,7 +131,7 @@ impl Block {
     }
 }
 
-/// Puts an element into a row that has memory for it. At the end nothing moves.
+/// Puts an element into a list that has memory for it. At the end nothing moves.
 fn insert_element(row: &mut Vec<Element>, at: usize, id: Id, parent: Place, ch: char, hidden: bool)
     requires within { at ≤ length row.old.items }
     requires few { length row.old.items < 512 }
@@ -149,7 +149,7 @@ fn insert_element(row: &mut Vec<Element>, at: usize, id: Id, parent: Place, ch: 
     if at == row.len() {
         row.push_reserved(element);
     } else {
-        // The remainder is the place: by it compiled code sees no wrap behind it, and moves all in one piece.
+        // The remainder is the index: by it compiled code sees no wrap behind it, and moves all in one piece.
         row.insert(at % FULL, element).unwrap();
     }
 }
@@ -175,7 +175,7 @@ fn falling_with(row: &[Element], falling: usize, at: usize, id: Id) -> usize
     falling
 }
 
-/// How many elements of a row are visible.
+/// How many elements of a list are visible.
 pub fn count_visible(row: &[Element]) -> usize
     ensures { result ≡ seen row.now }
 {
@@ -224,7 +224,7 @@ pub fn is_below(a: Id, b: Id) -> bool
     is_below_at(a, b, b.counter())
 }
 
-/// Whether the first identifier is the lesser, where the second one's counter is at hand. Mostly the counters alone tell.
+/// Whether the first identifier is the lesser, where the second one's counter is at hand. Mostly the counters decide.
 #[inline(always)]
 fn is_below_at(a: Id, b: Id, counter: u32) -> bool
     requires { counter ≡ b.counter }
@@ -234,7 +234,7 @@ fn is_below_at(a: Id, b: Id, counter: u32) -> bool
     own < counter || (own == counter && is_site_below(a.site(), b.site()))
 }
 
-/// Not inlined, so that compiled code compares no sites where counters tell.
+/// Not inlined, so that compiled code compares no sites where counters decide.
 #[inline(never)]
 fn is_site_below(a: u16, b: u16) -> bool
     ensures { result ≡ nat_lt a b }
@@ -242,7 +242,7 @@ fn is_site_below(a: u16, b: u16) -> bool
     a < b
 }
 
-/// An empty row with memory for a block.
+/// An empty list with memory for a block.
 #[derive(Drop)]
 pub struct Spare {
     pub row: Vec<Element>,

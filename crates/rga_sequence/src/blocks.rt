@@ -181,7 +181,7 @@ impl Sequence for Blocks {
     }
 
     fn place(&mut self, id: Id, parent: Place, ch: char, hidden: bool) {
-        // Reading the identifier tells the proof that it is well formed.
+        // Reading the identifier shows the proof that it is well formed.
         let _known = id.counter();
         put(&mut self.row, id, parent, ch, hidden);
         self.placed += 1;

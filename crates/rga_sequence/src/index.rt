@@ -19,14 +19,14 @@ const GROUP: usize = 8;
 /// The number of the block of each identifier, by groups: so what is typed in a run is hashed once a group.
 #[derive(Drop)]
 pub struct Index {
-    /// The place of each group, in the order in which they came.
+    /// The number of each group, in the order in which they came.
     pub groups: HashMap<Id, usize, Keyed>,
     /// For each identifier of each group 1 more than its block's number, or 0 where it does not stand.
     pub numbers: Vec<u32>,
     /// Where each identifier stood in its block when that was written down, or 0. What came before it since then has
     /// moved it on, so it is sought from there. Nothing depends on it but the time of that search.
     pub hints: Vec<u16>,
-    /// The group that was written last, and its place. The next identifier is often of it too.
+    /// The group that was written last, and its number. The next identifier is often of it too.
     pub recent: Option<(Id, usize)>,
 }
 
@@ -132,7 +132,7 @@ fn group(id: Id) -> Id
     Id::new(id.counter() / GROUP as u32 + 1, id.site()).unwrap()
 }
 
-/// Where the number of an identifier stands, of the group at a place.
+/// Where the number of an identifier's block is, of the group with this number.
 fn slot(place: usize, id: Id) -> usize
     requires { 8 * place + 8 < 2 ^ 64 }
     ensures { result ≡ 8 * place + id.counter % 8 }
@@ -140,7 +140,7 @@ fn slot(place: usize, id: Id) -> usize
     GROUP * place + id.counter() as usize % GROUP
 }
 
-/// The place of a group. The one that was written last is known without a hash.
+/// The number of a group. The one that was written last is known without a hash.
 #[inline(always)]
 fn find(index: &Index, group: Id) -> Option<usize>
     requires { IsGrouped ⟦<Id as Eq>⟧.eq index.now }
@@ -152,7 +152,7 @@ fn find(index: &Index, group: Id) -> Option<usize>
     }
 }
 
-/// The place of a group, by its hash. Not inlined, so that the callers of `find` stay short.
+/// The number of a group, by its hash. Not inlined, so that the callers of `find` stay short.
 #[inline(never)]
 fn look_up(index: &Index, group: Id) -> Option<usize>
     ensures { result ≡ get ⟦<Id as Eq>⟧.eq index.now.groups group }
@@ -160,7 +160,7 @@ fn look_up(index: &Index, group: Id) -> Option<usize>
     index.groups.get(&group).copied()
 }
 
-/// The place of a group, which is added where it is new.
+/// The number of a group, which is added where it is new.
 fn find_or_add(index: &mut Index, group: Id) -> usize
     requires grouped { IsGrouped ⟦<Id as Eq>⟧.eq index.old }
     requires room { HasIndexRoom index.old 1 }
@@ -175,7 +175,7 @@ fn find_or_add(index: &mut Index, group: Id) -> usize
     }
 }
 
-/// Adds a group, and returns its place.
+/// Adds a group, and returns its number.
 #[inline(never)]
 fn add(index: &mut Index, group: Id) -> usize
     requires grouped { IsGrouped ⟦<Id as Eq>⟧.eq index.old }
@@ -208,7 +208,7 @@ fn write_hint(hints: &mut [u16], slot: usize, at: usize) {
     }
 }
 
-/// Writes down the block of an identifier, whose group stands at this place, and its place in the block.
+/// Writes down the block of an identifier, whose group has this number, and its place in the block.
 fn write(index: &mut Index, place: usize, id: Id, number: usize, at: usize)
     requires grouped { IsGrouped ⟦<Id as Eq>⟧.eq index.old }
     requires place { get ⟦<Id as Eq>⟧.eq index.old.groups (group_of id) ≡ Some place }

@@ -26,8 +26,8 @@ const MOST: usize = 4_294_967_295;
 /// How many elements are compared before the end of a block is looked for.
 const COMPARED: usize = 8;
 
-/// Blocks in order, memory for more, the number of the block of each identifier, and the place of
-/// the block of each number.
+/// Blocks in order, memory for more, the number of the block of each identifier, and where in the
+/// row the block of each number is.
 #[derive(Drop)]
 pub struct Row {
     pub blocks: Vec<Block>,

@@ -19,7 +19,7 @@ fn passed_in_front(blocks: &[Block], id: Id) -> usize
     blocks.iter().take_while(|b| is_below(id, b.least)).count()
 }
 
-/// How many elements at the front of a row whose identifiers fall are greater: all, if the last one is, or else by halving.
+/// How many elements at the front of a list whose identifiers fall are greater: all, if the last one is, or else by halving.
 fn greater_in_falling(row: &[Element], id: Id) -> usize
     requires { FallsFrom 0 row.now }
     ensures count { result ≡ prefix_len (λ e. is_lt (id_cmp id e.id)) row.now }
