@@ -67,11 +67,11 @@ insertion_of e = Insert e.0 e.1.parent e.1.ch
 abbrev pub nodes_of : List (Identifier × Slot) → List (Identifier × Node)
 nodes_of slots = each (λ e. (e.0, node_in e.1)) slots
 
--- the insertions that the slots hold
+-- the insertions in the slots
 abbrev pub insertions_of : List (Identifier × Slot) → map.FinMap id_cmp Node
 insertions_of slots = map.from_entries (nodes_of slots)
 
--- what the tables hold, released and erased, and how many more they have room for
+-- what is in the tables, released and erased, and how many more they have room for
 abbrev pub waiting_of : List (Identifier × Slot) → List Identifier → List Identifier → ℕ → Waiting
 waiting_of slots released erased room = record {
   held = record { ins = insertions_of slots; del = set.from_list erased };

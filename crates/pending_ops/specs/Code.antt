@@ -1,4 +1,4 @@
--- What is held as data, by which a proof tells two of them apart.
+-- What is held as data, by which a proof distinguishes two of them.
 use Rattle.std.specs.Prelude.{◌≡◌, ℕ, Option, Some, None, List, refl}
 use Rattle.std.specs.Coded.{Coded, code_by, coded×, coded_ℕ, coded_option, coded_list}
 use Rattle.std.specs.FinMap as map

@@ -28,7 +28,7 @@ pub struct Slot {
     pub next: Option<Id>,
 }
 
-/// The insertion that a slot holds.
+/// The insertion in a slot.
 pub fn insertion_in(slots: &Table<Slot>, id: Id) -> Option<Op>
     requires { (s : Slot) → slot_in slots.now.entries id ≡ Some s → MayFollow s.parent id }
     ensures { result ≡ option_map (λ s. Insert id s.parent s.ch) (slot_in slots.now.entries id) }
@@ -151,7 +151,7 @@ pub fn unlink(firsts: &mut Table<Id>, released: &mut Names, front: &Front)
     ensures spare { spare firsts.old ≤ spare firsts.new }
 {
     match front.slot.next {
-        // Written in place, so that no room is used.
+        // Written over the one before, so that no room is used.
         Some(next) => *firsts.get_mut(&front.parent).unwrap() = next,
         None => {
             firsts.swap_remove_index(front.at);

@@ -161,7 +161,7 @@ impl Held {
         self.room
     }
 
-    /// Holds an operation, which uses up one of the room; where none is left, room is made first. After
+    /// Holds an operation, which uses up room for one; where none is left, room is made first. After
     /// `Memory` the store is as it was.
     /// Cost: O(1) expected; memory amortized, none while `room` is at least 1.
     pub fn hold(&mut self, op: Op) -> Result<(), Memory>
@@ -239,7 +239,7 @@ impl Held {
         self.slots.len()
     }
 
-    /// The held operation at place `j` of a list of them all. While the store does not change,
+    /// Held operation `j`, from 0, of a list of them all. While the store does not change,
     /// neither does the list; its order is not specified.
     pub fn nth(&self, j: usize) -> Op
         requires { j < size self.now.held }
