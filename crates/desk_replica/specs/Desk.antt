@@ -10,7 +10,7 @@ use Rattle.bg_types.specs.declared.op.OpView.TheVariants.{Insert}
 use Rattle.rga_tree.specs.declared.element.Element.{Element}
 use Rattle.pending_ops.specs.Code.{coded_identifier, coded_node, coded_operation}
 
--- set: the operations that the desk keeps. site: who types at it. waiting: those of the set that
+-- set: the operations that the desk has. site: who types at it. waiting: those of the set that
 -- are not in the tree yet, in some order. spare: how many new operations take no memory
 pub record Desk : Type 0 where
   pub set : OperationSet

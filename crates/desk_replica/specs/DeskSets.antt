@@ -1,4 +1,4 @@
--- What desks hold after a list of steps, and which steps are refused: the definition DeskSet.
+-- What desks have after a list of steps, and which steps are refused: the definition DeskSet.
 use Rattle.std.specs.Prelude.{◌≡◌, ℕ, List, [], ◌∷◌, Result, map as each, replicate, slice_set, slice_index_or}
 use Rattle.bg_types.specs.OperationSet.{OperationSet, no_operations, with_operation, union}
 use Rattle.bg_types.specs.declared.op.OpView.{OpView}
@@ -8,7 +8,7 @@ use Rattle.desk_replica.specs.Desk.{Desk, fresh}
 use Rattle.desk_replica.specs.Reply.{IsRefusal, IsTake}
 use Rattle.desk_replica.specs.Merging.{IsMergeRefusal, IsMergeRefused, IsMerge}
 
--- ---- what desks hold. Desks count from 0
+-- ---- what desks have. Desks count from 0
 
 abbrev pub sets_of : List Desk → List OperationSet
 sets_of desks = each (λ d. d.set) desks
@@ -16,7 +16,7 @@ sets_of desks = each (λ d. d.set) desks
 abbrev pub sites_of : List Desk → List ℕ
 sites_of desks = each (λ d. d.site) desks
 
--- `count` desks that hold nothing
+-- `count` desks that have nothing
 abbrev pub empty_desks : ℕ → List OperationSet
 empty_desks count = replicate count no_operations
 
@@ -26,7 +26,7 @@ set_at sets desk = slice_index_or sets desk no_operations
 abbrev pub with_set : List OperationSet → ℕ → OperationSet → List OperationSet
 with_set sets desk set = slice_set sets desk set
 
--- a desk takes an operation, or all that another one holds
+-- a desk takes an operation, or all that another one has
 pub data DeskStep : Type 0 where
   takes : ℕ → OpView → DeskStep
   merges : ℕ → ℕ → DeskStep

@@ -11,14 +11,14 @@ use Rattle.pending_ops.specs.Waiting.{Waiting, NoneReady, Releases}
 use Rattle.pending_ops.specs.Below.{IsBelow}
 use Rattle.desk_replica.specs.Telling.{TextStep, AreSteps, changes_of, is_shown, seen_count}
 
--- what was told, where it is kept, and then more changes
+-- what was told, where it is listed, and then more changes
 abbrev pub extended : Option (List Change) → List Change → Option (List Change)
 extended told more = option_map (λ changes. changes ++ more) told
 
 abbrev pub told_count : Option (List Change) → ℕ
 told_count told = option_map_or length told 0
 
--- where so many may be kept, there is room for n more. Where nothing is kept, there always is
+-- where so many may be listed, there is room for n more. Where nothing is listed, there always is
 abbrev pub HasRoom : Option (List Change) → (capacity n : ℕ) → Type 0
 HasRoom None capacity n = Unit {0}
 HasRoom (Some changes) capacity n = length changes + n ≤ capacity
@@ -43,7 +43,7 @@ pub record Tells (s t : OperationSet) (old new : Option (List Change)) : Type 0 
   pub are_steps : AreSteps s t steps
   pub appended : new ≡ extended old (changes_of t (is_shown s) steps)
 
--- the same, with no more changes than T has attached insertions and deletions more than S. What may be kept did not shrink
+-- the same, with no more changes than T has attached insertions and deletions more than S. What may be listed did not shrink
 pub record IsHeard (s t : OperationSet) (old new : Option (List Change)) (before after : ℕ) : Type 0 where
   pub tells : Tells s t old new
   pub few : told_count new + seen_count s ≤ told_count old + seen_count t

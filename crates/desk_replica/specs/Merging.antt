@@ -20,7 +20,7 @@ abbrev pub is_deletion : OpView → Bool
 is_deletion (Insert id parent ch) = false
 is_deletion (Erase target) = true
 
--- u holds what S holds, and of the rest only operations of the list
+-- u has what S has, and of the rest only operations of the list
 pub record IsGrownBy (s : OperationSet) (ops : List OpView) (u : OperationSet) : Type 0 where
   pub keeps : IsPartOf s u
   pub of_list : (op : OpView) → Holds u op → Holds s op ⊎ Contains ops op
@@ -47,7 +47,7 @@ IsErasedIn u e = e.hidden ≡ true → map.contains_key u.ins e.id ≡ true → 
 abbrev pub ReusesIn : OperationSet → List Element → Type 0
 ReusesIn s row = (e : Element) × Contains row e × ReusesIdentifier s (insertion_of e)
 
--- an identifier is kept by both, with another parent or character
+-- an identifier is in both, with another parent or character
 pub record Disagree (s t : OperationSet) : Type 0 where
   pub id : Identifier
   pub one : Node
@@ -56,12 +56,12 @@ pub record Disagree (s t : OperationSet) : Type 0 where
   pub in_t : map.get t.ins id ≡ Some other
   pub differ : one ≢ other
 
--- u holds what s holds, and no more than s and t hold together
+-- u has what s has, and no more than s and t have together
 pub record IsBetween (s t u : OperationSet) : Type 0 where
   pub keeps : (op : OpView) → Holds s op → Holds u op
   pub of_both : (op : OpView) → Holds u op → Holds s op ⊎ Holds t op
 
--- S refuses to meet t: an identifier is kept by both, with another parent or character; or the union has more than
+-- S refuses to meet t: an identifier is in both, with another parent or character; or the union has more than
 -- 1,000,000 operations. Lack of memory is no refusal of a merge
 abbrev pub IsMergeRefusal : OperationSet → OperationSet → TakeFault → Type 0
 IsMergeRefusal s t IdentifierReused = Disagree s t

@@ -24,13 +24,13 @@ pub record IsSettled (t : OperationSet) (w : Waiting) : Type 0 where
   pub none_released : w.released ≡ set.empty
   pub well_formed : AllWellFormed w.held
 
--- the numbers that a desk keeps of its set
+-- the numbers that a desk has of its set
 pub record IsCounted (s : OperationSet) (kept greatest : ℕ) : Type 0 where
   pub kept_is : kept ≡ size s
   pub limited : kept ≤ 1_000_000
   pub next_is : next s ≡ greatest + 1
 
--- what a desk keeps: the operations in the tree and those that wait
+-- what a desk has: the operations in the tree and those that wait
 abbrev pub whole : OperationSet → Waiting → OperationSet
 whole t w = union t w.held
 
@@ -38,7 +38,7 @@ whole t w = union t w.held
 abbrev pub waiting_in : Waiting → List OpView
 waiting_in w = take (size w.held) w.listed
 
--- an operation need not wait: its parent or its target stands in the tree
+-- an operation need not wait: its parent or its target is in the tree
 abbrev pub reaches_in : OperationSet → OpView → Bool
 reaches_in t (Insert id parent ch) = stands_in t parent
 reaches_in t (Erase target) = map.contains_key t.ins target
@@ -67,7 +67,7 @@ pub record IsPaid (placings : ℕ) (w : Waiting) (n : ℕ) : Type 0 where
   pub placed : map.len w.held.ins + n ≤ placings
   pub held : n ≤ w.room
 
--- what a desk of this site keeps true
+-- what is true of a desk of this site
 pub record IsDesk (t : OperationSet) (placings : ℕ) (w : Waiting) (site kept greatest spare : ℕ) : Type 0 where
   pub settled : IsSettled t w
   pub counted : IsCounted (whole t w) kept greatest

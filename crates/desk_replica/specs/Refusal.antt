@@ -6,7 +6,7 @@ use Rattle.desk_replica.specs.declared.answer.TakeFault.{TakeFault}
 use Rattle.desk_replica.specs.Reply.{IsRefusal}
 use Rattle.desk_replica.specs.SetOf.{IsSetOf}
 
--- a desk that takes the operations in this order keeps those before one that it refuses
+-- a desk that takes the operations in this order has those before one that it refuses
 pub record IsFirstRefusal (ops : List OpView) (fault : TakeFault) : Type 0 where
   pub before : List OpView
   pub op : OpView

@@ -1,4 +1,4 @@
--- What a desk that keeps S answers to an operation: reply(S, op) of the definition DeskSet.
+-- What a desk with S answers to an operation: reply(S, op) of the definition DeskSet.
 use Rattle.std.specs.Prelude.{◌≡◌, ◌<◌, ◌≤◌, ◌+◌, ℕ, length, Result, OnOk, OnErr, IfErr, MatchResult}
 use Rattle.bg_types.specs.OperationSet.{OperationSet, Holds, MayJoin, ReusesIdentifier, with_operation, size}
 use Rattle.bg_types.specs.declared.op.Place.TheVariants.{Root}
@@ -26,7 +26,7 @@ abbrev pub IsHiding : OperationSet → OpView → Type 0
 IsHiding s (Insert id parent ch) = ⊥
 IsHiding s (Erase target) = IsAttached s.ins target
 
--- the operation is not in S, no identifier is reused, and fewer than 1,000,000 are kept
+-- the operation is not in S, no identifier is reused, and S has fewer than 1,000,000
 pub record IsAdmitted (s : OperationSet) (op : OpView) : Type 0 where
   pub joins : MayJoin s op
   pub is_new : ¬ (Holds s op)
@@ -39,8 +39,8 @@ IsTaken s op (Placed n) = IsAdmitted s op × IsPlacing s op × (attached_count (
 IsTaken s op Hidden = IsAdmitted s op × IsHiding s op
 IsTaken s op Held = IsAdmitted s op × (¬ (IsPlacing s op)) × (¬ (IsHiding s op))
 
--- S refuses the operation: it inserts a kept identifier with another parent or character, or is new where 1,000,000 are
--- kept. Lack of memory is no refusal of an operation
+-- S refuses the operation: it inserts an identifier of S with another parent or character, or is new where S has
+-- 1,000,000. Lack of memory is no refusal of an operation
 abbrev pub IsRefusal : OperationSet → OpView → TakeFault → Type 0
 IsRefusal s op IdentifierReused = ReusesIdentifier s op
 IsRefusal s op Full = MayJoin s op × (¬ (Holds s op)) × (size s ≡ 1_000_000)

@@ -1,4 +1,4 @@
--- How an operation stands to those of S.
+-- Whether an operation is known in S, new, or under an identifier that S has with something else.
 use Rattle.bg_types.specs.OperationSet.{OperationSet, Holds, MayJoin, ReusesIdentifier}
 use Rattle.bg_types.specs.declared.op.OpView.{OpView}
 use Rattle.desk_replica.specs.declared.placing.Standing.{Standing}

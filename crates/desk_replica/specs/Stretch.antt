@@ -13,7 +13,7 @@ use Rattle.desk_replica.specs.Typing.{parent_at}
 use Rattle.desk_replica.specs.declared.answer.TypeFault.{TypeFault}
 use Rattle.desk_replica.specs.declared.answer.TypeFault.TheVariants.{CounterSpent, Full, Memory}
 
--- the identifier that a desk of this site that keeps S gives to what it types next
+-- the identifier that a desk of this site with S gives to what it types next
 abbrev pub next_id : OperationSet → ℕ → Identifier
 next_id s site = record { counter = next s; site = site }
 
@@ -21,7 +21,7 @@ next_id s site = record { counter = next s; site = site }
 abbrev pub id_after : Identifier → Identifier
 id_after id = later id 1
 
--- what a desk of this site that keeps S makes where characters are typed from a place on
+-- what a desk of this site with S makes where characters are typed from a place on
 abbrev pub typed_text : OperationSet → (site place : ℕ) → List ℕ → List OpView
 typed_text s site place chs = insertions (next_id s site) (parent_at (visible_ids s) place) chs
 
@@ -29,8 +29,8 @@ typed_text s site place chs = insertions (next_id s site) (parent_at (visible_id
 abbrev pub deletions : OperationSet → (place count : ℕ) → List OpView
 deletions s place count = each Erase (take count (drop place (visible_ids s)))
 
--- what a desk of this site that keeps S makes where a number of characters from a place on are replaced: the deletions, and
--- then the insertions, typed where the stretch began
+-- what a desk of this site with S makes where a number of characters from a place on are replaced: the deletions, and
+-- then the insertions, typed at that place
 abbrev pub replacement : OperationSet → (site place count : ℕ) → List ℕ → List OpView
 replacement s site place count chs = let gone = deletions s place count in gone ++ typed_text (with_operations s gone) site place chs
 
@@ -39,8 +39,8 @@ abbrev pub MayHide : OperationSet → OpView → Type 0
 MayHide t (Insert id parent ch) = ⊥
 MayHide t (Erase target) = map.contains_key t.ins target ≡ true
 
--- a desk that keeps S does not type n characters: fewer counters are left, or else more than 1,000,000 operations would
--- be kept. Lack of memory is of no characters
+-- a desk with S does not type n characters: fewer counters are left, or else there would be more than 1,000,000
+-- operations. Lack of memory is of no characters
 abbrev pub IsTextRefusal : OperationSet → ℕ → TypeFault → Type 0
 IsTextRefusal s n CounterSpent = 2 ^ 32 - next s < n
 IsTextRefusal s n Full = (n ≤ 2 ^ 32 - next s) × (1_000_000 < size s + n)
@@ -52,14 +52,14 @@ IsTextRefused s n CounterSpent = IsTextRefusal s n CounterSpent
 IsTextRefused s n Full = IsTextRefusal s n Full
 IsTextRefused s n Memory = (n ≤ 2 ^ 32 - next s) × (size s + n ≤ 1_000_000)
 
--- why a desk that keeps S does not erase n characters
+-- why a desk with S does not erase n characters
 abbrev pub IsRangeRefused : OperationSet → ℕ → TypeFault → Type 0
 IsRangeRefused s n CounterSpent = ⊥
 IsRangeRefused s n Full = 1_000_000 < size s + n
 IsRangeRefused s n Memory = size s + n ≤ 1_000_000
 
--- a desk that keeps S does not put n characters in the place of m: fewer counters are left, or else more than 1,000,000
--- operations would be kept. Lack of memory is of no characters
+-- a desk with S does not put n characters instead of m: fewer counters are left, or else there would be more than
+-- 1,000,000 operations. Lack of memory is of no characters
 abbrev pub IsReplaceRefusal : OperationSet → (m n : ℕ) → TypeFault → Type 0
 IsReplaceRefusal s m n CounterSpent = 2 ^ 32 - next s < n
 IsReplaceRefusal s m n Full = (n ≤ 2 ^ 32 - next s) × (1_000_000 < size s + (m + n))

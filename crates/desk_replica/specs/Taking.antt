@@ -15,7 +15,7 @@ use Rattle.desk_replica.specs.Telling.{IsTold, waiting_count}
 use Rattle.desk_replica.specs.declared.answer.TakeFault.{TakeFault}
 use Rattle.desk_replica.specs.declared.answer.TakeFault.TheVariants.{Memory}
 
--- a desk that keeps S refuses none of the first operations of a list that it takes in order
+-- a desk with S refuses none of the first operations of a list that it takes in order
 abbrev pub AreAccepted : OperationSet → List OpView → ℕ → Type 0
 AreAccepted s ops count = (k : ℕ) (op : OpView) (fault : TakeFault) → k < count → slice_get ops k ≡ Some op → ¬ (IsRefusal (with_operations s (take k ops)) op fault)
 
@@ -35,8 +35,8 @@ pub record IsRefusedNext (desk : Desk) (ops : List OpView) (taken : ℕ) (fault 
   pub refused : IsRefused desk.set op fault
   pub unpaid : fault ≡ Memory → desk.spare ≡ 0
 
--- the first operations of a list, so many, are insertions that one site typed in a row, the first one under the counter behind the greatest,
--- below what is placed in the tree
+-- the first operations of a list, so many, are insertions that one site typed in one go, the first one under the counter behind
+-- the greatest, below what is placed in the tree
 pub record IsRunInFront (t : OperationSet) (greatest : ℕ) (ops : List OpView) (count : ℕ) : Type 0 where
   pub first : Identifier
   pub parent : Place
@@ -47,7 +47,7 @@ pub record IsRunInFront (t : OperationSet) (greatest : ℕ) (ops : List OpView) 
   pub stands : stands_in t parent ≡ true
   pub well_formed : All IsWellFormed (take count ops)
 
--- the list has grown by what is told of operations that a desk which keeps S takes one after the other
+-- the list has grown by what is told of operations that a desk with S takes one after the other
 abbrev pub AreTold : OperationSet → List OpView → (old new : List Change) → Type 0
 AreTold s [] old new = new ≡ old
 AreTold s (op ∷ ops) old new = (more : List Change) × IsTold s (with_operation s op) old more × AreTold (with_operation s op) ops more new

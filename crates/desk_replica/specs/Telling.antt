@@ -45,8 +45,8 @@ is_shown s id = is_attached s id && not (is_erased s id)
 abbrev pub ShowsAll : (s t : OperationSet) → Type 0
 ShowsAll s t = (id : Identifier) → is_shown s id ≡ true → is_shown t id ≡ true
 
--- the steps from S to T, which holds what S holds: each element that T shows and S does not is put exactly once, each that S
--- shows and T does not is cut exactly once, and no other stands in the list
+-- the steps from S to T, which has what S has: each element that T shows and S does not is put exactly once, each that S
+-- shows and T does not is cut exactly once, and no other is in the list
 pub record AreSteps (s t : OperationSet) (steps : List TextStep) : Type 0 where
   pub part : IsPartOf s t
   pub well_formed : AllWellFormed t
@@ -89,7 +89,7 @@ change_count s t = count_by (λ id. not (is_shown s id)) (visible_ids t) + count
 
 -- ---- how many are told at most
 
--- of an operation that a desk which keeps S takes: of a deletion one, of an insertion one more than those that wait below it
+-- of an operation that a desk with S takes: of a deletion one, of an insertion one more than those that wait below it
 abbrev pub TellsAtMost : OperationSet → OpView → ℕ → Type 0
 TellsAtMost s (Insert id parent ch) n = (m : ℕ) × CountsBelow s id m × (n ≡ m + 1)
 TellsAtMost s (Erase target) n = n ≡ 1

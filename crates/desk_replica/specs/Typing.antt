@@ -17,7 +17,7 @@ abbrev pub parent_at : List Identifier → ℕ → Place
 parent_at ids zero = Root
 parent_at ids (suc k) = option_map_or After (slice_get ids k) Root
 
--- the insertion that a desk of this site that keeps S makes where a character is typed at place k
+-- the insertion that a desk of this site with S makes where a character is typed at place k
 abbrev pub typed : OperationSet → ℕ → ℕ → ℕ → Identifier × Node
 typed s site k ch = (record { counter = next s; site = site }, record { parent = parent_at (visible_ids s) k; ch = ch })
 
@@ -29,7 +29,7 @@ pub record IsTypedAt (s t : OperationSet) (k : ℕ) (e : Identifier × Node) : T
   pub walk_is : (at : ℕ) × (walk t Root ≡ insert (walk s Root) at e)
   pub text_is : text t ≡ insert (text s) k e.1.ch
 
--- a desk that keeps S makes no insertion: the next counter is spent, or else 1,000,000 are kept. Lack of memory is of no
+-- a desk with S makes no insertion: the next counter is spent, or else it has 1,000,000 operations. Lack of memory is of no
 -- insertion
 abbrev pub IsTypeRefusal : OperationSet → TypeFault → Type 0
 IsTypeRefusal s CounterSpent = 2 ^ 32 ≤ next s
@@ -42,7 +42,7 @@ IsTypeRefused s CounterSpent = IsTypeRefusal s CounterSpent
 IsTypeRefused s Full = IsTypeRefusal s Full
 IsTypeRefused s Memory = (next s < 2 ^ 32) × (size s < 1_000_000)
 
--- the operation deletes the visible identifier at place k; the text is the old one without that place, and the walk is
+-- the operation deletes the visible identifier at place k; the text is the old one without that character, and the walk is
 -- the old one
 pub record IsErasedAt (s t : OperationSet) (k : ℕ) (op : OpView) : Type 0 where
   pub target : Identifier

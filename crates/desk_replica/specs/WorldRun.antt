@@ -14,16 +14,16 @@ use Rattle.desk_replica.specs.DeskSets.{sets_of, sites_of, empty_desks}
 use Rattle.desk_replica.specs.Merging.{with_operations}
 use Rattle.desk_replica.specs.WorldStep.{WorldState, WorldStep}
 
--- desks may have these sites: each is at least 1, and none stands twice
+-- desks may have these sites: each is at least 1, and none comes twice
 pub record AreSites (sites : List ℕ) : Type 0 where
   pub positive : All (λ site. 0 < site) sites
   pub apart : AllPairs (λ a b. a ≢ b) sites
 
--- `count` desks that hold nothing, and nothing made
+-- `count` desks that have nothing, and nothing made
 abbrev pub empty_world : ℕ → WorldState
 empty_world count = record { sets = empty_desks count; made = [] }
 
--- what desks hold, and what was made
+-- what desks have, and what was made
 abbrev pub world_of : List Desk → List OpView → WorldState
 world_of desks made = record { sets = sets_of desks; made = made }
 

@@ -46,7 +46,7 @@ typed_there sites w desk place ch = insertion (typed (set_at w.sets desk) (site_
 
 -- the step is done, and the world is v then. A character is inserted after the visible one before the place, with the next
 -- counter of the desk's set and the desk's site; the visible character at a place is erased; an operation made before is
--- taken; or all that the other desk holds is
+-- taken; or all that the other desk has is
 abbrev pub IsDone : List ℕ → WorldState → Step → WorldState → Type 0
 IsDone sites w (Typed desk place ch) v =
     IsWellFormed (typed_there sites w desk place ch) × ((fault : TypeFault) → ¬ (IsTypeRefusal (set_at w.sets desk) fault)) × (v ≡ with_made w desk (typed_there sites w desk place ch))
@@ -59,7 +59,7 @@ IsDone sites w (Merge desk from) v =
     ((fault : TakeFault) → ¬ (IsStepRefused w.sets (merges desk from) fault)) × (v ≡ record { sets = sets_after_step w.sets (merges desk from); made = w.made })
 
 -- the step is refused with this number, and the world is v then: as it was, but that a merge which meets the limit may leave
--- its desk with part of what the other one holds
+-- its desk with part of what the other one has
 abbrev pub IsRefusedAs : WorldState → Step → ℕ → WorldState → Type 0
 IsRefusedAs w (Typed desk place ch) number v = (fault : TypeFault) × IsTypeRefusal (set_at w.sets desk) fault × (number ≡ type_code fault) × (v ≡ w)
 IsRefusedAs w (Erase desk place) number v = (size (set_at w.sets desk) ≡ 1_000_000) × (number ≡ 2) × (v ≡ w)

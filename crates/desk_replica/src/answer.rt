@@ -8,7 +8,7 @@ use thiserror::Error;
 /// What became of an operation that was taken.
 #[derive(Clone, Copy, Debug, PartialEq, Eq)]
 pub enum Taken {
-    /// The desk kept it already.
+    /// The desk has it already.
     Known,
     /// An insertion was placed, and this many held insertions through it.
     Placed(usize),
@@ -21,10 +21,10 @@ pub enum Taken {
 /// Why a desk refused an operation. Each prints its bare name.
 #[derive(Clone, Copy, Debug, PartialEq, Eq, Hash, Error)]
 pub enum TakeFault {
-    /// An insertion whose identifier is kept with another parent or character.
+    /// An insertion whose identifier the desk has with another parent or character.
     #[error("IdentifierReused")]
     IdentifierReused,
-    /// A new operation while 1,000,000 are kept.
+    /// A new operation where the desk has 1,000,000.
     #[error("Full")]
     Full,
     /// A growth was refused.
@@ -45,7 +45,7 @@ impl TakeFault {
     }
 }
 
-/// Why operations in order were not all taken: how many of them stand, and why the next one was refused.
+/// Why operations in order were not all taken: how many of them were, and why the next one was refused.
 #[derive(Clone, Copy, Debug, PartialEq, Eq, Hash)]
 pub struct Stopped {
     pub taken: usize,
@@ -58,7 +58,7 @@ pub enum TypeFault {
     /// The next counter is above 4,294,967,295.
     #[error("CounterSpent")]
     CounterSpent,
-    /// 1,000,000 operations are kept.
+    /// The desk has 1,000,000 operations.
     #[error("Full")]
     Full,
     /// A growth was refused.

@@ -14,10 +14,10 @@ const FURTHER: usize = 64;
 
 /// Where the next element of another desk is awaited: a part of the own sequence, and a place there. Two desks have the
 /// elements that both know in one order, so it moves on, and back only over what it read in vain. It may stand at a
-/// part's end, since what is placed next may stand there. Still it is a guess: what stands ahead is compared.
+/// part's end, since what is placed next may stand there. Still it is a guess: what is ahead is compared.
 ///
-/// The other desk's elements pay for the own ones that it passes in search: a merge takes no longer because a desk has
-/// many own ones. Where it has not been paid enough it stays behind, and what is awaited is looked up.
+/// For each of the other desk's elements it may read a number of own ones in search: so a merge takes no longer
+/// because a desk has many own ones. Where it may not read on it stays behind, and what is awaited is looked up.
 #[derive(Clone, Copy)]
 pub struct Cursor {
     part: usize,
@@ -28,7 +28,7 @@ pub struct Cursor {
 }
 
 impl Cursor {
-    /// Before all elements, and not paid.
+    /// Before all elements, and it may read none.
     pub fn front() -> Cursor {
         Cursor {
             part: 0,
@@ -38,7 +38,7 @@ impl Cursor {
         }
     }
 
-    /// Is paid by so many elements of the other desk.
+    /// Lets it read own elements for so many of the other desk.
     pub fn pay(&mut self, count: usize) {
         self.paid = self.paid.saturating_add(count.saturating_mul(READ_FOR_ONE));
     }
@@ -62,15 +62,15 @@ impl Cursor {
         self.at = self.at.saturating_add(count);
     }
 
-    /// Moves behind the element with this identifier, and tells whether `find` finds it.
+    /// Moves behind the element with this identifier, and answers whether `find` finds it.
     pub fn pass<S: Sequence>(&mut self, seq: &S, id: Id) -> bool {
         let found = self.find(seq, id);
         self.at = self.at.saturating_add(usize::from(found));
         found
     }
 
-    /// Moves to the element with this identifier, if that stands here or later and what stands before it is paid for, and
-    /// tells whether it does. Else it moves as far as is paid for.
+    /// Moves to the element with this identifier, if that is here or later and not too far to be read, and answers
+    /// whether it is. Else it moves as far as it may read.
     pub fn find<S: Sequence>(&mut self, seq: &S, id: Id) -> bool {
         let mut unpacked = Unpacked::new();
         for _ in self.part..seq.part_count() {
@@ -120,13 +120,13 @@ impl Cursor {
         self.near = self.near.saturating_add(read).saturating_add(FURTHER);
     }
 
-    /// Moves back to where it stood. What was read stays paid.
+    /// Moves back to where it was. What was read stays counted.
     fn go_back(&mut self, stood: Cursor) {
         self.part = stood.part;
         self.at = stood.at;
     }
 
-    /// Moves to the element with this identifier among those that are left of a part, or as far as is paid for.
+    /// Moves to the element with this identifier among those that are left of a part, or as far as it may read.
     fn find_in(&mut self, rest: &[Element], id: Id) -> bool
         ensures paid { self.new.at + self.new.paid ≤ self.old.at + self.old.paid }
     {
@@ -138,7 +138,7 @@ impl Cursor {
         found.is_some()
     }
 
-    /// Moves to the next part, which is paid for as an element is.
+    /// Moves to the next part, which counts as an element that was read.
     fn go_on(&mut self) {
         self.part = self.part.saturating_add(1);
         self.at = 0;

@@ -33,7 +33,7 @@ ghost use Rattle.desk_replica.specs.DeskSets.{set_at};
 ghost use Rattle.desk_replica.specs.WorldStep.{WorldState, WorldStep, next_identifier};
 ghost use Rattle.desk_replica.specs.WorldRun.{WorldRun, IsWorld, IsLater, all_made};
 
-// The *sub-walk* and *unbroken-stretch* laws speak of walks alone, and stand where the walk is.
+// The *sub-walk* and *unbroken-stretch* laws speak of walks alone, and are where the walk is.
 pub use rga_tree::laws::{sub_walk, unbroken_stretch};
 
 /// The union of sets of operations, where it is defined, is commutative, associative and
@@ -44,7 +44,7 @@ pub fn union_law()
     ensures idempotent { (s : OperationSet) → union s s ≡ s }
 {}
 
-/// A set that holds all that another one holds has at least as many operations.
+/// A set with all operations of another one has at least as many.
 pub fn size_of_more()
     ensures { (s t : OperationSet) → ((op : OpView) → Holds s op → Holds t op) → size s ≤ size t }
 {}
@@ -62,7 +62,7 @@ pub fn one_refusal()
     ensures first { (ops : List OpView) (f g : TakeFault) → IsFirstRefusal ops f → IsFirstRefusal ops g → f ≡ g }
 {}
 
-/// Of the operations that a set within the limit holds, a desk refuses none.
+/// Of the operations of a set within the limit a desk refuses none.
 pub fn none_refused()
     ensures { (ops : List OpView) (s : OperationSet) (fault : TakeFault)
         → IsSetOf ops s → size s ≤ 1_000_000 → IsFirstRefusal ops fault → ⊥ }
@@ -82,8 +82,8 @@ pub fn typed_and_erased()
 {}
 
 /// Characters that are typed at once are typed one after the other, each behind the one before, and those that are
-/// erased at once are erased one after the other, each at the place of the first. In the place of others the same is
-/// typed as where nothing is erased.
+/// erased at once are erased one after the other, each at the place of the first. Where others are erased the same
+/// is typed as where nothing is.
 pub fn stretches()
     ensures typed { (s : OperationSet) (site place ch : ℕ) (chs : List ℕ) → AllWellFormed s → place ≤ length (visible s)
         → All IsWellFormed (typed_text s site place (ch ∷ chs))
@@ -117,7 +117,7 @@ pub fn own_identifiers()
         → slice_get w.made i ≡ Some (Insert id p a) → slice_get w.made j ≡ Some (Insert id q b) → i ≡ j }
 {}
 
-/// No desk of a world refuses what it is delivered, or what another one holds, for an identifier
+/// No desk of a world refuses what it is delivered, or what another one has, for an identifier
 /// that was used before.
 pub fn no_reuse()
     ensures delivered { (sites : List ℕ) (w v : WorldState) (steps : List Step) (replies : List Reply)
@@ -128,7 +128,7 @@ pub fn no_reuse()
         → slice_get steps k ≡ Some (Merge desk from) → slice_get replies k ≡ Some (Refused 1) → ⊥ }
 {}
 
-/// Each desk of a world holds part of what was made before, so any two agree, even at different
+/// Each desk of a world has part of what was made before, so any two agree, even at different
 /// times. A desk reads all characters, erased ones too, in the order of the walk of all operations
 /// made, with some left out.
 pub fn worlds_agree()
@@ -154,7 +154,7 @@ pub fn one_order_of_worlds()
         → Precedes (set_at w.sets desk) a b ↔ Precedes (set_at v.sets other) a b }
 {}
 
-/// Desks of a world that hold the same operations show the same text. Where all that was made has
+/// Desks of a world that have the same operations show the same text. Where all that was made has
 /// reached a desk, in whatever order, it shows the text of all.
 pub fn one_text_of_worlds()
     ensures same { (sites : List ℕ) (w v : WorldState) → IsWorld sites w → IsLater sites w v
@@ -195,7 +195,7 @@ pub fn typed_stays()
         → Precedes (set_at u.sets other) a (next_identifier sites w desk) }
 {}
 
-/// Two runs of characters after one place, each character after the one before, never mix: the run
+/// Two runs of characters after one parent, each character after the one before, never mix: the run
 /// whose first identifier is greater is wholly left of the other in every desk that has both
 /// attached.
 pub fn runs_of_worlds()

@@ -1,4 +1,4 @@
-//! A desk: one set of operations, kept as a tree of placed insertions and a store of what came early; and worlds of desks.
+//! A desk: one set of operations, in a tree of placed insertions and a store of what came early; and worlds of desks.
 #![tactic(auto)]
 
 mod answer;

@@ -13,10 +13,10 @@ use rga_tree::Sequence;
 
 /// Is told of changes of a text, one after the other.
 pub trait Listener {
-    /// The changes that were told, where they are kept.
+    /// The changes that were told, where they are listed.
     ghost told: { Self → Option (List TextChange) };
 
-    /// How many changes can be kept without taking memory.
+    /// How many changes can be listed without taking memory.
     ghost capacity: { Self → ℕ };
 
     /// Makes room for what one operation may tell while these wait: a deletion one change, an insertion one for itself and
@@ -44,7 +44,7 @@ pub trait Listener {
         ensures capacity { capacity self.old ≤ capacity self.new };
 }
 
-/// Is told, and keeps nothing. No place is sought for it.
+/// Is told, and lists nothing. No place is sought for it.
 #[derive(Clone, Copy)]
 pub struct Nobody;
 
@@ -62,7 +62,7 @@ impl Listener for Nobody {
     fn hear_cut<S: Sequence>(&mut self, _seq: &S, _id: Id) {}
 }
 
-/// Keeps the changes behind those that it has.
+/// Appends the changes to those that it has.
 impl Listener for Vec<Change> {
     ghost told = { λ v. Some v.items };
 

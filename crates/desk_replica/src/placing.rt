@@ -25,19 +25,20 @@ use bg_types::{Change, Id, Memory, Op, OpView, Place};
 use pending_ops::Held;
 use rga_tree::Sequence;
 
-/// For how many operations one is paid that isn't paid for, itself included: those that wait come in numbers.
+/// For how many operations memory is asked for where one comes that isn't paid for, itself included: those that
+/// wait come in numbers.
 const AHEAD: usize = 64;
 
-/// How an operation stands to those that are kept.
+/// Whether a desk knows an operation.
 #[derive(Clone, Copy)]
 pub enum Standing {
     Known,
-    /// Its identifier is kept with another parent or character.
+    /// Its identifier is there with another parent or character.
     Reused,
     New,
 }
 
-/// What is kept at this identifier, if anything.
+/// What is there at this identifier, if anything.
 fn kept_at<S: Sequence>(seq: &S, held: &Held, id: Id) -> Option<Op>
     ensures { result ≡ option_map (λ node. Insert id node.parent node.ch)
         (map.get (whole (S.content seq.now) held.now).ins id) }
@@ -48,7 +49,7 @@ fn kept_at<S: Sequence>(seq: &S, held: &Held, id: Id) -> Option<Op>
     }
 }
 
-/// How an operation stands to those that are kept, of which none names a counter above `greatest`.
+/// Whether an operation is among those of a desk, of which none names a counter above `greatest`.
 #[inline(always)]
 pub fn look_up<S: Sequence>(seq: &S, held: &Held, greatest: u32, op: &Op) -> Standing
     requires settled { IsSettled (S.content seq.now) held.now }
@@ -69,7 +70,7 @@ pub fn look_up<S: Sequence>(seq: &S, held: &Held, greatest: u32, op: &Op) -> Sta
     }
 }
 
-/// Whether a deletion of this target is kept.
+/// Whether a deletion of this target is there.
 fn is_erased<S: Sequence>(seq: &S, held: &Held, target: Id) -> bool
     requires { IsSettled (S.content seq.now) held.now }
     ensures { result ≡ set.contains (whole (S.content seq.now) held.now).del target }
@@ -330,7 +331,7 @@ pub fn count_waiting(held: &Held) -> usize
 {
     let count = held.count();
     if count > 0 {
-        // Reading one operation of the list tells the proof that it is whole.
+        // Reading one operation of the list shows the proof that it is whole.
         let _first = held.nth(0);
     }
     count

@@ -33,7 +33,7 @@ pub fn hidden_at<S: Sequence>(seq: &S, k: usize) -> Id
     unreachable!()
 }
 
-/// The identifier of hidden element k of a row, or, where the row has too few, how much k is
+/// The identifier of hidden element k of a list, or, where the list has too few, how much k is
 /// greater than their number.
 fn hidden_in(row: &[Element], k: usize) -> Result<Id, usize>
     ensures ok { IfOk result (λ id. slice_get (hidden_ids row.now) k ≡ Some id) }

@@ -30,11 +30,11 @@ use rga_tree::{Sequence, text_of};
 use std::alloc::Global;
 use std::marker::Model;
 
-/// How many operations a desk keeps at most.
+/// How many operations a desk has at most.
 pub const MOST_OPERATIONS: u32 = 1_000_000;
 
 /// One desk: a set of operations, read as a text. Operations come in any order and any number of
-/// times; those that wait for one that is not there yet are kept too.
+/// times; those that wait for one that is not there yet are of its set too.
 ///
 /// Places count visible characters, from 0.
 pub struct Replica<S: Sequence> {
@@ -42,7 +42,7 @@ pub struct Replica<S: Sequence> {
     site: u16,
     seq: S,
     held: Held,
-    /// How many operations are kept.
+    /// How many operations there are.
     kept: u32,
     /// The greatest counter that one of them names, or 0.
     greatest: u32,
@@ -97,7 +97,7 @@ impl<S: Sequence> Replica<S> {
         }
     }
 
-    /// Pays in advance for n new operations (at most 1,000,000), those that are spare included: then
+    /// Reserves memory for n new operations (at most 1,000,000), those that are spare included: then
     /// n are taken, typed or erased without memory. After `Memory` the desk is as it was.
     /// Cost: O(n), memory for them: each table's at once; over `Blocks` a block for each 256, over `Runs` for the worst.
     pub fn reserve(&mut self, n: usize) -> Result<(), Memory>
@@ -265,7 +265,7 @@ impl<S: Sequence> Replica<S> {
         Some(self.seq.visible_before(id))
     }
 
-    /// How many operations are kept, at most 1,000,000.
+    /// How many operations there are, at most 1,000,000.
     pub fn op_count(&self) -> usize
         ensures count { result ≡ size self.now.set }
         ensures limited { size self.now.set ≤ 1_000_000 }
@@ -274,7 +274,7 @@ impl<S: Sequence> Replica<S> {
         self.kept as usize
     }
 
-    /// The kept operation at place `j` of a list of them all: the placed insertions in the order of
+    /// Operation `j`, from 0, of a list of them all: the placed insertions in the order of
     /// the walk, then the deletions of placed ones in that order, then those that wait. While the
     /// desk does not change, neither does the list. Goes over the elements if it is a deletion
     /// of a placed one.

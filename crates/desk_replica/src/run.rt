@@ -1,4 +1,4 @@
-//! Runs in front of a list: insertions that one site typed in a row, which are placed at once.
+//! Runs in front of a list: insertions that one site typed in one go, which are placed at once.
 
 ghost use Rattle.std.specs.Prelude.{◌≡◌, ◌≤◌, ◌<◌, ◌+◌, ◌-◌, ◌*◌, ◌^◌, All, length, take, true};
 ghost use Rattle.std.specs.Bool.{OnTrue};
@@ -79,7 +79,7 @@ fn place_from<S: Sequence>(
     ensures paid { IsPaid (S.free seq.new) held.now spare.new }
     ensures spare { spare.new ≡ spare.old - result }
 {
-    // Reading the identifier tells the proof that its counter fits.
+    // Reading the identifier shows the proof that its counter fits.
     let _known = first.counter();
     let mut bytes = [0; PIECE_BYTES];
     let (count, end) = gather(first, parent, &ops[..ops.len().min(PIECE)], &mut bytes);

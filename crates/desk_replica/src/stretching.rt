@@ -1,4 +1,4 @@
-//! What a stretch that is erased or typed changes in a sequence.
+//! What characters that are erased or typed at once change in a sequence.
 
 ghost use Rattle.std.specs.Prelude.{◌≡◌, ◌≤◌, ◌<◌, ◌+◌, ◌-◌, ◌^◌, ◌++◌, take, drop, length, All, OnOk, OnErr, IsOk, true, map as each, vec_len, vec_capacity};
 ghost use Rattle.std.specs.FinMap as map;
@@ -17,8 +17,8 @@ use bg_types::{Id, Memory, Op, OpView, Place};
 use pending_ops::Held;
 use rga_tree::{Element, Sequence, Unpacked};
 
-/// Pays for placing n characters that are typed, beside the spare operations that are left then. They are never early, so
-/// the store of early operations needs no room for them.
+/// Reserves memory for placing n characters that are typed, beside the spare operations that are left then. They are
+/// never early, so the store of early operations needs no room for them.
 pub fn pay_for_typed<S: Sequence>(
     seq: &mut S,
     held: &Held,
@@ -84,7 +84,7 @@ fn list_stretch<S: Sequence>(seq: &mut S, from: usize, count: usize, made: &mut 
     }
 }
 
-/// Lists the deletions of the visible elements in front of a row, as many as are said or as there are, and returns how many
+/// Lists the deletions of the visible elements in front of a list, as many as are said or as there are, and returns how many
 /// are left to be listed.
 fn list_row(row: &[Element], count: usize, made: &mut Vec<Op>) -> usize
     requires listed { vec_len made.old + count ≤ vec_capacity made.old }

@@ -1,4 +1,4 @@
-//! Desks of a list, which take operations and what the others hold. They count from 0.
+//! Desks of a list, which take operations and what the others have. They count from 0.
 
 ghost use Rattle.std.specs.Prelude.{◌≡◌, ◌≢◌, ◌⊎◌, ◌<◌, ◌+◌, OnOk, OnErr, IfOk, IfErr, length};
 ghost use Rattle.bg_types.specs.OperationSet.{size};
@@ -30,7 +30,7 @@ pub fn take_at<S: Sequence>(
     desks[desk].take(op)
 }
 
-/// Lets a desk take all that another one holds, and returns how many operations were new. A desk
+/// Lets a desk take all that another one has, and returns how many operations were new. A desk
 /// that meets itself stays as it is. After `IdentifierReused` nothing has changed; after `Full` or
 /// `Memory` some of them are taken.
 /// Cost: that of `merge`, memory too.
@@ -62,7 +62,7 @@ fn meet_itself<S: Sequence>(desk: &Replica<S>) -> u32
     ensures none { result ≡ 0 }
     ensures meets { IsMerge desk.now desk.now desk.now (Ok result) }
 {
-    // Reading the count tells the proof that the desk keeps its limit.
+    // Reading the count shows the proof that the desk is within its limit.
     let _kept = desk.op_count();
     0
 }
@@ -86,7 +86,7 @@ fn meet_another<S: Sequence>(
     meet(&mut back[0], &front[from])
 }
 
-/// A desk takes all that another one holds.
+/// A desk takes all that another one has.
 fn meet<S: Sequence>(desk: &mut Replica<S>, other: &Replica<S>) -> Result<u32, TakeFault>
     ensures { IsMerge desk.old other.now desk.new result }
 {

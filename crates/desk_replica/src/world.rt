@@ -34,7 +34,7 @@ pub struct World<S: Fresh> {
 /// Why there is no world. Each prints its bare name.
 #[derive(Clone, Copy, Debug, PartialEq, Eq, Hash, Error)]
 pub enum WorldFault {
-    /// A site is 0, or stands twice.
+    /// A site is 0, or comes twice.
     #[error("BadSites")]
     BadSites,
     /// A growth was refused.
@@ -73,7 +73,7 @@ impl From<AllocError> for WorldFault {
 /// Does steps in order at fresh desks with these sites, each step at one desk. The caller names the desks'
 /// sequence. Without the key, only one who measures the times of many runs can choose identifiers that make the steps slow.
 ///
-/// `BadSites` where a site is 0 or stands twice, which is tested before the first step; `Memory` where
+/// `BadSites` where a site is 0 or comes twice, which is tested before the first step; `Memory` where
 /// a growth is refused, which ends the run. What a desk refuses is a reply, and the run goes on.
 /// Cost: that of each step's call; memory for as many operations and replies as there are steps, asked for once.
 pub fn run_world<S: Fresh>(

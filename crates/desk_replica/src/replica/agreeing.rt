@@ -18,7 +18,7 @@ use pending_ops::Held;
 use rga_tree::{Element, Sequence, Unpacked};
 
 impl<S: Sequence> Replica<S> {
-    /// Whether an identifier is kept by both, with another parent or character.
+    /// Whether there is an identifier that both have, with another parent or character.
     pub(super) fn disagrees(&self, other: &Replica<S>) -> bool
         ensures yes { OnTrue result (Disagree self.now.set other.now.set) }
         ensures no { OnFalse result (Agree self.now.set other.now.set) }
@@ -40,7 +40,7 @@ impl<S: Sequence> Replica<S> {
         false
     }
 
-    /// Whether an element of a row reuses an identifier. The first is awaited at the cursor, and so is what follows one that
+    /// Whether an element of a list reuses an identifier. The first is awaited at the cursor, and so is what follows one that
     /// is known; what follows a new one is looked up.
     fn disagrees_row(&self, row: &[Element], cursor: &mut Cursor) -> bool
         requires { All (λ e. MayFollow e.parent e.id) row.now }
@@ -61,8 +61,8 @@ impl<S: Sequence> Replica<S> {
         false
     }
 
-    /// How the insertion of an element stands to what is kept. A counter above all that are named is seen in place to be
-    /// new.
+    /// Whether the insertion of an element is known. One with a counter above all that are named is new: no look-up is
+    /// needed.
     #[inline(always)]
     fn standing(&self, e: &Element) -> Standing
         requires { MayFollow e.now.parent e.now.id }
@@ -74,7 +74,7 @@ impl<S: Sequence> Replica<S> {
         look_up(&self.seq, &self.held, self.greatest, &insertion_of(e))
     }
 
-    /// How many elements in front of a row are known without a look-up, where it stands behind an element that is known.
+    /// How many elements in front of a list are known without a look-up, where it comes behind an element that is known.
     #[inline(never)]
     pub(super) fn known_behind(&self, id: Id, row: &[Element], cursor: &mut Cursor) -> usize
         ensures within { result ≤ length row.now }
@@ -89,12 +89,12 @@ impl<S: Sequence> Replica<S> {
         self.known_in_front(row, cursor)
     }
 
-    /// Whether an insertion that is kept is placed: it is, where none waits.
+    /// Whether an insertion that is known is placed: it is, where none waits.
     fn is_placed(&self, id: Id) -> bool {
         self.held.insertion_count() == 0 || self.seq.has(id)
     }
 
-    /// How many elements in front of a row stand at the cursor, one behind the other: what made them is known without a
+    /// How many elements in front of a list are at the cursor, one behind the other: what made them is known without a
     /// look-up. The cursor moves behind them.
     pub(super) fn known_in_front(&self, row: &[Element], cursor: &mut Cursor) -> usize
         ensures within { result ≤ length row.now }
@@ -118,7 +118,7 @@ impl<S: Sequence> Replica<S> {
         false
     }
 
-    /// Whether an operation's identifier is kept with another parent or character.
+    /// Whether an operation's identifier is known with another parent or character.
     fn reuses(&self, op: &Op) -> bool
         ensures yes { OnTrue result (ReusesIdentifier self.now.set op.now) }
         ensures no { OnFalse result (MayJoin self.now.set op.now) }
@@ -130,7 +130,7 @@ impl<S: Sequence> Replica<S> {
     }
 }
 
-/// How many elements in front of both rows were made by the same insertions.
+/// How many elements in front of both lists were made by the same insertions.
 fn alike_in_front(one: &[Element], other: &[Element]) -> usize
     ensures within { result ≤ length other.now }
     ensures alike { insertions_in (take result one.now) ≡ insertions_in (take result other.now) }

@@ -11,16 +11,16 @@ use bg_types::Op;
 use rga_tree::Sequence;
 
 impl<S: Sequence> Replica<S> {
-    /// Takes operations in order, as `take` does each, up to the first that is refused: those before it stand.
-    /// Cost: that of `take` for each, memory likewise; insertions that a site typed in a row, under counters behind all that are
-    /// named, are placed 64 at a time, by one `Sequence::place_run`.
+    /// Takes operations in order, as `take` does each, up to the first that is refused: those before it stay taken.
+    /// Cost: that of `take` for each, memory likewise; insertions that a site typed in one go, under counters behind all that
+    /// are named, are placed 64 at a time, by one `Sequence::place_run`.
     pub fn take_all(&mut self, ops: &[Op]) -> Result<(), Stopped>
         ensures ok { OnOk result (AreTaken self.old ops.now (length ops.now) self.new) }
         ensures stopped { IfErr result (λ stop. AreTaken self.old ops.now stop.taken self.new) }
         ensures fault { IfErr result (λ stop. IsRefusedNext self.new ops.now stop.taken stop.fault) }
         ensures limited { size self.new.set ≤ 1_000_000 }
     {
-        // Reading the count tells the proof that the desk keeps its limit.
+        // Reading the count shows the proof that the desk is within its limit.
         let _kept = self.op_count();
         let mut taken = 0;
         while taken < ops.len() {

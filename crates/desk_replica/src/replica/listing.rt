@@ -17,9 +17,9 @@ use pending_ops::Held;
 use rga_tree::{Element, Sequence, Unpacked};
 
 impl<S: Sequence> Replica<S> {
-    /// All operations that are kept, each once, in the order in which `op_at` tells them. Memory is
+    /// All operations, each once, in the order of `op_at`. Memory is
     /// taken once.
-    /// Cost: O(n) of the operations kept, memory for them.
+    /// Cost: O(n) of the operations, memory for them.
     pub fn ops(&self) -> Result<Vec<Op>, Memory>
         ensures listed { IfOk result (λ ops. ops.items ≡ listed self.now) }
         ensures each_once { OnOk result (ListsOnce self.now.set (listed self.now)) }

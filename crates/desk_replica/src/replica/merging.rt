@@ -31,7 +31,7 @@ use rga_tree::{Element, Sequence, Unpacked};
 impl<S: Sequence> Replica<S> {
     /// Takes all operations of another desk, and returns how many were new. After
     /// `IdentifierReused` nothing has changed; after `Full` or `Memory` some of them are taken. While
-    /// as many are spare as the other desk keeps, the fault is not `Memory`; each operation that was
+    /// as many are spare as the other desk has, the fault is not `Memory`; each operation that was
     /// new lowers the spare ones by at most one.
     /// Cost: a `take` for each operation of the other desk; memory likewise.
     pub fn merge(&mut self, other: &Replica<S>) -> Result<u32, TakeFault>
@@ -138,7 +138,7 @@ impl<S: Sequence> Replica<S> {
         Ok(())
     }
 
-    /// Takes an operation, and tells whether it was known.
+    /// Takes an operation, and answers whether it was known.
     fn take_one<L: Listener>(&mut self, op: &Op, listener: &mut L) -> Result<bool, TakeFault>
         ensures grown { IsGrown self.old (op.now ∷ []) self.new }
         ensures shows { is_deletion op.now ≡ false → ShowsAll self.old.set self.new.set }
@@ -151,7 +151,7 @@ impl<S: Sequence> Replica<S> {
         Ok(was_known(&taken))
     }
 
-    /// Takes the deletions of hidden elements whose insertions are kept: of those that are placed, and of those that wait.
+    /// Takes the deletions of hidden elements whose insertions are known: of those that are placed, and of those that wait.
     fn erase_elements<L: Listener>(&mut self, seq: &S, listener: &mut L) -> Result<(), TakeFault>
         requires well_formed { AllWellFormed self.old.set }
         ensures grown { IsGrown self.old (deletions_in (elements (S.content seq.now))) self.new }
@@ -168,7 +168,7 @@ impl<S: Sequence> Replica<S> {
         Ok(())
     }
 
-    /// Takes the deletions of the hidden elements of a row. The own elements stand at the cursor or behind it.
+    /// Takes the deletions of the hidden elements of a list. The own elements are at the cursor or behind it.
     fn erase_row<L: Listener>(
         &mut self,
         row: &[Element],
@@ -190,7 +190,7 @@ impl<S: Sequence> Replica<S> {
     }
 
     /// Takes the deletion of an element that is hidden. Where the own one is hidden, its deletion is known without a
-    /// look-up; a counter above all that are named is seen in place to be new.
+    /// look-up; with a counter above all that are named it is new, and needs none.
     fn erase_element<L: Listener>(
         &mut self,
         e: &Element,
@@ -218,7 +218,7 @@ impl<S: Sequence> Replica<S> {
         Ok(())
     }
 
-    /// Whether an insertion with this identifier is kept.
+    /// Whether an insertion with this identifier is known.
     fn inserts(&self, id: Id) -> bool
         ensures { result ≡ map.contains_key self.now.set.ins id }
     {
@@ -228,7 +228,8 @@ impl<S: Sequence> Replica<S> {
         self.seq.has(id) || self.held.insertion(id).is_some()
     }
 
-    /// Whether an identifier's counter is above all that are named: then no insertion with it is kept, which is seen in place.
+    /// Whether an identifier's counter is above all that are named: then no insertion with it is known, and no look-up is
+    /// needed.
     #[inline(always)]
     fn is_beyond(&self, id: Id) -> bool
         ensures { OnTrue result (map.contains_key self.now.set.ins id ≡ false) }
@@ -236,7 +237,7 @@ impl<S: Sequence> Replica<S> {
         id.counter() > self.greatest
     }
 
-    /// Whether the element with this identifier stands at the cursor, hidden: then its deletion is known.
+    /// Whether the element with this identifier is at the cursor, hidden: then its deletion is known.
     fn hides(&self, id: Id, cursor: &Cursor) -> bool
         ensures { OnTrue result (Holds self.now.set (Erase id)) }
     {
@@ -247,8 +248,8 @@ impl<S: Sequence> Replica<S> {
         }
     }
 
-    /// Takes the insertions that made the elements, and the deletions of those that are hidden: where an insertion is kept,
-    /// its deletion is known.
+    /// Takes the insertions that made the elements, and the deletions of those that are hidden: where an insertion is
+    /// known, its deletion is too.
     fn take_elements<L: Listener>(&mut self, seq: &S, listener: &mut L) -> Result<(), TakeFault>
         requires well_formed { AllWellFormed self.old.set }
         requires erased { All (IsErasedIn self.old.set) (elements (S.content seq.now)) }
@@ -298,7 +299,7 @@ impl<S: Sequence> Replica<S> {
         Ok(())
     }
 
-    /// Takes the insertion that made an element, and tells whether it was known. Where that is new and the element is hidden,
+    /// Takes the insertion that made an element, and answers whether it was known. Where that is new and the element is hidden,
     /// the deletion is taken first.
     fn take_element<L: Listener>(
         &mut self,
@@ -320,7 +321,7 @@ impl<S: Sequence> Replica<S> {
         self.take_one(&insertion_of(e), listener)
     }
 
-    /// Takes the deletion of a hidden element whose insertion is not kept: that waits for the insertion, and nothing that is
+    /// Takes the deletion of a hidden element whose insertion is not known: that waits for the insertion, and nothing that is
     /// shown is hidden by it.
     fn erase_new<L: Listener>(&mut self, e: &Element, listener: &mut L) -> Result<(), TakeFault>
         requires well_formed { AllWellFormed self.old.set }

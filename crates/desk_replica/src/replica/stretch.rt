@@ -47,7 +47,7 @@ impl<S: Sequence> Replica<S> {
     /// Erases the visible characters from one place up to another, as that many `erase_at` do, and appends the
     /// deletions to `made`. A fault changes nothing, `made` included. While `made` has room for them, the fault is not
     /// `Memory`.
-    /// Cost: `Sequence::spot_at` once, a walk over the elements of the stretch, then a `Sequence::hide` for each
+    /// Cost: `Sequence::spot_at` once, a walk over the elements between, then a `Sequence::hide` for each
     /// character; memory for the operations alone, none where it is there.
     pub fn erase_range(
         &mut self,
@@ -71,7 +71,7 @@ impl<S: Sequence> Replica<S> {
         ensures spare { size self.old.set + self.old.spare ≤ size self.new.set + self.new.spare }
         ensures unpaid { vec_len made.old + (to - from) ≤ vec_capacity made.old → IfErr result (λ fault. fault ≡ TypeFault.Full) }
     {
-        // Reading the count tells the proof that the set is well formed.
+        // Reading the count shows the proof that the set is well formed.
         let _count = self.op_count();
         self.replace(from, to, "", made)
     }

@@ -45,7 +45,7 @@ impl<S: Sequence> Replica<S> {
     }
 
     /// Takes all operations of another desk as `merge` does, and appends to the list how the text changed by them: after
-    /// `Full` and `Memory` too, by those that are taken. While as many are spare as the other desk keeps, and the list has
+    /// `Full` and `Memory` too, by those that are taken. While as many are spare as the other desk has, and the list has
     /// room for that many changes and one for each insertion that waits here, the fault is not `Memory`.
     /// Cost: a `take_telling` for each operation of the other desk; memory likewise.
     pub fn merge_telling(

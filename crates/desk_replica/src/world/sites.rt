@@ -10,7 +10,7 @@ use bg_types::Memory;
 use std::alloc::Global;
 use std::collections::BTreeSet;
 
-/// Whether desks may have these sites: each is at least 1, and none stands twice.
+/// Whether desks may have these sites: each is at least 1, and none comes twice.
 pub fn are_sites(alloc: Global, sites: &[u16]) -> Result<bool, Memory>
     ensures { IfOk result (λ fit. IsTrue fit ↔ AreSites sites.now) }
 {
@@ -20,7 +20,7 @@ pub fn are_sites(alloc: Global, sites: &[u16]) -> Result<bool, Memory>
     stand_once(alloc, sites)
 }
 
-/// Whether no site stands twice.
+/// Whether no site comes twice.
 fn stand_once(alloc: Global, sites: &[u16]) -> Result<bool, Memory>
     ensures { IfOk result (λ once. IsTrue once ↔ AllPairs (λ a b. a ≢ b) sites.now) }
 {

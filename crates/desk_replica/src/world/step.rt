@@ -10,7 +10,7 @@ pub enum Step {
     Erase { desk: usize, place: usize },
     /// The desk takes an operation that some desk made.
     Deliver { desk: usize, op: usize },
-    /// The desk takes all that another one holds.
+    /// The desk takes all that another one has.
     Merge { desk: usize, from: usize },
 }
 

@@ -95,7 +95,7 @@ fn deliver<S: Sequence>(
     }
 }
 
-/// A desk takes all that another one holds.
+/// A desk takes all that another one has.
 fn merge<S: Sequence>(
     desks: &mut [Replica<S>],
     made: &[Op],
