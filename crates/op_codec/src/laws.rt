@@ -47,7 +47,7 @@ pub fn whole_frames()
         → IsWhole bytes ops → IsLasting bytes frame cause → IsWhole (bytes ++ more) ops }
 {}
 
-/// What a feed keeps stands for all bytes that it was fed, for every list of pieces: `begin` and one
+/// What a feed has is what all bytes that it was fed come to, for every list of pieces: `begin` and one
 /// of `taken`, `faulty` and `refused` for each piece say so, with the answer by the first fault of all
 /// bytes so far; `ops`, `spelled` and `told` say what its operations and its end say of them.
 pub fn fed_in_pieces()
@@ -64,9 +64,9 @@ pub fn fed_in_pieces()
     ensures told { (all kept : List ℕ) (frame : ℕ) (cause : Cause) → IsFed all kept → IsFault kept frame cause → IsFault all frame cause }
 {}
 
-/// A file and its migration spell the same operations, so nothing that reads operations can tell
-/// the versions apart. A file that spells operations has one migration, which is never longer and
-/// migrates to itself, as every file of version 2 does.
+/// A file and its migration spell the same operations, so nothing that reads operations can
+/// distinguish the versions. A file that spells operations has one migration, which is never longer
+/// and migrates to itself, as every file of version 2 does.
 pub fn migrated_file()
     ensures same { (file migrated : List ℕ) (ops : List OpView) → IsMigration file migrated → Spells file ops ↔ Spells migrated ops }
     ensures one_file { (file a b : List ℕ) → IsMigration file a → IsMigration file b → a ≡ b }

@@ -47,7 +47,7 @@ pub struct Position {
 }
 
 impl Position {
-    /// The place right after the header.
+    /// The position right after the header.
     pub fn start(version: Version) -> Position
         ensures version { result.version ≡ version }
         ensures frames { result.frames ≡ 0 }

@@ -71,7 +71,7 @@ pub record BeginsFile (bytes : List ℕ) (old new : Option (List ℕ)) : Type 0 
   pub listed : Lists bytes ops
   pub written : AppendsBeginning old new (spelling ops)
 
--- a fault that ended the reading of the listing tells its first faulty line; nothing was written yet, and lack of memory says
+-- a fault that ended the reading of the listing names its first faulty line; nothing was written yet, and lack of memory says
 -- nothing of the listing
 abbrev pub TellsLine : List ℕ → ListingFault → Type 0
 TellsLine bytes (listing.Malformed line fault) = IsFaultyLine bytes line fault

@@ -74,7 +74,7 @@ pub fn insertion(id: Numbers, parent: &Parent, code: u32) -> Result<Op, LineFaul
     Op::insert(id, place, ch).ok_or(LineFault::ParentNotBefore)
 }
 
-/// The place of a parent, unless one of its numbers is 0.
+/// A parent, unless one of its numbers is 0.
 fn place_in(parent: &Parent) -> Option<Place>
     ensures zero { is_some result ≡ not (parent_has_zero (parent_place parent.now)) }
     ensures value { IfSome result (λ place. place ≡ parent_place parent.now) }

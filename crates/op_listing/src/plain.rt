@@ -11,7 +11,7 @@ use crate::line::insertion;
 use bg_types::{Id, Op};
 
 /// How many bytes the longest plain line has: `i 999999999.000065535 999999998.000065535 10FFFF` and its CR LF.
-/// Where as many are left, no byte's place is compared with the text's end.
+/// Where as many are left, no byte's index is compared with the text's end.
 const LONGEST_PLAIN_LINE: usize = 50;
 
 /// The most decimal digits of a number here. Such a number always fits.
@@ -57,7 +57,7 @@ fn plain_erasure(fields: &[u8]) -> Option<(Op, &[u8])>
     Some((Op::erase(target), rest))
 }
 
-/// The parent that stands at the front, and what follows it.
+/// The parent at the front, and what follows it.
 fn leading_parent(bytes: &[u8]) -> Option<(Parent, &[u8])>
     requires { 20 ≤ length bytes.now }
     ensures { IfSome result
@@ -70,7 +70,7 @@ fn leading_parent(bytes: &[u8]) -> Option<(Parent, &[u8])>
     Some((Parent::After(id), rest))
 }
 
-/// The counter and the site that stand at the front, and what follows them.
+/// The counter and the site at the front, and what follows them.
 fn leading_numbers(bytes: &[u8]) -> Option<(Numbers, &[u8])>
     requires { 20 ≤ length bytes.now }
     ensures { IfSome result
@@ -86,7 +86,7 @@ fn leading_numbers(bytes: &[u8]) -> Option<(Numbers, &[u8])>
     Some((Numbers { counter, site }, &digits[end..]))
 }
 
-/// The character's code that stands at the front, and what follows it.
+/// The character's code at the front, and what follows it.
 #[inline(always)]
 fn leading_scalar(bytes: &[u8]) -> Option<(u32, &[u8])>
     requires { 7 ≤ length bytes.now }
@@ -135,7 +135,7 @@ fn leading_hexadecimal(bytes: &[u8]) -> (u32, usize)
     (value, count)
 }
 
-/// What follows LF or CR LF, if one of the two stands at the front.
+/// What follows LF or CR LF, if one of the two is at the front.
 fn behind_line(bytes: &[u8]) -> Option<&[u8]>
     requires { 2 ≤ length bytes.now }
     ensures { IfSome result (λ rest. EndsLine bytes.now rest.now) }
@@ -146,7 +146,7 @@ fn behind_line(bytes: &[u8]) -> Option<&[u8]>
     behind(b'\n', bytes)
 }
 
-/// What follows this byte, if it stands at the front.
+/// What follows this byte, if it is at the front.
 fn behind(byte: u8, bytes: &[u8]) -> Option<&[u8]>
     requires { 0 < length bytes.now }
     ensures { IfSome result (λ rest. bytes.now ≡ byte ∷ rest.now) }

@@ -58,7 +58,7 @@ pub fn three_words(line: &[u8]) -> Option<(&[u8], &[u8], &[u8])>
     Some((first, second, third))
 }
 
-/// How many spaces stand at the front.
+/// How many spaces are at the front.
 fn count_spaces(line: &[u8]) -> usize
     ensures count { result ≡ prefix_len (λ b. b == 32) line.now }
     ensures within { result ≤ length line.now }
@@ -66,7 +66,7 @@ fn count_spaces(line: &[u8]) -> usize
     line.iter().take_while(|b| **b == b' ').count()
 }
 
-/// The place of the first byte of this value, or the number of bytes if there is none.
+/// The index of the first byte of this value, or the number of bytes if there is none.
 pub fn first_place(bytes: &[u8], value: u8) -> usize
     ensures place { result ≡ position_or_len (λ b. b == value) bytes.now }
     ensures within { result ≤ length bytes.now }

@@ -47,7 +47,7 @@ fn put_insertion(id: Id, parent: &Place, ch: char, line: &mut [u8]) -> usize
     put_verb(b'i', line, start)
 }
 
-/// Puts a verb and a space before a place.
+/// Puts a verb and a space before an index.
 fn put_verb(verb: u8, line: &mut [u8], end: usize) -> usize
     requires { (2 ≤ end) × (end ≤ length line.old) }
     ensures start { result + 2 ≡ end }
@@ -57,7 +57,7 @@ fn put_verb(verb: u8, line: &mut [u8], end: usize) -> usize
     put_byte(verb, line, start)
 }
 
-/// Puts a parent's word, between two spaces, before a place.
+/// Puts a parent's word, between two spaces, before an index.
 fn put_parent(parent: &Place, line: &mut [u8], end: usize) -> usize
     requires { (18 ≤ end) × (end ≤ length line.old) }
     ensures within { (end ≤ result + 18) × (result ≤ end) }
@@ -82,7 +82,7 @@ fn put_root(line: &mut [u8], end: usize) -> usize
     put_byte(b'r', line, start)
 }
 
-/// Puts a counter and a site, a point between them, before a place.
+/// Puts a counter and a site, a point between them, before an index.
 fn put_identifier(id: Id, line: &mut [u8], end: usize) -> usize
     requires { (16 ≤ end) × (end ≤ length line.old) }
     ensures within { (end ≤ result + 16) × (result ≤ end) }
@@ -93,7 +93,7 @@ fn put_identifier(id: Id, line: &mut [u8], end: usize) -> usize
     write_digits(u64::from(id.counter()), line, start)
 }
 
-/// Puts a character's code before a place, in four hexadecimal digits, or as many as it has.
+/// Puts a character's code before an index, in four hexadecimal digits, or as many as it has.
 fn put_scalar(ch: char, line: &mut [u8], end: usize) -> usize
     requires { (6 ≤ end) × (end ≤ length line.old) }
     ensures within { (end ≤ result + 6) × (result ≤ end) }
@@ -111,7 +111,7 @@ fn put_scalar(ch: char, line: &mut [u8], end: usize) -> usize
     put_digit(code / 0x10_0000, line, start)
 }
 
-/// Puts the last four hexadecimal digits of a number before a place.
+/// Puts the last four hexadecimal digits of a number before an index.
 fn put_four(code: u32, line: &mut [u8], end: usize) -> usize
     requires { (4 ≤ end) × (end ≤ length line.old) }
     ensures start { result + 4 ≡ end }
@@ -125,7 +125,7 @@ fn put_four(code: u32, line: &mut [u8], end: usize) -> usize
     put_digit(code / 0x1000, line, start)
 }
 
-/// Puts the last hexadecimal digit of a number before a place.
+/// Puts the last hexadecimal digit of a number before an index.
 fn put_digit(code: u32, line: &mut [u8], end: usize) -> usize
     requires { (1 ≤ end) × (end ≤ length line.old) }
     ensures start { result + 1 ≡ end }
@@ -136,7 +136,7 @@ fn put_digit(code: u32, line: &mut [u8], end: usize) -> usize
     put_byte(first + digit, line, end)
 }
 
-/// Puts a byte before a place, and answers where it is.
+/// Puts a byte before an index, and answers where it is.
 fn put_byte(byte: u8, line: &mut [u8], end: usize) -> usize
     requires { (1 ≤ end) × (end ≤ length line.old) }
     ensures start { result + 1 ≡ end }

@@ -41,7 +41,7 @@ abbrev pub first_faulty : {V : Type 0} → (List ℕ → Result (Option (Entry V
 first_faulty line [] n = None
 first_faulty line (bytes ∷ rest) n = fault_or (line bytes) n (first_faulty line rest (n + 1))
 
--- the line in which the byte at this place stands, counted from 1
+-- the line of the byte at this index, counted from 1
 abbrev pub line_at : List ℕ → ℕ → ℕ
 line_at bytes at = count_by (λ b. b == 10) (take at bytes) + 1
 

@@ -6,7 +6,7 @@ ghost use Rattle.ucd_files.specs.Line.{trimmed, end_trimmed, is_among, text_of, 
 
 use memchr::memchr;
 
-/// The place of the first of these bytes, or the length where there is none.
+/// The index of the first of these bytes, or the length where there is none.
 pub(crate) fn place_of(bytes: &[u8], at: u8) -> usize
     ensures place { result ≡ position_or_len (λ b. b == at) bytes.now }
     ensures bound { result ≤ length bytes.now }

@@ -1,4 +1,4 @@
-//! The five data files of Unicode 15.0, which stand in the program.
+//! The five data files of Unicode 15.0, which are inside the program.
 #![tactic(auto)]
 
 mod bidi_brackets;
