@@ -1,21 +1,21 @@
 -- What a call leaves in a buffer of C.
 use Rattle.std.specs.Prelude.{◌≡◌, ◌⊎◌, ◌<◌, ◌≤◌, ℕ, List, ◌++◌, drop, length, map}
 
--- the bytes were asked for: their number is told, and they stand at the front of the buffer, if it has room for them; else the
+-- the bytes were asked for: their number is written, and they are at the front of the buffer, if it has room for them; else the
 -- answer is 102, ShortBuffer, and the buffer is as it was
 pub record IsCopied (bytes before after : List ℕ) (size answer : ℕ) : Type 0 where
   pub told : size ≡ length bytes
   pub fits : length bytes ≤ length before → (answer ≡ 0) × (after ≡ bytes ++ drop (length bytes) before)
   pub short : length before < length bytes → (answer ≡ 102) × (after ≡ before)
 
--- how many there are was told, and what they come to stands at the front of the list, if it has room for them; else the answer
+-- how many there are was written, and what they come to is at the front of the list, if it has room for them; else the answer
 -- is 102, ShortBuffer, and the list is as it was
 pub record AreListed {X Y : Type 0} (shown : X → Y) (items : List X) (before after : List Y) (count answer : ℕ) : Type 0 where
   pub told : count ≡ length items
   pub fits : length items ≤ length before → (answer ≡ 0) × (after ≡ map shown items ++ drop (length items) before)
   pub short : length before < length items → (answer ≡ 102) × (after ≡ before)
 
--- nothing was written, for a fault that is told: the buffer is as it was, and the size is 0
+-- nothing was written, for a fault that is answered: the buffer is as it was, and the size is 0
 abbrev pub IsLeft : (before after : List ℕ) → (size : ℕ) → Type 0
 IsLeft before after size = (after ≡ before) × (size ≡ 0)
 
@@ -23,10 +23,10 @@ IsLeft before after size = (after ≡ before) × (size ≡ 0)
 abbrev pub IsWritten : (bytes before after : List ℕ) → (size answer : ℕ) → Type 0
 IsWritten bytes before after size answer = IsCopied bytes before after size answer ⊎ ((answer ≡ 9) × IsLeft before after size)
 
--- sizes were asked for: where one is more than can be counted, the answer is 9, Memory, and how many there are is told as 0
+-- sizes were asked for: where one is more than can be counted, the answer is 9, Memory, and how many there are is written as 0
 abbrev pub AreSized : (sizes before after : List ℕ) → (count answer : ℕ) → Type 0
 AreSized sizes before after count answer = IsCopied sizes before after count answer ⊎ ((answer ≡ 9) × (count ≡ 0))
 
--- how many bytes there are was told, with no buffer for them
+-- how many bytes there are was written, with no buffer for them
 abbrev pub IsSize : (count size answer : ℕ) → Type 0
 IsSize count size answer = (size ≡ count) × (0 < size → answer ≡ 102) × (size ≡ 0 → answer ≡ 0)

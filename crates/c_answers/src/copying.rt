@@ -4,7 +4,7 @@ ghost use Rattle.c_answers.specs.Copying.{IsCopied};
 
 use crate::fault::{OK, SHORT_BUFFER};
 
-/// Copies bytes to the front of a buffer, if it has room for them, tells how many there are, and returns
+/// Copies bytes to the front of a buffer, if it has room for them, writes how many there are, and returns
 /// what the call answers.
 pub fn copy_out(bytes: &[u8], out: &mut [u8], size: &mut usize) -> u32
     ensures { IsCopied bytes.now out.old out.new size.new result }

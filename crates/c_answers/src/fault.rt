@@ -30,15 +30,15 @@ pub const BAD_CHARACTER: u32 = 111;
 pub const BAD_SITE: u32 = 112;
 /// An identifier's counter is 0, or its site not 1 to 65,535.
 pub const BAD_IDENTIFIER: u32 = 113;
-/// An identifier stands nowhere in the text's walk.
+/// An identifier is nowhere in the text's walk.
 pub const NOT_PLACED: u32 = 114;
 /// More than 1,000,000 operations are asked room for.
 pub const TOO_MANY: u32 = 115;
 /// A message has more than 67,108,864 bytes.
 pub const MESSAGE_TOO_LONG: u32 = 116;
-/// An identifier is kept with another parent or character.
+/// An identifier is there with another parent or character.
 pub const IDENTIFIER_REUSED: u32 = 201;
-/// 1,000,000 operations are kept.
+/// There are 1,000,000 operations.
 pub const FULL: u32 = 202;
 /// The next counter is above 4,294,967,295.
 pub const COUNTER_SPENT: u32 = 203;

@@ -1,4 +1,4 @@
-//! Values that C holds: a box or none as a pointer, and what such a pointer owns.
+//! Values in the hands of C: a box or none as a pointer, and what such a pointer owns.
 #![tactic(auto)]
 
 mod nullable_box;

@@ -33,7 +33,7 @@ abbrev pub data_fault : UcdFault → DataFault
 data_fault (At file line cause) = record { line = line; file = file_number file }
 data_fault Memory = no_data_fault
 
--- files whose first fault this is were refused with the number, and where it is was told; or memory was
+-- files whose first fault this is were refused with the number, and where it is was written; or memory was
 abbrev pub IsRefusedData : Option UcdFault → (answer : ℕ) → DataFault → Type 0
 IsRefusedData first answer told = ((answer ≡ 9) × (told ≡ no_data_fault)) ⊎ ((fault : UcdFault) × (first ≡ Some fault) × (answer ≡ data_number fault) × (told ≡ data_fault fault))
 

@@ -35,7 +35,7 @@ caret_numbers c = record { row = c.row; gap = c.gap; place = c.place }
 abbrev pub caret_of : CaretNumbers → Caret
 caret_of c = record { row = c.row; gap = c.gap; place = c.place }
 
--- where there is nothing to tell, all numbers are 0
+-- where there is nothing to write, all numbers are 0
 abbrev pub no_row : RowNumbers
 no_row = record { first_place = 0; last_place = 0; entries = 0; column = 0; level = 0 }
 

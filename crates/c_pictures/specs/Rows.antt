@@ -1,4 +1,4 @@
--- What stands behind the handles of tables and pictures: the row of each type.
+-- What is behind the handles of tables and pictures: an entry for each type.
 use denote.RattleType.{RattleType}
 use Rattle.pictures.specs.contracts.shared_tables.SharedTables as shared_tables
 use Rattle.pictures.specs.contracts.picture.Picture as picture

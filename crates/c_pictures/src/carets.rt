@@ -12,7 +12,7 @@ use crate::numbers::{CaretNumbers, caret_numbers, caret_of, no_caret};
 use c_answers::{BAD_CARET, BAD_PLACE, BAD_ROW, OK};
 use pictures::Picture;
 
-/// Tells the caret at a place of the text.
+/// Writes the caret at a place of the text.
 pub fn tell_caret(picture: &mut Picture, place: usize, caret: &mut CaretNumbers) -> u32
     ensures told { IsTold (place ≤ length (chars picture.old.text)) (caret_numbers (caret_at picture.old place)) no_caret 107 caret.new result }
     ensures same { picture.new ≡ picture.old }
@@ -25,7 +25,7 @@ pub fn tell_caret(picture: &mut Picture, place: usize, caret: &mut CaretNumbers)
     OK
 }
 
-/// Tells the caret where a mouse points: in a row at the last gap that is not right of a column.
+/// Writes the caret where a mouse points: in a row at the last gap that is not right of a column.
 pub fn tell_caret_under(
     picture: &mut Picture,
     row: usize,

@@ -1,4 +1,4 @@
-//! The tables and pictures of the library for C: what each of its calls tells of them, in numbers and buffers.
+//! The tables and pictures of the library for C: what each of its calls answers of them, in numbers and buffers.
 #![tactic(auto)]
 
 mod carets;

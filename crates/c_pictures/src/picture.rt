@@ -19,7 +19,7 @@ use std::alloc::Global;
 /// The most bytes that are drawn.
 const LONGEST: usize = 4_000_000;
 
-/// The picture of a text, to be held, or the number of the fault.
+/// The picture of a text, for a handle, or the number of the fault.
 pub fn draw_text(
     alloc: Global,
     tables: &SharedTables,
@@ -74,7 +74,7 @@ pub fn base_of(number: u32) -> Option<Base>
     }
 }
 
-/// Tells how many rows a picture has.
+/// Writes how many rows a picture has.
 pub fn tell_rows(picture: &Picture, count: &mut usize) -> u32
     ensures answer { result ≡ 0 }
     ensures count { count.new ≡ length picture.now.rows }
@@ -83,7 +83,7 @@ pub fn tell_rows(picture: &Picture, count: &mut usize) -> u32
     OK
 }
 
-/// Tells of a row, counted from 0 at the top.
+/// Writes what a row has, counted from 0 at the top.
 pub fn tell_row(picture: &Picture, number: usize, out: &mut RowNumbers) -> u32
     ensures { MatchOption (slice_get picture.now.rows number) ((result ≡ 108) × (out.new ≡ no_row)) (λ r. (result ≡ 0) × (out.new ≡ row_numbers r)) }
 {
@@ -99,7 +99,7 @@ pub fn tell_row(picture: &Picture, number: usize, out: &mut RowNumbers) -> u32
     }
 }
 
-/// Tells of an entry of a row, counted from 0 at the left.
+/// Writes what an entry of a row has, counted from 0 at the left.
 pub fn tell_entry(picture: &Picture, row: usize, number: usize, out: &mut EntryNumbers) -> u32
     ensures { MatchOption (slice_get picture.now.rows row) ((result ≡ 108) × (out.new ≡ no_entry)) (λ r. MatchOption (slice_get r.entries number) ((result ≡ 109) × (out.new ≡ no_entry)) (λ e. (result ≡ 0) × (out.new ≡ entry_numbers e))) }
 {
@@ -116,7 +116,7 @@ pub fn tell_entry(picture: &Picture, row: usize, number: usize, out: &mut EntryN
     }
 }
 
-/// Tells of all entries of a row, from the left.
+/// Writes what all entries of a row have, from the left.
 pub fn tell_entries(
     picture: &Picture,
     row: usize,

@@ -10,7 +10,7 @@ use std::alloc::Global;
 use std::marker::Model;
 use std::mem;
 
-/// A picture that C holds, or none: `bidigrid_picture` of the header.
+/// A picture in the hands of C, or none: `bidigrid_picture` of the header.
 #[repr(C)]
 pub struct PictureHandle {
     at: *mut Opaque,
@@ -32,7 +32,7 @@ impl PictureHandle {
         PictureHandle::of(NullableBox::none())
     }
 
-    /// A handle of what stands at a pointer.
+    /// A handle of what is at a pointer.
     fn of(owned: NullableBox<Picture>) -> PictureHandle
         ensures { result.held ≡ owned.held }
     {

@@ -25,7 +25,7 @@ pub fn tell_print(picture: &mut Picture, out: &mut [u8], size: &mut usize) -> u3
     }
 }
 
-/// Tells how many bytes there are, where there is no buffer for them.
+/// Writes how many bytes there are, where there is no buffer for them.
 pub fn tell_size(bytes: Result<usize, Memory>, size: &mut usize) -> u32
     ensures { MatchResult bytes (λ count. IsSize count size.new result) (λ _. (result ≡ 9) × (size.new ≡ 0)) }
 {
@@ -64,7 +64,7 @@ pub fn tell_row_print(picture: &mut Picture, number: usize, out: &mut [u8], size
     }
 }
 
-/// Tells of each entry of a row, from the left, how many bytes its cells have in the row's print.
+/// Writes of each entry of a row, from the left, how many bytes its cells have in the row's print.
 #[tactic(auto, using(crate::proofs::Sizes::sizes_counted))]
 pub fn tell_entry_sizes(
     picture: &mut Picture,

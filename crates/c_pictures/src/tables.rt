@@ -7,7 +7,7 @@ use pictures::SharedTables;
 use std::alloc::Global;
 use ucd_files::{Ucd, UcdFault};
 
-/// The tables of files, to be held.
+/// The tables of files, for a handle.
 pub fn load(alloc: Global, ucd: &Ucd) -> Result<Box<SharedTables>, UcdFault>
     ensures ok { IfOk result (λ boxed. boxed.value ≡ tables_of_ucd ucd.now) }
     ensures sound { OnOk result (fault_of_ucd ucd.now ≡ None) }

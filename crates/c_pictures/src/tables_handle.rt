@@ -10,7 +10,7 @@ use std::alloc::Global;
 use std::marker::Model;
 use std::mem;
 
-/// Tables that C holds, or none: `bidigrid_tables` of the header.
+/// Tables in the hands of C, or none: `bidigrid_tables` of the header.
 #[repr(C)]
 pub struct TablesHandle {
     at: *mut Opaque,
@@ -32,7 +32,7 @@ impl TablesHandle {
         TablesHandle::of(NullableBox::none())
     }
 
-    /// A handle of what stands at a pointer.
+    /// A handle of what is at a pointer.
     fn of(owned: NullableBox<SharedTables>) -> TablesHandle
         ensures { result.held ≡ owned.held }
     {

@@ -39,7 +39,7 @@ UndoneByOpposite =
     → (caret.gap < length row.entries → StandsAt (left_of rows (right_of rows caret)) caret.row caret.gap)
     × (0 < caret.gap → caret.gap ≤ length row.entries → StandsAt (right_of rows (left_of rows caret)) caret.row caret.gap)
 
--- the caret stands before the cluster that holds place p, with the cluster's start as place
+-- the caret stands before the cluster that has place p, with the cluster's start as place
 pub record StandsBeforeCluster (grid : DrawnGrid) (p : ℕ) (caret : Caret) : Type 0 where
   pub row : DrawnRow
   pub row_is : slice_get grid.rows caret.row ≡ Some row

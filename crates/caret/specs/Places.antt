@@ -10,7 +10,7 @@ use Rattle.cell_grid.specs.Grids.{DrawnGrid}
 use Rattle.caret.specs.declared.caret.Caret.{Caret}
 pub use Rattle.cell_grid.specs.Windows.{begins_by, row_at}
 
--- the entry's cluster holds place p
+-- the entry's cluster has place p
 abbrev pub holds : ℕ → Entry → Bool
 holds p e = nat_le e.span.first_place p && nat_lt p e.span.end_place
 
@@ -34,7 +34,7 @@ gap_zero number p = record { row = number; gap = 0; place = p }
 abbrev pub entry_where : (Entry → Bool) → List Entry → Option (ℕ × Entry)
 entry_where passes entries = find (λ (numbered : ℕ × Entry). passes numbered.1) (enumerate_from 0 entries)
 
--- the caret at place p in this row: at the start of the cluster that holds it
+-- the caret at place p in this row: at the start of the cluster that has it
 abbrev pub at_cluster : ℕ → ℕ → DrawnRow → Caret
 at_cluster p number row = option_map_or (before_cluster number) (entry_where (holds p) row.entries) (gap_zero number p)
 

@@ -43,7 +43,7 @@ position_moved move rows position = position_of rows (move rows (caret_of rows p
 abbrev pub MovesAlike : (List DrawnRow → Caret → Caret) → (all rows : List DrawnRow) → Position → Type 0
 MovesAlike move all rows position = position_moved move all position ≡ position_moved move rows position
 
--- a position of a stretch of rows is one of all rows, and the moves look at no row but its own and its neighbours
+-- a position of a part of the rows is one of all rows, and the moves look at no row but its own and its neighbours
 pub record MovesInWindow (before rows after : List DrawnRow) (position : Position) : Type 0 where
   pub among_all : IsPositionOf (before ++ (rows ++ after)) position
   pub right : MovesAlike right_of (before ++ (rows ++ after)) rows position

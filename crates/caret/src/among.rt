@@ -74,7 +74,7 @@ pub fn right_among(rows: &[Row], caret: Caret) -> Caret
     ensures within { IsCaretOf rows.now result }
 {
     let row = &rows[caret.row];
-    // A row has no more entries than a number can tell.
+    // A row has no more entries than can be counted.
     let _count = row.entry_count();
     match row.entry(caret.gap) {
         Some(entry) => Caret {

@@ -74,7 +74,7 @@ fn last_gap_by(row: &Row, column: usize) -> usize
     ensures gap { result ≡ last_gap_by row.now column }
     ensures within { result ≤ length row.now.entries }
 {
-    // A row has no more entries than a number can tell.
+    // A row has no more entries than can be counted.
     let _count = row.entry_count();
     let mut last = 0;
     let mut gap = 0usize;

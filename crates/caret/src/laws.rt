@@ -26,7 +26,7 @@ pub fn opposites()
     ensures { UndoneByOpposite }
 {}
 
-/// The caret at a place of a drawn text stands before the cluster that holds the place, and that at
+/// The caret at a place of a drawn text stands before the cluster that has the place, and that at
 /// the text's end after the cluster that ends there, or in an empty row.
 pub fn each_place()
     ensures { EachPlaceHasItsCaret }
@@ -40,14 +40,14 @@ pub fn positions_are_carets()
     ensures { (rows : List DrawnRow) → FirstPlacesRise rows → PositionsAreCarets rows }
 {}
 
-/// The moves look at no row but the caret's own and its neighbours: in a stretch of rows that has one
-/// more above and below, or no more are there, each move of a position is that among all rows.
+/// The moves look at no row but the caret's own and its neighbours: in a part of the rows that has
+/// one more above and below, or no more are there, each move of a position is that among all rows.
 pub fn moves_in_windows()
     ensures { (before rows after : List DrawnRow) (position : Position) → HasWindow before rows after 1 1 position.row
         → IsPositionOf rows position → MovesInWindow before rows after position }
 {}
 
-/// A place has the same position in such a stretch as among all rows; and the caret at a place among
+/// A place has the same position in such a part as among all rows; and the caret at a place among
 /// the rows of a drawn text is that on its grid.
 pub fn places_in_windows()
     ensures stretch { (before rows after : List DrawnRow) (above below place : ℕ) → HasWindow before rows after above below place

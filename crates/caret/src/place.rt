@@ -11,19 +11,19 @@ use crate::caret::Caret;
 use crate::gaps::is_odd;
 use cell_grid::{Entry, Grid, Row, laws};
 
-/// Whether an entry's cluster holds a place.
+/// Whether an entry's cluster has a place.
 fn holds(entry: &Entry, place: usize) -> bool
     ensures { result ≡ holds place entry.now }
 {
     entry.span.first_place as usize <= place && place < entry.span.end_place as usize
 }
 
-/// The entry of a row whose cluster holds a place, with its number.
+/// The entry of a row whose cluster has a place, with its number.
 fn entry_at(row: &Row, place: usize) -> Option<(usize, Entry)>
     ensures entry { result ≡ entry_where (holds place) row.now.entries }
     ensures within { IfSome result (λ found. found.0 < length row.now.entries) }
 {
-    // A row has no more entries than a number can tell.
+    // A row has no more entries than can be counted.
     let _count = row.entry_count();
     row.entries()
         .enumerate()
@@ -35,7 +35,7 @@ fn entry_up_to(row: &Row, place: usize) -> Option<(usize, Entry)>
     ensures entry { result ≡ entry_where (ends_at place) row.now.entries }
     ensures within { IfSome result (λ found. found.0 < length row.now.entries) }
 {
-    // A row has no more entries than a number can tell.
+    // A row has no more entries than can be counted.
     let _count = row.entry_count();
     row.entries()
         .enumerate()
@@ -65,14 +65,14 @@ fn gap_zero(number: usize, place: usize) -> Caret
     }
 }
 
-/// The caret at the start of a row's cluster that holds a place: the cluster's left gap at an even
+/// The caret at the start of a row's cluster that has a place: the cluster's left gap at an even
 /// level, its right gap at an odd one.
 pub(crate) fn at_cluster(row: &Row, number: usize, place: usize) -> Caret
     ensures caret { result ≡ at_cluster place number row.now }
     ensures row { result.row ≡ number }
     ensures within { result.gap ≤ length row.now.entries }
 {
-    // A row has no more entries than a number can tell.
+    // A row has no more entries than can be counted.
     let _count = row.entry_count();
     match entry_at(row, place) {
         Some((gap, entry)) => Caret {
@@ -91,7 +91,7 @@ pub(crate) fn at_end(row: &Row, number: usize) -> Caret
     ensures row { result.row ≡ number }
     ensures within { result.gap ≤ length row.now.entries }
 {
-    // A row has no more entries than a number can tell.
+    // A row has no more entries than can be counted.
     let _count = row.entry_count();
     match entry_up_to(row, row.last_place()) {
         Some((gap, entry)) => Caret {
@@ -105,9 +105,9 @@ pub(crate) fn at_end(row: &Row, number: usize) -> Caret
 
 /// The caret at a place of the text, counted in code points and at most the text's length.
 ///
-/// It is in the last row whose first place is at most `place`, at the start of the cluster that
-/// holds the place; at the text's end, after the row's logically last cluster. The row is found by
-/// binary search.
+/// It is in the last row whose first place is at most `place`, at the start of the cluster that has
+/// the place; at the text's end, after the row's logically last cluster. The row is found by binary
+/// search.
 /// Cost: O(log n) of the rows, O(n) of the row's entries.
 pub fn at_place(grid: &Grid, place: usize) -> Caret
     requires { place ≤ length (chars grid.now.text) }

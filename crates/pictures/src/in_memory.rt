@@ -5,7 +5,7 @@ ghost use Rattle.std.specs.Prelude.{◌≡◌, [], false, Some};
 use bg_types::Sink;
 use std::alloc::Global;
 
-/// A sink that keeps the bytes. It fails where a growth is refused.
+/// A sink that has the bytes. It fails where a growth is refused.
 #[derive(Drop)]
 pub struct InMemory {
     pub bytes: Vec<u8>,

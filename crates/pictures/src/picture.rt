@@ -55,7 +55,7 @@ impl Drop for Picture {
 }
 
 impl Picture {
-    /// Draws a text, of which it keeps a copy, as `cell_grid::draw` does.
+    /// Draws a copy of a text, as `cell_grid::draw` does.
     /// Cost: that of `draw`, memory too and for a copy of the text.
     pub fn draw(
         alloc: Global,
@@ -174,8 +174,8 @@ impl Picture {
         size
     }
 
-    /// Tells how many bytes the cells of each entry of that row have in its print, as `cell_grid::row_entry_sizes` does, at the
-    /// front of a list with room for them.
+    /// Answers how many bytes the cells of each entry of that row have in its print, as `cell_grid::row_entry_sizes` does, at
+    /// the front of a list with room for them.
     /// Cost: that of `row_entry_sizes_at`.
     pub fn row_entry_sizes(&mut self, number: usize, sizes: &mut [usize]) -> Result<(), Memory>
         requires row { number < length self.old.rows }
