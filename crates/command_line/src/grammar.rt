@@ -1,4 +1,4 @@
-//! The command line as `clap` is told of it, from the table of the subcommands.
+//! The command line as `clap` is given it, from the table of the subcommands.
 
 use crate::help::{ABOUT, VERSION};
 use crate::table::{Argument, SUBCOMMANDS, Subcommand};

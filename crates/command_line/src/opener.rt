@@ -27,7 +27,7 @@ pub trait Opener {
 pub trait HasInput {
     type Input: Read + Drop;
 
-    /// Standard input, to be read from where it stands.
+    /// Standard input, to be read from where it is.
     fn input(&self) -> Self::Input;
 }
 

@@ -13,7 +13,7 @@ pub enum Job<'a> {
     Text { files: Vec<&'a str> },
     /// Draw the texts of desks.
     Replay(Replay<'a>),
-    /// Tell where a caret goes.
+    /// Show where a caret goes.
     Caret(Walk<'a>),
     /// Write the operation file of what a site types.
     Type(Typing<'a>),

@@ -108,7 +108,7 @@ abbrev pub IsCut : (List (List ℕ) → Asked) → (old new : Option (List ℕ))
 IsCut asks old new failed = IsSilent old new failed × ((files : List (List ℕ)) → (asks files).fault ≡ None)
 
 -- the outcome of a run over readers, by what is still to come of each, what it has left, and which have failed, where the files
--- that they tell are asked in this way
+-- that they give are asked in this way
 abbrev pub IsCaretsOutcomeOver : (readers left : List (Option (List ℕ))) (lost : List Bool) → (List (List ℕ) → Asked) → (old new : Option (List ℕ)) (failed : Bool) → Result (Unit {0}) RunFault → Type 0
 IsCaretsOutcomeOver readers left lost asks old new failed result = IsRunOver readers left lost (IsCut asks old new failed) (λ files. IsCaretsOutcome (asks files) old new failed) result
 

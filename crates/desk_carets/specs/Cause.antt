@@ -1,4 +1,4 @@
--- Why a walk over a text ended before its first line. Each fault stands only where its cause is present, and lack of memory
+-- Why a walk over a text ended before its first line. Each fault comes only where its cause is present, and lack of memory
 -- has none.
 use Rattle.std.specs.Prelude.{◌≡◌, ◌<◌, ℕ, List, length}
 use Rattle.std.specs.Str.{chars}

@@ -1,5 +1,5 @@
 //! Laws of the definitions: each function's contract is the law, and its body is empty or calls the laws
-//! that the proof stands on.
+//! that the proof rests on.
 
 ghost use Rattle.std.specs.Prelude.{ℕ, Bool, List, Option, Some, Result, map as each};
 ghost use Rattle.desk_files.specs.declared.run_fault.RunFault.{RunFault};
@@ -8,7 +8,7 @@ ghost use Rattle.desk_carets.specs.CaretsOutcome.{Asked, IsCut, IsCaretsOutcome,
 
 use desk_files::laws as files;
 
-/// Where readers tell their bytes, a run over them has an outcome of a run over files of these bytes,
+/// Where readers give their bytes, a run over them has an outcome of a run over files of these bytes,
 /// or a reader has failed: number n, from 1, and no other, while the data files were right.
 pub fn readers_tell_files()
     ensures { (files : List (List ℕ)) (left : List (Option (List ℕ))) (lost : List Bool) (asks : List (List ℕ) → Asked) (old new : Option (List ℕ)) (failed : Bool) (result : Result (Unit {0}) RunFault)

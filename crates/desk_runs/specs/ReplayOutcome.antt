@@ -86,7 +86,7 @@ pub record IsRefused (g : Given) (line desk : ℕ) (fault : TakeFault) : Type 0 
   pub ready : IsReady g files steps
   pub first : FirstRefused files (empty_desks (length files)) steps line desk fault
 
--- for each show D in order, the print of the grid of the text of the set that desk D holds after the steps before it
+-- for each show D in order, the print of the grid of the text of the set that desk D has after the steps before it
 abbrev pub shows_of : Given → List (List OpView) → List Numbered → List ℕ
 shows_of g files steps = shows (print_of g) files (empty_desks (length files)) steps
 
@@ -131,8 +131,8 @@ IsReplayOutcome g old new failed (Err fault) = (IsUnread g fault × IsSilent old
 abbrev pub IsCut : (List (List ℕ) → Given) → (old new : Option (List ℕ)) (failed : Bool) → Type 0
 IsCut gives old new failed = IsSilent old new failed × ((files : List (List ℕ)) → (gives files).fault ≡ None)
 
--- the outcome of a run over readers, by what is still to come of each, what it has left, and which have failed, where a run over
--- the files that they tell is given this
+-- the outcome of a run over readers, by what is still to come of each, what it has left, and which have failed, where a run
+-- over the files that they give is given this
 abbrev pub IsReplayOutcomeOver : (readers left : List (Option (List ℕ))) (lost : List Bool) → (List (List ℕ) → Given) → (old new : Option (List ℕ)) (failed : Bool) → Result (Unit {0}) RunFault → Type 0
 IsReplayOutcomeOver readers left lost gives old new failed result = IsRunOver readers left lost (IsCut gives old new failed) (λ files. IsReplayOutcome (gives files) old new failed) result
 

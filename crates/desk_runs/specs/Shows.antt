@@ -22,7 +22,7 @@ shown print sets (Take desk file op) = []
 shown print sets (Merge desk from) = []
 shown print sets (Show desk) = print (text (set_at sets (desk - 1)))
 
--- what the steps write: for each show, in order, the print of the text of the set that its desk holds after the steps
+-- what the steps write: for each show, in order, the print of the text of the set that its desk has after the steps
 -- before it
 abbrev pub shows : (List ℕ → List ℕ) → List (List OpView) → List OperationSet → List Numbered → List ℕ
 shows print files sets [] = []
@@ -57,7 +57,7 @@ pub record RanToFailure (print : List ℕ → List ℕ) (files : List (List OpVi
   pub none_refused : NoneRefused files sets before
   pub written : AppendsBeginning old new (shows print files sets before)
 
--- the steps ended with this fault, which stands only where its cause is present: a refused step, a failed write, or want of
+-- the steps ended with this fault, which comes only where its cause is present: a refused step, a failed write, or want of
 -- memory
 abbrev pub IsStepsEnd : (print : List ℕ → List ℕ) (files : List (List OpView)) (sets : List OperationSet) (steps : List Numbered) (old new : Option (List ℕ)) (failed : Bool) → RunFault → Type 0
 IsStepsEnd print files sets steps old new failed (Tables fault) = ⊥
@@ -71,7 +71,7 @@ IsStepsEnd print files sets steps old new failed (ReadFailed file) = ⊥
 IsStepsEnd print files sets steps old new failed (TooLong file) = ⊥
 IsStepsEnd print files sets steps old new failed Memory = (failed ≡ false) × RanInPart print files sets steps old new
 
--- the outcome of steps: all are done, after which desks hold these sets, or they ended with a fault
+-- the outcome of steps: all are done, after which desks have these sets, or they ended with a fault
 abbrev pub IsStepsOutcome : (print : List ℕ → List ℕ) (files : List (List OpView)) (sets : List OperationSet) (steps : List Numbered) (after : List OperationSet) (old new : Option (List ℕ)) (failed : Bool)
     → Result (Unit {0}) RunFault → Type 0
 IsStepsOutcome print files sets steps after old new failed (Ok done) = (failed ≡ false) × Ran print files sets steps after old new

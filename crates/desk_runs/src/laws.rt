@@ -1,5 +1,5 @@
 //! Laws of the definitions: each function's contract is the law, and its body is empty or calls the laws
-//! that the proof stands on.
+//! that the proof rests on.
 
 ghost use Rattle.std.specs.Prelude.{◌≡◌, ◌<◌, ◌+◌, ℕ, Bool, List, Option, Some, Result, length, map as each, slice_get};
 ghost use Rattle.desk_replica.specs.Desk.{fresh};
@@ -19,7 +19,7 @@ pub fn desks_of_a_run()
     ensures empty { (count : ℕ) → sets_of (fresh_desks count) ≡ empty_desks count }
 {}
 
-/// Where readers tell their bytes, a run over them has an outcome of a run over files of these bytes,
+/// Where readers give their bytes, a run over them has an outcome of a run over files of these bytes,
 /// or a reader has failed: number n, from 1, and no other, while the data files were right.
 pub fn readers_tell_files()
     ensures { (files : List (List ℕ)) (left : List (Option (List ℕ))) (lost : List Bool) (gives : List (List ℕ) → Given) (old new : Option (List ℕ)) (failed : Bool) (result : Result (Unit {0}) RunFault)

@@ -23,7 +23,7 @@ place_in s change = unwrap_or change.place (length (visible s))
 abbrev pub first_id : OperationSet → Change → Identifier
 first_id s change = record { counter = next s; site = change.site }
 
--- what the site makes if it holds S: it erases, and types after the visible character before the place
+-- what the site makes if its desk has S: it erases, and types after the visible character before the place
 abbrev pub operations_of : OperationSet → Change → List ℕ → List OpView
 operations_of s change typed =
     deletions s (place_in s change) change.erased ++ insertions (first_id s change) (parent_at (visible_ids s) (place_in s change)) typed

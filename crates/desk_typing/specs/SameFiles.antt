@@ -8,7 +8,7 @@ use Rattle.desk_files.specs.Files.{IsSetOfFiles}
 abbrev pub HaveSameFiles : List (List ℕ) → List (List ℕ) → Type 0
 HaveSameFiles xs ys = (file : List ℕ) → Contains xs file ↔ Contains ys file
 
--- the files hold a set of at most 1,000,000 operations with this text: so `text` writes it
+-- the files have a set of at most 1,000,000 operations with this text: so `text` writes it
 pub record ReadAs (files : List (List ℕ)) (characters : List ℕ) : Type 0 where
   pub set : OperationSet
   pub of_files : IsSetOfFiles files set

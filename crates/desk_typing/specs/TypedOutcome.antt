@@ -17,7 +17,7 @@ use Rattle.desk_typing.specs.declared.typing_fault.TypingFault.{TypingFault}
 use Rattle.desk_typing.specs.declared.typing_fault.TypingFault.TheVariants.{NotUtf8, Run, PastEnd, Full, CounterSpent}
 use Rattle.desk_typing.specs.Changing.{operations_of, Fits, IsUnfit}
 
--- the file spells, in this version, what a site that holds all operations of the files makes by typing this text, in UTF-8
+-- the file spells, in this version, what a site whose desk has all operations of the files makes by typing this text, in UTF-8
 pub record IsTypedFile (version : Version) (files : List (List ℕ)) (change : Change) (text file : List ℕ) : Type 0 where
   pub set : OperationSet
   pub of_files : IsSetOfFiles files set

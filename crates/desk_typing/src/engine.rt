@@ -19,8 +19,8 @@ use std::alloc::Global;
 /// Writes the operation file of a change that a site makes to the text of all operations of the
 /// files: deletions, then the insertions of the characters of a text in UTF-8, each after the one
 /// before. The file is of the version asked for; version 2 takes four bytes a typed character.
-/// Nothing is written before all is made. With a secret key, nobody can write files that make the
-/// run slow.
+/// Nothing is written before all is made. Where the key is secret, it is hard to write files that
+/// make the run slow.
 ///
 /// `laws::typed_text` says what the files and the new one read as together; `laws::new_identifiers` says
 /// that the new identifiers are new.

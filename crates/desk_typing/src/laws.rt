@@ -1,5 +1,5 @@
 //! Laws of the definitions: each function's contract is the law, and its body calls the laws that the
-//! proof stands on.
+//! proof rests on.
 
 ghost use Rattle.std.specs.Prelude.{◌≡◌, ◌<◌, ℕ, List, [], ◌∷◌, ◌++◌, Some, All, Contains, slice_get};
 ghost use Rattle.std.specs.Str.{chars};

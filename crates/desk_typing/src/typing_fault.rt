@@ -18,7 +18,7 @@ pub enum TypingFault {
     /// The text is not UTF-8: how many of its bytes come before the first wrong one.
     #[error("text byte {0}: NotUtf8")]
     NotUtf8(usize),
-    /// A run over the files ends like this: a file is faulty, a desk refuses what they hold, a read or a
+    /// A run over the files ends like this: a file is faulty, a desk refuses what they have, a read or a
     /// write failed, or a growth was refused.
     #[error(transparent)]
     Run(RunFault),

@@ -2,7 +2,7 @@
 
 use std::random::RandomSource;
 
-/// Draws a key, so that nobody can write a file whose identifiers are chosen to share a slot. If the
+/// Draws a key, so that it is hard to write a file whose identifiers share a slot. If the
 /// system has no random bytes to give, the key is 0: answers don't depend on it, only speed does.
 pub fn draw_key<R: RandomSource>(rt: &R) -> u128 {
     let mut bytes = [0; 16];
