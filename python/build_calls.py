@@ -1,4 +1,4 @@
-"""Makes `bidigrid._bidigrid`, by which Python calls the library: what cffi is told comes from the header alone."""
+"""Makes `bidigrid._bidigrid`, by which Python calls the library: what cffi is given comes from the header alone."""
 
 import re
 from pathlib import Path
@@ -30,7 +30,7 @@ def declarations(header: str) -> str:
 
 
 def words(header: str) -> str:
-    """The function that tells what the header says of each fault, with the numbers for their names."""
+    """The function that gives what the header says of each fault, with the numbers for their names."""
     numbers = dict(re.findall(r"^#define (BIDIGRID_\w+) (\d+)$", header, re.MULTILINE))
     cases = []
     for number, said in re.findall(r"^ +BIDIGRID_FAULT_\w+ = (\d+),? +/\* (.*) \*/$", header, re.MULTILINE):

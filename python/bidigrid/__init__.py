@@ -7,8 +7,8 @@ Places count code points from 0, as `len` and indices of a str do; rows are coun
 the left. A text with a lone surrogate is refused by a ValueError.
 
 What the library refuses is a Fault, with a number and a name. It is also a MemoryError, an IndexError or a ValueError where
-Python has one of these for it. After a fault all is as it was; a message that is refused at one of its operations tells how
-many of them stand.
+Python has one of these for it. After a fault all is as it was; a message that is refused at one of its operations says how
+many of them stay taken.
 
 A Document or a Picture belongs to the thread that made it: another one gets a ThreadFault, and nothing is done.
 """

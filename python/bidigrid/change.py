@@ -29,7 +29,7 @@ class Change(NamedTuple):
     """The character that was put; None where one was cut."""
 
     def carry(self, place: int) -> int:
-        """Where a caret at a place stands after the change: it stays with the character on its right, and goes to where
+        """The place of a caret after the change: it stays with the character on its right, and goes to where
         that one stood if it was cut.
 
         >>> Change(3, "m").carry(3), Change(3, "m").carry(2), Change(0, None).carry(3)
@@ -42,7 +42,7 @@ class Change(NamedTuple):
 
 class Changes(Sequence[Change]):
     """What a message or a merge changed in a text, in order: a sequence that is equal to a list of the same changes. Each is
-    made when it is asked for, so that one who doesn't ask pays nothing."""
+    made when it is asked for, so that it costs nothing where nobody asks."""
 
     __slots__ = ("_packed",)
 

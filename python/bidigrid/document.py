@@ -169,13 +169,13 @@ class Document(Positions):
         """Takes a message of another document, and returns what it changed in the text, in order. It may come again, and
         before those that it builds on: then it changes the text once they have come.
 
-        A Fault tells what is wrong with it. Where a frame of it is faulty, nothing is taken. Where an operation is refused,
-        those before it stand: the Fault has their number, `taken`, and their `changes`.
+        A Fault says what is wrong with it. Where a frame of it is faulty, nothing is taken. Where an operation is refused,
+        those before it stay taken: the Fault has their number, `taken`, and their `changes`.
         """
         return taken(self._full(), given.message(message))
 
     def merge(self, other: "Document") -> Changes:
-        """Takes all that another document of this thread holds, and returns what that changed in the text, in order. After
+        """Takes all that another document of this thread has, and returns what that changed in the text, in order. After
         a Fault whose name is "IdentifierReused" nothing has changed; after "Full", and a MemoryError, some of it is taken,
         and the Fault has its `changes`."""
         if not isinstance(other, Document):
@@ -201,11 +201,11 @@ class Document(Positions):
         return int(places[0])
 
     def save(self) -> bytes:
-        """All that it holds, as a message: to keep it, or for a document that is new."""
+        """All that it has, as a message: to save it, or for a document that is new."""
         return written(lib.bidigrid_document_file, "uint8_t", 0, self._full())
 
     def reserve(self, operations: int) -> None:
-        """Pays in advance for so many characters and erasures, at most 1,000,000, so that what they are kept in needn't grow
+        """Reserves memory for so many characters and erasures, at most 1,000,000, so that what they are in needn't grow
         as they come. A Fault where they are more."""
         must(lib.bidigrid_document_reserve(self._full(), given.count(operations)))
 

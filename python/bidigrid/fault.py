@@ -1,4 +1,4 @@
-"""What goes wrong, and how it is told."""
+"""What goes wrong, and how it is reported."""
 
 from ._bidigrid import ffi, lib
 from .change import Changes
@@ -12,8 +12,8 @@ class Fault(Exception):
     number: the number of the fault, as the C header has it.
     name: its name, as "IdentifierReused".
     frame: the faulty frame of a message, from 1, or 0 for its header; None where no frame is faulty.
-    taken: how many operations of a message stand, from its front. Of a merge it is 0, whatever stands.
-    changes: what those that stand changed in the text, in order; None where there was no memory to tell it, so that the
+    taken: how many operations of a message stay taken, from its front. Of a merge it is 0, whatever stays.
+    changes: what those that stay changed in the text, in order; None where there was no memory to tell it, so that the
         text is to be read anew.
     """
 

@@ -30,7 +30,7 @@ class Room:
                 must(answer)
                 made: bytes = ffi.buffer(self._out, self._count[0] * self._size)[:]
                 return made
-            # The call told how much it wants.
+            # The call wrote how much it wants.
             self._room = self._count[0]
             self._out = _new(self._type, self._room)
 

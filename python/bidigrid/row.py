@@ -82,7 +82,7 @@ class Row:
 
 
 Calls = tuple[Call, Call, Call]
-"""The calls that tell the places of a row, its entries, and the cells of all rows."""
+"""The calls that give the places of a row, its entries, and the cells of all rows."""
 
 
 def rows_of(handle: Any, count: int, width: int, calls: Calls) -> list[Row]:

@@ -1,4 +1,4 @@
-"""What a message or another document brings, and what is told of it."""
+"""What a message or another document brings: what it changes, or why it is refused."""
 
 from typing import Any
 
@@ -18,7 +18,7 @@ def taken(handle: Any, message: bytes) -> Changes:
 
 
 def merged(handle: Any, other: Any) -> Changes:
-    """Takes all that another document holds, and returns what that changed."""
+    """Takes all that another document has, and returns what that changed."""
     return _told(handle, lib.bidigrid_document_merge(handle, other), 0, 64)
 
 

@@ -22,7 +22,7 @@ class Desk:
         self.waiting: list[bytes] = []
 
     def edit(self, chance: Random) -> bytes:
-        """Types, erases or replaces a stretch, in the document as in the list."""
+        """Types, erases or replaces characters, in the document as in the list."""
         start = chance.randrange(len(self.plain) + 1)
         stop = min(start + chance.randrange(6), len(self.plain))
         typed = mixed(chance, chance.randrange(1, 8))

@@ -79,7 +79,7 @@ def channel_of(wanted: argparse.Namespace) -> Channel | None:
 
 
 def run(editor: Editor, screen: Screen, watch: Watch, waker: int, is_ended: list[int]) -> None:
-    """Goes on until one leaves. What a key types is kept before the next is read, and nothing that may be long is waited
+    """Goes on until one leaves. What a key types is saved before the next is read, and nothing that may be long is waited
     for: it is done in pieces, or by a thread."""
     desk, keys, due = editor.desk, Keys(), 0.0
     while not editor.is_left and not is_ended:

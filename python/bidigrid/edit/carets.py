@@ -46,7 +46,7 @@ def between(document: Document, place: int) -> Between:
 
 
 def places_of_gap(row: Row, gap: int) -> set[int]:
-    """The places that a gap of a row stands for: that of the character left of it, and that of the one right of it."""
+    """The places that a gap of a row may mean: that of the character left of it, and that of the one right of it."""
     found = set() if row.entries else {row.first_place}
     if 0 < gap <= len(row.entries):
         left = row.entries[gap - 1]

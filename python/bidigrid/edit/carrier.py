@@ -14,12 +14,12 @@ from .bell import Bell
 from .channel import Channel, Here, Message
 from .log import Log
 
-SLOW = 3.0  # seconds, after which it is told that the channel doesn't answer
+SLOW = 3.0  # seconds, after which the last line says that the channel doesn't answer
 LAST = 1.0  # seconds that the channel's end is waited for
 
 
 class Told(NamedTuple):
-    """What a channel tells: its state, who is here, how much of the log went out, and how far one has all by it."""
+    """What a channel says: its state, who is here, how much of the log went out, and how far one has all by it."""
 
     state: str
     here: dict[int, Here]
@@ -79,7 +79,7 @@ class Carrier:
         return told.look()
 
     def ask(self) -> Told:
-        """What the channel tells now."""
+        """What the channel says now."""
         here = {site: here for site, here in self.channel.here.items() if not here.is_gone()}
         return Told(self.channel.state(), here, self.channel.sent_size(), self.channel.reaches())
 
@@ -113,7 +113,7 @@ class Carrier:
         return not self.wanted and self.channel.wants_snapshot(operations)
 
     def keep(self, make: Callable[[], bytes]) -> None:
-        """Has a whole file made and kept, on the thread: of all that the desk was given so far."""
+        """Has a whole file made and saved, on the thread: of all that the desk was given so far."""
         self.wanted = make, self.told.reaches
         self.wake.ring()
 

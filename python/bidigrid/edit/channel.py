@@ -11,7 +11,7 @@ from .log import Log
 
 GONE_AFTER = 30.0  # seconds without a sign
 SNAPSHOT = "the snapshot"
-"""Who sends what stands for all that others have written."""
+"""Who sends what all others have written."""
 
 
 class Message(NamedTuple):
@@ -67,7 +67,7 @@ class Channel(Protocol):
         """Whether a whole file of so many operations is wanted now."""
 
     def snapshot(self, make: Callable[[], bytes], upto: bytes) -> None:
-        """Makes a whole file and keeps it for those who come later; it has all up to there."""
+        """Makes a whole file and saves it for those who come later; it has all up to there."""
 
     def close(self) -> None:
         """Says that this desk is gone."""

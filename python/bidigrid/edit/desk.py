@@ -21,15 +21,15 @@ from .undo import Edit, Edits
 
 AGAIN = 1.0  # seconds between two tries to write a log that could not be written
 AT_ONCE = 0.005  # seconds in which one does what is long, before one looks again whether a key has come
-LONG = 20_000  # characters, up to which a stretch is erased at once
+LONG = 20_000  # characters, up to which a range is erased at once
 QUIET = 2.0  # seconds without an edit, after which a whole file may be written for others
 
 Ends = tuple[Identifier, Identifier]
-"""The first and the last character of a stretch."""
+"""The first and the last character of a range."""
 
 
 class Desk:
-    """One's copy of a text. `notice` is what is to be told, `caret` the character that one's caret stands behind, and
+    """One's copy of a text. `notice` is what is to be reported, `caret` the character that one's caret stands behind, and
     `is_changed` is set where there is something new to be seen."""
 
     def __init__(
@@ -47,7 +47,7 @@ class Desk:
         self.came: collections.deque[Message] = collections.deque()
         self.part: Iterator[Message] = iter(())
         self.jobs: collections.deque[Iterator[object]] = collections.deque()
-        self.leaving: list[Ends] = []  # the stretches that are being erased
+        self.leaving: list[Ends] = []  # the ranges that are being erased
         self.notice = ""
         self.caret: Identifier | None = None
         self.is_changed = self.is_whole = True
@@ -80,7 +80,7 @@ class Desk:
             self.take(message)
 
     def replace(self, start: int, stop: int, text: str, joined: Edit | None = None) -> Edit | None:
-        """Erases a stretch and types a text where it began, as a part of an edit where it joins one; answers the edit."""
+        """Erases a range and types a text where it began, as a part of an edit where it joins one; answers the edit."""
         if start == stop and not text:
             return joined
         message = self.document.replace(start, min(stop, start + LONG), text)
@@ -94,7 +94,7 @@ class Desk:
         return edit
 
     def erase(self, ends: Ends, edit: Edit) -> Iterator[None]:
-        """Erases the rest of a long stretch in pieces, the first ones first. What others send waits meanwhile, so that what
+        """Erases the rest of a long range in pieces, the first ones first. What others send waits meanwhile, so that what
         they have written in it stays."""
         start, stop = self.places_of(ends)
         while start < stop:
@@ -106,12 +106,12 @@ class Desk:
         self.leaving.remove(ends)
 
     def places_of(self, ends: Ends) -> tuple[int, int]:
-        """From where up to where a stretch is that is being erased."""
+        """From where up to where a range is that is being erased."""
         first, last = ends
         return self.document.place_of(first), carets.place_behind(self.document, last) or 0
 
     def take_back(self) -> Iterator[int | None]:
-        """Takes one's last edit back that is still to be seen, in pieces; tells after each where that was."""
+        """Takes one's last edit back that is still to be seen, in pieces; yields after each where that was."""
         return self.edits.take_back(lambda: self.document, self.made, lambda: backwards(self.log, self.held))
 
     def change_ambiguous(self) -> Iterator[None]:
@@ -126,14 +126,14 @@ class Desk:
         old.close()
 
     def made(self, message: bytes) -> None:
-        """Logs an own message: it is kept at once, so that it outlives the editor, and flushed before it is sent."""
+        """Logs an own message: it is saved at once, so that it outlives the editor, and flushed before it is sent."""
         self.typed_at = time.monotonic()
         self.log.append(message)
         self.keep(self.log.keep)
         self.is_changed = True
 
     def take(self, message: Message) -> None:
-        """Takes a message of another. What is wrong with it is told, and left out; what else it has is taken."""
+        """Takes a message of another. What is wrong with it is reported, and left out; what else it has is taken."""
         faults = list(taken(self.document, message.data, self.held))
         for fault in faults:
             self.notice = f"{message.sender}: {fault}; left out"
@@ -209,7 +209,7 @@ class Desk:
         return files if self.failed_at else [*files, self.log.disk.fileno()]
 
     def keep(self, how: Callable[[], None]) -> None:
-        """Writes what was typed, or has it flushed too. Where that fails it is told, and tried again."""
+        """Writes what was typed, or has it flushed too. Where that fails it is reported, and tried again."""
         now = time.monotonic()
         if now - self.failed_at < AGAIN:
             return

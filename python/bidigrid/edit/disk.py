@@ -15,7 +15,7 @@ Answer = Callable[[OSError | None], None]
 
 
 class Disk:
-    """A thread that does one task after the other. Whether each went well is told to who asked for it, once select says
+    """A thread that does one task after the other. Whether each went well is answered to who asked for it, once select says
     that an answer is there."""
 
     def __init__(self) -> None:

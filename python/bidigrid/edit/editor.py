@@ -1,4 +1,4 @@
-"""What each key does: a caret that goes as the eye sees it, a stretch that is selected, and edits at the desk."""
+"""What each key does: a caret that goes as the eye sees it, a selection, and edits at the desk."""
 
 from __future__ import annotations
 
@@ -46,7 +46,7 @@ class Editor(Standing):
         }
 
     def press(self, key: Key) -> None:
-        """Does what a key is for. What the core refuses is told."""
+        """Does what a key is for. What the core refuses is reported."""
         if not self.desk.failed_at:
             self.desk.notice = ""
         at = None
@@ -75,7 +75,7 @@ class Editor(Standing):
         return moves.moved(self.document, self.at, name, self.height, self.goal or 0)
 
     def go(self, at: Position, name: str) -> None:
-        """Goes there, selecting on the way where shift is held or a stretch was begun."""
+        """Goes there, selecting on the way where shift is held or a selection was begun."""
         if name.startswith("shift-"):
             if self.marked is None:
                 self.marked = self.between
@@ -90,7 +90,7 @@ class Editor(Standing):
                 at = self.document.position_at(start)
         self.stand(at)
 
-    # The selected stretch
+    # The selection
 
     def begin_stretch(self) -> None:
         """Selects from here on."""
@@ -109,7 +109,7 @@ class Editor(Standing):
 
     def selected(self) -> tuple[int, int]:
         """From which place up to which other one; the caret's twice where nothing is selected. What others type at an end
-        of the stretch is out of it."""
+        of the selection is out of it."""
         here = self.place()
         if self.marked is None:
             return here, here
@@ -183,7 +183,7 @@ class Editor(Standing):
         self.desk.log.disk.ask(self.tell_written, lambda: write_whole(self.text_path, parts))
 
     def tell_written(self, error: OSError | None) -> None:
-        """Tells what came of that."""
+        """Reports what came of that."""
         self.desk.notice = f"{self.text_path} is {f'not written: {reason(error)}' if error else 'written'}"
         self.desk.is_changed = True
 

@@ -116,7 +116,7 @@ class Folder:
             os.close(file)
 
     def read_others(self) -> list[Message]:
-        """A piece of each file of another that has grown. One that can't be read is told, and keeps no other from it."""
+        """A piece of each file of another that has grown. One that can't be read is reported, and keeps no other from it."""
         found = []
         with os.scandir(self.path) as entries:
             named = [(entry, self.pattern.fullmatch(entry.name)) for entry in entries]
@@ -210,7 +210,7 @@ class Folder:
         return False
 
     def snapshot(self, make: Callable[[], bytes], upto: bytes) -> None:
-        """Nothing is kept."""
+        """Nothing is saved."""
 
     def close(self) -> None:
         """Takes the sign away."""

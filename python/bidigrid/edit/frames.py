@@ -158,7 +158,7 @@ class Sought:
             self.counters.setdefault(site, []).append(counter)
 
     def begin(self) -> None:
-        """Is told that there are no more."""
+        """Notes that there are no more."""
         for counters in self.counters.values():
             counters.sort()
 

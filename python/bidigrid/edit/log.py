@@ -1,4 +1,4 @@
-"""The log of a desk: a file of its own operations, each kept at once, and flushed before anyone hears of it."""
+"""The log of a desk: a file of its own operations, each saved at once, and flushed before anyone hears of it."""
 
 from __future__ import annotations
 
@@ -13,7 +13,7 @@ from .staging import OVERLAP, Staging
 
 
 class Log:
-    """An operation file of version 1, where what is appended leaves all as it is that stands there.
+    """An operation file of version 1, where what is appended leaves all as it is that is there.
 
     Opening it locks it, and cuts off a last frame that was not written to its end: it was never flushed, so nobody
     has seen it. `size` is how many bytes are flushed, `waiting` what is still to be. Of that the system has the first
@@ -55,7 +55,7 @@ class Log:
             raise EditFault(f"{self.path} is open in another editor: name another log by --log") from None
 
     def sound_size(self) -> int:
-        """How many bytes of whole frames the file has. What stands behind them is cut off."""
+        """How many bytes of whole frames the file has. What comes behind them is cut off."""
         data = self.read(0, os.fstat(self.file).st_size)
         head = data[:HEADER_SIZE]
         if head == HEADER_2:
@@ -96,7 +96,7 @@ class Log:
         return is_there
 
     def take_over(self) -> None:
-        """Appends what an editor has kept that was killed before its disk had it."""
+        """Appends what an editor has saved that was killed before its disk had it."""
         rest = self.staging.beyond(self.tail(), self.size)
         end, _ = whole_end(rest, 0, 1)
         write_at(self.file, rest[:end], self.size)
@@ -107,7 +107,7 @@ class Log:
         return self.read(max(0, self.size - OVERLAP), self.size)
 
     def turn(self) -> None:
-        """Keeps what waits, and has it written and flushed, together where a flush is still under way. After an error it
+        """Saves what waits, and has it written and flushed, together where a flush is still under way. After an error it
         still waits."""
         self.disk.read()
         try:
@@ -168,7 +168,7 @@ class Log:
         return b"".join(parts)
 
     def end(self) -> int:
-        """Where what is appended next will stand."""
+        """Where what is appended next will be."""
         return self.size + len(self.waiting)
 
     def spans(self, start: int, end: int) -> list[tuple[int, int]]:

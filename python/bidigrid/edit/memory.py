@@ -26,7 +26,7 @@ class MemoryFile:
             self.give_up()
 
     def put(self, data: bytes, at: int) -> bool:
-        """Keeps bytes at a place; answers whether it could."""
+        """Puts bytes at an offset; answers whether it could."""
         try:
             if self.file is not None:
                 write_at(self.file, data, at)
@@ -35,7 +35,7 @@ class MemoryFile:
         return self.file is not None
 
     def read(self, start: int) -> bytes:
-        """All that is kept from a place on."""
+        """All that is there from an offset on."""
         if self.file is None:
             return b""
         return os.pread(self.file, max(0, os.fstat(self.file).st_size - start), start)

@@ -6,7 +6,7 @@ import os
 
 
 class Outlet:
-    """Stands in the place of the standard output, from where curses has begun until it ends."""
+    """Takes the place of the standard output, from where curses has begun until it ends."""
 
     def __init__(self) -> None:
         self.rest = b""

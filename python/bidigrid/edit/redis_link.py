@@ -19,7 +19,7 @@ AWAY = (redis.RedisError, OSError)
 
 
 class Link:
-    """One connection: commands are sent in a row, and each answer goes to who asked."""
+    """One connection: commands are sent without waiting, and each answer goes to who asked."""
 
     def __init__(self, url: str) -> None:
         try:
@@ -43,7 +43,7 @@ class Link:
         return self.connection.read_response()
 
     def read(self) -> None:
-        """Gives the answers that are there to those who asked. A connection that was closed is told by an error."""
+        """Gives the answers that are there to those who asked. A connection that was closed is an error."""
         while self.connection.can_read(timeout=0):
             answer = self.connection.read_response()
             if not self.waiting:

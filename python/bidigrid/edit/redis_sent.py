@@ -1,4 +1,4 @@
-"""How much of a log went out over Redis: it stands beside the stream, and changes together with it."""
+"""How much of a log went out over Redis: it is beside the stream, and changes together with it."""
 
 from __future__ import annotations
 
@@ -81,5 +81,5 @@ class Sent:
 
 
 def mark(size: int, total: int) -> str:
-    """How Redis keeps it."""
+    """How it is in Redis."""
     return f"{size}:{total}"

@@ -41,7 +41,7 @@ class Snapshot:
         return self.since >= max(AFTER, operations // 100)
 
     def keep(self, link: Link, upto: bytes, make: Callable[[], bytes]) -> None:
-        """Makes and keeps a file that has all of the stream up to a message, if no other desk does."""
+        """Makes and saves a file that has all of the stream up to a message, if no other desk does."""
         self.since = 0
         if not link.call("SET", f"{self.key}:lock", self.by, "NX", "EX", LOCKED):
             return

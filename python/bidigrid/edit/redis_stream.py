@@ -120,7 +120,7 @@ class RedisStream:
         for number, fields in entries:
             named = dict(zip(fields[::2], fields[1::2]))
             after = named.get(b"after", b"")
-            # A stranger's message may not tell what it comes after.
+            # A stranger's message may not say what it comes after.
             if after != self.upto and (not after or is_later(after, self.upto)):
                 wanted = after
             self.upto = number
@@ -199,7 +199,7 @@ class RedisStream:
         return bool(self.writer) and self.is_whole and self.kept.is_wanted(operations)
 
     def snapshot(self, make: Callable[[], bytes], upto: bytes) -> None:
-        """Keeps all that this desk holds, which is all of the stream up to there."""
+        """Saves all that this desk has, which is all of the stream up to there."""
         try:
             if self.writer:
                 self.kept.keep(self.writer, upto, make)

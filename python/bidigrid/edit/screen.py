@@ -25,7 +25,7 @@ COLOURS = (curses.COLOR_RED, curses.COLOR_GREEN, curses.COLOR_YELLOW, curses.COL
 
 
 class Screen:
-    """The terminal, until it is closed. What stands there already isn't drawn again."""
+    """The terminal, until it is closed. What is there already isn't drawn again."""
 
     def __init__(self, is_logical: bool = False) -> None:
         self.is_logical = is_logical

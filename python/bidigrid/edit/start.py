@@ -49,7 +49,7 @@ def loaded(log: Log, came: list[Message], held: Held, load: Load) -> Document:
 
 
 def soundly(load: Load, data: bytes) -> Document | None:
-    """A document of a file, if it is sound: what is wrong with it is told when it is taken."""
+    """A document of a file, if it is sound: what is wrong with it is reported when it is taken."""
     try:
         return load(data)
     except Fault:

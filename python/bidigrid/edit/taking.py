@@ -34,7 +34,7 @@ class Held:
 
 
 def taken(document: Document, message: bytes, held: Held) -> Iterator[Fault]:
-    """Takes a message and keeps it, both without what is wrong with it. Each fault is told; after MOST_FAULTS of them the
+    """Takes a message and keeps it, both without what is wrong with it. Each fault is answered; after MOST_FAULTS of them the
     rest is left out."""
     for _ in range(MOST_FAULTS):
         try:

@@ -26,7 +26,7 @@ class Edit:
 
 @dataclasses.dataclass
 class Return:
-    """What was erased in one stretch: where it stood, and under which identifiers."""
+    """What was erased side by side: where it stood, and under which identifiers."""
 
     place: int
     old: list[Identifier]
@@ -113,7 +113,7 @@ class Edits:
                 yield None
                 continue
             gone = returns(document, batch)
-            # Where a stretch goes on in the next batch, so does what is typed.
+            # Where what is side by side goes on in the next batch, so does what is typed.
             goes_on = following and document.place_of(following[0]) == document.place_of(batch[-1])
             if last:
                 gone[0].place = place_behind(document, last) or 0

@@ -82,11 +82,11 @@ class Unread:
         return data
 
     def begin(self, keys: Keys, caret: Identifier | None) -> None:
-        """Is told that a key is pressed by one who stands there: that before the bytes which `keys` still hold."""
+        """Notes that a key is pressed by one whose caret is there: that before the bytes which `keys` still has."""
         self.tell(self.mark(keys), caret)
 
     def end(self, keys: Keys, caret: Identifier | None) -> None:
-        """Is told that it is done, and where one stands now."""
+        """Notes that it is done, and where the caret is now."""
         with self.lock:
             self.done = self.mark(keys)
             if self.done.size == self.size:

@@ -12,7 +12,7 @@ NAMED = 3  # of those who are here
 
 
 class View(NamedTuple):
-    """Rows of a width, the caret's line and column, the selected stretch, and others' carets: line, column, site."""
+    """Rows of a width, the caret's line and column, the selection, and others' carets: line, column, site."""
 
     width: int
     rows: tuple[Row, ...]
@@ -46,7 +46,7 @@ def others(editor: Editor, rows: tuple[Row, ...]) -> list[tuple[int, int, int]]:
 
 
 def status(editor: Editor) -> str:
-    """The site, the connection, how long the text is, how it is laid out, who else is here, and what is to be told."""
+    """The site, the connection, how long the text is, how it is laid out, who else is here, and what is to be reported."""
     desk = editor.desk
     here = [f"{here.name or '?'} ({site})" for site, here in sorted(desk.here().items())]
     parts = [f"site {desk.site}", desk.state(), f"{len(editor.document):,} characters"]

@@ -1,4 +1,4 @@
-"""Messages that chance has spoiled: each is taken, or told and left out, and what is sound still comes."""
+"""Messages that chance has spoiled: each is taken, or reported and left out, and what is sound still comes."""
 
 import random
 from pathlib import Path
