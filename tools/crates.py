@@ -35,7 +35,7 @@ def is_of_tests(crate):
 
 
 def is_for_c(crate):
-    """Whether a crate is one of those below the library for C, which its header tells of."""
+    """Whether a crate is one of those below the library for C, which its header describes."""
     return crate.startswith("c_")
 
 

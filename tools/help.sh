@@ -5,7 +5,7 @@ if [ "${1:-}" = --help ] || [ "${1:-}" = -h ]; then
     exit 0
 fi
 
-# usage: what a script says of a wrong call, the lines of its help that tell how it is called
+# usage: what a script says of a wrong call, the lines of its help that say how it is called
 usage() {
     sed -n '2,/^[^#]/s/^# \{0,1\}//p' "$0" | grep -A1 '^Usage' >&2
     exit 2

@@ -1,5 +1,5 @@
-/* What bench/c/main.rt.in does by the core itself, done here by calls of the C library: words tell what, and how many
- * times. The work `nothing` makes as many calls that tell a desk's length. */
+/* What bench/c/main.rt.in does by the core itself, done here by calls of the C library: words say what, and how many
+ * times. The work `nothing` makes as many calls that ask for a desk's length. */
 #include <bidigrid.h>
 #include <stdio.h>
 #include <stdlib.h>

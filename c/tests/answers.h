@@ -72,7 +72,7 @@ static bool is_same(bytes one, bytes same)
 
 static long all_lost = 0;
 
-/* Where a part of a call was done before, it tells of the rest alone. */
+/* Where a part of a call was done before, its answer is of the rest alone. */
 static bool is_state(const state *it, bool in_part)
 {
     state now = as_it_is();

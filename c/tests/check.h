@@ -1,4 +1,4 @@
-/* What the tests share: a check that tells its line, numbers at random, files read whole, and what a desk, a document or a
+/* What the tests share: a check that prints its line, numbers at random, files read whole, and what a desk, a document or a
  * picture answers as bytes. */
 #ifndef CHECK_H
 #define CHECK_H
@@ -49,7 +49,7 @@ static inline const uint8_t *utf8(const char *text)
     return (const uint8_t *)text;
 }
 
-/* Whether a buffer holds just this text. */
+/* Whether a buffer has just this text. */
 static inline bool is_text(const void *buffer, size_t size, const char *text)
 {
     return size == strlen(text) && !memcmp(buffer, text, size);

@@ -59,7 +59,7 @@ static void tries_typing(void)
     bidigrid_desk_free(NULL);
 }
 
-/* Texts that are typed, and stretches that are erased, each in one message. */
+/* Texts that are typed, and ranges that are erased, each in one message. */
 static void tries_stretches(void)
 {
     bidigrid_desk desk = made(3), other = made(4);
@@ -167,7 +167,7 @@ static void tries_messages(void)
     /* An identifier that is reused ends it there. */
     CHECK(TAKEN(&desk, HEADER A_AT_1 C_IN_ITS_PLACE B_AFTER_A, BIDIGRID_FAULT_IDENTIFIER_REUSED, 3, 1, 0));
     CHECK(has_text(&desk, "ab"));
-    /* Faulty bytes are told with their frame, and nothing of them is taken. */
+    /* Faulty bytes are reported with their frame, and nothing of them is taken. */
     bidigrid_desk empty = made(3);
     CHECK(is_taken(&empty, NULL, 0, BIDIGRID_FAULT_TRUNCATED, 0, 0, 0));
     CHECK(TAKEN(&empty, "BGOQ\x01", BIDIGRID_FAULT_BAD_MAGIC, 0, 0, 0));
@@ -248,7 +248,7 @@ static void tries_identifiers(void)
     bidigrid_desk_free(&desk);
 }
 
-/* What a desk holds as one message: another desk that takes it is the same, with what waits and what was erased. */
+/* What a desk has as one message: another desk that takes it is the same, with what waits and what was erased. */
 static void tries_saving(void)
 {
     bidigrid_desk desk = made(4), newcomer = made(5), none = BIDIGRID_NONE;
@@ -314,7 +314,7 @@ static void tries_the_last_counter(void)
     bidigrid_desk_free(&desk);
 }
 
-/* An empty handle is told, all out values are written, and it stays empty. */
+/* An empty handle is a fault, all out values are written, and it stays empty. */
 static void tries_empty_handles(void)
 {
     bidigrid_desk none = BIDIGRID_NONE;

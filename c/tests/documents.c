@@ -158,7 +158,7 @@ static void tries_tables(void)
     bidigrid_document_free(&document);
 }
 
-/* An empty handle is told, all out values are written, and it stays empty. */
+/* An empty handle is a fault, all out values are written, and it stays empty. */
 static void tries_empty_handles(void)
 {
     bidigrid_document none = BIDIGRID_NONE;

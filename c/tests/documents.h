@@ -14,7 +14,7 @@ static inline bidigrid_document made(uint32_t site, uint32_t width)
     return document;
 }
 
-/* Makes a document anew, or tells why not. */
+/* Makes a document anew, or answers why not. */
 static inline uint32_t make(bidigrid_document *out, const bidigrid_tables *by, uint32_t site, uint32_t width, uint32_t base)
 {
     return bidigrid_document_new(out, by, site, width, base, 1, 2);

@@ -202,7 +202,7 @@ static void write_messages(const char *folder)
     CHECK(fclose(file) == 0);
 }
 
-/* What one copy holds, saved, and gone on from by a new one. */
+/* What one copy has, saved, and gone on from by a new one. */
 static void save(const char *folder)
 {
     copy newcomer = {.document = BIDIGRID_NONE};

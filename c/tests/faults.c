@@ -140,7 +140,7 @@ static void tries_messages(void)
     bidigrid_desk_free(&desk);
 }
 
-/* The message of so many characters that a site typed in a row: frames of at most 1,024. */
+/* The message of so many characters that a site typed in one go: frames of at most 1,024. */
 static bytes typed_in_a_row(size_t count)
 {
     bytes all = {malloc(5 + 4 * count + 15 * (count / 1024 + 1)), 5};

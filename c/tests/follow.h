@@ -58,7 +58,7 @@ static inline bool is_followed(const followed *it, const bidigrid_document *docu
     return same_bytes(text, written(writes_document_text, document));
 }
 
-/* A row that is shown tells what this row of the picture does. */
+/* A row that is shown has what this row of the picture has. */
 static inline void is_row(const bidigrid_document *document, size_t shown, const bidigrid_picture *picture, size_t drawn)
 {
     bidigrid_row row, wanted;

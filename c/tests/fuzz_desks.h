@@ -142,7 +142,7 @@ static void types(input *from)
     free(before.at);
 }
 
-/* Erases a stretch, types a text, or replaces a stretch by one, by the call that is for it; with a buffer that is as
+/* Erases a range, types a text, or replaces a range by one, by the call that is for it; with a buffer that is as
  * long as it has to be, or that isn't there. */
 static uint32_t edit(bidigrid_desk *desk, size_t first, size_t last, bytes text, bytes *message)
 {

@@ -103,7 +103,7 @@ static size_t splice(followed *it, size_t first, size_t last, bytes text)
     return changes;
 }
 
-/* A stretch is erased, typed, or replaced, with a buffer that is as long as it has to be. */
+/* A range is erased or replaced, or a text typed, with a buffer that is as long as it has to be. */
 static void document_edits(input *from)
 {
     live *it = some_live(from);

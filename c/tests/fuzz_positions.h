@@ -21,7 +21,7 @@ static bidigrid_position stands(live *it, const bidigrid_picture *drawn, size_t 
     return position;
 }
 
-/* No such place, or an empty handle: zeros are told. */
+/* No such place, or an empty handle: zeros are written. */
 static void stands_nowhere(live *it, bool at_place)
 {
     bidigrid_position position = {7, 7, 7};

@@ -36,7 +36,7 @@ static void tries_messages(void)
     CHECK(bidigrid_document_changes(&document, NULL, 0, NULL) == BIDIGRID_FAULT_SHORT_BUFFER);
     CHECK(TAKEN(&document, HEADER A_AT_1 B_AFTER_A, BIDIGRID_OK, 2, 2, 0) && tells(&document, ""));
     CHECK(shows(&document, 0, 1, 1, 1, 0, "ab      \n"));
-    /* One that is refused ends it there, and what came before it stands and is told. */
+    /* One that is refused ends it there, and what came before it stays taken and is told. */
     CHECK(TAKEN(&document, HEADER A_GONE C_IN_ITS_PLACE B_AFTER_A, BIDIGRID_FAULT_IDENTIFIER_REUSED, 3, 1, 0));
     CHECK(has_text(&document, "b") && tells(&document, "0- ") && shows_nothing(&document));
     /* A message that is not read changes nothing, and nothing is told of it. */
@@ -109,7 +109,7 @@ static void tries_identifiers(void)
     bidigrid_document_free(&document);
 }
 
-/* What a document holds as one message, and a document and a desk that go on from it. */
+/* What a document has as one message, and a document and a desk that go on from it. */
 static void tries_saving(void)
 {
     bidigrid_document document = made(4, 8), opened = BIDIGRID_NONE;

@@ -263,7 +263,7 @@ static void tries_tables(bidigrid_tables *tables, const char *folder)
     CHECK(bidigrid_picture_print(&one, first, sizeof first, &size) == BIDIGRID_OK);
     CHECK(bidigrid_picture_print(&other, second, sizeof second, &same) == BIDIGRID_OK);
     CHECK(size == same && !memcmp(first, second, size));
-    /* A picture keeps its tables. */
+    /* A picture has a share in its tables. */
     void *held = read.held;
     static const struct { size_t file; const char *bytes; uint32_t answer; size_t line; } FAULTS[] = {
         {0, "0041;L\n0042;Q\n", BIDIGRID_FAULT_UNKNOWN_VALUE, 2}, {1, "0028; 0029\n", BIDIGRID_FAULT_MISSING_FIELD, 1},

@@ -17,7 +17,7 @@ static inline bool is_at(bidigrid_position position, size_t row, size_t gap, siz
     return position.row == row && position.gap == gap && position.place == place;
 }
 
-/* Whether a position is that of a picture's caret, whose row is told by its first place. */
+/* Whether a position is that of a picture's caret, whose row is named by its first place. */
 static inline bool is_caret(bidigrid_position position, const bidigrid_picture *picture, bidigrid_caret caret)
 {
     bidigrid_row row;

@@ -45,7 +45,7 @@ static void make_in_peace(const row *it, peace *all)
     all->done = as_it_is();
 }
 
-/* Makes the call with one request refused, and tells whether it met that. */
+/* Makes the call with one request refused, and answers whether it met that. */
 static uint32_t refused_at(const row *it, long number, bool *met)
 {
     it->before();

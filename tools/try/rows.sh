@@ -16,7 +16,7 @@ passed=0
 # file NAME HEX: bytes in hexadecimal, spaces ignored, into a file of the folder
 file() { printf '%s' "${2// /}" | xxd -r -p >"$folder/$1"; }
 
-# tell NAME YES WHAT: counts a row that passed (YES is 0), or tells what is wrong
+# tell NAME YES WHAT: counts a row that passed (YES is 0), or says what is wrong
 tell() {
     if [ "$2" = 0 ]; then passed=$((passed + 1)); else
         echo "$1: $3"
@@ -36,7 +36,7 @@ row() {
     tell "$name" $? "status $got, wrote '$(cat "$folder/out")', said '$(head -n 1 "$folder/err")'"
 }
 
-# lost NAME WORD..: the same into a full device, into a closed one, and into a pipe whose reader has left; each is told
+# lost NAME WORD..: the same into a full device, into a closed one, and into a pipe whose reader has left; each is reported
 lost() {
     local name=$1
     shift
@@ -49,7 +49,7 @@ lost() {
     told_device "a reader that has left: $name" $?
 }
 
-# told_device NAME STATUS: counts a row that told of a device and ended so
+# told_device NAME STATUS: counts a row that reported a device and ended so
 told_device() {
     [ "$2" = 3 ] && [ "$(cat "$folder/err")" = 'bidigrid: device' ]
     tell "$1" $? "status $2, said '$(head -n 1 "$folder/err")'"
