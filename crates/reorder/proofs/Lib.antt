@@ -14,6 +14,7 @@ pub mod PiecesOrder
 pub mod Places
 pub mod Rearranged
 pub mod Rounds
+pub mod Rows
 pub mod Stretches
 pub mod VisualOrderLaw
 pub mod WholeLine

@@ -17,6 +17,10 @@ unfoldable pub is_run_class : Bidi → Bool
 is_run_class Ws = true
 is_run_class class = is_isolate_control class || is_removed class
 
+-- L1 resets a code point of such a class at the line's end, and before one that it resets
+abbrev pub may_be_reset : Bidi → Bool
+may_be_reset class = is_separator class || is_run_class class
+
 -- a line's rest begins with a separator, with a run right before one, or with a run at the line's end, or is empty
 abbrev pub begins_reset : List Bidi → Bool
 begins_reset [] = true

@@ -1,18 +1,23 @@
 //! The levels of a line's code points and clusters: L1.
 
-ghost use Rattle.std.specs.Prelude.{◌≡◌, ◌<◌, length, sum, All, IfOk, OnOk, ◌&&◌, ◌||◌};
+ghost use Rattle.std.specs.Prelude.{◌≡◌, ℕ, ◌-◌, ◌<◌, ◌≤◌, ◌++◌, true, false, length, sum, take, drop, replicate, slice_index_or, All, IfOk, OnOk};
+ghost use Rattle.std.specs.List.{list_any};
 ghost use Rattle.std.specs.Str.{chars};
-ghost use Rattle.reorder.specs.LineLevels.{is_separator, is_run_class, levels_after_l1, group_firsts, line_levels_of};
+ghost use Rattle.bg_types.specs.declared.class.Bidi.TheVariants.{L};
+ghost use Rattle.reorder.specs.LineLevels.{is_separator, may_be_reset, levels_after_l1, group_firsts, line_levels_of};
 
 use bg_types::{Bidi, Memory};
 use std::alloc::Global;
 use unicode_tables::Tables;
 
-/// Whether L1 resets a code point of a class where it stands at the line's end.
+/// How many classes are looked at together.
+const BLOCK: usize = 16;
+
+/// Whether L1 resets a code point of a class at the line's end, and before one that it resets.
 #[tactic(auto, unfolding(crate::specs::LineLevels::is_separator, crate::specs::LineLevels::is_run_class, bg_types::specs::Classes::is_removed, bg_types::specs::Classes::is_isolate_control))]
 #[inline]
 fn may_be_reset(class: Bidi) -> bool
-    ensures { result ≡ (is_separator class || is_run_class class) }
+    ensures { result ≡ may_be_reset class }
 {
     matches!(
         class,
@@ -40,13 +45,64 @@ fn is_separator(class: Bidi) -> bool
     matches!(class, Bidi::S | Bidi::B)
 }
 
-/// Whether L1 resets a code point of a class, given whether the one after it in the line is reset.
+/// Whether one of some classes is a separator's.
 #[inline]
-fn is_reset(class: Bidi, follower_is_reset: bool) -> bool
-    ensures { result ≡ (is_separator class || (is_run_class class && follower_is_reset)) }
+fn has_separator(classes: &[Bidi]) -> bool
+    ensures { result ≡ list_any is_separator classes.now }
 {
-    // Most code points are letters, for which one test is enough.
-    may_be_reset(class) && (follower_is_reset || is_separator(class))
+    // A loop that ends at none of them looks at sixteen at once.
+    let mut found = false;
+    for class in classes {
+        found |= is_separator(*class);
+    }
+    found
+}
+
+/// A place from which on there is no separator before `end`: blocks without one are passed.
+#[inline]
+fn pass_blocks(classes: &[Bidi], end: usize) -> usize
+    requires { end ≤ length classes.now }
+    ensures within { result ≤ end }
+    ensures passed { (k : ℕ) → result ≤ k → k < end → is_separator (slice_index_or classes.now k L) ≡ false }
+{
+    let mut start = end;
+    while start >= BLOCK && !has_separator(&classes[start - BLOCK..start]) {
+        start -= BLOCK;
+    }
+    start
+}
+
+/// The place behind the last separator before `end`, or 0 where there is none.
+#[inline]
+fn separator_end(classes: &[Bidi], end: usize) -> usize
+    requires { end ≤ length classes.now }
+    ensures within { result ≤ end }
+    ensures passed { (k : ℕ) → result ≤ k → k < end → is_separator (slice_index_or classes.now k L) ≡ false }
+    ensures separator { 0 < result → is_separator (slice_index_or classes.now (result - 1) L) ≡ true }
+{
+    let mut place = pass_blocks(classes, end);
+    while place > 0 && !is_separator(classes[place - 1]) {
+        place -= 1;
+    }
+    place
+}
+
+/// Puts the paragraph level at the places right before `end` that may be reset. Returns the first of them, or `end`.
+#[inline]
+fn reset_before(after: &mut [u8], classes: &[Bidi], end: usize, para_level: u8) -> usize
+    requires levels { length after.old ≡ length classes.now }
+    requires end { end ≤ length classes.now }
+    ensures within { result ≤ end }
+    ensures reset { (k : ℕ) → result ≤ k → k < end → may_be_reset (slice_index_or classes.now k L) ≡ true }
+    ensures kept { 0 < result → may_be_reset (slice_index_or classes.now (result - 1) L) ≡ false }
+    ensures levels { after.new ≡ take result after.old ++ replicate (end - result) para_level ++ drop end after.old }
+{
+    let mut start = end;
+    while start > 0 && may_be_reset(classes[start - 1]) {
+        start -= 1;
+        after[start] = para_level;
+    }
+    start
 }
 
 /// Puts into a list, in place of what it has, the level of each code point of a line after L1, by their classes and their
@@ -64,12 +120,10 @@ pub fn levels_after_l1(
 {
     after.clear();
     after.extend_from_slice(levels)?;
-    let mut resets = true;
-    for place in (0..classes.len()).rev() {
-        resets = is_reset(classes[place], resets);
-        if resets {
-            after[place] = para_level;
-        }
+    let mut end = classes.len();
+    while end > 0 {
+        let start = reset_before(after, classes, end, para_level);
+        end = separator_end(classes, start);
     }
     Ok(())
 }

@@ -1,10 +1,9 @@
 -- The goals of `visual_into` that are answered by hand.
-use Rattle.std.proofs.Common.{sym, ap, ◌∙◌, subst, length}
+use Rattle.std.proofs.Common.{sym, ◌∙◌, subst, length}
 use Rattle.std.specs.Prelude.{IsPermutation}
 use Rattle.std.specs.List.{range_with_len}
 use Rattle.std.proofs.lemmas.List.Sorted.{IsPermutation-refl}
 use Rattle.std.proofs.lemmas.Result.{on_ok_weaker}
-use Rattle.reorder.specs.VisualList.{visual_list}
 use Rattle.reorder.proofs.InOrder.{visual_list-even}
 use Rattle.reorder.proofs.Rearranged.{visual_list-permutes}
 use Rattle.reorder.proofs.WholeLine.{walk-now, walk-within}
