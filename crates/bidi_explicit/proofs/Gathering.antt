@@ -1,5 +1,5 @@
 -- The sequences of a paragraph, gathered one after the other.
-use Rattle.std.proofs.Common.{ℕ, zero, suc, ◌≡◌, ◌≤◌, ◌+◌, ◌-◌, refl, ap, ap₂, sym, ◌∙◌, List, [], ◌∷◌, ◌++◌, map, filter, length, take, drop, slice_range, Option, Some, None, Bool, true, false, if◌then◌else◌, append-nil, arith}
+use Rattle.std.proofs.Common.{ℕ, zero, suc, ◌≡◌, ◌≤◌, ◌-◌, refl, ap, ap₂, sym, ◌∙◌, List, [], ◌∷◌, ◌++◌, map, filter, length, take, drop, slice_range, Option, Some, None, Bool, true, false, if◌then◌else◌, append-nil, arith}
 use Rattle.std.specs.List.{All}
 use Rattle.std.proofs.Math.Seq.{take-length}
 use Rattle.std.proofs.lemmas.List.{map-append, length-append, drop_at, take-append-le, drop-append-le, length-drop}

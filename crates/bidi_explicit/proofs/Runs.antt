@@ -13,7 +13,7 @@ use Rattle.std.proofs.lemmas.List.Folds.{list_any-append}
 use Rattle.bidi_explicit.specs.declared.kept.Kept.{Kept}
 use Rattle.bidi_explicit.specs.declared.level_run.LevelRun.{LevelRun}
 use Rattle.bidi_explicit.specs.Sequences.{kept_at, is_kept, same_level}
-use Rattle.bidi_explicit.specs.LevelRuns.{places_between, own_places, run_places, HasPlace, IsLevelRun, IsEdge, IsRun, has_start, AreTold}
+use Rattle.bidi_explicit.specs.LevelRuns.{places_between, own_places, run_places, IsLevelRun, IsEdge, IsRun, has_start, AreTold}
 use Rattle.bidi_explicit.proofs.Chains.{is_kept-within}
 
 abbrev pub run_of : (start end : ℕ) → LevelRun

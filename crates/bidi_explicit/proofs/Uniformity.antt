@@ -1,12 +1,11 @@
 -- A paragraph without controls is one sequence of all its places.
-use Rattle.std.proofs.Common.{ℕ, zero, suc, ◌≡◌, ◌≤◌, ◌<◌, ◌+◌, ◌-◌, ◌==◌, ◌||◌, inl, inr, refl, ap, ap₂, sym, subst, ◌∙◌, List, [], ◌∷◌, map, filter, length, drop, slice_range, Option, Some, None, Bool, true, false, if◌then◌else◌, zero-add, append-nil, arith}
+use Rattle.std.proofs.Common.{ℕ, zero, suc, ◌≡◌, ◌≤◌, ◌<◌, ◌+◌, ◌-◌, ◌==◌, ◌||◌, inl, inr, refl, ap, ap₂, sym, subst, ◌∙◌, List, [], ◌∷◌, map, filter, length, drop, Option, Some, None, Bool, true, false, if◌then◌else◌, zero-add, append-nil, arith}
 use Rattle.std.specs.Prelude.{is_some, not, ◌&&◌, slice_get, IfSome}
 use Rattle.std.specs.List.{All, list_any, range_with_len}
 use Rattle.std.proofs.Math.Bool.{and-false, or-true}
 use Rattle.std.proofs.lemmas.Bool.Decides.{eqb_tells}
 use Rattle.std.proofs.lemmas.Bool.{false≢true, cases_lt, or_parts}
 use Rattle.std.proofs.lemmas.List.{length-map}
-use Rattle.std.proofs.lemmas.List.FromFn.{length-range_with_len}
 use Rattle.std.proofs.lemmas.List.Elements.{All-nil, All-cons, All-head, All-tail, All-same}
 use Rattle.bg_types.specs.declared.class.Bidi.{Bidi}
 use Rattle.bg_types.specs.declared.class.Bidi.TheVariants.{L, R, Al, En, Es, Et, An, Cs, Nsm, B, S, Ws, On}

@@ -1,5 +1,5 @@
 -- A chain of links goes along its level runs, and over them a paragraph is gone through a run at a time.
-use Rattle.std.proofs.Common.{ℕ, zero, suc, ◌≡◌, ◌≤◌, ◌<◌, ◌+◌, ◌-◌, ◌==◌, inl, inr, refl, ap, subst, sym, ◌∙◌, List, [], ◌∷◌, ◌++◌, length, get_or, take, drop, Option, Some, None, Bool, true, false, add-zero, arith}
+use Rattle.std.proofs.Common.{ℕ, zero, suc, ◌≡◌, ◌≤◌, ◌<◌, ◌+◌, ◌-◌, ◌==◌, inl, inr, refl, ap, subst, sym, ◌∙◌, List, [], ◌∷◌, ◌++◌, length, get_or, take, drop, Option, Some, Bool, true, false, add-zero, arith}
 use Rattle.std.specs.Prelude.{max, not, ◌&&◌}
 use Rattle.std.proofs.Math.Bool.{and-false}
 use Rattle.std.proofs.lemmas.Bool.{cases_Bool, false≢true}
@@ -10,13 +10,13 @@ use Rattle.bidi_explicit.specs.declared.controls.Control.{Control}
 use Rattle.bidi_explicit.specs.declared.embedded.Extent.{Extent}
 use Rattle.bidi_explicit.specs.declared.kept.Kept.{Kept}
 use Rattle.bidi_explicit.specs.declared.level_run.LevelRun.{LevelRun}
-use Rattle.bidi_explicit.specs.Sequences.{kept_at, is_kept, same_level, is_place, chain, follows, begins}
+use Rattle.bidi_explicit.specs.Sequences.{kept_at, is_kept, same_level, is_place, chain, begins}
 use Rattle.bidi_explicit.specs.Extents.{extent_of}
 use Rattle.bidi_explicit.specs.Links.{linked, is_unclosed_at, AreMatched, AreKept}
 use Rattle.bidi_explicit.specs.LevelRuns.{own_places, run_places, IsRun, IsEdge, AreTold, has_start}
 use Rattle.bidi_explicit.proofs.Chains.{IsForward, IsWalkedTo, IsWalkedTo-run}
 use Rattle.bidi_explicit.proofs.Linking.{linked-forward, linked-from_kept, linked-kept, linked-run, begins-kept}
-use Rattle.bidi_explicit.proofs.Runs.{run_of, run_places-more, has_place, has-start, same_level-out}
+use Rattle.bidi_explicit.proofs.Runs.{run_of, run_places-more, has-start, same_level-out}
 use Rattle.bidi_explicit.proofs.Taken.{IsTaken, IsTaken-on, IsTaken-more, follows-at}
 use Rattle.bidi_explicit.proofs.Gathering.{IsGathered, IsGathered-on, IsGathered-more}
 

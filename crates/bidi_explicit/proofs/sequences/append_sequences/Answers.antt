@@ -1,5 +1,5 @@
 -- Each sequence is gathered where it begins, and the level runs that one has already are passed.
-use Rattle.std.proofs.Common.{ℕ, refl, ◌≡◌, ◌∙◌, ◌<◌, suc, sym, ap, subst, length, get_or, true, None, add-one, arith}
+use Rattle.std.proofs.Common.{ℕ, ◌≡◌, ◌∙◌, ◌<◌, suc, sym, ap, subst, length, get_or, None, arith}
 use Rattle.std.specs.Prelude.{is_some, ◌&&◌}
 use Rattle.std.proofs.lemmas.List.{length-replicate}
 use Rattle.std.proofs.lemmas.List.Elements.{All-weaker}
