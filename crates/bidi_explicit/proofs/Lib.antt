@@ -3,6 +3,7 @@ pub mod FlatLemmas
 pub mod LadderLemmas
 pub mod Strongest
 pub mod Matching
+pub mod Passed
 pub mod Passing
 pub mod Chains
 pub mod Runs

@@ -1,9 +1,10 @@
 -- One pass of the flat rules gives the levels of the tree.
-use Rattle.std.proofs.Common.{ℕ, zero, suc, ◌≡◌, ◌+◌, ◌<◌, ◌≤◌, ◌==◌, refl, ap, sym, ◌∙◌, List, [], ◌∷◌, ◌++◌, length, get_or, drop, drop-cons, append_assoc, append-nil, Option, Bool, true, false, arith, if◌then◌else◌}
-use Rattle.std.proofs.lemmas.List.{drop_all}
+use Rattle.std.proofs.Common.{ℕ, zero, suc, ◌≡◌, ◌+◌, ◌<◌, ◌≤◌, ◌-◌, ◌==◌, refl, ap, sym, subst, ◌∙◌, List, [], ◌∷◌, ◌++◌, map, length, length-drop, get_or, take, drop, drop-cons, append_assoc, append-nil, add-one, Option, Bool, true, false, arith, if◌then◌else◌}
+use Rattle.std.specs.Prelude.{slice_range}
+use Rattle.std.proofs.lemmas.List.{drop_all, get_or-drop, map-append, take_more}
 use Rattle.std.proofs.lemmas.Bool.{false≢true}
 use Rattle.bg_types.specs.declared.class.Bidi.{Bidi}
-use Rattle.bg_types.specs.declared.class.Bidi.TheVariants.{Rle, Lre, Rlo, Lro, Pdf, Bn, B, Lri, Rli, Fsi, Pdi}
+use Rattle.bg_types.specs.declared.class.Bidi.TheVariants.{L, Rle, Lre, Rlo, Lro, Pdf, Bn, B, Lri, Rli, Fsi, Pdi}
 use Rattle.paragraphs.specs.Classes.{is_removed, is_isolate_control, is_separator}
 use Rattle.bidi_explicit.specs.declared.kind.Direction.{Direction}
 use Rattle.bidi_explicit.specs.declared.controls.Control.{Control}
@@ -140,3 +141,33 @@ IsPassedTo-plain p cs i m done s inside d t is apart =
       overflow = (let a = s.overflow in omega arith);
       valid = (let a = s.valid in omega arith);
     }
+
+-- the same of places in a row
+passed-by : (p : ℕ) (cs : List Bidi) (i n : ℕ) (m : Machine) (done : List (Option Kept)) (t : Direction) → IsPassedTo p cs i m done → t ≡ top m.stack
+    → i + n ≤ length cs → ((k : ℕ) → i ≤ k → k < i + n → is_apart (get_or cs k L) ≡ false)
+    → IsPassedTo p cs (i + n) m (done ++ map (kept_under t) (take n (drop i cs)))
+passed-by p cs i zero m done t s is within simple =
+    let here : i ≡ i + 0 = omega arith in
+    subst (λ k. IsPassedTo p cs k m (done ++ [])) here (subst (IsPassedTo p cs i m) (sym (append-nil done)) s)
+passed-by p cs i (suc n) m done t s is within simple =
+    let inside : i + n < length cs = omega arith in
+    let left : n < length (drop i cs) = omega (arith, length-drop i cs) in
+    let next : suc (i + n) ≡ i + suc n = omega arith in
+    let before = passed-by p cs i n m done t s is (omega arith) (λ k from to. simple k from (omega arith)) in
+    let on = IsPassedTo-plain p cs (i + n) m (done ++ map (kept_under t) (take n (drop i cs))) before inside L t is (simple (i + n) (omega arith) (omega arith)) in
+    let more : (done ++ map (kept_under t) (take n (drop i cs))) ++ kept_under t (get_or cs (i + n) L) ∷ [] ≡ done ++ map (kept_under t) (take (suc n) (drop i cs)) =
+    append_assoc done (map (kept_under t) (take n (drop i cs))) (kept_under t (get_or cs (i + n) L) ∷ [])
+    ∙ ap (λ ks. done ++ ks)
+    (ap (λ c. map (kept_under t) (take n (drop i cs)) ++ kept_under t c ∷ []) (sym (get_or-drop i cs n L))
+    ∙ sym (map-append (kept_under t) (take n (drop i cs)) (get_or (drop i cs) n L ∷ []))
+    ∙ ap (map (kept_under t)) (sym (take_more (drop i cs) n L left) ∙ ap (λ k. take k (drop i cs)) (add-one n))) in
+    subst (λ k. IsPassedTo p cs k m (done ++ map (kept_under t) (take (suc n) (drop i cs)))) next
+    (subst (IsPassedTo p cs (suc (i + n)) m) more on)
+
+pub IsPassedTo-row : (p : ℕ) (cs : List Bidi) (i end : ℕ) (m : Machine) (done : List (Option Kept)) (t : Direction) → IsPassedTo p cs i m done → t ≡ top m.stack
+    → i ≤ end → end ≤ length cs → ((k : ℕ) → i ≤ k → k < end → is_apart (get_or cs k L) ≡ false)
+    → IsPassedTo p cs end m (done ++ map (kept_under t) (slice_range cs i end))
+IsPassedTo-row p cs i end m done t s is order within simple =
+    let there : i + (end - i) ≡ end = omega arith in
+    subst (λ k. IsPassedTo p cs k m (done ++ map (kept_under t) (slice_range cs i end))) there
+    (passed-by p cs i (end - i) m done t s is (omega arith) (λ k from to. simple k from (omega arith)))

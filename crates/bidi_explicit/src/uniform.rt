@@ -12,6 +12,9 @@ use crate::sequences::direction_between;
 use bg_types::{Bidi, Memory};
 use std::alloc::Global;
 
+/// How many classes are looked at together.
+pub(crate) const BLOCK: usize = 16;
+
 /// Whether X9 removes a character of this class, or it is an isolate control.
 ///
 /// All but BN stand at the end of the list of classes: two comparisons look at sixteen classes at once, where a list of them would not.

@@ -1,56 +1,58 @@
--- The pass goes from the first place to the last.
-use Rattle.std.proofs.Common.{◌<◌, ◌≡◌, ◌∙◌, ap, sym, length, get_or, take, false, add-one, arith}
-use Rattle.std.proofs.lemmas.List.{take_all, take_more_set}
+-- The pass goes from the first place to the last, over rows of places that simply take a direction.
+use Rattle.std.proofs.Common.{◌<◌, ◌+◌, ◌∙◌, [], ap, sym, subst, length, get_or, set, take, add-one, arith, rules}
+use Rattle.std.proofs.lemmas.List.{length-set, take_all, take_more_set}
 use Rattle.bidi_explicit.specs.Levels.{place_of}
-use Rattle.bidi_explicit.specs.Uniform.{is_apart}
 use Rattle.bg_types.specs.declared.class.Bidi.TheVariants.{L}
 use Rattle.bidi_explicit.proofs.Matching.{length-controls}
-use Rattle.bidi_explicit.proofs.Passing.{IsPassedTo-start, IsPassedTo-on, IsPassedTo-plain, IsPassedTo-end}
+use Rattle.bidi_explicit.proofs.Passing.{IsPassedTo, IsPassedTo-start, IsPassedTo-on, IsPassedTo-row, IsPassedTo-end}
 use Rattle.bidi_explicit.proofs.places.put_places.Goals as goal
 
 pub loop-i-init : goal.loop-i-init
-loop-i-init c = record {
-  passed = rw c.new-stack.ensures (IsPassedTo-start c.args.level c.args.classes.now);
-  direction = c.top-direction.ensures;
-}
-
-pub bounds-classes-i : goal.bounds-classes-i
-bounds-classes-i c = let same = ap length c.requires.matched ∙ length-controls 0 c.args.classes.now in omega arith
-
-pub bounds-places-i : goal.bounds-places-i
-bounds-places-i c = let same = ap length c.requires.matched ∙ length-controls 0 c.args.classes.now in omega arith
-
-pub bounds-places-i-in-loop-i : goal.bounds-places-i-in-loop-i
-bounds-places-i-in-loop-i c = let same = ap length c.requires.matched ∙ length-controls 0 c.args.classes.now in omega arith
-
-pub loop-i-preserved-then-not-is_apart : goal.loop-i-preserved-then-not-is_apart
-loop-i-preserved-then-not-is_apart c =
-    let same = ap length c.requires.matched ∙ length-controls 0 c.args.classes.now in
-    let inside : c.loop-i.i < length c.args.classes.now = omega arith in
-    let apart : is_apart (get_or c.args.classes.now c.loop-i.i L) ≡ false = sym c.is_apart.ensures ∙ c.if-not-is_apart.true in
+loop-i-init c =
+    let e = c.put_under-i.ensures in
+    let cs = c.args.classes.now in
     record {
+      long = omega arith;
+      within = e.within;
       passed =
-          rw (take_more_set c.loop-i.places c.loop-i.i c.kept_under.result (omega arith), c.kept_under.ensures, add-one)
-          (IsPassedTo-plain c.args.level c.args.classes.now c.loop-i.i c.loop-i.stack (take c.loop-i.i c.loop-i.places) c.loop-i.invariant.passed inside L
-          c.loop-i.direction c.loop-i.invariant.direction apart);
-      direction = c.loop-i.invariant.direction;
+          subst (IsPassedTo c.args.level cs c.put_under-i.result c.new-stack.result) (sym e.places)
+          (IsPassedTo-row c.args.level cs 0 c.put_under-i.result c.new-stack.result [] c.top.result
+          (rw c.new-stack.ensures (IsPassedTo-start c.args.level cs)) c.top.ensures e.from e.within e.simple);
     }
+
+pub bounds-controls-i : goal.bounds-controls-i
+bounds-controls-i c = let same = ap length c.requires.matched ∙ length-controls 0 c.args.classes.now in omega arith
+
+pub offset_bounds-controls-i : goal.offset_bounds-controls-i
+offset_bounds-controls-i c =
+    let same = ap length c.requires.matched ∙ length-controls 0 c.args.classes.now in
+    let less : c.loop-i.i < length c.args.controls.now = omega arith in
+    search rules
 
 pub loop-i-preserved : goal.loop-i-preserved
 loop-i-preserved c =
+    let h = c.loop-i.invariant in
+    let cs = c.args.classes.now in
+    let i = c.loop-i.i in
     let same = ap length c.requires.matched ∙ length-controls 0 c.args.classes.now in
     let inside : c.loop-i.i < length c.args.classes.now = omega arith in
+    let e = c.put_under-i-in-loop-i.ensures in
+    let put : IsPassedTo c.args.level c.args.classes.now (c.loop-i.i + 1) c.advance-taken.new.self (take (c.loop-i.i + 1) (set c.loop-i.places c.loop-i.i c.place_of.result)) =
+    rw (take_more_set c.loop-i.places c.loop-i.i c.place_of.result (omega arith), add-one)
+    (IsPassedTo-on c.args.level c.args.classes.now c.loop-i.i c.loop-i.stack (take c.loop-i.i c.loop-i.places) h.passed inside
+    L _ c.args.controls.now c.requires.matched c.advance-taken.new.self c.place_of.result c.advance-taken.ensures.after
+    (c.place_of.ensures ∙ ap (λ d. place_of c.args.level d (get_or c.args.classes.now c.loop-i.i L)) c.advance-taken.ensures.direction)) in
     record {
+      long = omega (arith, h.long, length-set c.loop-i.places c.loop-i.i c.place_of.result);
+      within = e.within;
       passed =
-          rw (take_more_set c.loop-i.places c.loop-i.i c.place_of.result (omega arith), add-one)
-          (IsPassedTo-on c.args.level c.args.classes.now c.loop-i.i c.loop-i.stack (take c.loop-i.i c.loop-i.places) c.loop-i.invariant.passed inside
-          L _ c.args.controls.now c.requires.matched c.advance-taken.new.self c.place_of.result c.advance-taken.ensures.after
-          (c.place_of.ensures ∙ ap (λ d. place_of c.args.level d (get_or c.args.classes.now c.loop-i.i L)) c.advance-taken.ensures.direction));
-      direction = c.top-direction-in-loop-i.ensures;
+          subst (IsPassedTo c.args.level cs c.put_under-i-in-loop-i.result c.advance-taken.new.self) (sym e.places)
+          (IsPassedTo-row c.args.level cs (i + 1) c.put_under-i-in-loop-i.result c.advance-taken.new.self _ c.top-in-loop-i.result
+          put c.top-in-loop-i.ensures e.from e.within e.simple);
     }
 
 pub returns : goal.returns
 returns c =
-    let same = ap length c.requires.matched ∙ length-controls 0 c.args.classes.now in
-    sym (take_all c.loop-i.i c.loop-i.places (omega arith))
-    ∙ IsPassedTo-end c.args.level c.args.classes.now c.loop-i.i c.loop-i.stack (take c.loop-i.i c.loop-i.places) (omega arith) c.loop-i.invariant.passed
+    let h = c.loop-i.invariant in
+    sym (take_all c.loop-i.i c.loop-i.places (omega (arith, h.long)))
+    ∙ IsPassedTo-end c.args.level c.args.classes.now c.loop-i.i c.loop-i.stack (take c.loop-i.i c.loop-i.places) (omega arith) h.passed

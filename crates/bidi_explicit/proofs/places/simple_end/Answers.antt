@@ -1,0 +1,16 @@
+-- One place more.
+use Rattle.std.proofs.Common.{◌+◌, ◌∙◌, sym, arith}
+use Rattle.bidi_explicit.specs.Uniform.{is_apart}
+use Rattle.bidi_explicit.proofs.Passed.{passed-on, passed-at}
+use Rattle.bidi_explicit.proofs.places.simple_end.Goals as goal
+
+pub loop-end-preserved : goal.loop-end-preserved
+loop-end-preserved c =
+    let cs = c.args.classes.now in
+    let end = c.loop-end.end in
+    let h = c.loop-end.invariant in
+    record {
+      from = omega (arith, h.from);
+      within = omega arith;
+      simple = passed-on is_apart cs c.args.start end (end + 1) h.simple (passed-at is_apart cs end (sym c.is_apart.ensures ∙ c.if-not-is_apart.true));
+    }
