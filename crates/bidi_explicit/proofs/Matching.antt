@@ -1,5 +1,5 @@
 -- One pass from the end matches initiators and PDIs and knows what each isolate holds.
-use Rattle.std.proofs.Common.{ℕ, zero, suc, ◌≡◌, ◌<◌, ◌+◌, ◌==◌, refl, ap, ap₂, sym, ◌∙◌, List, [], ◌∷◌, ◌++◌, length, get_or, set, drop, drop-cons, Option, Some, None, Bool, false, if◌then◌else◌, add-zero, add-one, arith}
+use Rattle.std.proofs.Common.{ℕ, zero, suc, ◌≡◌, ◌<◌, ◌≤◌, ◌+◌, ◌==◌, refl, ap, ap₂, sym, subst, ◌∙◌, List, [], ◌∷◌, ◌++◌, length, get_or, set, take, drop, drop-cons, Option, Some, None, Bool, false, if◌then◌else◌, add-zero, add-one, arith}
 use Rattle.std.specs.Prelude.{replicate}
 use Rattle.std.proofs.lemmas.Bool.{false≢true}
 use Rattle.std.proofs.lemmas.List.{length-append, drop_all, drop-set, length-set, length-replicate, get_or-replicate, get_or-set_other}
@@ -14,7 +14,7 @@ use Rattle.bidi_explicit.specs.Flat.{content}
 use Rattle.bidi_explicit.specs.Strong.{strong_level}
 use Rattle.std.proofs.lemmas.Option.{same_Some}
 use Rattle.bidi_explicit.specs.Uniform.{is_control}
-use Rattle.bidi_explicit.specs.Controls.{control, controls_from, no_control, Behind, own_pdis, behind, without_nearest, moved, nearest, control_by}
+use Rattle.bidi_explicit.specs.Controls.{control, controls_from, no_control, Behind, own_pdis, behind, without_nearest, moved, odd_before, nearest, control_by}
 
 -- a PDI of a list, and those after it, where n characters stand before it
 abbrev pdis_from : ℕ → Nodes → List OpenPdi
@@ -242,3 +242,26 @@ pub IsMatchedFrom-neither : (cs : List Bidi) (i : ℕ) (b : Behind) (xs : List C
     (d : Bidi) → strong_level (get_or cs i d) ≡ None → is_control (get_or cs i d) ≡ false → IsMatchedFrom cs i b xs
 IsMatchedFrom-neither cs i b xs m inside d weak none =
     IsMatchedFrom-over cs i b xs m inside d b none (moved-neither i (get_or cs i d) b weak none)
+
+-- a row without controls
+module _ (cs : List Bidi) (b : Behind) (xs : List Control) where
+  abbrev after_row : List Bidi → Behind
+  after_row row = record b { odd = odd_before row b.odd }
+
+  row-more : (i : ℕ) (row : List Bidi) (found : Option ℕ) → i < length cs → strong_level (get_or cs i L) ≡ found → is_control (get_or cs i L) ≡ false
+      → IsMatchedFrom cs (suc i) (after_row row) xs
+      → IsMatchedFrom cs i (record b { odd = elim found [ Some level ↦ level == 1 | None ↦ odd_before row b.odd ] }) xs
+  row-more i row (Some level) inside is none m = IsMatchedFrom-strong cs i (after_row row) xs m inside L (record b { odd = level == 1 }) level is refl
+  row-more i row None inside is none m = IsMatchedFrom-neither cs i (after_row row) xs m inside L is none
+
+  pub IsMatchedFrom-row : (n i stop : ℕ) → i + n ≡ stop → stop ≤ length cs → ((k : ℕ) → i ≤ k → k < stop → is_control (get_or cs k L) ≡ false)
+      → IsMatchedFrom cs stop b xs → IsMatchedFrom cs i (record b { odd = odd_before (take n (drop i cs)) b.odd }) xs
+  IsMatchedFrom-row zero i stop is within row m = let at : stop ≡ i = omega arith in subst (λ k. IsMatchedFrom cs k b xs) at m
+  IsMatchedFrom-row (suc n) i stop is within row m =
+      let here : drop i cs ≡ get_or cs i L ∷ drop (suc i) cs = drop-cons cs i L (omega arith) in
+      subst (λ ds. IsMatchedFrom cs i (record b { odd = odd_before (take (suc n) ds) b.odd }) xs) (sym here)
+      (row-more i (take n (drop (suc i) cs)) (strong_level (get_or cs i L)) (omega arith) refl (row i (omega arith) (omega arith))
+      (IsMatchedFrom-row n (suc i) stop (omega arith) within (λ k from to. row k (omega arith) to) m))
+
+pub IsMatchedFrom-done : (cs : List Bidi) (b : Behind) (xs : List Control) (i : ℕ) → i ≡ 0 → IsMatchedFrom cs i b xs → xs ≡ controls_from 0 cs
+IsMatchedFrom-done cs b xs i none m = (subst (λ n. IsMatchedFrom cs n b xs) none m).done

@@ -8,6 +8,7 @@ use Rattle.bidi_explicit.specs.declared.kind.Kind.TheVariants.{Other}
 use Rattle.bidi_explicit.specs.Nesting.{Nodes, end, char, isolate, unclosed, is_initiator, base, nest, flattened, matched}
 use Rattle.bidi_explicit.specs.Levels.{kind}
 use Rattle.bidi_explicit.specs.Flat.{content}
+use Rattle.bidi_explicit.specs.Strong.{strong_level}
 
 -- a class at place i, before `rest`
 abbrev pub control : ℕ → Bidi → List Bidi → Control
@@ -55,6 +56,11 @@ moved i L b = record b { odd = false }
 moved i R b = record b { odd = true }
 moved i Al b = record b { odd = true }
 moved i c b = b
+
+-- what stands from some classes on, none of them a control, is right to left: by the first strong one, or as behind them
+abbrev pub odd_before : List Bidi → Bool → Bool
+odd_before [] odd = odd
+odd_before (c ∷ cs) odd = elim (strong_level c) [ Some level ↦ level == 1 | None ↦ odd_before cs odd ]
 
 abbrev pub nearest : List OpenPdi → Option ℕ
 nearest [] = None

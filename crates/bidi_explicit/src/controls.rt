@@ -1,13 +1,14 @@
 //! What each character does to the levels, and which PDI matches it (BD9, X5c).
 
-ghost use Rattle.std.specs.Prelude.{◌≡◌, ◌==◌, IfOk, OnOk, false, []};
+ghost use Rattle.std.specs.Prelude.{◌≡◌, ℕ, ◌-◌, ◌<◌, ◌≤◌, IfOk, OnOk, true, false, [], length, slice_index_or};
 ghost use Rattle.bidi_explicit.specs.Levels.{kind};
-ghost use Rattle.bg_types.specs.declared.class.Bidi.TheVariants.{Pdi};
-ghost use Rattle.bidi_explicit.specs.Controls.{controls_from, moved, control_by, nearest, without_nearest};
+ghost use Rattle.bg_types.specs.declared.class.Bidi.TheVariants.{L, Pdi};
+ghost use Rattle.bidi_explicit.specs.Controls.{controls_from, moved, odd_before, control_by, nearest, without_nearest};
+ghost use Rattle.bidi_explicit.specs.Uniform.{is_control};
 
 use crate::kind::Kind;
 use crate::level::strong_level;
-use crate::uniform::is_control;
+use crate::uniform::{BLOCK, has_controls, is_control};
 use bg_types::{Bidi, Memory};
 use std::alloc::Global;
 use std::marker::Model;
@@ -70,12 +71,12 @@ impl Matcher {
         self.odd = false;
     }
 
-    /// Moves over a strong character that would set this level.
+    /// Moves over characters in a row, none of them a control: the first strong one counts.
     #[inline]
-    fn pass_strong(&mut self, level: u8)
-        ensures { self.new ≡ record self.old { odd = level == 1 } }
+    fn pass_row(&mut self, row: &[Bidi])
+        ensures { self.new ≡ record self.old { odd = odd_before row.now self.old.odd } }
     {
-        self.odd = level == 1;
+        self.odd = odd_before(row, self.odd);
     }
 
     /// Moves from the place after a character to its own place.
@@ -143,6 +144,49 @@ fn kind_of(odd: bool, class: Bidi) -> Kind
     }
 }
 
+/// Whether what stands from some classes on, none of them a control, is right to left, where `odd` says it of what stands
+/// behind them.
+#[inline]
+fn odd_before(row: &[Bidi], odd: bool) -> bool
+    ensures { result ≡ odd_before row.now odd }
+{
+    for class in row {
+        if let Some(level) = strong_level(*class) {
+            return level == 1;
+        }
+    }
+    odd
+}
+
+/// A place from which on there is no control before `end`: blocks without one are passed.
+#[inline]
+fn pass_blocks(classes: &[Bidi], end: usize) -> usize
+    requires { end ≤ length classes.now }
+    ensures within { result ≤ end }
+    ensures passed { (k : ℕ) → result ≤ k → k < end → is_control (slice_index_or classes.now k L) ≡ false }
+{
+    let mut start = end;
+    while start >= BLOCK && !has_controls(&classes[start - BLOCK..start]) {
+        start -= BLOCK;
+    }
+    start
+}
+
+/// The place behind the last control before `end`, or 0 where there is none.
+#[inline]
+fn control_end(classes: &[Bidi], end: usize) -> usize
+    requires { end ≤ length classes.now }
+    ensures within { result ≤ end }
+    ensures passed { (k : ℕ) → result ≤ k → k < end → is_control (slice_index_or classes.now k L) ≡ false }
+    ensures control { 0 < result → is_control (slice_index_or classes.now (result - 1) L) ≡ true }
+{
+    let mut place = pass_blocks(classes, end);
+    while place > 0 && !is_control(classes[place - 1]) {
+        place -= 1;
+    }
+    place
+}
+
 /// Puts what each character of a paragraph does into a list, in place of what it has, in one pass from the paragraph's end.
 pub(crate) fn controls_into(
     controls: &mut Vec<Control>,
@@ -154,13 +198,15 @@ pub(crate) fn controls_into(
     controls.clear();
     controls.resize(classes.len(), Control::NONE)?;
     matcher.begin();
-    for place in (0..classes.len()).rev() {
-        let class = classes[place];
-        if let Some(level) = strong_level(class) {
-            matcher.pass_strong(level);
-        } else if is_control(class) {
-            controls[place] = matcher.pass(place, class)?;
+    let mut end = classes.len();
+    while end > 0 {
+        let start = control_end(classes, end);
+        matcher.pass_row(&classes[start..end]);
+        if start == 0 {
+            return Ok(());
         }
+        end = start - 1;
+        controls[end] = matcher.pass(end, classes[end])?;
     }
     Ok(())
 }

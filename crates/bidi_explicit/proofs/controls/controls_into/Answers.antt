@@ -1,14 +1,14 @@
 -- The pass begins after the last place and ends at the first.
-use Rattle.std.proofs.Common.{ℕ, suc, ◌≡◌, ◌∙◌, ◌-◌, ◌<◌, ap, ap₂, sym, subst, List, [], ◌++◌, length, take, replicate, arith}
+use Rattle.std.proofs.Common.{ℕ, suc, ◌≡◌, ◌∙◌, ◌-◌, ap, ap₂, sym, subst, List, [], ◌++◌, length, take, replicate, arith}
 use Rattle.bg_types.specs.declared.class.Bidi.TheVariants.{L}
 use Rattle.std.proofs.lemmas.List.{take_all}
 use Rattle.bidi_explicit.specs.declared.controls.Control.{Control}
 use Rattle.bidi_explicit.specs.Controls.{no_control}
-use Rattle.bidi_explicit.proofs.Matching.{IsMatchedFrom, IsMatchedFrom-start, IsMatchedFrom-step, IsMatchedFrom-strong, IsMatchedFrom-neither}
+use Rattle.bidi_explicit.proofs.Matching.{IsMatchedFrom, IsMatchedFrom-start, IsMatchedFrom-step, IsMatchedFrom-row, IsMatchedFrom-done}
 use Rattle.bidi_explicit.proofs.controls.controls_into.Goals as goal
 
-pub loop-place-init : goal.loop-place-init
-loop-place-init c =
+pub loop-end-init : goal.loop-end-init
+loop-end-init c =
     let n = length c.args.classes.now in
     let all : length c.args.classes.now - 0 ≡ length c.args.classes.now = omega arith in
     let made : c.resize.new.self.items ≡ replicate (length c.args.classes.now) no_control =
@@ -16,39 +16,38 @@ loop-place-init c =
     ∙ ap₂ (λ (xs : List Control) (k : ℕ). take n xs ++ replicate (n - k) no_control) c.clear.ensures.items c.clear.ensures.len
     ∙ ap (λ (xs : List Control). xs ++ replicate (n - 0) no_control) (take_all n [] (omega arith))
     ∙ ap (λ k. replicate k no_control) all in
-    IsMatchedFrom-start c.args.classes.now c.begin.new.self c.resize.new.self.items c.begin.ensures made
+    record {
+      within = omega arith;
+      matched = IsMatchedFrom-start c.args.classes.now c.begin.new.self c.resize.new.self.items c.begin.ensures made;
+    }
 
-pub loop-place-preserved-in-Some : goal.loop-place-preserved-in-Some
-loop-place-preserved-in-Some c =
-    let some : 0 < c.loop-place.place = c.loop-place-test.true in
-    let at : c.loop-place.place ≡ suc (c.loop-place.place - 1) = omega arith in
-    let within : c.loop-place.place - 1 < length c.args.classes.now = omega arith in
-    let m : IsMatchedFrom c.args.classes.now (suc (c.loop-place.place - 1)) c.loop-place.matcher c.loop-place.controls.items =
-    subst (λ n. IsMatchedFrom c.args.classes.now n c.loop-place.matcher c.loop-place.controls.items) at c.loop-place.invariant in
-    IsMatchedFrom-strong c.args.classes.now (c.loop-place.place - 1) c.loop-place.matcher c.loop-place.controls.items m within L
-    c.pass_strong.new.self c.in-Some.level (sym c.in-Some.ensures) c.pass_strong.ensures
+pub loop-end-preserved : goal.loop-end-preserved
+loop-end-preserved c =
+    let cs = c.args.classes.now in
+    let xs = c.loop-end.controls.items in
+    let h = c.loop-end.invariant in
+    let e = c.control_end-start.ensures in
+    let start = c.control_end-start.result in
+    let row = IsMatchedFrom-row cs c.loop-end.matcher xs (c.loop-end.end - start) start c.loop-end.end (omega (arith, e.within)) h.within e.passed h.matched in
+    let at : start ≡ suc (start - 1) = omega arith in
+    record {
+      within = omega (arith, e.within, h.within);
+      matched = IsMatchedFrom-step cs (start - 1) c.pass_row.new.self xs
+          (subst (λ n. IsMatchedFrom cs n c.pass_row.new.self xs) at (subst (λ b. IsMatchedFrom cs start b xs) (sym c.pass_row.ensures) row))
+          (omega (arith, e.within, h.within)) L c.in_ok-controls.field-0 c.pass.new.self c.in_ok-controls.ensures.control c.in_ok-controls.ensures.after;
+    }
 
-pub loop-place-preserved-then-is_control : goal.loop-place-preserved-then-is_control
-loop-place-preserved-then-is_control c =
-    let some : 0 < c.loop-place.place = c.loop-place-test.true in
-    let at : c.loop-place.place ≡ suc (c.loop-place.place - 1) = omega arith in
-    let within : c.loop-place.place - 1 < length c.args.classes.now = omega arith in
-    let m : IsMatchedFrom c.args.classes.now (suc (c.loop-place.place - 1)) c.loop-place.matcher c.loop-place.controls.items =
-    subst (λ n. IsMatchedFrom c.args.classes.now n c.loop-place.matcher c.loop-place.controls.items) at c.loop-place.invariant in
-    IsMatchedFrom-step c.args.classes.now (c.loop-place.place - 1) c.loop-place.matcher c.loop-place.controls.items m within L
-    c.in_ok-controls.field-0 c.pass.new.self c.in_ok-controls.ensures.control c.in_ok-controls.ensures.after
-
-pub loop-place-preserved : goal.loop-place-preserved
-loop-place-preserved c =
-    let some : 0 < c.loop-place.place = c.loop-place-test.true in
-    let at : c.loop-place.place ≡ suc (c.loop-place.place - 1) = omega arith in
-    let within : c.loop-place.place - 1 < length c.args.classes.now = omega arith in
-    let m : IsMatchedFrom c.args.classes.now (suc (c.loop-place.place - 1)) c.loop-place.matcher c.loop-place.controls.items =
-    subst (λ n. IsMatchedFrom c.args.classes.now n c.loop-place.matcher c.loop-place.controls.items) at c.loop-place.invariant in
-    IsMatchedFrom-neither c.args.classes.now (c.loop-place.place - 1) c.loop-place.matcher c.loop-place.controls.items m within L
-    (sym c.in_default.ensures) (sym c.is_control.ensures ∙ c.if-is_control.false)
+pub returns-then-start-eq0 : goal.returns-then-start-eq0
+returns-then-start-eq0 c =
+    let cs = c.args.classes.now in
+    let xs = c.loop-end.controls.items in
+    let h = c.loop-end.invariant in
+    let e = c.control_end-start.ensures in
+    let start = c.control_end-start.result in
+    IsMatchedFrom-done cs _ xs start c.if-start-eq0.true
+    (IsMatchedFrom-row cs c.loop-end.matcher xs (c.loop-end.end - start) start c.loop-end.end (omega (arith, e.within)) h.within e.passed h.matched)
 
 pub returns : goal.returns
 returns c =
-    let none : c.loop-place.place ≡ 0 = omega arith in
-    (subst (λ n. IsMatchedFrom c.args.classes.now n c.loop-place.matcher c.loop-place.controls.items) none c.loop-place.invariant).done
+    let none : c.loop-end.end ≡ 0 = omega arith in
+    IsMatchedFrom-done c.args.classes.now c.loop-end.matcher c.loop-end.controls.items c.loop-end.end none c.loop-end.invariant.matched
