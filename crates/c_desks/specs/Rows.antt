@@ -1,8 +1,8 @@
 -- What stands behind the handle of a desk: the row of its type.
 use denote.RattleType.{RattleType}
-use Rattle.rga_sequence.specs.contracts.blocks.Blocks as blocks
-use Rattle.rga_sequence.specs.contracts.blocks.BlocksSequence.TheImpl.{ghosts}
+use Rattle.rga_runs.specs.contracts.runs.Runs as runs
+use Rattle.rga_runs.specs.contracts.runs.RunsSequence.TheImpl.{ghosts}
 use Rattle.desk_replica.specs.contracts.replica.Replica as replica
 
 abbrev pub desk_row : RattleType
-desk_row = replica.the_row blocks.the_row ghosts
+desk_row = replica.the_row runs.the_row ghosts

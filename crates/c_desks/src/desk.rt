@@ -10,11 +10,12 @@ use crate::taking::take_in;
 use bg_types::Memory;
 use c_answers::{BAD_SITE, MEMORY, OK, TOO_MANY};
 use desk_replica::{MOST_OPERATIONS, Replica};
-use rga_sequence::Blocks;
+use rga_runs::Runs;
+use rga_tree::Fresh;
 use std::alloc::Global;
 
-/// A desk over the sequence in blocks.
-pub type Desk = Replica<Blocks>;
+/// A desk over the sequence in stretches.
+pub type Desk = Replica<Runs>;
 
 /// How many operations a desk keeps at most.
 pub const MOST_KEPT: usize = MOST_OPERATIONS as usize;
@@ -44,7 +45,7 @@ pub fn fresh_desk(alloc: Global, site: u32, key_high: u64, key_low: u64) -> Resu
     }
     let site = site as u16;
     let key = key_of(key_high, key_low);
-    Ok(Replica::new(alloc, site, Blocks::keyed(alloc, key), key))
+    Ok(Replica::new(alloc, site, Runs::fresh(alloc, key), key))
 }
 
 /// The key of 16 bytes, of which C hands in the halves.

@@ -14,18 +14,19 @@ ghost use Rattle.calling.specs.Made.{words_made};
 use crate::fault::Fault;
 use bg_types::Op;
 use desk_replica::{Replica, laws};
-use rga_sequence::Blocks;
+use rga_runs::Runs;
+use rga_tree::Fresh;
 use std::alloc::Global;
 
-/// A desk over the sequence in blocks, the fast one.
-pub type Desk = Replica<Blocks>;
+/// A desk over the sequence in stretches, the small one.
+pub type Desk = Replica<Runs>;
 
 /// A desk of this site (at least 1) without operations. No two desks of one text may have the same site.
 pub fn new_desk(alloc: Global, site: u16, key: u128) -> Desk
     requires { 0 < site }
     ensures { result ≡ fresh site }
 {
-    Replica::new(alloc, site, Blocks::keyed(alloc, key), key)
+    Replica::new(alloc, site, Runs::fresh(alloc, key), key)
 }
 
 /// Types words at the end of a desk's text, each character behind the one before, and appends the

@@ -2,11 +2,9 @@
 
 ghost use Rattle.std.specs.Prelude.{◌<◌};
 
-use desk_replica::Replica;
-use rga_sequence::Blocks;
+pub use desk_files::Desk;
+use desk_files::new_desk;
 use std::alloc::Global;
-
-pub type Desk = Replica<Blocks>;
 
 /// The key of each desk.
 pub const KEY: u128 = 0x5eed;
@@ -15,5 +13,5 @@ pub const KEY: u128 = 0x5eed;
 pub fn desk_of(alloc: Global, site: u16) -> Desk
     requires { 0 < site }
 {
-    Replica::new(alloc, site, Blocks::keyed(alloc, KEY), KEY)
+    new_desk(alloc, site, KEY)
 }

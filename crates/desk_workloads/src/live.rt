@@ -7,8 +7,8 @@ use crate::desk::KEY;
 use crate::digest::Digest;
 use crate::history::{DESKS, SITES};
 use anyhow::Result;
+use desk_files::Elements;
 use desk_replica::{Reply, Step, World, run_world};
-use rga_sequence::Blocks;
 use std::alloc::{AllocError, Global};
 
 /// How many characters are typed or erased.
@@ -132,11 +132,11 @@ pub fn live(alloc: Global, seed: u32, share: usize, digest: &mut Digest) -> Resu
 
 /// Does the steps of four desks that write one text.
 fn do_steps(alloc: Global, steps: &[Step], digest: &mut Digest) -> Result<()> {
-    let world = run_world::<Blocks>(alloc, KEY, &SITES, steps)?;
+    let world = run_world::<Elements>(alloc, KEY, &SITES, steps)?;
     tell(&world, digest)
 }
 
-fn tell(world: &World<Blocks>, digest: &mut Digest) -> Result<()> {
+fn tell(world: &World<Elements>, digest: &mut Digest) -> Result<()> {
     for reply in &world.replies {
         digest.add_number(match reply {
             Reply::Done => 0,

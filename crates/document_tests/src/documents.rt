@@ -2,11 +2,9 @@
 
 ghost use Rattle.std.specs.Prelude.{◌≤◌};
 
-use crate::other::KEY;
+use crate::other::{KEY, desk_of};
 use bg_types::{Base, Memory, Op};
-use desk_replica::Replica;
 use live_document::Document;
-use rga_sequence::Blocks;
 use std::alloc::Global;
 use std::rc::Rc;
 use ucd_files::Tables;
@@ -38,7 +36,7 @@ pub fn document_of(
 
 /// What a desk of site 2 sends that types a text.
 pub fn sent(alloc: Global, text: &str) -> Result<Vec<Op>, Memory> {
-    let mut desk = Replica::new(alloc, 2, Blocks::keyed(alloc, KEY), KEY);
+    let mut desk = desk_of(alloc, 2);
     let mut made = Vec::new(alloc);
     desk.type_text(0, text, &mut made).map_err(|_| Memory)?;
     Ok(made)

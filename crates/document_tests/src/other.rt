@@ -1,15 +1,25 @@
 //! Another desk, and what a document takes of it.
 
+ghost use Rattle.std.specs.Prelude.{◌<◌};
+
 use crate::chance::Chance;
 use crate::edits::piece;
 use bg_types::{Change, Memory, Op};
 use desk_replica::Replica;
 use live_document::{Desk, Document};
-use rga_sequence::Blocks;
+use rga_runs::Runs;
+use rga_tree::Fresh;
 use std::alloc::Global;
 
 /// The key of the tables of desks.
 pub const KEY: u128 = 0x5eed;
+
+/// A desk of this site (at least 1) without operations.
+pub fn desk_of(alloc: Global, site: u16) -> Desk
+    requires { 0 < site }
+{
+    Replica::new(alloc, site, Runs::fresh(alloc, KEY), KEY)
+}
 
 /// Another desk, the operations that it sent and that did not arrive yet, and what the document was told of those that did.
 #[derive(Drop)]
@@ -23,7 +33,7 @@ impl Other {
     /// A desk that holds nothing yet.
     pub fn new(alloc: Global) -> Other {
         Other {
-            desk: Replica::new(alloc, 2, Blocks::keyed(alloc, KEY), KEY),
+            desk: desk_of(alloc, 2),
             sent: Vec::new(alloc),
             told: Vec::new(alloc),
         }

@@ -5,12 +5,10 @@ ghost use Rattle.rga_tree.specs.TextOf.{visible};
 
 use crate::chance::Chance;
 use crate::edits::change;
-use crate::other::{KEY, Other};
+use crate::other::{Other, desk_of};
 use bg_types::{Base, Memory};
 use cell_grid::{Row, draw};
-use desk_replica::Replica;
-use live_document::{Desk, Document, Window, WindowRow};
-use rga_sequence::Blocks;
+use live_document::{Document, Window, WindowRow};
 use std::alloc::Global;
 use std::rc::Rc;
 use ucd_files::Tables;
@@ -88,7 +86,7 @@ fn begun(alloc: Global, tables: Rc<Tables>, paragraphs: usize) -> Result<Documen
     for _ in 0..paragraphs {
         text.push_str("ab \u{5D0}\n")?;
     }
-    let mut desk: Desk = Replica::new(alloc, 1, Blocks::keyed(alloc, KEY), KEY);
+    let mut desk = desk_of(alloc, 1);
     let mut made = Vec::new(alloc);
     desk.type_text(0, &text, &mut made).map_err(|_| Memory)?;
     Document::of(alloc, desk, tables, 17, Base::Auto)

@@ -29,7 +29,8 @@ use crate::shown::Shown;
 use crate::window::Window;
 use bg_types::{Base, Id, Memory, Op};
 use desk_replica::{Replica, TypeFault};
-use rga_sequence::Blocks;
+use rga_runs::Runs;
+use rga_tree::Fresh;
 use std::alloc::Global;
 use std::marker::Model;
 use std::rc::Rc;
@@ -38,7 +39,7 @@ use text_buffer::Buffer;
 use unicode_tables::Tables;
 
 /// The desk of a document.
-pub type Desk = Replica<Blocks>;
+pub type Desk = Replica<Runs>;
 
 /// A desk, its text in paragraphs, and the rows that are shown of it. An edit needs the memory of the desk alone: where the
 /// paragraphs could not be changed with it, the next `show` makes them anew.
@@ -128,7 +129,7 @@ impl Document {
         ensures most { IfOk result (λ document. document.most ≡ 0) }
         ensures laid { IfOk result (λ document. document.laid ≡ 0) }
     {
-        let desk = Replica::new(alloc, site, Blocks::keyed(alloc, key), key);
+        let desk = Replica::new(alloc, site, Runs::fresh(alloc, key), key);
         Document::of(alloc, desk, tables, width, base)
     }
 
