@@ -1,6 +1,5 @@
 -- The modules of this crate's proofs.
 pub mod Erased
-pub mod InTurn
 pub mod Keystrokes
 pub mod Messages
 pub mod Texts

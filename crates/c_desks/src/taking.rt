@@ -17,14 +17,16 @@ use std::alloc::Global;
 fn take_each(desk: &mut Desk, ops: &[Op], taken: &mut usize) -> u32
     ensures { IsTakenUpTo desk.old ops.now desk.new taken.new result }
 {
-    for (number, op) in ops.iter().enumerate() {
-        if let Err(fault) = desk.take(op) {
-            *taken = number;
-            return take_number(fault);
+    match desk.take_all(ops) {
+        Ok(()) => {
+            *taken = ops.len();
+            OK
+        }
+        Err(stop) => {
+            *taken = stop.taken;
+            take_number(stop.fault)
         }
     }
-    *taken = ops.len();
-    OK
 }
 
 /// Lets a desk take a message: its bytes are read whole first, and then its operations are taken in order, up to the first that the desk
