@@ -48,10 +48,10 @@ pub fn type_words(desk: &mut Desk, words: &str, made: &mut Vec<Op>) -> Result<()
 pub fn take_all(desk: &mut Desk, ops: &[Op]) -> Result<(), Fault>
     ensures { OnOk result (desk.new.set ≡ with_operations desk.old.set ops.now) }
 {
-    for op in ops {
-        desk.take(op)?;
+    match desk.take_all(ops) {
+        Ok(()) => Ok(()),
+        Err(stop) => Err(Fault::Take(stop.fault)),
     }
-    Ok(())
 }
 
 /// Lets two desks meet: each takes all that the other holds. Then both hold what either held, so

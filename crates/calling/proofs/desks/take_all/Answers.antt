@@ -1,8 +1,11 @@
--- One more operation was taken.
-use Rattle.calling.proofs.InTurn.{taken_next}
+-- All operations of the list were taken.
+use Rattle.std.proofs.Common.{◌≡◌, ◌≤◌, length, subst, arith}
+use Rattle.std.proofs.lemmas.List.{take_all}
+use Rattle.desk_replica.specs.Merging.{with_operations}
 use Rattle.calling.proofs.desks.take_all.Goals as goal
 
-pub loop-op-preserved : goal.loop-op-preserved
-loop-op-preserved c =
-    taken_next c.args.desk.now.set c.loop-op.desk.set c.take.new.self.set c.args.ops.now c.loop-op.op-index c.op-item.result
-    c.loop-op-test.true c.op-item.is c.loop-op.invariant c.in_ok-take.ensures.ok
+pub returns-in-Ok : goal.returns-in-Ok
+returns-in-Ok c =
+    let ops = c.args.ops.now in
+    let all : length ops ≤ length ops = omega arith in
+    subst (λ l. c.take_all.new.self.set ≡ with_operations c.args.desk.now.set l) (take_all (length ops) ops all) c.in-Ok.ensures.ok.set
