@@ -132,9 +132,7 @@ fn read_as_text(alloc: Global, files: &[Vec<u8>], digest: &mut Digest) -> Result
 fn taken(alloc: Global, file: &[u8]) -> Result<Desk> {
     let ops = decode_file(alloc, file)?;
     let mut desk = desk_of(alloc, 1);
-    for op in &ops {
-        desk.take(op)?;
-    }
+    desk.take_all(&ops).map_err(|stop| stop.fault)?;
     Ok(desk)
 }
 
