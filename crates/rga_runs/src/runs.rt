@@ -260,6 +260,19 @@ impl Sequence for Runs {
         }
     }
 
+    fn push_part(
+        &self,
+        p: usize,
+        read: &mut String,
+        bytes: &mut [u8],
+        _unpacked: &mut Unpacked,
+    ) -> Result<(), Memory> {
+        match self.row.blocks[p / FULL].stretches.get(p % FULL) {
+            Some(stretch) => stretch.push_shown(&self.characters, read, bytes),
+            None => Ok(()),
+        }
+    }
+
     fn has(&self, id: Id) -> bool {
         // A new identifier most often has a greater counter than all.
         id.counter() <= self.highest && stands(&self.row, id)

@@ -1,16 +1,18 @@
 //! Stretches.
 
-ghost use Rattle.std.specs.Prelude.{◌≡◌, ◌+◌, ◌-◌, ◌^◌, ◌<◌, ◌≤◌, ℕ, List, length, take, drop, slice_get, Some, IfSome, IfNone, true, false, if◌then◌else◌};
+ghost use Rattle.std.specs.Prelude.{◌≡◌, ◌+◌, ◌-◌, ◌*◌, ◌^◌, ◌<◌, ◌≤◌, ◌++◌, ℕ, List, length, take, drop, slice_get, Some, IfSome, IfNone, OnOk, true, false, if◌then◌else◌, string_bytes, encode_utf8_all};
 ghost use Rattle.std.specs.Bool.{OnTrue, OnFalse};
 ghost use Rattle.std.specs.Ordering.{is_lt};
+ghost use Rattle.std.specs.Str.{IsUtf8};
 ghost use Rattle.bg_types.specs.Identifier.{id_cmp};
 ghost use Rattle.bg_types.specs.declared.op.Place.TheVariants.{After};
+ghost use Rattle.rga_tree.specs.Row.{shown_of};
 ghost use Rattle.rga_runs.specs.Typed.{later, parent_at, is_odd, bits_from, unset};
 
 use crate::marks::Marks;
 use crate::parent::Parent;
-use bg_types::{Id, Place};
-use rga_tree::{Element, UNPACKED, Unpacked};
+use bg_types::{Id, Memory, Place};
+use rga_tree::{Element, UNPACKED, Unpacked, push_bytes, put_char};
 
 /// How many characters a stretch has at most: as many as its marks say of whether they are hidden.
 pub const LONG: usize = 24;
@@ -38,7 +40,7 @@ pub struct Stretch {
 const _: () = prove!(size_of::<Stretch>() == 20);
 
 impl Stretch {
-    ghost use Rattle.rga_runs.specs.Stretches.{elements_of, visible_of};
+    ghost use Rattle.rga_runs.specs.Stretches.{characters_of, elements_of, visible_of};
 
     /// A stretch of one character.
     pub fn lone(id: Id, parent: Place, start: usize, hidden: bool) -> Stretch
@@ -137,6 +139,47 @@ impl Stretch {
             unpacked.elements[k] = self.element(chars, k);
         }
         &unpacked.elements[..self.len()]
+    }
+
+    /// Appends its visible characters. The bytes are lent for the work.
+    pub fn push_shown(
+        &self,
+        chars: &[char],
+        read: &mut String,
+        bytes: &mut [u8],
+    ) -> Result<(), Memory>
+        requires stored { self.now.start + self.now.count ≤ length chars.now }
+        requires room { 4 * self.now.count ≤ length bytes.old }
+        ensures { OnOk result (string_bytes read.new ≡ string_bytes read.old ++ encode_utf8_all (shown_of (elements_of chars.now self.now))) }
+    {
+        let end = self.encode_shown(chars, bytes);
+        push_bytes(read, &bytes[..end])
+    }
+
+    /// Puts its visible characters to the front of these bytes, and answers where they end.
+    fn encode_shown(&self, chars: &[char], bytes: &mut [u8]) -> usize
+        requires stored { self.now.start + self.now.count ≤ length chars.now }
+        requires room { 4 * self.now.count ≤ length bytes.old }
+        ensures within { result ≤ length bytes.new }
+        ensures bytes { take result bytes.new ≡ encode_utf8_all (shown_of (elements_of chars.now self.now)) }
+        ensures utf8 { IsUtf8 (take result bytes.new) }
+    {
+        let mut end = 0;
+        for (k, ch) in self.characters(chars).iter().enumerate() {
+            if !self.hides(k) {
+                end = put_char(*ch, bytes, end);
+            }
+        }
+        end
+    }
+
+    /// Its characters, hidden ones included.
+    fn characters<'a>(&self, chars: &'a [char]) -> &'a [char]
+        requires { self.now.start + self.now.count ≤ length chars.now }
+        ensures { result.now ≡ characters_of chars.now self.now }
+    {
+        let start = self.start as usize;
+        &chars[start..start + self.len()]
     }
 
     /// How many of its first characters are visible.

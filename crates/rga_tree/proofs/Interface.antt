@@ -24,3 +24,4 @@ pub use Rattle.rga_tree.proofs.Runs.{runs_apart, runs_at_one_place, IsRun-more}
 pub use Rattle.rga_tree.proofs.TypedPlace.{walk-typed_behind, walk-typed_first, StandsBetween-typed}
 pub use Rattle.rga_tree.proofs.RunSteps.{later-more, later-none, later-apart, later-less, drawn, stands_behind, new_behind, IsUnderWay, begun, parent_behind, one_further, some_under_way, next_new, nothing_left}
 pub use Rattle.rga_tree.proofs.RunRows.{take-insert, drop-insert, run_of, put_in, put_in-cons, start_behind, formed_run, placing_run}
+pub use Rattle.rga_tree.proofs.Texts.{bytes_of, bytes-hidden, bytes-visible}

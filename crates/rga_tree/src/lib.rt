@@ -10,4 +10,4 @@ mod shown;
 pub use element::{Element, UNPACKED, Unpacked, greater_in_front};
 pub use plain::Plain;
 pub use sequence::{Fresh, Sequence, text_of};
-pub use shown::put_char;
+pub use shown::{push_bytes, put_char};

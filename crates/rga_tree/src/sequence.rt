@@ -13,6 +13,7 @@ ghost use Rattle.rga_tree.specs.declared.element.Element.{Element};
 ghost use Rattle.rga_tree.specs.TextOf.{visible, visible_ids, visible_before, text};
 ghost use Rattle.rga_tree.specs.Tree.{stands_in, IsTree, OnlyErasesPlaced};
 ghost use Rattle.rga_tree.specs.Elements.{elements, element_of, with_element};
+ghost use Rattle.rga_tree.specs.Row.{shown_of};
 ghost use Rattle.rga_tree.specs.Run.{insertions, with_operations, AreNew};
 ghost use Rattle.rga_tree.specs.Spot.{IsVisiblePlace};
 
@@ -164,6 +165,22 @@ pub trait Sequence {
         requires { p < length (parts self.now) }
         ensures { result.now ≡ get_or (parts self.now) p [] };
 
+    /// Appends the visible characters of part p. The bytes are lent for the work, as is what elements are unpacked into.
+    /// Cost: O(n) for n elements of the part, memory for their characters; `Runs`: none is unpacked.
+    fn push_part(
+        &self,
+        p: usize,
+        read: &mut String,
+        bytes: &mut [u8],
+        unpacked: &mut Unpacked,
+    ) -> Result<(), Memory>
+        requires part { p < length (parts self.now) }
+        requires bytes { length bytes.old ≡ 256 }
+        ensures { OnOk result (string_bytes read.new ≡ string_bytes read.old ++ encode_utf8_all (shown_of (get_or (parts self.now) p []))) }
+    {
+        push_shown(read, bytes, self.part(p, unpacked))
+    }
+
     /// Whether the identifier's insertion is placed.
     /// Cost: `Blocks`: O(1) expected; `Runs`: O(log n + 256); `Plain`: O(n).
     fn has(&self, id: Id) -> bool
@@ -206,7 +223,7 @@ pub fn text_of<S: Sequence>(alloc: Global, seq: &S) -> Result<String, Memory>
     let mut bytes = [0; PIECE_BYTES];
     let mut unpacked = Unpacked::new();
     for p in 0..seq.part_count() {
-        push_shown(&mut read, &mut bytes, seq.part(p, &mut unpacked))?;
+        seq.push_part(p, &mut read, &mut bytes, &mut unpacked)?;
     }
     Ok(read)
 }

@@ -1,6 +1,6 @@
 //! The characters of visible elements, in UTF-8. They are encoded a piece at a time, and a piece is added to the text as one.
 
-ghost use Rattle.std.specs.Prelude.{◌≡◌, ◌*◌, ◌+◌, ◌<◌, ◌≤◌, ◌++◌, ◌∷◌, [], length, take, string_bytes, encode_utf8, encode_utf8_all, OnOk};
+ghost use Rattle.std.specs.Prelude.{◌≡◌, ◌*◌, ◌+◌, ◌<◌, ◌≤◌, ◌++◌, ◌∷◌, [], length, take, string_bytes, encode_utf8, encode_utf8_all, OnOk, OnErr};
 ghost use Rattle.std.specs.Str.{IsUtf8};
 ghost use Rattle.rga_tree.specs.Row.{shown_of};
 
@@ -34,11 +34,21 @@ fn push_piece(read: &mut String, bytes: &mut [u8], piece: &[Element]) -> Result<
     ensures { OnOk result (string_bytes read.new ≡ string_bytes read.old ++ encode_utf8_all (shown_of piece.now)) }
 {
     let end = encode_shown(piece, bytes);
-    if end == 0 {
+    push_bytes(read, &bytes[..end])
+}
+
+/// Appends characters that are given in UTF-8. If memory is refused, the text stays as it was.
+/// Cost: O(n), memory for n bytes.
+pub fn push_bytes(read: &mut String, bytes: &[u8]) -> Result<(), Memory>
+    requires { IsUtf8 bytes.now }
+    ensures ok { OnOk result (string_bytes read.new ≡ string_bytes read.old ++ bytes.now) }
+    ensures err { OnErr result (string_bytes read.new ≡ string_bytes read.old) }
+{
+    if bytes.is_empty() {
         return Ok(());
     }
     // That they are UTF-8 is proved: this call's `requires` asks for it, as any other call's.
-    let text = unsafe { from_utf8_unchecked(&bytes[..end]) };
+    let text = unsafe { from_utf8_unchecked(bytes) };
     Ok(read.push_str(text)?)
 }
 
