@@ -1,5 +1,5 @@
 -- The goals of `place_stretch` that are answered by hand.
-use Rattle.std.proofs.Common.{◌≡◌, ◌+◌, ◌-◌, ◌*◌, ◌≤◌, ◌∷◌, ◌∙◌, suc, true, false, sym, ap, refl, length, take, arith}
+use Rattle.std.proofs.Common.{◌≡◌, ◌+◌, ◌-◌, ◌≤◌, ◌∷◌, ◌∙◌, suc, true, false, sym, ap, refl, length, take, arith}
 use Rattle.std.specs.Prelude.{insert, vec_len}
 use Rattle.std.specs.Str.{chars}
 use Rattle.std.specs.Str.Iter.{chars_rest}

@@ -1,5 +1,5 @@
 -- The goals of `hide` that are answered by hand.
-use Rattle.std.proofs.Common.{◌*◌, ◌∙◌, true, false, sym, ap, subst, refl, length, get_or, arith}
+use Rattle.std.proofs.Common.{◌∙◌, true, false, sym, ap, subst, refl, length, get_or, arith}
 use Rattle.std.specs.Prelude.{vec_len}
 use Rattle.std.proofs.lemmas.List.{length-set}
 use Rattle.bg_types.specs.declared.op.Place.TheVariants.{Root}

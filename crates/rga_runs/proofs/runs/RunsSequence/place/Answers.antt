@@ -1,5 +1,5 @@
 -- The goals of `place` that are answered by hand.
-use Rattle.std.proofs.Common.{◌≡◌, ◌+◌, ◌-◌, ◌*◌, ◌≤◌, ◌∙◌, true, sym, ap, refl, length, arith}
+use Rattle.std.proofs.Common.{◌≡◌, ◌+◌, ◌-◌, ◌≤◌, ◌∙◌, true, sym, ap, refl, length, arith}
 use Rattle.std.specs.Prelude.{insert, vec_len}
 use Rattle.std.proofs.lemmas.List.Edits.{length-insert}
 use Rattle.rga_tree.specs.declared.element.Element.{Element}
