@@ -9,7 +9,7 @@ use Rattle.bidi_explicit.specs.declared.embedded.Extent.{Extent}
 use Rattle.bidi_explicit.specs.declared.kept.Kept.{Kept}
 use Rattle.bidi_explicit.specs.declared.level_run.LevelRun.{LevelRun}
 use Rattle.bidi_explicit.specs.Sequences.{RunSequence, is_kept, chain, begins, sequence_from, below}
-use Rattle.bidi_explicit.specs.Extents.{extent_sequence, extent_sequences, extent_of, IsStretch, IsKept}
+use Rattle.bidi_explicit.specs.Extents.{extent_sequence, extent_sequences, extent_of, IsPart, IsKept}
 use Rattle.bidi_explicit.specs.LevelRuns.{own_places, run_places}
 use Rattle.bidi_explicit.proofs.Linking.{below-more}
 
@@ -19,16 +19,16 @@ range-append runs more a b le within =
     ap (take (b - a)) (drop-append-le a runs more (omega arith))
     ∙ take-append-le (b - a) (drop a runs) more (omega (arith, length-drop a runs))
 
-stretch-append : (runs more : List LevelRun) (e : Extent) → IsStretch runs e → extent_sequence (runs ++ more) e ≡ extent_sequence runs e
+stretch-append : (runs more : List LevelRun) (e : Extent) → IsPart runs e → extent_sequence (runs ++ more) e ≡ extent_sequence runs e
 stretch-append runs more e h =
     ap (λ rs. let s : RunSequence = record { places = run_places rs; level = e.level; sos = e.sos; eos = e.eos } in s) (range-append runs more e.start e.end h.0 h.1)
 
-stretches-append : (runs more : List LevelRun) (es : List Extent) → All (IsStretch runs) es → extent_sequences (runs ++ more) es ≡ extent_sequences runs es
+stretches-append : (runs more : List LevelRun) (es : List Extent) → All (IsPart runs) es → extent_sequences (runs ++ more) es ≡ extent_sequences runs es
 stretches-append runs more [] h = refl
-stretches-append runs more (e ∷ es) h = ap₂ (λ x xs. x ∷ xs) (stretch-append runs more e (All-head (IsStretch runs) e es h)) (stretches-append runs more es (All-tail (IsStretch runs) e es h))
+stretches-append runs more (e ∷ es) h = ap₂ (λ x xs. x ∷ xs) (stretch-append runs more e (All-head (IsPart runs) e es h)) (stretches-append runs more es (All-tail (IsPart runs) e es h))
 
-longer : (runs more : List LevelRun) (es : List Extent) → All (IsStretch runs) es → All (IsStretch (runs ++ more)) es
-longer runs more es h = All-weaker (IsStretch runs) (IsStretch (runs ++ more)) (λ e first. (first.0, (let l = first.1 in let n = length-append runs more in omega arith))) es h
+longer : (runs more : List LevelRun) (es : List Extent) → All (IsPart runs) es → All (IsPart (runs ++ more)) es
+longer runs more es h = All-weaker (IsPart runs) (IsPart (runs ++ more)) (λ e first. (first.0, (let l = first.1 in let n = length-append runs more in omega arith))) es h
 
 -- the new stretch
 range-new : (runs more : List LevelRun) → slice_range (runs ++ more) (length runs) (length (runs ++ more)) ≡ more
@@ -62,11 +62,11 @@ chain-kept following places kept (suc n) i h =
 -- the sequences that begin before place i are gathered
 pub record IsGathered (p : ℕ) (following : ℕ → Option ℕ) (unmatched : ℕ → Bool) (places : List (Option Kept)) (i : ℕ) (runs : List LevelRun) (extents : List Extent) : Type 0 where
   pub made : extent_sequences runs extents ≡ map (sequence_from p following unmatched places) (filter (begins following places) (below i))
-  pub stretches : All (IsStretch runs) extents
+  pub stretches : All (IsPart runs) extents
   pub kept : All (IsKept places) (run_places runs)
 
 pub IsGathered-start : (p : ℕ) (following : ℕ → Option ℕ) (unmatched : ℕ → Bool) (places : List (Option Kept)) → IsGathered p following unmatched places 0 [] []
-IsGathered-start p following unmatched places = record { made = refl; stretches = All-nil (IsStretch []); kept = All-nil (IsKept places) }
+IsGathered-start p following unmatched places = record { made = refl; stretches = All-nil (IsPart []); kept = All-nil (IsKept places) }
 
 one-more : (following : ℕ → Option ℕ) (places : List (Option Kept)) (i : ℕ) (b : Bool) → begins following places i ≡ b →
     filter (begins following places) (i ∷ []) ≡ (if b then i ∷ [] else [])
@@ -99,7 +99,7 @@ module _ (p : ℕ) (following : ℕ → Option ℕ) (unmatched : ℕ → Bool) (
             ∙ ap₂ (λ xs y. xs ++ y ∷ []) (stretches-append runs more extents g.stretches ∙ g.made) (extent-new p unmatched following places runs more i n same is)
             ∙ sym (ap (map (sequence_from p following unmatched places)) (filter-more following places i true e)
             ∙ map-append (sequence_from p following unmatched places) (filter (begins following places) (below i)) (i ∷ []));
-        stretches = All-push (IsStretch (runs ++ more)) extents x (longer runs more extents g.stretches)
+        stretches = All-push (IsPart (runs ++ more)) extents x (longer runs more extents g.stretches)
             (let l = length-append runs more in (omega arith, omega arith));
         kept = All-same (IsKept places) _ _ (flat_map-append own_places runs more ∙ ap (λ ps. run_places runs ++ ps) is)
             (All-append (IsKept places) (run_places runs) (chain following n i) g.kept (chain-kept following places kept n i here));

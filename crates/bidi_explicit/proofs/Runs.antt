@@ -13,7 +13,7 @@ use Rattle.std.proofs.lemmas.List.Folds.{list_any-append}
 use Rattle.bidi_explicit.specs.declared.kept.Kept.{Kept}
 use Rattle.bidi_explicit.specs.declared.level_run.LevelRun.{LevelRun}
 use Rattle.bidi_explicit.specs.Sequences.{kept_at, is_kept, same_level}
-use Rattle.bidi_explicit.specs.LevelRuns.{places_between, own_places, run_places, IsLevelRun, IsEdge, IsRun, has_start, AreTold}
+use Rattle.bidi_explicit.specs.LevelRuns.{places_between, own_places, run_places, IsLevelRun, IsEdge, IsRun, has_start, AreNoted}
 use Rattle.bidi_explicit.proofs.Chains.{is_kept-within}
 
 abbrev pub run_of : (start end : ℕ) → LevelRun
@@ -148,8 +148,8 @@ zeros-at zero i = refl
 zeros-at (suc n) zero = refl
 zeros-at (suc n) (suc i) = zeros-at n i
 
-pub AreTold-start : (places : List (Option Kept)) → AreTold places [] (replicate (length places) 0)
-AreTold-start places = record {
+pub AreNoted-start : (places : List (Option Kept)) → AreNoted places [] (replicate (length places) 0)
+AreNoted-start places = record {
   whole = All-nil (IsRun places);
   begun = λ i within. ap (λ e. e == 0) (zeros-at (length places) i);
   noted = λ i some. absurd (let none = zeros-at (length places) i in omega arith);
@@ -157,7 +157,7 @@ AreTold-start places = record {
 
 -- one run more
 module _ (places : List (Option Kept)) (runs : List LevelRun) (ends : List ℕ) (start end : ℕ) (inside : start < length ends)
-    (run : IsRun places (run_of start end)) (told : AreTold places runs ends) where
+    (run : IsRun places (run_of start end)) (told : AreNoted places runs ends) where
   starts : (i : ℕ) → has_start (runs ++ run_of start end ∷ []) i ≡ (has_start runs i || i == start)
   starts i = list_any-append (λ (r : LevelRun). i == r.start) runs (run_of start end ∷ []) ∙ ap (λ b. has_start runs i || b) (or-false (i == start))
 
@@ -183,8 +183,8 @@ module _ (places : List (Option Kept)) (runs : List LevelRun) (ends : List ℕ) 
             subst (λ n. IsRun places (run_of i n)) (sym same) (told.noted i (subst (λ n. 0 < n) same some))
       ]
 
-  pub AreTold-more : AreTold places (runs ++ run_of start end ∷ []) (set ends start end)
-  AreTold-more = record {
+  pub AreNoted-more : AreNoted places (runs ++ run_of start end ∷ []) (set ends start end)
+  AreNoted-more = record {
     whole = All-push (IsRun places) runs (run_of start end) told.whole run;
     begun = λ i within. more-begun i (omega (arith, length-set ends start end));
     noted = more-noted;

@@ -15,7 +15,7 @@ use Rattle.bidi_explicit.specs.Nesting.{nest, is_initiator, matched, matching}
 use Rattle.bidi_explicit.specs.Levels.{descend, explicit_places, none_open, plain}
 use Rattle.bidi_explicit.specs.Sequences.{RunSequence, kept_at, is_kept, kept_from, kept_before, kept_after, same_level, has_level_of, over_isolate, next, chain, is_place, below, begins, direction_between, level_or, is_unmatched, last_or, sos_of, eos_of, sequence_from, sequences_of}
 use Rattle.bidi_explicit.specs.Embedding.{Embedding, embedding_at}
-use Rattle.bidi_explicit.specs.Extents.{extent_sequences, IsKept, IsStretch, IsWithin}
+use Rattle.bidi_explicit.specs.Extents.{extent_sequences, IsKept, IsPart, IsWithin}
 use Rattle.bidi_explicit.specs.LevelRuns.{HasPlace, own_places, run_places}
 use Rattle.bidi_explicit.specs.Uniform.{is_control, IsNoControl, kept_at_level, one_sequence, whole_run, one_run, whole_extent, one_extent}
 use Rattle.bidi_explicit.proofs.Runs.{not-zero}
@@ -271,14 +271,14 @@ positive n e = elim (eqb_tells n 0) [ inl h ↦ absurd (false≢true (sym e ∙ 
 within-if : (places : List (Option Kept)) (p n : ℕ) (b : Bool) → (n == 0) ≡ b → All (IsKept places) (below n) →
     IsWithin places (if b then [] else whole_run n ∷ []) (if b then [] else whole_extent p ∷ [])
 within-if places p n true e kept = record {
-  stretches = All-nil (IsStretch []);
+  stretches = All-nil (IsPart []);
   some = All-nil HasPlace;
   kept = All-nil (IsKept places);
 }
 within-if places p n false e kept =
     let all : n - 0 ≡ n = omega arith in
     record {
-      stretches = All-cons (IsStretch (whole_run n ∷ [])) (whole_extent p) [] (omega arith, omega arith) (All-nil (IsStretch (whole_run n ∷ [])));
+      stretches = All-cons (IsPart (whole_run n ∷ [])) (whole_extent p) [] (omega arith, omega arith) (All-nil (IsPart (whole_run n ∷ [])));
       some = All-cons HasPlace (whole_run n) [] (positive n e) (All-nil HasPlace);
       kept = All-same (IsKept places) (run_places (whole_run n ∷ [])) (below n) (append-nil (own_places (whole_run n)) ∙ ap (range_with_len 0) all) kept;
     }

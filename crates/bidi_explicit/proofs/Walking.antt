@@ -13,7 +13,7 @@ use Rattle.bidi_explicit.specs.declared.level_run.LevelRun.{LevelRun}
 use Rattle.bidi_explicit.specs.Sequences.{kept_at, is_kept, same_level, is_place, chain, begins}
 use Rattle.bidi_explicit.specs.Extents.{extent_of}
 use Rattle.bidi_explicit.specs.Links.{linked, is_unclosed_at, AreMatched, AreKept}
-use Rattle.bidi_explicit.specs.LevelRuns.{own_places, run_places, IsRun, IsEdge, AreTold, has_start}
+use Rattle.bidi_explicit.specs.LevelRuns.{own_places, run_places, IsRun, IsEdge, AreNoted, has_start}
 use Rattle.bidi_explicit.proofs.Chains.{IsForward, IsWalkedTo, IsWalkedTo-run}
 use Rattle.bidi_explicit.proofs.Linking.{linked-forward, linked-from_kept, linked-kept, linked-run, begins-kept}
 use Rattle.bidi_explicit.proofs.Runs.{run_of, run_places-more, has-start, same_level-out}
@@ -55,7 +55,7 @@ places-behind runs more js before is =
 pub record IsDone (p : ℕ) (f : ℕ → Option ℕ) (unmatched : ℕ → Bool) (places : List (Option Kept)) (i : ℕ) (runs : List LevelRun) (extents : List Extent) (ends : List ℕ) : Type 0 where
   pub gathered : IsGathered p f unmatched places i runs extents
   pub taken : IsTaken f places i (run_places runs)
-  pub told : AreTold places runs ends
+  pub told : AreNoted places runs ends
 
 module _ (p : ℕ) (controls : List Control) (places : List (Option Kept)) (matched : AreMatched controls) (kept : AreKept controls places)
     (long : length controls ≡ length places) (i : ℕ) (inside : i < length places) where
@@ -75,7 +75,7 @@ module _ (p : ℕ) (controls : List Control) (places : List (Option Kept)) (matc
     pub IsDone-more : begins (linked controls places) places i ≡ true → (more : List LevelRun) (e : Extent) (all : List Extent) (noted : List ℕ) →
         take (length runs) more ≡ runs → run_places more ≡ run_places runs ++ chain (linked controls places) (length places) i →
         e ≡ extent_of p (is_unclosed_at controls) places (length runs) (length more) i (chain (linked controls places) (length places) i) →
-        all ≡ extents ++ e ∷ [] → AreTold places more noted →
+        all ≡ extents ++ e ∷ [] → AreNoted places more noted →
         IsDone p (linked controls places) (is_unclosed_at controls) places (suc i) more all noted
     IsDone-more here more e all noted before is at pushed told =
         let f = linked controls places in

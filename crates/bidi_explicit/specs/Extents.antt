@@ -25,14 +25,14 @@ extent_of p unmatched places start end first chained =
       eos = eos_of p (unmatched last) places last;
     }
 
-abbrev pub IsStretch : List LevelRun → Extent → Type 0
-IsStretch runs e = (e.start ≤ e.end) × (e.end ≤ length runs)
+abbrev pub IsPart : List LevelRun → Extent → Type 0
+IsPart runs e = (e.start ≤ e.end) × (e.end ≤ length runs)
 
 abbrev pub IsKept : List (Option Kept) → ℕ → Type 0
 IsKept places i = is_kept places i ≡ true
 
 -- each sequence is a stretch of the runs, which have only kept places, and each of them some
 pub record IsWithin (places : List (Option Kept)) (runs : List LevelRun) (extents : List Extent) : Type 0 where
-  pub stretches : All (IsStretch runs) extents
+  pub stretches : All (IsPart runs) extents
   pub some : All HasPlace runs
   pub kept : All (IsKept places) (run_places runs)

@@ -39,7 +39,7 @@ abbrev pub has_start : List LevelRun → ℕ → Bool
 has_start runs i = list_any (λ (r : LevelRun). i == r.start) runs
 
 -- these are level runs, and the ends tell of each place where the one that begins there ends, or 0 if none does
-pub record AreTold (places : List (Option Kept)) (runs : List LevelRun) (ends : List ℕ) : Type 0 where
+pub record AreNoted (places : List (Option Kept)) (runs : List LevelRun) (ends : List ℕ) : Type 0 where
   pub whole : All (IsRun places) runs
   pub begun : (i : ℕ) → i < length ends → (slice_index_or ends i 0 == 0) ≡ not (has_start runs i)
   pub noted : (i : ℕ) → 0 < slice_index_or ends i 0 → IsRun places (record { start = i; end = slice_index_or ends i 0 })

@@ -2,7 +2,7 @@
 
 ghost use Rattle.std.specs.Prelude.{◌≡◌, ◌<◌, ◌+◌, ◌++◌, ◌∷◌, [], IfOk, OnOk, length};
 ghost use Rattle.bidi_explicit.specs.Sequences.{same_level};
-ghost use Rattle.bidi_explicit.specs.LevelRuns.{IsRun, AreTold};
+ghost use Rattle.bidi_explicit.specs.LevelRuns.{IsRun, AreNoted};
 
 use crate::kept::Kept;
 use bg_types::Memory;
@@ -48,10 +48,10 @@ pub(crate) fn append_run(
 ) -> Result<usize, Memory>
     requires start { start < length places.now }
     requires long { length ends.old ≡ length places.now }
-    requires told { AreTold places.now runs.old.items ends.old }
+    requires noted { AreNoted places.now runs.old.items ends.old }
     ensures run { IfOk result (λ last. IsRun places.now (record { start = start; end = last + 1 })) }
     ensures appended { IfOk result (λ last. runs.new.items ≡ runs.old.items ++ (record { start = start; end = last + 1 }) ∷ []) }
-    ensures told { OnOk result (AreTold places.now runs.new.items ends.new) }
+    ensures noted { OnOk result (AreNoted places.now runs.new.items ends.new) }
 {
     let end = run_end(places, start);
     runs.push(LevelRun { start, end })?;

@@ -4,7 +4,7 @@ ghost use Rattle.std.specs.Prelude.{◌≡◌, ◌==◌, ◌<◌, ◌≤◌, ◌
 ghost use Rattle.bidi_explicit.specs.Sequences.{chain, chains, direction_between, eos_of, has_level_of, kept_after, kept_before, last_or, level_or, next_by, over_isolate, sos_of};
 ghost use Rattle.bidi_explicit.specs.Extents.{extent_of, extent_sequences, IsWithin};
 ghost use Rattle.bidi_explicit.specs.Links.{is_unclosed, is_unclosed_at, linked, AreKept, AreMatched};
-ghost use Rattle.bidi_explicit.specs.LevelRuns.{AreTold, run_places};
+ghost use Rattle.bidi_explicit.specs.LevelRuns.{AreNoted, run_places};
 
 use crate::controls::Control;
 use crate::embedded::Extent;
@@ -115,12 +115,12 @@ fn append_chain(
     requires controls { length controls.now ≡ length places.now }
     requires matched { AreMatched controls.now }
     requires long { length ends.old ≡ length places.now }
-    requires told { AreTold places.now runs.old.items ends.old }
+    requires noted { AreNoted places.now runs.old.items ends.old }
     ensures before { OnOk result (take (length runs.old.items) runs.new.items ≡ runs.old.items) }
     ensures chain { OnOk result (run_places runs.new.items ≡ run_places runs.old.items ++ chain (linked controls.now places.now) (length places.now) first) }
     ensures last { IfOk result (λ last. last ≡ last_or first (chain (linked controls.now places.now) (length places.now) first)) }
     ensures inside { IfOk result (λ last. last < length places.now) }
-    ensures told { OnOk result (AreTold places.now runs.new.items ends.new) }
+    ensures noted { OnOk result (AreNoted places.now runs.new.items ends.new) }
 {
     let mut last = append_run(runs, ends, places, first)?;
     while let Some(start) = next(places, controls[last].pdi, last) {
@@ -181,11 +181,11 @@ fn append_sequence(
     requires controls { length controls.now ≡ length places.now }
     requires matched { AreMatched controls.now }
     requires long { length ends.old ≡ length places.now }
-    requires told { AreTold places.now runs.old.items ends.old }
+    requires noted { AreNoted places.now runs.old.items ends.old }
     ensures before { OnOk result (take (length runs.old.items) runs.new.items ≡ runs.old.items) }
     ensures chain { OnOk result (run_places runs.new.items ≡ run_places runs.old.items ++ chain (linked controls.now places.now) (length places.now) first) }
     ensures extent { IfOk result (λ e. e ≡ extent_of level (is_unclosed_at controls.now) places.now (length runs.old.items) (length runs.new.items) first (chain (linked controls.now places.now) (length places.now) first)) }
-    ensures told { OnOk result (AreTold places.now runs.new.items ends.new) }
+    ensures noted { OnOk result (AreNoted places.now runs.new.items ends.new) }
 {
     let start = runs.len();
     let last = append_chain(runs, ends, controls, places, first)?;

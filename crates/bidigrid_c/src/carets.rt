@@ -7,7 +7,7 @@ ghost use Rattle.caret.specs.Gaps.{IsCaretOf};
 ghost use Rattle.caret.specs.Moves.{caret_under, right_of, left_of, up_of, down_of};
 ghost use Rattle.caret.specs.Places.{caret_at};
 ghost use Rattle.c_pictures.specs.Numbers.{caret_numbers, caret_of, no_caret};
-ghost use Rattle.c_answers.specs.Told.{IsTold};
+ghost use Rattle.c_answers.specs.Numbers.{AreNumbersWritten};
 
 use c_answers::EMPTY_HANDLE;
 use c_pictures::{
@@ -24,7 +24,7 @@ pub extern "C" fn bidigrid_caret_at(
     place: usize,
     caret: &mut CaretNumbers,
 ) -> u32
-    ensures told { IfSome picture.old.held (λ g. IsTold (place ≤ length (chars g.text)) (caret_numbers (caret_at g place)) no_caret 107 caret.new result) }
+    ensures written { IfSome picture.old.held (λ g. AreNumbersWritten (place ≤ length (chars g.text)) (caret_numbers (caret_at g place)) no_caret 107 caret.new result) }
     ensures same { picture.new.held ≡ picture.old.held }
     ensures empty { picture.old.held ≡ None → (result ≡ 101) × (caret.new ≡ no_caret) }
 {
@@ -46,7 +46,7 @@ pub extern "C" fn bidigrid_caret_under(
     column: usize,
     caret: &mut CaretNumbers,
 ) -> u32
-    ensures told { IfSome picture.old.held (λ g. IsTold (row < length g.rows) (caret_numbers (caret_under g.rows row column)) no_caret 108 caret.new result) }
+    ensures written { IfSome picture.old.held (λ g. AreNumbersWritten (row < length g.rows) (caret_numbers (caret_under g.rows row column)) no_caret 108 caret.new result) }
     ensures same { picture.new.held ≡ picture.old.held }
     ensures empty { picture.old.held ≡ None → (result ≡ 101) × (caret.new ≡ no_caret) }
 {
@@ -66,7 +66,7 @@ pub extern "C" fn bidigrid_caret_right(
     picture: &mut PictureHandle,
     caret: &mut CaretNumbers,
 ) -> u32
-    ensures told { IfSome picture.old.held (λ g. IsTold (IsCaretOf g.rows (caret_of caret.old)) (caret_numbers (right_of g.rows (caret_of caret.old))) caret.old 110 caret.new result) }
+    ensures written { IfSome picture.old.held (λ g. AreNumbersWritten (IsCaretOf g.rows (caret_of caret.old)) (caret_numbers (right_of g.rows (caret_of caret.old))) caret.old 110 caret.new result) }
     ensures same { picture.new.held ≡ picture.old.held }
     ensures empty { picture.old.held ≡ None → (result ≡ 101) × (caret.new ≡ caret.old) }
 {
@@ -85,7 +85,7 @@ pub extern "C" fn bidigrid_caret_left(
     picture: &mut PictureHandle,
     caret: &mut CaretNumbers,
 ) -> u32
-    ensures told { IfSome picture.old.held (λ g. IsTold (IsCaretOf g.rows (caret_of caret.old)) (caret_numbers (left_of g.rows (caret_of caret.old))) caret.old 110 caret.new result) }
+    ensures written { IfSome picture.old.held (λ g. AreNumbersWritten (IsCaretOf g.rows (caret_of caret.old)) (caret_numbers (left_of g.rows (caret_of caret.old))) caret.old 110 caret.new result) }
     ensures same { picture.new.held ≡ picture.old.held }
     ensures empty { picture.old.held ≡ None → (result ≡ 101) × (caret.new ≡ caret.old) }
 {
@@ -104,7 +104,7 @@ pub extern "C" fn bidigrid_caret_up(
     picture: &mut PictureHandle,
     caret: &mut CaretNumbers,
 ) -> u32
-    ensures told { IfSome picture.old.held (λ g. IsTold (IsCaretOf g.rows (caret_of caret.old)) (caret_numbers (up_of g.rows (caret_of caret.old))) caret.old 110 caret.new result) }
+    ensures written { IfSome picture.old.held (λ g. AreNumbersWritten (IsCaretOf g.rows (caret_of caret.old)) (caret_numbers (up_of g.rows (caret_of caret.old))) caret.old 110 caret.new result) }
     ensures same { picture.new.held ≡ picture.old.held }
     ensures empty { picture.old.held ≡ None → (result ≡ 101) × (caret.new ≡ caret.old) }
 {
@@ -123,7 +123,7 @@ pub extern "C" fn bidigrid_caret_down(
     picture: &mut PictureHandle,
     caret: &mut CaretNumbers,
 ) -> u32
-    ensures told { IfSome picture.old.held (λ g. IsTold (IsCaretOf g.rows (caret_of caret.old)) (caret_numbers (down_of g.rows (caret_of caret.old))) caret.old 110 caret.new result) }
+    ensures written { IfSome picture.old.held (λ g. AreNumbersWritten (IsCaretOf g.rows (caret_of caret.old)) (caret_numbers (down_of g.rows (caret_of caret.old))) caret.old 110 caret.new result) }
     ensures same { picture.new.held ≡ picture.old.held }
     ensures empty { picture.old.held ≡ None → (result ≡ 101) × (caret.new ≡ caret.old) }
 {

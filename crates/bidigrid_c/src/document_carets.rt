@@ -3,7 +3,7 @@
 ghost use Rattle.std.specs.Prelude.{◌≡◌, None};
 ghost use Rattle.std.specs.Option.{IfSome};
 ghost use Rattle.caret.specs.Moves.{right_of, left_of, up_of, down_of};
-ghost use Rattle.c_documents.specs.Documents.{IsColumnTold, IsMoved, IsNoPlace, IsPlaceTold, IsUnmoved};
+ghost use Rattle.c_documents.specs.Documents.{IsColumnWritten, IsMoved, IsNoPlace, IsPlaceWritten, IsUnmoved};
 ghost use Rattle.c_documents.specs.Numbers.{no_position};
 
 use c_answers::EMPTY_HANDLE;
@@ -21,7 +21,7 @@ pub extern "C" fn bidigrid_position_at(
     place: usize,
     out: &mut PositionNumbers,
 ) -> u32
-    ensures ok { result ≡ 0 → IfSome document.old.held (λ d. IfSome document.new.held (λ e. IsPlaceTold d place e out.new)) }
+    ensures ok { result ≡ 0 → IfSome document.old.held (λ d. IfSome document.new.held (λ e. IsPlaceWritten d place e out.new)) }
     ensures err { (result ≡ 0 → ⊥) → out.new ≡ no_position }
     ensures fault { (result ≡ 0 → ⊥) → IfSome document.old.held (λ d. IfSome document.new.held (λ e. IsNoPlace d place e result)) }
     ensures empty { document.old.held ≡ None → (result ≡ 101) × (document.new.held ≡ None) }
@@ -45,7 +45,7 @@ pub extern "C" fn bidigrid_position_under(
     column: usize,
     out: &mut PositionNumbers,
 ) -> u32
-    ensures ok { result ≡ 0 → IfSome document.old.held (λ d. IfSome document.new.held (λ e. IsColumnTold d place column e out.new)) }
+    ensures ok { result ≡ 0 → IfSome document.old.held (λ d. IfSome document.new.held (λ e. IsColumnWritten d place column e out.new)) }
     ensures err { (result ≡ 0 → ⊥) → out.new ≡ no_position }
     ensures fault { (result ≡ 0 → ⊥) → IfSome document.old.held (λ d. IfSome document.new.held (λ e. IsNoPlace d place e result)) }
     ensures empty { document.old.held ≡ None → (result ≡ 101) × (document.new.held ≡ None) }

@@ -5,7 +5,7 @@ ghost use Rattle.std.specs.Option.{IfSome};
 ghost use Rattle.rga_tree.specs.TextOf.{text, visible};
 ghost use Rattle.c_answers.specs.Copying.{IsLeft, IsWritten};
 ghost use Rattle.c_desks.specs.Numbers.{no_identifier};
-ghost use Rattle.c_desks.specs.Desks.{IsIdentifierTold, IsPlaceTold, IsSaved};
+ghost use Rattle.c_desks.specs.Desks.{IsIdentifierWritten, IsPlaceWritten, IsSaved};
 
 use c_answers::EMPTY_HANDLE;
 use c_desks::{IdentifierNumbers, no_identifier, tell_file, tell_length, tell_place_of};
@@ -20,7 +20,7 @@ pub extern "C" fn bidigrid_document_text(
     out: &mut [u8],
     size: &mut usize,
 ) -> u32
-    ensures told { IfSome document.old.held (λ d. IsWritten (encode_utf8_all (text d.document.desk.set)) out.old out.new size.new result) }
+    ensures written { IfSome document.old.held (λ d. IsWritten (encode_utf8_all (text d.document.desk.set)) out.old out.new size.new result) }
     ensures memory { IfSome document.old.held (λ d. result ≡ 9 → 0 < length (visible d.document.desk.set)) }
     ensures same { document.new.held ≡ document.old.held }
     ensures empty { document.old.held ≡ None → (result ≡ 101) × IsLeft out.old out.new size.new }
@@ -41,7 +41,7 @@ pub extern "C" fn bidigrid_document_length(
     document: &mut DocumentHandle,
     places: &mut usize,
 ) -> u32
-    ensures told { IfSome document.old.held (λ d. (result ≡ 0) × (places.new ≡ length (visible d.document.desk.set))) }
+    ensures written { IfSome document.old.held (λ d. (result ≡ 0) × (places.new ≡ length (visible d.document.desk.set))) }
     ensures same { document.new.held ≡ document.old.held }
     ensures empty { document.old.held ≡ None → (result ≡ 101) × (places.new ≡ 0) }
 {
@@ -62,7 +62,7 @@ pub extern "C" fn bidigrid_document_id_at(
     place: usize,
     id: &mut IdentifierNumbers,
 ) -> u32
-    ensures told { IfSome document.old.held (λ d. IsIdentifierTold d.document.desk.set place id.new result) }
+    ensures written { IfSome document.old.held (λ d. IsIdentifierWritten d.document.desk.set place id.new result) }
     ensures same { document.new.held ≡ document.old.held }
     ensures empty { document.old.held ≡ None → (result ≡ 101) × (id.new ≡ no_identifier) }
 {
@@ -83,7 +83,7 @@ pub extern "C" fn bidigrid_document_place_of(
     id: &IdentifierNumbers,
     place: &mut usize,
 ) -> u32
-    ensures told { IfSome document.old.held (λ d. IsPlaceTold d.document.desk.set id.now place.new result) }
+    ensures written { IfSome document.old.held (λ d. IsPlaceWritten d.document.desk.set id.now place.new result) }
     ensures same { document.new.held ≡ document.old.held }
     ensures empty { document.old.held ≡ None → (result ≡ 101) × (place.new ≡ 0) }
 {
@@ -104,7 +104,7 @@ pub extern "C" fn bidigrid_document_file(
     out: &mut [u8],
     size: &mut usize,
 ) -> u32
-    ensures told { IfSome document.old.held (λ d. IsSaved d.document.desk out.old out.new size.new result) }
+    ensures written { IfSome document.old.held (λ d. IsSaved d.document.desk out.old out.new size.new result) }
     ensures same { document.new.held ≡ document.old.held }
     ensures empty { document.old.held ≡ None → (result ≡ 101) × IsLeft out.old out.new size.new }
 {

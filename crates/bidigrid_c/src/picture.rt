@@ -61,7 +61,7 @@ pub extern "C" fn bidigrid_picture_rows(
     picture: &mut PictureHandle,
     count: &mut usize,
 ) -> u32
-    ensures told { IfSome picture.old.held (λ g. (result ≡ 0) × (count.new ≡ length g.rows)) }
+    ensures written { IfSome picture.old.held (λ g. (result ≡ 0) × (count.new ≡ length g.rows)) }
     ensures same { picture.new.held ≡ picture.old.held }
     ensures empty { picture.old.held ≡ None → (result ≡ 101) × (count.new ≡ 0) }
 {
@@ -82,7 +82,7 @@ pub extern "C" fn bidigrid_picture_row(
     number: usize,
     out: &mut RowNumbers,
 ) -> u32
-    ensures told { IfSome picture.old.held (λ g. MatchOption (slice_get g.rows number) ((result ≡ 108) × (out.new ≡ no_row)) (λ r. (result ≡ 0) × (out.new ≡ row_numbers r))) }
+    ensures written { IfSome picture.old.held (λ g. MatchOption (slice_get g.rows number) ((result ≡ 108) × (out.new ≡ no_row)) (λ r. (result ≡ 0) × (out.new ≡ row_numbers r))) }
     ensures same { picture.new.held ≡ picture.old.held }
     ensures empty { picture.old.held ≡ None → (result ≡ 101) × (out.new ≡ no_row) }
 {
@@ -104,7 +104,7 @@ pub extern "C" fn bidigrid_picture_entry(
     number: usize,
     out: &mut EntryNumbers,
 ) -> u32
-    ensures told { IfSome picture.old.held (λ g. MatchOption (slice_get g.rows row) ((result ≡ 108) × (out.new ≡ no_entry)) (λ r. MatchOption (slice_get r.entries number) ((result ≡ 109) × (out.new ≡ no_entry)) (λ e. (result ≡ 0) × (out.new ≡ entry_numbers e)))) }
+    ensures written { IfSome picture.old.held (λ g. MatchOption (slice_get g.rows row) ((result ≡ 108) × (out.new ≡ no_entry)) (λ r. MatchOption (slice_get r.entries number) ((result ≡ 109) × (out.new ≡ no_entry)) (λ e. (result ≡ 0) × (out.new ≡ entry_numbers e)))) }
     ensures same { picture.new.held ≡ picture.old.held }
     ensures empty { picture.old.held ≡ None → (result ≡ 101) × (out.new ≡ no_entry) }
 {
@@ -126,7 +126,7 @@ pub extern "C" fn bidigrid_picture_entries(
     out: &mut [EntryNumbers],
     count: &mut usize,
 ) -> u32
-    ensures told { IfSome picture.old.held (λ g. MatchOption (slice_get g.rows row) ((result ≡ 108) × (out.new ≡ out.old) × (count.new ≡ 0)) (λ r. AreListed entry_numbers r.entries out.old out.new count.new result)) }
+    ensures written { IfSome picture.old.held (λ g. MatchOption (slice_get g.rows row) ((result ≡ 108) × (out.new ≡ out.old) × (count.new ≡ 0)) (λ r. AreListed entry_numbers r.entries out.old out.new count.new result)) }
     ensures same { picture.new.held ≡ picture.old.held }
     ensures empty { picture.old.held ≡ None → (result ≡ 101) × (out.new ≡ out.old) × (count.new ≡ 0) }
 {

@@ -5,7 +5,7 @@ ghost use Rattle.std.specs.Option.{IfSome};
 ghost use Rattle.rga_tree.specs.TextOf.{text, visible};
 ghost use Rattle.c_answers.specs.Copying.{IsLeft, IsWritten};
 ghost use Rattle.c_desks.specs.Numbers.{no_identifier};
-ghost use Rattle.c_desks.specs.Desks.{IsIdentifierTold, IsPlaceTold, IsSaved};
+ghost use Rattle.c_desks.specs.Desks.{IsIdentifierWritten, IsPlaceWritten, IsSaved};
 
 use c_answers::EMPTY_HANDLE;
 use c_desks::{
@@ -22,7 +22,7 @@ pub extern "C" fn bidigrid_desk_text(
     out: &mut [u8],
     size: &mut usize,
 ) -> u32
-    ensures told { IfSome desk.old.held (λ d. IsWritten (encode_utf8_all (text d.set)) out.old out.new size.new result) }
+    ensures written { IfSome desk.old.held (λ d. IsWritten (encode_utf8_all (text d.set)) out.old out.new size.new result) }
     ensures memory { IfSome desk.old.held (λ d. result ≡ 9 → 0 < length (visible d.set)) }
     ensures same { desk.new.held ≡ desk.old.held }
     ensures empty { desk.old.held ≡ None → (result ≡ 101) × IsLeft out.old out.new size.new }
@@ -43,7 +43,7 @@ pub extern "C" fn bidigrid_desk_length(
     desk: &mut DeskHandle,
     places: &mut usize,
 ) -> u32
-    ensures told { IfSome desk.old.held (λ d. (result ≡ 0) × (places.new ≡ length (visible d.set))) }
+    ensures written { IfSome desk.old.held (λ d. (result ≡ 0) × (places.new ≡ length (visible d.set))) }
     ensures same { desk.new.held ≡ desk.old.held }
     ensures empty { desk.old.held ≡ None → (result ≡ 101) × (places.new ≡ 0) }
 {
@@ -64,7 +64,7 @@ pub extern "C" fn bidigrid_desk_id_at(
     place: usize,
     id: &mut IdentifierNumbers,
 ) -> u32
-    ensures told { IfSome desk.old.held (λ d. IsIdentifierTold d.set place id.new result) }
+    ensures written { IfSome desk.old.held (λ d. IsIdentifierWritten d.set place id.new result) }
     ensures same { desk.new.held ≡ desk.old.held }
     ensures empty { desk.old.held ≡ None → (result ≡ 101) × (id.new ≡ no_identifier) }
 {
@@ -85,7 +85,7 @@ pub extern "C" fn bidigrid_desk_place_of(
     id: &IdentifierNumbers,
     place: &mut usize,
 ) -> u32
-    ensures told { IfSome desk.old.held (λ d. IsPlaceTold d.set id.now place.new result) }
+    ensures written { IfSome desk.old.held (λ d. IsPlaceWritten d.set id.now place.new result) }
     ensures same { desk.new.held ≡ desk.old.held }
     ensures empty { desk.old.held ≡ None → (result ≡ 101) × (place.new ≡ 0) }
 {
@@ -106,7 +106,7 @@ pub extern "C" fn bidigrid_desk_file(
     out: &mut [u8],
     size: &mut usize,
 ) -> u32
-    ensures told { IfSome desk.old.held (λ d. IsSaved d out.old out.new size.new result) }
+    ensures written { IfSome desk.old.held (λ d. IsSaved d out.old out.new size.new result) }
     ensures same { desk.new.held ≡ desk.old.held }
     ensures empty { desk.old.held ≡ None → (result ≡ 101) × IsLeft out.old out.new size.new }
 {

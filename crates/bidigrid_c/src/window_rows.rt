@@ -18,7 +18,7 @@ pub extern "C" fn bidigrid_document_row(
     number: usize,
     out: &mut RowNumbers,
 ) -> u32
-    ensures told { IfSome document.old.held (λ d. MatchOption (slice_get d.document.window.rows number) ((result ≡ 108) × (out.new ≡ no_row)) (λ r. (result ≡ 0) × (out.new ≡ row_numbers r))) }
+    ensures written { IfSome document.old.held (λ d. MatchOption (slice_get d.document.window.rows number) ((result ≡ 108) × (out.new ≡ no_row)) (λ r. (result ≡ 0) × (out.new ≡ row_numbers r))) }
     ensures same { document.new.held ≡ document.old.held }
     ensures empty { document.old.held ≡ None → (result ≡ 101) × (out.new ≡ no_row) }
 {
@@ -40,7 +40,7 @@ pub extern "C" fn bidigrid_document_entries(
     out: &mut [EntryNumbers],
     count: &mut usize,
 ) -> u32
-    ensures told { IfSome document.old.held (λ d. MatchOption (slice_get d.document.window.rows row) ((result ≡ 108) × (out.new ≡ out.old) × (count.new ≡ 0)) (λ r. AreListed entry_numbers r.entries out.old out.new count.new result)) }
+    ensures written { IfSome document.old.held (λ d. MatchOption (slice_get d.document.window.rows row) ((result ≡ 108) × (out.new ≡ out.old) × (count.new ≡ 0)) (λ r. AreListed entry_numbers r.entries out.old out.new count.new result)) }
     ensures same { document.new.held ≡ document.old.held }
     ensures empty { document.old.held ≡ None → (result ≡ 101) × (out.new ≡ out.old) × (count.new ≡ 0) }
 {

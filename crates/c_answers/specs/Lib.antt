@@ -1,3 +1,3 @@
 -- The modules of this crate's definitions.
 pub mod Copying
-pub mod Told
+pub mod Numbers

@@ -175,14 +175,14 @@ IsMergedWith desk other new answer = (met : Result ℕ TakeFault) × IsMerge des
 -- ---- telling
 
 -- the identifier at a place was told, or there is no such place
-abbrev pub IsIdentifierTold : OperationSet → (place : ℕ) → (told : IdentifierNumbers) → (answer : ℕ) → Type 0
-IsIdentifierTold s place told answer =
+abbrev pub IsIdentifierWritten : OperationSet → (place : ℕ) → (told : IdentifierNumbers) → (answer : ℕ) → Type 0
+IsIdentifierWritten s place told answer =
     ((answer ≡ 0) × (slice_get (visible_ids s) place ≡ Some (record { counter = told.counter; site = told.site })))
     ⊎ ((answer ≡ 107) × (length (visible s) ≤ place) × (told ≡ no_identifier))
 
 -- the place of an identifier was told; or it has none, or is none
-abbrev pub IsPlaceTold : OperationSet → IdentifierNumbers → (told answer : ℕ) → Type 0
-IsPlaceTold s id told answer =
+abbrev pub IsPlaceWritten : OperationSet → IdentifierNumbers → (told answer : ℕ) → Type 0
+IsPlaceWritten s id told answer =
     let it : Identifier = record { counter = id.counter; site = id.site } in
     ((answer ≡ 0) × IsAttached s.ins it × (told ≡ visible_before s it))
     ⊎ (((answer ≡ 114) × (¬ (IsAttached s.ins it)) × (told ≡ 0))

@@ -4,7 +4,7 @@ ghost use Rattle.std.specs.Prelude.{◌≡◌, ◌<◌, None, length, encode_utf
 ghost use Rattle.rga_tree.specs.TextOf.{text, visible};
 ghost use Rattle.c_answers.specs.Copying.{IsWritten};
 ghost use Rattle.c_desks.specs.Numbers.{no_identifier};
-ghost use Rattle.c_desks.specs.Desks.{IsIdentifierTold, IsPlaceTold, IsSaved};
+ghost use Rattle.c_desks.specs.Desks.{IsIdentifierWritten, IsPlaceWritten, IsSaved};
 
 use crate::desk::{Desk, MOST_SITE};
 use crate::numbers::{IdentifierNumbers, identifier_numbers, no_identifier};
@@ -16,7 +16,7 @@ use std::alloc::Global;
 /// Writes a desk's text in UTF-8.
 #[tactic(auto, using(crate::proofs::Texts::bytes_of_none))]
 pub fn tell_text(desk: &Desk, out: &mut [u8], size: &mut usize) -> u32
-    ensures told { IsWritten (encode_utf8_all (text desk.now.set)) out.old out.new size.new result }
+    ensures written { IsWritten (encode_utf8_all (text desk.now.set)) out.old out.new size.new result }
     ensures memory { result ≡ 9 → 0 < length (visible desk.now.set) }
 {
     if desk.len() == 0 {
@@ -42,7 +42,7 @@ pub fn tell_length(desk: &Desk, places: &mut usize) -> u32
 
 /// Tells the identifier of the character at a place.
 pub fn tell_id_at(desk: &mut Desk, place: usize, id: &mut IdentifierNumbers) -> u32
-    ensures told { IsIdentifierTold desk.old.set place id.new result }
+    ensures written { IsIdentifierWritten desk.old.set place id.new result }
     ensures same { desk.new ≡ desk.old }
 {
     if place >= desk.len() {
@@ -55,7 +55,7 @@ pub fn tell_id_at(desk: &mut Desk, place: usize, id: &mut IdentifierNumbers) -> 
 
 /// Tells how many characters stand before the one with an identifier, which may be erased.
 pub fn tell_place_of(desk: &Desk, id: &IdentifierNumbers, place: &mut usize) -> u32
-    ensures { IsPlaceTold desk.now.set id.now place.new result }
+    ensures { IsPlaceWritten desk.now.set id.now place.new result }
 {
     *place = 0;
     if id.site > MOST_SITE {

@@ -171,20 +171,20 @@ pub record IsAsked (old new : ToldDocument) : Type 0 where
   pub alike : TellAlike old new
 
 -- this position was told, and the rows from so many above that of a place to so many below it are shown
-pub record IsPositionTold (old : ToldDocument) (position : Position) (place around : ℕ) (new : ToldDocument) (told : PositionNumbers) : Type 0 where
+pub record IsPositionWritten (old : ToldDocument) (position : Position) (place around : ℕ) (new : ToldDocument) (told : PositionNumbers) : Type 0 where
   pub numbers : told ≡ position_numbers position
   pub window : new.document.window ≡ window_round old.document place around around
   pub asked : IsAsked old new
 
 -- the position of a place, or of a column in the row of a place
-abbrev pub IsPlaceTold : ToldDocument → (place : ℕ) → ToldDocument → PositionNumbers → Type 0
-IsPlaceTold old place new told =
-    (place ≤ length (visible old.document.desk.set)) × IsPositionTold old (position_at (whole_rows old.document) place) place 0 new told
+abbrev pub IsPlaceWritten : ToldDocument → (place : ℕ) → ToldDocument → PositionNumbers → Type 0
+IsPlaceWritten old place new told =
+    (place ≤ length (visible old.document.desk.set)) × IsPositionWritten old (position_at (whole_rows old.document) place) place 0 new told
 
-abbrev pub IsColumnTold : ToldDocument → (place column : ℕ) → ToldDocument → PositionNumbers → Type 0
-IsColumnTold old place column new told =
+abbrev pub IsColumnWritten : ToldDocument → (place column : ℕ) → ToldDocument → PositionNumbers → Type 0
+IsColumnWritten old place column new told =
     (place ≤ length (visible old.document.desk.set))
-    × IsPositionTold old (position_of (whole_rows old.document) (caret_under (whole_rows old.document) (row_at (whole_rows old.document) place) column)) place 0 new told
+    × IsPositionWritten old (position_of (whole_rows old.document) (caret_under (whole_rows old.document) (row_at (whole_rows old.document) place) column)) place 0 new told
 
 -- why none was told: no memory, or no such place
 abbrev pub IsNoPlace : ToldDocument → (place : ℕ) → ToldDocument → (answer : ℕ) → Type 0
@@ -195,7 +195,7 @@ IsNoPlace old place new answer =
 abbrev pub IsMoved : (List DrawnRow → Caret → Caret) → ToldDocument → (from : PositionNumbers) → ToldDocument → (to : PositionNumbers) → Type 0
 IsMoved move old from new to =
     IsPositionOf (whole_rows old.document) (position_with from)
-    × IsPositionTold old (position_moved move (whole_rows old.document) (position_with from)) from.row 1 new to
+    × IsPositionWritten old (position_moved move (whole_rows old.document) (position_with from)) from.row 1 new to
 
 -- why it was not: no memory, or the grid has no such row, or the row no such gap; it is as it was
 abbrev pub IsUnmoved : ToldDocument → (from : PositionNumbers) → ToldDocument → (to : PositionNumbers) → (answer : ℕ) → Type 0

@@ -4,7 +4,7 @@ ghost use Rattle.std.specs.Prelude.{◌≡◌, ◌⊎◌, ◌<◌, IfOk, IfErr};
 ghost use Rattle.caret.specs.Moves.{right_of, left_of, up_of, down_of};
 ghost use Rattle.caret.specs.Positions.{IsPositionOf};
 ghost use Rattle.live_document.specs.Documents.{whole_rows};
-ghost use Rattle.c_documents.specs.Documents.{IsAsked, IsColumnTold, IsMoved, IsNoPlace, IsPlaceTold, IsUnmoved};
+ghost use Rattle.c_documents.specs.Documents.{IsAsked, IsColumnWritten, IsMoved, IsNoPlace, IsPlaceWritten, IsUnmoved};
 ghost use Rattle.c_documents.specs.Numbers.{no_position, position_with};
 
 use crate::numbers::{PositionNumbers, no_position, position_numbers, position_with};
@@ -15,7 +15,7 @@ use live_document::Position;
 
 /// Tells where the caret stands at a place of the text.
 pub fn tell_position(held: &mut ToldDocument, place: usize, out: &mut PositionNumbers) -> u32
-    ensures ok { result ≡ 0 → IsPlaceTold held.old place held.new out.new }
+    ensures ok { result ≡ 0 → IsPlaceWritten held.old place held.new out.new }
     ensures err { (result ≡ 0 → ⊥) → out.new ≡ no_position }
     ensures fault { (result ≡ 0 → ⊥) → IsNoPlace held.old place held.new result }
 {
@@ -39,7 +39,7 @@ pub fn tell_position_under(
     column: usize,
     out: &mut PositionNumbers,
 ) -> u32
-    ensures ok { result ≡ 0 → IsColumnTold held.old place column held.new out.new }
+    ensures ok { result ≡ 0 → IsColumnWritten held.old place column held.new out.new }
     ensures err { (result ≡ 0 → ⊥) → out.new ≡ no_position }
     ensures fault { (result ≡ 0 → ⊥) → IsNoPlace held.old place held.new result }
 {

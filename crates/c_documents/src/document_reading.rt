@@ -4,7 +4,7 @@ ghost use Rattle.std.specs.Prelude.{◌≡◌, ◌<◌, length, encode_utf8_all}
 ghost use Rattle.rga_tree.specs.TextOf.{text, visible};
 ghost use Rattle.c_answers.specs.Copying.{IsWritten};
 ghost use Rattle.c_desks.specs.Numbers.{no_identifier};
-ghost use Rattle.c_desks.specs.Desks.{IsIdentifierTold};
+ghost use Rattle.c_desks.specs.Desks.{IsIdentifierWritten};
 
 use c_answers::{BAD_PLACE, OK, SHORT_BUFFER};
 use c_desks::{IdentifierNumbers, identifier_numbers, no_identifier, tell_text};
@@ -12,7 +12,7 @@ use live_document::Document;
 
 /// Writes a document's text, unless its size is known to be more than there is room for.
 pub fn tell_text_of(document: &Document, out: &mut [u8], size: &mut usize) -> u32
-    ensures told { IsWritten (encode_utf8_all (text document.now.desk.set)) out.old out.new size.new result }
+    ensures written { IsWritten (encode_utf8_all (text document.now.desk.set)) out.old out.new size.new result }
     ensures memory { result ≡ 9 → 0 < length (visible document.now.desk.set) }
 {
     if let Some(count) = document.text_size() {
@@ -26,7 +26,7 @@ pub fn tell_text_of(document: &Document, out: &mut [u8], size: &mut usize) -> u3
 
 /// Tells the identifier of the character at a place.
 pub fn tell_id_in(document: &mut Document, place: usize, id: &mut IdentifierNumbers) -> u32
-    ensures told { IsIdentifierTold document.old.desk.set place id.new result }
+    ensures written { IsIdentifierWritten document.old.desk.set place id.new result }
     ensures same { document.new ≡ document.old }
 {
     if place >= document.len() {

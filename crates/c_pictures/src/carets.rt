@@ -6,7 +6,7 @@ ghost use Rattle.caret.specs.Gaps.{IsCaretOf};
 ghost use Rattle.caret.specs.Moves.{caret_under, right_of, left_of, up_of, down_of};
 ghost use Rattle.caret.specs.Places.{caret_at};
 ghost use Rattle.c_pictures.specs.Numbers.{caret_numbers, caret_of, no_caret};
-ghost use Rattle.c_answers.specs.Told.{IsTold};
+ghost use Rattle.c_answers.specs.Numbers.{AreNumbersWritten};
 
 use crate::numbers::{CaretNumbers, caret_numbers, caret_of, no_caret};
 use c_answers::{BAD_CARET, BAD_PLACE, BAD_ROW, OK};
@@ -14,7 +14,7 @@ use pictures::Picture;
 
 /// Writes the caret at a place of the text.
 pub fn tell_caret(picture: &mut Picture, place: usize, caret: &mut CaretNumbers) -> u32
-    ensures told { IsTold (place ≤ length (chars picture.old.text)) (caret_numbers (caret_at picture.old place)) no_caret 107 caret.new result }
+    ensures written { AreNumbersWritten (place ≤ length (chars picture.old.text)) (caret_numbers (caret_at picture.old place)) no_caret 107 caret.new result }
     ensures same { picture.new ≡ picture.old }
 {
     if place > picture.len() {
@@ -32,7 +32,7 @@ pub fn tell_caret_under(
     column: usize,
     caret: &mut CaretNumbers,
 ) -> u32
-    ensures told { IsTold (row < length picture.old.rows) (caret_numbers (caret_under picture.old.rows row column)) no_caret 108 caret.new result }
+    ensures written { AreNumbersWritten (row < length picture.old.rows) (caret_numbers (caret_under picture.old.rows row column)) no_caret 108 caret.new result }
     ensures same { picture.new ≡ picture.old }
 {
     if row >= picture.rows().len() {
@@ -45,7 +45,7 @@ pub fn tell_caret_under(
 
 /// Moves a caret one step to the right, as the eye sees it.
 pub fn tell_right(picture: &mut Picture, caret: &mut CaretNumbers) -> u32
-    ensures told { IsTold (IsCaretOf picture.old.rows (caret_of caret.old)) (caret_numbers (right_of picture.old.rows (caret_of caret.old))) caret.old 110 caret.new result }
+    ensures written { AreNumbersWritten (IsCaretOf picture.old.rows (caret_of caret.old)) (caret_numbers (right_of picture.old.rows (caret_of caret.old))) caret.old 110 caret.new result }
     ensures same { picture.new ≡ picture.old }
 {
     let from = caret_of(caret);
@@ -58,7 +58,7 @@ pub fn tell_right(picture: &mut Picture, caret: &mut CaretNumbers) -> u32
 
 /// Moves a caret one step to the left, as the eye sees it.
 pub fn tell_left(picture: &mut Picture, caret: &mut CaretNumbers) -> u32
-    ensures told { IsTold (IsCaretOf picture.old.rows (caret_of caret.old)) (caret_numbers (left_of picture.old.rows (caret_of caret.old))) caret.old 110 caret.new result }
+    ensures written { AreNumbersWritten (IsCaretOf picture.old.rows (caret_of caret.old)) (caret_numbers (left_of picture.old.rows (caret_of caret.old))) caret.old 110 caret.new result }
     ensures same { picture.new ≡ picture.old }
 {
     let from = caret_of(caret);
@@ -71,7 +71,7 @@ pub fn tell_left(picture: &mut Picture, caret: &mut CaretNumbers) -> u32
 
 /// Moves a caret one row up, as the eye sees it.
 pub fn tell_up(picture: &mut Picture, caret: &mut CaretNumbers) -> u32
-    ensures told { IsTold (IsCaretOf picture.old.rows (caret_of caret.old)) (caret_numbers (up_of picture.old.rows (caret_of caret.old))) caret.old 110 caret.new result }
+    ensures written { AreNumbersWritten (IsCaretOf picture.old.rows (caret_of caret.old)) (caret_numbers (up_of picture.old.rows (caret_of caret.old))) caret.old 110 caret.new result }
     ensures same { picture.new ≡ picture.old }
 {
     let from = caret_of(caret);
@@ -84,7 +84,7 @@ pub fn tell_up(picture: &mut Picture, caret: &mut CaretNumbers) -> u32
 
 /// Moves a caret one row down, as the eye sees it.
 pub fn tell_down(picture: &mut Picture, caret: &mut CaretNumbers) -> u32
-    ensures told { IsTold (IsCaretOf picture.old.rows (caret_of caret.old)) (caret_numbers (down_of picture.old.rows (caret_of caret.old))) caret.old 110 caret.new result }
+    ensures written { AreNumbersWritten (IsCaretOf picture.old.rows (caret_of caret.old)) (caret_numbers (down_of picture.old.rows (caret_of caret.old))) caret.old 110 caret.new result }
     ensures same { picture.new ≡ picture.old }
 {
     let from = caret_of(caret);

@@ -12,7 +12,7 @@ use pictures::Picture;
 /// Writes a picture: the cells of each row in UTF-8, and a line feed after each.
 #[tactic(auto, using(crate::proofs::Sized::written_nowhere))]
 pub fn tell_print(picture: &mut Picture, out: &mut [u8], size: &mut usize) -> u32
-    ensures told { IsWritten (printed picture.old) out.old out.new size.new result }
+    ensures written { IsWritten (printed picture.old) out.old out.new size.new result }
     ensures same { picture.new ≡ picture.old }
 {
     *size = 0;
@@ -48,7 +48,7 @@ pub fn tell_size(bytes: Result<usize, Memory>, size: &mut usize) -> u32
 /// Writes a row: its cells in UTF-8, and a line feed.
 #[tactic(auto, using(crate::proofs::Sized::written_nowhere))]
 pub fn tell_row_print(picture: &mut Picture, number: usize, out: &mut [u8], size: &mut usize) -> u32
-    ensures told { MatchOption (slice_get picture.old.rows number) ((result ≡ 108) × IsLeft out.old out.new size.new) (λ _. IsWritten (printed_row picture.old number) out.old out.new size.new result) }
+    ensures written { MatchOption (slice_get picture.old.rows number) ((result ≡ 108) × IsLeft out.old out.new size.new) (λ _. IsWritten (printed_row picture.old number) out.old out.new size.new result) }
     ensures same { picture.new ≡ picture.old }
 {
     *size = 0;
@@ -72,7 +72,7 @@ pub fn tell_entry_sizes(
     sizes: &mut [usize],
     count: &mut usize,
 ) -> u32
-    ensures told { MatchOption (slice_get picture.old.rows number) ((result ≡ 108) × IsLeft sizes.old sizes.new count.new) (λ _. AreSized (printed_sizes picture.old number) sizes.old sizes.new count.new result) }
+    ensures written { MatchOption (slice_get picture.old.rows number) ((result ≡ 108) × IsLeft sizes.old sizes.new count.new) (λ _. AreSized (printed_sizes picture.old number) sizes.old sizes.new count.new result) }
     ensures same { picture.new ≡ picture.old }
 {
     *count = 0;

@@ -17,7 +17,7 @@ help_of (Usage text) = []
 help_of Memory = []
 
 -- what standard error gets: the text about the command line, unless a write of it fails; nothing besides the whole help
-abbrev pub IsTold : Stop → (out_failed err_failed : Bool) → (old new : Option (List ℕ)) → Type 0
-IsTold (Help text) out_failed err_failed old new = out_failed ≡ false → Keeps old new
-IsTold (Usage text) out_failed err_failed old new = err_failed ≡ false → Appends old new (string_bytes text)
-IsTold Memory out_failed err_failed old new = Unit {0}
+abbrev pub IsReported : Stop → (out_failed err_failed : Bool) → (old new : Option (List ℕ)) → Type 0
+IsReported (Help text) out_failed err_failed old new = out_failed ≡ false → Keeps old new
+IsReported (Usage text) out_failed err_failed old new = err_failed ≡ false → Appends old new (string_bytes text)
+IsReported Memory out_failed err_failed old new = Unit {0}

@@ -3,7 +3,7 @@
 ghost use Rattle.std.specs.Prelude.{◌≡◌, false, is_err};
 ghost use Rattle.std.specs.Io.KnownBytes.{Appends};
 ghost use Rattle.bg_types.specs.Sink.{AppendsBeginning};
-ghost use Rattle.command_line.specs.Ending.{status_of, help_of, IsTold};
+ghost use Rattle.command_line.specs.Ending.{status_of, help_of, IsReported};
 
 use crate::stop::Stop;
 use bg_types::{Device, Sink, put_all};
@@ -54,7 +54,7 @@ pub fn end<O: Sink, E: Sink>(program: &str, stop: &Stop, out: &mut O, err: &mut 
     ensures status { result ≡ status_of stop.now (O.has_failed out.new) }
     ensures out { O.has_failed out.new ≡ false → Appends (O.written out.old) (O.written out.new) (help_of stop.now) }
     ensures lost { AppendsBeginning (O.written out.old) (O.written out.new) (help_of stop.now) }
-    ensures err { IsTold stop.now (O.has_failed out.new) (E.has_failed err.new) (E.written err.old) (E.written err.new) }
+    ensures err { IsReported stop.now (O.has_failed out.new) (E.has_failed err.new) (E.written err.old) (E.written err.new) }
 {
     match stop {
         Stop::Help(text) => match put_all(out, text.as_bytes()) {

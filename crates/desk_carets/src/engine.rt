@@ -6,7 +6,7 @@ ghost use Rattle.std.specs.Str.{chars};
 ghost use Rattle.ucd_files.specs.Ucd.{fault_of_ucd};
 ghost use Rattle.cell_grid.specs.Grids.{grid_of};
 ghost use Rattle.desk_files.specs.Files.{bytes_of};
-ghost use Rattle.desk_files.specs.Readers.{AreWorking, AreAsked, AreTold, EndsOver};
+ghost use Rattle.desk_files.specs.Readers.{AreWorking, AreAsked, AreGiven, EndsOver};
 ghost use Rattle.desk_carets.specs.Cause.{IsUnwalked};
 ghost use Rattle.desk_carets.specs.Carets.{walk_lines};
 ghost use Rattle.desk_carets.specs.CaretsOutcome.{asked, IsWalked, IsWalkCaused, IsCaretsOutcome, IsCaretsOutcomeOver};
@@ -100,7 +100,7 @@ fn read_and_walk<R: Source>(
     requires narrow { 2 ≤ width }
     requires wide { width ≤ 500 }
     requires readers { AreWorking (each R.has_failed files.old) }
-    ensures ok { IfOk result (λ lines. AreTold (each R.remaining files.old) (each R.has_failed files.new)
+    ensures ok { IfOk result (λ lines. AreGiven (each R.remaining files.old) (each R.has_failed files.new)
         (λ told. IsWalked (asked ucd.now width base told place moves.now) (string_bytes lines))) }
     ensures asked { AreAsked (each R.remaining files.old) (each R.remaining files.new) }
     ensures tables_first { (n : ℕ) → IfErr result (λ fault. fault ≡ RunFault.ReadFailed n → fault_of_ucd ucd.now ≡ None) }

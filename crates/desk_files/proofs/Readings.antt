@@ -7,7 +7,7 @@ use Rattle.bg_types.specs.declared.op.OpView.{OpView}
 use Rattle.desk_files.specs.declared.run_fault.RunFault.{RunFault}
 use Rattle.desk_files.specs.declared.run_fault.RunFault.TheVariants.{ReadFailed, Memory}
 use Rattle.desk_files.specs.Reading.{IsReadAs, Flaw, malformed, too_long, flaw_fault}
-use Rattle.desk_files.specs.Readers.{Tells, IsAsked, IsToldFile, IsUnreadFile, is_flawed, is_broken, lacks_memory, AreWorking, HasFailedAlone, AreAsked, AreTold, EndsOver, IsRunOver}
+use Rattle.desk_files.specs.Readers.{Tells, IsAsked, IsToldFile, IsUnreadFile, is_flawed, is_broken, lacks_memory, AreWorking, HasFailedAlone, AreAsked, AreGiven, EndsOver, IsRunOver}
 use Rattle.desk_files.specs.Files.{IsFaultyFile}
 use Rattle.desk_files.specs.Cause.{IsReadCaused}
 use Rattle.desk_files.proofs.Feeding.{none_asked}
@@ -99,7 +99,7 @@ module _ {X : Type 0} (rem : X → Option (List ℕ)) (failed : X → Bool) (old
   readers = each rem old
 
   -- all are read
-  pub all_read : length old ≤ k → AreTold readers (each failed now) (λ files. AllZip IsReadAs files lists)
+  pub all_read : length old ≤ k → AreGiven readers (each failed now) (λ files. AllZip IsReadAs files lists)
   all_read all =
       let size : length readers ≤ k = let long = length-map old rem in omega (arith, all, long) in
       record { files = h.files; told = subst (λ rs. AllZip Tells rs h.files) (take_all k readers size) h.told; working = h.working; so = h.spelled }
@@ -242,14 +242,14 @@ module _ {X : Type 0} (rem : X → Option (List ℕ)) (failed : X → Bool) (old
 -- ---- what follows from what readers told
 
 module _ (readers : List (Option (List ℕ))) (failed : List Bool) where
-  pub told_so : (P Q : List (List ℕ) → Type 0) → ((files : List (List ℕ)) → P files → Q files) → AreTold readers failed P → AreTold readers failed Q
+  pub told_so : (P Q : List (List ℕ) → Type 0) → ((files : List (List ℕ)) → P files → Q files) → AreGiven readers failed P → AreGiven readers failed Q
   told_so P Q then h = record { files = h.files; told = h.told; working = h.working; so = then h.files h.so }
 
   -- it holds of any files
-  told_any : (P : List (List ℕ) → Type 0) → AreWorking failed → ((files : List (List ℕ)) → P files) → AreTold readers failed P
+  told_any : (P : List (List ℕ) → Type 0) → AreWorking failed → ((files : List (List ℕ)) → P files) → AreGiven readers failed P
   told_any P working so = let some = some_files readers in record { files = some.0; told = some.1; working = working; so = so some.0 }
 
-  pub ok_over : {A : Type 0} (Q : List (List ℕ) → Type 0) (P : List (List ℕ) → A → Type 0) (r : Result A RunFault) → AreTold readers failed Q → ((files : List (List ℕ)) → Q files → IfOk r (P files)) → IfOk r (λ x. AreTold readers failed (λ files. P files x))
+  pub ok_over : {A : Type 0} (Q : List (List ℕ) → Type 0) (P : List (List ℕ) → A → Type 0) (r : Result A RunFault) → AreGiven readers failed Q → ((files : List (List ℕ)) → Q files → IfOk r (P files)) → IfOk r (λ x. AreGiven readers failed (λ files. P files x))
   ok_over Q P (Ok x) told then = told_so Q (λ files. P files x) then told
   ok_over Q P (Err fault) told then = tt
 
@@ -262,7 +262,7 @@ module _ (readers left : List (Option (List ℕ))) (failed : List Bool) where
   pub ends_unread : (P : List (List ℕ) → RunFault → Type 0) (fault : RunFault) → AreWorking failed → ((files : List (List ℕ)) → P files fault) → EndsOver readers left failed P fault
   ends_unread P fault working so = inr (told_any readers failed (λ files. P files fault) working so)
 
-  pub err_over : {A : Type 0} (Q : List (List ℕ) → Type 0) (P : List (List ℕ) → RunFault → Type 0) (r : Result A RunFault) → AreTold readers failed Q → ((files : List (List ℕ)) → Q files → IfErr r (P files)) → IfErr r (EndsOver readers left failed P)
+  pub err_over : {A : Type 0} (Q : List (List ℕ) → Type 0) (P : List (List ℕ) → RunFault → Type 0) (r : Result A RunFault) → AreGiven readers failed Q → ((files : List (List ℕ)) → Q files → IfErr r (P files)) → IfErr r (EndsOver readers left failed P)
   err_over Q P (Ok done) told then = tt
   err_over Q P (Err fault) told then = inr (told_so readers failed Q (λ files. P files fault) then told)
 
@@ -279,7 +279,7 @@ module _ (readers left : List (Option (List ℕ))) (failed : List Bool) where
   run_unread cut outcome r working so = inr (told_any readers failed (λ files. outcome files r) working so)
 
   pub run_told : {T : Type 0} (cut : Type 0) (outcome : List (List ℕ) → Result T RunFault → Type 0) (P : List (List ℕ) → Type 0) (r : Result T RunFault)
-      → ((files : List (List ℕ)) → P files → outcome files r) → AreTold readers failed P → IsRunOver readers left failed cut outcome r
+      → ((files : List (List ℕ)) → P files → outcome files r) → AreGiven readers failed P → IsRunOver readers left failed cut outcome r
   run_told cut outcome P r then h = inr (told_so readers failed P (λ files. outcome files r) then h)
 
 -- ---- readers over files in memory

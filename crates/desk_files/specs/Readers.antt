@@ -88,7 +88,7 @@ pub record IsLost (readers left : List (Option (List ℕ))) (failed : List Bool)
   pub alone : HasFailedAlone failed n
 
 -- no reader has failed, and this holds of the files that they tell
-pub record AreTold (readers : List (Option (List ℕ))) (failed : List Bool) (holds : List (List ℕ) → Type 0) : Type 0 where
+pub record AreGiven (readers : List (Option (List ℕ))) (failed : List Bool) (holds : List (List ℕ) → Type 0) : Type 0 where
   pub files : List (List ℕ)
   pub told : AllZip Tells readers files
   pub working : AreWorking failed
@@ -97,13 +97,13 @@ pub record AreTold (readers : List (Option (List ℕ))) (failed : List Bool) (ho
 -- a part of a run ended early: reader n has failed, or the fault has its cause in the files that the readers tell
 abbrev pub EndsOver : (readers left : List (Option (List ℕ))) (failed : List Bool) → (List (List ℕ) → RunFault → Type 0) → RunFault → Type 0
 EndsOver readers left failed caused fault =
-    ((n : ℕ) × (fault ≡ ReadFailed n) × IsLost readers left failed n) ⊎ AreTold readers failed (λ files. caused files fault)
+    ((n : ℕ) × (fault ≡ ReadFailed n) × IsLost readers left failed n) ⊎ AreGiven readers failed (λ files. caused files fault)
 
 -- the outcome of a run over readers: reader n has failed, and the run came no further than this; or none has, and the run has an
 -- outcome over the files that they tell
 abbrev pub IsRunOver : {T : Type 0} → (readers left : List (Option (List ℕ))) (failed : List Bool) (cut : Type 0) → (List (List ℕ) → Result T RunFault → Type 0) → Result T RunFault → Type 0
 IsRunOver readers left failed cut outcome result =
-    ((n : ℕ) × (result ≡ Err (ReadFailed n)) × IsLost readers left failed n × cut) ⊎ AreTold readers failed (λ files. outcome files result)
+    ((n : ℕ) × (result ≡ Err (ReadFailed n)) × IsLost readers left failed n × cut) ⊎ AreGiven readers failed (λ files. outcome files result)
 
 -- the same over readers that tell these files: a reader has failed, and no other, or the run has the outcome of a run over
 -- files of these bytes

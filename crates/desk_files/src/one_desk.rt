@@ -6,7 +6,7 @@ ghost use Rattle.bg_types.specs.declared.op.OpView.{OpView as Operation};
 ghost use Rattle.desk_replica.specs.SetOf.{IsSetOf};
 ghost use Rattle.desk_replica.specs.Refusal.{IsFirstRefusal};
 ghost use Rattle.rga_tree.specs.TextOf.{text};
-ghost use Rattle.desk_files.specs.Readers.{IsAsked, IsToldFile, IsUnreadFile, AreWorking, AreAsked, AreTold, EndsOver};
+ghost use Rattle.desk_files.specs.Readers.{IsAsked, IsToldFile, IsUnreadFile, AreWorking, AreAsked, AreGiven, EndsOver};
 ghost use Rattle.desk_files.specs.Files.{IsSetOfFiles};
 ghost use Rattle.desk_files.specs.Taking.{HasTaken, HasTakenBut, IsReordered};
 ghost use Rattle.desk_files.specs.Cause.{IsTakingCaused, step_fault_of};
@@ -37,7 +37,7 @@ const LOOKED_AT: usize = 32;
 /// Cost: that of `take_files`, memory likewise, and O(n) for the text.
 pub fn joined_text<R: Source>(alloc: Global, key: u128, files: &mut [R]) -> Result<String, RunFault>
     requires { AreWorking (each R.has_failed files.old) }
-    ensures ok { IfOk result (λ text. AreTold (each R.remaining files.old) (each R.has_failed files.new)
+    ensures ok { IfOk result (λ text. AreGiven (each R.remaining files.old) (each R.has_failed files.new)
         (λ told. IsTextOfFiles told (string_bytes text))) }
     ensures size { IfOk result (λ text. length (string_bytes text) ≤ 4_000_000) }
     ensures asked { AreAsked (each R.remaining files.old) (each R.remaining files.new) }
@@ -53,7 +53,7 @@ pub fn joined_text<R: Source>(alloc: Global, key: u128, files: &mut [R]) -> Resu
 fn text_with<R: Source>(alloc: Global, files: &mut [R], desk: &mut Desk) -> Result<String, RunFault>
     requires working { AreWorking (each R.has_failed files.old) }
     requires empty { desk.old.set ≡ no_operations }
-    ensures ok { IfOk result (λ text. AreTold (each R.remaining files.old) (each R.has_failed files.new)
+    ensures ok { IfOk result (λ text. AreGiven (each R.remaining files.old) (each R.has_failed files.new)
         (λ told. IsTextOfFiles told (string_bytes text))) }
     ensures size { IfOk result (λ text. length (string_bytes text) ≤ 4_000_000) }
     ensures asked { AreAsked (each R.remaining files.old) (each R.remaining files.new) }
@@ -84,7 +84,7 @@ pub fn take_files<R: Source>(
 ) -> Result<(), RunFault>
     requires working { AreWorking (each R.has_failed files.old) }
     requires empty { desk.old.set ≡ no_operations }
-    ensures ok { OnOk result (AreTold (each R.remaining files.old) (each R.has_failed files.new) (λ told. IsSetOfFiles told desk.new.set)) }
+    ensures ok { OnOk result (AreGiven (each R.remaining files.old) (each R.has_failed files.new) (λ told. IsSetOfFiles told desk.new.set)) }
     ensures limited { OnOk result (size desk.new.set ≤ 1_000_000) }
     ensures site { desk.new.site ≡ desk.old.site }
     ensures asked { AreAsked (each R.remaining files.old) (each R.remaining files.new) }

@@ -5,7 +5,7 @@ ghost use Rattle.std.specs.List.{AllZip, AllByRecursion};
 ghost use Rattle.bg_types.specs.declared.op.OpView.{OpView as Operation};
 ghost use Rattle.op_codec.specs.Feed.{IsSound, StandsAfter, added};
 ghost use Rattle.desk_files.specs.Reading.{limit, IsReadAs, IsSoundTo, Flaw, IsFlawed, IsFlawedBy, flaw_fault};
-ghost use Rattle.desk_files.specs.Readers.{IsAsked, IsToldFile, IsUnreadFile, AreWorking, AreAsked, AreTold, EndsOver};
+ghost use Rattle.desk_files.specs.Readers.{IsAsked, IsToldFile, IsUnreadFile, AreWorking, AreAsked, AreGiven, EndsOver};
 ghost use Rattle.desk_files.specs.Files.{lists_of};
 ghost use Rattle.desk_files.specs.Cause.{IsReadCaused, file_fault_of};
 
@@ -22,7 +22,7 @@ pub const PIECE: usize = 4_096;
 /// Cost: O(n), memory for the operations, in pieces of 4,096 bytes.
 pub fn read_all<R: Source>(alloc: Global, files: &mut [R]) -> Result<Vec<Vec<Op>>, RunFault>
     requires { AreWorking (each R.has_failed files.old) }
-    ensures ok { IfOk result (λ all. AreTold (each R.remaining files.old) (each R.has_failed files.new)
+    ensures ok { IfOk result (λ all. AreGiven (each R.remaining files.old) (each R.has_failed files.new)
         (λ told. AllZip IsReadAs told (lists_of all.items))) }
     ensures count { IfOk result (λ all. length all.items ≡ length files.old) }
     ensures asked { AreAsked (each R.remaining files.old) (each R.remaining files.new) }

@@ -8,7 +8,7 @@ use Rattle.bg_types.specs.Sink.{AppendsBeginning}
 use Rattle.op_codec.specs.declared.position.Version.{Version}
 use Rattle.op_codec.specs.Spelling.{SpellsIn}
 use Rattle.desk_files.specs.declared.run_fault.RunFault.TheVariants.{Device}
-use Rattle.desk_files.specs.Readers.{AreWorking, AreTold, EndsOver}
+use Rattle.desk_files.specs.Readers.{AreWorking, AreGiven, EndsOver}
 use Rattle.desk_files.specs.Files.{IsSetOfFiles}
 use Rattle.desk_files.specs.Cause.{IsTakingCaused}
 use Rattle.desk_files.specs.Written.{IsSilent}
@@ -37,9 +37,9 @@ pub record IsUnfitFor (files : List (List ℕ)) (change : Change) (text : List �
 abbrev pub IsUntyped : (readers left : List (Option (List ℕ))) (lost : List Bool) → Change → (text : List ℕ) → TypingFault → Type 0
 IsUntyped readers left lost change text (NotUtf8 byte) = AreWorking lost × (¬ (IsUtf8 text)) × (byte ≡ utf8_valid_len text)
 IsUntyped readers left lost change text (Run fault) = IsUtf8 text × EndsOver readers left lost IsTakingCaused fault
-IsUntyped readers left lost change text (PastEnd place erased) = AreTold readers lost (λ files. IsUnfitFor files change text (PastEnd place erased))
-IsUntyped readers left lost change text Full = AreTold readers lost (λ files. IsUnfitFor files change text Full)
-IsUntyped readers left lost change text CounterSpent = AreTold readers lost (λ files. IsUnfitFor files change text CounterSpent)
+IsUntyped readers left lost change text (PastEnd place erased) = AreGiven readers lost (λ files. IsUnfitFor files change text (PastEnd place erased))
+IsUntyped readers left lost change text Full = AreGiven readers lost (λ files. IsUnfitFor files change text Full)
+IsUntyped readers left lost change text CounterSpent = AreGiven readers lost (λ files. IsUnfitFor files change text CounterSpent)
 
 -- the written bytes grew by the file of the change
 pub record WritesTyped (version : Version) (files : List (List ℕ)) (change : Change) (text : List ℕ) (old new : Option (List ℕ)) : Type 0 where
@@ -56,7 +56,7 @@ pub record WritesTypedBeginning (version : Version) (files : List (List ℕ)) (c
 -- the outcome of a run over readers, by its answer: the file of the change is written; or nothing, where there is none; or a
 -- beginning of it, for a failed write
 abbrev pub IsTypedOutcome : Version → (readers left : List (Option (List ℕ))) (lost : List Bool) → Change → (text : List ℕ) (old new : Option (List ℕ)) (failed : Bool) → Result (Unit {0}) TypingFault → Type 0
-IsTypedOutcome version readers left lost change text old new failed (Ok done) = (failed ≡ false) × AreTold readers lost (λ files. WritesTyped version files change text old new)
+IsTypedOutcome version readers left lost change text old new failed (Ok done) = (failed ≡ false) × AreGiven readers lost (λ files. WritesTyped version files change text old new)
 IsTypedOutcome version readers left lost change text old new failed (Err fault) =
     (IsUntyped readers left lost change text fault × IsSilent old new failed)
-    ⊎ ((fault ≡ Run Device) × (failed ≡ true) × AreTold readers lost (λ files. WritesTypedBeginning version files change text old new))
+    ⊎ ((fault ≡ Run Device) × (failed ≡ true) × AreGiven readers lost (λ files. WritesTypedBeginning version files change text old new))

@@ -4,7 +4,7 @@ ghost use Rattle.std.specs.Prelude.{◌≡◌, ◌<◌, ◌⊎◌, false, map as
 ghost use Rattle.std.specs.Str.{chars};
 ghost use Rattle.bg_types.specs.OperationSet.{no_operations};
 ghost use Rattle.op_codec.specs.Spelling.{SpellsIn};
-ghost use Rattle.desk_files.specs.Readers.{AreWorking, AreAsked, AreTold};
+ghost use Rattle.desk_files.specs.Readers.{AreWorking, AreAsked, AreGiven};
 ghost use Rattle.desk_typing.specs.Changing.{operations_of, Fits, IsUnfit};
 ghost use Rattle.desk_typing.specs.TypedOutcome.{IsTypedFile, IsUntyped, IsTypedOutcome};
 
@@ -57,7 +57,7 @@ fn typed_file<R: Source>(
 ) -> Result<Vec<u8>, TypingFault>
     requires site { 0 < change.now.site }
     requires readers { AreWorking (each R.has_failed files.old) }
-    ensures ok { IfOk result (λ file. AreTold (each R.remaining files.old) (each R.has_failed files.new)
+    ensures ok { IfOk result (λ file. AreGiven (each R.remaining files.old) (each R.has_failed files.new)
         (λ told. IsTypedFile version told change.now text.now file.items)) }
     ensures asked { AreAsked (each R.remaining files.old) (each R.remaining files.new) }
     ensures fault { IfErr result (IsUntyped (each R.remaining files.old) (each R.remaining files.new) (each R.has_failed files.new) change.now text.now) }
@@ -84,7 +84,7 @@ fn file_with<R: Source>(
     requires readers { AreWorking (each R.has_failed files.old) }
     requires empty { desk.old.set ≡ no_operations }
     requires own { desk.old.site ≡ change.now.site }
-    ensures ok { IfOk result (λ file. AreTold (each R.remaining files.old) (each R.has_failed files.new)
+    ensures ok { IfOk result (λ file. AreGiven (each R.remaining files.old) (each R.has_failed files.new)
         (λ told. IsTypedFile version told change.now text.now file.items)) }
     ensures asked { AreAsked (each R.remaining files.old) (each R.remaining files.new) }
     ensures fault { IfErr result (IsUntyped (each R.remaining files.old) (each R.remaining files.new) (each R.has_failed files.new) change.now text.now) }

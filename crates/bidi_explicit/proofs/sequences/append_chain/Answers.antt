@@ -24,7 +24,7 @@ loop-start-init c =
           (IsWalkedTo-start (linked controls places) (length places) forward first (run_places old) c.requires.first);
       before =
           before-more old old _ (run_of first (c.in_ok-last.last + 1)) (take_all (length old) old (omega arith)) c.in_ok-last.ensures.appended;
-      told = c.in_ok-last.ensures.told;
+      told = c.in_ok-last.ensures.noted;
     }
 
 pub next-requires-clause-pdi : goal.next-requires-clause-pdi
@@ -50,7 +50,7 @@ loop-start-preserved c =
           (IsWalkedTo-on (linked controls places) (length places) forward c.args.first c.loop-start.last (run_places old) (run_places runs) start
           c.loop-start.invariant.walked next);
       before = before-more old runs _ (run_of start (c.in_ok-last-2.last + 1)) c.loop-start.invariant.before c.in_ok-last-2.ensures.appended;
-      told = c.in_ok-last-2.ensures.told;
+      told = c.in_ok-last-2.ensures.noted;
     }
 
 pub loop-start-smaller : goal.loop-start-smaller

@@ -8,7 +8,7 @@ use Rattle.bidi_explicit.specs.Links.{linked, is_unclosed_at}
 use Rattle.bidi_explicit.specs.LevelRuns.{HasPlace, IsRun, has_start, run_places}
 use Rattle.bidi_explicit.proofs.Linking.{linked-forward, linked-from_kept}
 use Rattle.bidi_explicit.proofs.Gathering.{IsGathered-start}
-use Rattle.bidi_explicit.proofs.Runs.{AreTold-start, has-start}
+use Rattle.bidi_explicit.proofs.Runs.{AreNoted-start, has-start}
 use Rattle.bidi_explicit.proofs.Taken.{IsTaken-start, begins-is}
 use Rattle.bidi_explicit.proofs.Walking.{IsDone, IsDone-past, IsDone-more, IsNext-is}
 use Rattle.bidi_explicit.proofs.sequences.append_sequences.Goals as goal
@@ -21,7 +21,7 @@ loop-first-init c = record {
         rw (c.requires.runs, c.requires.extents)
         (IsGathered-start c.args.level (linked c.args.controls.now c.args.places.now) (is_unclosed_at c.args.controls.now) c.args.places.now);
     taken = rw c.requires.runs (IsTaken-start (linked c.args.controls.now c.args.places.now) c.args.places.now);
-    told = rw (c.requires.runs, c.requires.ends) (AreTold-start c.args.places.now);
+    told = rw (c.requires.runs, c.requires.ends) (AreNoted-start c.args.places.now);
   };
   edge = λ before at. absurd (omega arith);
   within = omega arith;
@@ -51,7 +51,7 @@ loop-first-preserved c =
       | then-begins+in_ok-extent+in_ok-push w ↦
           rw (w.runs-is, w.extents-is, w.ends-is)
           (IsDone-more level controls places c.requires.matched c.requires.kept c.requires.long first inside runs extents ends so_far (sym b ∙ w.if-begins.true)
-          _ w.in_ok-extent.extent _ _ w.in_ok-extent.ensures.before w.in_ok-extent.ensures.chain w.in_ok-extent.ensures.extent w.in_ok-push.ensures.items w.in_ok-extent.ensures.told)
+          _ w.in_ok-extent.extent _ _ w.in_ok-extent.ensures.before w.in_ok-extent.ensures.chain w.in_ok-extent.ensures.extent w.in_ok-push.ensures.items w.in_ok-extent.ensures.noted)
       | else-begins w ↦
           rw (w.runs-is, w.extents-is, w.ends-is)
           (IsDone-past level controls places c.requires.matched c.requires.kept c.requires.long first inside runs extents ends so_far (sym b ∙ w.if-begins.false))

@@ -8,8 +8,8 @@ use Rattle.c_answers.specs.Copying.{IsWritten}
 use Rattle.c_documents.specs.declared.told_document.ToldDocument.{ToldDocument}
 use Rattle.bidigrid_c.proofs.window_prints.bidigrid_document_print.Goals as goal
 
-pub returns-clause-told : goal.returns-clause-told
-returns-clause-told c =
+pub returns-clause-written : goal.returns-clause-written
+returns-clause-written c =
     let it = c.tell_print-answer in
     subst (λ (o : Option ToldDocument). IfSome o (λ d. IsWritten (printed (shown_grid d.document)) c.args.out.now it.new.out it.new.size it.result))
     (ap Some c.deref.ensures ∙ sym c.in-Some.ensures.taken) it.ensures

@@ -8,8 +8,8 @@ use Rattle.c_answers.specs.Copying.{IsLeft, IsWritten}
 use Rattle.c_documents.specs.declared.told_document.ToldDocument.{ToldDocument}
 use Rattle.bidigrid_c.proofs.window_prints.bidigrid_document_row_print.Goals as goal
 
-pub returns-clause-told : goal.returns-clause-told
-returns-clause-told c =
+pub returns-clause-written : goal.returns-clause-written
+returns-clause-written c =
     let it = c.tell_row_print-answer in
     let number = c.args.number in
     let before = c.args.out.now in
