@@ -1,4 +1,4 @@
--- Sequences as stretches of one list of level runs.
+-- Sequences as parts of one list of level runs.
 use Rattle.std.specs.Prelude.{ℕ, ◌≡◌, ◌≤◌, Bool, true, Option, Some, List, map, length, slice_range}
 use Rattle.std.specs.List.{All}
 use Rattle.bidi_explicit.specs.declared.embedded.Extent.{Extent}
@@ -31,7 +31,7 @@ IsPart runs e = (e.start ≤ e.end) × (e.end ≤ length runs)
 abbrev pub IsKept : List (Option Kept) → ℕ → Type 0
 IsKept places i = is_kept places i ≡ true
 
--- each sequence is a stretch of the runs, which have only kept places, and each of them some
+-- each sequence is a part of the runs without a gap, which have only kept places, and each of them some
 pub record IsWithin (places : List (Option Kept)) (runs : List LevelRun) (extents : List Extent) : Type 0 where
   pub stretches : All (IsPart runs) extents
   pub some : All HasPlace runs

@@ -95,7 +95,7 @@ abbrev pub drive : Machine → List Token → Machine
 drive m [] = m
 drive m (t ∷ ts) = drive (advance t.1 m) ts
 
--- what an isolate that is opened before a list holds
+-- the content of an isolate that is opened before a list
 abbrev pub content : Nodes → Nodes
 content ns = elim (split_at_pdi ns) [ Some p ↦ p.0 | None ↦ ns ]
 

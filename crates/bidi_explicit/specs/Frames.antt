@@ -69,7 +69,7 @@ IsClosed (char c rest) = IsClosed rest
 IsClosed (isolate i held rest) = IsClosed rest
 IsClosed (unclosed i held) = ⊥
 
--- an initiator begins each isolate, and what a closed isolate holds has no PDI of its own and only closed isolates
+-- an initiator begins each isolate, and the content of a closed isolate has no PDI of its own and only closed isolates
 abbrev pub IsNested : Nodes → Type 0
 IsNested end = Unit {0}
 IsNested (char c rest) = (is_initiator c ≡ false) × IsNested rest

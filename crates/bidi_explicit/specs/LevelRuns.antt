@@ -1,4 +1,4 @@
--- Level runs: places in a row at one level (UAX #9, BD7), and what is known of those that sequences have already.
+-- Level runs: neighbouring places at one level (UAX #9, BD7), and what is known of those that sequences have already.
 use Rattle.std.specs.Prelude.{ℕ, ◌+◌, ◌-◌, ◌==◌, ◌<◌, ◌≤◌, ◌≡◌, not, Bool, true, false, Option, List, length, slice_index_or}
 use Rattle.std.specs.List.{All, flat_map, list_any, range_with_len}
 use Rattle.bidi_explicit.specs.declared.kept.Kept.{Kept}
@@ -27,7 +27,7 @@ IsLevelRun places start end = (k : ℕ) → start < k → k < end → same_level
 abbrev pub IsEdge : List (Option Kept) → ℕ → Type 0
 IsEdge places i = (before : ℕ) → before + 1 ≡ i → same_level (kept_at places before) (kept_at places i) ≡ false
 
--- a run of a place and all behind it, in a row, that are kept at its level
+-- a run of a place and all that follow it directly, kept at its level
 pub record IsRun (places : List (Option Kept)) (r : LevelRun) : Type 0 where
   pub some : HasPlace r
   pub within : r.end ≤ length places
@@ -38,7 +38,7 @@ pub record IsRun (places : List (Option Kept)) (r : LevelRun) : Type 0 where
 abbrev pub has_start : List LevelRun → ℕ → Bool
 has_start runs i = list_any (λ (r : LevelRun). i == r.start) runs
 
--- these are level runs, and the ends tell of each place where the one that begins there ends, or 0 if none does
+-- these are level runs, and the ends say of each place where the one that begins there ends, or 0 if none does
 pub record AreNoted (places : List (Option Kept)) (runs : List LevelRun) (ends : List ℕ) : Type 0 where
   pub whole : All (IsRun places) runs
   pub begun : (i : ℕ) → i < length ends → (slice_index_or ends i 0 == 0) ≡ not (has_start runs i)

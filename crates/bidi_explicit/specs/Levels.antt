@@ -91,7 +91,7 @@ own_step (Embedding odd forced) d s = opened odd forced d s
 own_step PopEmbedding d s = closed s
 own_step _ d s = s
 
--- X5a to X5c: an isolate wants an odd level; FSI asks what it holds
+-- X5a to X5c: an isolate wants an odd level; FSI asks for its content
 abbrev pub wants_odd : Bidi → Nodes → Bool
 wants_odd Rli held = true
 wants_odd Fsi held = base held == 1

@@ -1,4 +1,4 @@
--- Nesting: a paragraph's classes as a list of nodes, characters and isolates with what they hold (UAX #9, BD8 and BD9).
+-- Nesting: a paragraph's classes as a list of nodes, characters and isolates with their content (UAX #9, BD8 and BD9).
 use Rattle.std.specs.Prelude.{ℕ, suc, ◌+◌, Bool, true, false, List, [], ◌∷◌, ◌++◌, length, drop, slice_get, Option, Some, None, if◌then◌else◌}
 use Rattle.bg_types.specs.declared.class.Bidi.{Bidi}
 use Rattle.bg_types.specs.declared.class.Bidi.TheVariants.{L, R, Al, Lri, Rli, Fsi, Pdi}
@@ -8,7 +8,7 @@ pub data Nodes : Type 0 where
   end : Nodes
   -- a character, and the nodes after it
   char : Bidi → Nodes → Nodes
-  -- an isolate that a PDI closes: its initiator, what it holds, and the nodes after its PDI
+  -- an isolate that a PDI closes: its initiator, its content, and the nodes after its PDI
   isolate : Bidi → Nodes → Nodes → Nodes
   -- an isolate that nothing closes, which holds all that is left
   unclosed : Bidi → Nodes → Nodes

@@ -1,4 +1,4 @@
-//! Level runs: places in a row at one level (UAX #9, BD7).
+//! Level runs: neighbouring places at one level (UAX #9, BD7).
 
 ghost use Rattle.std.specs.Prelude.{◌≡◌, ◌<◌, ◌+◌, ◌++◌, ◌∷◌, [], IfOk, OnOk, length};
 ghost use Rattle.bidi_explicit.specs.Sequences.{same_level};

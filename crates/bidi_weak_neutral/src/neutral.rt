@@ -81,7 +81,7 @@ fn implicit_level(level: u8, class: Bidi) -> u8
     }
 }
 
-/// Puts a level at a place, and at those of its class that follow it in a row. Returns the place behind them.
+/// Puts a level at a place, and at those of its class that follow it directly. Returns the place behind them.
 #[inline(always)]
 fn put_row(levels: &mut [u8], types: &[Bidi], start: usize, class: Bidi, level: u8) -> usize
     requires start { start < length types.now }

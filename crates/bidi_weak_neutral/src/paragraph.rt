@@ -122,7 +122,7 @@ fn put_back(
     Ok(())
 }
 
-/// Resolves the levels in a list that holds the paragraph level throughout.
+/// Resolves the levels in a list that has the paragraph level throughout.
 fn resolve_levels(
     alloc: Global,
     tables: &Tables,

@@ -24,7 +24,7 @@ fn class_of(kept: Option<Kept>) -> Bidi
     }
 }
 
-/// Appends the types of what is kept at places in a row.
+/// Appends the types of what is kept at neighbouring places.
 fn append_types(kept: &[Option<Kept>], types: &mut Vec<Bidi>) -> Result<(), Memory>
     ensures { OnOk result (types.new.items ≡ types.old.items ++ map type_of kept.now) }
 {

@@ -1,4 +1,4 @@
-//! What the library tells of itself.
+//! What the library says of itself.
 
 ghost use Rattle.std.specs.Prelude.{◌≡◌};
 

@@ -16,7 +16,7 @@ use c_pictures::{
 };
 use std::alloc::Global;
 
-/// Tells the caret at a place of the text.
+/// Writes the caret at a place of the text.
 #[unsafe(no_mangle)]
 pub extern "C" fn bidigrid_caret_at(
     alloc: Global,
@@ -37,7 +37,7 @@ pub extern "C" fn bidigrid_caret_at(
     answer
 }
 
-/// Tells the caret where a mouse points: in a row at the last gap that is not right of a column.
+/// Writes the caret where a mouse points: in a row at the last gap that is not right of a column.
 #[unsafe(no_mangle)]
 pub extern "C" fn bidigrid_caret_under(
     alloc: Global,

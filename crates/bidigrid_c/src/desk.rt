@@ -1,4 +1,4 @@
-//! Desks: made, opened from a file, paid for, freed.
+//! Desks: made, opened from a file, given memory in advance, freed.
 
 ghost use Rattle.std.specs.Prelude.{◌≡◌, ◌⊎◌, ◌<◌, max, Some, None};
 ghost use Rattle.std.specs.Option.{IfSome};
@@ -69,7 +69,7 @@ pub extern "C" fn bidigrid_desk_free(alloc: Global, desk: &mut DeskHandle)
     }
 }
 
-/// Pays in advance for new operations.
+/// Reserves memory for new operations.
 #[unsafe(no_mangle)]
 pub extern "C" fn bidigrid_desk_reserve(
     alloc: Global,

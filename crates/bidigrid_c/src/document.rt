@@ -1,4 +1,4 @@
-//! Documents: made, opened from a file, drawn at another width, paid for, freed, and how many rows they keep.
+//! Documents: made, opened from a file, drawn at another width, given memory in advance, freed, and how many rows they keep.
 
 ghost use Rattle.std.specs.Prelude.{◌≡◌, ◌⊎◌, ◌<◌, Some, None};
 ghost use Rattle.std.specs.Option.{IfSome};
@@ -163,7 +163,7 @@ pub extern "C" fn bidigrid_document_keep_rows(
     answer
 }
 
-/// Pays in advance for new operations.
+/// Reserves memory for new operations.
 #[unsafe(no_mangle)]
 pub extern "C" fn bidigrid_document_reserve(
     alloc: Global,

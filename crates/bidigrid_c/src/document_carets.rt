@@ -13,7 +13,7 @@ use c_documents::{
 };
 use std::alloc::Global;
 
-/// Tells where the caret stands at a place of the text.
+/// Writes where the caret stands at a place of the text.
 #[unsafe(no_mangle)]
 pub extern "C" fn bidigrid_position_at(
     alloc: Global,
@@ -36,7 +36,7 @@ pub extern "C" fn bidigrid_position_at(
     answer
 }
 
-/// Tells where the caret stands where a mouse points: in the row of a place, at the last gap that is not right of a column.
+/// Writes where the caret stands where a mouse points: in the row of a place, at the last gap that is not right of a column.
 #[unsafe(no_mangle)]
 pub extern "C" fn bidigrid_position_under(
     alloc: Global,

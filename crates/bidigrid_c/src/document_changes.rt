@@ -8,7 +8,7 @@ use c_answers::EMPTY_HANDLE;
 use c_documents::{ChangeNumbers, DocumentHandle, tell_changes};
 use std::alloc::Global;
 
-/// Tells what the last edit, take or merge changed in the text, in order.
+/// Lists what the last edit, take or merge changed in the text, in order.
 #[unsafe(no_mangle)]
 pub extern "C" fn bidigrid_document_changes(
     alloc: Global,

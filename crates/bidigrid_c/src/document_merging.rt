@@ -1,4 +1,4 @@
-//! Documents take all that another one holds, and keep what that changed.
+//! Documents take all that another one has, and tell what that changed.
 
 ghost use Rattle.std.specs.Prelude.{◌≡◌, None};
 ghost use Rattle.std.specs.Option.{IfSome};
@@ -8,7 +8,7 @@ use c_answers::{EMPTY_HANDLE, OK};
 use c_documents::{DocumentHandle, merge_from};
 use std::alloc::Global;
 
-/// Lets a document take all that another one holds.
+/// Lets a document take all that another one has.
 #[unsafe(no_mangle)]
 pub extern "C" fn bidigrid_document_merge(
     alloc: Global,
@@ -29,7 +29,7 @@ pub extern "C" fn bidigrid_document_merge(
     answer
 }
 
-/// Lets a document take all that it holds itself: it stays as it is, and nothing is told.
+/// Lets a document take all that it has itself: it stays as it is, and nothing is told.
 #[unsafe(no_mangle)]
 pub extern "C" fn bidigrid_document_merge_itself(
     alloc: Global,

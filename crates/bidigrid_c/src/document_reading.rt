@@ -1,4 +1,4 @@
-//! What a document holds: its text, identifiers and places, and all of it as a file. Its desk tells it.
+//! What a document has: its text, identifiers and places, and all of it as a file, from its desk.
 
 ghost use Rattle.std.specs.Prelude.{◌≡◌, ◌<◌, None, length, encode_utf8_all};
 ghost use Rattle.std.specs.Option.{IfSome};
@@ -34,7 +34,7 @@ pub extern "C" fn bidigrid_document_text(
     answer
 }
 
-/// Tells how many characters a document's text has.
+/// Writes how many characters a document's text has.
 #[unsafe(no_mangle)]
 pub extern "C" fn bidigrid_document_length(
     alloc: Global,
@@ -54,7 +54,7 @@ pub extern "C" fn bidigrid_document_length(
     answer
 }
 
-/// Tells the identifier of the character at a place.
+/// Writes the identifier of the character at a place.
 #[unsafe(no_mangle)]
 pub extern "C" fn bidigrid_document_id_at(
     alloc: Global,
@@ -75,7 +75,7 @@ pub extern "C" fn bidigrid_document_id_at(
     answer
 }
 
-/// Tells how many characters stand before the one with an identifier, which may be erased.
+/// Writes how many characters stand before the one with an identifier, which may be erased.
 #[unsafe(no_mangle)]
 pub extern "C" fn bidigrid_document_place_of(
     alloc: Global,
@@ -96,7 +96,7 @@ pub extern "C" fn bidigrid_document_place_of(
     answer
 }
 
-/// Writes all that a document holds, as a message.
+/// Writes all that a document has, as a message.
 #[unsafe(no_mangle)]
 pub extern "C" fn bidigrid_document_file(
     alloc: Global,

@@ -1,4 +1,4 @@
-//! Documents take messages, and keep what these changed.
+//! Documents take messages, and tell what these changed.
 
 ghost use Rattle.std.specs.Prelude.{◌≡◌, None};
 ghost use Rattle.std.specs.Option.{IfSome};

@@ -1,4 +1,4 @@
-//! Merging desks: one takes all that another one holds.
+//! Merging desks: one takes all that another one has.
 
 ghost use Rattle.std.specs.Prelude.{◌≡◌, None};
 ghost use Rattle.std.specs.Option.{IfSome};
@@ -8,7 +8,7 @@ use c_answers::{EMPTY_HANDLE, OK};
 use c_desks::{DeskHandle, merge_from};
 use std::alloc::Global;
 
-/// Lets a desk take all that another one holds.
+/// Lets a desk take all that another one has.
 #[unsafe(no_mangle)]
 pub extern "C" fn bidigrid_desk_merge(
     alloc: Global,
@@ -29,7 +29,7 @@ pub extern "C" fn bidigrid_desk_merge(
     answer
 }
 
-/// Lets a desk take all that it holds itself: it stays as it is.
+/// Lets a desk take all that it has itself: it stays as it is.
 #[unsafe(no_mangle)]
 pub extern "C" fn bidigrid_desk_merge_itself(alloc: Global, desk: &mut DeskHandle) -> u32
     ensures merged { IfSome desk.old.held (λ _. result ≡ 0) }

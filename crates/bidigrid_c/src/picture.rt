@@ -54,7 +54,7 @@ pub extern "C" fn bidigrid_picture_free(alloc: Global, picture: &mut PictureHand
     }
 }
 
-/// Tells how many rows a picture has, at least one.
+/// Writes how many rows a picture has, at least one.
 #[unsafe(no_mangle)]
 pub extern "C" fn bidigrid_picture_rows(
     alloc: Global,
@@ -74,7 +74,7 @@ pub extern "C" fn bidigrid_picture_rows(
     answer
 }
 
-/// Tells of a row, counted from 0 at the top.
+/// Writes what a row has, counted from 0 at the top.
 #[unsafe(no_mangle)]
 pub extern "C" fn bidigrid_picture_row(
     alloc: Global,
@@ -95,7 +95,7 @@ pub extern "C" fn bidigrid_picture_row(
     answer
 }
 
-/// Tells of an entry of a row, counted from 0 at the left.
+/// Writes what an entry of a row has, counted from 0 at the left.
 #[unsafe(no_mangle)]
 pub extern "C" fn bidigrid_picture_entry(
     alloc: Global,
@@ -117,7 +117,7 @@ pub extern "C" fn bidigrid_picture_entry(
     answer
 }
 
-/// Tells of all entries of a row, from the left.
+/// Writes what all entries of a row have, from the left.
 #[unsafe(no_mangle)]
 pub extern "C" fn bidigrid_picture_entries(
     alloc: Global,

@@ -52,7 +52,7 @@ pub extern "C" fn bidigrid_picture_row_print(
     answer
 }
 
-/// Tells of each entry of a row, from the left, how many bytes its cells have in the row's print.
+/// Writes of each entry of a row, from the left, how many bytes its cells have in the row's print.
 #[unsafe(no_mangle)]
 pub extern "C" fn bidigrid_picture_entry_sizes(
     alloc: Global,

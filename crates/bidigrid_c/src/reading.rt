@@ -1,4 +1,4 @@
-//! What a desk holds: its text, identifiers and places, and all of it as a file.
+//! What a desk has: its text, identifiers and places, and all of it as a file.
 
 ghost use Rattle.std.specs.Prelude.{◌≡◌, ◌<◌, None, length, encode_utf8_all};
 ghost use Rattle.std.specs.Option.{IfSome};
@@ -36,7 +36,7 @@ pub extern "C" fn bidigrid_desk_text(
     answer
 }
 
-/// Tells how many characters a desk's text has.
+/// Writes how many characters a desk's text has.
 #[unsafe(no_mangle)]
 pub extern "C" fn bidigrid_desk_length(
     alloc: Global,
@@ -56,7 +56,7 @@ pub extern "C" fn bidigrid_desk_length(
     answer
 }
 
-/// Tells the identifier of the character at a place.
+/// Writes the identifier of the character at a place.
 #[unsafe(no_mangle)]
 pub extern "C" fn bidigrid_desk_id_at(
     alloc: Global,
@@ -77,7 +77,7 @@ pub extern "C" fn bidigrid_desk_id_at(
     answer
 }
 
-/// Tells how many characters stand before the one with an identifier, which may be erased.
+/// Writes how many characters stand before the one with an identifier, which may be erased.
 #[unsafe(no_mangle)]
 pub extern "C" fn bidigrid_desk_place_of(
     alloc: Global,
@@ -98,7 +98,7 @@ pub extern "C" fn bidigrid_desk_place_of(
     answer
 }
 
-/// Writes all that a desk holds, as a message.
+/// Writes all that a desk has, as a message.
 #[unsafe(no_mangle)]
 pub extern "C" fn bidigrid_desk_file(
     alloc: Global,

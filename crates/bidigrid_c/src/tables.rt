@@ -71,7 +71,7 @@ pub extern "C" fn bidigrid_tables_unicode(
     }
 }
 
-/// Frees what a handle holds. Pictures that were drawn by the tables keep them.
+/// Frees what a handle holds. Pictures that were drawn by the tables have a share in them.
 #[unsafe(no_mangle)]
 pub extern "C" fn bidigrid_tables_free(alloc: Global, tables: &mut TablesHandle)
     ensures { tables.new.held ≡ None }

@@ -53,7 +53,7 @@ pub extern "C" fn bidigrid_document_row_print(
     answer
 }
 
-/// Tells of each entry of a row that is shown, from the left, how many bytes its cells have in the row's print.
+/// Writes of each entry of a row that is shown, from the left, how many bytes its cells have in the row's print.
 #[unsafe(no_mangle)]
 pub extern "C" fn bidigrid_document_entry_sizes(
     alloc: Global,

@@ -10,7 +10,7 @@ use c_documents::{DocumentHandle, tell_entries, tell_row};
 use c_pictures::{EntryNumbers, RowNumbers, entry_numbers, no_row};
 use std::alloc::Global;
 
-/// Tells of a row that is shown, counted from 0 at the top.
+/// Writes what a row that is shown has, counted from 0 at the top.
 #[unsafe(no_mangle)]
 pub extern "C" fn bidigrid_document_row(
     alloc: Global,
@@ -31,7 +31,7 @@ pub extern "C" fn bidigrid_document_row(
     answer
 }
 
-/// Tells of all entries of a row that is shown, from the left.
+/// Writes what all entries of a row that is shown have, from the left.
 #[unsafe(no_mangle)]
 pub extern "C" fn bidigrid_document_entries(
     alloc: Global,

@@ -79,7 +79,7 @@ pub record HasRoomFor (desk : Desk) (from to n room : ℕ) : Type 0 where
   pub limited : size desk.set + ((to - from) + n) ≤ 1_000_000
   pub fits : replaced_size (to - from) n ≤ room
 
--- no message was written for this fault: only a short buffer is told the size of one
+-- no message was written for this fault: only for a short buffer is the size of one written
 abbrev pub IsUnwritten : (before after : List ℕ) → (told answer : ℕ) → Type 0
 IsUnwritten before after told answer = (after ≡ before) × ((answer ≡ 102 → ⊥) → told ≡ 0)
 
@@ -133,7 +133,7 @@ IsRefusedReplacing desk from to bytes room told answer =
 
 -- ---- taking and merging
 
--- a desk took the first operations of a list, as many as were told: all, or those before the one that it refused
+-- a desk took the first operations of a list, as many as the answer says: all, or those before the one that it refused
 pub record IsTakenUpTo (desk : Desk) (ops : List OpView) (new : Desk) (told answer : ℕ) : Type 0 where
   pub taken : AreTaken desk ops told new
   pub all : answer ≡ 0 → told ≡ length ops
@@ -149,8 +149,8 @@ IsUnread bytes told answer =
     ((fault : CodecFault) × TellsFault bytes fault × (answer ≡ message_number fault) × (told ≡ none_taken (unwrap_or (frame_number fault) 0)))
     ⊎ ((answer ≡ 116) × IsTooLong bytes × (told ≡ none_taken 0))
 
--- a message was taken: its bytes spell operations, taken in order as far as was told; or it was not read, and the desk is as it
--- was
+-- a message was taken: its bytes spell operations, taken in order as far as the answer says; or it was not read, and the desk
+-- is as it was
 abbrev pub IsMessageTaken : Desk → (bytes : List ℕ) → Desk → Taken → (answer : ℕ) → Type 0
 IsMessageTaken desk bytes new told answer =
     ((ops : List OpView) × Spells bytes ops × (told.operations ≡ length ops) × (told.frame ≡ 0) × IsTakenUpTo desk ops new told.taken answer)
@@ -172,15 +172,15 @@ merge_number (Err fault) = take_number fault
 abbrev pub IsMergedWith : Desk → Desk → Desk → (answer : ℕ) → Type 0
 IsMergedWith desk other new answer = (met : Result ℕ TakeFault) × IsMerge desk other new met × (answer ≡ merge_number met)
 
--- ---- telling
+-- ---- answering
 
--- the identifier at a place was told, or there is no such place
+-- the identifier at a place was written, or there is no such place
 abbrev pub IsIdentifierWritten : OperationSet → (place : ℕ) → (told : IdentifierNumbers) → (answer : ℕ) → Type 0
 IsIdentifierWritten s place told answer =
     ((answer ≡ 0) × (slice_get (visible_ids s) place ≡ Some (record { counter = told.counter; site = told.site })))
     ⊎ ((answer ≡ 107) × (length (visible s) ≤ place) × (told ≡ no_identifier))
 
--- the place of an identifier was told; or it has none, or is none
+-- the place of an identifier was written; or it has none, or is none
 abbrev pub IsPlaceWritten : OperationSet → IdentifierNumbers → (told answer : ℕ) → Type 0
 IsPlaceWritten s id told answer =
     let it : Identifier = record { counter = id.counter; site = id.site } in

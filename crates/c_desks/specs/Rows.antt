@@ -1,4 +1,4 @@
--- What stands behind the handle of a desk: the row of its type.
+-- What is behind the handle of a desk: an entry for its type.
 use denote.RattleType.{RattleType}
 use Rattle.rga_runs.specs.contracts.runs.Runs as runs
 use Rattle.rga_runs.specs.contracts.runs.RunsSequence.TheImpl.{ghosts}

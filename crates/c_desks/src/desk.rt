@@ -1,4 +1,4 @@
-//! Desks: made, opened from a file, paid for, freed.
+//! Desks: made, opened from a file, given memory in advance, freed.
 
 ghost use Rattle.std.specs.Prelude.{◌≡◌, ◌⊎◌, ◌<◌, ◌+◌, ◌*◌, max, IfOk, IfErr};
 ghost use Rattle.desk_replica.specs.Desk.{fresh};
@@ -17,13 +17,13 @@ use std::alloc::Global;
 /// A desk over the sequence in stretches.
 pub type Desk = Replica<Runs>;
 
-/// How many operations a desk keeps at most.
+/// How many operations a desk has at most.
 pub const MOST_KEPT: usize = MOST_OPERATIONS as usize;
 
 /// The greatest site.
 pub(crate) const MOST_SITE: u32 = 65_535;
 
-/// A desk of a site without operations, to be held, or the number of the fault.
+/// A desk of a site without operations, for a handle, or the number of the fault.
 pub fn new_desk(alloc: Global, site: u32, key_high: u64, key_low: u64) -> Result<Box<Desk>, u32>
     ensures ok { IfOk result (λ boxed. (boxed.value ≡ fresh site) × IsSite site) }
     ensures fault { IfErr result (λ fault. ((fault ≡ 112) × (¬ (IsSite site))) ⊎ ((fault ≡ 9) × IsSite site)) }
@@ -55,7 +55,7 @@ fn key_of(high: u64, low: u64) -> u128
     u128::from(high) * 18_446_744_073_709_551_616 + u128::from(low)
 }
 
-/// A desk of a site that has taken a file, to be held, or the number of the fault.
+/// A desk of a site that has taken a file, for a handle, or the number of the fault.
 pub fn opened(
     alloc: Global,
     site: u32,
@@ -74,7 +74,7 @@ pub fn opened(
     if answer == OK { Ok(boxed) } else { Err(answer) }
 }
 
-/// Pays in advance for so many new operations, at most 1,000,000.
+/// Reserves memory for so many new operations, at most 1,000,000.
 pub fn reserve_in(desk: &mut Desk, operations: usize) -> u32
     ensures ok { result ≡ 0 → (desk.new.set ≡ desk.old.set) × (desk.new.site ≡ desk.old.site) × (desk.new.waiting ≡ desk.old.waiting) × (desk.new.spare ≡ max desk.old.spare operations) }
     ensures err { (result ≡ 0 → ⊥) → desk.new ≡ desk.old }

@@ -11,7 +11,7 @@ use std::alloc::Global;
 use std::marker::Model;
 use std::mem;
 
-/// A desk that C holds, or none: `bidigrid_desk` of the header.
+/// A desk in the hands of C, or none: `bidigrid_desk` of the header.
 #[repr(C)]
 pub struct DeskHandle {
     at: *mut Opaque,
@@ -33,7 +33,7 @@ impl DeskHandle {
         DeskHandle::of(NullableBox::none())
     }
 
-    /// A handle of what stands at a pointer.
+    /// A handle of what is at a pointer.
     fn of(owned: NullableBox<Desk>) -> DeskHandle
         ensures { result.held ≡ owned.held }
     {

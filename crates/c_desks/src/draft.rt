@@ -69,7 +69,7 @@ fn add_each(ops: &[Op], message: &mut Vec<u8>)
 }
 
 /// What refuses to erase the characters from one place up to another and to type so many, with a buffer of so many bytes: the
-/// number of the fault, or 0. How many bytes are wanted is told where the buffer is too short.
+/// number of the fault, or 0. How many bytes are wanted is answered where the buffer is too short.
 pub fn refusal_of(
     desk: &Desk,
     from: usize,

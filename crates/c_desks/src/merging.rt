@@ -1,4 +1,4 @@
-//! Merging desks: one takes all that another one holds.
+//! Merging desks: one takes all that another one has.
 
 ghost use Rattle.std.specs.Prelude.{◌≡◌, None};
 ghost use Rattle.std.specs.Option.{IfSome};
@@ -12,7 +12,7 @@ use c_answers::{EMPTY_HANDLE, OK};
 use desk_replica::TakeFault;
 use std::alloc::Global;
 
-/// Lets the desk of a handle take all that another one holds.
+/// Lets the desk of a handle take all that another one has.
 pub fn merge_from(alloc: Global, desk: &mut DeskHandle, other: &Desk) -> u32
     ensures merged { IfSome desk.old.held (λ d. IfSome desk.new.held (λ e. IsMergedWith d other.now e result)) }
     ensures empty { desk.old.held ≡ None → (result ≡ 101) × (desk.new.held ≡ None) }

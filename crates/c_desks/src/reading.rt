@@ -1,4 +1,4 @@
-//! What a desk holds: its text, identifiers and places, and all of it as a file.
+//! What a desk has: its text, identifiers and places, and all of it as a file.
 
 ghost use Rattle.std.specs.Prelude.{◌≡◌, ◌<◌, None, length, encode_utf8_all};
 ghost use Rattle.rga_tree.specs.TextOf.{text, visible};
@@ -31,7 +31,7 @@ pub fn tell_text(desk: &Desk, out: &mut [u8], size: &mut usize) -> u32
     }
 }
 
-/// Tells how many characters a desk's text has.
+/// Writes how many characters a desk's text has.
 pub fn tell_length(desk: &Desk, places: &mut usize) -> u32
     ensures answer { result ≡ 0 }
     ensures places { places.new ≡ length (visible desk.now.set) }
@@ -40,7 +40,7 @@ pub fn tell_length(desk: &Desk, places: &mut usize) -> u32
     OK
 }
 
-/// Tells the identifier of the character at a place.
+/// Writes the identifier of the character at a place.
 pub fn tell_id_at(desk: &mut Desk, place: usize, id: &mut IdentifierNumbers) -> u32
     ensures written { IsIdentifierWritten desk.old.set place id.new result }
     ensures same { desk.new ≡ desk.old }
@@ -53,7 +53,7 @@ pub fn tell_id_at(desk: &mut Desk, place: usize, id: &mut IdentifierNumbers) -> 
     OK
 }
 
-/// Tells how many characters stand before the one with an identifier, which may be erased.
+/// Writes how many characters stand before the one with an identifier, which may be erased.
 pub fn tell_place_of(desk: &Desk, id: &IdentifierNumbers, place: &mut usize) -> u32
     ensures { IsPlaceWritten desk.now.set id.now place.new result }
 {
@@ -73,7 +73,7 @@ pub fn tell_place_of(desk: &Desk, id: &IdentifierNumbers, place: &mut usize) -> 
     }
 }
 
-/// Writes all that a desk holds, as a file of version 2.
+/// Writes all that a desk has, as a file of version 2.
 pub fn tell_file(alloc: Global, desk: &Desk, out: &mut [u8], size: &mut usize) -> u32
     ensures { IsSaved desk.now out.old out.new size.new result }
 {

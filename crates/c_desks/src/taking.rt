@@ -13,7 +13,7 @@ use c_answers::{MESSAGE_TOO_LONG, OK};
 use op_codec::{LONGEST_FILE, decode_file};
 use std::alloc::Global;
 
-/// Lets a desk take operations in order, up to the first that it refuses, and tells how many it took.
+/// Lets a desk take operations in order, up to the first that it refuses, and writes how many it took.
 fn take_each(desk: &mut Desk, ops: &[Op], taken: &mut usize) -> u32
     ensures { IsTakenUpTo desk.old ops.now desk.new taken.new result }
 {
@@ -41,7 +41,7 @@ pub fn take_in(alloc: Global, desk: &mut Desk, bytes: &[u8], told: &mut Taken) -
     }
 }
 
-/// The operations of a message, of which none is told to be taken yet; or the number of its fault, which is told.
+/// The operations of a message, of which none counts as taken yet; or the number of its fault, which is written.
 pub fn read_message(alloc: Global, bytes: &[u8], told: &mut Taken) -> Result<Vec<Op>, u32>
     ensures ok { IfOk result (λ ops. Spells bytes.now ops.items) }
     ensures told { IfOk result (λ ops. told.new ≡ record { operations = vec_len ops; taken = 0; frame = 0 }) }

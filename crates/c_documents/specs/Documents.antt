@@ -123,8 +123,8 @@ pub record IsTakenInTurn (old : ToldDocument) (ops : List OpView) (new : ToldDoc
   pub told : new.lost ≡ false → AreTold old.document.desk.set (take count ops) [] new.told.items
   pub edit : new.lost ≡ false → IsEdit (text old.document.desk.set) new.told.items (text new.document.desk.set)
 
--- a message was taken: its bytes spell operations, taken in order as far as was told; or it was not read, the document is as it
--- was, and nothing is told
+-- a message was taken: its bytes spell operations, taken in order as far as the answer says; or it was not read, the document
+-- is as it was, and nothing is told
 abbrev pub IsHeard : ToldDocument → (bytes : List ℕ) → ToldDocument → Taken → (answer : ℕ) → Type 0
 IsHeard old bytes new told answer =
     ((ops : List OpView) × Spells bytes ops × (told.operations ≡ length ops) × (told.frame ≡ 0) × IsTakenInTurn old ops new told.taken answer)
@@ -147,7 +147,7 @@ AreChangesTold d before after count answer =
 
 -- ---- showing
 
--- the window round a place is shown, and how many rows it has, and which of them is the place's, was told
+-- the window round a place is shown, and how many rows it has, and which of them is the place's, was written
 pub record IsShown (old : ToldDocument) (place above below : ℕ) (new : ToldDocument) (told : WindowNumbers) : Type 0 where
   pub window : new.document.window ≡ window_round old.document place above below
   pub numbers : told ≡ window_numbers new.document.window
@@ -170,7 +170,7 @@ pub record IsAsked (old new : ToldDocument) : Type 0 where
   pub drawn : IsDrawnAlike old.document new.document
   pub alike : TellAlike old new
 
--- this position was told, and the rows from so many above that of a place to so many below it are shown
+-- this position was written, and the rows from so many above that of a place to so many below it are shown
 pub record IsPositionWritten (old : ToldDocument) (position : Position) (place around : ℕ) (new : ToldDocument) (told : PositionNumbers) : Type 0 where
   pub numbers : told ≡ position_numbers position
   pub window : new.document.window ≡ window_round old.document place around around
@@ -186,7 +186,7 @@ IsColumnWritten old place column new told =
     (place ≤ length (visible old.document.desk.set))
     × IsPositionWritten old (position_of (whole_rows old.document) (caret_under (whole_rows old.document) (row_at (whole_rows old.document) place) column)) place 0 new told
 
--- why none was told: no memory, or no such place
+-- why none was written: no memory, or no such place
 abbrev pub IsNoPlace : ToldDocument → (place : ℕ) → ToldDocument → (answer : ℕ) → Type 0
 IsNoPlace old place new answer =
     ((answer ≡ 9) ⊎ ((answer ≡ 107) × (length (visible old.document.desk.set) < place))) × IsAsked old new

@@ -1,4 +1,4 @@
--- What stands behind the handle of a document: the row of its type.
+-- What is behind the handle of a document: an entry for its type.
 use denote.RattleType.{RattleType}
 use Rattle.c_documents.specs.contracts.told_document.ToldDocument as told_document
 

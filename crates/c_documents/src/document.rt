@@ -1,4 +1,4 @@
-//! Documents: made, opened from a file, drawn at another width, paid for, freed, and how many rows they keep.
+//! Documents: made, opened from a file, drawn at another width, given memory in advance, freed, and how many rows they keep.
 
 ghost use Rattle.std.specs.Prelude.{◌≡◌, ◌⊎◌, ◌<◌, Some, None, IfOk, IfErr};
 ghost use Rattle.bg_types.specs.declared.class.Base.{Base as BaseValue};
@@ -17,7 +17,7 @@ use live_document::Document;
 use pictures::SharedTables;
 use std::alloc::Global;
 
-/// A document of a site without operations, to be held, or the number of the fault.
+/// A document of a site without operations, for a handle, or the number of the fault.
 pub fn new_document(
     alloc: Global,
     tables: &SharedTables,
@@ -35,7 +35,7 @@ pub fn new_document(
     laid_out(alloc, tables, width, base, desk)
 }
 
-/// A document of a site that has taken a file, to be held, or the number of the fault.
+/// A document of a site that has taken a file, for a handle, or the number of the fault.
 pub fn opened(
     alloc: Global,
     tables: &SharedTables,
@@ -66,7 +66,7 @@ pub fn opened(
     }
 }
 
-/// The document of a desk, to be held, or the number of the fault.
+/// The document of a desk, for a handle, or the number of the fault.
 fn laid_out(
     alloc: Global,
     tables: &SharedTables,
@@ -142,7 +142,7 @@ pub fn keep_rows_in(held: &mut ToldDocument, rows: usize) -> u32
     OK
 }
 
-/// Pays in advance for so many new operations, at most 1,000,000.
+/// Reserves memory for so many new operations, at most 1,000,000.
 pub fn reserve_in(held: &mut ToldDocument, operations: usize) -> u32
     ensures ok { result ≡ 0 → IsPaidFor held.old operations held.new }
     ensures err { (result ≡ 0 → ⊥) → held.new ≡ held.old }

@@ -13,7 +13,7 @@ use bg_types::Memory;
 use c_answers::{BAD_CARET, BAD_PLACE, MEMORY, OK};
 use live_document::Position;
 
-/// Tells where the caret stands at a place of the text.
+/// Writes where the caret stands at a place of the text.
 pub fn tell_position(held: &mut ToldDocument, place: usize, out: &mut PositionNumbers) -> u32
     ensures ok { result ≡ 0 → IsPlaceWritten held.old place held.new out.new }
     ensures err { (result ≡ 0 → ⊥) → out.new ≡ no_position }
@@ -32,7 +32,7 @@ pub fn tell_position(held: &mut ToldDocument, place: usize, out: &mut PositionNu
     }
 }
 
-/// Tells where the caret stands where a mouse points: in the row of a place, at the last gap that is not right of a column.
+/// Writes where the caret stands where a mouse points: in the row of a place, at the last gap that is not right of a column.
 pub fn tell_position_under(
     held: &mut ToldDocument,
     place: usize,

@@ -12,7 +12,7 @@ use std::alloc::Global;
 use std::marker::Model;
 use std::mem;
 
-/// A document that C holds, or none: `bidigrid_document` of the header.
+/// A document in the hands of C, or none: `bidigrid_document` of the header.
 #[repr(C)]
 pub struct DocumentHandle {
     at: *mut Opaque,
@@ -34,7 +34,7 @@ impl DocumentHandle {
         DocumentHandle::of(NullableBox::none())
     }
 
-    /// A handle of what stands at a pointer.
+    /// A handle of what is at a pointer.
     fn of(owned: NullableBox<ToldDocument>) -> DocumentHandle
         ensures { result.held ≡ owned.held }
     {

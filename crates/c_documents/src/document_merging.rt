@@ -1,4 +1,4 @@
-//! Documents take all that another one holds, and keep what that changed.
+//! Documents take all that another one has, and tell what that changed.
 
 ghost use Rattle.std.specs.Prelude.{◌≡◌, false, [], None};
 ghost use Rattle.std.specs.Option.{IfSome};
@@ -18,7 +18,7 @@ use desk_replica::TakeFault;
 use desk_replica::laws::told_changes;
 use std::alloc::Global;
 
-/// Lets the document of a handle take all that a desk holds.
+/// Lets the document of a handle take all that a desk has.
 pub fn merge_from(alloc: Global, document: &mut DocumentHandle, other: &Desk) -> u32
     ensures merged { IfSome document.old.held (λ d. IfSome document.new.held (λ e. IsMetWith d other.now e result)) }
     ensures empty { document.old.held ≡ None → (result ≡ 101) × (document.new.held ≡ None) }
@@ -39,7 +39,7 @@ fn merge_in(held: &mut ToldDocument, other: &Desk) -> u32
     merge_number(met)
 }
 
-/// Lets a document take all that a desk holds, and keeps what it changes where there is memory to tell it.
+/// Lets a document take all that a desk has, and lists what it changes where there is memory to tell it.
 #[tactic(auto, using(crate::proofs::FromNone::told_once, crate::proofs::FromNone::all_edits))]
 fn meet(held: &mut ToldDocument, other: &Desk) -> Result<u32, TakeFault>
     ensures desk { IsMerge held.old.document.desk other.now held.new.document.desk result }

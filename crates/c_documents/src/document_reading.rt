@@ -1,4 +1,4 @@
-//! What a document holds: its text, identifiers and places, and all of it as a file. Its desk tells it.
+//! What a document has: its text, identifiers and places, and all of it as a file, from its desk.
 
 ghost use Rattle.std.specs.Prelude.{◌≡◌, ◌<◌, length, encode_utf8_all};
 ghost use Rattle.rga_tree.specs.TextOf.{text, visible};
@@ -24,7 +24,7 @@ pub fn tell_text_of(document: &Document, out: &mut [u8], size: &mut usize) -> u3
     tell_text(document.desk(), out, size)
 }
 
-/// Tells the identifier of the character at a place.
+/// Writes the identifier of the character at a place.
 pub fn tell_id_in(document: &mut Document, place: usize, id: &mut IdentifierNumbers) -> u32
     ensures written { IsIdentifierWritten document.old.desk.set place id.new result }
     ensures same { document.new ≡ document.old }

@@ -1,4 +1,4 @@
-//! Documents take messages, and keep what these changed.
+//! Documents take messages, and tell what these changed.
 
 ghost use Rattle.std.specs.Prelude.{◌≡◌, None};
 ghost use Rattle.c_desks.specs.Desks.{IsTooLong};
@@ -10,7 +10,7 @@ use c_answers::OK;
 use c_desks::{Taken, read_message, take_number};
 use std::alloc::Global;
 
-/// Lets a document take a message, as its desk would, and keep what that changed.
+/// Lets a document take a message, as its desk would, and list what that changed.
 pub fn take_in(alloc: Global, held: &mut ToldDocument, bytes: &[u8], told: &mut Taken) -> u32
     ensures taken { IsHeard held.old bytes.now held.new told.new result }
     ensures too_long { IsTooLong bytes.now → result ≡ 116 }
@@ -22,7 +22,7 @@ pub fn take_in(alloc: Global, held: &mut ToldDocument, bytes: &[u8], told: &mut 
     }
 }
 
-/// Lets a document take operations in order, up to the first that it refuses, tells how many it took, and keeps what they
+/// Lets a document take operations in order, up to the first that it refuses, writes how many it took, and lists what they
 /// changed.
 #[tactic(auto, using(crate::proofs::FromNone::all_told, crate::proofs::FromNone::all_edits))]
 fn take_all(held: &mut ToldDocument, ops: &[Op], taken: &mut usize) -> u32

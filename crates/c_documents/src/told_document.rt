@@ -10,7 +10,7 @@ use bg_types::{Change, Memory};
 use live_document::Document;
 use std::alloc::Global;
 
-/// A document that C holds, and how its last edit, take or merge changed the text.
+/// A document in the hands of C, and how its last edit, take or merge changed the text.
 pub struct ToldDocument {
     pub document: Document,
     pub told: Vec<Change>,

@@ -54,7 +54,7 @@ pub fn tell_row_print(
     }
 }
 
-/// Tells of each entry of a row that is shown, from the left, how many bytes its cells have in the row's print.
+/// Writes of each entry of a row that is shown, from the left, how many bytes its cells have in the row's print.
 #[tactic(auto, using(c_pictures::proofs::Interface::sizes_counted))]
 pub fn tell_entry_sizes(
     document: &Document,

@@ -10,7 +10,7 @@ use c_answers::{BAD_ROW, OK, SHORT_BUFFER};
 use c_pictures::{EntryNumbers, RowNumbers, entry_numbers, no_row};
 use live_document::{Document, WindowRow};
 
-/// Tells of a row that is shown, counted from 0 at the top.
+/// Writes what a row that is shown has, counted from 0 at the top.
 pub fn tell_row(document: &Document, number: usize, out: &mut RowNumbers) -> u32
     ensures { MatchOption (slice_get document.now.window.rows number) ((result ≡ 108) × (out.new ≡ no_row)) (λ r. (result ≡ 0) × (out.new ≡ row_numbers r)) }
 {
@@ -37,7 +37,7 @@ pub(crate) fn row_shown(document: &Document, number: usize) -> Option<WindowRow<
     Some(window.row(number))
 }
 
-/// Tells of all entries of a row that is shown, from the left.
+/// Writes what all entries of a row that is shown have, from the left.
 pub fn tell_entries(
     document: &Document,
     row: usize,

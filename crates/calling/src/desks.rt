@@ -54,7 +54,7 @@ pub fn take_all(desk: &mut Desk, ops: &[Op]) -> Result<(), Fault>
     }
 }
 
-/// Lets two desks meet: each takes all that the other holds. Then both hold what either held, so
+/// Lets two desks meet: each takes all that the other has. Then both have what either had, so
 /// they show the same text.
 pub fn meet(one: &mut Desk, other: &mut Desk) -> Result<(), Fault>
     ensures all { OnOk result (one.new.set ≡ union one.old.set other.old.set) }

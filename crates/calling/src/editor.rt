@@ -96,7 +96,7 @@ pub fn edit<S: Sink>(alloc: Global, key: u128, out: &mut S) -> Result<(), Fault>
     edit_both(alloc, &mut document, &mut desk, out)
 }
 
-/// Its steps, over a document and a desk that hold nothing yet.
+/// Its steps, over a document and a desk that have nothing yet.
 fn edit_both<S: Sink>(
     alloc: Global,
     document: &mut Document,
@@ -127,7 +127,7 @@ fn look_at_spot<S: Sink>(document: &mut Document, out: &mut S) -> Result<(), Fau
     look_round(document, place, out)
 }
 
-/// Tells where a caret is after some steps to the right from there.
+/// Writes where a caret is after some steps to the right from there.
 fn walk_from_spot<S: Sink>(alloc: Global, document: &mut Document, out: &mut S) -> Result<(), Fault>
     requires { S.has_failed out.old ≡ false }
     ensures { OnOk result (S.has_failed out.new ≡ false) }

@@ -113,7 +113,7 @@ fn read_along<S: Sink>(
     Ok(())
 }
 
-/// Draws a desk's text, and writes the picture, which follows from the operations that the desk holds and
+/// Draws a desk's text, and writes the picture, which follows from the operations that the desk has and
 /// from nothing else.
 fn look<S: Sink>(view: &mut View, desk: &Desk, out: &mut S) -> Result<(), Fault>
     requires { S.has_failed out.old ≡ false }
@@ -126,7 +126,7 @@ fn look<S: Sink>(view: &mut View, desk: &Desk, out: &mut S) -> Result<(), Fault>
     show(&grid, out)
 }
 
-/// Draws a desk's text, and tells of a caret and of the mouse.
+/// Draws a desk's text, and writes of a caret and of the mouse.
 fn point<S: Sink>(alloc: Global, view: &mut View, desk: &Desk, out: &mut S) -> Result<(), Fault>
     requires { S.has_failed out.old ≡ false }
     ensures { OnOk result (S.has_failed out.new ≡ false) }
@@ -138,7 +138,7 @@ fn point<S: Sink>(alloc: Global, view: &mut View, desk: &Desk, out: &mut S) -> R
     tell_mouse(alloc, &grid, 5, out)
 }
 
-/// Tells where a caret is after some steps to the right from the text's start.
+/// Writes where a caret is after some steps to the right from the text's start.
 fn tell_caret<S: Sink>(alloc: Global, grid: &Grid, out: &mut S) -> Result<(), Fault>
     requires { S.has_failed out.old ≡ false }
     ensures { OnOk result (S.has_failed out.new ≡ false) }
@@ -149,7 +149,7 @@ fn tell_caret<S: Sink>(alloc: Global, grid: &Grid, out: &mut S) -> Result<(), Fa
     Ok(())
 }
 
-/// Tells what the mouse points at in a column of the first row.
+/// Writes what the mouse points at in a column of the first row.
 fn tell_mouse<S: Sink>(alloc: Global, grid: &Grid, column: usize, out: &mut S) -> Result<(), Fault>
     requires { S.has_failed out.old ≡ false }
     ensures { OnOk result (S.has_failed out.new ≡ false) }

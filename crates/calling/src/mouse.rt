@@ -32,7 +32,7 @@ pub fn place_under(grid: &Grid, row: usize, column: usize) -> Option<usize>
     Some(entry.span.first_place as usize)
 }
 
-/// The caret at a place of the text: before the cluster that holds it, on the side where its reading
+/// The caret at a place of the text: before the cluster that has it, on the side where its reading
 /// begins.
 pub fn caret_before(grid: &Grid, place: usize) -> Caret
     requires { place < length (chars grid.now.text) }
@@ -40,7 +40,7 @@ pub fn caret_before(grid: &Grid, place: usize) -> Caret
     ensures within { IsCaretOf grid.now.rows result }
 {
     each_place();
-    // Reading a grid's rows tells the proof that it is drawn, as the law asks.
+    // Reading a grid's rows shows the proof that it is drawn, as the law asks.
     let _rows = grid.rows();
     at_place(grid, place)
 }

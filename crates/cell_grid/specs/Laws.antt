@@ -25,7 +25,7 @@ abbrev pub RowsFollow : (from : ℕ) → List DrawnRow → (to : ℕ) → Type 0
 RowsFollow from [] to = from ≡ to
 RowsFollow from (r ∷ later) to = (r.first_place ≡ from) × (r.first_place ≤ r.last_place) × RowsFollow r.last_place later to
 
--- entry n of a row holds a place
+-- entry n of a row has a place
 pub record Holds (r : DrawnRow) (n place : ℕ) : Type 0 where
   pub entry : Entry
   pub is : slice_get r.entries n ≡ Some entry

@@ -1,4 +1,4 @@
--- Runs of clusters: what a row keeps its entries as.
+-- Runs of clusters: what a row stores its entries as.
 use Rattle.std.specs.Prelude.{◌≡◌, ℕ, ◌+◌, ◌-◌, ◌*◌, ◌^◌, ◌<◌, ◌≤◌, List, [], ◌∷◌, ◌++◌, map, length, sum_by, if◌then◌else◌}
 use Rattle.std.specs.List.{All, range_with_len}
 use Rattle.reorder.specs.VisualList.{is_odd}

@@ -37,7 +37,7 @@ FirstPlacesRise [] = Unit {0}
 FirstPlacesRise (r ∷ []) = Unit {0}
 FirstPlacesRise (r ∷ s ∷ later) = (r.first_place < s.first_place) × FirstPlacesRise (s ∷ later)
 
--- a stretch of rows, with those before and after it, has the window round the row of a place
+-- a part of the rows, with those before and after it, has the window round the row of a place
 pub record HasWindow (before rows after : List DrawnRow) (above below place : ℕ) : Type 0 where
   -- the row of the place is in it
   pub begun : begins_by rows place 0 ≡ true

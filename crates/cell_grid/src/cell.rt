@@ -81,7 +81,7 @@ impl<'a> Cells<'a> {
         ensures { result ≡ row.now.cells }
     {
         let (left, right) = row.blanks();
-        // A row has no more entries than a number can tell.
+        // A row has no more entries than can be counted.
         let _count = row.entry_count();
         Cells {
             left,

@@ -12,7 +12,7 @@ use crate::row::Row;
 use bg_types::Memory;
 use unicode_tables::Tables;
 
-/// Tells how many bytes the cells of each entry have in what `print_row` writes of a row of a text, whose entries are slices
+/// Answers how many bytes the cells of each entry have in what `print_row` writes of a row of a text, whose entries are slices
 /// of it: from the left, at the front of a list with room for them. They stand side by side there, behind one space for each
 /// blank at the left. Takes no memory. `Memory` where a size is more than can be counted.
 /// Cost: O(n) of the row's entries and their bytes.
@@ -34,8 +34,8 @@ pub fn row_entry_sizes(
     Ok(())
 }
 
-/// Tells how many bytes the cells of each entry of the row with this number, counted from 0, have in what `print_row_at` writes,
-/// as `row_entry_sizes` does.
+/// Answers how many bytes the cells of each entry of the row with this number, counted from 0, have in what `print_row_at`
+/// writes, as `row_entry_sizes` does.
 /// Cost: that of `row_entry_sizes`.
 pub fn row_entry_sizes_at(grid: &Grid, number: usize, sizes: &mut [usize]) -> Result<(), Memory>
     requires row { number < length grid.now.rows }

@@ -30,7 +30,7 @@ pub(crate) struct KeptSpan {
 const _: () = prove!(size_of::<KeptSpan>() == 12);
 
 impl KeptSpan {
-    /// What is kept of a span.
+    /// What is stored of a span.
     #[inline]
     pub(crate) fn of(span: Span) -> KeptSpan
         requires { IsShort span }
@@ -46,7 +46,7 @@ impl KeptSpan {
         }
     }
 
-    /// The span that is kept.
+    /// The span that is stored.
     #[inline]
     pub(crate) fn read(self) -> Span
         ensures { result ≡ span_kept self }
@@ -63,7 +63,7 @@ impl KeptSpan {
         }
     }
 
-    /// What is kept of the span this many bytes and places later.
+    /// What is stored of the span this many bytes and places later.
     #[inline]
     pub(crate) fn later(self, bytes: u32, places: u32) -> KeptSpan
         requires { MayShift bytes places (span_kept self) }

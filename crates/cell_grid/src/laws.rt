@@ -71,8 +71,8 @@ pub fn first_places_rise()
     laws_below();
 }
 
-/// A stretch of rows that has the row of a place, and enough rows above and below it, has the window
-/// round it: that of all rows, before the stretch and after it too.
+/// A part of the rows that has the row of a place, and enough rows above and below it, has the
+/// window round it: that of all rows, before the part and after it too.
 pub fn windows_in_stretches()
     ensures { (before rows after : List DrawnRow) (above below place : ℕ) → HasWindow before rows after above below place
         → window_of above below place (before ++ (rows ++ after)) ≡ window_of above below place rows }

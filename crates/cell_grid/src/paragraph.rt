@@ -145,7 +145,7 @@ fn rows_in(
     Ok(rows)
 }
 
-/// Puts the Bidi class that each of these words tells into a list, in place of what it has.
+/// Puts the Bidi class that each of these words says into a list, in place of what it has.
 fn classes_into(classes: &mut Vec<Bidi>, words: &[Word]) -> Result<(), Memory>
     ensures { OnOk result (classes.new.items ≡ map (λ (w : Word). w.bidi) words.now) }
 {

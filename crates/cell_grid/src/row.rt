@@ -26,7 +26,7 @@ use paragraphs::Span;
 use std::alloc::Global;
 use std::marker::Model;
 
-/// A row of a grid: a line with its entries from left to right. It keeps them as runs of like clusters, and no cells: they
+/// A row of a grid: a line with its entries from left to right. It stores them as runs of like clusters, and no cells: they
 /// follow from the width, the column where the entries begin and the entries.
 #[derive(Debug)]
 pub struct Row {

@@ -121,7 +121,7 @@ fn at(number: u64, fault: RunFault) -> RunFault {
     }
 }
 
-/// Reads a line, and tells whether there is none.
+/// Reads a line, and answers whether there is none.
 fn read_line<B: BufRead + Drop>(file: B, line: &mut Vec<u8>) -> Result<bool, RunFault> {
     match file.take(BOUND + 1).read_until(b'\n', line) {
         Ok(count) if count as u64 > BOUND => Err(RunFault::Line(0, LineFault::TooLong)),
@@ -170,7 +170,7 @@ impl<'a> Comparison<'a> {
         Ok(())
     }
 
-    /// Writes the report of the last case that differed, if it is kept.
+    /// Writes the report of the last case that differed, if there is one.
     fn tell<S: Sink>(&mut self, kind: TestFile, number: u64, out: &mut S) -> Result<(), RunFault> {
         match self.told.take() {
             Some(told) => put_told(self.alloc, kind, number, told.as_str(), out),
@@ -203,7 +203,7 @@ impl<'a> Comparison<'a> {
         Ok(())
     }
 
-    /// Counts a case, and keeps its report unless enough have been reported.
+    /// Counts a case, and makes its report unless enough have been reported.
     fn keep(&mut self, found: Found) -> Result<(), RunFault>
         ensures counted { OnOk result (self.new.tally ≡ counted found.verdict self.old.tally) }
         ensures once { OnOk result (cases_of self.new.tally ≡ cases_of self.old.tally + 1) }

@@ -5,6 +5,6 @@
 pub struct Job<'a> {
     /// The folder of the five data files.
     pub folder: &'a str,
-    /// The test files, whose names tell what they test.
+    /// The test files, whose names say what they test.
     pub files: Vec<&'a str>,
 }

@@ -1,4 +1,4 @@
--- What a list of operation files holds, or what is wrong with it first.
+-- What a list of operation files has, or what is wrong with it first.
 use Rattle.std.specs.Prelude.{◌≡◌, ◌+◌, ℕ, List, ◌∷◌, ◌++◌, length, map as each}
 use Rattle.std.specs.Global.{Vec}
 use Rattle.std.specs.List.{AllZip, flat_map}

@@ -1,4 +1,4 @@
--- What readers tell of operation files, and what a run over readers comes to.
+-- What readers give of operation files, and what a run over readers comes to.
 use Rattle.std.specs.Prelude.{◌≡◌, ◌≤◌, ◌+◌, ◌⊎◌, true, false, Bool, ℕ, List, ◌∷◌, ◌++◌, length, Option, Some, None, Result, Err}
 use Rattle.std.specs.List.{AllZip, AllByRecursion}
 use Rattle.bg_types.specs.declared.op.OpView.{OpView}
@@ -87,25 +87,25 @@ pub record IsLost (readers left : List (Option (List ℕ))) (failed : List Bool)
   pub broken : IsBroken reader rest
   pub alone : HasFailedAlone failed n
 
--- no reader has failed, and this holds of the files that they tell
+-- no reader has failed, and this holds of the files that they give
 pub record AreGiven (readers : List (Option (List ℕ))) (failed : List Bool) (holds : List (List ℕ) → Type 0) : Type 0 where
   pub files : List (List ℕ)
   pub told : AllZip Tells readers files
   pub working : AreWorking failed
   pub so : holds files
 
--- a part of a run ended early: reader n has failed, or the fault has its cause in the files that the readers tell
+-- a part of a run ended early: reader n has failed, or the fault has its cause in the files that the readers give
 abbrev pub EndsOver : (readers left : List (Option (List ℕ))) (failed : List Bool) → (List (List ℕ) → RunFault → Type 0) → RunFault → Type 0
 EndsOver readers left failed caused fault =
     ((n : ℕ) × (fault ≡ ReadFailed n) × IsLost readers left failed n) ⊎ AreGiven readers failed (λ files. caused files fault)
 
 -- the outcome of a run over readers: reader n has failed, and the run came no further than this; or none has, and the run has an
--- outcome over the files that they tell
+-- outcome over the files that they give
 abbrev pub IsRunOver : {T : Type 0} → (readers left : List (Option (List ℕ))) (failed : List Bool) (cut : Type 0) → (List (List ℕ) → Result T RunFault → Type 0) → Result T RunFault → Type 0
 IsRunOver readers left failed cut outcome result =
     ((n : ℕ) × (result ≡ Err (ReadFailed n)) × IsLost readers left failed n × cut) ⊎ AreGiven readers failed (λ files. outcome files result)
 
--- the same over readers that tell these files: a reader has failed, and no other, or the run has the outcome of a run over
+-- the same over readers that give these files: a reader has failed, and no other, or the run has the outcome of a run over
 -- files of these bytes
 abbrev pub IsFileOutcome : {T : Type 0} → (failed : List Bool) (cut : Type 0) → (Result T RunFault → Type 0) → Result T RunFault → Type 0
 IsFileOutcome failed cut outcome result = ((n : ℕ) × (result ≡ Err (ReadFailed n)) × HasFailedAlone failed n × cut) ⊎ outcome result

@@ -61,7 +61,7 @@ take_in files (desk ∷ file ∷ []) = Err WrongWords
 take_in files (desk ∷ file ∷ op ∷ []) = take_of files (count_in desk) (count_in file) (count_in op)
 take_in files (desk ∷ file ∷ op ∷ more ∷ others) = Err WrongWords
 
--- `merge D E`: desk D takes all that desk E holds
+-- `merge D E`: desk D takes all that desk E has
 abbrev pub merge_in : List (List OpView) → List (List ℕ) → Result RunStep ScheduleFault
 merge_in files [] = Err WrongWords
 merge_in files (desk ∷ []) = Err WrongWords

@@ -16,6 +16,6 @@ HasTaken ops kept (Some fault) = IsFirstRefusal ops fault
 abbrev pub HasTakenBut : (waiting ops : List OpView) (kept : OperationSet) (refused : Option TakeFault) → Type 0
 HasTakenBut waiting ops kept refused = (taken : List OpView) × (ops ≡ taken ++ waiting) × HasTaken taken kept refused
 
--- the operations, or the same ones in another order where a desk that keeps S has room for them all
+-- the operations, or the same ones in another order where a desk with S has room for them all
 abbrev pub IsReordered : (kept : OperationSet) (ops other : List OpView) → Type 0
 IsReordered kept ops other = (other ≡ ops) ⊎ (IsPermutation ops other × (size kept + length ops ≤ 1_000_000))

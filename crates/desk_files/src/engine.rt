@@ -13,7 +13,7 @@ use op_codec::Source;
 use std::alloc::Global;
 
 /// Writes the text of all operations of the files, which one desk takes. Nothing is
-/// written before all are taken. Files are numbered from 1. Where the key is secret, nobody can
+/// written before all are taken. Files are numbered from 1. Where the key is secret, it is hard to
 /// write files that make the run slow.
 ///
 /// Which answer the files have is `laws::text_is_decided`.

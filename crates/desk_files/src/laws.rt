@@ -29,7 +29,7 @@ pub fn one_outcome()
     codec::spelled_or_faulty();
 }
 
-/// Where readers tell their bytes, a run over them has an outcome of a run over files of these bytes,
+/// Where readers give their bytes, a run over them has an outcome of a run over files of these bytes,
 /// or a reader has failed: number n, from 1, and no other.
 pub fn readers_tell_files()
     ensures { (files : List (List ℕ)) (left : List (Option (List ℕ))) (lost : List Bool) (old new : Option (List ℕ)) (failed : Bool) (result : Result (Unit {0}) RunFault)

@@ -1,5 +1,5 @@
 //! The files of a run (data files, operation files, which are read piece by piece, and schedules), and the one desk that
-//! takes what operation files hold: its text is written.
+//! takes what operation files have: its text is written.
 #![tactic(auto)]
 
 mod desk;

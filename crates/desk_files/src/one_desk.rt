@@ -27,10 +27,11 @@ const SITE: u16 = 1;
 /// How many numbers a site may have.
 const SITES: u64 = 65_536;
 
-/// How many counters in a row are near each other: some bursts of a hand, and so few that little of what is sorted waits.
+/// How many counters that follow each other are near each other: some bursts of a hand, and so few that little of what is
+/// sorted waits.
 const NEAR: u32 = 256;
 
-/// By how many of the first operations it is told whether they came out of order.
+/// By how many of the first operations it is judged whether they came out of order.
 const LOOKED_AT: usize = 32;
 
 /// The text of all operations of the files, which one desk takes: at most 4,000,000 bytes.
@@ -155,7 +156,7 @@ fn take_unless_more_come(
     Ok(())
 }
 
-/// Takes further operations, unless one before them was refused, and keeps the first refusal.
+/// Takes further operations, unless one before them was refused, and notes the first refusal.
 fn take_more(desk: &mut Desk, refused: &mut Option<TakeFault>, ops: &mut [Op]) -> Result<(), Memory>
     ensures taken { (before : List Operation) → HasTaken before desk.old.set refused.old → OnOk result (HasTaken (before ++ ops.old) desk.new.set refused.new) }
     ensures site { desk.new.site ≡ desk.old.site }
@@ -174,7 +175,7 @@ fn take_more(desk: &mut Desk, refused: &mut Option<TakeFault>, ops: &mut [Op]) -
     }
 }
 
-/// Keeps the fault of a refusal. Lack of memory is none.
+/// Notes the fault of a refusal. Lack of memory is none.
 fn keep_refusal(refused: &mut Option<TakeFault>, fault: TakeFault) -> Result<(), Memory>
     ensures { OnOk result ((refused.new ≡ Some fault) × (fault ≢ TakeFault.Memory)) }
 {
@@ -198,7 +199,7 @@ fn put_in_order(desk: &Desk, ops: &mut [Op])
 }
 
 /// An operation's turn among those that are sorted: by counters, but where these are near each other site by site, so that what
-/// a site typed in a row comes in a row. A deletion comes right behind what it names.
+/// a site typed in one go comes in one go. A deletion comes right behind what it names.
 fn turn(op: &Op) -> (u64, u64) {
     match op.view() {
         OpView::Insert { id, .. } => (group(id), 2 * u64::from(id.counter())),

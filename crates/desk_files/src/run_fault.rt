@@ -51,7 +51,7 @@ pub enum RunFault {
     TooLong(usize),
 }
 
-/// Tells the fault of a file with its frame.
+/// Writes the fault of a file with its frame.
 fn tell_in_frame<W: fmt::Write>(
     file: &usize,
     fault: &CodecFault,

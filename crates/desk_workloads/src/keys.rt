@@ -82,7 +82,7 @@ fn corrected(number: usize) -> Key {
     }
 }
 
-/// Presses the keys at another desk, which holds what this one does.
+/// Presses the keys at another desk, which has what this one has.
 fn type_there(other: &mut Desk, desk: &Desk, keys: &mut [Key]) -> Result<()> {
     other.merge(desk)?;
     for key in keys.iter_mut() {

@@ -36,7 +36,7 @@ pub fn piece(chance: &mut Chance) -> &'static str {
     PIECES[chance.below(PIECES.len()) % PIECES.len()]
 }
 
-/// How many characters a stretch has: mostly few, now and then some hundred.
+/// How many characters an edit types: mostly few, now and then some hundred.
 fn stretch(chance: &mut Chance) -> usize {
     if chance.one_in(20) {
         chance.below(1_500)
@@ -45,7 +45,7 @@ fn stretch(chance: &mut Chance) -> usize {
     }
 }
 
-/// Types, erases or replaces a stretch.
+/// Types, erases or replaces a range.
 fn edit(document: &mut Document, chance: &mut Chance, made: &mut Vec<Op>) -> Result<(), Memory> {
     let length = document.len();
     let from = chance.below(length.saturating_add(1)).min(length);

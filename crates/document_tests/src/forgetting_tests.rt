@@ -27,7 +27,7 @@ fn lines(alloc: Global) -> Result<String, Memory> {
     Ok(text)
 }
 
-/// Shows the window that begins with this line, and tells how many lines were laid out.
+/// Shows the window that begins with this line, and answers how many lines were laid out.
 fn shown_from(document: &mut Document, line: usize) -> Result<usize, Memory> {
     let place = line.saturating_mul(3).min(document.len());
     document.show(place, 0, ROWS - 1)?;

@@ -30,7 +30,7 @@ pub struct Other {
 }
 
 impl Other {
-    /// A desk that holds nothing yet.
+    /// A desk that has nothing yet.
     pub fn new(alloc: Global) -> Other {
         Other {
             desk: desk_of(alloc, 2),
@@ -39,7 +39,7 @@ impl Other {
         }
     }
 
-    /// One step between the two: the desk types, an operation of it arrives, or both take all that the other holds.
+    /// One step between the two: the desk types, an operation of it arrives, or both take all that the other has.
     pub fn step(&mut self, document: &mut Document, chance: &mut Chance) -> Result<(), Memory> {
         match chance.below(8) {
             0 => self.meet(document, chance),
@@ -48,7 +48,7 @@ impl Other {
         }
     }
 
-    /// The desk types a stretch.
+    /// The desk types some characters.
     fn edit(&mut self, chance: &mut Chance) -> Result<(), Memory> {
         let length = self.desk.len();
         let place = chance.below(length.saturating_add(1)).min(length);
@@ -70,7 +70,7 @@ impl Other {
         take_telling(document, &op, &mut self.told)
     }
 
-    /// Both take all that the other holds.
+    /// Both take all that the other has.
     fn meet(&mut self, document: &mut Document, chance: &mut Chance) -> Result<(), Memory> {
         if chance.one_in(2) {
             merge(document, &self.desk)?;

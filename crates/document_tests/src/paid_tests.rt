@@ -1,4 +1,4 @@
-//! Edits that are paid for: with no other memory each stands, and the next window is right.
+//! Edits that are paid for: with no other memory each is made, and the next window is right.
 
 use crate::documents::{document_of, sent, small_tables};
 use crate::walking::shows_round;
@@ -70,7 +70,7 @@ fn takes_all(alloc: Global, document: &mut Document, ops: &[Op]) -> Result<bool,
     Ok(right)
 }
 
-/// Whether all stands that is paid for, and each window after it is right.
+/// Whether all is made that is paid for, and each window after it is right.
 fn stands(alloc: Global) -> Result<bool, Memory> {
     let ops = sent(alloc, "six\nseven\n")?;
     let mut document = document_of(alloc, small_tables(alloc)?, 8, "")?;

@@ -17,7 +17,7 @@ use ucd_files::Tables;
 const ROWS: usize = 40;
 
 /// Makes so many steps by chance in a text that has so many paragraphs at first, and shows a window at some place after each.
-/// Tells the number of the first step after which the window is not the stretch of the rows of `cell_grid::draw` that it should
+/// Answers the number of the first step after which the window is not the part of the rows of `cell_grid::draw` that it should
 /// be, or the number of steps where there is none.
 pub fn walk(
     alloc: Global,
@@ -64,7 +64,7 @@ impl Walker {
         Ok(steps)
     }
 
-    /// Goes on by one step, and tells whether the window is right then.
+    /// Goes on by one step, and answers whether the window is right then.
     fn step(&mut self) -> Result<bool, Memory> {
         self.go_on()?;
         shows(self.alloc, &mut self.document, &mut self.chance)
@@ -80,7 +80,7 @@ impl Walker {
     }
 }
 
-/// A document over a desk that holds the first text.
+/// A document over a desk that has the first text.
 fn begun(alloc: Global, tables: Rc<Tables>, paragraphs: usize) -> Result<Document, Memory> {
     let mut text = String::new(alloc);
     for _ in 0..paragraphs {
@@ -92,7 +92,7 @@ fn begun(alloc: Global, tables: Rc<Tables>, paragraphs: usize) -> Result<Documen
     Document::of(alloc, desk, tables, 17, Base::Auto)
 }
 
-/// Whether a window at some place is the stretch of the whole grid that it should be.
+/// Whether a window at some place is the part of the whole grid that it should be.
 fn shows(alloc: Global, document: &mut Document, chance: &mut Chance) -> Result<bool, Memory> {
     let length = document.len();
     let place = chance.below(length.saturating_add(1)).min(length);
@@ -101,7 +101,7 @@ fn shows(alloc: Global, document: &mut Document, chance: &mut Chance) -> Result<
     shows_round(alloc, document, place, above, below)
 }
 
-/// Whether the window with so many rows above and below the row of a place is the stretch of the whole grid that it should
+/// Whether the window with so many rows above and below the row of a place is the part of the whole grid that it should
 /// be.
 pub fn shows_round(
     alloc: Global,

@@ -10,7 +10,7 @@ use paragraphs::Para;
 use std::alloc::{AllocError, Global};
 use ucd_files::Tables;
 
-/// Tells a paragraph's level, its places, each with its class and level or `-` where it is removed, and its sequences.
+/// Writes a paragraph's level, its places, each with its class and level or `-` where it is removed, and its sequences.
 fn tell(told: &mut String, embedded: &Embedded) -> Result<(), AllocError> {
     write!(told, "{}", embedded.level())?;
     for place in embedded.places() {
@@ -26,7 +26,7 @@ fn tell(told: &mut String, embedded: &Embedded) -> Result<(), AllocError> {
     Ok(())
 }
 
-/// Tells a sequence's places, its level, sos and eos.
+/// Writes a sequence's places, its level, sos and eos.
 fn tell_sequence(told: &mut String, sequence: &Sequence) -> Result<(), AllocError> {
     for place in sequence.places() {
         write!(told, " {place}")?;
@@ -181,7 +181,7 @@ const UNDER_A_BASE: &[First<Told>] = &[
     ),
 ];
 
-/// An FSI takes its direction from what it holds, whatever the base is.
+/// An FSI takes its direction from its content, whatever the base is.
 #[test]
 fn a_base_gives_the_level_of_each_paragraph(rt: HostRuntime) {
     assert_rows(&rt, UNDER_A_BASE);

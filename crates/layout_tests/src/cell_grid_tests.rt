@@ -93,7 +93,7 @@ const UNDER_A_BASE: &[Drawn<Printed>] = &[
     Drawn(Right, "a!", 4, Printed("  !a\n")),
     // Each paragraph has the base.
     Drawn(Right, "a!\n\nb!", 4, Printed("  !a\n    \n  !b\n")),
-    // An FSI takes its direction from what it holds.
+    // An FSI takes its direction from its content.
     Drawn(
         Right,
         "\u{2068}\u{5D0}!\u{2069}a",

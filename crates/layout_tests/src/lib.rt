@@ -1,4 +1,4 @@
-//! What no clause says of the crates of the layout, as tables of rows.
+//! What no clause says of the crates of the layout, as tables of cases.
 #![tactic(auto)]
 
 #[cfg(test)]

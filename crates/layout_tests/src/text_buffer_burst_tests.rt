@@ -81,7 +81,7 @@ const BURSTS: &[Burst] = &[
         &[Cut { place: 2 }, Cut { place: 1 }, Cut { place: 0 }],
         "",
     ),
-    // A stretch that others replace.
+    // A range that others replace.
     Burst(
         "abcd",
         &[

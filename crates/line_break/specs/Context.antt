@@ -37,7 +37,7 @@ abbrev pub without_spaces : List Item → List Item
 without_spaces [] = []
 without_spaces (i ∷ items) = if one_of (Sp ∷ []) i.class then without_spaces items else i ∷ items
 
--- an odd number of RI items in a row stands nearest
+-- an odd number of RI items side by side is nearest
 abbrev pub odd_regional : List Item → Bool
 odd_regional [] = false
 odd_regional (i ∷ items) = if one_of (Ri ∷ []) i.class then not (odd_regional items) else false

@@ -18,7 +18,7 @@ pub record AreRunsOf (tables : TableValues) (text : List ℕ) (runs : List Shape
 abbrev pub count_of : List ShapeRun → ℕ
 count_of runs = sum_by (λ (run : ShapeRun). run.count) runs
 
--- a cursor that has not passed the cluster of this number: it tells the number of the first cluster of the run at which it is
+-- a cursor that has not passed the cluster of this number: it has the number of the first cluster of the run at which it is
 pub record IsBefore (runs : List ShapeRun) (cursor : Cursor) (number : ℕ) : Type 0 where
   pub within : cursor.run ≤ length runs
   pub first : cursor.first ≡ count_of (take cursor.run runs)

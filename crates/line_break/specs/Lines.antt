@@ -8,7 +8,7 @@ use Rattle.line_break.specs.declared.status.Break.{Break}
 use Rattle.line_break.specs.declared.status.Break.TheVariants.{Must, No}
 use Rattle.line_break.specs.LineClusters.{line_clusters, hangs}
 
--- a stretch of clusters without its tail, its longest end of clusters that hang
+-- a range of clusters without its tail, its longest end of clusters that hang
 abbrev pub without_tail : List Cluster → List Cluster
 without_tail [] = []
 without_tail (c ∷ stretch) = if list_all hangs (c ∷ stretch) then [] else c ∷ without_tail stretch
@@ -17,7 +17,7 @@ without_tail (c ∷ stretch) = if list_all hangs (c ∷ stretch) then [] else c 
 abbrev pub tail : List Cluster → List Cluster
 tail stretch = drop (length (without_tail stretch)) stretch
 
--- the columns of a stretch
+-- the columns of a range
 abbrev pub columns : List Cluster → ℕ
 columns stretch = sum_by (λ (c : Cluster). c.columns) stretch
 

@@ -66,7 +66,7 @@ base b = takes_marks b.item
 abbrev pub hebrew_hyphen : Before → Bool
 hebrew_hyphen b = b.hebrew_hyphen
 
--- left: an odd number of RI items in a row
+-- left: an odd number of RI items side by side
 abbrev pub odd_regional : Before → Bool
 odd_regional b = b.odd_regional
 

@@ -1,4 +1,4 @@
--- The states of the break rules: what stands before a boundary, as far as any rule can tell; and what follows it.
+-- The states of the break rules: what stands before a boundary, as far as the rules distinguish it; and what follows it.
 use Rattle.std.specs.Prelude.{◌≡◌, ℕ, ◌<◌, false, true, ◌&&◌, List, [], ◌∷◌, ◌++◌, map, slice_index_or, if◌then◌else◌}
 use Rattle.bg_types.specs.declared.class.Bidi.TheVariants.{L}
 use Rattle.bg_types.specs.declared.class.Lb.{Lb}
@@ -7,8 +7,8 @@ use Rattle.line_break.specs.Classes.{one_of, resolved}
 use Rattle.line_break.specs.Items.{Item}
 use Rattle.line_break.specs.Context.{Before, before}
 
--- what stands before a boundary, as far as any rule can tell. Right before it LB4 to LB6 and LB8a ask for some classes alone,
--- before any number of spaces LB8 and LB14 to LB17 do: SP stands for all others. Of widths LB30 asks for that of CP
+-- what stands before a boundary, as far as the rules distinguish it. Right before it LB4 to LB6 and LB8a ask for some classes
+-- alone, before any number of spaces LB8 and LB14 to LB17 do: SP stands for all others. Of widths LB30 asks for that of CP
 unfoldable pub reduced : Before → Before
 reduced b = record b {
   point = if one_of (Bk ∷ Cr ∷ Lf ∷ Nl ∷ Zwj ∷ []) b.point then b.point else Sp;
@@ -16,7 +16,7 @@ reduced b = record b {
   spaced = if one_of (B2 ∷ Cl ∷ Cp ∷ Op ∷ Qu ∷ Zw ∷ []) b.spaced then b.spaced else Sp;
 }
 
--- a code point, as far as any rule can tell: LB30 asks for the width of CP and OP alone
+-- a code point, as far as the rules distinguish it: LB30 asks for the width of CP and OP alone
 abbrev pub reduced_point : Item → Item
 reduced_point p = record { class = p.class; wide = one_of (Cp ∷ Op ∷ []) p.class && p.wide }
 

@@ -20,7 +20,7 @@ const WIDE_CP: usize = 43;
 /// The column of a wide character of OP.
 const WIDE_OP: usize = 44;
 
-/// What stands before a boundary, as far as any rule can tell: a row of the pair table.
+/// What stands before a boundary, as far as the rules distinguish it: a row of the pair table.
 #[derive(Clone, Copy)]
 pub(crate) struct State {
     number: u8,
@@ -71,7 +71,7 @@ pub(crate) fn column_of(word: &Word) -> usize
     }
 }
 
-/// The column of a character whose class alone doesn't tell it. It is apart from the loop over statuses, which then tests
+/// The column of a character whose class alone doesn't decide it. It is apart from the loop over statuses, which then tests
 /// a bit in place of a jump; and the word is lent, so that the loop reads of it the class alone.
 #[inline(never)]
 fn column_by_more(word: &Word) -> usize

@@ -1,4 +1,5 @@
--- Where a gap of a text stands after a change: the definition IsCarried. A gap is told by how many characters stand left of it.
+-- Where a gap of a text stands after a change: the definition IsCarried. A gap is named by how many characters stand left of
+-- it.
 use Rattle.std.specs.Prelude.{◌≡◌, ◌≤◌, ◌<◌, ℕ, suc, List, take, drop}
 use Rattle.bg_types.specs.declared.change.Change.{Change}
 use Rattle.bg_types.specs.declared.change.Change.TheVariants.{Put, Cut}

@@ -8,7 +8,7 @@ use Rattle.desk_replica.specs.Stretch.{typed_text, deletions, replacement}
 use Rattle.live_document.specs.Documents.{LiveDocument, IsDrawnAlike, window_round}
 use Rattle.live_document.specs.Showing.{no_window}
 
--- a call: the operation that is taken, or what the desk holds that is merged; what is typed, erased or replaced, by places; the
+-- a call: the operation that is taken, or what the desk has that is merged; what is typed, erased or replaced, by places; the
 -- new width or base; how many rows may be kept; the place of the window that is shown, and how many rows above and below it
 pub data DocumentCall : Type 0 where
   Takes : OpView → DocumentCall
@@ -21,14 +21,14 @@ pub data DocumentCall : Type 0 where
   Keeps : (rows : ℕ) → DocumentCall
   Shows : (place above below : ℕ) → DocumentCall
 
--- the desk holds this set now, and nothing is shown; where the call was refused all is as it was
+-- the desk has this set now, and nothing is shown; where the call was refused all is as it was
 pub record IsChanged (old : LiveDocument) (set : OperationSet) (refused : Bool) (new : LiveDocument) : Type 0 where
   pub drawn : IsDrawnAlike old new
   pub set_is : refused ≡ false → new.desk.set ≡ set
   pub window : refused ≡ false → new.window ≡ no_window
   pub same : refused ≡ true → new ≡ old
 
--- the desk holds what both hold, or, where the merge was refused, what it took up to then; nothing is shown
+-- the desk has what both have, or, where the merge was refused, what it took up to then; nothing is shown
 pub record IsMerged (old : LiveDocument) (other : OperationSet) (refused : Bool) (new : LiveDocument) : Type 0 where
   pub drawn : IsDrawnAlike old new
   pub set_is : refused ≡ false → new.desk.set ≡ union old.desk.set other

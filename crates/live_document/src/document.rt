@@ -133,7 +133,7 @@ impl Document {
         Document::of(alloc, desk, tables, width, base)
     }
 
-    /// A document over a desk, whose operations it may hold already, drawn by these tables at a width in columns and a base
+    /// A document over a desk, which may have operations already, drawn by these tables at a width in columns and a base
     /// direction. The first `show` makes its paragraphs. After `Memory` the desk is dropped.
     /// Cost: O(1), memory for one paragraph.
     pub fn of(
@@ -169,7 +169,7 @@ impl Document {
         })
     }
 
-    /// Pays in advance for n new operations (at most 1,000,000), as the desk's `reserve` does. What is shown stays.
+    /// Reserves memory for n new operations (at most 1,000,000), as the desk's `reserve` does. What is shown stays.
     /// Cost: that of `Replica::reserve`, memory too.
     pub fn reserve(&mut self, n: usize) -> Result<(), Memory>
         requires { n ≤ 1_000_000 }
@@ -473,7 +473,7 @@ impl Document {
                 Ok(())
             }
             Err(Memory) => {
-                // How many rows were made is not told.
+                // How many rows were made is not asked for.
                 forget_rows(&mut self.buffer);
                 self.held = 0;
                 Err(Memory)

@@ -11,7 +11,7 @@ ghost use Rattle.live_document.specs.Runs.{DocumentCall, Shows, IsCall, IsRun};
 ghost use Rattle.live_document.specs.Showing.{no_window};
 
 /// The live law. After any calls of a document that showed nothing at first, what is shown is nothing, or the rows of *Grid* of
-/// the text of the operations that its desk holds, round a place. Two documents that hold the same operations, whatever came in
+/// the text of the operations that its desk has, round a place. Two documents that have the same operations, whatever came in
 /// which order, and are drawn alike show the same rows at the same place.
 pub fn live_law()
     ensures of_now { (start now : LiveDocument) (calls : List DocumentCall) → start.window ≡ no_window → IsRun start calls now

@@ -79,7 +79,7 @@ pub fn shown_row_size(
     row_print_size(tables, own.text, own.row)
 }
 
-/// Tells how many bytes the cells of each entry of that row have there, at the front of a list with room for them.
+/// Answers how many bytes the cells of each entry of that row have there, at the front of a list with room for them.
 pub fn shown_entry_sizes(
     tables: &Tables,
     buffer: &Buffer<ParagraphRows>,

@@ -18,7 +18,7 @@ pub fn rows_under<'a>(cursor: &Cursor<'a, ParagraphRows>) -> &'a [Row]
     }
 }
 
-/// Goes on to the paragraph of a row that is counted from the cursor's own paragraph on, and tells which of the rows there it
+/// Goes on to the paragraph of a row that is counted from the cursor's own paragraph on, and answers which of the rows there it
 /// is.
 pub fn go_to_row(cursor: &mut Cursor<'_, ParagraphRows>, row: usize) -> usize
     requires { row < length (rows_from cursor.old.paragraphs cursor.old.number) }

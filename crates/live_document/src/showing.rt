@@ -137,7 +137,7 @@ pub fn lay_window_out(
     ensures few { IfOk result (λ outcome. outcome.held ≤ 900_000_000_000_000) }
     ensures laid { IfOk result (λ outcome. outcome.laid ≡ count_by not (slice_range (flags buffer.old) outcome.shown.first outcome.end)) }
 {
-    // There are no more paragraphs than a number can tell.
+    // There are no more paragraphs than can be counted.
     let _count = buffer.paragraph_count();
     let own = own_row(alloc, tables, width, base, buffer, place)?;
     let wanted_up = above.saturating_sub(own.row);

@@ -195,7 +195,7 @@ pub fn spot_of(buffer: &Buffer<ParagraphRows>, number: usize, row: usize) -> Spo
     ensures few { result.row + 1 < 2 ^ 64 }
     ensures same { drop result.row (rows_from buffer.now result.number) ≡ drop row (rows_from buffer.now number) }
 {
-    // There are no more paragraphs than a number can tell.
+    // There are no more paragraphs than can be counted.
     let _paragraphs = buffer.paragraph_count();
     let mut number = number;
     let mut row = row;
@@ -215,7 +215,7 @@ pub fn spot_behind(buffer: &Buffer<ParagraphRows>, shown: Shown, number: usize) 
     ensures inside { result.row < length (rows_at buffer.now result.number) }
     ensures same { drop result.row (rows_from buffer.now result.number) ≡ drop (shown.skip + number) (rows_from buffer.now shown.first) }
 {
-    // There are no more paragraphs than a number can tell.
+    // There are no more paragraphs than can be counted.
     let _paragraphs = buffer.paragraph_count();
     let first = spot_of(buffer, shown.first, shown.skip);
     let left = kept_rows(buffer, first.number).len() - first.row;

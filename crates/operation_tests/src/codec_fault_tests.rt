@@ -1,4 +1,4 @@
-//! Operation files that are cut or faulty, in both versions, and what is told of a fault.
+//! Operation files that are cut or faulty, in both versions, and what is reported of a fault.
 
 use crate::feed_tests::LATE_PARENT;
 use crate::op_codec_tests::{EMPTY, FOUR, FOUR_MIGRATED, RUN, TWO, joined};
@@ -319,13 +319,13 @@ fn line_of(alloc: Global, fault: CodecFault) -> Result<String, AllocError> {
     format!(in alloc; "{fault} {} {:?}", fault.code(), fault.frame())
 }
 
-/// Whether this is told of a fault.
+/// Whether this is reported of a fault.
 fn is_told(alloc: Global, fault: CodecFault, line: &str) -> Result<bool, Memory> {
     let told = line_of(alloc, fault)?;
     Ok(told.as_str() == line)
 }
 
-/// A cause, its number, and what is told of it in frame 3.
+/// A cause, its number, and what is reported of it in frame 3.
 struct Told(Cause, u8, &'static str);
 
 impl Row for Told {
@@ -349,7 +349,7 @@ const CAUSES: &[Told] = &[
     Told(Cause::NotJoined, 11, "NotJoined 11 Some(3)"),
 ];
 
-/// What is told of lack of memory.
+/// What is reported of lack of memory.
 struct ToldOfMemory(&'static str);
 
 impl Row for ToldOfMemory {

@@ -183,13 +183,13 @@ pub(crate) enum Case {
     Spends,
     /// A refused insertion leaves the next counter as it was.
     Counts,
-    /// 1,000,000 early deletions leave no place for more.
+    /// 1,000,000 early deletions leave no room for more.
     Fills,
-    /// The first desk finds places, and tells each operation.
+    /// The first desk finds places, and answers each operation.
     Reads,
 }
 
-/// What merging a desk into another one answers, and what is read and how many operations are kept then.
+/// What merging a desk into another one answers, and what is read and how many operations there are then.
 type Merged = (Result<usize, TakeFault>, &'static str, usize);
 
 /// Whether a case comes out. Desks are made and dropped here and in the next function alone, which is dear to prove.
@@ -431,7 +431,7 @@ fn holds<S: Fresh>(desk: &mut Desk<S>, counter: u32) -> bool {
     answer == HELD
 }
 
-/// Whether a desk holds this many early deletions.
+/// Whether this many early deletions are held at a desk.
 fn holds_all<S: Fresh>(desk: &mut Desk<S>, count: u32) -> bool {
     let mut all = true;
     for counter in 1..=count {

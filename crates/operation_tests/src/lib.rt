@@ -1,4 +1,4 @@
-//! What no clause says of the crates on operations, sequences and desks, as tables of rows.
+//! What no clause says of the crates on operations, sequences and desks, as tables of cases.
 #![tactic(auto)]
 
 #[cfg(test)]

@@ -75,7 +75,7 @@ fn lists<S: Sequence>(desk: &Replica<S>) -> Option<bool> {
     Some(right)
 }
 
-/// Whether an empty desk that takes them finds the places, and tells each operation.
+/// Whether an empty desk that takes them finds the places, and answers each operation.
 pub(crate) fn reads<S: Sequence>(desk: &mut Replica<S>) -> bool {
     takes_all(desk).is_some() && places(desk) == Some(true) && lists(desk) == Some(true)
 }

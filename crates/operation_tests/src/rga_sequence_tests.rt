@@ -317,7 +317,7 @@ impl Trial<Runs> for Random {
 #[derive(Drop)]
 struct Stretches {
     seed: u64,
-    /// How many changes in a row begin anew, of this many.
+    /// How many changes one after the other begin anew, of this many.
     anew: u64,
 }
 

@@ -72,7 +72,7 @@ impl<S: Fresh> Follower<S> {
         }
     }
 
-    /// Takes what another desk holds. Where memory is refused, what was taken by then is told.
+    /// Takes what another desk has. Where memory is refused, what was taken by then is told.
     fn merge(&mut self, other: &Replica<S>) -> bool {
         match self.desk.merge_telling(other, &mut self.changes) {
             Err(TakeFault::Memory) => self.desk.merge_telling(other, &mut self.changes).is_ok(),
@@ -103,7 +103,7 @@ impl<S: Fresh> Follower<S> {
         Ok(chars.next().is_none())
     }
 
-    /// Whether each character that was there before is the one that it was: equal ones are told apart. The others get their
+    /// Whether each character that was there before is the one that it was, among equal ones too. The others get their
     /// identifiers.
     fn is_at_its_places(&mut self) -> bool {
         for place in 0..self.copy.len() {
@@ -166,7 +166,7 @@ fn step(dice: &mut Dice, letters: usize) -> Step
     }
 }
 
-/// Lets a desk take one of a world's operations, or what one of its desks holds, or type a character by itself.
+/// Lets a desk take one of a world's operations, or what one of its desks has, or type a character by itself.
 fn deliver<S: Fresh>(
     follower: &mut Follower<S>,
     world: &World<S>,
@@ -351,7 +351,7 @@ fn told_of(alloc: Global, desk: &mut Replica<Blocks>, op: &Op) -> Result<Vec<Cha
     }
 }
 
-/// What a desk is told of all that another one holds.
+/// What a desk is told of all that another one has.
 fn told_of_all(
     alloc: Global,
     desk: &mut Replica<Blocks>,

@@ -1,4 +1,4 @@
-//! What no clause says of the runs and of what the programs stand on, as tables of rows.
+//! What no clause says of the runs and of what the programs rest on, as tables of cases.
 #![tactic(auto)]
 
 #[cfg(test)]

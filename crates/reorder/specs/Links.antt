@@ -1,4 +1,4 @@
--- Lists of numbers that are kept as links: at each number the one right of it.
+-- Lists of numbers that are stored as links: at each number the one right of it.
 use Rattle.std.specs.Prelude.{ℕ, zero, suc, ◌≡◌, List, [], ◌∷◌, slice_index, slice_range}
 use Rattle.std.specs.List.{enumerate_from}
 use Rattle.reorder.specs.VisualList.{Cluster}

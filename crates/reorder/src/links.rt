@@ -1,4 +1,4 @@
-//! Lists of cluster numbers, kept as links.
+//! Lists of cluster numbers, stored as links.
 
 ghost use Rattle.std.specs.Prelude.{◌≡◌, ◌==◌, ◌<◌, ◌≤◌, ◌%◌, length, All, OnOk, slice_set, if◌then◌else◌};
 ghost use Rattle.reorder.specs.Links.{walk};

@@ -1,4 +1,4 @@
--- The stretches of the blocks of a row.
+-- The stretches of the blocks of a list.
 use Rattle.std.specs.Prelude.{ℕ, List, map as each}
 use Rattle.rga_runs.specs.declared.stretch.Stretch.{Stretch}
 use Rattle.rga_runs.specs.declared.block.Block.{Block}

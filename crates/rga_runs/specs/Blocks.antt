@@ -1,4 +1,4 @@
--- Rows of stretches in parts.
+-- Lists of stretches in parts.
 use Rattle.std.specs.Prelude.{◌+◌, ◌<◌, ◌≤◌, ℕ, Bool, not, List, [], length, take, get_or}
 use Rattle.std.specs.List.{flat_map, list_all, prefix_len}
 use Rattle.std.specs.Ordering.{is_lt}

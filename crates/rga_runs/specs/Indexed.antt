@@ -43,8 +43,8 @@ pub record IsIndexed (r : Row) : Type 0 where
   pub halves : AreHalfFull (items_of r.blocks.items)
   pub bounds : AreBounds r.bounds.items (items_of r.blocks.items)
 
--- the next n stretches take no memory: there is a spare block for each of them, or else each spare block pays for the 128 stretches
--- after which it may be needed. So it is with the leaves of keys.
+-- the next n stretches take no memory: there is a spare block for each of them, or else each spare block is for the 128
+-- stretches after which it may be needed. So it is with the leaves of keys.
 pub record HasRoom (r : Row) (n : ℕ) : Type 0 where
   pub paid : vec_len r.spares < n → length (stretches_in r) + n ≤ capacity r
   pub keys : vec_len r.keys.spares < n → length (stretches_in r) + n ≤ key_room r.keys

@@ -51,7 +51,7 @@ IsOutside q s = (k : ℕ) → k < s.count → q ≡ later s.first k → ⊥
 abbrev pub BeginsElsewhere : Identifier → Stretch → Type 0
 BeginsElsewhere q s = s.first ≡ q → ⊥
 
--- the place is the root, or a character's identifier
+-- the parent is the root, or a character's identifier
 abbrev pub IsPlaced : Place → List Stretch → Type 0
 IsPlaced Root ss = Unit {0}
 IsPlaced (After q) ss = All (IsOutside q) ss → ⊥

@@ -169,7 +169,7 @@ fn part_in(stretches: &mut Vec<Stretch>, j: usize, k: usize) -> Id
     first
 }
 
-/// Puts a stretch into a row that has memory for it. At the end nothing moves.
+/// Puts a stretch into a list that has memory for it. At the end nothing moves.
 fn put_in(stretches: &mut Vec<Stretch>, at: usize, new: Stretch)
     requires within { at ≤ vec_len stretches.old }
     requires few { vec_len stretches.old < 256 }
@@ -181,7 +181,7 @@ fn put_in(stretches: &mut Vec<Stretch>, at: usize, new: Stretch)
     if at == stretches.len() {
         stretches.push_reserved(new);
     } else {
-        // The remainder is the place: by it compiled code sees no wrap behind it, and moves all in one piece.
+        // The remainder is the index: by it compiled code sees no wrap behind it, and moves all in one piece.
         stretches.insert(at % FULL, new).unwrap();
     }
 }
@@ -213,7 +213,7 @@ pub fn is_below(a: Id, b: Id) -> bool
     a < b
 }
 
-/// An empty row with memory for a block.
+/// An empty list with memory for a block.
 #[derive(Drop)]
 pub struct Spare {
     pub stretches: Vec<Stretch>,

@@ -110,7 +110,7 @@ fn behind_sibling(row: &Row, id: Id, parent: &Place) -> Option<(usize, usize)>
         + prefix_len (λ e. is_lt (id_cmp id e.id)) (joined (drop p (parts_in chars (stretches_in row.now))))
         ≡ place_of parent.now id (elements_in chars (stretches_in row.now))) }
 {
-    // What is typed in a row is greater, and is not compared.
+    // What is typed in one go is greater, and is not compared.
     if row.latest < id.counter() {
         return None;
     }
@@ -198,7 +198,7 @@ fn put_at_spot(row: &mut Row, b: usize, j: usize, id: Id, parent: Place, start: 
     ensures indexed { IsIndexed row.new }
     ensures room { TakesRoom 1 row.old row.new }
 {
-    // Reading the identifier tells the proof that its counter fits.
+    // Reading the identifier shows the proof that its counter fits.
     let _known = id.counter();
     if j > 0 && row.blocks[b].stretches[j - 1].goes_on(id, &parent, start, hidden) {
         grow(row, b, j - 1, 1);

@@ -27,7 +27,7 @@ impl Key {
         ensures first { result.first ≡ first }
         ensures number { result.number ≡ number }
     {
-        // Reading the identifier tells the proof that its counter fits.
+        // Reading the identifier shows the proof that its counter fits.
         let _known = first.counter();
         Key {
             first,

@@ -20,7 +20,7 @@ pub struct Leaf {
     ghost begun: { rank first ≡ begins keys.items },
 }
 
-/// An empty row with memory for a leaf.
+/// An empty list with memory for a leaf.
 #[derive(Drop)]
 pub struct SpareLeaf {
     pub keys: Vec<Key>,
@@ -96,7 +96,7 @@ impl Leaf {
     }
 }
 
-/// Puts a key into a row that has memory for it. At the end nothing moves.
+/// Puts a key into a list that has memory for it. At the end nothing moves.
 fn put_in(keys: &mut Vec<Key>, at: usize, key: Key)
     requires within { at ≤ vec_len keys.old }
     requires few { vec_len keys.old < 256 }
@@ -108,12 +108,12 @@ fn put_in(keys: &mut Vec<Key>, at: usize, key: Key)
     if at == keys.len() {
         keys.push_reserved(key);
     } else {
-        // The remainder is the place: by it compiled code sees no wrap behind it, and moves all in one piece.
+        // The remainder is the index: by it compiled code sees no wrap behind it, and moves all in one piece.
         keys.insert(at % FULL, key).unwrap();
     }
 }
 
-/// Puts keys in front of a row that has memory for them.
+/// Puts keys in front of a list that has memory for them.
 fn put_in_front(keys: &mut Vec<Key>, more: &[Key])
     requires { vec_len keys.old + length more.now ≤ vec_capacity keys.old }
     ensures items { keys.new.items ≡ more.now ++ keys.old.items }

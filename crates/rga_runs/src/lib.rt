@@ -1,4 +1,4 @@
-//! A sequence in stretches: characters that one site typed one after the other are kept as one.
+//! A sequence in stretches: characters that one site typed one after the other are stored as one.
 #![tactic(auto)]
 
 mod block;

@@ -8,7 +8,7 @@ use std::marker::Model;
 /// How many values half a counter has.
 const HALF_VALUES: u32 = 65_536;
 
-/// What an element follows, in 6 bytes: an identifier, whose counter is kept in two halves, or zeros for the root.
+/// What an element follows, in 6 bytes: an identifier, whose counter is stored in two halves, or zeros for the root.
 #[derive(Clone, Copy)]
 pub struct Parent {
     low: u16,

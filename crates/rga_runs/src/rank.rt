@@ -1,4 +1,4 @@
-//! Where keys stand in a row of them.
+//! Where keys stand in a list of them.
 
 ghost use Rattle.std.specs.Prelude.{◌≡◌, ◌+◌, ◌<◌, ◌≤◌, ℕ, length, get_or};
 ghost use Rattle.std.specs.Bool.{OnTrue};

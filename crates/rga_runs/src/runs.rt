@@ -38,14 +38,14 @@ use rga_tree::{Element, Fresh, Sequence, Unpacked};
 use std::alloc::Global;
 use std::str::Chars;
 
-/// How many characters there are at most: more than any desk keeps. So a stretch has its place among them in 32 bits.
+/// How many characters there are at most: more than any desk has. So a stretch has its place among them in 32 bits.
 const MOST: usize = 4_294_967_296;
 
 /// For how many placings there is room at least, where some is made.
 const FEW: usize = 16;
 
-/// The elements of a tree in the order of its walk, in stretches: what one site typed in a row takes the room of its characters.
-/// Places count elements, from 0.
+/// The elements of a tree in the order of its walk, in stretches: what one site typed in one go takes the room of its
+/// characters. Places count elements, from 0.
 pub struct Runs {
     row: Row,
     /// The characters of all elements, in the order of their arrival.
@@ -121,7 +121,7 @@ impl Runs {
             (insertions id parent (ch ∷ take result (chars (chars_rest left.old)))) }
         ensures room { ⟦<Runs as Sequence>⟧.free self.new + (result + 1) ≡ ⟦<Runs as Sequence>⟧.free self.old }
     {
-        // Reading the identifier tells the proof that it is well formed.
+        // Reading the identifier shows the proof that it is well formed.
         let known = id.counter();
         put(&mut self.row, id, parent, self.characters.len(), false);
         self.characters.push_reserved(ch);
@@ -186,7 +186,7 @@ impl Sequence for Runs {
     }
 
     fn place(&mut self, id: Id, parent: Place, ch: char, hidden: bool) {
-        // Reading the identifier tells the proof that it is well formed.
+        // Reading the identifier shows the proof that it is well formed.
         let known = id.counter();
         put(&mut self.row, id, parent, self.characters.len(), hidden);
         self.characters.push_reserved(ch);

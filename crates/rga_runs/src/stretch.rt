@@ -51,7 +51,7 @@ impl Stretch {
         ensures parent { result.parent ≡ parent }
         ensures hidden { result.hidden ≡ (if hidden then 1 else 0) }
     {
-        // Reading the identifier tells the proof that its counter fits.
+        // Reading the identifier shows the proof that its counter fits.
         let _known = id.counter();
         Stretch {
             start: start as u32,

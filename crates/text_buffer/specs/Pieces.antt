@@ -1,4 +1,4 @@
--- Paragraphs as they are kept, and what they are seen as.
+-- Paragraphs as they are stored, and what they are seen as.
 use Rattle.std.specs.Prelude.{ℕ, List, Option, is_some, count_by, map as each, string_bytes, sum_by}
 use Rattle.std.specs.Option.{option_map_or}
 use Rattle.paragraphs.specs.Text.{code_points}

@@ -1,4 +1,4 @@
-//! A text that is kept in paragraphs.
+//! A text in paragraphs.
 
 ghost use Rattle.std.specs.Prelude.{◌≡◌, ◌+◌, ◌<◌, ◌≤◌, ◌↔◌, ℕ, Some, None, Err, insert, remove, length, map, take, drop, slice_get, slice_set, option_copied, encode_utf8_all, IfOk, IfErr, IsTrue, OnOk, OnErr};
 ghost use Rattle.unicode_tables.specs.Tables.{TableValues};
@@ -34,7 +34,7 @@ use std::alloc::Global;
 use std::marker::Model;
 use unicode_tables::Tables;
 
-/// A text of at most 4,000,000 bytes, kept in its paragraphs (P1), and beside each what its owner keeps of it. An edit makes
+/// A text of at most 4,000,000 bytes in its paragraphs (P1), and beside each what its owner keeps of it. An edit makes
 /// those anew that it touches, and finds them by blocks of some hundred. Places count code points. All its calls ask for the
 /// tables that it was made with.
 pub struct Buffer<K> {
@@ -251,7 +251,7 @@ impl<K: Drop> Buffer<K> {
         forget_but(&mut self.blocks, spared);
     }
 
-    /// Puts a text in the place of the code points from one place up to another, and tells which paragraphs it made anew; of
+    /// Puts a text in the place of the code points from one place up to another, and answers which paragraphs it made anew; of
     /// these nothing is kept, and of the others what was. After a fault all is as it was: `TooLong` where the text would have
     /// more than 4,000,000 bytes.
     /// Cost: O(d / 32 + 64) of the d paragraphs between it and where the buffer is, and O(m) of those that it
@@ -386,7 +386,7 @@ impl<K: Drop> Buffer<K> {
         Ok(())
     }
 
-    /// Makes the first run of some changes, and tells how many these are.
+    /// Makes the first run of some changes, and answers how many these are.
     fn apply_run(&mut self, tables: &Tables, changes: &[Change]) -> Result<usize, BufferFault>
         requires some { 0 < length changes.now }
         requires split { IsSplit tables.now (paragraphs_in self.old) }

@@ -74,7 +74,7 @@ impl<'a, K> Cursor<'a, K> {
         piece_at(self.blocks, self.found).kept.as_ref()
     }
 
-    /// Goes on to the next paragraph, if there is one, and tells whether there is. At the last one it stays.
+    /// Goes on to the next paragraph, if there is one, and answers whether there is. At the last one it stays.
     pub fn next(&mut self) -> bool
         ensures paragraphs { self.new.paragraphs ≡ self.old.paragraphs }
         ensures moved { IsTrue result ↔ (self.old.number + 1 < length self.old.paragraphs) }
@@ -89,7 +89,7 @@ impl<'a, K> Cursor<'a, K> {
         }
     }
 
-    /// Goes back to the paragraph before, if there is one, and tells whether there is. At the first one it stays.
+    /// Goes back to the paragraph before, if there is one, and answers whether there is. At the first one it stays.
     pub fn back(&mut self) -> bool
         ensures paragraphs { self.new.paragraphs ≡ self.old.paragraphs }
         ensures moved { IsTrue result ↔ (0 < self.old.number) }

@@ -1,4 +1,4 @@
-//! Why a buffer refuses a text or an edit, and how many changes stand then.
+//! Why a buffer refuses a text or an edit, and how many changes are made then.
 
 ghost use Rattle.std.specs.Prelude.{◌≡◌};
 ghost use Rattle.text_buffer.specs.Codes.{buffer_code};
@@ -40,7 +40,7 @@ impl From<Memory> for BufferFault {
     }
 }
 
-/// Why changes were not all made: how many of them stand, and what refused the edit that came next.
+/// Why changes were not all made: how many of them were, and what refused the edit that came next.
 #[derive(Clone, Copy, Debug, PartialEq, Eq, Hash)]
 pub struct Stopped {
     pub made: usize,

@@ -72,7 +72,7 @@ pub fn find_at<K>(blocks: &[Block<K>], near: Before, place: usize) -> Found
     }
 }
 
-/// The paragraph as it is kept.
+/// The paragraph as it is stored.
 pub fn piece_at<'a, K>(blocks: &'a [Block<K>], found: Found) -> &'a Piece<K>
     requires { IsFound blocks.now found }
     ensures points { points_of result.now ≡ get_or (texts_in blocks.now) found.number [] }

@@ -1,4 +1,4 @@
-//! A paragraph as it is kept.
+//! A paragraph as it is stored.
 
 ghost use Rattle.std.specs.Prelude.{◌≡◌, ◌<◌, None, IfOk, is_some, cond, length, string_bytes};
 ghost use Rattle.paragraphs.specs.Text.{code_points};
@@ -27,7 +27,7 @@ impl<K: Drop> Piece<K> {
         Ok(Piece::holding(String::from_str(alloc, text)?, places))
     }
 
-    /// A paragraph that holds this text of so many code points, and of which nothing is kept.
+    /// A paragraph that has this text of so many code points, and of which nothing is kept.
     pub fn holding(text: String, places: usize) -> Piece<K>
         requires { places ≡ length (code_points (string_bytes text)) }
         ensures text { string_bytes result.text ≡ string_bytes text }

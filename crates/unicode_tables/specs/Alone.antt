@@ -18,7 +18,7 @@ is_plain c =
 abbrev pub is_direction_mark : ℕ → Bool
 is_direction_mark c = c == 0x200E || c == 0x200F || c == 0x61C
 
--- no code point of this block of 256 is plain or a mark of direction: its properties tell all of its word
+-- no code point of this block of 256 is plain or a mark of direction: its properties say all of its word
 abbrev pub is_by_properties : ℕ → Bool
 is_by_properties block = nat_lt 6 block && not (block == 32)
 

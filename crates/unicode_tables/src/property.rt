@@ -12,7 +12,7 @@ use std::marker::Model;
 /// The last code point.
 const LAST: u32 = 0x10FFFF;
 
-/// A property of code points (UAX #44): a value for each. It is made range by range, as data files tell it, and takes
+/// A property of code points (UAX #44): a value for each. It is made range by range, as data files give it, and takes
 /// memory for the blocks of 256 code points that don't have one value.
 #[derive(Drop)]
 pub struct Property<V> {

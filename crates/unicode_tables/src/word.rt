@@ -58,7 +58,7 @@ fn is_bracket(bracket: Bracket) -> bool
     }
 }
 
-/// Whether no code point of a block is plain or a mark of direction: the properties tell its word.
+/// Whether no code point of a block is plain or a mark of direction: the properties say its word.
 fn is_by_properties(block: usize) -> bool
     ensures { result ≡ is_by_properties block }
 {
@@ -91,7 +91,7 @@ impl Properties<'_> {
         }
     }
 
-    /// Whether a code point has the classes that a word tells.
+    /// Whether a code point has the classes that a word says.
     #[inline]
     fn has_classes_of(&self, word: Word, block: usize, place: usize) -> bool
         requires block { block < 4352 }
@@ -103,7 +103,7 @@ impl Properties<'_> {
             && self.ea.in_block(block, place) == word.ea
     }
 
-    /// Whether a code point is a bracket and has a mirrored character as a word tells.
+    /// Whether a code point is a bracket and has a mirrored character as a word says.
     #[inline]
     fn has_marks_of(&self, word: Word, block: usize, place: usize) -> bool
         requires block { block < 4352 }

@@ -19,7 +19,7 @@ const WIDTH: u16 = 80;
 /// How many rows a window shows.
 const ROWS: usize = 24;
 
-/// The bytes of the text, and how many paragraphs the view keeps.
+/// The bytes of the text, and how many paragraphs the view keeps the rows of.
 const BYTES: usize = 1_000_000;
 
 const ROOM: usize = 10_000;

@@ -22,7 +22,7 @@ const BYTES: usize = 400_000;
 /// How many times they meet.
 const MEETINGS: usize = 4;
 
-/// How many stretches each of them types or erases before, and the most characters of one.
+/// How many ranges each of them types or erases before, and the most characters of one.
 const STRETCHES: usize = 20;
 
 const STRETCH: usize = 50;
@@ -104,7 +104,7 @@ fn go_on(
     Ok(())
 }
 
-/// Types or erases some stretches, each at another place.
+/// Types or erases some ranges, each at another place.
 fn write(desk: &mut Desk, letters: &[char], chance: &mut Chance) -> Result<()> {
     for _ in 0..STRETCHES {
         let place = chance.below(desk.len());

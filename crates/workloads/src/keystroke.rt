@@ -16,7 +16,7 @@ const ABOVE: usize = 25;
 
 const BELOW: usize = 24;
 
-/// The bytes of the texts. A desk keeps 1,000,000 operations: after the longest there is room left for the keys.
+/// The bytes of the texts. A desk has at most 1,000,000 operations: after the longest there is room left for the keys.
 const SIZES: [usize; 4] = [4_000, 100_000, 1_000_000, 1_350_000];
 
 /// How many keys are pressed in each text in each way.
@@ -102,7 +102,7 @@ pub fn show(document: &mut Document, place: usize) -> Result<()> {
     Ok(())
 }
 
-/// Goes over the rows of the window, and tells of them all in one number.
+/// Goes over the rows of the window, and answers all of them in one number.
 #[inline(never)]
 pub fn look(document: &Document) -> usize {
     let window = document.window();

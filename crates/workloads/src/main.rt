@@ -4,8 +4,8 @@
 //! results. Each seed gives other inputs of the same kind and size; with a share they are so many times smaller.
 //!
 //! `workloads keys FOLLOWS WAY COUNT` presses keys in the text on standard input, and writes for each the nanoseconds that it took
-//! with what follows it, and a number that tells of what is shown; `workloads once WHAT` pastes or opens that text, and writes what
-//! each part took. `workloads --help` tells its words.
+//! with what follows it, and a number that sums up what is shown; `workloads once WHAT` pastes or opens that text, and writes
+//! what each part took. `workloads --help` lists its words.
 #![tactic(auto)]
 
 mod keystroke;

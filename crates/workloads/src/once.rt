@@ -17,7 +17,7 @@ pub fn paste(rt: &HostRuntime, text: &str) -> Result<()> {
     paste_from(rt, &mut desk, text)
 }
 
-/// Pastes a text at a desk that holds nothing yet, as `paste` does.
+/// Pastes a text at a desk that has nothing yet, as `paste` does.
 fn paste_from(rt: &HostRuntime, desk: &mut Desk, text: &str) -> Result<()> {
     let tables = shared_tables(rt.alloc())?;
     let mut made = Vec::new(rt.alloc());

@@ -95,7 +95,7 @@ fn draw_each(
     Ok(())
 }
 
-/// Draws the whole text of a desk, and tells how many rows it has.
+/// Draws the whole text of a desk, and answers how many rows it has.
 fn draw(view: &mut View, desk: &Desk) -> Result<usize> {
     let text = desk.text()?;
     if text.len() > LONGEST {

@@ -101,7 +101,7 @@ fn read_merge(fields: &[u8], files: &[Vec<Op>]) -> Result<RunStep, ScheduleFault
     tested_merge(desk, from, files)
 }
 
-/// The step by which a desk takes all that another holds, if both are there.
+/// The step by which a desk takes all that another has, if both are there.
 fn tested_merge(desk: usize, from: usize, files: &[Vec<Op>]) -> Result<RunStep, ScheduleFault>
     ensures said { result ≡ merge_of (lists_of files.now) (Some desk) (Some from) }
     ensures there { IfOk result (IsStepOf (lists_of files.now)) }

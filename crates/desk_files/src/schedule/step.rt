@@ -5,7 +5,7 @@
 pub enum RunStep {
     /// The desk takes an operation of a file.
     Take { desk: usize, file: usize, op: usize },
-    /// The desk takes all that another holds.
+    /// The desk takes all that another has.
     Merge { desk: usize, from: usize },
     /// The desk's text is drawn.
     Show { desk: usize },

@@ -1,4 +1,4 @@
-//! Clusters that have more bytes or code points than 16 bits can tell.
+//! Clusters that have more bytes or code points than fit into 16 bits.
 
 use super::*;
 use crate::drawn::DrawnOf;

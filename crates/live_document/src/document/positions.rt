@@ -1,4 +1,4 @@
-//! Carets of a document, told without the numbers of rows: *CaretMoves* on the grid of the whole text.
+//! Carets of a document, named without the numbers of rows: *CaretMoves* on the grid of the whole text.
 
 ghost use Rattle.std.specs.Prelude.{◌≡◌, ◌≤◌, true, length, IfOk, OnOk};
 ghost use Rattle.std.specs.Bool.{OnTrue, OnFalse};

@@ -58,7 +58,7 @@ impl Document {
         shown_row_size(&self.tables, &self.buffer, self.shown, number)
     }
 
-    /// Tells how many bytes the cells of each entry of a row that is shown have in what `print_row` writes, as
+    /// Answers how many bytes the cells of each entry of a row that is shown have in what `print_row` writes, as
     /// `cell_grid::row_entry_sizes` does, at the front of a list with room for them.
     /// Cost: that of `Window::row` and `row_entry_sizes`.
     pub fn row_entry_sizes(&self, number: usize, sizes: &mut [usize]) -> Result<(), Memory>

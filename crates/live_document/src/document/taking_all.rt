@@ -29,7 +29,7 @@ pub struct TakenAll {
 }
 
 impl Document {
-    /// Takes operations in order, as `take` does each, up to the first that is refused: those before it stand. Appends to
+    /// Takes operations in order, as `take` does each, up to the first that is refused: those before it stay taken. Appends to
     /// the list how the text changed by them, or nothing where there is no memory for all of it: there is while as many
     /// are spare, and the list has room for that many changes and one for each insertion that waits. The paragraphs
     /// follow once, however many operations change one of them. Where one was taken, nothing is shown then.
