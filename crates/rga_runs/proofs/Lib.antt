@@ -15,6 +15,7 @@ pub mod Giving
 pub mod Places
 pub mod Passed
 pub mod Neighbours
+pub mod Summed
 pub mod Apart
 pub mod Homes
 pub mod Known

@@ -2,6 +2,7 @@
 use Rattle.std.proofs.Common.{◌≡◌, ℕ, zero, suc, ◌<◌, ◌≤◌, ◌+◌, ◌*◌, List, [], ◌∷◌, ◌++◌, length, take, drop, get_or, ap, ◌∙◌, arith}
 use Rattle.std.specs.Prelude.{insert, set}
 use Rattle.std.specs.List.{sum_by}
+use Rattle.std.proofs.Math.Seq.{take-add}
 use Rattle.std.proofs.lemmas.List.{take-append-drop}
 use Rattle.std.proofs.lemmas.List.Sums.{sum_by-cons}
 use Rattle.rga_runs.specs.declared.stretch.Stretch.{Stretch}
@@ -79,3 +80,33 @@ sum_front f [] zero = omega arith
 sum_front f [] (suc n) = omega arith
 sum_front f (x ∷ xs) zero = omega arith
 sum_front f (x ∷ xs) (suc n) = omega (arith, sum-append f x (row (take n xs)), sum-append f x (row xs), sum_front f xs n)
+
+-- as many more as are read behind the first ones
+pub count_behind : (ss : List Stretch) (m n : ℕ) → count_in (take (m + n) ss) ≡ count_in (take m ss) + count_in (take n (drop m ss))
+count_behind ss m n = ap count_in (take-add m n ss) ∙ sum-append (λ (s : Stretch). s.count) (take m ss) (take n (drop m ss))
+
+-- ---- where none is hidden
+
+pub visible_in_le : (ss : List Stretch) → visible_in ss ≤ count_in ss
+visible_in_le [] = omega arith
+visible_in_le (s ∷ ss) = omega (arith, sum_by-cons visible_of s ss, sum_by-cons (λ (s : Stretch). s.count) s ss, unset_le s.count s.hidden, visible_in_le ss)
+
+-- each of the first ones is visible
+pub all_visible_front : (ss : List Stretch) (n : ℕ) → visible_in ss ≡ count_in ss → visible_in (take n ss) ≡ count_in (take n ss)
+all_visible_front [] zero same = omega arith
+all_visible_front [] (suc n) same = omega arith
+all_visible_front (s ∷ ss) zero same = omega arith
+all_visible_front (s ∷ ss) (suc n) same =
+    let own = sum_by-cons visible_of s ss in
+    let all = sum_by-cons (λ (s : Stretch). s.count) s ss in
+    let rest : visible_in ss ≡ count_in ss = omega (arith, own, all, same, unset_le s.count s.hidden, visible_in_le ss) in
+    omega (arith, sum_by-cons visible_of s (take n ss), sum_by-cons (λ (s : Stretch). s.count) s (take n ss), own, all, same, rest, all_visible_front ss n rest)
+
+-- and so is each of one stretch
+pub all_visible_at : (ss : List Stretch) (j : ℕ) (d : Stretch) → j < length ss → visible_in ss ≡ count_in ss → visible_of (get_or ss j d) ≡ (get_or ss j d).count
+all_visible_at [] j d there same = absurd (omega arith)
+all_visible_at (s ∷ ss) zero d there same =
+    omega (arith, sum_by-cons visible_of s ss, sum_by-cons (λ (s : Stretch). s.count) s ss, same, unset_le s.count s.hidden, visible_in_le ss)
+all_visible_at (s ∷ ss) (suc j) d there same =
+    let rest : visible_in ss ≡ count_in ss = omega (arith, sum_by-cons visible_of s ss, sum_by-cons (λ (s : Stretch). s.count) s ss, same, unset_le s.count s.hidden, visible_in_le ss) in
+    all_visible_at ss j d (omega (arith, there)) rest

@@ -10,6 +10,7 @@ use Rattle.rga_runs.specs.Blocks.{row_of, AreHalfFull}
 use Rattle.rga_runs.specs.BlockRows.{items_of, numbers_of}
 use Rattle.rga_runs.specs.Keyed.{look_in}
 use Rattle.rga_runs.specs.Bounds.{AreBounds}
+use Rattle.rga_runs.specs.Sums.{AreSums}
 use Rattle.rga_runs.specs.KeyRows.{keys_in, key_room}
 
 abbrev pub stretches_in : Row → List Stretch
@@ -32,7 +33,8 @@ abbrev pub AreKnown : (Identifier → Option (Identifier × ℕ)) → List Stret
 AreKnown look ss = (q f : Identifier) (n : ℕ) → q.counter < 2 ^ 32 → look q ≡ Some (f, n) → All (IsOutside f) ss → ⊥
 
 -- the index leads from each identifier to its stretch, and from no identifier to one that doesn't stand; `places` has the place of
--- each number's block, and `bounds` what no stretch of some neighbouring blocks begins below
+-- each number's block, `bounds` what no stretch of some neighbouring blocks begins below, and `sums` how many of their characters are
+-- visible
 pub record IsIndexed (r : Row) : Type 0 where
   pub homes : AreHome (look_in (keys_in r.keys)) (items_of r.blocks.items) (numbers_of r.blocks.items)
   pub known : AreKnown (look_in (keys_in r.keys)) (stretches_in r)
@@ -42,6 +44,8 @@ pub record IsIndexed (r : Row) : Type 0 where
   pub counted : r.count ≡ length (stretches_in r)
   pub halves : AreHalfFull (items_of r.blocks.items)
   pub bounds : AreBounds r.bounds.items (items_of r.blocks.items)
+  pub sums : AreSums r.sums.items (items_of r.blocks.items)
+  pub few : vec_len r.blocks < 2 ^ 32
 
 -- the next n stretches take no memory: there is a spare block for each of them, or else each spare block is for the 128
 -- stretches after which it may be needed. So it is with the leaves of keys.

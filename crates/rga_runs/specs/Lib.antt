@@ -6,6 +6,7 @@ pub mod Changed
 pub mod Blocks
 pub mod BlockRows
 pub mod Bounds
+pub mod Sums
 pub mod Keyed
 pub mod Leaves
 pub mod KeyRows

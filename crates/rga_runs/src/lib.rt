@@ -4,6 +4,7 @@
 mod block;
 mod bounds;
 mod change;
+mod counts;
 mod cut;
 mod key;
 mod keys;

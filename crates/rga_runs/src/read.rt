@@ -3,11 +3,13 @@
 ghost use Rattle.std.specs.Prelude.{◌≡◌, ◌+◌, ◌^◌, ◌<◌, ◌≤◌, ℕ, List, [], length, take, get_or, false};
 ghost use Rattle.rga_runs.specs.declared.stretch.Stretch.{Stretch as Kept};
 ghost use Rattle.rga_runs.specs.Typed.{is_odd, bits_from, unset};
-ghost use Rattle.rga_runs.specs.Stretches.{count_in, visible_in};
+ghost use Rattle.rga_runs.specs.Stretches.{count_in, visible_in, visible_of};
 ghost use Rattle.rga_runs.specs.Blocks.{row_of, at_spot};
 ghost use Rattle.rga_runs.specs.BlockRows.{items_of};
+ghost use Rattle.rga_runs.specs.Sums.{AreSums};
 
 use crate::block::Block;
+use crate::counts::{before_block, pass};
 use crate::search::{count_visible, spot_of, visible_stretch};
 
 /// Where element n stands: its block, its stretch there, and its place in that.
@@ -42,8 +44,9 @@ fn block_of(blocks: &[Block], n: usize) -> (usize, usize)
 }
 
 /// Where visible element n stands: its block, its stretch there, and its place in that.
-pub fn visible_spot(blocks: &[Block], n: usize) -> (usize, usize, usize)
-    requires { n < visible_in (row_of (items_of blocks.now)) }
+pub fn visible_spot(blocks: &[Block], sums: &[usize], n: usize) -> (usize, usize, usize)
+    requires there { n < visible_in (row_of (items_of blocks.now)) }
+    requires sums { AreSums sums.now (items_of blocks.now) }
     ensures block { result.0 < length blocks.now }
     ensures within { result.1 < length (get_or (items_of blocks.now) result.0 []) }
     ensures inside { (d : Kept) → result.2 < (get_or (get_or (items_of blocks.now) result.0 []) result.1 d).count }
@@ -51,21 +54,38 @@ pub fn visible_spot(blocks: &[Block], n: usize) -> (usize, usize, usize)
     ensures place { (d : Kept) → visible_in (take (at_spot (items_of blocks.now) result.0 result.1) (row_of (items_of blocks.now)))
         + unset result.2 (get_or (get_or (items_of blocks.now) result.0 []) result.1 d).hidden ≡ n }
 {
-    let (b, left) = visible_block(blocks, n);
-    let (j, rest) = visible_stretch(&blocks[b].stretches, left);
+    let (b, left) = visible_block(blocks, sums, n);
+    let (j, rest) = stretch_of(&blocks[b], left);
     let k = blocks[b].stretches[j].visible_at(rest);
     (b, j, k)
 }
 
+/// The stretch of a block that has visible element k of it, and how many visible ones are before that there. Where none is hidden,
+/// each is passed by how long it is.
+fn stretch_of(block: &Block, k: usize) -> (usize, usize)
+    requires { k < visible_in block.now.stretches.items }
+    ensures block { result.0 < length block.now.stretches.items }
+    ensures within { (d : Kept) → result.1 < visible_of (get_or block.now.stretches.items result.0 d) }
+    ensures place { visible_in (take result.0 block.now.stretches.items) + result.1 ≡ k }
+{
+    if block.visible == block.count {
+        spot_of(&block.stretches, k)
+    } else {
+        visible_stretch(&block.stretches, k)
+    }
+}
+
 /// The block of visible element n, and how many visible ones stand before it there.
-fn visible_block(blocks: &[Block], n: usize) -> (usize, usize)
-    requires { n < visible_in (row_of (items_of blocks.now)) }
+fn visible_block(blocks: &[Block], sums: &[usize], n: usize) -> (usize, usize)
+    requires there { n < visible_in (row_of (items_of blocks.now)) }
+    requires sums { AreSums sums.now (items_of blocks.now) }
     ensures block { result.0 < length blocks.now }
     ensures within { result.1 < visible_in (get_or (items_of blocks.now) result.0 []) }
     ensures place { visible_in (row_of (take result.0 (items_of blocks.now))) + result.1 ≡ n }
 {
-    let mut left = n;
-    for b in 0..blocks.len() {
+    let (from, rest) = pass(blocks, sums, n);
+    let mut left = rest;
+    for b in from..blocks.len() {
         let visible = blocks[b].visible;
         if left < visible {
             return (b, left);
@@ -76,7 +96,8 @@ fn visible_block(blocks: &[Block], n: usize) -> (usize, usize)
 }
 
 /// How many visible elements stand before character k of a stretch.
-pub fn count_before(blocks: &[Block], b: usize, j: usize, k: usize) -> usize
+pub fn count_before(blocks: &[Block], sums: &[usize], b: usize, j: usize, k: usize) -> usize
+    requires sums { AreSums sums.now (items_of blocks.now) }
     requires few { visible_in (row_of (items_of blocks.now)) < 2 ^ 64 }
     requires block { b < length blocks.now }
     requires within { j < length (get_or (items_of blocks.now) b []) }
@@ -85,19 +106,5 @@ pub fn count_before(blocks: &[Block], b: usize, j: usize, k: usize) -> usize
         + unset k (get_or (get_or (items_of blocks.now) b []) j d).hidden }
 {
     let stretches = &blocks[b].stretches;
-    visible_in_blocks(&blocks[..b])
-        + count_visible(&stretches[..j])
-        + stretches[j].visible_before(k)
-}
-
-/// How many elements of these blocks are visible.
-fn visible_in_blocks(blocks: &[Block]) -> usize
-    requires few { visible_in (row_of (items_of blocks.now)) < 2 ^ 64 }
-    ensures { result ≡ visible_in (row_of (items_of blocks.now)) }
-{
-    let mut visible = 0;
-    for block in blocks {
-        visible += block.visible;
-    }
-    visible
+    before_block(blocks, sums, b) + count_visible(&stretches[..j]) + stretches[j].visible_before(k)
 }

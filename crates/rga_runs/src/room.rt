@@ -11,6 +11,7 @@ ghost use Rattle.rga_runs.specs.Indexed.{stretches_in, stretches_for, IsHome, Ar
 
 use crate::block::{Block, Spare};
 use crate::bounds::{self, NEIGHBOURS};
+use crate::counts;
 use crate::cut::{FULL, kept_of, missing};
 use crate::keys::{self, Keys};
 use crate::order::{len_of, split_at};
@@ -77,6 +78,8 @@ fn split(row: &mut Row, q: usize, cut: usize)
     bounds::lower_behind(&mut row.bounds, &row.blocks, q / NEIGHBOURS + 1);
     bounds::add(&mut row.bounds, row.blocks.len(), row.blocks[q].least);
     bounds::renew(&mut row.bounds, &row.blocks, from);
+    counts::move_on(&mut row.sums, &row.blocks, q);
+    counts::add(&mut row.sums, &row.blocks);
 }
 
 /// Writes down that these stretches are those of another block now. Each has a key already.
@@ -142,6 +145,7 @@ pub fn make_memory(row: &mut Row, alloc: Global, n: usize) -> Result<(), Memory>
     row.blocks.reserve(row.spares.capacity())?;
     row.places.reserve(row.spares.capacity())?;
     row.bounds.reserve(row.spares.capacity() / NEIGHBOURS + 1)?;
+    row.sums.reserve(row.spares.capacity() / NEIGHBOURS + 1)?;
     add_spares(&mut row.spares, alloc, more)
 }
 

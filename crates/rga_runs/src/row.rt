@@ -17,7 +17,8 @@ use crate::key::Key;
 use crate::keys::{self, Keys};
 use crate::order::{grow_at, hide_at, part_at, put_at};
 use crate::room::make_room;
-use crate::{bounds, search};
+use crate::stretch::weight;
+use crate::{bounds, counts, search};
 use bg_types::{Id, Place};
 
 /// Blocks in order, memory for more, the key of each stretch, and the place of the block of each number.
@@ -36,6 +37,8 @@ pub struct Row {
     /// For each 32 blocks of the row an identifier that is no greater than any with which a stretch of theirs begins. The last
     /// blocks may have none.
     pub bounds: Vec<Id>,
+    /// For each 32 blocks of the row how many of their characters are visible. The last blocks may have none.
+    pub sums: Vec<usize>,
 }
 
 /// The block of an identifier, the place of its stretch there, and which character of that it is.
@@ -203,6 +206,7 @@ pub fn put_lone(
     let (q, at) = make_room(row, b, j);
     put_at(&mut row.blocks, q, at, id, parent, start, hidden);
     bounds::lower(&mut row.bounds, q, id);
+    counts::raise(&mut row.sums, q, weight(hidden));
     let number = row.blocks[q].number;
     keys::put(&mut row.keys, id, number, at);
     row.count += 1;
@@ -253,6 +257,7 @@ pub fn grow(row: &mut Row, b: usize, j: usize, more: usize)
     ensures room { TakesRoom 0 row.old row.new }
 {
     grow_at(&mut row.blocks, b, j, more);
+    counts::raise(&mut row.sums, b, more);
     row.recent = (b, j);
 }
 
@@ -269,4 +274,5 @@ pub fn hide_character(row: &mut Row, b: usize, j: usize, k: usize)
     ensures room { TakesRoom 0 row.old row.new }
 {
     hide_at(&mut row.blocks, b, j, k);
+    counts::lower(&mut row.sums, b, 1);
 }

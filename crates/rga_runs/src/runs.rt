@@ -96,6 +96,7 @@ impl Runs {
                 recent: (0, 0),
                 latest: 0,
                 bounds: Vec::new(alloc),
+                sums: Vec::new(alloc),
             },
             characters: Vec::new(alloc),
             alloc,
@@ -138,7 +139,7 @@ impl Runs {
         ensures id { slice_get (visible_ids (⟦<Runs as Sequence>⟧.content self.now)) k ≡ Some result.id }
         ensures ch { slice_get (text (⟦<Runs as Sequence>⟧.content self.now)) k ≡ Some result.ch }
     {
-        let (b, j, i) = visible_spot(&self.row.blocks, k);
+        let (b, j, i) = visible_spot(&self.row.blocks, &self.row.sums, k);
         self.at(b, j, i)
     }
 
@@ -224,13 +225,13 @@ impl Sequence for Runs {
     }
 
     fn spot_at(&mut self, k: usize) -> (usize, usize) {
-        let (b, j, i) = visible_spot(&self.row.blocks, k);
+        let (b, j, i) = visible_spot(&self.row.blocks, &self.row.sums, k);
         (FULL * b + j, i)
     }
 
     fn visible_before(&self, id: Id) -> usize {
         let (b, j, k) = spot(&self.row, id).unwrap();
-        count_before(&self.row.blocks, b, j, k)
+        count_before(&self.row.blocks, &self.row.sums, b, j, k)
     }
 
     fn placed(&self) -> usize {

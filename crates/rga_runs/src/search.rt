@@ -10,6 +10,9 @@ ghost use Rattle.rga_runs.specs.Stretches.{count_in, visible_in, visible_of, Beg
 use crate::stretch::Stretch;
 use bg_types::Id;
 
+/// How many stretches are passed at once.
+const TOGETHER: usize = 16;
+
 /// Which stretch begins with an identifier. It is sought from a place on first.
 pub fn begun_by(stretches: &[Stretch], hint: usize, first: Id) -> Option<usize>
     ensures there { IfSome result (λ j. j < length stretches.now) }
@@ -44,8 +47,9 @@ pub fn spot_of(stretches: &[Stretch], j: usize) -> (usize, usize)
     ensures within { (d : Kept) → result.1 < (get_or stretches.now result.0 d).count }
     ensures place { count_in (take result.0 stretches.now) + result.1 ≡ j }
 {
-    let mut left = j;
-    for p in 0..stretches.len() {
+    let (from, rest) = pass(stretches, j);
+    let mut left = rest;
+    for p in from..stretches.len() {
         let count = stretches[p].len();
         if left < count {
             return (p, left);
@@ -53,6 +57,25 @@ pub fn spot_of(stretches: &[Stretch], j: usize) -> (usize, usize)
         left -= count;
     }
     unreachable!()
+}
+
+/// Passes stretches from the front, some at once, as long as element j isn't among them: how many these are, and how many of the j
+/// elements before it are left.
+fn pass(stretches: &[Stretch], j: usize) -> (usize, usize)
+    ensures there { result.0 ≤ length stretches.now }
+    ensures before { count_in (take result.0 stretches.now) + result.1 ≡ j }
+{
+    let mut left = j;
+    let mut passed = 0;
+    while TOGETHER <= stretches.len() - passed {
+        let count = count_all(&stretches[passed..passed + TOGETHER]);
+        if left < count {
+            return (passed, left);
+        }
+        left -= count;
+        passed += TOGETHER;
+    }
+    (passed, left)
 }
 
 /// The stretch that has visible element k, and how many visible ones are before it there.

@@ -209,6 +209,9 @@ impl Stretch {
         ensures visible { is_odd (bits_from result self.now.hidden) ≡ false }
         ensures before { unset result self.now.hidden ≡ n }
     {
+        if self.hidden.bits() == 0 {
+            return n;
+        }
         let mut left = n;
         for k in 0..self.len() {
             let weight = self.weight(k);

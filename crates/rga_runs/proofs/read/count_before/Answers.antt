@@ -1,8 +1,7 @@
 -- The goals of `count_before` that are answered by hand.
 use Rattle.std.proofs.Common.{◌≡◌, ◌<◌, ◌≤◌, ◌∙◌, [], List, length, take, get_or, sym, ap, arith}
-use Rattle.std.proofs.lemmas.List.{take-map, length-take-le}
+use Rattle.std.proofs.lemmas.List.{length-take-le}
 use Rattle.rga_runs.specs.declared.stretch.Stretch.{Stretch}
-use Rattle.rga_runs.specs.declared.block.Block.{Block}
 use Rattle.rga_runs.specs.Typed.{unset}
 use Rattle.rga_runs.specs.Stretches.{visible_in, visible_of}
 use Rattle.rga_runs.specs.Blocks.{row_of, at_spot}
@@ -10,13 +9,8 @@ use Rattle.rga_runs.specs.BlockRows.{items_of}
 use Rattle.rga_runs.proofs.BlockLists.{items_there, length-items}
 use Rattle.rga_runs.proofs.Bits.{unset-split}
 use Rattle.rga_runs.proofs.Chunks.{any_item, get_or_row, at_less}
-use Rattle.rga_runs.proofs.Sums.{sum_before, sum_front, sum_take, sum_with_next, few_visible}
+use Rattle.rga_runs.proofs.Sums.{sum_before, sum_take, sum_with_next, few_visible}
 use Rattle.rga_runs.proofs.read.count_before.Goals as goal
-
-pub visible_in_blocks-requires : goal.visible_in_blocks-requires
-visible_in_blocks-requires c =
-    let bs = c.args.blocks.now in
-    omega (arith, sum_front visible_of (items_of bs) c.args.b, ap (λ xs. visible_in (row_of xs)) (take-map (λ (b : Block). b.stretches.items) c.args.b bs), c.requires.few)
 
 pub count_visible-requires : goal.count_visible-requires
 count_visible-requires c =
@@ -34,7 +28,7 @@ overflow_add-result c =
     let x = c.index-blocks-b.result in
     let here = items_there bs c.args.b x c.requires.block in
     let there : c.args.b < length xs = omega (arith, length-items bs, c.requires.block) in
-    let front = c.visible_in_blocks.ensures ∙ sym (ap (λ ys. visible_in (row_of ys)) (take-map (λ (b : Block). b.stretches.items) c.args.b bs)) in
+    let front = c.before_block.ensures in
     let mine = c.count_visible.ensures ∙ ap (λ (l : List Stretch). visible_in (take c.args.j l)) (c.deref.ensures.value ∙ sym here) in
     omega (arith, front, mine, sum_before visible_of xs c.args.b c.args.j there (omega (arith, c.requires.within)), sum_take visible_of (row_of xs) (at_spot xs c.args.b c.args.j), c.requires.few)
 
@@ -45,7 +39,7 @@ overflow_add-result-2 c =
     let x = c.index-blocks-b.result in
     let here = items_there bs c.args.b x c.requires.block in
     let there : c.args.b < length xs = omega (arith, length-items bs, c.requires.block) in
-    let front = c.visible_in_blocks.ensures ∙ sym (ap (λ ys. visible_in (row_of ys)) (take-map (λ (b : Block). b.stretches.items) c.args.b bs)) in
+    let front = c.before_block.ensures in
     let mine = c.count_visible.ensures ∙ ap (λ (l : List Stretch). visible_in (take c.args.j l)) (c.deref.ensures.value ∙ sym here) in
     let s = c.index.result.now in
     let item : s ≡ get_or (row_of xs) (at_spot xs c.args.b c.args.j) s = c.index.ensures ∙ ap (λ (l : List Stretch). get_or l c.args.j s) (sym here) ∙ sym (get_or_row xs c.args.b c.args.j s there c.requires.within) in
@@ -68,7 +62,7 @@ returns c = λ d.
     let x = c.index-blocks-b.result in
     let here = items_there bs c.args.b x c.requires.block in
     let there : c.args.b < length xs = omega (arith, length-items bs, c.requires.block) in
-    let front = c.visible_in_blocks.ensures ∙ sym (ap (λ ys. visible_in (row_of ys)) (take-map (λ (b : Block). b.stretches.items) c.args.b bs)) in
+    let front = c.before_block.ensures in
     let mine = c.count_visible.ensures ∙ ap (λ (l : List Stretch). visible_in (take c.args.j l)) (c.deref.ensures.value ∙ sym here) in
     let item : (get_or (get_or xs c.args.b []) c.args.j d).hidden ≡ c.index.result.now.hidden =
     ap (λ (l : List Stretch). (get_or l c.args.j d).hidden) here ∙ ap (λ (s : Stretch). s.hidden) (any_item (get_or bs c.args.b x).stretches.items c.args.j d c.index.result.now (omega (arith, c.requires.within, ap length here)) ∙ sym c.index.ensures) in

@@ -11,6 +11,7 @@ use Rattle.rga_runs.specs.Stretches.{IsOutside, AreApart}
 use Rattle.rga_runs.specs.Blocks.{row_of, AreHalfFull}
 use Rattle.rga_runs.specs.BlockRows.{items_of, numbers_of}
 use Rattle.rga_runs.specs.Bounds.{AreBounds, AreBoundsBelow, AreBoundsBut}
+use Rattle.rga_runs.specs.Sums.{AreSums, AreSumsBut}
 use Rattle.rga_runs.specs.Keyed.{look_in}
 use Rattle.rga_runs.specs.KeyRows.{keys_in}
 use Rattle.rga_runs.specs.Indexed.{IsHome, AreHome, AreKnown}
@@ -20,6 +21,7 @@ use Rattle.rga_runs.proofs.Chunks.{split_row, split_high, split_long}
 use Rattle.rga_runs.proofs.Halves.{full_paid, some_spare, AreHalfFull-split}
 use Rattle.rga_runs.proofs.Homes.{homes_halved}
 use Rattle.rga_runs.proofs.Neighbours.{bounds-split}
+use Rattle.rga_runs.proofs.Summed.{sums-split, few_seen}
 use Rattle.rga_runs.proofs.Numbers.{Inverts, inserted_known, inserted_apart, inserted_before}
 use Rattle.rga_runs.proofs.room.split.Goals as goal
 
@@ -142,6 +144,8 @@ returns c =
         counted = omega (arith, c.requires.indexed.counted, same);
         halves = subst AreHalfFull (sym items) (AreHalfFull-split xs q low high c.requires.indexed.halves there (omega (arith, l, c.requires.least)) half);
         bounds = subst (λ ms. AreBounds ms (items_of new)) (sym renewed) (subst (λ r. AreBounds c.renew.new.bounds (items_of r)) c.deref-4.ensures.value c.renew.ensures);
+        sums = subst (λ l. AreSums c.add-2.new.sums.items (items_of l)) c.deref-6.ensures.value c.add-2.ensures;
+        few = omega (arith, c.requires.room.few, c.split_at.ensures.len, fewer);
       };
       room = λ n room. record {
         paid = λ few. omega (arith, room.paid (omega (arith, few, fewer)), same, c.split_at.ensures.len, fewer);
@@ -176,3 +180,35 @@ renew-requires c =
     let before : AreBoundsBelow from (take ms.len (low ++ left)) ys = subst (λ r. AreBoundsBelow from r ys) (sym kept) (λ p d under within. bounds p d within) in
     subst (λ r. AreBoundsBelow from r (items_of c.deref-4.result.now)) (sym c.deref_mut-3.ensures.value)
     (subst (λ r. AreBoundsBelow from c.add.new.bounds.items (items_of r)) (sym c.deref-4.ensures.value) (c.add.ensures from ys few before))
+
+pub move_on-requires : goal.move_on-requires
+move_on-requires c =
+    let r = c.args.row.now in
+    let xs = items_of r.blocks.items in
+    let q = c.args.q in
+    let x = get_or xs q [] in
+    let low = take c.args.cut x in
+    let high = drop c.args.cut x in
+    let there = block_there r q c.requires.block in
+    let fewer : vec_len c.pop.new.self + 1 ≡ vec_len r.spares = omega (arith, c.pop.ensures.len, ap (λ o. length (option_to_list o)) c.unwrap-lower.ensures) in
+    let read : items_of c.deref-5.result.now ≡ insert (set xs q low) (q + 1) high = ap items_of c.deref-5.ensures.value ∙ c.split_at.ensures.items in
+    let many : length c.deref-5.result.now ≡ vec_len r.blocks + 1 = omega (arith, ap length c.deref-5.ensures.value, c.split_at.new.blocks.ok, c.split_at.ensures.len) in
+    let but = sums-split r.sums.items xs q low high there (sym (take-append-drop c.args.cut x)) c.requires.indexed.sums in
+    record {
+      few = omega (arith, few_seen c.deref-5.result.now (omega (arith, many, fewer, c.requires.room.few)));
+      sums = subst (λ l. AreSumsBut (q / 32) 0 l (items_of c.deref-5.result.now)) (sym c.deref_mut-4.ensures.value) (subst (AreSumsBut (q / 32) 0 r.sums.items) (sym read) but);
+    }
+
+pub add-requires-2 : goal.add-requires-2
+add-requires-2 c =
+    let r = c.args.row.now in
+    let fewer : vec_len c.pop.new.self + 1 ≡ vec_len r.spares = omega (arith, c.pop.ensures.len, ap (λ o. length (option_to_list o)) c.unwrap-lower.ensures) in
+    let many : length c.deref-6.result.now ≡ vec_len r.blocks + 1 = omega (arith, ap length c.deref-6.ensures.value, c.split_at.new.blocks.ok, c.split_at.ensures.len) in
+    let moved = c.move_on.new.sums in
+    let left = drop (length moved) r.sums.items in
+    let kept : take r.sums.len (moved ++ left) ≡ moved = take_at moved left r.sums.len (omega (arith, c.move_on.auto.sums, c.deref_mut-4.ensures.len)) in
+    record {
+      few = omega (arith, few_seen c.deref-6.result.now (omega (arith, many, fewer, c.requires.room.few)));
+      sums = subst (λ l. AreSums l (items_of c.deref-6.result.now)) (sym kept)
+          (subst (λ l. AreSums moved (items_of l)) (c.deref-5.ensures.value ∙ sym c.deref-6.ensures.value) c.move_on.ensures);
+    }

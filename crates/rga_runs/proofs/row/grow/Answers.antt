@@ -1,6 +1,7 @@
 -- The goal of `grow` that is answered by hand.
-use Rattle.std.proofs.Common.{◌≡◌, ℕ, ◌<◌, ◌+◌, ◌∙◌, [], sym, ap, subst, length, get_or, arith}
+use Rattle.std.proofs.Common.{◌≡◌, ◌++◌, ◌/◌, ℕ, ◌<◌, ◌+◌, ◌∙◌, [], sym, ap, subst, length, get_or, take, drop, arith}
 use Rattle.std.specs.Prelude.{All, set, slice_get}
+use Rattle.std.proofs.lemmas.List.{take_at}
 use Rattle.std.proofs.lemmas.List.Elements.{All-set}
 use Rattle.bg_types.specs.Identifier.{Identifier}
 use Rattle.rga_runs.specs.declared.stretch.Stretch.{Stretch}
@@ -10,6 +11,7 @@ use Rattle.rga_runs.specs.Stretches.{IsOutside}
 use Rattle.rga_runs.specs.Blocks.{row_of, at_spot, AreHalfFull}
 use Rattle.rga_runs.specs.BlockRows.{items_of, numbers_of}
 use Rattle.rga_runs.specs.Bounds.{AreBounds}
+use Rattle.rga_runs.specs.Sums.{AreSums}
 use Rattle.rga_runs.specs.Keyed.{look_in}
 use Rattle.rga_runs.specs.KeyRows.{keys_in}
 use Rattle.rga_runs.specs.Indexed.{IsHome, AreHome, AreKnown}
@@ -20,6 +22,7 @@ use Rattle.rga_runs.proofs.Homes.{told, homes_set, home_grown}
 use Rattle.rga_runs.proofs.Known.{known_set}
 use Rattle.rga_runs.proofs.Low.{low_set}
 use Rattle.rga_runs.proofs.Neighbours.{bounds-same}
+use Rattle.rga_runs.proofs.Summed.{visible_among-within, few_seen, visible-raised}
 use Rattle.rga_runs.proofs.Taken.{none_more}
 use Rattle.rga_runs.proofs.row.grow.Goals as goal
 
@@ -50,6 +53,10 @@ returns c =
     let none : (k : ℕ) → k < more → (f : Identifier) (m : ℕ) → look (later old.first (old.count + k)) ≡ told f m → f ≡ later old.first (old.count + k) → ⊥ =
     λ k few f m found same. was.known (later old.first (old.count + k)) f m (omega (arith, fits, few)) found (subst (λ z. All (IsOutside z) (row_of xs)) (sym same) (c.requires.new d k few)) in
     let own : IsHome look (get_or ns b 0) s = home_grown (keys_in r.keys) (get_or ns b 0) old s more is.first is.count fits none (was.homes b there j d c.requires.within) in
+    let changed : AreSums c.raise.new.sums (set xs b (set x j s)) =
+    c.raise.ensures xs (set x j s) there (visible-raised x j more d s c.requires.within is.visible) (subst (λ l. AreSums l xs) (sym c.deref_mut.ensures.value) was.sums) in
+    let kept : take r.sums.len (c.raise.new.sums ++ drop (length c.raise.new.sums) r.sums.items) ≡ c.raise.new.sums =
+    take_at c.raise.new.sums (drop (length c.raise.new.sums) r.sums.items) r.sums.len (omega (arith, c.raise.auto.sums, c.deref_mut.ensures.len)) in
     record {
       row = λ d2. (s, subst (λ (z : Stretch). IsGrown z s more) (any_item x j d d2 c.requires.within ∙ sym (item d2)) is, row_is);
       indexed = record {
@@ -64,6 +71,8 @@ returns c =
         counted = omega (arith, was.counted, long);
         halves = subst AreHalfFull (sym e.2) (AreHalfFull-set xs b (set x j s) was.halves (omega (arith, length_set x j s)));
         bounds = subst (AreBounds r.bounds.items) (sym e.2) (bounds-same r.bounds.items xs b (set x j s) (λ m h. low_set m x j d s h c.requires.within is.first) was.bounds);
+        sums = subst (λ l. AreSums l (items_of new)) (sym kept) (subst (AreSums c.raise.new.sums) (sym e.2) changed);
+        few = omega (arith, was.few, c.grow_at.ensures.len);
       };
       room = none_more c.args.row.now _ (long) (λ n room. record {
         paid = λ few. omega (arith, room.paid few, long, c.grow_at.ensures.len);
@@ -73,3 +82,15 @@ returns c =
         few = omega (arith, room.few, c.grow_at.ensures.len);
       });
     }
+
+pub raise-requires : goal.raise-requires
+raise-requires c = record {
+  few = λ e less.
+      let r = c.args.row.now in
+      let was = c.requires.indexed in
+      let xs = items_of r.blocks.items in
+      let g = c.args.b / 32 in
+      let d = one_there (get_or xs c.args.b []) c.args.j c.requires.within in
+      let is = subst (λ l. AreSums l xs) (sym c.deref_mut.ensures.value) was.sums in
+      omega (arith, is.sums g e less, visible_among-within xs g, few_seen r.blocks.items (omega (arith, was.few, r.blocks.ok)), c.requires.few d);
+}

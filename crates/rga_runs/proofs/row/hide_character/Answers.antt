@@ -1,12 +1,14 @@
 -- The goal of `hide_character` that is answered by hand.
-use Rattle.std.proofs.Common.{◌≡◌, ◌<◌, ◌∙◌, [], sym, ap, subst, length, get_or, arith}
+use Rattle.std.proofs.Common.{◌≡◌, ◌++◌, ◌/◌, ◌<◌, ◌∙◌, [], sym, ap, subst, length, get_or, take, drop, arith}
 use Rattle.std.specs.Prelude.{set, slice_get}
+use Rattle.std.proofs.lemmas.List.{take_at}
 use Rattle.std.proofs.lemmas.List.Elements.{All-set}
 use Rattle.rga_runs.specs.declared.stretch.Stretch.{Stretch}
 use Rattle.rga_runs.specs.Changed.{IsHidden}
 use Rattle.rga_runs.specs.Blocks.{row_of, at_spot, AreHalfFull}
 use Rattle.rga_runs.specs.BlockRows.{items_of, numbers_of}
 use Rattle.rga_runs.specs.Bounds.{AreBounds}
+use Rattle.rga_runs.specs.Sums.{AreSums}
 use Rattle.rga_runs.specs.Keyed.{look_in}
 use Rattle.rga_runs.specs.KeyRows.{keys_in}
 use Rattle.rga_runs.specs.Indexed.{IsHome, AreHome, AreKnown}
@@ -17,6 +19,7 @@ use Rattle.rga_runs.proofs.Homes.{homes_set, home_shorter}
 use Rattle.rga_runs.proofs.Known.{known_set}
 use Rattle.rga_runs.proofs.Low.{low_set}
 use Rattle.rga_runs.proofs.Neighbours.{bounds-same}
+use Rattle.rga_runs.proofs.Summed.{visible_among-block, visible-lowered}
 use Rattle.rga_runs.proofs.Taken.{none_more}
 use Rattle.rga_runs.proofs.row.hide_character.Goals as goal
 
@@ -42,6 +45,10 @@ returns c =
     let look = look_in (keys_in r.keys) in
     let item = λ (z : Stretch). get_or_row xs b j z there c.requires.within in
     let own : IsHome look (get_or ns b 0) s = home_shorter look (get_or ns b 0) (get_or x j d) s is.first (omega (arith, is.count)) (was.homes b there j d c.requires.within) in
+    let changed : AreSums c.lower.new.sums (set xs b (set x j s)) =
+    c.lower.ensures xs (set x j s) there (visible-lowered x j 1 d s c.requires.within is.visible) (subst (λ l. AreSums l xs) (sym c.deref_mut.ensures.value) was.sums) in
+    let kept : take r.sums.len (c.lower.new.sums ++ drop (length c.lower.new.sums) r.sums.items) ≡ c.lower.new.sums =
+    take_at c.lower.new.sums (drop (length c.lower.new.sums) r.sums.items) r.sums.len (omega (arith, c.lower.auto.sums, c.deref_mut.ensures.len)) in
     record {
       row = λ d2. (s, subst (λ (z : Stretch). IsHidden z s c.args.k) (any_item x j d d2 c.requires.within ∙ sym (item d2)) is, row_is);
       indexed = record {
@@ -56,6 +63,8 @@ returns c =
         counted = omega (arith, was.counted, long);
         halves = subst AreHalfFull (sym e.2) (AreHalfFull-set xs b (set x j s) was.halves (omega (arith, length_set x j s)));
         bounds = subst (AreBounds r.bounds.items) (sym e.2) (bounds-same r.bounds.items xs b (set x j s) (λ m h. low_set m x j d s h c.requires.within is.first) was.bounds);
+        sums = subst (λ l. AreSums l (items_of new)) (sym kept) (subst (AreSums c.lower.new.sums) (sym e.2) changed);
+        few = omega (arith, was.few, c.hide_at.ensures.len);
       };
       room = none_more c.args.row.now _ (long) (λ n room. record {
         paid = λ few. omega (arith, room.paid few, long, c.hide_at.ensures.len);
@@ -65,3 +74,18 @@ returns c =
         few = omega (arith, room.few, c.hide_at.ensures.len);
       });
     }
+
+pub lower-requires : goal.lower-requires
+lower-requires c = record {
+  there = λ e less.
+      let r = c.args.row.now in
+      let was = c.requires.indexed in
+      let xs = items_of r.blocks.items in
+      let b = c.args.b in
+      let x = get_or xs b [] in
+      let there : b < length xs = omega (arith, length-items r.blocks.items, r.blocks.ok, c.requires.block) in
+      let d = one_there x c.args.j c.requires.within in
+      let is = subst (λ l. AreSums l xs) (sym c.deref_mut.ensures.value) was.sums in
+      let gone = c.hide_at.ensures.items d in
+      omega (arith, is.sums (b / 32) e less, visible_among-block xs b there, visible-lowered x c.args.j 1 d gone.0 c.requires.within gone.1.visible);
+}

@@ -12,6 +12,7 @@ use Rattle.rga_runs.specs.Stretches.{AreApart}
 use Rattle.rga_runs.specs.Blocks.{row_of, at_spot, AreHalfFull}
 use Rattle.rga_runs.specs.BlockRows.{items_of, numbers_of}
 use Rattle.rga_runs.specs.Bounds.{AreBounds}
+use Rattle.rga_runs.specs.Sums.{AreSums}
 use Rattle.rga_runs.specs.Keyed.{look_in}
 use Rattle.rga_runs.specs.KeyRows.{keys_in}
 use Rattle.rga_runs.specs.Indexed.{AreHome, AreKnown}
@@ -23,6 +24,7 @@ use Rattle.rga_runs.proofs.Known.{homes_parted, known_parted}
 use Rattle.rga_runs.proofs.Numbers.{few_numbers}
 use Rattle.rga_runs.proofs.Low.{low_insert, low_set, low_at, later_above}
 use Rattle.rga_runs.proofs.Neighbours.{bounds-same}
+use Rattle.rga_runs.proofs.Summed.{sums-same, visible-parted}
 use Rattle.rga_runs.proofs.Taken.{one_more}
 use Rattle.rga_runs.proofs.row.part.Goals as goal
 
@@ -149,6 +151,8 @@ returns c =
         bounds = subst (AreBounds mid.bounds.items) (sym items) (bounds-same mid.bounds.items ys q z
             (λ m h. low_insert m (set y i low) (i + 1) rest (low_set m y i d low h within is.first) (ap (λ f. not (is_lt (id_cmp f m))) is.rest_first ∙ later_above m (get_or y i d).first c.args.k (low_at m y i d h within)))
             was.bounds);
+        sums = subst (AreSums mid.sums.items) (sym items) (sums-same mid.sums.items ys q z there (visible-parted y i d low rest within is.visible) was.sums);
+        few = omega (arith, was.few, c.part_at-first.ensures.len);
       };
       room = one_more c.args.row.now _ (omega (arith, long, ap length c.make_room-q.ensures.row)) (λ n paid.
           let room = c.make_room-q.ensures.room n paid in

@@ -6,6 +6,7 @@ use Rattle.std.proofs.lemmas.List.Elements.{All-cons, All-nil}
 use Rattle.rga_runs.specs.declared.stretch.Stretch.{Stretch}
 use Rattle.rga_runs.specs.Blocks.{row_of, AreHalfFull}
 use Rattle.rga_runs.specs.BlockRows.{items_of, numbers_of}
+use Rattle.rga_runs.specs.Sums.{AreSums}
 use Rattle.rga_runs.specs.Keyed.{look_in}
 use Rattle.rga_runs.specs.KeyRows.{keys_in}
 use Rattle.rga_runs.specs.Indexed.{stretches_in, IsHome, AreHome, AreKnown}
@@ -44,6 +45,8 @@ returns c =
     let before = ap length nothing in
     let after = ap length row_is in
     let one : vec_len c.push.new.self ≡ 1 = omega (arith, ap length blocks, c.push.new.self.ok) in
+    let nothing_summed : length r.sums.items ≡ 0 = omega (arith, c.requires.indexed.sums.whole, ap (λ bs. length (items_of bs)) none) in
+    let no_sums : AreSums r.sums.items (items_of c.push.new.self.items) = record { whole = omega (arith, nothing_summed); sums = λ g d less. absurd (omega (arith, nothing_summed, less)) } in
     let look = look_in (keys_in c.put.new.keys) in
     let old_look = look_in (keys_in r.keys) in
     let own : IsHome look 0 s = home_lone look (keys_in r.keys) c.args.id 0 s c.put.ensures.looks e.1.first e.1.count in
@@ -59,6 +62,8 @@ returns c =
         counted = omega (arith, after);
         halves = subst AreHalfFull (sym items) (λ q less. absurd (omega (arith, less)));
         bounds = λ p d less. absurd (omega (arith, ap length c.clear.ensures.items, less));
+        sums = no_sums;
+        few = omega (arith, one);
       };
       room = one_more c.args.row.now _ (omega (arith, before, after)) (λ n room. record {
         paid = λ few. omega (arith, room.paid (omega (arith, few, fewer)), before, after, one, fewer, c.requires.none);

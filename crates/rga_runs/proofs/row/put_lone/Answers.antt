@@ -1,5 +1,5 @@
 -- The goals of `put_lone` that are answered by hand.
-use Rattle.std.proofs.Common.{◌≡◌, ◌<◌, ◌+◌, ◌++◌, ◌∙◌, [], sym, ap, subst, take, drop, length, get_or, arith}
+use Rattle.std.proofs.Common.{◌≡◌, ◌<◌, ◌+◌, ◌/◌, ◌++◌, ◌∙◌, [], sym, ap, subst, take, drop, length, get_or, arith}
 use Rattle.std.specs.Prelude.{All, insert, set, slice_get}
 use Rattle.std.proofs.lemmas.List.{take_at}
 use Rattle.std.proofs.lemmas.List.Edits.{length-insert}
@@ -8,6 +8,7 @@ use Rattle.rga_runs.specs.Stretches.{IsOutside}
 use Rattle.rga_runs.specs.Blocks.{row_of, at_spot, AreHalfFull}
 use Rattle.rga_runs.specs.BlockRows.{items_of, numbers_of}
 use Rattle.rga_runs.specs.Bounds.{AreBounds}
+use Rattle.rga_runs.specs.Sums.{AreSums}
 use Rattle.rga_runs.specs.Keyed.{look_in}
 use Rattle.rga_runs.specs.KeyRows.{keys_in}
 use Rattle.rga_runs.specs.Indexed.{AreHome, AreKnown}
@@ -17,6 +18,7 @@ use Rattle.rga_runs.proofs.Halves.{AreHalfFull-set}
 use Rattle.rga_runs.proofs.Homes.{Gains, homes_insert}
 use Rattle.rga_runs.proofs.Known.{home_lone, known_insert}
 use Rattle.rga_runs.proofs.Numbers.{few_numbers}
+use Rattle.rga_runs.proofs.Summed.{visible_among-within, few_seen, visible-lone, weight_le}
 use Rattle.rga_runs.proofs.Taken.{one_more}
 use Rattle.rga_runs.proofs.row.put_lone.Goals as goal
 
@@ -74,6 +76,11 @@ returns c =
     let lowered : AreBounds c.lower.new.bounds (set xs q (insert x at s)) = c.lower.ensures xs at s e.1.first (subst (λ r. AreBounds r xs) (sym c.deref_mut.ensures.value) was.bounds) in
     let kept : take mid.bounds.len (c.lower.new.bounds ++ drop (length c.lower.new.bounds) ms) ≡ c.lower.new.bounds =
     take_at c.lower.new.bounds (drop (length c.lower.new.bounds) ms) mid.bounds.len (omega (arith, c.lower.auto.bounds, c.deref_mut.ensures.len)) in
+    let sums = mid.sums.items in
+    let raised : AreSums c.raise.new.sums (set xs q (insert x at s)) =
+    c.raise.ensures xs (insert x at s) there (omega (arith, visible-lone x at s id c.args.parent c.args.start c.args.hidden e.1, c.weight.ensures)) (subst (λ r. AreSums r xs) (sym c.deref_mut-2.ensures.value) was.sums) in
+    let kept_sums : take mid.sums.len (c.raise.new.sums ++ drop (length c.raise.new.sums) sums) ≡ c.raise.new.sums =
+    take_at c.raise.new.sums (drop (length c.raise.new.sums) sums) mid.sums.len (omega (arith, c.raise.auto.sums, c.deref_mut-2.ensures.len)) in
     record {
       row = (s, e.1, row_is ∙ (λ i. insert (c.make_room-q.ensures.row i) (c.make_room-q.ensures.place i) s));
       indexed = record {
@@ -86,6 +93,8 @@ returns c =
         counted = omega (arith, was.counted, long);
         halves = subst AreHalfFull (sym e.2) (AreHalfFull-set xs q (insert x at s) was.halves (omega (arith, length-insert x at s c.make_room-q.ensures.within)));
         bounds = subst (λ bounds. AreBounds bounds (items_of new)) (sym kept) (subst (AreBounds c.lower.new.bounds) (sym e.2) lowered);
+        sums = subst (λ r. AreSums r (items_of new)) (sym kept_sums) (subst (AreSums c.raise.new.sums) (sym e.2) raised);
+        few = omega (arith, was.few, c.put_at.ensures.len);
       };
       room = one_more c.args.row.now _ (omega (arith, long, ap length c.make_room-q.ensures.row)) (λ n paid.
           let room = c.make_room-q.ensures.room n paid in
@@ -97,3 +106,14 @@ returns c =
             few = omega (arith, room.few, c.put_at.ensures.len);
           });
     }
+
+pub raise-requires : goal.raise-requires
+raise-requires c = record {
+  few = λ d less.
+      let mid = c.make_room-q.new.row in
+      let was = c.make_room-q.ensures.indexed in
+      let xs = items_of mid.blocks.items in
+      let g = c.make_room-q.result.0 / 32 in
+      let is = subst (λ r. AreSums r xs) (sym c.deref_mut-2.ensures.value) was.sums in
+      omega (arith, is.sums g d less, visible_among-within xs g, few_seen mid.blocks.items (omega (arith, was.few, mid.blocks.ok)), c.weight.ensures, weight_le c.args.hidden);
+}

@@ -16,8 +16,8 @@ use Rattle.rga_runs.proofs.runs.Runs.new.Goals as goal
 
 pub invariant_of-result : goal.invariant_of-result
 invariant_of-result c =
-    let chars = c.new-5.result.items in
-    let nothing_for = most_for 0 (vec_len c.new-5.result) (length (row_of (items_of c.new.result.items))) in
+    let chars = c.new-6.result.items in
+    let nothing_for = most_for 0 (vec_len c.new-6.result) (length (row_of (items_of c.new.result.items))) in
     let none : row_of (items_of c.new.result.items) ≡ [] = ap (λ bs. row_of (items_of bs)) c.new.ensures.items in
     record {
       keeps_walk = KeepsWalk-nothing (elements_in chars (row_of (items_of c.new.result.items))) (ap (elements_in chars) none);
@@ -31,8 +31,10 @@ invariant_of-result c =
         counted = omega (arith, ap length none);
         halves = subst AreHalfFull (sym (ap items_of c.new.ensures.items)) (λ q less. absurd (omega (arith, less)));
         bounds = λ p d less. absurd (omega (arith, less, ap length c.new-4.ensures.items));
+        sums = record { whole = omega (arith, ap length c.new-5.ensures.items); sums = λ g d less. absurd (omega (arith, less, ap length c.new-5.ensures.items)) };
+        few = omega (arith, c.new.ensures.len);
       };
-      counted = omega (arith, c.new-5.ensures.len, ap (λ ss. length (elements_in chars ss)) none);
+      counted = omega (arith, c.new-6.ensures.len, ap (λ ss. length (elements_in chars ss)) none);
       visible_are = sym (ap visible_in none);
       up_to = ap (λ ss. are_up_to 0 (elements_in chars ss)) none;
       enough = record {
@@ -42,8 +44,8 @@ invariant_of-result c =
         places = omega (arith, c.new.ensures.len, c.new-2.ensures.len);
         few = omega (arith, c.new.ensures.len, c.new-2.ensures.len);
       };
-      enough_characters = omega (arith, c.new-5.ensures.len);
-      few = omega (arith, c.new-5.ensures.len);
+      enough_characters = omega (arith, c.new-6.ensures.len);
+      few = omega (arith, c.new-6.ensures.len);
     } where
       nothing_known : (ls : List Leaf) (q f : Identifier) (n : ℕ) → ls ≡ [] → look_in (all_keys ls) q ≡ Some (f, n) → ⊥
       nothing_known ls q f n none is = let it : None ≡ told f n = sym (ap (λ l. look_in (all_keys l) q) none) ∙ is in absurd cc

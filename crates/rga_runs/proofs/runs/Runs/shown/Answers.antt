@@ -1,5 +1,5 @@
 -- The goals of `shown` that are answered by hand.
-use Rattle.std.proofs.Common.{◌≡◌, ◌+◌, ◌<◌, ◌∙◌, [], List, Some, false, length, take, get_or, ap, subst, arith}
+use Rattle.std.proofs.Common.{◌≡◌, ◌+◌, ◌<◌, ◌∙◌, [], List, Some, false, length, take, get_or, sym, ap, subst, arith}
 use Rattle.std.specs.Prelude.{slice_get}
 use Rattle.rga_tree.proofs.Interface.{seen_at, visible_at, visible_row}
 use Rattle.rga_runs.specs.declared.stretch.Stretch.{Stretch}
@@ -8,6 +8,7 @@ use Rattle.rga_runs.specs.Typed.{is_odd, bits_from, unset}
 use Rattle.rga_runs.specs.Stretches.{elements_of, parts_in, elements_in, visible_in}
 use Rattle.rga_runs.specs.Blocks.{row_of, at_spot}
 use Rattle.rga_runs.specs.BlockRows.{items_of}
+use Rattle.rga_runs.specs.Sums.{AreSums}
 use Rattle.rga_runs.specs.Indexed.{stretches_in}
 use Rattle.rga_runs.proofs.BlockLists.{length-items}
 use Rattle.rga_runs.proofs.Chunks.{get_or_row, at_less, one_there}
@@ -19,7 +20,10 @@ visible_spot-b-requires c =
     let self = c.args.self.now in
     let chars = self.characters.items in
     let ss = stretches_in self.row in
-    omega (arith, ap (λ bs. visible_in (row_of (items_of bs))) c.deref.ensures.value, seen_elements chars ss self.stored, visible_row (elements_in chars ss) self.keeps_walk.in_order, c.requires)
+    record {
+      there = omega (arith, ap (λ bs. visible_in (row_of (items_of bs))) c.deref.ensures.value, seen_elements chars ss self.stored, visible_row (elements_in chars ss) self.keeps_walk.in_order, c.requires);
+      sums = subst (λ sums. AreSums sums (items_of c.deref.result.now)) (sym c.deref-2.ensures.value) (subst (λ bs. AreSums self.row.sums.items (items_of bs)) (sym c.deref.ensures.value) self.indexed.sums);
+    }
 
 pub returns : goal.returns
 returns c =

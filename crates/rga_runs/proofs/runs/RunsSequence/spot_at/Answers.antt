@@ -10,6 +10,7 @@ use Rattle.rga_runs.specs.Typed.{is_odd, bits_from, unset}
 use Rattle.rga_runs.specs.Stretches.{elements_of, elements_in, visible_in, visible_of}
 use Rattle.rga_runs.specs.Blocks.{row_of, at_spot}
 use Rattle.rga_runs.specs.BlockRows.{items_of}
+use Rattle.rga_runs.specs.Sums.{AreSums}
 use Rattle.rga_runs.specs.Indexed.{stretches_in}
 use Rattle.rga_runs.specs.Filled.{filled}
 use Rattle.rga_runs.proofs.BlockLists.{length-items}
@@ -26,7 +27,10 @@ visible_spot-b-requires c =
     let self = c.args.self.now in
     let chars = self.characters.items in
     let ss = stretches_in self.row in
-    omega (arith, ap (λ bs. visible_in (row_of (items_of bs))) c.deref.ensures.value, seen_elements chars ss self.stored, visible_row (elements_in chars ss) self.keeps_walk.in_order, c.requires)
+    record {
+      there = omega (arith, ap (λ bs. visible_in (row_of (items_of bs))) c.deref.ensures.value, seen_elements chars ss self.stored, visible_row (elements_in chars ss) self.keeps_walk.in_order, c.requires);
+      sums = subst (λ sums. AreSums sums (items_of c.deref.result.now)) (sym c.deref-2.ensures.value) (subst (λ bs. AreSums self.row.sums.items (items_of bs)) (sym c.deref.ensures.value) self.indexed.sums);
+    }
 
 pub overflow_add-result : goal.overflow_add-result
 overflow_add-result c =

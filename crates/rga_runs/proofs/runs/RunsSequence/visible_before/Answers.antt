@@ -1,5 +1,5 @@
 -- The goals of `visible_before` that are answered by hand.
-use Rattle.std.proofs.Common.{◌<◌, ◌+◌, ◌∙◌, [], List, length, take, get_or, ap, arith}
+use Rattle.std.proofs.Common.{◌<◌, ◌+◌, ◌∙◌, [], List, length, take, get_or, ap, sym, subst, arith}
 use Rattle.std.specs.Prelude.{All}
 use Rattle.rga_tree.proofs.Interface.{before_row}
 use Rattle.rga_sequence.proofs.InFront.{before_spot}
@@ -9,6 +9,7 @@ use Rattle.rga_runs.specs.Typed.{unset}
 use Rattle.rga_runs.specs.Stretches.{parts_in, elements_in, visible_in, IsOutside}
 use Rattle.rga_runs.specs.Blocks.{row_of, at_spot}
 use Rattle.rga_runs.specs.BlockRows.{items_of}
+use Rattle.rga_runs.specs.Sums.{AreSums}
 use Rattle.rga_runs.specs.Indexed.{stretches_in}
 use Rattle.rga_runs.proofs.Chunks.{get_or_row, one_there}
 use Rattle.rga_runs.proofs.Places.{some_of}
@@ -24,6 +25,11 @@ pub unwrap-b-requires : goal.unwrap-b-requires
 unwrap-b-requires c =
     let self = c.args.self.now in
     some_of c.spot.result (All (IsOutside c.args.id) (stretches_in self.row)) c.spot.ensures.absent (is_placed self.characters.items (stretches_in self.row) c.args.id c.requires)
+
+pub count_before-requires-clause-sums : goal.count_before-requires-clause-sums
+count_before-requires-clause-sums c =
+    let row = c.args.self.now.row in
+    subst (λ sums. AreSums sums (items_of c.deref.result.now)) (sym c.deref-2.ensures.value) (subst (λ bs. AreSums row.sums.items (items_of bs)) (sym c.deref.ensures.value) c.args.self.now.indexed.sums)
 
 pub count_before-requires-clause-few : goal.count_before-requires-clause-few
 count_before-requires-clause-few c =

@@ -2,7 +2,7 @@
 use Rattle.std.proofs.Common.{◌+◌, arith}
 use Rattle.rga_runs.specs.BlockRows.{items_of}
 use Rattle.rga_runs.proofs.Sums.{sum_next, sum_front}
-use Rattle.rga_runs.proofs.read.visible_in_blocks.Goals as goal
+use Rattle.rga_runs.proofs.counts.visible_in_blocks.Goals as goal
 use Rattle.rga_runs.specs.Stretches.{visible_of}
 
 pub loop-block-preserved : goal.loop-block-preserved

@@ -1,0 +1,14 @@
+-- The goals of `lower` that are answered by hand.
+use Rattle.std.proofs.Common.{arith}
+use Rattle.rga_runs.proofs.Summed.{sums-lowered, sums-kept}
+use Rattle.rga_runs.proofs.counts.lower.Goals as goal
+
+pub returns-then-g-sums : goal.returns-then-g-sums
+returns-then-g-sums c = λ xs y there is sums.
+    sums-lowered c.args.sums.now xs c.args.q c.args.fewer y c.if-g-sums.true there is sums
+
+pub returns-else-g-sums : goal.returns-else-g-sums
+returns-else-g-sums c = λ xs y there is sums. sums-kept c.args.sums.now xs c.args.q y (omega (arith, c.if-g-sums.false)) sums
+
+pub overflow_sub-sums : goal.overflow_sub-sums
+overflow_sub-sums c = omega (arith, c.requires.there 0 c.if-g-sums.true)
