@@ -108,7 +108,7 @@ pub trait Sequence {
         ensures { result ≡ length (visible (content self.now)) };
 
     /// The identifier of visible element k.
-    /// Cost: `Blocks`: O(n / 256 + 512); `Runs`: O(n / 128 + 256) for n stretches; `Plain`: O(n).
+    /// Cost: `Blocks`: O(n / 256 + 512); `Runs`: O(n / 4,096 + 256) for n stretches; `Plain`: O(n).
     fn id_at(&mut self, k: usize) -> Id
         requires { k < length (visible (content self.old)) }
         ensures value { slice_get (visible_ids (content self.old)) k ≡ Some result }
@@ -134,7 +134,7 @@ pub trait Sequence {
 
     /// How many visible elements stand before the one with this identifier, which is placed. Takes no memory, and
     /// counts as no look.
-    /// Cost: `Blocks`: O(n / 16,384 + 512); `Runs`: O(n / 128 + 256) for n stretches; `Plain`: O(n).
+    /// Cost: `Blocks`: O(n / 16,384 + 512); `Runs`: O(n / 4,096 + 256) for n stretches; `Plain`: O(n).
     fn visible_before(&self, id: Id) -> usize
         requires { map.contains_key (content self.now).ins id ≡ true }
         ensures { result ≡ visible_before (content self.now) id };
