@@ -2,7 +2,7 @@
 use Rattle.std.proofs.Common.{◌≡◌, ◌≢◌, ℕ, zero, suc, ◌<◌, ◌≤◌, ◌+◌, ◌-◌, ◌*◌, ◌/◌, ◌++◌, ◌^◌, Bool, true, false, List, [], ◌∷◌, length, take, drop, get_or, sum, refl, sym, ap, subst, ◌∙◌, zero-add, length-set, arith}
 use Rattle.std.specs.Prelude.{insert, set, nat_lt, nat_eq, if◌then◌else◌}
 use Rattle.std.proofs.lemmas.Bool.{ltb-true, ltb-false, eqb-true, eqb-false}
-use Rattle.std.proofs.lemmas.List.{drop-set-lt, get_or-set_same, get_or-set_other, get_or_append_left, get_or_push, length_push, take-map, drop-map}
+use Rattle.std.proofs.lemmas.List.{drop-set-lt, get_or-set_same, get_or-set_other, get_or_append_left, get_or_push, length_push, take_all, take-map, drop-map}
 use Rattle.std.proofs.lemmas.List.Sums.{sum_by_more}
 use Rattle.bg_types.specs.Identifier.{Identifier}
 use Rattle.bg_types.specs.declared.op.Place.{Place}
@@ -280,6 +280,10 @@ sums-front ss xs (suc g) are within =
     let more : sum (take (suc g) ss) ≡ sum (take g ss) + get_or ss g 0 = ap (λ k. sum (take k ss)) s ∙ sum_by_more (λ (n : ℕ). n) ss g 0 (omega (arith, within)) in
     let further : visible_all (take (32 * suc g) xs) ≡ visible_all (take (32 * g) xs) + visible_among xs g = ap (λ k. visible_all (take k xs)) t ∙ visible-add xs (32 * g) 32 in
     omega (arith, more, further, sums-front ss xs g are (omega (arith, within)), are.sums g 0 (omega (arith, within)))
+
+-- all of them tell of no more than all blocks
+pub sums-within : (ss : List ℕ) (xs : List (List Stretch)) → AreSums ss xs → sum ss ≤ visible_all xs
+sums-within ss xs are = omega (arith, ap sum (take_all (length ss) ss (omega arith)), sums-front ss xs (length ss) are (omega arith), sum_front visible_of xs (32 * length ss))
 
 -- and the blocks from there up to a place
 pub sums-before : (ss : List ℕ) (bs : List Block) (g b : ℕ) → AreSums ss (items_of bs) → g ≤ length ss → 32 * g ≤ b → sum (take g ss) + visible_all (items_of (take (b - 32 * g) (drop (32 * g) bs))) ≡ visible_all (take b (items_of bs))

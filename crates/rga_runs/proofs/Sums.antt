@@ -50,6 +50,10 @@ module _ {X : Type 0} (f : X → ℕ) where
   sum_with_next (y ∷ xs) zero x there is = omega (arith, sum_by-cons f y xs, ap f is)
   sum_with_next (y ∷ xs) (suc n) x there is = omega (arith, sum_by-cons f y (take n xs), sum_by-cons f y xs, sum_with_next xs n x (omega arith) is)
 
+  -- as many more as are read behind the first ones
+  pub sum-behind : (xs : List X) (m n : ℕ) → sum_by f (take (m + n) xs) ≡ sum_by f (take m xs) + sum_by f (take n (drop m xs))
+  sum-behind xs m n = ap (sum_by f) (take-add m n xs) ∙ sum-append (take m xs) (take n (drop m xs))
+
   -- those before a spot
   pub sum_before : (xs : List (List X)) (b j : ℕ) → b < length xs → j ≤ length (get_or xs b []) → sum_by f (take (at xs b j) (row xs)) ≡ sum_by f (row (take b xs)) + sum_by f (take j (get_or xs b []))
   sum_before xs b j there within = ap (sum_by f) (take_row xs b j there within) ∙ sum-append (row (take b xs)) (take j (get_or xs b []))
@@ -80,10 +84,6 @@ sum_front f [] zero = omega arith
 sum_front f [] (suc n) = omega arith
 sum_front f (x ∷ xs) zero = omega arith
 sum_front f (x ∷ xs) (suc n) = omega (arith, sum-append f x (row (take n xs)), sum-append f x (row xs), sum_front f xs n)
-
--- as many more as are read behind the first ones
-pub count_behind : (ss : List Stretch) (m n : ℕ) → count_in (take (m + n) ss) ≡ count_in (take m ss) + count_in (take n (drop m ss))
-count_behind ss m n = ap count_in (take-add m n ss) ∙ sum-append (λ (s : Stretch). s.count) (take m ss) (take n (drop m ss))
 
 -- ---- where none is hidden
 

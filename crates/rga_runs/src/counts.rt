@@ -10,6 +10,9 @@ ghost use Rattle.rga_runs.specs.Sums.{AreSums, AreSumsBut};
 use crate::block::Block;
 use crate::bounds::NEIGHBOURS;
 
+/// How many sums are passed at once.
+const TOGETHER: usize = 16;
+
 /// Raises the sum of block q and its neighbours, if there is one, as so many more of its characters are visible.
 pub fn raise(sums: &mut [usize], q: usize, more: usize)
     requires few { (d : ℕ) → q / 32 < length sums.old → get_or sums.old (q / 32) d + more < 2 ^ 64 }
@@ -68,16 +71,37 @@ pub fn add(sums: &mut Vec<usize>, blocks: &[Block])
 /// how many of the k elements before k are left.
 pub fn pass(blocks: &[Block], sums: &[usize], k: usize) -> (usize, usize)
     requires sums { AreSums sums.now (items_of blocks.now) }
+    requires few { visible_in (row_of (items_of blocks.now)) < 2 ^ 64 }
     ensures there { result.0 ≤ length blocks.now }
     ensures before { visible_in (row_of (take result.0 (items_of blocks.now))) + result.1 ≡ k }
 {
-    let mut left = k;
-    let mut passed = 0;
+    let (from, rest) = pass_together(sums, k);
+    let mut left = rest;
+    let mut passed = from;
     while passed < sums.len() && sums[passed] <= left {
         left -= sums[passed];
         passed += 1;
     }
     (NEIGHBOURS * passed, left)
+}
+
+/// Passes sums from the front, some at once, as long as together they aren't above k: how many these are, and what is left of k.
+fn pass_together(sums: &[usize], k: usize) -> (usize, usize)
+    requires few { sum sums.now < 2 ^ 64 }
+    ensures there { result.0 ≤ length sums.now }
+    ensures before { sum (take result.0 sums.now) + result.1 ≡ k }
+{
+    let mut left = k;
+    let mut passed = 0;
+    while TOGETHER <= sums.len() - passed {
+        let visible = total(&sums[passed..passed + TOGETHER]);
+        if left < visible {
+            return (passed, left);
+        }
+        left -= visible;
+        passed += TOGETHER;
+    }
+    (passed, left)
 }
 
 /// How many visible elements stand before block b: what the sums tell of the blocks before its neighbours, and those of the blocks

@@ -47,6 +47,7 @@ fn block_of(blocks: &[Block], n: usize) -> (usize, usize)
 pub fn visible_spot(blocks: &[Block], sums: &[usize], n: usize) -> (usize, usize, usize)
     requires there { n < visible_in (row_of (items_of blocks.now)) }
     requires sums { AreSums sums.now (items_of blocks.now) }
+    requires few { visible_in (row_of (items_of blocks.now)) < 2 ^ 64 }
     ensures block { result.0 < length blocks.now }
     ensures within { result.1 < length (get_or (items_of blocks.now) result.0 []) }
     ensures inside { (d : Kept) → result.2 < (get_or (get_or (items_of blocks.now) result.0 []) result.1 d).count }
@@ -79,6 +80,7 @@ fn stretch_of(block: &Block, k: usize) -> (usize, usize)
 fn visible_block(blocks: &[Block], sums: &[usize], n: usize) -> (usize, usize)
     requires there { n < visible_in (row_of (items_of blocks.now)) }
     requires sums { AreSums sums.now (items_of blocks.now) }
+    requires few { visible_in (row_of (items_of blocks.now)) < 2 ^ 64 }
     ensures block { result.0 < length blocks.now }
     ensures within { result.1 < visible_in (get_or (items_of blocks.now) result.0 []) }
     ensures place { visible_in (row_of (take result.0 (items_of blocks.now))) + result.1 ≡ n }

@@ -1,7 +1,8 @@
 -- The goals of `pass` that are answered by hand.
 use Rattle.std.proofs.Common.{◌≡◌, ◌+◌, ◌-◌, take, drop, ap, ◌∙◌, arith}
+use Rattle.rga_runs.specs.declared.stretch.Stretch.{Stretch}
 use Rattle.rga_runs.specs.Stretches.{count_in}
-use Rattle.rga_runs.proofs.Sums.{count_behind}
+use Rattle.rga_runs.proofs.Sums.{sum-behind}
 use Rattle.rga_runs.proofs.search.pass.Goals as goal
 
 pub loop-passed-preserved : goal.loop-passed-preserved
@@ -12,5 +13,5 @@ loop-passed-preserved c =
     let read : c.count_all-count.result ≡ count_in (take 16 (drop p ss)) = c.count_all-count.ensures ∙ ap (λ k. count_in (take k (drop p ss))) n in
     record {
       there = omega (arith, c.loop-passed.invariant.there, c.loop-passed-test.true);
-      before = omega (arith, count_behind ss p 16, read, c.loop-passed.invariant.before, c.if-left-count.false);
+      before = omega (arith, sum-behind (λ (s : Stretch). s.count) ss p 16, read, c.loop-passed.invariant.before, c.if-left-count.false);
     }

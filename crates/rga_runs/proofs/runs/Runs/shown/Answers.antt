@@ -12,6 +12,7 @@ use Rattle.rga_runs.specs.Sums.{AreSums}
 use Rattle.rga_runs.specs.Indexed.{stretches_in}
 use Rattle.rga_runs.proofs.BlockLists.{length-items}
 use Rattle.rga_runs.proofs.Chunks.{get_or_row, at_less, one_there}
+use Rattle.rga_runs.proofs.Summed.{few_seen}
 use Rattle.rga_runs.proofs.Whole.{seen_elements, visible_place}
 use Rattle.rga_runs.proofs.runs.Runs.shown.Goals as goal
 
@@ -23,6 +24,7 @@ visible_spot-b-requires c =
     record {
       there = omega (arith, ap (λ bs. visible_in (row_of (items_of bs))) c.deref.ensures.value, seen_elements chars ss self.stored, visible_row (elements_in chars ss) self.keeps_walk.in_order, c.requires);
       sums = subst (λ sums. AreSums sums (items_of c.deref.result.now)) (sym c.deref-2.ensures.value) (subst (λ bs. AreSums self.row.sums.items (items_of bs)) (sym c.deref.ensures.value) self.indexed.sums);
+      few = omega (arith, ap (λ bs. visible_in (row_of (items_of bs))) c.deref.ensures.value, few_seen self.row.blocks.items (omega (arith, self.indexed.few, self.row.blocks.ok)));
     }
 
 pub returns : goal.returns
