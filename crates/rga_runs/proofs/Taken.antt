@@ -4,7 +4,7 @@ use Rattle.std.proofs.Math.Nat.{min-le_left, min-le_right, le-min}
 use Rattle.rga_runs.specs.declared.stretch.Stretch.{Stretch}
 use Rattle.rga_runs.specs.declared.row.Row.{Row}
 use Rattle.rga_runs.specs.Stretches.{elements_in, are_stored}
-use Rattle.rga_runs.specs.Indexed.{stretches_in, stretches_for, HasRoom, TakesRoom}
+use Rattle.rga_runs.specs.Indexed.{stretches_in, stretches_for, IsIndexed, HasRoom, TakesRoom}
 use Rattle.rga_runs.proofs.Rows.{length-row, length_counted}
 use Rattle.rga_runs.proofs.Spots.{less_room}
 
@@ -85,3 +85,28 @@ pub room_for_same : (n c : ℕ) (old new : Row) → TakesRoom 0 old new → HasR
 room_for_same n c old new taken room =
     let same : length (stretches_in new) ≡ length (stretches_in old) = omega (arith, taken.least, taken.most) in
     taken.room (stretches_for n c (length (stretches_in old))) (stretches_for n c (length (stretches_in new))) (omega (arith, same, ap (stretches_for n c) same)) room
+
+-- ---- a row that has noted another place
+
+pub noted : (r : Row) (b j : ℕ) → IsIndexed r → IsIndexed (record r { recent = (b, j) })
+noted r b j is = record {
+  homes = is.homes;
+  known = is.known;
+  places = is.places;
+  as_many = is.as_many;
+  keyed = is.keyed;
+  counted = is.counted;
+  halves = is.halves;
+  bounds = is.bounds;
+  sums = is.sums;
+  few = is.few;
+}
+
+pub room_noted : (r : Row) (b j n : ℕ) → HasRoom r n → HasRoom (record r { recent = (b, j) }) n
+room_noted r b j n room = record {
+  paid = room.paid;
+  keys = room.keys;
+  blocks = room.blocks;
+  places = room.places;
+  few = room.few;
+}

@@ -17,7 +17,7 @@ use crate::rank::{not_above, rank_of, share};
 use bg_types::{Id, Memory};
 use std::alloc::Global;
 
-/// For how many sites it is kept where the last key was put. Those with the same rest share that.
+/// For how many sites it is kept where the last key was put or renewed. Those with the same rest share that.
 const SITES: usize = 8;
 
 /// A key for each stretch, by sites and then by counters, and memory for more.
@@ -27,6 +27,8 @@ pub struct Keys {
     pub spares: Vec<SpareLeaf>,
     /// The leaf into which the last key of a site was put. The next one is often put behind that.
     recent: [usize; SITES],
+    /// A leaf, and a place there, behind the last key of a site that was renewed. The next one often stands there.
+    renewed: [(usize, usize); SITES],
     ghost rising: { IsNonDecreasingBy (λ k. rank k.first) (all_keys leaves.items) },
     ghost halves: { AreHalfFull (keys_of leaves.items) },
     ghost memory: { vec_len leaves + vec_len spares ≤ vec_capacity leaves },
@@ -41,6 +43,7 @@ pub fn none(alloc: Global) -> Keys
         leaves: Vec::new(alloc),
         spares: Vec::new(alloc),
         recent: [0; SITES],
+        renewed: [(0, 0); SITES],
     }
 }
 
@@ -78,7 +81,7 @@ pub fn find(keys: &Keys, id: Id) -> Option<Key>
     if keys.leaves.is_empty() {
         return None;
     }
-    let (b, at) = spot(&keys.leaves, likely_leaf(keys, id), id);
+    let (b, at) = spot(&keys.leaves, likely_leaf(keys, id), FULL, id);
     if at == 0 {
         return None;
     }
@@ -90,8 +93,23 @@ pub fn find(keys: &Keys, id: Id) -> Option<Key>
     }
 }
 
-/// Adds the key of a stretch that begins with an identifier, at a place of a block.
+/// Adds the key of a stretch that was put in and begins with an identifier, at a place of a block. The next one of its site is sought
+/// from its leaf on.
 pub fn put(keys: &mut Keys, id: Id, number: usize, place: usize)
+    requires few { number < 2 ^ 32 }
+    requires room { vec_len keys.old.spares ≡ 0 → length (all_keys keys.old.leaves.items) < 128 * vec_len keys.old.leaves }
+    ensures looks { (q : Identifier) → q.counter < 2 ^ 32 → look_in (all_keys keys.new.leaves.items) q
+        ≡ (if reaches id q (look_in (all_keys keys.old.leaves.items) q) then Some (id, number) else look_in (all_keys keys.old.leaves.items) q) }
+    ensures len { length (all_keys keys.new.leaves.items) ≡ length (all_keys keys.old.leaves.items) + 1 }
+    ensures room { vec_len keys.new.leaves + vec_len keys.new.spares ≡ vec_len keys.old.leaves + vec_len keys.old.spares }
+    ensures spares { vec_len keys.old.spares ≤ vec_len keys.new.spares + 1 }
+{
+    let leaf = add(keys, id, number, place);
+    keys.recent[usize::from(id.site()) % SITES] = leaf;
+}
+
+/// Adds the key of a stretch, and answers its leaf. The rest of a stretch that was parted is often far from where its site goes on.
+pub fn add(keys: &mut Keys, id: Id, number: usize, place: usize) -> usize
     requires few { number < 2 ^ 32 }
     requires room { vec_len keys.old.spares ≡ 0 → length (all_keys keys.old.leaves.items) < 128 * vec_len keys.old.leaves }
     ensures looks { (q : Identifier) → q.counter < 2 ^ 32 → look_in (all_keys keys.new.leaves.items) q
@@ -103,9 +121,10 @@ pub fn put(keys: &mut Keys, id: Id, number: usize, place: usize)
     let key = Key::of(id, number, place);
     if keys.leaves.is_empty() {
         begin(keys, key);
+        0
     } else {
-        let (b, at) = spot(&keys.leaves, likely_leaf(keys, id), id);
-        put_in(keys, b, at, key);
+        let (b, at) = spot(&keys.leaves, likely_leaf(keys, id), FULL, id);
+        put_in(keys, b, at, key)
     }
 }
 
@@ -121,8 +140,8 @@ fn begin(keys: &mut Keys, key: Key)
     keys.leaves.push(Leaf::lone(memory, key)).unwrap();
 }
 
-/// Puts a key in where it keeps the order.
-fn put_in(keys: &mut Keys, b: usize, at: usize, key: Key)
+/// Puts a key in where it keeps the order, and answers its leaf.
+fn put_in(keys: &mut Keys, b: usize, at: usize, key: Key) -> usize
     requires leaf { b < vec_len keys.old.leaves }
     requires within { at ≤ length (get_or (keys_of keys.old.leaves.items) b []) }
     requires below { (i : ℕ) (d : Kept) → i < place_in (keys_of keys.old.leaves.items) b at → rank (get_or (all_keys keys.old.leaves.items) i d).first ≤ rank key.first }
@@ -133,10 +152,9 @@ fn put_in(keys: &mut Keys, b: usize, at: usize, key: Key)
     ensures room { vec_len keys.new.leaves + vec_len keys.new.spares ≡ vec_len keys.old.leaves + vec_len keys.old.spares }
     ensures spares { vec_len keys.old.spares ≤ vec_len keys.new.spares + 1 }
 {
-    let site = usize::from(key.first.site());
     let (q, j) = make_room(keys, b, at);
     put_at(&mut keys.leaves, q, j, key);
-    keys.recent[site % SITES] = q;
+    q
 }
 
 /// The leaf into which the last key of the identifier's site was put, or of another with the same rest. For one that is below, which
@@ -281,13 +299,26 @@ pub fn renew(keys: &mut Keys, id: Id, number: usize, place: usize)
     ensures leaves { vec_len keys.new.leaves ≡ vec_len keys.old.leaves }
     ensures spares { vec_len keys.new.spares ≡ vec_len keys.old.spares }
 {
-    let (b, at) = spot(&keys.leaves, likely_leaf(keys, id), id);
+    let (leaf, likely) = behind_renewed(keys, id);
+    let (b, at) = spot(&keys.leaves, leaf, likely, id);
     write_at(&mut keys.leaves, b, at - 1, Key::of(id, number, place));
+    keys.renewed[usize::from(id.site()) % SITES] = (b, at);
 }
 
-/// Where the keys end that aren't above an identifier: a leaf, and a place there, which is the front only where none is. One leaf
-/// is tried first.
-fn spot(leaves: &[Leaf], likely: usize, id: Id) -> (usize, usize)
+/// The leaf of its site's key that was renewed last, and the place behind that, if an identifier is of this leaf. Else a likely leaf,
+/// where no place is.
+fn behind_renewed(keys: &Keys, id: Id) -> (usize, usize) {
+    let (b, at) = keys.renewed[usize::from(id.site()) % SITES];
+    if ends_begun(&keys.leaves, b, rank_of(id)) {
+        (b, at)
+    } else {
+        (likely_leaf(keys, id), FULL)
+    }
+}
+
+/// Where the keys end that aren't above an identifier: a leaf, and a place there, which is the front only where none is. One leaf,
+/// and one key there, are tried first.
+fn spot(leaves: &[Leaf], leaf: usize, likely: usize, id: Id) -> (usize, usize)
     requires some { 0 < length leaves.now }
     requires rising { IsNonDecreasingBy (λ k. rank k.first) (all_keys leaves.now) }
     ensures leaf { result.0 < length leaves.now }
@@ -296,8 +327,8 @@ fn spot(leaves: &[Leaf], likely: usize, id: Id) -> (usize, usize)
     ensures below { (i : ℕ) (d : Kept) → i < place_in (keys_of leaves.now) result.0 result.1 → rank (get_or (all_keys leaves.now) i d).first ≤ rank id }
     ensures above { (i : ℕ) (d : Kept) → place_in (keys_of leaves.now) result.0 result.1 ≤ i → i < length (all_keys leaves.now) → rank id < rank (get_or (all_keys leaves.now) i d).first }
 {
-    let b = begun(leaves, likely, id).saturating_sub(1);
-    (b, not_above(&leaves[b].keys, id))
+    let b = begun(leaves, leaf, id).saturating_sub(1);
+    (b, not_above(&leaves[b].keys, likely, id))
 }
 
 /// How many leaves at the front begin with a key that isn't above an identifier. They end behind one leaf most often.

@@ -30,7 +30,7 @@ pub struct Row {
     pub places: Vec<usize>,
     /// How many stretches the blocks have.
     pub count: usize,
-    /// Where a character was put in last. The next one is often put after it, or after what it was put after.
+    /// Where a character was put in or found last. The next one is often put after it, or after what it was put after.
     pub recent: (usize, usize),
     /// The counter with which the last stretch began that was put in.
     pub latest: u32,
@@ -236,7 +236,7 @@ pub fn part(row: &mut Row, b: usize, j: usize, k: usize) -> (usize, usize)
     let (q, at) = make_room(row, b, j + 1);
     let first = part_at(&mut row.blocks, q, at - 1, k);
     let number = row.blocks[q].number;
-    keys::put(&mut row.keys, first, number, at);
+    keys::add(&mut row.keys, first, number, at);
     row.count += 1;
     (q, at)
 }

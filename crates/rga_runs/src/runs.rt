@@ -133,13 +133,16 @@ impl Runs {
         more
     }
 
-    /// Visible element k.
-    fn shown(&self, k: usize) -> Element
-        requires { k < length (visible (⟦<Runs as Sequence>⟧.content self.now)) }
-        ensures id { slice_get (visible_ids (⟦<Runs as Sequence>⟧.content self.now)) k ≡ Some result.id }
-        ensures ch { slice_get (text (⟦<Runs as Sequence>⟧.content self.now)) k ≡ Some result.ch }
+    /// Visible element k. One is often put after it, or it is hidden.
+    fn shown(&mut self, k: usize) -> Element
+        requires { k < length (visible (⟦<Runs as Sequence>⟧.content self.old)) }
+        ensures id { slice_get (visible_ids (⟦<Runs as Sequence>⟧.content self.old)) k ≡ Some result.id }
+        ensures ch { slice_get (text (⟦<Runs as Sequence>⟧.content self.old)) k ≡ Some result.ch }
+        ensures content { ⟦<Runs as Sequence>⟧.content self.new ≡ ⟦<Runs as Sequence>⟧.content self.old }
+        ensures room { ⟦<Runs as Sequence>⟧.free self.new ≡ ⟦<Runs as Sequence>⟧.free self.old }
     {
         let (b, j, i) = visible_spot(&self.row.blocks, &self.row.sums, k);
+        self.row.recent = (b, j);
         self.at(b, j, i)
     }
 

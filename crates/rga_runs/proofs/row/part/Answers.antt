@@ -61,8 +61,8 @@ overflow_add-row c =
     let room = c.make_room-q.ensures.room 0 c.requires.room in
     omega (arith, c.make_room-q.ensures.indexed.counted, few_stretches mid.blocks.items, mid.blocks.ok, room.few)
 
-pub put-requires-clause-few : goal.put-requires-clause-few
-put-requires-clause-few c =
+pub add-requires-clause-few : goal.add-requires-clause-few
+add-requires-clause-few c =
     let mid = c.make_room-q.new.row in
     let bs = mid.blocks.items in
     let ns = numbers_of bs in
@@ -75,8 +75,8 @@ put-requires-clause-few c =
     let room = c.make_room-q.ensures.room 0 c.requires.room in
     omega (arith, number_is, below, len_ns, mid.blocks.ok, room.few)
 
-pub put-requires-clause-room : goal.put-requires-clause-room
-put-requires-clause-room c =
+pub add-requires-clause-room : goal.add-requires-clause-room
+add-requires-clause-room c =
     let room = c.make_room-q.ensures.room 0 c.requires.room in
     λ none. omega (arith, none, c.make_room-q.ensures.indexed.keyed, room.keys (omega (arith, none)))
 
@@ -115,10 +115,10 @@ returns c =
     ap length row_is ∙ length-insert (set (row_of ys) (at_spot ys q i) low) (at_spot ys q i + 1) rest (omega (arith, long_set, less)) ∙ omega (arith, long_set) in
     let spot : at_spot ys q i ≡ p = omega (arith, c.make_room-q.ensures.place, behind) in
     let old_look = look_in (keys_in mid.keys) in
-    let look = look_in (keys_in c.put.new.keys) in
+    let look = look_in (keys_in c.add.new.keys) in
     let number_is : (c.index.result.now).number ≡ get_or ns q 0 =
     ap (λ (b : Block). b.number) c.index.ensures ∙ sym (number_there new q c.index.result.now (omega (arith, c.part_at-first.new.blocks.ok, c.part_at-first.ensures.len, c.make_room-q.ensures.block))) ∙ ap (λ r. get_or r q 0) c.part_at-first.ensures.numbers in
-    let gains : Gains look old_look rest.first (get_or ns q 0) = subst (λ f. Gains look old_look f (get_or ns q 0)) (sym first) (subst (Gains look old_look c.part_at-first.result) number_is c.put.ensures.looks) in
+    let gains : Gains look old_look rest.first (get_or ns q 0) = subst (λ f. Gains look old_look f (get_or ns q 0)) (sym first) (subst (Gains look old_look c.part_at-first.result) number_is c.add.ensures.looks) in
     let apart : AreApart (row_of ys) = subst AreApart (sym c.make_room-q.ensures.row) c.requires.apart in
     let count = ap (λ n. n + rest.count) is.count ∙ is.rest_count in
     let begins = is.rest_first ∙ ap (λ n. later (get_or y i d).first n) (sym is.count) in
@@ -145,7 +145,7 @@ returns c =
         places = λ p less. ap (λ r. slice_get mid.places.items (get_or r p 0)) c.part_at-first.ensures.numbers
             ∙ was.places p (omega (arith, less, c.part_at-first.ensures.len, c.part_at-first.new.blocks.ok, mid.blocks.ok));
         as_many = omega (arith, c.part_at-first.ensures.len, was.as_many);
-        keyed = omega (arith, c.put.ensures.len, was.keyed, long);
+        keyed = omega (arith, c.add.ensures.len, was.keyed, long);
         counted = omega (arith, was.counted, long);
         halves = subst AreHalfFull (sym items) (AreHalfFull-set ys q (insert (set y i low) (i + 1) rest) was.halves (omega (arith, longer)));
         bounds = subst (AreBounds mid.bounds.items) (sym items) (bounds-same mid.bounds.items ys q z
@@ -158,7 +158,7 @@ returns c =
           let room = c.make_room-q.ensures.room n paid in
           record {
             paid = λ few. omega (arith, room.paid few, long, c.part_at-first.ensures.len);
-            keys = λ few. omega (arith, room.keys (omega (arith, few, c.put.ensures.spares)), long, c.put.ensures.room);
+            keys = λ few. omega (arith, room.keys (omega (arith, few, c.add.ensures.spares)), long, c.add.ensures.room);
             blocks = omega (arith, room.blocks, c.part_at-first.ensures.len, c.part_at-first.ensures.capacity);
             places = omega (arith, room.places, c.part_at-first.ensures.len);
             few = omega (arith, room.few, c.part_at-first.ensures.len);

@@ -1,6 +1,6 @@
 -- The goals of `shown` that are answered by hand.
-use Rattle.std.proofs.Common.{◌≡◌, ◌+◌, ◌<◌, ◌∙◌, [], List, Some, false, length, take, get_or, sym, ap, subst, arith}
-use Rattle.std.specs.Prelude.{slice_get}
+use Rattle.std.proofs.Common.{◌≡◌, ◌+◌, ◌<◌, ◌∙◌, [], List, Some, false, length, take, get_or, refl, sym, ap, subst, arith}
+use Rattle.std.specs.Prelude.{slice_get, vec_len}
 use Rattle.rga_tree.proofs.Interface.{seen_at, visible_at, visible_row}
 use Rattle.rga_runs.specs.declared.stretch.Stretch.{Stretch}
 use Rattle.rga_runs.specs.declared.block.Block.{Block}
@@ -9,10 +9,11 @@ use Rattle.rga_runs.specs.Stretches.{elements_of, parts_in, elements_in, visible
 use Rattle.rga_runs.specs.Blocks.{row_of, at_spot}
 use Rattle.rga_runs.specs.BlockRows.{items_of}
 use Rattle.rga_runs.specs.Sums.{AreSums}
-use Rattle.rga_runs.specs.Indexed.{stretches_in}
+use Rattle.rga_runs.specs.Indexed.{stretches_in, stretches_for}
 use Rattle.rga_runs.proofs.BlockLists.{length-items}
 use Rattle.rga_runs.proofs.Chunks.{get_or_row, at_less, one_there}
 use Rattle.rga_runs.proofs.Summed.{few_seen}
+use Rattle.rga_runs.proofs.Taken.{noted, room_noted}
 use Rattle.rga_runs.proofs.Whole.{seen_elements, visible_place}
 use Rattle.rga_runs.proofs.runs.Runs.shown.Goals as goal
 
@@ -25,6 +26,26 @@ visible_spot-b-requires c =
       there = omega (arith, ap (λ bs. visible_in (row_of (items_of bs))) c.deref.ensures.value, seen_elements chars ss self.stored, visible_row (elements_in chars ss) self.keeps_walk.in_order, c.requires);
       sums = subst (λ sums. AreSums sums (items_of c.deref.result.now)) (sym c.deref-2.ensures.value) (subst (λ bs. AreSums self.row.sums.items (items_of bs)) (sym c.deref.ensures.value) self.indexed.sums);
       few = omega (arith, ap (λ bs. visible_in (row_of (items_of bs))) c.deref.ensures.value, few_seen self.row.blocks.items (omega (arith, self.indexed.few, self.row.blocks.ok)));
+    }
+
+-- it was noted where the element stands, and nothing else
+pub invariant_of-self : goal.invariant_of-self
+invariant_of-self c =
+    let self = c.args.self.now in
+    let chars = vec_len self.characters in
+    let stretches = length (stretches_in self.row) in
+    let b = c.visible_spot-b.result.0 in
+    let j = c.visible_spot-b.result.1 in
+    record {
+      keeps_walk = self.keeps_walk;
+      stored = self.stored;
+      indexed = noted self.row b j self.indexed;
+      counted = self.counted;
+      visible_are = self.visible_are;
+      up_to = self.up_to;
+      enough = room_noted self.row b j (stretches_for self.room chars stretches) self.enough;
+      enough_characters = self.enough_characters;
+      few = self.few;
     }
 
 pub returns : goal.returns
@@ -51,4 +72,4 @@ returns c =
     let spot = visible_place chars ss c.args.k p k d c.at.result self.stored less (omega (arith, inside d, ap (λ (s : Stretch). s.count) item))
     (ap (λ (s : Stretch). is_odd (bits_from k s.hidden)) item ∙ shown d) (ap (λ (s : Stretch). visible_in (take p ss) + unset k s.hidden) item ∙ place d) read in
     let both = seen_at (elements_in chars ss) c.args.k c.at.result self.keeps_walk.in_order (visible_at (parts_in chars ss) c.args.k p k c.at.result spot) in
-    record { id = both.0; ch = both.1 }
+    record { id = both.0; ch = both.1; content = refl; room = refl }

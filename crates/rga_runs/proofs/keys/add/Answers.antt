@@ -1,4 +1,4 @@
--- The goals of `put` that are answered by hand.
+-- The goals of `add` that are answered by hand.
 use Rattle.std.proofs.Common.{◌≡◌, ◌<◌, ◌≤◌, ◌∷◌, ◌∙◌, ℕ, [], List, cond, Some, length, get_or, sym, ap, subst, arith, rules}
 use Rattle.std.specs.Prelude.{vec_len}
 use Rattle.std.proofs.lemmas.List.Edits.{length-insert}
@@ -10,7 +10,7 @@ use Rattle.rga_runs.proofs.BlockLists.{length_none}
 use Rattle.rga_runs.proofs.Chunks.{at_within}
 use Rattle.rga_runs.proofs.Halves.{some_spare}
 use Rattle.rga_runs.proofs.LeafRows.{Gained, length-keys, put_keys}
-use Rattle.rga_runs.proofs.keys.put.Goals as goal
+use Rattle.rga_runs.proofs.keys.add.Goals as goal
 
 pub returns-then-is_empty-clause-looks : goal.returns-then-is_empty-clause-looks
 returns-then-is_empty-clause-looks c = λ q fits.
