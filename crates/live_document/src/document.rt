@@ -426,8 +426,7 @@ impl Document {
     /// Lays out what is not kept of a window: the rows from so many above the row of a place to so many below it, each at
     /// most 1,000. `window` shows it then. What was kept stays, unless its rows have more bytes than those of four such windows with
     /// an entry for each column, each of at least 64 rows, and than as many such rows as `keep_rows` was asked for: then no more
-    /// than these have, or the rows of the window's paragraphs alone. After `Memory` nothing is shown, and no rows
-    /// are kept.
+    /// than these have, or the rows of the window's paragraphs alone. After `Memory` nothing is shown and no row kept.
     /// Cost: O(d / 32) of the d paragraphs between the place and where the last edit or `show` was, O(64) for each that has a
     /// row in the window, and that of `rows` for each of them of which nothing is kept; memory for their rows. Once more
     /// was made than may be kept, it is counted: O(n / 32) of all paragraphs, and O(64) for each block of at most 64 of
