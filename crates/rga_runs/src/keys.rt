@@ -1,6 +1,6 @@
 //! Which stretch an identifier may be of, and in which block that is.
 
-ghost use Rattle.std.specs.Prelude.{◌≡◌, ◌+◌, ◌*◌, ◌^◌, ◌<◌, ◌≤◌, ◌++◌, ◌∷◌, ℕ, Some, None, IfSome, IfNone, [], OnOk, if◌then◌else◌, length, take, drop, get_or, insert, slice_set, vec_len, vec_capacity};
+ghost use Rattle.std.specs.Prelude.{◌≡◌, ◌+◌, ◌*◌, ◌^◌, ◌<◌, ◌≤◌, ◌++◌, ◌∷◌, ℕ, Some, None, IfSome, IfNone, [], OnOk, OnErr, if◌then◌else◌, length, take, drop, get_or, insert, slice_set, vec_len, vec_capacity};
 ghost use Rattle.std.specs.Bool.{OnTrue};
 ghost use Rattle.std.specs.List.Sorted.{IsNonDecreasingBy};
 ghost use Rattle.bg_types.specs.Identifier.{Identifier};
@@ -59,8 +59,24 @@ pub fn reserve(keys: &mut Keys, alloc: Global, more: usize) -> Result<(), Memory
     add_spares(&mut keys.spares, alloc, more)
 }
 
-/// Makes memory for `more` more leaves.
+/// Makes memory for `more` more leaves, or gives back what it made.
 fn add_spares(spares: &mut Vec<SpareLeaf>, alloc: Global, more: usize) -> Result<(), Memory>
+    requires { vec_len spares.old + more ≤ vec_capacity spares.old }
+    ensures ok { OnOk result (vec_len spares.new ≡ vec_len spares.old + more) }
+    ensures kept { vec_len spares.old ≤ vec_len spares.new }
+    ensures within { vec_len spares.new ≤ vec_capacity spares.old }
+    ensures err { OnErr result (vec_len spares.new ≡ vec_len spares.old) }
+{
+    let had = spares.len();
+    let made = push_spares(spares, alloc, more);
+    if made.is_err() {
+        spares.truncate(had);
+    }
+    made
+}
+
+/// Makes memory for `more` more leaves, or for some of them.
+fn push_spares(spares: &mut Vec<SpareLeaf>, alloc: Global, more: usize) -> Result<(), Memory>
     requires { vec_len spares.old + more ≤ vec_capacity spares.old }
     ensures ok { OnOk result (vec_len spares.new ≡ vec_len spares.old + more) }
     ensures kept { vec_len spares.old ≤ vec_len spares.new }

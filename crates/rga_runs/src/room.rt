@@ -1,6 +1,6 @@
 //! Room for stretches: full blocks are split.
 
-ghost use Rattle.std.specs.Prelude.{◌≡◌, ◌+◌, ◌*◌, ◌^◌, ◌<◌, ◌≤◌, [], ℕ, List, All, length, take, drop, get_or, slice_get, insert, slice_set, Some, OnOk, vec_len, vec_capacity};
+ghost use Rattle.std.specs.Prelude.{◌≡◌, ◌+◌, ◌*◌, ◌^◌, ◌<◌, ◌≤◌, [], ℕ, List, All, length, take, drop, get_or, slice_get, insert, slice_set, Some, OnOk, OnErr, vec_len, vec_capacity};
 ghost use Rattle.rga_runs.specs.declared.stretch.Stretch.{Stretch as Kept};
 ghost use Rattle.rga_runs.specs.Stretches.{IsOutside, AreApart};
 ghost use Rattle.rga_runs.specs.Keyed.{look_in};
@@ -149,8 +149,25 @@ pub fn make_memory(row: &mut Row, alloc: Global, n: usize) -> Result<(), Memory>
     add_spares(&mut row.spares, alloc, more)
 }
 
-/// Makes memory for `more` more blocks.
+/// Makes memory for `more` more blocks, or gives back what it made.
 fn add_spares(spares: &mut Vec<Spare>, alloc: Global, more: usize) -> Result<(), Memory>
+    requires { vec_len spares.old + more ≤ vec_capacity spares.old }
+    ensures ok { OnOk result (vec_len spares.new ≡ vec_len spares.old + more) }
+    ensures kept { vec_len spares.old ≤ vec_len spares.new }
+    ensures most { vec_len spares.new ≤ vec_len spares.old + more }
+    ensures within { vec_len spares.new ≤ vec_capacity spares.old }
+    ensures err { OnErr result (vec_len spares.new ≡ vec_len spares.old) }
+{
+    let had = spares.len();
+    let made = push_spares(spares, alloc, more);
+    if made.is_err() {
+        spares.truncate(had);
+    }
+    made
+}
+
+/// Makes memory for `more` more blocks, or for some of them.
+fn push_spares(spares: &mut Vec<Spare>, alloc: Global, more: usize) -> Result<(), Memory>
     requires { vec_len spares.old + more ≤ vec_capacity spares.old }
     ensures ok { OnOk result (vec_len spares.new ≡ vec_len spares.old + more) }
     ensures kept { vec_len spares.old ≤ vec_len spares.new }

@@ -178,9 +178,9 @@ impl Sequence for Runs {
         if MOST - self.characters.len() < room {
             return Err(Memory);
         }
-        self.characters.reserve(room)?;
         let stretches = most_for(room, self.characters.len(), self.row.count);
         make_memory(&mut self.row, self.alloc, stretches)?;
+        self.characters.reserve(room)?;
         self.room = room;
         Ok(())
     }

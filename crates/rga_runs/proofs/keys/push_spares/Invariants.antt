@@ -1,7 +1,7 @@
--- What stays true in the loop of `add_spares`.
+-- What stays true in the loop of `push_spares`.
 use Rattle.std.proofs.Common.{◌≡◌, ◌≤◌, ◌+◌}
 use Rattle.std.specs.Prelude.{vec_len, vec_capacity}
-use Rattle.rga_runs.proofs.keys.add_spares.Given as goal
+use Rattle.rga_runs.proofs.keys.push_spares.Given as goal
 
 abbrev pub invariant-loop : goal.invariant-loop
 invariant-loop l = record {
