@@ -8,12 +8,12 @@ use Rattle.rga_runs.specs.Blocks.{row_of}
 abbrev pub visible_from : List (List Stretch) → ℕ → ℕ → ℕ
 visible_from xs m n = visible_in (row_of (take n (drop m xs)))
 
--- each entry tells it of blocks 32 g to 32 g + 31, of which there are that many
+-- entry g is that of blocks 32 g to 32 g + 31, which are all there
 pub record AreSums (ss : List ℕ) (xs : List (List Stretch)) : Type 0 where
   pub whole : 32 * length ss ≤ length xs
   pub sums : (g d : ℕ) → g < length ss → get_or ss g d ≡ visible_from xs (32 * g) 32
 
--- the same, but a block more was made, and each entry behind entry n tells it of the blocks one further on, so that entry n and those
+-- the same, but a block more was made, and each entry behind entry n is that of the blocks one further on, so that entry n and those
 -- that came are of 33 blocks
 pub record AreSumsBut (n came : ℕ) (ss : List ℕ) (xs : List (List Stretch)) : Type 0 where
   pub whole : 32 * length ss < length xs

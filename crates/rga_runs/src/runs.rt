@@ -180,6 +180,7 @@ impl Sequence for Runs {
         }
         let stretches = most_for(room, self.characters.len(), self.row.count);
         make_memory(&mut self.row, self.alloc, stretches)?;
+        // Last, so that a refused growth of the row leaves their list as it was.
         self.characters.reserve(room)?;
         self.room = room;
         Ok(())
