@@ -107,6 +107,19 @@ pub fn count_before(blocks: &[Block], sums: &[usize], b: usize, j: usize, k: usi
     ensures { (d : Kept) → result ≡ visible_in (take (at_spot (items_of blocks.now) b j) (row_of (items_of blocks.now)))
         + unset k (get_or (get_or (items_of blocks.now) b []) j d).hidden }
 {
-    let stretches = &blocks[b].stretches;
-    before_block(blocks, sums, b) + count_visible(&stretches[..j]) + stretches[j].visible_before(k)
+    let block = &blocks[b];
+    before_block(blocks, sums, b) + before_stretch(block, j) + block.stretches[j].visible_before(k)
+}
+
+/// How many visible elements of a block stand before a stretch of it. They are counted from the nearer end.
+fn before_stretch(block: &Block, j: usize) -> usize
+    requires { j ≤ length block.now.stretches.items }
+    ensures { result ≡ visible_in (take j block.now.stretches.items) }
+{
+    let (front, behind) = block.stretches.split_at(j);
+    if front.len() <= behind.len() {
+        count_visible(front)
+    } else {
+        block.visible - count_visible(behind)
+    }
 }
