@@ -1,7 +1,7 @@
 -- Sets of character classes.
 use Rattle.std.specs.Prelude.{Bool, true, false}
 use Rattle.bg_types.specs.declared.class.Bidi.{Bidi}
-use Rattle.bg_types.specs.declared.class.Bidi.TheVariants.{B}
+use Rattle.bg_types.specs.declared.class.Bidi.TheVariants.{B, S}
 use Rattle.bg_types.specs.declared.class.Lb.{Lb}
 use Rattle.bg_types.specs.declared.class.Lb.TheVariants.{Bk, Cr, Lf, Nl, Sp}
 use Rattle.bg_types.specs.declared.class.Ea.{Ea}
@@ -12,6 +12,11 @@ unfoldable pub use Rattle.bg_types.specs.Classes.{is_removed, is_isolate_control
 unfoldable pub is_separator : Bidi → Bool
 is_separator B = true
 is_separator _ = false
+
+-- the class of what separates segments, as a tab does
+unfoldable pub is_segment_separator : Bidi → Bool
+is_segment_separator S = true
+is_segment_separator _ = false
 
 -- UAX #14, LB4 and LB5: the classes after which a line must end
 unfoldable pub is_line_end : Lb → Bool

@@ -5,4 +5,5 @@ pub mod Alone
 pub mod Blocks
 pub mod Word
 pub mod Evenness
+pub mod FirstBytes
 pub mod Words

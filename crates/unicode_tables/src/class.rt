@@ -1,7 +1,7 @@
 //! Sets of character classes.
 
 ghost use Rattle.std.specs.Prelude.{◌≡◌};
-ghost use Rattle.unicode_tables.specs.Classes.{is_separator, is_line_end, is_space, is_wide, is_ambiguous};
+ghost use Rattle.unicode_tables.specs.Classes.{is_separator, is_segment_separator, is_line_end, is_space, is_wide, is_ambiguous};
 
 use bg_types::{Bidi, Ea, Lb};
 
@@ -12,6 +12,15 @@ pub fn is_separator(class: Bidi) -> bool
     ensures { result ≡ is_separator class }
 {
     matches!(class, Bidi::B)
+}
+
+/// Whether a character of this class separates segments, as a tab does.
+#[inline]
+#[tactic(auto, unfolding(crate::specs::Classes::is_segment_separator))]
+pub fn is_segment_separator(class: Bidi) -> bool
+    ensures { result ≡ is_segment_separator class }
+{
+    matches!(class, Bidi::S)
 }
 
 /// Whether a line must end after a character of this class (LB4, LB5).

@@ -1,7 +1,8 @@
 //! The tables, and the looking up.
 
-ghost use Rattle.std.specs.Prelude.{◌≡◌, map, IfOk, OnOk};
-ghost use Rattle.std.specs.Str.{chars};
+ghost use Rattle.std.specs.Prelude.{◌≡◌, ◌||◌, true, false, is_some, length, map, take, IfOk, OnOk};
+ghost use Rattle.std.specs.List.{list_any};
+ghost use Rattle.std.specs.Str.{IsCharBoundary, chars};
 
 use crate::bracket::Bracket;
 use crate::property::Property;
@@ -26,11 +27,13 @@ impl Model for Tables {
 
     ghost Value = { TableValues };
 
-    ghost use Rattle.unicode_tables.specs.Words.{tables_of_words, IsWordTable, HasMarks};
+    ghost use Rattle.unicode_tables.specs.FirstBytes.{AreFirstBytes};
+    ghost use Rattle.unicode_tables.specs.Words.{word_in, tables_of_words, IsWordTable, HasMarks};
 
     ghost view = { λ t. with_width (tables_of_words t.words t.bracket t.mirror) t.wide_ambiguous };
 
-    ghost invariant = { λ t. IsWordTable t.words × HasMarks t.words t.bracket t.mirror };
+    ghost invariant = { λ t. IsWordTable t.words × HasMarks t.words t.bracket t.mirror
+        × AreFirstBytes (word_in t.words) 0x110000 t.words.first_bytes };
 }
 
 // Written out: a crate above then proves the call, and nothing of the parts.
@@ -47,6 +50,7 @@ impl Drop for Tables {
 
 impl Tables {
     ghost use Rattle.unicode_tables.specs.Tables.{tables_of_lists, with_width, bidi_of, bracket_of, mirror_of, lb_of, ea_of};
+    ghost use Rattle.unicode_tables.specs.Classes.{is_separator, is_segment_separator};
     ghost use Rattle.unicode_tables.specs.Word.{word_of};
 
     /// The tables of five properties. Ambiguous characters are narrow.
@@ -173,6 +177,40 @@ impl Tables {
             return None;
         }
         self.mirror.get(c)
+    }
+
+    /// How many bytes and how many characters of a text stand before the first that may end a paragraph, as far as the first
+    /// byte of each tells.
+    /// Cost: O(n) of these.
+    #[inline]
+    pub fn before_separator(&self, text: &str) -> (usize, usize)
+        ensures boundary { IsCharBoundary text.now result.0 }
+        ensures count { result.1 ≡ length (chars (take result.0 text.now)) }
+        ensures none { list_any (λ c. is_separator (bidi_of self.now c)) (chars (take result.0 text.now)) ≡ false }
+    {
+        self.words.first_bytes.to_separators.passed(text)
+    }
+
+    /// Whether the first bytes of a text's characters tell that none separates segments.
+    /// Cost: O(n).
+    #[inline]
+    pub fn is_one_segment(&self, text: &str) -> bool
+        ensures { result ≡ true → list_any (λ c. is_segment_separator (bidi_of self.now c)) (chars text.now) ≡ false }
+    {
+        let (bytes, _) = self.words.first_bytes.to_separators.passed(text);
+        bytes == text.len()
+    }
+
+    /// Whether the first bytes of a text's characters tell that none is shown by others at an odd level: none separates
+    /// segments, and none has a mirrored character (UAX #9, L4).
+    /// Cost: O(n).
+    #[inline]
+    pub fn is_shown_as_it_is(&self, text: &str) -> bool
+        ensures { result ≡ true
+            → list_any (λ c. is_segment_separator (bidi_of self.now c) || is_some (mirror_of self.now c)) (chars text.now) ≡ false }
+    {
+        let (bytes, _) = self.words.first_bytes.to_replaced.passed(text);
+        bytes == text.len()
     }
 
     /// Line_Break of a character.

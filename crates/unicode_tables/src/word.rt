@@ -177,8 +177,10 @@ impl Properties<'_> {
         requires behind { 0 < block }
         requires within { block < 4352 }
         requires before { before ≡ word_with self.now ((block - 1) * 256) }
-        ensures { result ≡ true → (k : ℕ) → k < 256
+        ensures same { result ≡ true → (k : ℕ) → k < 256
             → word_with self.now (block * 256 + k) ≡ word_with self.now ((block - 1) * 256 + k) }
+        ensures one { result ≡ true → (k : ℕ) → k < 256
+            → word_with self.now (block * 256 + k) ≡ word_with self.now ((block - 1) * 256) }
     {
         self.are_even(block - 1)
             && self.are_even(block)

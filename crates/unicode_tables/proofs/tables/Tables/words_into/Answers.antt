@@ -1,5 +1,5 @@
 -- A word more at each step.
-use Rattle.std.proofs.Common.{◌+◌, ◌++◌, ◌∷◌, [], map, take, vec_capacity, vec_len, get_or, sym, ap, ◌∙◌, arith}
+use Rattle.std.proofs.Common.{◌++◌, ◌∷◌, [], map, take, vec_capacity, vec_len, get_or, sym, ap, ◌∙◌, arith}
 use Rattle.std.proofs.lemmas.List.{map-append, take_all, take_more}
 use Rattle.unicode_tables.specs.Word.{word_of}
 use Rattle.unicode_tables.proofs.tables.Tables.words_into.Goals as goal
