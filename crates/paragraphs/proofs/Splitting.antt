@@ -1,14 +1,18 @@
 -- A text that is split up to a place.
-use Rattle.std.proofs.Common.{◌≡◌, ℕ, ◌+◌, ◌-◌, ◌≤◌, true, false, List, [], ◌∷◌, ◌++◌, length, take, drop, slice_range, refl, sym, ap, ap₂, subst, ◌∙◌, arith}
+use Rattle.std.proofs.Common.{◌≡◌, ℕ, ◌+◌, ◌-◌, ◌<◌, ◌≤◌, ◌==◌, ◌&&◌, true, false, not, List, [], ◌∷◌, ◌++◌, length, take, drop, slice_range, refl, sym, ap, ap₂, subst, ◌∙◌, arith, append-nil, length-append}
+use Rattle.std.proofs.lemmas.Bool.{or_parts}
 use Rattle.std.proofs.lemmas.List.{append_assoc, drop_at, take_rest, nil_from_length}
 use Rattle.std.proofs.lemmas.List.Elements.{All-same}
-use Rattle.std.proofs.lemmas.Str.{chars-nil, chars_past_char, encodes-chars, length-le-encodes, IsUtf8-past_char}
-use Rattle.std.specs.List.{All}
+use Rattle.std.proofs.lemmas.Str.{chars-nil, chars_past_char, encodes-chars, length-encode, length-le-encodes, len_utf8_bounds, IsUtf8-past_char}
+use Rattle.std.specs.List.{All, list_any}
 use Rattle.std.specs.Prelude.{encode_utf8, encode_utf8_all}
 use Rattle.std.specs.Str.{IsUtf8, IsCharBoundary}
+use Rattle.bg_types.specs.declared.class.Bidi.{Bidi}
 use Rattle.unicode_tables.specs.Tables.{TableValues, bidi_of}
+use Rattle.paragraphs.specs.Classes.{is_separator}
 use Rattle.paragraphs.specs.Text.{code_points}
-use Rattle.paragraphs.specs.Paragraphs.{Paragraph, ends_paragraph, paragraph_between, pieces, paragraphs, StandsIn}
+use Rattle.paragraphs.specs.Paragraphs.{Paragraph, begins_with_line_feed, ends_paragraph, paragraph_between, pieces, paragraphs, StandsIn}
+use Rattle.paragraphs.specs.Separators.{HasNoSeparator, IsBehind}
 use Rattle.paragraphs.proofs.Cutting.{cuts_from, cuts-is, drop-step, step-le}
 use Rattle.paragraphs.proofs.Slices.{byte_of, byte_of-slice, text-split, length-byte_of, slice_range-byte_of, IsCharBoundary-byte_of}
 use Rattle.paragraphs.proofs.Pieces.{joined, pieces-cut, pieces-no_cut, joined-pieces, pieces-stand}
@@ -140,6 +144,47 @@ module _ (tables : TableValues) (text rest : List ℕ) (done : List Paragraph) (
               ∙ ap (λ t. done ++ t) (sym (pieces-cut (bidi_of tables) (code_points text) first_place place c (code_points after) (sym ends)))
               ∙ ap (λ cs. done ++ pieces (code_points text) first_place (cuts_from (bidi_of tables) place cs)) (sym head) ∙ s.so_far;
         }
+
+-- code points are passed of which none separates
+IsSplitTo-past : (tables : TableValues) (text rest : List ℕ) (done : List Paragraph) (first_byte first_place place : ℕ) → IsUtf8 text → IsSplitTo tables text rest done first_byte first_place place
+    → (cs after : List ℕ) → rest ≡ encode_utf8_all cs ++ after → list_any (λ c. is_separator (bidi_of tables c)) cs ≡ false
+    → IsSplitTo tables text after done first_byte first_place (place + length cs)
+IsSplitTo-past tables text rest done first_byte first_place place u s [] after e none =
+    let z : place ≡ place + 0 = omega arith in
+    subst (λ n. IsSplitTo tables text after done first_byte first_place n) z (subst (λ r. IsSplitTo tables text r done first_byte first_place place) e s)
+IsSplitTo-past tables text rest done first_byte first_place place u s (c ∷ cs) after e none =
+    let class = bidi_of tables in
+    let later = encode_utf8_all cs ++ after in
+    let parts = or_parts (is_separator (class c)) (list_any (λ k. is_separator (class k)) cs) none in
+    let stays : ends_paragraph class c (code_points later) ≡ false = ap (λ b. b && not (c == 0xD && begins_with_line_feed class (code_points later))) parts.0 in
+    let next = IsSplitTo-on tables text rest done first_byte first_place place u s c later (e ∙ append_assoc (encode_utf8 c) (encode_utf8_all cs) after) (sym stays) in
+    let on : place + 1 + length cs ≡ place + length (c ∷ cs) = omega arith in
+    subst (λ n. IsSplitTo tables text after done first_byte first_place n) on (IsSplitTo-past tables text later done first_byte first_place (place + 1) u next cs after refl parts.1)
+
+module _ (tables : TableValues) (text rest : List ℕ) (done : List Paragraph) (first_byte first_place place : ℕ) (u : IsUtf8 text)
+    (s : IsSplitTo tables text rest done first_byte first_place place) where
+  -- those in front of a code point
+  pub IsSplitTo-before : (before c : ℕ) (after : List ℕ) → IsBehind (bidi_of tables) rest before c after
+      → IsSplitTo tables text (encode_utf8 c ++ after) done first_byte first_place (place + before)
+  IsSplitTo-before before c after b =
+      subst (λ n. IsSplitTo tables text (encode_utf8 c ++ after) done first_byte first_place (place + n)) (sym b.count)
+      (IsSplitTo-past tables text rest done first_byte first_place place u s (code_points b.front) (encode_utf8 c ++ after)
+      (b.whole ∙ ap (λ t. t ++ (encode_utf8 c ++ after)) (sym (encodes-chars b.front b.utf8))) b.none)
+
+  -- all that are left
+  pub IsSplitTo-end : HasNoSeparator (bidi_of tables) rest → IsSplitTo tables text [] done first_byte first_place (place + length (code_points rest))
+  IsSplitTo-end none =
+      IsSplitTo-past tables text rest done first_byte first_place place u s (code_points rest) [] (sym (append-nil (encode_utf8_all (code_points rest)) ∙ encodes-chars rest s.utf8)) none
+
+-- what stands behind a code point is shorter
+pub shorter : (class : ℕ → Bidi) (text : List ℕ) (before c : ℕ) (rest : List ℕ) → IsBehind class text before c rest → length rest < length text
+shorter class text before c rest b =
+    let whole = ap length b.whole in
+    let all = length-append b.front (encode_utf8 c ++ rest) in
+    let last = length-append (encode_utf8 c) rest in
+    let own = length-encode c in
+    let least = len_utf8_bounds c in
+    omega (arith, whole, all, last, own, least)
 
 -- what all paragraphs are
 pub joined-paragraphs : (tables : TableValues) (text : List ℕ) → IsUtf8 text → joined (paragraphs tables text) ≡ text

@@ -2,6 +2,7 @@
 pub mod Text
 pub mod Classes
 pub mod Paragraphs
+pub mod Separators
 pub mod Clusters
 pub mod Marked
 pub mod Spans

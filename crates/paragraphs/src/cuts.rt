@@ -1,10 +1,11 @@
 //! Where paragraphs end (P1).
 
-ghost use Rattle.std.specs.Prelude.{◌≡◌, IfOk, map};
+ghost use Rattle.std.specs.Prelude.{◌≡◌, IfOk, MatchOption, map};
 ghost use Rattle.std.specs.List.{All, concat};
 ghost use Rattle.unicode_tables.specs.Tables.{bidi_of};
 ghost use Rattle.paragraphs.specs.Text.{code_points};
 ghost use Rattle.paragraphs.specs.Paragraphs.{begins_with_line_feed, ends_paragraph, meets_at_cut, paragraphs, StandsIn};
+ghost use Rattle.paragraphs.specs.Separators.{HasNoSeparator, IsBehind};
 
 use crate::para::Para;
 use bg_types::Memory;
@@ -43,6 +44,17 @@ pub fn meets_at_cut(tables: &Tables, text: &str, rest: &str) -> bool
     ends_paragraph(tables, c, rest)
 }
 
+/// The first character of a text that is likely to be a separator, behind so many that are none; and what follows it.
+#[inline]
+fn first_likely<'a>(tables: &Tables, text: &'a str) -> Option<(usize, char, &'a str)>
+    ensures { MatchOption result (HasNoSeparator (bidi_of tables.now) text.now) (λ first. IsBehind (bidi_of tables.now) text.now first.0 first.1 first.2.now) }
+{
+    let (bytes, before) = tables.before_separator(text);
+    let mut chars = text[bytes..].chars();
+    let c = chars.next()?;
+    Some((before, c, chars.as_str()))
+}
+
 /// The paragraphs of a text, in order (P1). The last one is empty where the text is empty or ends
 /// with a separator.
 /// Cost: O(n), 32 bytes of memory a paragraph.
@@ -55,10 +67,10 @@ pub fn split<'a>(alloc: Global, tables: &Tables, text: &'a str) -> Result<Vec<Pa
     let mut first_byte = 0;
     let mut first_place = 0;
     let mut place = 0;
-    let mut chars = text.chars();
-    while let Some(c) = chars.next() {
-        place += 1;
-        let rest = chars.as_str();
+    let mut rest = text;
+    while let Some((before, c, after)) = first_likely(tables, rest) {
+        place += before + 1;
+        rest = after;
         if ends_paragraph(tables, c, rest) {
             let end = text.len() - rest.len();
             paragraphs.push(Para::new(&text[first_byte..end], first_byte, first_place))?;

@@ -1,5 +1,5 @@
 -- The first tells the columns.
-use Rattle.std.proofs.Common.{◌<◌, [], ◌∷◌, ap, ◌∙◌, get_or, length, arith}
+use Rattle.std.proofs.Common.{◌<◌, [], ◌∷◌, ap, ◌∙◌, length, arith}
 use Rattle.std.proofs.lemmas.List.{get_or_default, length-map}
 use Rattle.unicode_tables.specs.Word.{word_of}
 use Rattle.paragraphs.specs.Columns.{columns_of}

@@ -1,10 +1,10 @@
 -- The first cluster, and those of the text after it.
-use Rattle.std.proofs.Common.{◌∷◌, ◌++◌, length, take, ap, sym, ◌∙◌, arith, rules}
+use Rattle.std.proofs.Common.{◌∷◌, ◌++◌, length, ap, sym, ◌∙◌, arith, rules}
 use Rattle.std.specs.List.{concat}
 use Rattle.paragraphs.specs.Clusters.{clusters}
 use Rattle.paragraphs.proofs.Afresh.{clusters-rest}
 use Rattle.paragraphs.proofs.ClusterPlaces.{concat-clusters}
-use Rattle.paragraphs.proofs.Slices.{IsBehind, IsBehind-on}
+use Rattle.paragraphs.proofs.Slices.{IsBehind-on}
 use Rattle.paragraphs.proofs.cluster.ClustersIterator.next.Goals as goal
 
 pub range_from-rest-requires : goal.range_from-rest-requires
