@@ -144,7 +144,7 @@ module _ (text : List ℕ) (r : ClusterRun) (h : IsPrintable text r) (odd : r.le
 
   -- the cluster behind so many from the left ends where as many others do as are left, and begins a cluster before
   module _ (number end : ℕ) (lt : number < cluster_count r) (is : end ≡ (run_span r).first_byte + (cluster_count r - number) * byte_count (run_span r)) where
-    left-is : (cluster_count r - number) * byte_count (run_span r) ≡ (r.further - number) * byte_count (run_span r) + byte_count (run_span r)
+    pub left-is : (cluster_count r - number) * byte_count (run_span r) ≡ (r.further - number) * byte_count (run_span r) + byte_count (run_span r)
     left-is =
         let e : cluster_count r - number ≡ r.further - number + 1 = omega arith in
         let all = ap (λ k. k * byte_count (run_span r)) e in

@@ -3,8 +3,6 @@ use Rattle.std.specs.Prelude.{ℕ, ◌||◌, zero, suc, Bool, true, false, List,
 use Rattle.std.specs.List.{flat_map}
 use Rattle.std.specs.Option.{option_map_or}
 use Rattle.bg_types.specs.declared.class.Base.{Base}
-use Rattle.bg_types.specs.declared.class.Bidi.{Bidi}
-use Rattle.bg_types.specs.declared.class.Bidi.TheVariants.{S}
 use Rattle.unicode_tables.specs.Tables.{TableValues, bidi_of, mirror_of}
 use Rattle.paragraphs.specs.declared.span.Span.{Span}
 use Rattle.paragraphs.specs.Text.{code_points}
@@ -17,10 +15,7 @@ use Rattle.cell_grid.specs.Rows.{DrawnRow}
 use Rattle.cell_grid.specs.Runs.{run_entries}
 use Rattle.cell_grid.specs.Grids.{DrawnGrid, grid_of}
 
--- Bidi class S
-unfoldable pub is_segment_separator : Bidi → Bool
-is_segment_separator S = true
-is_segment_separator _ = false
+unfoldable pub use Rattle.unicode_tables.specs.Classes.{is_segment_separator}
 
 -- a code point separates segments, as a tab does
 abbrev pub separates_segments : TableValues → ℕ → Bool

@@ -11,6 +11,9 @@ use bg_types::{Device, Sink, put_all};
 /// The last characters of a print, which its sink does not have yet.
 pub(crate) type Held = ArrayString<256>;
 
+/// As many spaces as are printed at once.
+const SPACES: &str = "                                                                ";
+
 /// Prints a text behind what is held.
 pub(crate) fn hold_text<W: Sink>(text: &str, held: &mut Held, sink: &mut W) -> Result<(), Device>
     requires working { W.has_failed sink.old ≡ false }
@@ -24,26 +27,6 @@ pub(crate) fn hold_text<W: Sink>(text: &str, held: &mut Held, sink: &mut W) -> R
     }
     let_go(held, sink)?;
     put_all(sink, text.as_bytes())
-}
-
-/// Prints a text of a few bytes behind what is held.
-pub(crate) fn hold_few<W: Sink>(text: &str, held: &mut Held, sink: &mut W) -> Result<(), Device>
-    requires working { W.has_failed sink.old ≡ false }
-    ensures ok { OnOk result (AppendsAllBut (W.written sink.old) (W.written sink.new) (held.old.bytes ++ text.now) held.new.bytes) }
-    ensures err { OnErr result (AppendsBeginning (W.written sink.old) (W.written sink.new) (held.old.bytes ++ text.now)) }
-    ensures failed { W.has_failed sink.new ≡ is_err result }
-{
-    if text.len() > held.remaining_capacity() {
-        return hold_text(text, held, sink);
-    }
-    // To copy so many bytes as are known beforehand takes no call.
-    match text.len() {
-        1 => held.push_str(&text[..1]),
-        2 => held.push_str(&text[..2]),
-        4 => held.push_str(&text[..4]),
-        _ => held.push_str(text),
-    }
-    Ok(())
 }
 
 /// Prints a character behind what is held.
@@ -83,8 +66,11 @@ pub(crate) fn hold_spaces<W: Sink>(
     ensures err { OnErr result (AppendsBeginning (W.written sink.old) (W.written sink.new) (held.old.bytes ++ replicate columns 32)) }
     ensures failed { W.has_failed sink.new ≡ is_err result }
 {
-    for _ in 0..columns {
-        hold_char(' ', held, sink)?;
+    let mut left = columns as usize;
+    while left > 0 {
+        let count = left.min(SPACES.len());
+        hold_text(&SPACES[..count], held, sink)?;
+        left -= count;
     }
     Ok(())
 }

@@ -1,26 +1,26 @@
 //! The print of a grid.
 
-ghost use Rattle.std.specs.Prelude.{◌≡◌, ◌%◌, ◌<◌, ◌≤◌, ◌++◌, false, true, length, take, slice_range, is_err, IfOk, OnOk, OnErr};
+ghost use Rattle.std.specs.Prelude.{◌≡◌, ◌+◌, ◌*◌, ◌%◌, ◌<◌, ◌≤◌, ◌++◌, false, true, length, take, slice_range, is_err, IfOk, OnOk, OnErr};
 ghost use Rattle.std.specs.List.{All, flat_map, list_any};
 ghost use Rattle.std.specs.Io.KnownBytes.{Appends};
 ghost use Rattle.std.specs.Str.{IsCharBoundary};
 ghost use Rattle.bg_types.specs.Sink.{AppendsBeginning};
 ghost use Rattle.paragraphs.specs.Text.{code_points};
 ghost use Rattle.cell_grid.specs.Held.{AppendsAllBut};
-ghost use Rattle.cell_grid.specs.Print.{is_segment_separator, separates_segments, is_replaced, begins_with_tab, mirrored_text, own_text, run_slices, run_text, row_text, printed, printed_row};
+ghost use Rattle.cell_grid.specs.Print.{separates_segments, is_replaced, begins_with_tab, mirrored_text, own_text, run_slices, run_text, row_text, printed, printed_row};
 ghost use Rattle.cell_grid.specs.Printable.{IsSlice, IsPrintable};
-ghost use Rattle.cell_grid.specs.Runs.{run_span, span_after};
+ghost use Rattle.cell_grid.specs.Runs.{run_span, byte_count, span_after, cluster_count, IsInReach};
 
 use crate::cluster_run::ClusterRun;
 use crate::entry::Entry;
 use crate::grid::Grid;
-use crate::held::{Held, hold_char, hold_few, hold_spaces, hold_text, let_go};
+use crate::held::{Held, hold_char, hold_spaces, hold_text, let_go};
 use crate::laws_below::laws_below;
 use crate::row::Row;
 use arrayvec::ArrayString;
-use bg_types::{Bidi, Device, Sink};
+use bg_types::{Device, Sink};
 use reorder::mirrored;
-use unicode_tables::Tables;
+use unicode_tables::{Tables, is_segment_separator};
 
 /// Writes a grid: the text of each cell, and one LF after each row. Takes no memory.
 ///
@@ -190,14 +190,14 @@ pub(crate) fn prints_its_clusters(tables: &Tables, text: &str, run: &ClusterRun)
 fn has_segment_separator(tables: &Tables, text: &str) -> bool
     ensures { result ≡ list_any (separates_segments tables.now) (code_points text.now) }
 {
-    text.chars().any(|c| is_segment_separator(tables.bidi(c)))
+    !tables.is_one_segment(text) && text.chars().any(|c| is_segment_separator(tables.bidi(c)))
 }
 
 /// Whether a code point of a text is replaced at an odd level, as a tab or a bracket is.
 fn has_replaced(tables: &Tables, text: &str) -> bool
     ensures { result ≡ list_any (is_replaced tables.now) (code_points text.now) }
 {
-    text.chars().any(|c| is_replaced(tables, c))
+    !tables.is_shown_as_it_is(text) && text.chars().any(|c| is_replaced(tables, c))
 }
 
 /// Whether a character is replaced at an odd level.
@@ -245,6 +245,79 @@ fn hold_backwards<W: Sink>(
     ensures err { OnErr result (AppendsBeginning (W.written sink.old) (W.written sink.new) (held.old.bytes ++ run_slices text.now run)) }
     ensures failed { W.has_failed sink.new ≡ is_err result }
 {
+    if has_room(&run, held) {
+        push_backwards(text, run, held);
+        Ok(())
+    } else {
+        hold_each(text, run, held, sink)
+    }
+}
+
+/// Whether the clusters of a run fit behind what is held.
+#[inline]
+fn has_room(run: &ClusterRun, held: &Held) -> bool
+    requires { IsInReach run.now }
+    ensures { result ≡ true → length held.now.bytes + cluster_count run.now * byte_count (run_span run.now) ≤ 256 }
+{
+    let first = run.span.read();
+    let last = run.cluster(run.further);
+    let bytes = last.end_byte.saturating_sub(first.first_byte);
+    bytes as usize <= held.remaining_capacity()
+}
+
+/// Puts the clusters of a run of an odd level behind what is held, from the last to the first.
+#[inline]
+fn push_backwards(text: &str, run: ClusterRun, held: &mut Held)
+    requires odd { run.level % 2 ≡ 1 }
+    requires run { IsPrintable text.now run }
+    requires room { length held.old.bytes + cluster_count run * byte_count (run_span run) ≤ 256 }
+    ensures { held.new.bytes ≡ held.old.bytes ++ run_slices text.now run }
+{
+    let first = run.span.read();
+    // To copy so many bytes as are known beforehand takes no call.
+    match first.end_byte - first.first_byte {
+        1 => push_sized(text, run, 1, held),
+        2 => push_sized(text, run, 2, held),
+        4 => push_sized(text, run, 4, held),
+        bytes => push_sized(text, run, bytes as usize, held),
+    }
+}
+
+/// The same, where each cluster has so many bytes.
+#[inline(always)]
+fn push_sized(text: &str, run: ClusterRun, bytes: usize, held: &mut Held)
+    requires odd { run.level % 2 ≡ 1 }
+    requires run { IsPrintable text.now run }
+    requires bytes { bytes ≡ byte_count (run_span run) }
+    requires room { length held.old.bytes + cluster_count run * bytes ≤ 256 }
+    ensures { held.new.bytes ≡ held.old.bytes ++ run_slices text.now run }
+{
+    let last = run.cluster(run.further);
+    let count = run.count();
+    let mut end = last.end_byte as usize;
+    for _ in 0..count {
+        let start = end - bytes;
+        let cluster = &text[start..start + bytes];
+        held.push_str(cluster);
+        end = start;
+    }
+}
+
+/// Holds the clusters of a run of an odd level as they stand in the text, one by one from the last to the first.
+#[inline(never)]
+fn hold_each<W: Sink>(
+    text: &str,
+    run: ClusterRun,
+    held: &mut Held,
+    sink: &mut W,
+) -> Result<(), Device>
+    requires working { W.has_failed sink.old ≡ false }
+    requires odd { run.level % 2 ≡ 1 }
+    requires run { IsPrintable text.now run }
+    ensures ok { OnOk result (AppendsAllBut (W.written sink.old) (W.written sink.new) (held.old.bytes ++ run_slices text.now run) held.new.bytes) }
+    ensures err { OnErr result (AppendsBeginning (W.written sink.old) (W.written sink.new) (held.old.bytes ++ run_slices text.now run)) }
+    ensures failed { W.has_failed sink.new ≡ is_err result }
+{
     let first = run.span.read();
     let bytes = first.end_byte - first.first_byte;
     let last = run.cluster(run.further);
@@ -253,7 +326,7 @@ fn hold_backwards<W: Sink>(
     for _ in 0..count {
         let start = end - bytes;
         let cluster = &text[start as usize..end as usize];
-        hold_few(cluster, held, sink)?;
+        hold_text(cluster, held, sink)?;
         end = start;
     }
     Ok(())
@@ -315,14 +388,6 @@ pub(crate) fn begins_with_tab(tables: &Tables, cluster: &str) -> bool
         Some(c) => is_segment_separator(tables.bidi(c)),
         None => false,
     }
-}
-
-#[inline]
-#[tactic(auto, unfolding(crate::specs::Print::is_segment_separator))]
-fn is_segment_separator(class: Bidi) -> bool
-    ensures { result ≡ is_segment_separator class }
-{
-    matches!(class, Bidi::S)
 }
 
 /// Holds a cluster as it is shown at a level (L4).

@@ -4,7 +4,7 @@ use Rattle.cell_grid.specs.declared.entry.Entry.{Entry}
 use Rattle.cell_grid.specs.Held.{AppendsAllBut}
 use Rattle.cell_grid.specs.Print.{slice_of}
 use Rattle.cell_grid.specs.Runs.{run_span, byte_count, cluster_count, run_entries}
-use Rattle.cell_grid.proofs.printed.hold_backwards.Given as goal
+use Rattle.cell_grid.proofs.printed.hold_each.Given as goal
 
 abbrev pub invariant-loop : goal.invariant-loop
 invariant-loop g l = record {

@@ -11,7 +11,7 @@ use Rattle.cell_grid.proofs.RunEntries.{length-run_entries}
 use Rattle.cell_grid.proofs.RunPrinting.{entry-within, entry-read, first-slice, ends-next, start-odd, end-odd, start-next, within-odd, slice-odd}
 use Rattle.cell_grid.proofs.Steps.{take-whole, flat_map-take_next, flat_map-split_at}
 use Rattle.cell_grid.proofs.Writing.{on_err}
-use Rattle.cell_grid.proofs.printed.hold_backwards.Goals as goal
+use Rattle.cell_grid.proofs.printed.hold_each.Goals as goal
 
 pub overflow_sub-bytes : goal.overflow_sub-bytes
 overflow_sub-bytes g c =
@@ -80,16 +80,16 @@ loop-preserved g c =
     let end = end-odd text r c.requires.run c.requires.odd n c.loop.end lt c.loop.invariant.end in
     let bytes = c.range-cluster.ensures.value ∙ ap (λ k. slice_range text k c.loop.end) start ∙ ap (slice_range text (span_after (cluster_from_left r n) (run_span r)).first_byte) end in
     record {
-      working = c.in_ok-hold_few.ensures.failed;
+      working = c.in_ok-hold_text.ensures.failed;
       end = size ∙ start-next text r c.requires.run c.requires.odd n c.loop.end lt c.loop.invariant.end;
       so_far =
-          but-on _ _ _ (before ++ done) _ c.loop.invariant.so_far c.range-cluster.result.now _ _ c.in_ok-hold_few.ensures.ok
+          but-on _ _ _ (before ++ done) _ c.loop.invariant.so_far c.range-cluster.result.now _ _ c.in_ok-hold_text.ensures.ok
           (ap (λ t. before ++ t) (flat_map-take_next f (run_entries 0 r) n e e (entry-within text r n lt) (entry-read text r n e e lt refl) ∙ ap (λ t. done ++ t) (sym bytes))
           ∙ sym (append_assoc before done c.range-cluster.result.now));
     }
 
-pub returns-in_err-hold_few-clause-err : goal.returns-in_err-hold_few-clause-err
-returns-in_err-hold_few-clause-err g c =
+pub returns-in_err-hold_text-clause-err : goal.returns-in_err-hold_text-clause-err
+returns-in_err-hold_text-clause-err g c =
     let text = c.args.text.now in
     let r = c.args.run in
     let n = c.loop.counter in
@@ -105,7 +105,7 @@ returns-in_err-hold_few-clause-err g c =
     let end = end-odd text r c.requires.run c.requires.odd n c.loop.end lt c.loop.invariant.end in
     let bytes = c.range-cluster.ensures.value ∙ ap (λ k. slice_range text k c.loop.end) start ∙ ap (slice_range text (span_after (cluster_from_left r n) (run_span r)).first_byte) end in
     on_err c.from_residual.result
-    (but-cut _ _ _ (before ++ done) _ c.loop.invariant.so_far c.range-cluster.result.now rest _ c.in_err-hold_few.ensures.err
+    (but-cut _ _ _ (before ++ done) _ c.loop.invariant.so_far c.range-cluster.result.now rest _ c.in_err-hold_text.ensures.err
     (ap (λ t. before ++ t) (flat_map-split_at f (run_entries 0 r) n e e (entry-within text r n lt) (entry-read text r n e e lt refl) ∙ ap (λ t. done ++ (t ++ rest)) (sym bytes))
     ∙ sym (append_assoc before done (c.range-cluster.result.now ++ rest))))
 
