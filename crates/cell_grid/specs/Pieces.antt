@@ -1,5 +1,5 @@
 -- Pieces of a line: runs of clusters that are alike in shape and level, in the order of the text.
-use Rattle.std.specs.Prelude.{ℕ, List, [], map, replicate, slice_index_or}
+use Rattle.std.specs.Prelude.{ℕ, List, map, replicate, slice_index_or}
 use Rattle.std.specs.List.{flat_map, range_with_len}
 use Rattle.reorder.specs.VisualList.{visual_list}
 use Rattle.paragraphs.specs.declared.span.Span.{Span}

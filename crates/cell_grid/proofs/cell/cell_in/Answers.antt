@@ -1,5 +1,5 @@
 -- The run that holds the column, and in it the entry.
-use Rattle.std.proofs.Common.{◌≡◌, ◌+◌, [], length, drop, get_or, refl, sym, ap, ◌∙◌, arith}
+use Rattle.std.proofs.Common.{◌≡◌, ◌+◌, length, drop, get_or, refl, sym, ap, ◌∙◌, arith}
 use Rattle.std.proofs.lemmas.List.{drop-drop}
 use Rattle.cell_grid.specs.declared.cluster_run.ClusterRun.{ClusterRun}
 use Rattle.cell_grid.specs.KeptSpans.{no_span}

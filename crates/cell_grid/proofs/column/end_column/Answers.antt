@@ -1,5 +1,5 @@
 -- One run more.
-use Rattle.std.proofs.Common.{[], get_or, refl, ap, arith}
+use Rattle.std.proofs.Common.{get_or, refl, ap, arith}
 use Rattle.cell_grid.specs.declared.cluster_run.ClusterRun.{ClusterRun}
 use Rattle.cell_grid.specs.KeptSpans.{no_span}
 use Rattle.cell_grid.specs.Runs.{runs_columns}

@@ -2,7 +2,6 @@
 use Rattle.std.proofs.Common.{◌+◌, ◌<◌, ◌∷◌, [], ◌++◌, List, length, map, take, drop, get_or, refl, sym, ap, subst, ◌∙◌, arith}
 use Rattle.std.proofs.lemmas.List.{map-append}
 use Rattle.line_break.specs.declared.line.Line.{Line}
-use Rattle.line_break.specs.Lines.{lines}
 use Rattle.cell_grid.specs.Rows.{DrawnRow, row_of}
 use Rattle.cell_grid.specs.Outline.{IsLine}
 use Rattle.cell_grid.specs.Parts.{left_of}

@@ -1,5 +1,5 @@
 -- A run that doesn't go on where the one on its left ends is one more.
-use Rattle.std.proofs.Common.{ℕ, ◌+◌, ◌-◌, [], cond, take, get_or, refl, sym, ap, ◌∙◌, arith}
+use Rattle.std.proofs.Common.{ℕ, ◌+◌, ◌-◌, cond, take, get_or, refl, sym, ap, ◌∙◌, arith}
 use Rattle.std.proofs.lemmas.Bool.{eqb-true}
 use Rattle.cell_grid.specs.declared.cluster_run.ClusterRun.{ClusterRun}
 use Rattle.cell_grid.specs.KeptSpans.{no_span}

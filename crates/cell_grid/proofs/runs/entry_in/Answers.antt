@@ -1,5 +1,5 @@
 -- One run after the other is passed.
-use Rattle.std.proofs.Common.{◌≡◌, ◌+◌, ◌-◌, [], drop, get_or, slice_get, Some, refl, sym, ap, ◌∙◌, arith}
+use Rattle.std.proofs.Common.{◌≡◌, ◌+◌, ◌-◌, drop, get_or, slice_get, Some, refl, sym, ap, ◌∙◌, arith}
 use Rattle.cell_grid.specs.declared.cluster_run.ClusterRun.{ClusterRun}
 use Rattle.cell_grid.specs.KeptSpans.{no_span}
 use Rattle.cell_grid.specs.Runs.{cluster_count, run_columns, runs_entries}

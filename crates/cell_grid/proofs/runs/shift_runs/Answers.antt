@@ -1,5 +1,5 @@
 -- Each run is shifted where it stands.
-use Rattle.std.proofs.Common.{[], get_or, set, ap, sym, subst, ◌∙◌}
+use Rattle.std.proofs.Common.{get_or, set, ap, sym, subst, ◌∙◌}
 use Rattle.cell_grid.specs.declared.cluster_run.ClusterRun.{ClusterRun}
 use Rattle.cell_grid.specs.declared.kept_span.KeptSpan.{KeptSpan}
 use Rattle.cell_grid.specs.KeptSpans.{no_span}

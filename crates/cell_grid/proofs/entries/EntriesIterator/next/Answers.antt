@@ -1,5 +1,5 @@
 -- The entry that is next, and those that are left then.
-use Rattle.std.proofs.Common.{◌+◌, [], length, get_or, refl, sym, ap, ◌∙◌, arith, rules}
+use Rattle.std.proofs.Common.{◌+◌, length, get_or, refl, sym, ap, ◌∙◌, arith, rules}
 use Rattle.std.proofs.lemmas.Bool.{eqb-true}
 use Rattle.cell_grid.specs.declared.cluster_run.ClusterRun.{ClusterRun}
 use Rattle.cell_grid.specs.KeptSpans.{no_span}
