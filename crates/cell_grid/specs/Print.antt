@@ -1,5 +1,5 @@
 -- Print of a grid: the cells' texts, each row ended by one LF.
-use Rattle.std.specs.Prelude.{ℕ, ◌||◌, zero, suc, Bool, true, false, List, [], ◌∷◌, ◌++◌, map, length, replicate, slice_get, slice_range, Option, Some, None, is_some, encode_utf8_all, if◌then◌else◌}
+use Rattle.std.specs.Prelude.{ℕ, ◌||◌, zero, suc, Bool, false, List, [], ◌∷◌, ◌++◌, map, length, replicate, slice_get, slice_range, Option, Some, None, is_some, encode_utf8_all, if◌then◌else◌}
 use Rattle.std.specs.List.{flat_map}
 use Rattle.std.specs.Option.{option_map_or}
 use Rattle.bg_types.specs.declared.class.Base.{Base}
@@ -14,7 +14,6 @@ use Rattle.cell_grid.specs.declared.cell.Cell.TheVariants.{Blank, Head, Tail}
 use Rattle.cell_grid.specs.Rows.{DrawnRow}
 use Rattle.cell_grid.specs.Runs.{run_entries}
 use Rattle.cell_grid.specs.Grids.{DrawnGrid, grid_of}
-
 unfoldable pub use Rattle.unicode_tables.specs.Classes.{is_segment_separator}
 
 -- a code point separates segments, as a tab does

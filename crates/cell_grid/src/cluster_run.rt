@@ -72,6 +72,17 @@ impl ClusterRun {
         span_after(number, self.span.read())
     }
 
+    /// Where the last of them in the text ends.
+    #[inline]
+    pub(crate) fn end_byte(&self) -> u32
+        requires { IsInReach self.now }
+        ensures { result ≡ (span_after self.now.further (run_span self.now)).end_byte }
+    {
+        let first = self.span.read();
+        let bytes = first.end_byte - first.first_byte;
+        first.first_byte + self.count() * bytes
+    }
+
     /// Which cluster, in the order of the text, stands behind so many from the left.
     #[inline]
     pub(crate) fn cluster_from_left(&self, number: u16) -> u16

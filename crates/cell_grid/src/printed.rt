@@ -122,6 +122,10 @@ fn hold_first<W: Sink>(
 {
     let first = &runs[0];
     if first.level % 2 == 1 {
+        let count = push_odd_runs(tables, text, runs, held);
+        if count > 0 {
+            return Ok(count);
+        }
         hold_odd_run(tables, text, first, held, sink)?;
         return Ok(1);
     }
@@ -177,8 +181,8 @@ pub(crate) fn prints_its_clusters(tables: &Tables, text: &str, run: &ClusterRun)
         return false;
     }
     let first = run.span.read();
-    let last = run.cluster(run.further);
-    let clusters = &text[first.first_byte as usize..last.end_byte as usize];
+    let end = run.end_byte();
+    let clusters = &text[first.first_byte as usize..end as usize];
     if run.level % 2 == 0 {
         !has_segment_separator(tables, clusters)
     } else {
@@ -187,17 +191,35 @@ pub(crate) fn prints_its_clusters(tables: &Tables, text: &str, run: &ClusterRun)
 }
 
 /// Whether a code point of a text separates segments, as a tab does.
+#[inline(always)]
 fn has_segment_separator(tables: &Tables, text: &str) -> bool
     ensures { result ≡ list_any (separates_segments tables.now) (code_points text.now) }
 {
-    !tables.is_one_segment(text) && text.chars().any(|c| is_segment_separator(tables.bidi(c)))
+    !tables.is_one_segment(text) && finds_segment_separator(tables, text)
+}
+
+/// The same, by a look-up for each. Never inlined: few texts need it.
+#[inline(never)]
+fn finds_segment_separator(tables: &Tables, text: &str) -> bool
+    ensures { result ≡ list_any (separates_segments tables.now) (code_points text.now) }
+{
+    text.chars().any(|c| is_segment_separator(tables.bidi(c)))
 }
 
 /// Whether a code point of a text is replaced at an odd level, as a tab or a bracket is.
+#[inline(always)]
 fn has_replaced(tables: &Tables, text: &str) -> bool
     ensures { result ≡ list_any (is_replaced tables.now) (code_points text.now) }
 {
-    !tables.is_shown_as_it_is(text) && text.chars().any(|c| is_replaced(tables, c))
+    !tables.is_shown_as_it_is(text) && finds_replaced(tables, text)
+}
+
+/// The same, by a look-up for each. Never inlined: few texts need it.
+#[inline(never)]
+fn finds_replaced(tables: &Tables, text: &str) -> bool
+    ensures { result ≡ list_any (is_replaced tables.now) (code_points text.now) }
+{
+    text.chars().any(|c| is_replaced(tables, c))
 }
 
 /// Whether a character is replaced at an odd level.
@@ -209,48 +231,36 @@ fn is_replaced(tables: &Tables, c: char) -> bool
     is_segment_separator(word.bidi) || word.has_mirror
 }
 
-/// Holds what the cells of a run of an odd level print.
-fn hold_odd_run<W: Sink>(
-    tables: &Tables,
-    text: &str,
-    run: &ClusterRun,
-    held: &mut Held,
-    sink: &mut W,
-) -> Result<(), Device>
-    requires working { W.has_failed sink.old ≡ false }
-    requires odd { run.now.level % 2 ≡ 1 }
-    requires run { IsPrintable text.now run.now }
-    ensures ok { OnOk result (AppendsAllBut (W.written sink.old) (W.written sink.new) (held.old.bytes ++ run_text tables.now text.now run.now) held.new.bytes) }
-    ensures err { OnErr result (AppendsBeginning (W.written sink.old) (W.written sink.new) (held.old.bytes ++ run_text tables.now text.now run.now)) }
-    ensures failed { W.has_failed sink.new ≡ is_err result }
+/// Puts what the first runs print behind what is held, as long as they are of odd levels, print what stands in the text and find
+/// room; and answers how many these are. Never inlined: as a part of its caller its loops would have fewer registers.
+#[inline(never)]
+fn push_odd_runs(tables: &Tables, text: &str, runs: &[ClusterRun], held: &mut Held) -> usize
+    requires { All (IsPrintable text.now) runs.now }
+    ensures count { result ≤ length runs.now }
+    ensures held { held.new.bytes ≡ held.old.bytes ++ flat_map (run_text tables.now text.now) (take result runs.now) }
 {
-    if prints_its_clusters(tables, text, run) {
-        hold_backwards(text, *run, held, sink)
-    } else {
-        hold_clusters(tables, text, run, held, sink)
+    for number in 0..runs.len() {
+        let run = runs[number];
+        if !push_odd_run(tables, text, &run, held) {
+            return number;
+        }
     }
+    runs.len()
 }
 
-/// Holds the clusters of a run of an odd level as they stand in the text, from the last to the first.
-fn hold_backwards<W: Sink>(
-    text: &str,
-    run: ClusterRun,
-    held: &mut Held,
-    sink: &mut W,
-) -> Result<(), Device>
-    requires working { W.has_failed sink.old ≡ false }
-    requires odd { run.level % 2 ≡ 1 }
-    requires run { IsPrintable text.now run }
-    ensures ok { OnOk result (AppendsAllBut (W.written sink.old) (W.written sink.new) (held.old.bytes ++ run_slices text.now run) held.new.bytes) }
-    ensures err { OnErr result (AppendsBeginning (W.written sink.old) (W.written sink.new) (held.old.bytes ++ run_slices text.now run)) }
-    ensures failed { W.has_failed sink.new ≡ is_err result }
+/// Puts what a run prints behind what is held, if it is of an odd level, is known to print what stands in the text and finds
+/// room; and answers whether it does.
+#[inline(always)]
+fn push_odd_run(tables: &Tables, text: &str, run: &ClusterRun, held: &mut Held) -> bool
+    requires { IsPrintable text.now run.now }
+    ensures put { result ≡ true → held.new.bytes ≡ held.old.bytes ++ run_text tables.now text.now run.now }
+    ensures same { result ≡ false → held.new.bytes ≡ held.old.bytes }
 {
-    if has_room(&run, held) {
-        push_backwards(text, run, held);
-        Ok(())
-    } else {
-        hold_each(text, run, held, sink)
+    if run.level % 2 == 0 || !prints_its_clusters(tables, text, run) || !has_room(run, held) {
+        return false;
     }
+    push_backwards(text, *run, held);
+    true
 }
 
 /// Whether the clusters of a run fit behind what is held.
@@ -260,8 +270,7 @@ fn has_room(run: &ClusterRun, held: &Held) -> bool
     ensures { result ≡ true → length held.now.bytes + cluster_count run.now * byte_count (run_span run.now) ≤ 256 }
 {
     let first = run.span.read();
-    let last = run.cluster(run.further);
-    let bytes = last.end_byte.saturating_sub(first.first_byte);
+    let bytes = run.end_byte() - first.first_byte;
     bytes as usize <= held.remaining_capacity()
 }
 
@@ -292,14 +301,35 @@ fn push_sized(text: &str, run: ClusterRun, bytes: usize, held: &mut Held)
     requires room { length held.old.bytes + cluster_count run * bytes ≤ 256 }
     ensures { held.new.bytes ≡ held.old.bytes ++ run_slices text.now run }
 {
-    let last = run.cluster(run.further);
     let count = run.count();
-    let mut end = last.end_byte as usize;
+    let mut end = run.end_byte() as usize;
     for _ in 0..count {
         let start = end - bytes;
         let cluster = &text[start..start + bytes];
         held.push_str(cluster);
         end = start;
+    }
+}
+
+/// Holds what the cells of a run of an odd level print.
+fn hold_odd_run<W: Sink>(
+    tables: &Tables,
+    text: &str,
+    run: &ClusterRun,
+    held: &mut Held,
+    sink: &mut W,
+) -> Result<(), Device>
+    requires working { W.has_failed sink.old ≡ false }
+    requires odd { run.now.level % 2 ≡ 1 }
+    requires run { IsPrintable text.now run.now }
+    ensures ok { OnOk result (AppendsAllBut (W.written sink.old) (W.written sink.new) (held.old.bytes ++ run_text tables.now text.now run.now) held.new.bytes) }
+    ensures err { OnErr result (AppendsBeginning (W.written sink.old) (W.written sink.new) (held.old.bytes ++ run_text tables.now text.now run.now)) }
+    ensures failed { W.has_failed sink.new ≡ is_err result }
+{
+    if prints_its_clusters(tables, text, run) {
+        hold_each(text, *run, held, sink)
+    } else {
+        hold_clusters(tables, text, run, held, sink)
     }
 }
 

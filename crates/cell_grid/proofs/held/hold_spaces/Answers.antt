@@ -9,8 +9,7 @@ use Rattle.cell_grid.proofs.held.hold_spaces.Goals as goal
 
 spaces-boundary : (count most : ℕ) (bytes : List ℕ) → bytes ≡ replicate most 32 → count ≤ most → IsCharBoundary bytes count
 spaces-boundary count most bytes is le =
-    let len = ap length is ∙ length-replicate most 32 in
-    (
+    let len = ap length is ∙ length-replicate most 32 in (
       omega arith,
       λ lt ge.
           let own = ap (λ b. get_or b count 0) is ∙ get_or-replicate most count 32 0 (omega arith) in

@@ -1,5 +1,5 @@
 -- The first runs are a beginning of all.
-use Rattle.std.proofs.Common.{[], ◌++◌, get_or, drop, flat_map, refl, sym, ap, subst, ◌∙◌, append_assoc}
+use Rattle.std.proofs.Common.{◌≡◌, ◌++◌, get_or, take, drop, flat_map, refl, sym, ap, subst, ◌∙◌, arith, append_assoc, append-nil}
 use Rattle.std.specs.Str.{IsCharBoundary}
 use Rattle.paragraphs.specs.declared.span.Span.{Span}
 use Rattle.cell_grid.specs.declared.cluster_run.ClusterRun.{ClusterRun}
@@ -43,9 +43,11 @@ returns-in_err-hold_odd_run-clause-err g c =
     let runs = c.args.runs.now in
     let r = get_or runs 0 no_run in
     let rest = flat_map f (drop 1 runs) in
+    let none : c.push_odd_runs-count.result ≡ 0 = omega (arith, c.if-count-gt0.false) in
+    let same = c.push_odd_runs-count.ensures.held ∙ ap (λ k. before ++ flat_map f (take k runs)) none ∙ append-nil before in
     on_err c.from_residual.result
-    (begins-longer _ _ (before ++ f r) rest _ c.in_err-hold_odd_run.ensures.err
-    (ap (λ t. before ++ t) (flat_map-split_at f runs 0 r no_run c.requires.some refl) ∙ sym (append_assoc before (f r) rest)))
+    (begins-longer _ _ (c.push_odd_runs-count.new.held.bytes ++ f r) rest _ c.in_err-hold_odd_run.ensures.err
+    (ap (λ t. before ++ t) (flat_map-split_at f runs 0 r no_run c.requires.some refl) ∙ sym (append_assoc before (f r) rest) ∙ ap (λ t. t ++ f r ++ rest) (sym same)))
 
 pub returns-in_err-hold_clusters-clause-err : goal.returns-in_err-hold_clusters-clause-err
 returns-in_err-hold_clusters-clause-err g c =

@@ -9,16 +9,13 @@ use Rattle.cell_grid.specs.Runs.{run_span}
 use Rattle.cell_grid.proofs.RunPrinting.{even-clusters, kept-clusters}
 use Rattle.cell_grid.proofs.printed.prints_its_clusters.Goals as goal
 
-pub cluster-last-requires : goal.cluster-last-requires
-cluster-last-requires c = record { within = omega arith; reach = c.requires.reach }
-
 pub returns-then-run-eq0-2 : goal.returns-then-run-eq0-2
 returns-then-run-eq0-2 c h =
     let text = c.args.text.now in
     let r = c.args.run.now in
-    let last = ap (λ (s : Span). s.end_byte) c.cluster-last.ensures in
+    let last = c.end_byte-end.ensures in
     let first = ap (λ (s : Span). s.first_byte) c.read-first.ensures in
-    let slice = c.range-clusters.ensures.value ∙ ap (λ k. slice_range text k c.cluster-last.result.end_byte) first ∙ ap (slice_range text (run_span r).first_byte) last in
+    let slice = c.range-clusters.ensures.value ∙ ap (λ k. slice_range text k c.end_byte-end.result) first ∙ ap (slice_range text (run_span r).first_byte) last in
     let none = ap (λ t. list_any (separates_segments c.args.tables.now) (code_points t)) (sym slice) ∙ sym c.has_segment_separator.ensures ∙ not-true c.has_segment_separator.result h in
     even-clusters c.args.tables.now text r c.requires c.utf8.text (omega (arith, c.if-run-eq0.false)) (omega (arith, c.if-run-eq0-2.true)) none
 
@@ -26,8 +23,8 @@ pub returns-else-run-eq0-2 : goal.returns-else-run-eq0-2
 returns-else-run-eq0-2 c h =
     let text = c.args.text.now in
     let r = c.args.run.now in
-    let last = ap (λ (s : Span). s.end_byte) c.cluster-last.ensures in
+    let last = c.end_byte-end.ensures in
     let first = ap (λ (s : Span). s.first_byte) c.read-first.ensures in
-    let slice = c.range-clusters.ensures.value ∙ ap (λ k. slice_range text k c.cluster-last.result.end_byte) first ∙ ap (slice_range text (run_span r).first_byte) last in
+    let slice = c.range-clusters.ensures.value ∙ ap (λ k. slice_range text k c.end_byte-end.result) first ∙ ap (slice_range text (run_span r).first_byte) last in
     let none = ap (λ t. list_any (is_replaced c.args.tables.now) (code_points t)) (sym slice) ∙ sym c.has_replaced.ensures ∙ not-true c.has_replaced.result h in
     kept-clusters c.args.tables.now text r c.requires c.utf8.text (omega (arith, c.if-run-eq0.false)) none

@@ -1,7 +1,6 @@
 -- One cluster after the other, from the last.
-use Rattle.std.proofs.Common.{◌≡◌, ◌<◌, ◌≤◌, ◌+◌, ◌-◌, ◌*◌, ◌++◌, ℕ, List, length, take, flat_map, slice_range, refl, sym, ap, subst, ◌∙◌, arith, append_assoc, append-nil, length-append}
+use Rattle.std.proofs.Common.{◌≡◌, ◌<◌, ◌≤◌, ◌+◌, ◌-◌, ◌*◌, ◌++◌, ℕ, List, length, take, flat_map, slice_range, refl, sym, ap, subst, ◌∙◌, arith, append_assoc, append-nil}
 use Rattle.std.specs.Str.{IsCharBoundary}
-use Rattle.paragraphs.specs.declared.span.Span.{Span}
 use Rattle.cell_grid.specs.declared.entry.Entry.{Entry}
 use Rattle.cell_grid.specs.Print.{slice_of}
 use Rattle.cell_grid.specs.Runs.{run_span, byte_count, span_after, cluster_count, cluster_from_left, run_entry, run_entries}
@@ -10,13 +9,10 @@ use Rattle.cell_grid.proofs.RunPrinting.{entry-within, entry-read, ends-next, le
 use Rattle.cell_grid.proofs.Steps.{take-whole, flat_map-take_next}
 use Rattle.cell_grid.proofs.printed.push_sized.Goals as goal
 
-pub cluster-last-requires : goal.cluster-last-requires
-cluster-last-requires c = record { within = omega arith; reach = c.requires.run.reach }
-
 pub loop-init : goal.loop-init
 loop-init c =
     let r = c.args.run in
-    let last = ap (λ (s : Span). s.end_byte) c.cluster-last.ensures in
+    let last = c.end_byte-end.ensures in
     let same = ends-next c.args.text.now r c.requires.run r.further in
     let all : cluster_count c.args.run - 0 ≡ cluster_count c.args.run = omega arith in
     record {

@@ -1,5 +1,5 @@
 -- One run more, which begins where those before it end.
-use Rattle.std.proofs.Common.{◌≡◌, [], slice_index_or, slice_range, refl, sym, ap, subst, ◌∙◌, arith}
+use Rattle.std.proofs.Common.{◌≡◌, slice_index_or, slice_range, refl, sym, ap, subst, ◌∙◌, arith}
 use Rattle.std.specs.Str.{IsCharBoundary}
 use Rattle.paragraphs.specs.declared.span.Span.{Span}
 use Rattle.cell_grid.specs.declared.cluster_run.ClusterRun.{ClusterRun}
