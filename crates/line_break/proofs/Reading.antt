@@ -1,10 +1,10 @@
 -- A cluster of a paragraph by its number.
-use Rattle.std.proofs.Common.{◌≡◌, ℕ, zero, suc, ◌+◌, ◌-◌, ◌*◌, ◌<◌, ◌≤◌, Bool, false, cond, List, [], ◌∷◌, ◌++◌, map, length, take, drop, slice_range, get_or, refl, sym, ap, ap₂, subst, ◌∙◌, inl, inr, arith}
-use Rattle.std.proofs.lemmas.List.{length-append, length-map, take_at, drop_at, drop-drop, get_or-map, append_assoc}
+use Rattle.std.proofs.Common.{◌≡◌, ℕ, zero, suc, ◌+◌, ◌-◌, ◌*◌, ◌<◌, ◌≤◌, false, List, [], ◌∷◌, ◌++◌, map, length, take, drop, slice_range, get_or, refl, sym, ap, ap₂, subst, ◌∙◌, inl, inr, arith}
+use Rattle.std.proofs.lemmas.List.{length-append, length-map, take_at, drop_at, get_or-map, append_assoc}
 use Rattle.std.proofs.lemmas.Bool.{cases_lt}
 use Rattle.std.proofs.lemmas.List.Elements.{All-drop, All-head, All-tail}
 use Rattle.std.proofs.lemmas.Str.{IsCharBoundary-at_seam}
-use Rattle.std.specs.List.{All, concat, flat_map}
+use Rattle.std.specs.List.{All, concat}
 use Rattle.std.specs.Str.{IsUtf8, IsCharBoundary}
 use Rattle.unicode_tables.specs.Tables.{TableValues}
 use Rattle.paragraphs.specs.Text.{code_points}
@@ -18,7 +18,7 @@ use Rattle.line_break.specs.declared.run.ShapeRun.{ShapeRun}
 use Rattle.line_break.specs.declared.status.Break.{Break}
 use Rattle.line_break.specs.declared.status.Break.TheVariants.{Must}
 use Rattle.line_break.specs.Cursors.{AreRunsOf, count_of, IsBefore, IsReadAt}
-use Rattle.line_break.specs.LineClusters.{is_space, hangs, measured_all, line_clusters}
+use Rattle.line_break.specs.LineClusters.{is_space, measured_all, line_clusters}
 use Rattle.line_break.specs.Opportunities.{behind}
 use Rattle.line_break.specs.Runs.{span_in, spans_of, columns_of, no_run}
 use Rattle.line_break.specs.Statuses.{breaks}

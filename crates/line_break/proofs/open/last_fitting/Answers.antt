@@ -1,8 +1,7 @@
 -- The line ends before the first cluster that doesn't fit.
-use Rattle.std.proofs.Common.{◌-◌, ◌+◌, ◌<◌, ◌≤◌, length, get_or, sym, ap, subst, ◌∙◌, arith}
+use Rattle.std.proofs.Common.{◌-◌, ◌<◌, sym, ap, subst, ◌∙◌, arith}
 use Rattle.std.proofs.lemmas.Bool.{leb-true, leb-false}
 use Rattle.line_break.specs.declared.opportunity.Boundary.{Boundary}
-use Rattle.line_break.specs.Cursors.{IsBefore}
 use Rattle.line_break.specs.LineClusters.{line_clusters}
 use Rattle.line_break.specs.Open.{IsBoundary}
 use Rattle.line_break.proofs.Boundaries.{IsBoundary-behind, IsLastFitting-all, IsLastFitting-full, room, start-fits}

@@ -1,5 +1,5 @@
 -- The run tells where the cluster stands, and its columns.
-use Rattle.std.proofs.Common.{◌≡◌, ◌+◌, ◌-◌, ◌*◌, ◌≤◌, length, refl, ap, ◌∙◌, arith}
+use Rattle.std.proofs.Common.{refl, arith}
 use Rattle.line_break.proofs.Counting.{count-all}
 use Rattle.line_break.proofs.Reading.{count-lines, few-lines, found}
 use Rattle.line_break.proofs.cursor.Cursor.read.Goals as goal
