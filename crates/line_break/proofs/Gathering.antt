@@ -1,19 +1,14 @@
 -- The runs of a paragraph's clusters, one cluster further.
-use Rattle.std.proofs.Common.{◌≡◌, ℕ, ◌-◌, ◌≤◌, true, List, [], ◌∷◌, ◌++◌, map, refl, sym, ap, subst, ◌∙◌}
+use Rattle.std.proofs.Common.{◌≡◌, ℕ, ◌-◌, ◌≤◌, List, [], ◌∷◌, ◌++◌, map, refl, sym, ap, subst, ◌∙◌}
 use Rattle.std.proofs.lemmas.List.{map-append}
 use Rattle.std.proofs.lemmas.List.Elements.{All-nil, All-same}
 use Rattle.std.specs.List.{flat_map}
 use Rattle.paragraphs.specs.declared.span.Span.{Span}
 use Rattle.line_break.specs.declared.cluster.Cluster.{Cluster}
 use Rattle.line_break.specs.declared.run.ShapeRun.{ShapeRun}
-use Rattle.line_break.specs.Runs.{spans_of, sizes_of, columns_of, alone, AllHaveSome, AreJoined, are_longest}
+use Rattle.line_break.specs.Runs.{spans_of, sizes_of, columns_of, alone, AreJoined, are_longest}
 use Rattle.line_break.proofs.Joined.{HasSome, spans-one, sizes-one, columns-one, alone-span}
-
--- runs of these clusters
-pub record AreGathered (runs : List ShapeRun) (clusters : List Cluster) : Type 0 where
-  pub columns : flat_map columns_of runs ≡ map (λ (c : Cluster). c.columns) clusters
-  pub some : AllHaveSome runs
-  pub longest : are_longest runs ≡ true
+pub use Rattle.line_break.specs.Reached.{AreGathered}
 
 pub AreGathered-start : (runs : List ShapeRun) (clusters : List Cluster) → runs ≡ [] → clusters ≡ [] → AreGathered runs clusters
 AreGathered-start runs clusters no_runs no_clusters = record {

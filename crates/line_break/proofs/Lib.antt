@@ -19,6 +19,8 @@ pub mod Joined
 pub mod Gathering
 pub mod Offering
 pub mod LastStatus
+pub mod PlainPlaces
+pub mod Reaching
 pub mod Following
 pub mod Fitting
 mod Counting

@@ -17,6 +17,7 @@ use Rattle.line_break.specs.Statuses.{statuses_behind, breaks}
 use Rattle.line_break.specs.LineClusters.{is_space as is_space_of, measured, measured_all, line_clusters}
 use Rattle.line_break.specs.declared.measure.Measure.{Measure}
 use Rattle.line_break.specs.Measures.{measure_of}
+pub use Rattle.line_break.specs.Reached.{sizes, first_lines, IsMeasuredTo}
 
 length-statuses_behind : (front later : List Item) → length (statuses_behind front later) ≡ length later
 length-statuses_behind front [] = refl
@@ -26,21 +27,6 @@ length-statuses_behind front (p ∷ later) = let more = length-statuses_behind (
 pub length-breaks : (tables : TableValues) (text : List ℕ) → length (breaks tables text) ≡ length (code_points text)
 unfolding breaks
 length-breaks tables text = length-statuses_behind [] (map (point_of tables) (code_points text)) ∙ length-map (code_points text) (point_of tables)
-
--- how many code points each of these clusters has
-abbrev pub sizes : List (List ℕ) → List ℕ
-sizes left = map length (map code_points left)
-
--- the first n clusters of a paragraph
-abbrev pub first_lines : TableValues → List ℕ → ℕ → List Cluster
-first_lines tables text n = take n (line_clusters tables text)
-
--- the clusters before `left` are measured, and have `place` code points
-pub record IsMeasuredTo (tables : TableValues) (text : List ℕ) (left : List (List ℕ)) (done : List Cluster) (place : ℕ) : Type 0 where
-  pub utf8 : All IsUtf8 left
-  pub some : All (λ n. 0 < n) (sizes left)
-  pub places : place + sum (sizes left) ≡ length (breaks tables text)
-  pub so_far : done ++ measured_all tables (map code_points left) (drop place (breaks tables text)) ≡ line_clusters tables text
 
 module _ (tables : TableValues) (text : List ℕ) where
   pub IsMeasuredTo-start : (left : List (List ℕ)) (done : List Cluster) → left ≡ clusters text → All IsUtf8 left → All (λ size. 0 < size) (cluster_sizes text)
@@ -163,7 +149,8 @@ columns_by_choice-two : (tables : TableValues) (points : List ℕ) → columns_b
 columns_by_choice-two tables [] = omega arith
 columns_by_choice-two tables (c ∷ rest) = elim (takes_two_by_choice tables c) as (λ b. cond b 2 1 ≤ 2) [ true ↦ omega arith | false ↦ omega arith ]
 
-columns_of-two : (tables : TableValues) (points : List ℕ) → columns_of tables points ≤ 2
+-- no cluster has more than two columns
+pub columns_of-two : (tables : TableValues) (points : List ℕ) → columns_of tables points ≤ 2
 columns_of-two tables points = elim (begins_with_end tables points) as (λ b. cond b 0 (cond (list_all (is_invisible tables) points) 0 (cond (list_any (takes_two tables) points) 2 (columns_by_choice tables points))) ≤ 2) [
   | true ↦ omega arith
   | false ↦ elim (list_all (is_invisible tables) points) as (λ b. cond b 0 (cond (list_any (takes_two tables) points) 2 (columns_by_choice tables points)) ≤ 2) [
@@ -178,7 +165,7 @@ two-measured_all tables (c ∷ cs) statuses =
     All-cons (λ (c : Cluster). c.columns ≤ 2) (measured tables c statuses) (measured_all tables cs (drop (length c) statuses))
     (columns_of-two tables c) (two-measured_all tables cs (drop (length c) statuses))
 
--- no cluster has more than two columns
+-- nor has one of a paragraph
 pub two-line_clusters : (tables : TableValues) (text : List ℕ) → All (λ (c : Cluster). c.columns ≤ 2) (line_clusters tables text)
 unfolding line_clusters
 two-line_clusters tables text = two-measured_all tables (cluster_code_points text) (breaks tables text)

@@ -14,14 +14,7 @@ use Rattle.line_break.specs.Lines.{columns, is_must, is_break, status_at, is_opp
 use Rattle.line_break.specs.Opportunities.{boundary_at, opportunity_at, opportunities_of, before_all, behind, offered}
 use Rattle.line_break.proofs.Tails.{solid, solid-push, columns-append}
 use Rattle.bg_types.proofs.Interface.{two_cases}
-
--- the boundaries at which a line may end, by their statuses alone
-abbrev pub breaks_in : List Cluster → List Opportunity
-breaks_in cl = map (opportunity_at cl) (filter (λ (k : ℕ). is_break (status_at cl k)) (range_with_len 1 (length cl)))
-
--- the boundary after all of these clusters
-abbrev pub end_of : List Cluster → Boundary
-end_of cl = boundary_at cl (length cl)
+pub use Rattle.line_break.specs.Reached.{breaks_in, end_of}
 
 counting : (n a : ℕ) → range_with_len a (suc n) ≡ range_with_len a n ++ (a + n) ∷ []
 counting zero a = let same : a ≡ a + zero = omega arith in ap (λ (k : ℕ). k ∷ []) same

@@ -10,21 +10,12 @@ use Rattle.paragraphs.specs.Text.{code_points}
 use Rattle.paragraphs.specs.Clusters.{clusters, cluster_sizes}
 use Rattle.paragraphs.specs.declared.span.Span.{Span}
 use Rattle.paragraphs.specs.Spans.{span_at, spans_from, spans}
+pub use Rattle.line_break.specs.Reached.{IsOutlinedTo}
 
 -- text that is joined is text
 pub IsUtf8-concat : (cs : List (List ℕ)) → All IsUtf8 cs → IsUtf8 (concat cs)
 IsUtf8-concat [] all = IsUtf8-nil
 IsUtf8-concat (c ∷ cs) all = IsUtf8-append c (concat cs) (All-head IsUtf8 c cs all) (IsUtf8-concat cs (All-tail IsUtf8 c cs all))
-
--- the clusters before `left` are outlined, and have `byte` bytes and `place` code points
-pub record IsOutlinedTo (text : List ℕ) (left : List (List ℕ)) (done : List Span) (sizes : List ℕ) (byte place : ℕ) : Type 0 where
-  pub utf8 : All IsUtf8 left
-  pub some : All (λ (cluster : List ℕ). 0 < length cluster) left
-  pub bytes : byte + length (concat left) ≡ length text
-  pub places : place ≤ byte
-  pub all_spans : done ++ spans_from byte place left ≡ spans text
-  pub all_sizes : sizes ++ map length (map code_points left) ≡ cluster_sizes text
-  pub points : drop place (code_points text) ≡ code_points (concat left)
 
 module _ (text : List ℕ) where
   pub IsOutlinedTo-start : (left : List (List ℕ)) (done : List Span) (sizes : List ℕ) → left ≡ clusters text → All IsUtf8 left → All (λ (cluster : List ℕ). 0 < length cluster) left

@@ -10,6 +10,7 @@ pub mod Measures
 pub mod Lines
 pub mod Runs
 pub mod Opportunities
+pub mod Reached
 pub mod Cursors
 pub mod Open
 pub mod Ranges

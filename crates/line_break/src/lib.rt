@@ -10,6 +10,7 @@ mod measure;
 mod open;
 mod opportunity;
 mod outline;
+mod reached;
 mod run;
 mod state;
 mod state_table;

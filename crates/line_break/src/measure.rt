@@ -1,14 +1,13 @@
 //! What is read of a cluster by itself.
 
-ghost use Rattle.std.specs.Prelude.{◌≡◌, ◌<◌, ◌^◌, true, false, List, [], ◌∷◌, length, map, drop, slice_index, encode_utf8};
+ghost use Rattle.std.specs.Prelude.{◌≡◌, ◌+◌, ◌<◌, ◌^◌, false, List, [], ◌∷◌, length, map, drop, slice_index, encode_utf8, IfSome, MatchOption};
 ghost use Rattle.std.specs.List.{All, concat, list_any};
 ghost use Rattle.unicode_tables.specs.Word.{word_of};
 ghost use Rattle.unicode_tables.specs.declared.word.Word.{Word};
 ghost use Rattle.paragraphs.specs.Classes.{is_wide};
 ghost use Rattle.paragraphs.specs.Text.{code_points};
 
-use crate::cluster::{Cluster, are_spaces, is_space};
-use crate::status::Break;
+use crate::cluster::{are_spaces, is_space};
 use paragraphs::{Clusters, columns, columns_of_marked, columns_of_one};
 use unicode_tables::{Tables, Word};
 
@@ -32,8 +31,8 @@ impl Measure {
         }
     }
 
-    /// Takes the next cluster, if there is one, and measures it. `points` are the code points still
-    /// to come, and `words` are theirs. A measure is read in place: one that is handed out would be
+    /// Takes the next cluster, if there is one, measures it, and gives how many bytes it has. `points`
+    /// are the code points still to come, and `words` are theirs. A measure is read in place: one that is handed out would be
     /// packed into a register and unpacked again.
     #[inline]
     pub(crate) fn read_next(
@@ -42,45 +41,32 @@ impl Measure {
         clusters: &mut Clusters,
         points: &[char],
         words: &[Word],
-    ) -> bool
+    ) -> Option<usize>
         requires some { All (λ cluster. 0 < length cluster) clusters.old }
         requires few { length (concat clusters.old) < 2 ^ 32 }
         requires points { points.now ≡ code_points (concat clusters.old) }
         requires words { words.now ≡ map (word_of tables.now) points.now }
-        ensures next { result ≡ true → IsNext tables.now self.new clusters.old clusters.new }
-        ensures none { result ≡ false → clusters.old ≡ [] }
+        ensures next { MatchOption result (clusters.old ≡ []) (λ _. IsNext tables.now self.new clusters.old clusters.new) }
+        ensures bytes { IfSome result (λ bytes. bytes + length (concat clusters.new) ≡ length (concat clusters.old)) }
     {
+        let left = clusters.bytes_left();
         if let Some(c) = clusters.next_alone(points, words) {
-            self.read_one(tables, words[0], c);
-            return true;
+            self.read_one(tables, &words[0], c);
+            return Some(left - clusters.bytes_left());
         }
         if let Some(size) = clusters.next_marked(points, words) {
             self.read_marked(tables, &points[..size], &words[..size]);
-            return true;
+            return Some(left - clusters.bytes_left());
         }
-        let Some(cluster) = clusters.next() else {
-            return false;
-        };
+        let cluster = clusters.next()?;
         self.read_several(tables, cluster);
-        true
-    }
-
-    /// The cluster as lines see it, with this status after it.
-    #[inline]
-    pub(crate) fn cluster(self, after: Break) -> Cluster
-        ensures { result ≡ record { columns = self.columns; is_space = self.is_space; after = after } }
-    {
-        Cluster {
-            columns: self.columns,
-            is_space: self.is_space,
-            after,
-        }
+        Some(left - clusters.bytes_left())
     }
 
     /// A cluster of one character, of which this is the word.
     #[inline]
-    fn read_one(&mut self, tables: &Tables, word: Word, c: char)
-        requires { word ≡ word_of tables.now c }
+    fn read_one(&mut self, tables: &Tables, word: &Word, c: char)
+        requires { word.now ≡ word_of tables.now c }
         ensures measured { self.new ≡ measure_of tables.now (c ∷ []) }
         ensures points { code_points (encode_utf8 c) ≡ c ∷ [] }
     {

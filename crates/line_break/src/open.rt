@@ -144,7 +144,7 @@ fn last_fitting(
     laws::clusters_join();
     let mut end = start;
     while let Some(cluster) = cursor.read(tables, text, runs, end.clusters) {
-        let next = end.behind(cluster);
+        let next = end.behind(&cluster);
         if !next.fits(start, width) {
             return end;
         }

@@ -41,10 +41,10 @@ impl Boundary {
 
     /// The one after the next cluster.
     #[inline]
-    pub(crate) fn behind(self, cluster: Cluster) -> Boundary
+    pub(crate) fn behind(self, cluster: &Cluster) -> Boundary
         requires clusters { self.clusters + 1 < 2 ^ 32 }
-        requires columns { self.columns + cluster.columns < 2 ^ 32 }
-        ensures { result ≡ behind self cluster }
+        requires columns { self.columns + cluster.now.columns < 2 ^ 32 }
+        ensures { result ≡ behind self cluster.now }
     {
         let columns = self.columns + cluster.columns as u32;
         Boundary {

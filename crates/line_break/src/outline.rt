@@ -10,12 +10,14 @@ ghost use Rattle.line_break.specs.LineClusters.{line_clusters};
 ghost use Rattle.line_break.specs.Opportunities.{opportunities_of};
 ghost use Rattle.line_break.specs.Runs.{AllHaveSome, AreJoined, EndsAt, are_longest, columns_of, if_some, sizes_of, spans_of};
 
+use crate::cluster::Cluster;
 use crate::measure::Measure;
-use crate::opportunity::{Boundary, Opportunity, offer};
+use crate::opportunity::Opportunity;
+use crate::reached::Reached;
 use crate::run::ShapeRun;
 use crate::status::{Break, statuses_into};
 use bg_types::Memory;
-use paragraphs::{Para, Span, laws};
+use paragraphs::{Para, laws};
 use std::alloc::Global;
 use unicode_tables::{Tables, Word};
 
@@ -59,14 +61,18 @@ fn close(runs: &mut Vec<ShapeRun>, run: ShapeRun) -> Result<(), Memory>
     if run.count == 0 {
         return Ok(());
     }
-    runs.push(run)?;
+    runs.push(run.anew())?;
     Ok(())
 }
 
 /// Puts a cluster behind runs of which the last one may go on: that one does, or the cluster is a run
 /// of its own. Before the first cluster the last one is empty.
 #[inline]
-fn join(runs: &mut Vec<ShapeRun>, last: &mut ShapeRun, next: ShapeRun) -> Result<(), Memory>
+pub(crate) fn join(
+    runs: &mut Vec<ShapeRun>,
+    last: &mut ShapeRun,
+    next: ShapeRun,
+) -> Result<(), Memory>
     requires last { EndsAt last.old next.first_byte next.first_place }
     requires first { last.old.count ≡ 0 → runs.old.items ≡ [] }
     requires one { next.count ≡ 1 }
@@ -81,14 +87,16 @@ fn join(runs: &mut Vec<ShapeRun>, last: &mut ShapeRun, next: ShapeRun) -> Result
         return Ok(());
     }
     close(runs, *last)?;
-    *last = next;
+    last.set(next);
     Ok(())
 }
 
 /// Puts the clusters of a paragraph of at most 4,000,000 bytes, which has these code points with
 /// these words, into an outline, in place of what it has. The paragraph is cut into clusters once, and
-/// each is measured once. `statuses` is a list to work in, whatever it has.
+/// each is measured once. `statuses` is a list to work in, whatever it has. It is compiled apart, where
+/// its loop has the registers to itself.
 /// Cost: O(n), memory for the clusters.
+#[inline(never)]
 pub fn outline_into(
     outline: &mut Outline,
     statuses: &mut Vec<Break>,
@@ -112,33 +120,23 @@ pub fn outline_into(
     statuses_into(statuses, words)?;
     // No paragraph has more clusters than code points.
     outline.begin(points.len())?;
-    let length = para.text().len();
     let mut clusters = para.clusters();
-    let mut byte = 0;
-    let mut place = 0;
-    let mut last = ShapeRun::empty();
-    let mut end = Boundary::before_all();
+    let mut reached = Reached::none();
     let mut measure = Measure::empty();
-    while measure.read_next(
+    while let Some(bytes) = measure.read_next(
         tables,
         &mut clusters,
-        &points[place as usize..],
-        &words[place as usize..],
+        &points[reached.place as usize..],
+        &words[reached.place as usize..],
     ) {
-        let span = Span {
-            first_byte: byte,
-            end_byte: (length - clusters.bytes_left()) as u32,
-            first_place: place,
-            end_place: place + measure.size,
+        let cluster = Cluster {
+            columns: measure.columns,
+            is_space: measure.is_space,
+            after: statuses[(reached.place + measure.size) as usize - 1],
         };
-        let cluster = measure.cluster(statuses[span.end_place as usize - 1]);
-        let next = ShapeRun::of_one(span, measure.columns);
-        join(&mut outline.runs, &mut last, next)?;
-        end = end.behind(cluster);
-        offer(&mut outline.opportunities, end, cluster.after)?;
-        byte = span.end_byte;
-        place = span.end_place;
+        reached.put(outline, bytes as u32, measure.size, &cluster)?;
+        reached.put_plain(outline, &mut clusters, tables, points, words, statuses)?;
     }
-    close(&mut outline.runs, last)?;
+    close(&mut outline.runs, reached.last)?;
     Ok(())
 }

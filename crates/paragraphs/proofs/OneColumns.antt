@@ -1,13 +1,14 @@
 -- The columns of one code point, as its word tells them.
-use Rattle.std.proofs.Common.{◌≡◌, ℕ, ◌<◌, Bool, true, false, ◌||◌, ◌&&◌, ◌==◌, List, [], ◌∷◌, map, length, drop, get_or, sym, ap, ◌∙◌, refl, arith}
-use Rattle.std.proofs.lemmas.Bool.Decides.{nat_tests}
+use Rattle.std.proofs.Common.{◌≡◌, ℕ, ◌+◌, ◌<◌, eqb-true, Bool, true, false, ◌||◌, ◌&&◌, ◌==◌, List, [], ◌∷◌, map, length, drop, get_or, sym, ap, ◌∙◌, refl, arith}
+use Rattle.std.proofs.lemmas.Bool.{and_parts}
 use Rattle.std.proofs.lemmas.List.{get_or-map}
+use Rattle.std.specs.Int.{from_bool}
 use Rattle.std.specs.List.{list_all, list_any}
 use Rattle.std.specs.Prelude.{if◌then◌else◌}
 use Rattle.unicode_tables.specs.Tables.{TableValues}
 use Rattle.unicode_tables.specs.Word.{word_of}
 use Rattle.unicode_tables.specs.declared.word.Word.{Word}
-use Rattle.paragraphs.specs.Classes.{is_wide}
+use Rattle.paragraphs.specs.Classes.{is_ambiguous, is_wide}
 use Rattle.paragraphs.specs.Columns.{ends_line, is_invisible, takes_two, takes_two_by_choice, columns_of}
 
 -- the columns where ambiguous code points are narrow
@@ -28,22 +29,34 @@ columns-alone : (tables : TableValues) (c : ℕ)
     → columns_of tables (c ∷ []) ≡ (if (word_of tables c).columns == 1 && takes_two_by_choice tables c then 2 else (word_of tables c).columns)
 columns-alone tables c = by_cases (ends_line tables c) (is_invisible tables c) (takes_two tables c) (takes_two_by_choice tables c)
 
--- where no choice is made
-pub columns-of_word : (tables : TableValues) (word : Word) (c : ℕ) → word ≡ word_of tables c
-    → (word.columns == 1 && takes_two_by_choice tables c) ≡ false → word.columns ≡ columns_of tables (c ∷ [])
-columns-of_word tables word c same off =
-    ap (λ (w : Word). w.columns) same
-    ∙ sym (columns-alone tables c ∙ ap (λ b. if b then 2 else (word_of tables c).columns) (ap (λ (w : Word). w.columns == 1 && takes_two_by_choice tables c) (sym same) ∙ off))
+and-swap : (a b c : Bool) → (a && (b && c)) ≡ (b && (a && c))
+and-swap true true c = refl
+and-swap true false c = refl
+and-swap false true c = refl
+and-swap false false c = refl
 
--- no choice is made of a code point that isn't ambiguous, where the tables make none, or of other columns than 1
-pub off-narrow : (n : ℕ) (a b : Bool) → b ≡ false → (n == 1 && (a && b)) ≡ false
-off-narrow n a b off = grind (arith, nat_tests)
+-- the same as a sum
+sum-by_test : (n : ℕ) (choice wider : Bool) → wider ≡ (n == 1 && choice) → n + from_bool wider ≡ (if n == 1 && choice then 2 else n)
+sum-by_test n choice true e =
+    let one = eqb-true n 1 ((and_parts (n == 1) choice (sym e)).0) in
+    let two : n + 1 ≡ 2 = omega arith in
+    two ∙ ap (λ (b : Bool). if b then 2 else n) e
+sum-by_test n choice false e =
+    let none : n + 0 ≡ n = omega arith in
+    none ∙ ap (λ (b : Bool). if b then 2 else n) e
 
-pub off-tables : (n : ℕ) (a b : Bool) → a ≡ false → (n == 1 && (a && b)) ≡ false
-off-tables n a b off = grind (arith, nat_tests)
+pub few-sum : (n : ℕ) (choice wider : Bool) → n < 256 → wider ≡ (n == 1 && choice) → n + from_bool wider < 256
+few-sum n choice true small e = let one = eqb-true n 1 ((and_parts (n == 1) choice (sym e)).0) in omega arith
+few-sum n choice false small e = let none : n + 0 ≡ n = omega arith in omega arith
 
-pub off-columns : (n : ℕ) (b : Bool) → (n ≡ 1 → ⊥) → (n == 1 && b) ≡ false
-off-columns n b off = grind (arith, nat_tests)
+pub columns-sum : (tables : TableValues) (word : Word) (c : ℕ) (wider : Bool) → word ≡ word_of tables c
+    → wider ≡ (tables.wide_ambiguous && (word.columns == 1 && is_ambiguous word.ea)) → word.columns + from_bool wider ≡ columns_of tables (c ∷ [])
+columns-sum tables word c wider same test =
+    ap (λ (w : Word). w.columns + from_bool wider) same
+    ∙ sum-by_test (word_of tables c).columns (takes_two_by_choice tables c) wider
+    (test ∙ and-swap tables.wide_ambiguous (word.columns == 1) (is_ambiguous word.ea)
+    ∙ ap (λ (w : Word). w.columns == 1 && (tables.wide_ambiguous && is_ambiguous w.ea)) same)
+    ∙ sym (columns-alone tables c)
 
 -- the cases of several code points, of which the first is seen, where `more` says whether one of the others is wide
 by_marks : (ends unseen later wide more : Bool) (choice : ℕ) → 0 < alone (ends || unseen) wide → more ≡ false

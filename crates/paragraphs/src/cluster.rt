@@ -1,6 +1,7 @@
 //! The clusters of a text (UAX #29).
 
 ghost use Rattle.std.specs.Prelude.{◌≡◌, ℕ, ◌-◌, ◌<◌, ◌≤◌, true, false, map, List, [], ◌∷◌, length, slice_index, take, drop, encode_utf8, encode_utf8_all, IfSome, MatchOption};
+ghost use Rattle.std.specs.Char.{len_utf8};
 ghost use Rattle.std.specs.List.{concat, list_any};
 ghost use Rattle.unicode_segmentation.specs.Grapheme.{is_grapheme_break};
 ghost use Rattle.paragraphs.specs.Text.{code_points};
@@ -70,8 +71,36 @@ impl<'a> Clusters<'a> {
         if !stands_alone(points, words) {
             return None;
         }
-        self.byte += c.len_utf8();
+        self.byte += len_of(c);
         Some(c)
+    }
+
+    /// The same clusters, to be taken apart from these.
+    #[inline]
+    pub fn again(&self) -> Clusters<'a>
+        ensures { result ≡ self.now }
+    {
+        Clusters {
+            text: self.text,
+            byte: self.byte,
+        }
+    }
+
+    /// Takes the next cluster, a plain character that a plain one follows (GB999), and gives how many
+    /// bytes it has. `points` are the code points still to come.
+    #[inline]
+    pub fn next_plain(&mut self, points: &[char]) -> usize
+        requires points { points.now ≡ code_points (concat self.old) }
+        requires plain { is_plain (slice_index points.now 0) ≡ true }
+        requires next { is_plain (slice_index points.now 1) ≡ true }
+        ensures taken { self.old ≡ encode_utf8 (slice_index points.now 0) ∷ self.new }
+        ensures bytes { result ≡ len_utf8 (slice_index points.now 0) }
+    {
+        // What is left is a text.
+        let _rest = &self.text[self.byte..];
+        let bytes = plain_len(points[0]);
+        self.byte += bytes;
+        bytes
     }
 
     /// Takes the next cluster where it is seen at once that it is a character that has columns by
@@ -92,7 +121,7 @@ impl<'a> Clusters<'a> {
         let _rest = &self.text[self.byte..];
         let c = *points.first()?;
         let size = marked_size(points, words)?;
-        self.byte += c.len_utf8() + (size - 1) * MARK_LEN;
+        self.byte += plain_len(c) + (size - 1) * MARK_LEN;
         Some(size)
     }
 }
@@ -116,6 +145,44 @@ impl<'a> Iterator for Clusters<'a> {
     }
 }
 
+/// How many bytes a character has.
+#[inline]
+fn len_of(c: char) -> usize
+    ensures { result ≡ len_utf8 c }
+{
+    if c < '\u{800}' {
+        short_len(c)
+    } else {
+        long_len(c)
+    }
+}
+
+/// How many one has behind those of two. They are apart, so that most are told by two tests.
+#[inline(never)]
+fn long_len(c: char) -> usize
+    ensures { result ≡ len_utf8 c }
+{
+    c.len_utf8()
+}
+
+/// How many a character has of those of one and of two.
+#[inline]
+fn short_len(c: char) -> usize
+    requires { c < 0x800 }
+    ensures { result ≡ len_utf8 c }
+{
+    if c < '\u{80}' { 1 } else { 2 }
+}
+
+/// How many a plain character has.
+#[inline]
+fn plain_len(c: char) -> usize
+    requires { is_plain c ≡ true }
+    ensures { result ≡ len_utf8 c }
+{
+    short_len(c)
+}
+
 /// Whether the first of these code points is a cluster where it begins one: both it and the next
 /// one are plain (GB999), or there is no next one (GB2).
 #[inline]
@@ -124,10 +191,10 @@ fn stands_alone(points: &[char], words: &[Word]) -> bool
     requires words { map (λ (w : Word). w.is_plain) words.now ≡ map is_plain points.now }
     ensures { result ≡ true → is_grapheme_break true (take 1 points.now) (drop 1 points.now) ≡ true }
 {
-    match words.get(1) {
-        Some(next) => words[0].is_plain && next.is_plain,
-        None => true,
+    if points.len() < 2 {
+        return true;
     }
+    words[0].is_plain && words[1].is_plain
 }
 
 /// How many of these code points are a plain one that has columns by itself, and the marks behind

@@ -1,11 +1,11 @@
 //! The columns of a cluster.
 
-ghost use Rattle.std.specs.Prelude.{◌≡◌, ◌<◌, false, length, map, drop, slice_index, [], ◌∷◌};
+ghost use Rattle.std.specs.Prelude.{◌≡◌, ◌<◌, ◌==◌, ◌&&◌, false, length, map, drop, slice_index, [], ◌∷◌};
 ghost use Rattle.std.specs.List.{list_all, list_any};
 ghost use Rattle.unicode_tables.specs.Word.{word_of};
 ghost use Rattle.unicode_tables.specs.declared.word.Word.{Word};
 ghost use Rattle.paragraphs.specs.Text.{code_points};
-ghost use Rattle.paragraphs.specs.Classes.{is_wide};
+ghost use Rattle.paragraphs.specs.Classes.{is_ambiguous, is_wide};
 ghost use Rattle.paragraphs.specs.Columns.{ends_line, begins_with_end, is_invisible, takes_two, takes_two_by_choice, columns_by_choice, columns_of};
 
 use unicode_tables::{
@@ -23,22 +23,27 @@ pub fn columns(tables: &Tables, cluster: &str) -> u8
 {
     let mut chars = cluster.chars();
     match chars.next() {
-        Some(c) if chars.as_str().is_empty() => columns_of_one(tables, tables.word(c), c),
+        Some(c) if chars.as_str().is_empty() => columns_of_one(tables, &tables.word(c), c),
         _ => columns_of_several(tables, cluster),
     }
 }
 
 /// The columns of a cluster of one code point, of which this is the word.
 #[inline]
-pub fn columns_of_one(tables: &Tables, word: Word, c: char) -> u8
-    requires { word ≡ word_of tables.now c }
+pub fn columns_of_one(tables: &Tables, word: &Word, c: char) -> u8
+    requires { word.now ≡ word_of tables.now c }
     ensures { result ≡ columns_of tables.now (c ∷ []) }
 {
-    if word.columns == 1 && tables.wide_ambiguous() && is_ambiguous(word.ea) {
-        2
-    } else {
-        word.columns
-    }
+    // A choice between two values takes more moves.
+    word.columns + u8::from(is_made_wide(tables, word))
+}
+
+/// Whether the tables make a character of this word wider than its word says.
+#[inline]
+fn is_made_wide(tables: &Tables, word: &Word) -> bool
+    ensures { result ≡ (tables.now.wide_ambiguous && (word.now.columns == 1 && is_ambiguous word.now.ea)) }
+{
+    tables.wide_ambiguous() && word.columns == 1 && is_ambiguous(word.ea)
 }
 
 /// The columns of a cluster of these code points, which have these words, where the first has
@@ -50,7 +55,7 @@ pub fn columns_of_marked(tables: &Tables, points: &[char], words: &[Word]) -> u8
     requires narrow { list_any (λ (w : Word). is_wide w.ea) (drop 1 words.now) ≡ false }
     ensures { result ≡ columns_of tables.now points.now }
 {
-    columns_of_one(tables, words[0], points[0])
+    columns_of_one(tables, &words[0], points[0])
 }
 
 /// The columns of a cluster of any number of code points.

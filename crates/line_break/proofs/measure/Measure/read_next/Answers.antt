@@ -22,7 +22,7 @@ pub read_one-requires : goal.read_one-requires
 read_one-requires c = ap (λ (words : List Word). get_or words 0 _) (c.requires.words ∙ ap (map (word_of c.args.tables.now)) c.in-Some.ensures.first)
 
 pub returns-in-Some-clause-next : goal.returns-in-Some-clause-next
-returns-in-Some-clause-next c = λ _. record {
+returns-in-Some-clause-next c = record {
   cluster = encode_utf8 c.in-Some.c;
   taken = c.in-Some.ensures.taken;
   measured = c.read_one.ensures.measured ∙ ap (measure_of c.args.tables.now) (sym c.read_one.ensures.points);

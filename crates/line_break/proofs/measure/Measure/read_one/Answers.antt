@@ -8,8 +8,8 @@ use Rattle.line_break.proofs.measure.Measure.read_one.Goals as goal
 
 pub returns-clause-measured : goal.returns-clause-measured
 returns-clause-measured c =
-    measure-is c.args.tables.now (c.args.c ∷ []) 1 c.columns_of_one-self.result c.args.word.is_space refl c.columns_of_one-self.ensures
-    (is_space-alone c.args.tables.now c.args.word c.args.c c.requires)
+    measure-is c.args.tables.now (c.args.c ∷ []) 1 c.columns_of_one-self.result c.args.word.now.is_space refl c.columns_of_one-self.ensures
+    (is_space-alone c.args.tables.now c.args.word.now c.args.c c.requires)
 
 pub returns-clause-points : goal.returns-clause-points
 returns-clause-points c =
