@@ -13,6 +13,9 @@ use crate::bounds::NEIGHBOURS;
 /// How many sums are passed at once.
 const TOGETHER: usize = 16;
 
+/// How many blocks are passed at once.
+const BLOCKS: usize = 8;
+
 /// Raises the sum of block q and its neighbours, if there is one, as so many more of its characters are visible.
 pub fn raise(sums: &mut [usize], q: usize, more: usize)
     requires few { (d : ℕ) → q / 32 < length sums.old → get_or sums.old (q / 32) d + more < 2 ^ 64 }
@@ -67,9 +70,31 @@ pub fn add(sums: &mut Vec<usize>, blocks: &[Block])
     }
 }
 
+/// Passes blocks from the front as long as visible element k isn't among them, neighbours that have a sum first, and then some at once:
+/// how many blocks these are, and how many of the k elements before k are left.
+pub fn pass_blocks(blocks: &[Block], sums: &[usize], k: usize) -> (usize, usize)
+    requires sums { AreSums sums.now (items_of blocks.now) }
+    requires few { visible_in (row_of (items_of blocks.now)) < 2 ^ 64 }
+    ensures there { result.0 ≤ length blocks.now }
+    ensures before { visible_in (row_of (take result.0 (items_of blocks.now))) + result.1 ≡ k }
+{
+    let (from, rest) = pass(blocks, sums, k);
+    let mut left = rest;
+    let mut passed = from;
+    while BLOCKS <= blocks.len() - passed {
+        let here = visible_in_blocks(&blocks[passed..passed + BLOCKS]);
+        if left < here {
+            return (passed, left);
+        }
+        left -= here;
+        passed += BLOCKS;
+    }
+    (passed, left)
+}
+
 /// Passes neighbours that have a sum, from the front, as long as visible element k isn't among them: how many blocks these are, and
 /// how many of the k elements before k are left.
-pub fn pass(blocks: &[Block], sums: &[usize], k: usize) -> (usize, usize)
+fn pass(blocks: &[Block], sums: &[usize], k: usize) -> (usize, usize)
     requires sums { AreSums sums.now (items_of blocks.now) }
     requires few { visible_in (row_of (items_of blocks.now)) < 2 ^ 64 }
     ensures there { result.0 ≤ length blocks.now }

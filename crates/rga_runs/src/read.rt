@@ -9,7 +9,7 @@ ghost use Rattle.rga_runs.specs.BlockRows.{items_of};
 ghost use Rattle.rga_runs.specs.Sums.{AreSums};
 
 use crate::block::Block;
-use crate::counts::{before_block, pass};
+use crate::counts::{before_block, pass_blocks};
 use crate::search::{count_visible, spot_of, visible_stretch};
 
 /// Where element n stands: its block, its stretch there, and its place in that.
@@ -21,7 +21,7 @@ pub fn nth_spot(blocks: &[Block], n: usize) -> (usize, usize, usize)
     ensures place { count_in (take (at_spot (items_of blocks.now) result.0 result.1) (row_of (items_of blocks.now))) + result.2 ≡ n }
 {
     let (b, left) = block_of(blocks, n);
-    let (j, k) = spot_of(&blocks[b].stretches, left);
+    let (j, k) = spot_of(&blocks[b].stretches, blocks[b].count, left);
     (b, j, k)
 }
 
@@ -70,7 +70,7 @@ fn stretch_of(block: &Block, k: usize) -> (usize, usize)
     ensures place { visible_in (take result.0 block.now.stretches.items) + result.1 ≡ k }
 {
     if block.visible == block.count {
-        spot_of(&block.stretches, k)
+        spot_of(&block.stretches, block.count, k)
     } else {
         visible_stretch(&block.stretches, k)
     }
@@ -85,7 +85,7 @@ fn visible_block(blocks: &[Block], sums: &[usize], n: usize) -> (usize, usize)
     ensures within { result.1 < visible_in (get_or (items_of blocks.now) result.0 []) }
     ensures place { visible_in (row_of (take result.0 (items_of blocks.now))) + result.1 ≡ n }
 {
-    let (from, rest) = pass(blocks, sums, n);
+    let (from, rest) = pass_blocks(blocks, sums, n);
     let mut left = rest;
     for b in from..blocks.len() {
         let visible = blocks[b].visible;

@@ -40,14 +40,15 @@ fn sought_from(stretches: &[Stretch], hint: usize, first: Id) -> usize {
         .count()
 }
 
-/// Where element j stands: its stretch, and its place there.
-pub fn spot_of(stretches: &[Stretch], j: usize) -> (usize, usize)
-    requires { j < count_in stretches.now }
+/// Where element j of so many stands: its stretch, and its place there.
+pub fn spot_of(stretches: &[Stretch], count: usize, j: usize) -> (usize, usize)
+    requires count { count ≡ count_in stretches.now }
+    requires there { j < count }
     ensures block { result.0 < length stretches.now }
     ensures within { (d : Kept) → result.1 < (get_or stretches.now result.0 d).count }
     ensures place { count_in (take result.0 stretches.now) + result.1 ≡ j }
 {
-    let (from, rest) = pass(stretches, j);
+    let (from, rest) = pass(stretches, count, j);
     let mut left = rest;
     for p in from..stretches.len() {
         let count = stretches[p].len();
@@ -59,9 +60,44 @@ pub fn spot_of(stretches: &[Stretch], j: usize) -> (usize, usize)
     unreachable!()
 }
 
+/// Passes stretches in front of element j of so many, some at once, from the end to which it is nearer: how many are passed, and how
+/// many of the j elements before it are left.
+fn pass(stretches: &[Stretch], count: usize, j: usize) -> (usize, usize)
+    requires count { count ≡ count_in stretches.now }
+    requires there { j < count }
+    ensures there { result.0 ≤ length stretches.now }
+    ensures before { count_in (take result.0 stretches.now) + result.1 ≡ j }
+{
+    if j < count / 2 {
+        pass_front(stretches, j)
+    } else {
+        pass_back(stretches, count - j)
+    }
+}
+
+/// Passes stretches from the end, some at once, as long as the first of the last n elements isn't among them: how many are before
+/// that, and how many elements there are then before it.
+fn pass_back(stretches: &[Stretch], n: usize) -> (usize, usize)
+    requires { n ≤ count_in stretches.now }
+    ensures there { result.0 ≤ length stretches.now }
+    ensures before { count_in (take result.0 stretches.now) + result.1 + n ≡ count_in stretches.now }
+{
+    let mut behind = n;
+    let mut end = stretches.len();
+    while TOGETHER <= end {
+        let count = count_all(&stretches[end - TOGETHER..end]);
+        if behind <= count {
+            return (end - TOGETHER, count - behind);
+        }
+        behind -= count;
+        end -= TOGETHER;
+    }
+    (0, count_all(&stretches[..end]) - behind)
+}
+
 /// Passes stretches from the front, some at once, as long as element j isn't among them: how many these are, and how many of the j
 /// elements before it are left.
-fn pass(stretches: &[Stretch], j: usize) -> (usize, usize)
+fn pass_front(stretches: &[Stretch], j: usize) -> (usize, usize)
     ensures there { result.0 ≤ length stretches.now }
     ensures before { count_in (take result.0 stretches.now) + result.1 ≡ j }
 {

@@ -1,7 +1,7 @@
--- What stays true in the loop of `pass`.
+-- What stays true in the loop of `pass_front`.
 use Rattle.std.proofs.Common.{◌≡◌, ◌≤◌, ◌+◌, ◌-◌, take, length}
 use Rattle.rga_runs.specs.Stretches.{count_in}
-use Rattle.rga_runs.proofs.search.pass.Given as goal
+use Rattle.rga_runs.proofs.search.pass_front.Given as goal
 
 abbrev pub invariant-loop-passed : goal.invariant-loop-passed
 invariant-loop-passed l = record {

@@ -1,9 +1,9 @@
--- The goals of `pass` that are answered by hand.
+-- The goals of `pass_front` that are answered by hand.
 use Rattle.std.proofs.Common.{◌≡◌, ◌+◌, ◌-◌, take, drop, ap, ◌∙◌, arith}
 use Rattle.rga_runs.specs.declared.stretch.Stretch.{Stretch}
 use Rattle.rga_runs.specs.Stretches.{count_in}
 use Rattle.rga_runs.proofs.Sums.{sum-behind}
-use Rattle.rga_runs.proofs.search.pass.Goals as goal
+use Rattle.rga_runs.proofs.search.pass_front.Goals as goal
 
 pub loop-passed-preserved : goal.loop-passed-preserved
 loop-passed-preserved c =
