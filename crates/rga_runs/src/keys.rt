@@ -13,7 +13,7 @@ use crate::cut::{FULL, HALF, kept_of};
 use crate::key::Key;
 use crate::leaf::{Leaf, SpareLeaf};
 use crate::leaves::{give_at, len_of, put_at, split_at, write_at};
-use crate::rank::{not_above, rank_of, share};
+use crate::rank::{ends_not_above, not_above, rank_of, share};
 use bg_types::{Id, Memory};
 use std::alloc::Global;
 
@@ -315,21 +315,10 @@ pub fn renew(keys: &mut Keys, id: Id, number: usize, place: usize)
     ensures leaves { vec_len keys.new.leaves ≡ vec_len keys.old.leaves }
     ensures spares { vec_len keys.new.spares ≡ vec_len keys.old.spares }
 {
-    let (leaf, likely) = behind_renewed(keys, id);
+    let (leaf, likely) = keys.renewed[usize::from(id.site()) % SITES];
     let (b, at) = spot(&keys.leaves, leaf, likely, id);
     write_at(&mut keys.leaves, b, at - 1, Key::of(id, number, place));
     keys.renewed[usize::from(id.site()) % SITES] = (b, at);
-}
-
-/// The leaf of its site's key that was renewed last, and the place behind that, if an identifier is of this leaf. Else a likely leaf,
-/// where no place is.
-fn behind_renewed(keys: &Keys, id: Id) -> (usize, usize) {
-    let (b, at) = keys.renewed[usize::from(id.site()) % SITES];
-    if ends_begun(&keys.leaves, b, rank_of(id)) {
-        (b, at)
-    } else {
-        (likely_leaf(keys, id), FULL)
-    }
 }
 
 /// Where the keys end that aren't above an identifier: a leaf, and a place there, which is the front only where none is. One leaf,
@@ -343,8 +332,25 @@ fn spot(leaves: &[Leaf], leaf: usize, likely: usize, id: Id) -> (usize, usize)
     ensures below { (i : ℕ) (d : Kept) → i < place_in (keys_of leaves.now) result.0 result.1 → rank (get_or (all_keys leaves.now) i d).first ≤ rank id }
     ensures above { (i : ℕ) (d : Kept) → place_in (keys_of leaves.now) result.0 result.1 ≤ i → i < length (all_keys leaves.now) → rank id < rank (get_or (all_keys leaves.now) i d).first }
 {
+    if ends_in(leaves, leaf, likely, rank_of(id)) {
+        return (leaf, likely + 1);
+    }
     let b = begun(leaves, leaf, id).saturating_sub(1);
     (b, not_above(&leaves[b].keys, likely, id))
+}
+
+/// Whether key j of leaf b isn't above a number, and the next one there is.
+fn ends_in(leaves: &[Leaf], b: usize, j: usize, last: u64) -> bool
+    ensures leaf { OnTrue result (b < length leaves.now) }
+    ensures within { OnTrue result (j + 1 < length (get_or (keys_of leaves.now) b [])) }
+    ensures below { OnTrue result ((d : Kept) → rank (get_or (get_or (keys_of leaves.now) b []) j d).first ≤ last) }
+    ensures above { OnTrue result ((d : Kept) → last < rank (get_or (get_or (keys_of leaves.now) b []) (j + 1) d).first) }
+{
+    if b >= leaves.len() {
+        return false;
+    }
+    let keys = &leaves[b].keys;
+    ends_not_above(keys, j, last) && j + 1 < keys.len()
 }
 
 /// How many leaves at the front begin with a key that isn't above an identifier. They end behind one leaf most often.

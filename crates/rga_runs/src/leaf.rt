@@ -1,23 +1,22 @@
 //! Leaves of keys.
 
 ghost use Rattle.std.specs.Prelude.{◌≡◌, ◌+◌, ◌<◌, ◌≤◌, ◌++◌, ◌∷◌, [], length, take, drop, insert, slice_set, vec_len, vec_capacity};
-ghost use Rattle.rga_runs.specs.Keyed.{rank, begins};
+ghost use Rattle.rga_runs.specs.Keyed.{begins};
 
 use crate::cut::FULL;
 use crate::key::Key;
 use crate::rank::rank_of;
-use bg_types::Id;
 
 /// At least one key and at most 256, with memory for 256.
 #[derive(Drop)]
 pub struct Leaf {
     pub keys: Vec<Key>,
-    /// With what its first key begins.
-    first: Id,
+    /// The number of its first key.
+    front: u64,
     ghost some: { 0 < vec_len keys },
     ghost few: { vec_len keys ≤ 256 },
     ghost room: { 256 ≤ vec_capacity keys },
-    ghost begun: { rank first ≡ begins keys.items },
+    ghost begun: { front ≡ begins keys.items },
 }
 
 /// An empty list with memory for a leaf.
@@ -35,16 +34,16 @@ impl Leaf {
         requires room { 256 ≤ vec_capacity keys }
         ensures { result.keys.items ≡ key ∷ [] }
     {
-        let first = key.first;
+        let front = rank_of(key.first);
         keys.push(key).unwrap();
-        Leaf { keys, first }
+        Leaf { keys, front }
     }
 
     /// The number of its first key.
     pub fn rank(&self) -> u64
         ensures { result ≡ begins self.now.keys.items }
     {
-        rank_of(self.first)
+        self.front
     }
 
     /// Puts in a key, with room for it.
@@ -54,7 +53,7 @@ impl Leaf {
         ensures { self.new.keys.items ≡ insert self.old.keys.items at key }
     {
         put_in(&mut self.keys, at, key);
-        self.first = self.keys[0].first;
+        self.front = rank_of(self.keys[0].first);
     }
 
     /// Writes a key in place of another.
@@ -63,7 +62,7 @@ impl Leaf {
         ensures { self.new.keys.items ≡ slice_set self.old.keys.items at key }
     {
         self.keys[at] = key;
-        self.first = self.keys[0].first;
+        self.front = rank_of(self.keys[0].first);
     }
 
     /// Moves the keys of a full leaf from one on to a new leaf.
@@ -78,8 +77,8 @@ impl Leaf {
     {
         upper.extend_from_slice(&self.keys[cut..]).unwrap();
         self.keys.truncate(cut);
-        let first = upper[0].first;
-        Leaf { keys: upper, first }
+        let front = rank_of(upper[0].first);
+        Leaf { keys: upper, front }
     }
 
     /// Gives its keys from one on to the next leaf, which has room for them.
@@ -91,7 +90,7 @@ impl Leaf {
         ensures next { next.new.keys.items ≡ drop at self.old.keys.items ++ next.old.keys.items }
     {
         put_in_front(&mut next.keys, &self.keys[at..]);
-        next.first = next.keys[0].first;
+        next.front = rank_of(next.keys[0].first);
         self.keys.truncate(at);
     }
 }

@@ -1,6 +1,6 @@
 //! Where keys stand in a list of them.
 
-ghost use Rattle.std.specs.Prelude.{◌≡◌, ◌+◌, ◌<◌, ◌≤◌, ℕ, length, get_or};
+ghost use Rattle.std.specs.Prelude.{◌≡◌, ◌+◌, ◌<◌, ◌≤◌, ℕ, IfSome, length, get_or};
 ghost use Rattle.std.specs.Bool.{OnTrue};
 ghost use Rattle.std.specs.List.Sorted.{IsNonDecreasingBy};
 ghost use Rattle.rga_runs.specs.declared.key.Key.{Key as Kept};
@@ -41,9 +41,8 @@ pub fn not_above(keys: &[Key], likely: usize, id: Id) -> usize
     if ends_not_above(keys, dense, last) {
         return dense + 1;
     }
-    let even = even_key(keys, last);
-    if ends_not_above(keys, even, last) {
-        return even + 1;
+    if let Some(near) = ends_near(keys, even_key(keys, last), last) {
+        return near + 1;
     }
     keys.partition_point(|k| rank_of(k.first) <= last)
 }
@@ -71,8 +70,26 @@ fn even_key(keys: &[Key], last: u64) -> usize {
     }
 }
 
+/// Which key isn't above a number, where the next one is, if it is key j or one beside that.
+fn ends_near(keys: &[Key], j: usize, last: u64) -> Option<usize>
+    ensures there { IfSome result (λ i. i < length keys.now) }
+    ensures below { IfSome result (λ i. (d : Kept) → rank (get_or keys.now i d).first ≤ last) }
+    ensures above { IfSome result (λ i. (d : Kept) → i + 1 < length keys.now → last < rank (get_or keys.now (i + 1) d).first) }
+{
+    if ends_not_above(keys, j, last) {
+        return Some(j);
+    }
+    if j < keys.len() && ends_not_above(keys, j + 1, last) {
+        return Some(j + 1);
+    }
+    if j > 0 && ends_not_above(keys, j - 1, last) {
+        return Some(j - 1);
+    }
+    None
+}
+
 /// Whether key j isn't above a number, and the next one is.
-fn ends_not_above(keys: &[Key], j: usize, last: u64) -> bool
+pub fn ends_not_above(keys: &[Key], j: usize, last: u64) -> bool
     ensures there { OnTrue result (j < length keys.now) }
     ensures below { OnTrue result ((d : Kept) → rank (get_or keys.now j d).first ≤ last) }
     ensures above { OnTrue result ((d : Kept) → j + 1 < length keys.now → last < rank (get_or keys.now (j + 1) d).first) }

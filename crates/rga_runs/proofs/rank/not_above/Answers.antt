@@ -27,16 +27,6 @@ returns-then-ends_not_above-2-clause-above c = λ i d from less.
     let e = c.if-ends_not_above-2.ensures in
     omega (arith, c.requires (c.dense_key-dense.result + 1) i d from less, e.above d (omega (arith, from, less)), c.rank_of-last.ensures)
 
-pub returns-then-ends_not_above-3-clause-below : goal.returns-then-ends_not_above-3-clause-below
-returns-then-ends_not_above-3-clause-below c = λ i d less.
-    let e = c.if-ends_not_above-3.ensures in
-    omega (arith, c.requires i c.even_key-even.result d (omega (arith, less)) e.there, e.below d, c.rank_of-last.ensures)
-
-pub returns-then-ends_not_above-3-clause-above : goal.returns-then-ends_not_above-3-clause-above
-returns-then-ends_not_above-3-clause-above c = λ i d from less.
-    let e = c.if-ends_not_above-3.ensures in
-    omega (arith, c.requires (c.even_key-even.result + 1) i d from less, e.above d (omega (arith, from, less)), c.rank_of-last.ensures)
-
 pub returns-clause-below : goal.returns-clause-below
 returns-clause-below c = λ i d less.
     let ks = c.args.keys.now in
