@@ -134,12 +134,12 @@ impl Block {
         let mut upper = replace(&mut self.stretches, lower);
         upper.copy_within(cut.., 0);
         upper.truncate(FULL - cut);
-        self.least = least_of(&self.stretches);
-        self.count = count_all(&self.stretches);
-        self.visible = count_visible(&self.stretches);
         let least = least_of(&upper);
         let count = count_all(&upper);
         let visible = count_visible(&upper);
+        self.least = least_of(&self.stretches);
+        self.count -= count;
+        self.visible -= visible;
         Block {
             stretches: upper,
             count,
@@ -205,12 +205,12 @@ pub fn lesser(a: Id, b: Id) -> Id
     if is_below(a, b) { a } else { b }
 }
 
-/// Whether the first identifier is the lesser.
+/// Whether the first identifier is the lesser. Written out: compiled code then compares sites only where the counters are equal.
 #[inline(always)]
 pub fn is_below(a: Id, b: Id) -> bool
     ensures { result ≡ is_lt (id_cmp a b) }
 {
-    a < b
+    a.counter() < b.counter() || (a.counter() == b.counter() && a.site() < b.site())
 }
 
 /// An empty list with memory for a block.
