@@ -19,6 +19,7 @@ ghost use Rattle.rga_tree.specs.Spot.{IsVisiblePlace};
 ghost use Rattle.rga_tree.specs.Row.{operations_of};
 ghost use Rattle.rga_tree.specs.KeepsWalk.{KeepsWalk, KeepsWalk-prop};
 ghost use Rattle.rga_runs.specs.declared.stretch.Stretch.{Stretch as Kept};
+ghost use Rattle.rga_runs.specs.Typed.{later};
 ghost use Rattle.rga_runs.specs.Stretches.{elements_of, elements_in, are_stored, visible_in};
 ghost use Rattle.rga_runs.specs.Counters.{are_up_to};
 ghost use Rattle.rga_runs.specs.Filled.{filled};
@@ -133,17 +134,22 @@ impl Runs {
         more
     }
 
-    /// Visible element k. One is often put after it, or it is hidden.
-    fn shown(&mut self, k: usize) -> Element
+    /// Where visible element k stands: its block, its stretch there, and its place in that. One is often put after it, or it is hidden.
+    fn shown(&mut self, k: usize) -> (usize, usize, usize)
         requires { k < length (visible (⟦<Runs as Sequence>⟧.content self.old)) }
-        ensures id { slice_get (visible_ids (⟦<Runs as Sequence>⟧.content self.old)) k ≡ Some result.id }
-        ensures ch { slice_get (text (⟦<Runs as Sequence>⟧.content self.old)) k ≡ Some result.ch }
+        ensures block { result.0 < vec_len self.new.row.blocks }
+        ensures within { result.1 < length (get_or (items_of self.new.row.blocks.items) result.0 []) }
+        ensures inside { (d : Kept) → result.2 < (get_or (get_or (items_of self.new.row.blocks.items) result.0 []) result.1 d).count }
+        ensures id { (d : Kept) → slice_get (visible_ids (⟦<Runs as Sequence>⟧.content self.old)) k
+            ≡ Some (later (get_or (get_or (items_of self.new.row.blocks.items) result.0 []) result.1 d).first result.2) }
+        ensures ch { (d : Kept) (e : Element) → slice_get (elements_of self.new.characters.items (get_or (get_or (items_of self.new.row.blocks.items) result.0 []) result.1 d)) result.2 ≡ Some e
+            → slice_get (text (⟦<Runs as Sequence>⟧.content self.old)) k ≡ Some e.ch }
         ensures content { ⟦<Runs as Sequence>⟧.content self.new ≡ ⟦<Runs as Sequence>⟧.content self.old }
         ensures room { ⟦<Runs as Sequence>⟧.free self.new ≡ ⟦<Runs as Sequence>⟧.free self.old }
     {
         let (b, j, i) = visible_spot(&self.row.blocks, &self.row.sums, k);
         self.row.recent = (b, j);
-        self.at(b, j, i)
+        (b, j, i)
     }
 
     /// Character k of stretch j of block b, as an element.
@@ -221,11 +227,13 @@ impl Sequence for Runs {
     }
 
     fn id_at(&mut self, k: usize) -> Id {
-        self.shown(k).id
+        let (b, j, i) = self.shown(k);
+        self.row.blocks[b].stretches[j].id_at(i)
     }
 
     fn char_at(&mut self, k: usize) -> char {
-        self.shown(k).ch
+        let (b, j, i) = self.shown(k);
+        self.at(b, j, i).ch
     }
 
     fn spot_at(&mut self, k: usize) -> (usize, usize) {

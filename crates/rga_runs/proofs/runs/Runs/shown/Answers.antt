@@ -2,16 +2,18 @@
 use Rattle.std.proofs.Common.{◌≡◌, ◌+◌, ◌<◌, ◌∙◌, [], List, Some, false, length, take, get_or, refl, sym, ap, subst, arith}
 use Rattle.std.specs.Prelude.{slice_get, vec_len}
 use Rattle.rga_tree.proofs.Interface.{seen_at, visible_at, visible_row}
+use Rattle.rga_tree.specs.declared.element.Element.{Element}
 use Rattle.rga_runs.specs.declared.stretch.Stretch.{Stretch}
 use Rattle.rga_runs.specs.declared.block.Block.{Block}
-use Rattle.rga_runs.specs.Typed.{is_odd, bits_from, unset}
+use Rattle.rga_runs.specs.Typed.{later, is_odd, bits_from, unset}
 use Rattle.rga_runs.specs.Stretches.{elements_of, parts_in, elements_in, visible_in}
 use Rattle.rga_runs.specs.Blocks.{row_of, at_spot}
 use Rattle.rga_runs.specs.BlockRows.{items_of}
 use Rattle.rga_runs.specs.Sums.{AreSums}
 use Rattle.rga_runs.specs.Indexed.{stretches_in, stretches_for}
 use Rattle.rga_runs.proofs.BlockLists.{length-items}
-use Rattle.rga_runs.proofs.Chunks.{get_or_row, at_less, one_there}
+use Rattle.rga_runs.proofs.Chunks.{get_or_row, at_less, one_there, any_item}
+use Rattle.rga_runs.proofs.Rows.{stored_at, element_at}
 use Rattle.rga_runs.proofs.Summed.{few_seen}
 use Rattle.rga_runs.proofs.Taken.{noted, room_noted}
 use Rattle.rga_runs.proofs.Whole.{seen_elements, visible_place}
@@ -68,8 +70,17 @@ returns c =
     let less = at_less xs b j there within in
     let d = one_there ss p less in
     let item = get_or_row xs b j d there within in
-    let read : slice_get (elements_of chars (get_or ss p d)) k ≡ Some c.at.result = ap (λ (s : Stretch). slice_get (elements_of chars s) k) item ∙ c.at.ensures d in
-    let spot = visible_place chars ss c.args.k p k d c.at.result self.stored less (omega (arith, inside d, ap (λ (s : Stretch). s.count) item))
-    (ap (λ (s : Stretch). is_odd (bits_from k s.hidden)) item ∙ shown d) (ap (λ (s : Stretch). visible_in (take p ss) + unset k s.hidden) item ∙ place d) read in
-    let both = seen_at (elements_in chars ss) c.args.k c.at.result self.keeps_walk.in_order (visible_at (parts_in chars ss) c.args.k p k c.at.result spot) in
-    record { id = both.0; ch = both.1; content = refl; room = refl }
+    let long : k < (get_or ss p d).count = omega (arith, inside d, ap (λ (s : Stretch). s.count) item) in
+    let found = λ (e : Element) (read : slice_get (elements_of chars (get_or ss p d)) k ≡ Some e).
+    seen_at (elements_in chars ss) c.args.k e self.keeps_walk.in_order (visible_at (parts_in chars ss) c.args.k p k e (visible_place chars ss c.args.k p k d e self.stored less long
+    (ap (λ (s : Stretch). is_odd (bits_from k s.hidden)) item ∙ shown d) (ap (λ (s : Stretch). visible_in (take p ss) + unset k s.hidden) item ∙ place d) read)) in
+    let it = element_at chars (get_or ss p d) k (stored_at (length chars) ss p d self.stored less) long in
+    record {
+      block = omega (arith, there, length-items r.blocks.items, r.blocks.ok);
+      within = within;
+      inside = inside;
+      id = λ e. (found _ it).0 ∙ ap (λ (s : Stretch). Some (later s.first k)) (item ∙ any_item (get_or xs b []) j d e within);
+      ch = λ e x read. (found x (ap (λ (s : Stretch). slice_get (elements_of chars s) k) (item ∙ any_item (get_or xs b []) j d e within) ∙ read)).1;
+      content = refl;
+      room = refl;
+    }
