@@ -97,7 +97,7 @@ pub fn find(keys: &Keys, id: Id) -> Option<Key>
     if keys.leaves.is_empty() {
         return None;
     }
-    let (b, at) = spot(&keys.leaves, likely_leaf(keys, id), FULL, id);
+    let (b, at) = spot(&keys.leaves, likely_leaf(keys, id), id);
     if at == 0 {
         return None;
     }
@@ -139,7 +139,7 @@ pub fn add(keys: &mut Keys, id: Id, number: usize, place: usize) -> usize
         begin(keys, key);
         0
     } else {
-        let (b, at) = spot(&keys.leaves, likely_leaf(keys, id), FULL, id);
+        let (b, at) = spot(&keys.leaves, likely_leaf(keys, id), id);
         put_in(keys, b, at, key)
     }
 }
@@ -316,14 +316,29 @@ pub fn renew(keys: &mut Keys, id: Id, number: usize, place: usize)
     ensures spares { vec_len keys.new.spares ≡ vec_len keys.old.spares }
 {
     let (leaf, likely) = keys.renewed[usize::from(id.site()) % SITES];
-    let (b, at) = spot(&keys.leaves, leaf, likely, id);
+    let (b, at) = spot_behind(&keys.leaves, leaf, likely, id);
     write_at(&mut keys.leaves, b, at - 1, Key::of(id, number, place));
     keys.renewed[usize::from(id.site()) % SITES] = (b, at);
 }
 
-/// Where the keys end that aren't above an identifier: a leaf, and a place there, which is the front only where none is. One leaf,
-/// and one key there, are tried first.
-fn spot(leaves: &[Leaf], leaf: usize, likely: usize, id: Id) -> (usize, usize)
+/// Where the keys end that aren't above an identifier: a leaf, and a place there, which is the front only where none is. One leaf is
+/// tried first.
+fn spot(leaves: &[Leaf], leaf: usize, id: Id) -> (usize, usize)
+    requires some { 0 < length leaves.now }
+    requires rising { IsNonDecreasingBy (λ k. rank k.first) (all_keys leaves.now) }
+    ensures leaf { result.0 < length leaves.now }
+    ensures within { result.1 ≤ length (get_or (keys_of leaves.now) result.0 []) }
+    ensures front { result.1 ≡ 0 → result.0 ≡ 0 }
+    ensures below { (i : ℕ) (d : Kept) → i < place_in (keys_of leaves.now) result.0 result.1 → rank (get_or (all_keys leaves.now) i d).first ≤ rank id }
+    ensures above { (i : ℕ) (d : Kept) → place_in (keys_of leaves.now) result.0 result.1 ≤ i → i < length (all_keys leaves.now) → rank id < rank (get_or (all_keys leaves.now) i d).first }
+{
+    let b = begun(leaves, leaf, id).saturating_sub(1);
+    (b, not_above(&leaves[b].keys, id))
+}
+
+/// The same, where one key of a leaf is tried first.
+#[inline(always)]
+fn spot_behind(leaves: &[Leaf], leaf: usize, likely: usize, id: Id) -> (usize, usize)
     requires some { 0 < length leaves.now }
     requires rising { IsNonDecreasingBy (λ k. rank k.first) (all_keys leaves.now) }
     ensures leaf { result.0 < length leaves.now }
@@ -335,8 +350,7 @@ fn spot(leaves: &[Leaf], leaf: usize, likely: usize, id: Id) -> (usize, usize)
     if ends_in(leaves, leaf, likely, rank_of(id)) {
         return (leaf, likely + 1);
     }
-    let b = begun(leaves, leaf, id).saturating_sub(1);
-    (b, not_above(&leaves[b].keys, likely, id))
+    spot(leaves, leaf, id)
 }
 
 /// Whether key j of leaf b isn't above a number, and the next one there is.

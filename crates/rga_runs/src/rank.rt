@@ -25,18 +25,14 @@ pub fn share(from: u64, to: u64, count: usize, at: u64) -> usize {
     (part / to.saturating_sub(from).max(1)) as usize
 }
 
-/// How many keys at the front aren't above an identifier. They end behind one key most often. Identifiers of one site are often dense,
-/// or even, and its place then is known.
-pub fn not_above(keys: &[Key], likely: usize, id: Id) -> usize
+/// How many keys at the front aren't above an identifier. Identifiers of one site are often dense, or even, and its place then is known.
+pub fn not_above(keys: &[Key], id: Id) -> usize
     requires { IsNonDecreasingBy (λ k. rank k.first) keys.now }
     ensures within { result ≤ length keys.now }
     ensures below { (i : ℕ) (d : Kept) → i < result → rank (get_or keys.now i d).first ≤ rank id }
     ensures above { (i : ℕ) (d : Kept) → result ≤ i → i < length keys.now → rank id < rank (get_or keys.now i d).first }
 {
     let last = rank_of(id);
-    if ends_not_above(keys, likely, last) {
-        return likely + 1;
-    }
     let dense = dense_key(keys, last);
     if ends_not_above(keys, dense, last) {
         return dense + 1;

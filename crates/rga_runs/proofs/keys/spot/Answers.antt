@@ -1,5 +1,5 @@
 -- The goals of `spot` that are answered by hand.
-use Rattle.std.proofs.Common.{◌≡◌, ℕ, zero, suc, ◌<◌, ◌≤◌, ◌+◌, ◌-◌, ◌∙◌, Bool, true, false, [], List, refl, length, get_or, sym, ap, subst, arith}
+use Rattle.std.proofs.Common.{◌≡◌, ℕ, zero, suc, ◌<◌, ◌≤◌, ◌-◌, ◌∙◌, Bool, true, false, [], List, refl, length, get_or, sym, ap, subst, arith}
 use Rattle.std.specs.Prelude.{nat_eq}
 use Rattle.std.specs.List.Sorted.{IsNonDecreasingBy}
 use Rattle.std.proofs.lemmas.Bool.{eqb-true, eqb-false}
@@ -81,37 +81,3 @@ returns-clause-above c =
     let above = subst (λ (l : List Key). (i : ℕ) (d : Key) → j ≤ i → i < length l → r < rank (get_or l i d).first) (sym here) c.not_above.ensures.above in
     above_spot (keys_of ls) r b j c.requires.rising within (omega (arith, c.not_above.ensures.within, ap length here)) above
     (λ e from less. c.begun.ensures.above e (omega (arith, from, c.saturating_sub-b.ensures)) (omega (arith, less, length-keys ls))) (some_keys ls)
-
--- a place inside a leaf, where the keys are above from the next one on
-pub overflow_add-result : goal.overflow_add-result
-overflow_add-result c =
-    let ls = c.args.leaves.now in
-    let e = c.if-ends_in.ensures in
-    let l = one_there ls c.args.leaf e.leaf in
-    let few = (get_or ls c.args.leaf l).few in
-    omega (arith, e.within, ap length (keys_there ls c.args.leaf l e.leaf), (get_or ls c.args.leaf l).keys.ok, few)
-
-pub returns-then-ends_in-clause-below : goal.returns-then-ends_in-clause-below
-returns-then-ends_in-clause-below c = λ i d less.
-    let ls = c.args.leaves.now in
-    let xs = keys_of ls in
-    let b = c.args.leaf in
-    let j = c.args.likely in
-    let e = c.if-ends_in.ensures in
-    let there : b < length xs = omega (arith, e.leaf, length-keys ls) in
-    let within : j < length (get_or xs b []) = omega (arith, e.within) in
-    let item = ap (λ (k : Key). rank k.first) (get_or_row xs b j d there within) in
-    let step = c.requires.rising i (at xs b j) d (omega (arith, less)) (at_less xs b j there within) in
-    omega (arith, item, step, e.below d, c.rank_of.ensures)
-
-pub returns-then-ends_in-clause-above : goal.returns-then-ends_in-clause-above
-returns-then-ends_in-clause-above c = λ i d from less.
-    let ls = c.args.leaves.now in
-    let xs = keys_of ls in
-    let b = c.args.leaf in
-    let next = c.args.likely + 1 in
-    let e = c.if-ends_in.ensures in
-    let there : b < length xs = omega (arith, e.leaf, length-keys ls) in
-    let item = ap (λ (k : Key). rank k.first) (get_or_row xs b next d there e.within) in
-    let step = c.requires.rising (at xs b next) i d from less in
-    omega (arith, item, step, e.above d, c.rank_of.ensures)

@@ -10,21 +10,11 @@ use Rattle.rga_runs.proofs.rank.not_above.Goals as goal
 pub returns-then-ends_not_above-clause-below : goal.returns-then-ends_not_above-clause-below
 returns-then-ends_not_above-clause-below c = λ i d less.
     let e = c.if-ends_not_above.ensures in
-    omega (arith, c.requires i c.args.likely d (omega (arith, less)) e.there, e.below d, c.rank_of-last.ensures)
+    omega (arith, c.requires i c.dense_key-dense.result d (omega (arith, less)) e.there, e.below d, c.rank_of-last.ensures)
 
 pub returns-then-ends_not_above-clause-above : goal.returns-then-ends_not_above-clause-above
 returns-then-ends_not_above-clause-above c = λ i d from less.
     let e = c.if-ends_not_above.ensures in
-    omega (arith, c.requires (c.args.likely + 1) i d from less, e.above d (omega (arith, from, less)), c.rank_of-last.ensures)
-
-pub returns-then-ends_not_above-2-clause-below : goal.returns-then-ends_not_above-2-clause-below
-returns-then-ends_not_above-2-clause-below c = λ i d less.
-    let e = c.if-ends_not_above-2.ensures in
-    omega (arith, c.requires i c.dense_key-dense.result d (omega (arith, less)) e.there, e.below d, c.rank_of-last.ensures)
-
-pub returns-then-ends_not_above-2-clause-above : goal.returns-then-ends_not_above-2-clause-above
-returns-then-ends_not_above-2-clause-above c = λ i d from less.
-    let e = c.if-ends_not_above-2.ensures in
     omega (arith, c.requires (c.dense_key-dense.result + 1) i d from less, e.above d (omega (arith, from, less)), c.rank_of-last.ensures)
 
 pub returns-clause-below : goal.returns-clause-below
