@@ -15,7 +15,7 @@ use Rattle.reorder.specs.Mirrored.{mirrored_of}
 use Rattle.reorder.specs.VisualList.{is_odd}
 use Rattle.cell_grid.specs.declared.cluster_run.ClusterRun.{ClusterRun}
 use Rattle.cell_grid.specs.declared.entry.Entry.{Entry}
-use Rattle.cell_grid.specs.Print.{separates_segments, is_replaced, begins_with_tab, mirrored_text, slice_of, own_text, run_slices, run_text}
+use Rattle.cell_grid.specs.Print.{separates_segments, is_replaced, begins_with_tab, mirrored_text, slice_of, entry_text, text_over, own_text, run_slices, run_text}
 use Rattle.cell_grid.specs.Printable.{IsSlice, IsPrintable}
 use Rattle.cell_grid.specs.Runs.{run_span, byte_count, span_after, cluster_count, cluster_from_left, run_entry, run_entries, run_columns, runs_columns, runs_entries, IsInReach}
 use Rattle.cell_grid.proofs.Alone.{none-after}
@@ -56,6 +56,17 @@ module _ (tables : TableValues) (text : List ℕ) where
       ∙ ap (λ t. t ++ flat_map f (runs_entries (column + run_columns r) later)) (range-text column r 0 (cluster_count r))
       ∙ ap (λ t. run_text tables text r ++ t) (runs-text (column + run_columns r) later)
       ∙ sym (flat_map-cons (run_text tables text) r later)
+
+  -- a run without columns prints nothing
+  pub none-text : (r : ClusterRun) → r.columns ≡ 0 → (from n : ℕ) → flat_map (own_text tables text) (map (run_entry 0 r) (range_with_len from n)) ≡ []
+  none-text r none from zero = refl
+  none-text r none from (suc n) =
+      let f = own_text tables text in
+      let e = run_entry 0 r from in
+      let later = map (run_entry 0 r) (range_with_len (from + 1) n) in
+      flat_map-cons f e later
+      ∙ ap (λ t. t ++ flat_map f later) (ap (λ k. text_over k (entry_text tables text (Some e))) none)
+      ∙ none-text r none (from + 1) n
 
 -- ---- an entry of a run by its number
 

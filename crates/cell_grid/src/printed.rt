@@ -104,7 +104,8 @@ fn hold_runs<W: Sink>(
     Ok(())
 }
 
-/// Holds what the first runs print, and answers how many these are: those of a slice of the text, or one.
+/// Holds what the first runs print, and answers how many these are: those of a slice of the text, those of odd levels that find
+/// room, or one.
 fn hold_first<W: Sink>(
     tables: &Tables,
     text: &str,
@@ -121,6 +122,9 @@ fn hold_first<W: Sink>(
     ensures failed { W.has_failed sink.new ≡ is_err result }
 {
     let first = &runs[0];
+    if first.columns == 0 {
+        return Ok(1);
+    }
     if first.level % 2 == 1 {
         let count = push_odd_runs(tables, text, runs, held);
         if count > 0 {
@@ -156,8 +160,7 @@ fn slice_at(tables: &Tables, text: &str, runs: &[ClusterRun], start: usize) -> (
         if first.first_byte as usize != end || !prints_its_slice(tables, text, &run) {
             return (number, end);
         }
-        let last = run.cluster(run.further);
-        end = last.end_byte as usize;
+        end = run.end_byte() as usize;
     }
     (runs.len(), end)
 }

@@ -1,19 +1,32 @@
 -- The first runs are a beginning of all.
-use Rattle.std.proofs.Common.{◌≡◌, ◌++◌, get_or, take, drop, flat_map, refl, sym, ap, subst, ◌∙◌, arith, append_assoc, append-nil}
+use Rattle.std.proofs.Common.{◌≡◌, [], ◌++◌, get_or, take, drop, flat_map, refl, sym, ap, subst, ◌∙◌, arith, append_assoc, append-nil}
 use Rattle.std.specs.Str.{IsCharBoundary}
 use Rattle.paragraphs.specs.declared.span.Span.{Span}
 use Rattle.cell_grid.specs.declared.cluster_run.ClusterRun.{ClusterRun}
 use Rattle.cell_grid.specs.KeptSpans.{no_span}
+use Rattle.cell_grid.specs.Held.{AppendsAllBut}
 use Rattle.cell_grid.specs.Print.{run_text}
-use Rattle.cell_grid.proofs.HeldEnd.{begins-longer}
+use Rattle.cell_grid.specs.Runs.{cluster_count}
+use Rattle.cell_grid.proofs.HeldEnd.{but-start, begins-longer}
 use Rattle.cell_grid.proofs.Printing.{pieces-parts}
-use Rattle.cell_grid.proofs.RunPrinting.{first-slice}
-use Rattle.cell_grid.proofs.Steps.{flat_map-split_at}
+use Rattle.cell_grid.proofs.RunPrinting.{none-text, first-slice}
+use Rattle.cell_grid.proofs.Steps.{flat_map-take_next, flat_map-split_at}
 use Rattle.cell_grid.proofs.Writing.{on_err}
 use Rattle.cell_grid.proofs.printed.hold_first.Goals as goal
 
 abbrev no_run : ClusterRun
 no_run = record { span = no_span; further = 0; level = 0; columns = 0 }
+
+pub returns-then-first-eq0-clause-ok : goal.returns-then-first-eq0-clause-ok
+returns-then-first-eq0-clause-ok g c =
+    let known = g.W.Sink.written c.args.sink.now in
+    let before = c.args.held.now.bytes in
+    let f = run_text c.args.tables.now c.args.text.now in
+    let runs = c.args.runs.now in
+    let r = get_or runs 0 no_run in
+    let columns : r.columns ≡ 0 = omega (arith, c.if-first-eq0.true) in
+    let none : flat_map f (take 1 runs) ≡ [] = flat_map-take_next f runs 0 r no_run c.requires.some refl ∙ none-text c.args.tables.now c.args.text.now r columns 0 (cluster_count r) in
+    subst (λ t. AppendsAllBut known known (before ++ t) before) (sym none) (but-start known before)
 
 pub slice_at-count-requires-clause-start : goal.slice_at-count-requires-clause-start
 slice_at-count-requires-clause-start g c =

@@ -13,9 +13,6 @@ use Rattle.cell_grid.proofs.printed.slice_at.Goals as goal
 abbrev no_run : ClusterRun
 no_run = record { span = no_span; further = 0; level = 0; columns = 0 }
 
-pub cluster-last-requires : goal.cluster-last-requires
-cluster-last-requires c = record { within = omega arith; reach = (c.requires.runs c.loop-number.number no_run c.loop-number-test.true).reach }
-
 pub loop-number-preserved : goal.loop-number-preserved
 loop-number-preserved c =
     let text = c.args.text.now in
@@ -23,15 +20,15 @@ loop-number-preserved c =
     let n = c.loop-number.number in
     let r = slice_index_or runs n no_run in
     let h = c.requires.runs n no_run c.loop-number-test.true in
-    let last = ap (λ (s : Span). s.end_byte) c.cluster-last.ensures in
+    let last = c.end_byte-end.ensures in
     let order = run-order text r h in
     let at = sym (ap (λ (s : Span). s.first_byte) c.read-first.ensures) ∙ c.if-first-end.false in
-    let own : run_text c.args.tables.now text r ≡ slice_range text c.loop-number.end c.cluster-last.result.end_byte =
+    let own : run_text c.args.tables.now text r ≡ slice_range text c.loop-number.end c.end_byte-end.result =
     c.prints_its_slice.ensures c.if-not-prints_its_slice.false
     ∙ ap (λ k. slice_range text k (span_after r.further (run_span r)).end_byte) at ∙ ap (slice_range text c.loop-number.end) (sym last) in
     record {
       order = omega (arith, c.loop-number.invariant.order);
       boundary = subst (IsCharBoundary text) (sym last) (last-slice text r h).end;
-      text = stretch-on (run_text c.args.tables.now text) runs n r no_run text c.args.start c.loop-number.end c.cluster-last.result.end_byte
+      text = stretch-on (run_text c.args.tables.now text) runs n r no_run text c.args.start c.loop-number.end c.end_byte-end.result
           c.loop-number-test.true refl c.loop-number.invariant.text own c.loop-number.invariant.order (omega arith);
     }
