@@ -9,8 +9,8 @@ ghost use Rattle.c_answers.specs.Copying.{AreSized, IsLeft, IsWritten};
 use crate::window_rows::row_shown;
 use c_answers::{BAD_ROW, MEMORY, OK, SHORT_BUFFER, copy_out};
 use c_pictures::tell_size;
+use cell_grid::InMemory;
 use live_document::Document;
-use pictures::InMemory;
 use std::alloc::Global;
 
 /// Writes all rows that are shown: the cells of each in UTF-8, and a line feed after each.

@@ -1,13 +1,14 @@
--- A row prints the same where its paragraph stands in a longer text.
+-- A row prints the same where its paragraph stands in a longer text, and so a text prints what its paragraphs do.
 use Rattle.std.proofs.Common.{◌≡◌, ℕ, zero, suc, ◌+◌, ◌-◌, ◌≤◌, List, [], ◌∷◌, ◌++◌, map, length, take, drop, slice_get, slice_range, flat_map, Some, refl, sym, ap, ap₂, ◌∙◌, arith}
-use Rattle.std.proofs.lemmas.List.{drop-drop, drop_at, drop-append-le, take-append-le, length-drop}
-use Rattle.std.proofs.lemmas.List.Concat.{flat_map-cons}
+use Rattle.std.proofs.lemmas.List.{drop-drop, drop_at, drop-append-le, take-append-drop, take-append-le, length-drop, length-take}
+use Rattle.std.proofs.lemmas.List.Concat.{flat_map-cons, flat_map-append}
 use Rattle.std.proofs.lemmas.List.Elements.{All-head, All-tail, All-weaker}
 use Rattle.std.specs.List.{All}
 use Rattle.std.specs.Str.{IsUtf8}
 use Rattle.bg_types.specs.declared.class.Base.{Base}
 use Rattle.unicode_tables.specs.Tables.{TableValues}
 use Rattle.paragraphs.specs.Text.{code_points}
+use Rattle.paragraphs.specs.Paragraphs.{Paragraph, paragraphs, StandsIn}
 use Rattle.bidi_explicit.specs.Embedding.{paragraph_level, classes_of}
 use Rattle.bidi_weak_neutral.specs.Levels.{levels_of}
 use Rattle.cell_grid.specs.declared.entry.Entry.{Entry}
@@ -16,9 +17,10 @@ use Rattle.cell_grid.specs.declared.cell.Cell.TheVariants.{Blank, Head, Tail}
 use Rattle.cell_grid.specs.LawsBelow.{LawsBelow}
 use Rattle.cell_grid.specs.Spans.{spans}
 use Rattle.cell_grid.specs.Rows.{DrawnRow, rows_of, shifted, shifted_entry}
-use Rattle.cell_grid.specs.Print.{cluster_text, entry_text, text_over, own_text, cell_text, row_text}
+use Rattle.cell_grid.specs.Grids.{paragraph_rows}
+use Rattle.cell_grid.specs.Print.{cluster_text, entry_text, text_over, own_text, cell_text, printed_paragraph, row_text, shown}
 use Rattle.cell_grid.specs.Printable.{IsSlice, AreSlices}
-use Rattle.cell_grid.proofs.Slicing.{IsSpan, spans-slices}
+use Rattle.cell_grid.proofs.Slicing.{IsSpan, spans-slices, paragraph-utf8}
 use Rattle.cell_grid.proofs.Drawn.{each-entry, rows-each}
 
 -- the entries of a paragraph's rows are slices of its text
@@ -84,3 +86,43 @@ module _ (tables : TableValues) (before text after : List ℕ) (places : ℕ) wh
       ap₂ (λ (n : ℕ) (ns : List ℕ). n ∷ ns)
       (ap (λ shown. length (text_over e.columns shown)) (entry-alike e (All-head (λ (e : Entry). IsSlice text e.span) e es are)))
       (sizes-alike es (All-tail (λ (e : Entry). IsSlice text e.span) e es are))
+
+-- a text is what stands before a paragraph of it, the paragraph, and what stands behind
+around : (text : List ℕ) (p : Paragraph) → StandsIn text p → text ≡ take p.first_byte text ++ (p.text ++ drop (length p.text) (drop p.first_byte text))
+around text p stand =
+    let rest = drop p.first_byte text in
+    let long : p.first_byte + length p.text - p.first_byte ≡ length p.text = omega arith in
+    let own : p.text ≡ take (length p.text) rest = stand.bytes ∙ ap (λ n. take n rest) long in
+    sym (take-append-drop p.first_byte text)
+    ∙ ap (λ l. take p.first_byte text ++ l) (sym (take-append-drop (length p.text) rest) ∙ ap (λ l. l ++ drop (length p.text) rest) (sym own))
+
+module _ (below : LawsBelow) (tables : TableValues) (width : ℕ) (base : Base) (wide : 2 ≤ width) (text : List ℕ) (utf8 : IsUtf8 text) where
+  module _ (p : Paragraph) (stand : StandsIn text p) where
+    row-there : (r : DrawnRow) → AreSlices p.text r → row_text tables text (shifted p.first_byte p.first_place r) ≡ row_text tables p.text r
+    row-there r are =
+        let before = take p.first_byte text in
+        let after = drop (length p.text) (drop p.first_byte text) in
+        let n = length-take p.first_byte text in
+        let long : p.first_byte ≡ length before = omega (arith, n, stand.start.0) in
+        ap (λ whole. row_text tables whole (shifted p.first_byte p.first_place r)) (around text p stand)
+        ∙ ap (λ k. row_text tables (before ++ (p.text ++ after)) (shifted k p.first_place r)) long
+        ∙ row-alike tables before p.text after p.first_place r are
+
+    rows-there : (rows : List DrawnRow) → All (AreSlices p.text) rows
+        → flat_map (row_text tables text) (map (shifted p.first_byte p.first_place) rows) ≡ flat_map (row_text tables p.text) rows
+    rows-there [] are = refl
+    rows-there (r ∷ rows) are =
+        ap₂ (λ a b. a ++ b) (row-there r (All-head (AreSlices p.text) r rows are)) (rows-there rows (All-tail (AreSlices p.text) r rows are))
+
+  paragraphs-there : (ps : List Paragraph) → All (StandsIn text) ps
+      → flat_map (row_text tables text) (flat_map (paragraph_rows tables width base) ps) ≡ flat_map (λ (p : Paragraph). printed_paragraph tables width base p.text) ps
+  paragraphs-there [] stand = refl
+  paragraphs-there (p ∷ ps) stand =
+      let here = All-head (StandsIn text) p ps stand in
+      flat_map-append (row_text tables text) (paragraph_rows tables width base p) (flat_map (paragraph_rows tables width base) ps)
+      ∙ ap₂ (λ a b. a ++ b)
+      (rows-there p here (rows_of tables width base p.text) (rows-slices below tables width base p.text wide (paragraph-utf8 text utf8 p here)))
+      (paragraphs-there ps (All-tail (StandsIn text) p ps stand))
+
+  pub paragraphs-alike : shown tables width base text ≡ flat_map (λ (p : Paragraph). printed_paragraph tables width base p.text) (paragraphs tables text)
+  paragraphs-alike = paragraphs-there (paragraphs tables text) (below.paragraphs_stand tables text utf8)

@@ -11,7 +11,7 @@ use Rattle.cell_grid.specs.declared.cluster_run.ClusterRun.{ClusterRun}
 use Rattle.cell_grid.specs.declared.entry.Entry.{Entry}
 use Rattle.cell_grid.specs.declared.cell.Cell.{Cell}
 use Rattle.cell_grid.specs.declared.cell.Cell.TheVariants.{Blank, Head, Tail}
-use Rattle.cell_grid.specs.Rows.{DrawnRow}
+use Rattle.cell_grid.specs.Rows.{DrawnRow, rows_of}
 use Rattle.cell_grid.specs.Runs.{run_entries}
 use Rattle.cell_grid.specs.Grids.{DrawnGrid, grid_of}
 unfoldable pub use Rattle.unicode_tables.specs.Classes.{is_segment_separator}
@@ -79,6 +79,10 @@ cell_text tables text entries (Tail n) = []
 
 abbrev pub row_text : TableValues → (text : List ℕ) → DrawnRow → List ℕ
 row_text tables text r = flat_map (cell_text tables text r.entries) r.cells ++ 10 ∷ []
+
+-- print of a paragraph of this text, by itself
+abbrev pub printed_paragraph : TableValues → (width : ℕ) → Base → List ℕ → List ℕ
+printed_paragraph tables width base text = flat_map (row_text tables text) (rows_of tables width base text)
 
 -- print of a grid
 abbrev pub printed : DrawnGrid → List ℕ

@@ -6,10 +6,10 @@ ghost use Rattle.std.specs.Str.{IsUtf8};
 ghost use Rattle.bg_types.specs.declared.class.Base.{Base};
 ghost use Rattle.unicode_tables.specs.Tables.{TableValues};
 ghost use Rattle.paragraphs.specs.Text.{code_points};
-ghost use Rattle.paragraphs.specs.Paragraphs.{Paragraph, ParagraphsFollow};
+ghost use Rattle.paragraphs.specs.Paragraphs.{Paragraph, paragraphs, ParagraphsFollow};
 ghost use Rattle.cell_grid.specs.Grids.{DrawnGrid, IsDrawn, paragraph_rows};
 ghost use Rattle.cell_grid.specs.Rows.{DrawnRow, rows_of, shifted};
-ghost use Rattle.cell_grid.specs.Print.{own_sizes, row_text};
+ghost use Rattle.cell_grid.specs.Print.{own_sizes, printed_paragraph, row_text, shown};
 ghost use Rattle.cell_grid.specs.Printable.{AreSlices};
 ghost use Rattle.cell_grid.specs.Shifting.{MayShiftRow, shifted_paragraph};
 ghost use Rattle.cell_grid.specs.Laws.{text_spans, entry_spans, RowsFollow, HoldsPlacesOnce, StandsAtItsEdge, CoversCellsOnce};
@@ -108,6 +108,14 @@ pub fn rows_print_alike()
         → row_text tables (before ++ (text ++ after)) (shifted (length before) places row) ≡ row_text tables text row }
     ensures sizes { (tables : TableValues) (before text after : List ℕ) (places : ℕ) (row : DrawnRow) → AreSlices text row
         → own_sizes tables (before ++ (text ++ after)) (shifted (length before) places row) ≡ own_sizes tables text row }
+{
+    laws_below();
+}
+
+/// A text prints what its paragraphs print, each by itself, one after the other.
+pub fn paragraphs_print_alike()
+    ensures { (tables : TableValues) (width : ℕ) (base : Base) (text : List ℕ) → 2 ≤ width → IsUtf8 text
+        → shown tables width base text ≡ flat_map (λ p. printed_paragraph tables width base p.text) (paragraphs tables text) }
 {
     laws_below();
 }

@@ -8,7 +8,7 @@ ghost use Rattle.bg_types.specs.Sink.{AppendsBeginning};
 ghost use Rattle.paragraphs.specs.Text.{code_points};
 ghost use Rattle.cell_grid.specs.Held.{AppendsAllBut};
 ghost use Rattle.cell_grid.specs.Print.{separates_segments, is_replaced, begins_with_tab, mirrored_text, own_text, run_slices, run_text, row_text, printed, printed_row};
-ghost use Rattle.cell_grid.specs.Printable.{IsSlice, IsPrintable};
+ghost use Rattle.cell_grid.specs.Printable.{IsSlice, AreSlices, IsPrintable};
 ghost use Rattle.cell_grid.specs.Runs.{run_span, byte_count, span_after, cluster_count, IsInReach};
 
 use crate::cluster_run::ClusterRun;
@@ -33,8 +33,27 @@ pub fn print<W: Sink>(grid: &Grid, sink: &mut W) -> Result<(), Device>
     ensures failed { W.has_failed sink.new ≡ is_err result }
 {
     laws_below();
-    for row in grid.rows() {
-        print_row(grid.tables(), grid.text(), row, sink)?;
+    print_rows(grid.tables(), grid.text(), grid.rows(), sink)
+}
+
+/// Writes rows of a text, whose entries are slices of it, as `print` does. Takes no memory.
+///
+/// After `Device` a beginning of it is written.
+/// Cost: that of `print_row` for each row.
+pub fn print_rows<W: Sink>(
+    tables: &Tables,
+    text: &str,
+    rows: &[Row],
+    sink: &mut W,
+) -> Result<(), Device>
+    requires working { W.has_failed sink.old ≡ false }
+    requires entries { All (AreSlices text.now) rows.now }
+    ensures ok { OnOk result (Appends (W.written sink.old) (W.written sink.new) (flat_map (row_text tables.now text.now) rows.now)) }
+    ensures err { OnErr result (AppendsBeginning (W.written sink.old) (W.written sink.new) (flat_map (row_text tables.now text.now) rows.now)) }
+    ensures failed { W.has_failed sink.new ≡ is_err result }
+{
+    for row in rows {
+        print_row(tables, text, row, sink)?;
     }
     Ok(())
 }

@@ -9,12 +9,13 @@ ghost use Rattle.caret.specs.Gaps.{IsCaretOf};
 ghost use Rattle.caret.specs.Moves.{right_of, left_of, up_of, down_of, caret_under};
 ghost use Rattle.caret.specs.Places.{caret_at};
 
-use crate::in_memory::InMemory;
 use crate::shared_tables::SharedTables;
 use bg_types::{Base, Memory};
 use caret::{Caret, at_column, at_place, down, left, right, up};
 use cell_grid::laws::rows_follow;
-use cell_grid::{Grid, Row, draw, print, print_row_at, row_entry_sizes_at, row_print_size_at};
+use cell_grid::{
+    Grid, InMemory, Row, draw, print, print_row_at, row_entry_sizes_at, row_print_size_at,
+};
 use std::alloc::Global;
 use std::marker::Model;
 use std::mem;
